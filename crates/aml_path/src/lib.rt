@@ -1,6 +1,7 @@
 //! Name segments, absolute paths, and names as AML writes them (ACPI 6.5, 5.3 and 20.2.2).
 #![tactic(auto)]
 
+pub mod laws;
 mod name;
 mod path;
 mod segment;

@@ -9,6 +9,8 @@ mod refusal;
 mod register_map;
 mod space;
 mod sparse;
+#[cfg(test)]
+mod tests;
 
 pub use byte_map::ByteMap;
 pub use path_text::PathText;
