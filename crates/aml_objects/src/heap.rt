@@ -1,0 +1,324 @@
+//! The objects, each by its number.
+ghost use Rattle.std.specs.Prelude.{◌≡◌, ◌<◌, ◌++◌, ◌∷◌, [], List, length, take, ◌==◌, slice_get, slice_set, nat_lt, if◌then◌else◌, Ok, Err, OnOk, OnErr};
+ghost use Rattle.ar_space.specs.Outcome.{Answers};
+ghost use Rattle.ar_space.specs.Change.{Does};
+ghost use Rattle.aml_objects.specs.Objects.{make, fits, few, make_string, make_buffer, make_package, string_at, buffer_at, elements_at, write_buffer, write_string, fitted_to, write_byte, byte_outcome, byte_written, or_dead, element_at, byte_at, write_element, element_outcome, element_written};
+
+use crate::object::{Element, Elements, Object, Octets};
+use crate::value::Value;
+use ar_space::{EvaluationFault, Refusal, ValueFault};
+use std::alloc::Global;
+use std::marker::Model;
+
+/// How many objects a machine may have.
+const MAX_OBJECTS: usize = 262_144;
+
+/// How many bytes a string or a buffer may have.
+const MAX_BYTES: usize = 1_048_576;
+
+/// How many elements a package may have.
+const MAX_ELEMENTS: usize = 65_535;
+
+/// The objects. The list of them only grows: none is given back, and each keeps its number.
+#[derive(Debug, Drop)]
+pub struct Heap {
+    objects: Vec<Object>,
+}
+
+impl Model for Heap {
+    ghost use Rattle.std.specs.Prelude.{List};
+    ghost use Rattle.aml_objects.specs.declared.object.Object.{Object};
+
+    ghost Value = { List Object };
+
+    ghost view = { λ h. h.objects.items };
+}
+
+impl Heap {
+    /// No objects. It takes no memory.
+    pub fn new(alloc: Global) -> Heap
+        ensures { result ≡ [] }
+    {
+        Heap {
+            objects: Vec::new(alloc),
+        }
+    }
+
+    /// How many objects there are.
+    pub fn len(&self) -> usize
+        ensures { result ≡ length self.now }
+    {
+        self.objects.len()
+    }
+
+    /// Whether there is no object yet.
+    pub fn is_empty(&self) -> bool
+        ensures { result ≡ (length self.now == 0) }
+    {
+        self.objects.is_empty()
+    }
+
+    /// Takes back the objects from a number on, which a refused copy made.
+    pub(crate) fn truncate(&mut self, count: usize)
+        ensures { self.new ≡ take count self.old }
+    {
+        self.objects.truncate(count);
+    }
+
+    /// A new object, and its number; one too many is refused as `ObjectLimit`.
+    #[tactic(auto, unfolding(crate::specs::Objects::make))]
+    pub(crate) fn make(&mut self, object: Object) -> Result<usize, Refusal>
+        ensures { Does result self.new (make object) self.old }
+    {
+        let number = self.objects.len();
+        if number >= MAX_OBJECTS {
+            return Err(Refusal::Evaluation(EvaluationFault::ObjectLimit));
+        }
+        self.objects.push(object)?;
+        Ok(number)
+    }
+
+    /// A package may have so many elements.
+    #[tactic(auto, unfolding(crate::specs::Objects::few))]
+    fn few(&self, elements: &Elements) -> Result<(), Refusal>
+        ensures { Does result self.now (few elements.now) self.now }
+    {
+        if elements.as_slice().len() > MAX_ELEMENTS {
+            return Err(Refusal::Evaluation(EvaluationFault::ObjectLimit));
+        }
+        Ok(())
+    }
+
+    /// A string or a buffer may have so many bytes.
+    #[tactic(auto, unfolding(crate::specs::Objects::fits))]
+    fn fits(&self, bytes: &Octets) -> Result<(), Refusal>
+        ensures { Does result self.now (fits bytes.now) self.now }
+    {
+        if bytes.as_slice().len() > MAX_BYTES {
+            return Err(Refusal::Evaluation(EvaluationFault::ObjectLimit));
+        }
+        Ok(())
+    }
+
+    /// A new string.
+    ///
+    /// Too many bytes, and one object too many, are refused as `ObjectLimit`, and then nothing changes.
+    #[tactic(auto, using(ar_space::specs::Change::changing), unfolding(crate::specs::Objects::make_string))]
+    pub fn make_string(&mut self, bytes: Octets) -> Result<Value, Refusal>
+        ensures { Does result self.new (make_string bytes) self.old }
+    {
+        self.fits(&bytes)?;
+        let number = self.make(Object::String(bytes))?;
+        Ok(Value::String(number))
+    }
+
+    /// A new package; too many elements, and one object too many, are refused as `ObjectLimit`, and then nothing changes.
+    #[tactic(auto, using(ar_space::specs::Change::changing), unfolding(crate::specs::Objects::make_package))]
+    pub fn make_package(&mut self, elements: Elements) -> Result<Value, Refusal>
+        ensures { Does result self.new (make_package elements) self.old }
+    {
+        self.few(&elements)?;
+        let number = self.make(Object::Package(elements))?;
+        Ok(Value::Package(number))
+    }
+
+    /// A new buffer; too many bytes, and one object too many, are refused as `ObjectLimit`, and then nothing changes.
+    #[tactic(auto, using(ar_space::specs::Change::changing), unfolding(crate::specs::Objects::make_buffer))]
+    pub fn make_buffer(&mut self, bytes: Octets) -> Result<Value, Refusal>
+        ensures { Does result self.new (make_buffer bytes) self.old }
+    {
+        self.fits(&bytes)?;
+        let number = self.make(Object::Buffer(bytes))?;
+        Ok(Value::Buffer(number))
+    }
+
+    /// The bytes of a string; another kind of object is refused as `WrongType`.
+    #[tactic(auto, unfolding(crate::specs::Objects::string_at))]
+    pub fn string(&self, alloc: Global, object: usize) -> Result<Octets, Refusal>
+        ensures { Does result self.now (string_at object) self.now }
+    {
+        if object >= self.objects.len() {
+            return Err(Refusal::Value(ValueFault::WrongType));
+        }
+        match &self.objects[object] {
+            Object::String(bytes) => bytes.copy(alloc),
+            Object::Buffer(_) => Err(Refusal::Value(ValueFault::WrongType)),
+            Object::Package(_) => Err(Refusal::Value(ValueFault::WrongType)),
+        }
+    }
+
+    /// The bytes of a buffer; another kind of object is refused as `WrongType`.
+    #[tactic(auto, unfolding(crate::specs::Objects::buffer_at))]
+    pub fn buffer(&self, alloc: Global, object: usize) -> Result<Octets, Refusal>
+        ensures { Does result self.now (buffer_at object) self.now }
+    {
+        if object >= self.objects.len() {
+            return Err(Refusal::Value(ValueFault::WrongType));
+        }
+        match &self.objects[object] {
+            Object::Buffer(bytes) => bytes.copy(alloc),
+            Object::String(_) => Err(Refusal::Value(ValueFault::WrongType)),
+            Object::Package(_) => Err(Refusal::Value(ValueFault::WrongType)),
+        }
+    }
+
+    /// The elements of a package; another kind of object is refused as `WrongType`.
+    #[tactic(auto, unfolding(crate::specs::Objects::elements_at))]
+    pub fn elements(&self, alloc: Global, object: usize) -> Result<Elements, Refusal>
+        ensures { Does result self.now (elements_at object) self.now }
+    {
+        if object >= self.objects.len() {
+            return Err(Refusal::Value(ValueFault::WrongType));
+        }
+        match &self.objects[object] {
+            Object::Package(elements) => elements.copy(alloc),
+            Object::String(_) => Err(Refusal::Value(ValueFault::WrongType)),
+            Object::Buffer(_) => Err(Refusal::Value(ValueFault::WrongType)),
+        }
+    }
+
+    /// Writes one byte of a string or a buffer.
+    #[tactic(auto, unfolding(crate::specs::Objects::write_byte))]
+    pub fn write_byte(&mut self, object: usize, index: usize, byte: u8) -> Result<(), Refusal>
+        ensures { Does result self.new (write_byte object index byte) self.old }
+    {
+        if object >= self.objects.len() {
+            return Err(Refusal::Evaluation(EvaluationFault::DeadReference));
+        }
+        write_into(&mut self.objects[object], index, byte)
+    }
+
+    /// One element of a package.
+    #[tactic(auto, unfolding(crate::specs::Objects::element_at))]
+    pub fn element(&self, alloc: Global, object: usize, index: usize) -> Result<Element, Refusal>
+        ensures { Does result self.now (element_at object index) self.now }
+    {
+        if object >= self.objects.len() {
+            return Err(Refusal::Evaluation(EvaluationFault::DeadReference));
+        }
+        match &self.objects[object] {
+            Object::Package(elements) => elements.at(alloc, index),
+            Object::String(_) => Err(Refusal::Evaluation(EvaluationFault::DeadReference)),
+            Object::Buffer(_) => Err(Refusal::Evaluation(EvaluationFault::DeadReference)),
+        }
+    }
+
+    /// One byte of a string or a buffer.
+    #[tactic(auto, unfolding(crate::specs::Objects::byte_at))]
+    pub fn byte(&self, object: usize, index: usize) -> Result<u8, Refusal>
+        ensures { Does result self.now (byte_at object index) self.now }
+    {
+        if object >= self.objects.len() {
+            return Err(Refusal::Evaluation(EvaluationFault::DeadReference));
+        }
+        match &self.objects[object] {
+            Object::Package(_) => Err(Refusal::Evaluation(EvaluationFault::DeadReference)),
+            Object::String(bytes) => byte_of(bytes, index),
+            Object::Buffer(bytes) => byte_of(bytes, index),
+        }
+    }
+
+    /// Replaces one element of a package.
+    #[tactic(auto, unfolding(crate::specs::Objects::write_element))]
+    pub fn write_element(
+        &mut self,
+        object: usize,
+        index: usize,
+        element: Element,
+    ) -> Result<(), Refusal>
+        ensures { Does result self.new (write_element object index element) self.old }
+    {
+        if object >= self.objects.len() {
+            return Err(Refusal::Evaluation(EvaluationFault::DeadReference));
+        }
+        element_into(&mut self.objects[object], index, element)
+    }
+
+    /// Stores bytes into a buffer, cut or zero-filled to its length; an empty one takes them whole.
+    ///
+    /// Another kind of object is refused as `WrongType`, too many bytes as `ObjectLimit`.
+    #[tactic(auto, unfolding(crate::specs::Objects::write_buffer))]
+    pub fn write_buffer(&mut self, object: usize, bytes: Octets) -> Result<(), Refusal>
+        ensures { Does result self.new (write_buffer object bytes) self.old }
+    {
+        if object >= self.objects.len() {
+            return Err(Refusal::Value(ValueFault::WrongType));
+        }
+        let room = match &self.objects[object] {
+            Object::Buffer(old) => old.as_slice().len(),
+            Object::String(_) => return Err(Refusal::Value(ValueFault::WrongType)),
+            Object::Package(_) => return Err(Refusal::Value(ValueFault::WrongType)),
+        };
+        let fitted = fitted(bytes, room)?;
+        if fitted.as_slice().len() > MAX_BYTES {
+            return Err(Refusal::Evaluation(EvaluationFault::ObjectLimit));
+        }
+        self.objects[object] = Object::Buffer(fitted);
+        Ok(())
+    }
+
+    /// Stores bytes into a string, which takes their length.
+    ///
+    /// Another kind of object is refused as `WrongType`, too many bytes as `ObjectLimit`.
+    #[tactic(auto, unfolding(crate::specs::Objects::write_string))]
+    pub fn write_string(&mut self, object: usize, bytes: Octets) -> Result<(), Refusal>
+        ensures { Does result self.new (write_string object bytes) self.old }
+    {
+        if object >= self.objects.len() {
+            return Err(Refusal::Value(ValueFault::WrongType));
+        }
+        match &self.objects[object] {
+            Object::String(_) => {}
+            Object::Buffer(_) => return Err(Refusal::Value(ValueFault::WrongType)),
+            Object::Package(_) => return Err(Refusal::Value(ValueFault::WrongType)),
+        }
+        if bytes.as_slice().len() > MAX_BYTES {
+            return Err(Refusal::Evaluation(EvaluationFault::ObjectLimit));
+        }
+        self.objects[object] = Object::String(bytes);
+        Ok(())
+    }
+}
+
+/// Bytes that are cut or zero-filled to a length, unless that is 0.
+fn fitted(bytes: Octets, room: usize) -> Result<Octets, Refusal>
+    ensures { Answers result (Ok (fitted_to room bytes)) }
+{
+    if room == 0 {
+        return Ok(bytes);
+    }
+    let mut list = bytes.into_vec();
+    list.resize(room, 0)?;
+    Ok(Octets::from_vec(list))
+}
+
+fn byte_of(bytes: &Octets, index: usize) -> Result<u8, Refusal>
+    ensures { result ≡ or_dead (slice_get bytes.now index) }
+{
+    if index >= bytes.as_slice().len() {
+        return Err(Refusal::Evaluation(EvaluationFault::DeadReference));
+    }
+    Ok(bytes.as_slice()[index])
+}
+
+fn element_into(object: &mut Object, index: usize, element: Element) -> Result<(), Refusal>
+    ensures outcome { result ≡ element_outcome index object.old }
+    ensures written { object.new ≡ element_written index element object.old }
+{
+    match object {
+        Object::String(_) => Err(Refusal::Evaluation(EvaluationFault::DeadReference)),
+        Object::Buffer(_) => Err(Refusal::Evaluation(EvaluationFault::DeadReference)),
+        Object::Package(elements) => elements.set(index, element),
+    }
+}
+
+fn write_into(object: &mut Object, index: usize, byte: u8) -> Result<(), Refusal>
+    ensures outcome { result ≡ byte_outcome index object.old }
+    ensures written { object.new ≡ byte_written index byte object.old }
+{
+    match object {
+        Object::String(bytes) => bytes.set(index, byte),
+        Object::Buffer(bytes) => bytes.set(index, byte),
+        Object::Package(_) => Err(Refusal::Evaluation(EvaluationFault::DeadReference)),
+    }
+}
