@@ -1,0 +1,4 @@
+pub mod Kept
+pub mod Namespace
+pub mod Numbers
+pub mod Search

@@ -1,0 +1,8 @@
+//! The namespace: what stands at each path, and what a name finds from a scope (ACPI 6.5, 5.3).
+#![tactic(auto)]
+
+mod compare;
+mod names;
+mod search;
+
+pub use names::Names;

@@ -1,0 +1,171 @@
+//! The names that are declared, by whole paths in path order.
+ghost use Rattle.std.specs.Prelude.{◌≡◌, ◌++◌, ◌+◌, ◌<◌, ◌≤◌, ◌^◌, List, Ok, Err, None, OnOk, IsOkUnless, length, option_map};
+ghost use Rattle.std.specs.FinMap as map;
+ghost use Rattle.ar_space.specs.declared.refusal.Refusal.TheVariants.{OutOfMemory};
+ghost use Rattle.ar_space.specs.Outcome.{Answers};
+ghost use Rattle.ar_space.specs.Change.{Does};
+ghost use Rattle.aml_path.specs.Paths.{path_cmp, is_below};
+ghost use Rattle.aml_namespace.specs.Namespace.{root_alone, declared, without_below, numbered, with_number};
+ghost use Rattle.aml_namespace.specs.Search.{at_path};
+ghost use Rattle.aml_namespace.specs.Kept.{place, find_entry};
+
+use crate::compare::compare;
+use aml_objects::{Entry, NamedObject};
+use aml_path::{Path, Seg};
+use ar_space::{EvaluationFault, NamespaceFault, Refusal};
+use std::alloc::Global;
+use std::cmp::Ordering;
+use std::marker::Model;
+
+/// The namespace: what stands at each path, and the number of the next declaration.
+///
+/// It is seen as a finite map of paths and that number. A number that was given is never given again.
+#[derive(Debug, Drop)]
+pub struct Names {
+    entries: Vec<(Path, Entry)>,
+    next: u64,
+}
+
+impl Model for Names {
+    ghost use Rattle.std.specs.Prelude.{T};
+    ghost use Rattle.std.specs.FinMap as map;
+    ghost use Rattle.aml_path.specs.Paths.{path_cmp};
+    ghost use Rattle.aml_namespace.specs.Namespace.{Namespace, namespace_code};
+
+    ghost Value = { Namespace };
+
+    ghost coded = { namespace_code };
+
+    ghost view = { λ n. record { map = map.from_sorted n.entries.items; next = n.next } };
+
+    ghost invariant = { λ n. T (map.is_sorted path_cmp n.entries.items) };
+}
+
+impl Names {
+    /// The root alone.
+    pub fn new(alloc: Global) -> Result<Names, Refusal>
+        ensures { Answers result (Ok root_alone) }
+    {
+        let mut entries = Vec::new(alloc);
+        let root = Entry {
+            number: 0,
+            object: NamedObject::Scope,
+        };
+        entries.push((Path::root(alloc), root))?;
+        Ok(Names { entries, next: 1 })
+    }
+
+    /// What stands at a path that is given in two parts, with the path. It takes no memory.
+    #[tactic(auto, using(crate::specs::Kept::finding))]
+    pub(crate) fn at(&self, front: &[Seg], back: &[Seg]) -> Option<&(Path, Entry)>
+        ensures { option_map (λ found. found.now) result ≡ at_path self.now.map (front.now ++ back.now) }
+    {
+        entry_at(&self.entries, front, back)
+    }
+
+    /// What stands at a path. It takes no memory.
+    pub fn get(&self, path: &Path) -> Option<&Entry>
+        ensures { option_map (λ entry. entry.now) result ≡ map.get self.now.map path.now }
+    {
+        match self.at(&[], path.segments()) {
+            None => None,
+            Some(found) => Some(&found.1),
+        }
+    }
+
+    /// The declaration with a number, while it stands. It takes no memory.
+    pub fn numbered(&self, number: u64) -> Option<&(Path, Entry)>
+        ensures { option_map (λ found. found.now) result ≡ numbered number self.now.map }
+    {
+        with_number(&self.entries, number)
+    }
+
+    /// Declares a name, and gives the number of the declaration.
+    ///
+    /// A name whose parent doesn't stand is refused as `NotFound`, one that stands already as `Exists`, and one for which
+    /// no number is left as `ObjectLimit`. Where a name is refused, nothing changes.
+    #[tactic(auto, using(crate::specs::Kept::inserting), unfolding(crate::specs::Namespace::declared))]
+    pub fn insert(&mut self, path: Path, object: NamedObject) -> Result<u64, Refusal>
+        ensures { Does result self.new (declared path object) self.old }
+    {
+        let above = path.depth().saturating_sub(1);
+        if self.at(&[], &path.segments()[..above]).is_none() {
+            return Err(Refusal::Namespace(NamespaceFault::NotFound));
+        }
+        if self.get(&path).is_some() {
+            return Err(Refusal::Namespace(NamespaceFault::Exists));
+        }
+        if self.next == u64::MAX {
+            return Err(Refusal::Evaluation(EvaluationFault::ObjectLimit));
+        }
+        let number = self.next;
+        self.add(path, Entry { number, object })?;
+        Ok(number)
+    }
+
+    /// Puts an entry where its path goes.
+    fn add(&mut self, path: Path, entry: Entry) -> Result<(), Refusal>
+        requires free { map.get self.old.map path ≡ None }
+        requires room { self.old.next + 1 < 2 ^ 64 }
+        ensures added { OnOk result (self.new ≡ record { map = map.insert self.old.map path entry; next = self.old.next + 1 }) }
+        ensures memory { IsOkUnless result OutOfMemory }
+    {
+        let count = place(&self.entries, &path);
+        self.entries.insert(count, (path, entry))?;
+        self.next += 1;
+        Ok(())
+    }
+
+    /// Removes the names below a path, and not the name at it. It takes no memory.
+    #[tactic(auto, using(crate::specs::Kept::removing), unfolding(crate::specs::Namespace::without_below))]
+    pub fn remove_below(&mut self, path: &Path)
+        ensures { self.new ≡ without_below path.now self.old }
+    {
+        self.entries.retain(|entry| !entry.0.is_below(path));
+    }
+}
+
+/// The entry at a path that is given in two parts.
+fn entry_at<'a>(
+    entries: &'a [(Path, Entry)],
+    front: &[Seg],
+    back: &[Seg],
+) -> Option<&'a (Path, Entry)>
+    ensures { option_map (λ found. found.now) result ≡ find_entry (front.now ++ back.now) entries.now }
+{
+    for entry in entries {
+        if compare(front, back, entry.0.segments()).is_eq() {
+            return Some(entry);
+        }
+    }
+    None
+}
+
+/// Where a path goes among those in order.
+#[tactic(auto, using(crate::specs::Kept::place_fits))]
+fn place(entries: &[(Path, Entry)], path: &Path) -> usize
+    ensures place { result ≡ place path.now entries.now }
+    ensures within { result ≤ length entries.now }
+{
+    let mut count = 0;
+    for entry in entries {
+        match path.cmp(&entry.0) {
+            Ordering::Less => return count,
+            Ordering::Equal => return count,
+            Ordering::Greater => count += 1,
+        }
+    }
+    count
+}
+
+/// The declaration with a number.
+fn with_number(entries: &[(Path, Entry)], number: u64) -> Option<&(Path, Entry)>
+    ensures { option_map (λ found. found.now) result ≡ with_number number entries.now }
+{
+    for entry in entries {
+        if entry.1.number == number {
+            return Some(entry);
+        }
+    }
+    None
+}
