@@ -1,2 +1,4 @@
+pub mod Children
 pub mod Parts
+pub mod Picking
 pub mod Searching

@@ -2,3 +2,4 @@ pub mod Kept
 pub mod Namespace
 pub mod Numbers
 pub mod Search
+pub mod Walks

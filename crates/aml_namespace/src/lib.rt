@@ -4,5 +4,6 @@
 mod compare;
 mod names;
 mod search;
+mod walk;
 
 pub use names::Names;

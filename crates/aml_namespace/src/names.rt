@@ -55,6 +55,13 @@ impl Names {
         Ok(Names { entries, next: 1 })
     }
 
+    /// The entries, in path order.
+    pub(crate) fn entries(&self) -> &[(Path, Entry)]
+        ensures { map.entries self.now.map ≡ result.now }
+    {
+        &self.entries
+    }
+
     /// What stands at a path that is given in two parts, with the path. It takes no memory.
     #[tactic(auto, using(crate::specs::Kept::finding))]
     pub(crate) fn at(&self, front: &[Seg], back: &[Seg]) -> Option<&(Path, Entry)>

@@ -1,0 +1,23 @@
+-- The names below a path, and all names, in order.
+use Rattle.std.specs.Prelude.{◌≡◌, ℕ, ◌+◌, ◌==◌, ◌&&◌, nat_lt, List, length, Option, Some, None, slice_get, if◌then◌else◌}
+use Rattle.std.specs.List.{filter_map}
+use Rattle.std.specs.FinMap.{keys}
+use Rattle.aml_path.specs.declared.segment.Seg.{Seg}
+use Rattle.aml_path.specs.Paths.{is_below}
+use Rattle.aml_namespace.specs.Namespace.{Map}
+
+-- the last segment of a path that is one level below another
+abbrev pub child_of : List Seg → List Seg → Option Seg
+child_of p q = if length q == length p + 1 && is_below p q then slice_get q (length p) else None
+
+-- the segments of the names one level below a path, ascending
+unfoldable pub children : List Seg → Map → List Seg
+children p m = filter_map (child_of p) (keys m)
+
+-- a path that isn't the root
+abbrev pub named : List Seg → Option (List Seg)
+named p = if nat_lt 0 (length p) then Some p else None
+
+-- the paths of all names but the root, in path order
+unfoldable pub walked : Map → List (List Seg)
+walked m = filter_map named (keys m)
