@@ -1,3 +1,4 @@
+pub mod Ascent
 pub mod Children
 pub mod Parts
 pub mod Picking

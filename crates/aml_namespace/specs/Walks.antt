@@ -1,6 +1,8 @@
 -- The names below a path, and all names, in order.
-use Rattle.std.specs.Prelude.{◌≡◌, ℕ, ◌+◌, ◌==◌, ◌&&◌, nat_lt, List, length, Option, Some, None, slice_get, if◌then◌else◌}
-use Rattle.std.specs.List.{filter_map}
+use Rattle.std.specs.Prelude.{◌≡◌, ℕ, ◌+◌, ◌==◌, ◌&&◌, nat_lt, ⊤, List, [], ◌∷◌, length, Option, Some, None, slice_get, if◌then◌else◌}
+use Rattle.std.specs.List.{filter_map, AllByRecursion}
+use Rattle.std.specs.declared.cmp.Ordering.{Ordering}
+use Rattle.std.specs.declared.cmp.Ordering.TheVariants.{Less}
 use Rattle.std.specs.FinMap.{keys}
 use Rattle.aml_path.specs.declared.segment.Seg.{Seg}
 use Rattle.aml_path.specs.Paths.{is_below}
@@ -21,3 +23,8 @@ named p = if nat_lt 0 (length p) then Some p else None
 -- the paths of all names but the root, in path order
 unfoldable pub walked : Map → List (List Seg)
 walked m = filter_map named (keys m)
+
+-- each element comes before all that follow it
+abbrev pub Ascending : {A : Type 0} → (A → A → Ordering) → List A → Type 0
+Ascending R [] = ⊤
+Ascending R (x ∷ xs) = AllByRecursion (λ y. R x y ≡ Less) xs × Ascending R xs

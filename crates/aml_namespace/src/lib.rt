@@ -2,8 +2,11 @@
 #![tactic(auto)]
 
 mod compare;
+pub mod laws;
 mod names;
 mod search;
+#[cfg(test)]
+mod tests;
 mod walk;
 
 pub use names::Names;

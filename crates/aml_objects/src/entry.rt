@@ -5,14 +5,14 @@ use aml_path::Path;
 use ar_space::Width;
 
 /// What stands at a path: the number of its declaration, by which references find it, and what was declared.
-#[derive(Debug, Drop)]
+#[derive(Debug, PartialEq, Eq, Drop)]
 pub struct Entry {
     pub number: u64,
     pub object: NamedObject,
 }
 
 /// What a name was declared as.
-#[derive(Debug, Drop)]
+#[derive(Debug, PartialEq, Eq, Drop)]
 pub enum NamedObject {
     /// A predefined scope, or the root.
     Scope,

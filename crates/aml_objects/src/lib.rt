@@ -6,6 +6,8 @@ mod copies;
 mod entry;
 mod heap;
 mod object;
+#[cfg(test)]
+mod tests;
 mod value;
 
 pub use entry::{
