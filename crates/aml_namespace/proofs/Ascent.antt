@@ -75,8 +75,10 @@ named_is true p q is = cc is
 named_is false p q is = absurd (cc is)
 
 named_keeps : Keeps path_cmp path_cmp named
-named_keeps = record { keeps = λ x y a b lt at other.
-  rw (← named_is (nat_lt 0 (length x)) x a at, ← named_is (nat_lt 0 (length y)) y b other) lt }
+named_keeps = record {
+  keeps = λ x y a b lt at other.
+      rw (← named_is (nat_lt 0 (length x)) x a at, ← named_is (nat_lt 0 (length y)) y b other) lt;
+}
 
 pub walk_ascends : (m : Map) → Ascending path_cmp (walked m)
 unfolding walked
@@ -116,9 +118,11 @@ last_less Equal is = absurd (cc is)
 last_less Greater is = absurd (cc is)
 
 children_keep : (p : List Seg) → Keeps path_cmp seg_cmp (child_of p)
-children_keep p = record { keeps = λ x y a b lt at other.
-  let below : path_cmp (p ++ a ∷ []) (p ++ b ∷ []) ≡ Less = rw (← child_path p x a at, ← child_path p y b other) lt in
-  last_less (seg_cmp a b) (sym (itself p (a ∷ []) (b ∷ [])) ∙ below) }
+children_keep p = record {
+  keeps = λ x y a b lt at other.
+      let below : path_cmp (p ++ a ∷ []) (p ++ b ∷ []) ≡ Less = rw (← child_path p x a at, ← child_path p y b other) lt in
+      last_less (seg_cmp a b) (sym (itself p (a ∷ []) (b ∷ [])) ∙ below);
+}
 
 pub children_ascend : (p : List Seg) (m : Map) → Ascending seg_cmp (children p m)
 unfolding children

@@ -2,4 +2,5 @@ pub mod Ascent
 pub mod Children
 pub mod Parts
 pub mod Picking
+pub mod Replies
 pub mod Searching

@@ -50,10 +50,10 @@ module _ {X : Type 0} where
 
   pub map_kept : (p : List Seg → Bool) (es : List (List Seg × X)) → T (is_sorted path_cmp es) → from_sorted {R = path_cmp} (where_key path_cmp p es) ≡ retain_keys (from_sorted es) p
   map_kept p es h = same_map path_total only_equal _ _ (λ q.
-    let alike : (x : List Seg) → path_cmp q x ≡ Equal → p x ≡ p q = λ x e. ap p (sym (only_equal q x e)) in
-    get-from_sorted path_cmp _ q (is_sorted-where_key path_cmp p es h)
-    ∙ find-where_key path_cmp p q alike es
-    ∙ sym (get-retain_keys (from_sorted es) p q alike ∙ ap (λ o. cond (p q) o None) (get-from_sorted path_cmp es q h)))
+      let alike : (x : List Seg) → path_cmp q x ≡ Equal → p x ≡ p q = λ x e. ap p (sym (only_equal q x e)) in
+      get-from_sorted path_cmp _ q (is_sorted-where_key path_cmp p es h)
+      ∙ find-where_key path_cmp p q alike es
+      ∙ sym (get-retain_keys (from_sorted es) p q alike ∙ ap (λ o. cond (p q) o None) (get-from_sorted path_cmp es q h)))
 
   -- the entry whose path is the key, with the path
   abbrev pub find_entry : List Seg → List (List Seg × X) → Option (List Seg × X)
@@ -97,5 +97,7 @@ module _ {X : Type 0} where
   place_fits k (e ∷ es) = fits_by (path_cmp k e.0) _ _ (place_fits k es)
 
 pub ruleset finding = (get_kept, entry_kept)
+
 pub ruleset inserting = (get_kept, map_put, still_sorted)
+
 pub ruleset removing = (map_kept)

@@ -42,8 +42,8 @@ unfoldable pub declared : List Seg → NamedObject → Change Namespace ℕ
 declared p o s =
     if contains_key s.map (above p)
     then (if contains_key s.map p then (Err (refusal.Namespace Exists), s)
-      else (if s.next == 2 ^ 64 - 1 then (Err (refusal.Evaluation ObjectLimit), s)
-      else (Ok s.next, record { map = insert s.map p (record { number = s.next; object = o }); next = s.next + 1 })))
+    else (if s.next == 2 ^ 64 - 1 then (Err (refusal.Evaluation ObjectLimit), s)
+    else (Ok s.next, record { map = insert s.map p (record { number = s.next; object = o }); next = s.next + 1 })))
     else (Err (refusal.Namespace NotFound), s)
 
 -- without the names below a path

@@ -10,12 +10,10 @@ ghost use Rattle.aml_namespace.specs.Walks.{children, walked, Ascending};
 #[tactic(auto, using(crate::proofs::Ascent::children_ascend))]
 pub fn children_ascend()
     ensures { (path : List Seg) (names : Map) → Ascending seg_cmp (children path names) }
-{
-}
+{}
 
 /// The paths of all names are in path order, so none stands twice.
 #[tactic(auto, using(crate::proofs::Ascent::walk_ascends))]
 pub fn names_are_walked_in_path_order()
     ensures { (names : Map) → Ascending path_cmp (walked names) }
-{
-}
+{}

@@ -1,6 +1,7 @@
 //! The namespace: what stands at each path, and what a name finds from a scope (ACPI 6.5, 5.3).
 #![tactic(auto)]
 
+mod calls;
 mod compare;
 pub mod laws;
 mod names;
@@ -9,4 +10,5 @@ mod search;
 mod tests;
 mod walk;
 
+pub use calls::{Call, Reply};
 pub use names::Names;

@@ -1,11 +1,11 @@
 ghost use Rattle.std.specs.Prelude.{◌<◌};
 
-use crate::Names;
+use crate::{Call, Names, Reply};
 use aml_objects::{Entry, NamedObject, Value};
 use aml_path::{NameString, Path, Prefix};
 use ar_space::{NameFault, NamespaceFault, Refusal};
 use std::alloc::Global;
-use std::collections::BTreeMap;
+use std::collections::{BTreeMap, VecDeque};
 use std::test::Fail;
 
 const NOT_FOUND: Refusal = Refusal::Namespace(NamespaceFault::NotFound);
@@ -25,12 +25,7 @@ fn declare(alloc: Global, names: &mut Names, texts: &[&str]) -> Result<(), Refus
     Ok(())
 }
 
-fn found(
-    alloc: Global,
-    names: &Names,
-    scope: &str,
-    name: &NameString,
-) -> Result<String, Refusal> {
+fn found(alloc: Global, names: &Names, scope: &str, name: &NameString) -> Result<String, Refusal> {
     names.locate(&path(alloc, scope)?, name)?.text(alloc)
 }
 
@@ -38,18 +33,42 @@ fn found(
 fn declarations_are_numbered(rt: HostRuntime) -> Result<(), Fail> {
     let alloc = rt.alloc();
     let mut names = Names::new(alloc)?;
-    assert_eq!(rt; names.insert(path(alloc, "\\A")?, NamedObject::Device), Ok(1));
-    assert_eq!(rt; names.insert(path(alloc, "\\A.B")?, NamedObject::Event), Ok(2));
-    assert_eq!(rt; names.insert(path(alloc, "\\A.B")?, NamedObject::Event), Err(Refusal::Namespace(NamespaceFault::Exists)));
-    assert_eq!(rt; names.insert(path(alloc, "\\B.A")?, NamedObject::Event), Err(NOT_FOUND));
-    assert_eq!(rt; names.insert(path(alloc, "\\B")?, NamedObject::Mutex(0)), Ok(3));
+    assert_eq!(rt;
+        names.insert(path(alloc, "\\A")?, NamedObject::Device),
+        Ok(1)
+    );
+    assert_eq!(rt;
+        names.insert(path(alloc, "\\A.B")?, NamedObject::Event),
+        Ok(2)
+    );
+    assert_eq!(rt;
+        names.insert(path(alloc, "\\A.B")?, NamedObject::Event),
+        Err(Refusal::Namespace(NamespaceFault::Exists))
+    );
+    assert_eq!(rt;
+        names.insert(path(alloc, "\\B.A")?, NamedObject::Event),
+        Err(NOT_FOUND)
+    );
+    assert_eq!(rt;
+        names.insert(path(alloc, "\\B")?, NamedObject::Mutex(0)),
+        Ok(3)
+    );
     names.remove_below(&path(alloc, "\\A")?);
     assert!(rt; names.get(&path(alloc, "\\A")?).is_some());
     assert!(rt; names.get(&path(alloc, "\\A.B")?).is_none());
     assert!(rt; names.numbered(2).is_none());
-    assert_eq!(rt; names.insert(path(alloc, "\\A.B")?, NamedObject::Event), Ok(4));
-    assert_eq!(rt; names.numbered(4).map(|found| &found.0), Some(&path(alloc, "\\A.B")?));
-    assert_eq!(rt; names.numbered(0).map(|found| &found.0), Some(&Path::root(alloc)));
+    assert_eq!(rt;
+        names.insert(path(alloc, "\\A.B")?, NamedObject::Event),
+        Ok(4)
+    );
+    assert_eq!(rt;
+        names.numbered(4).map(|found| &found.0),
+        Some(&path(alloc, "\\A.B")?)
+    );
+    assert_eq!(rt;
+        names.numbered(0).map(|found| &found.0),
+        Some(&Path::root(alloc))
+    );
     Ok(())
 }
 
@@ -57,7 +76,11 @@ fn declarations_are_numbered(rt: HostRuntime) -> Result<(), Fail> {
 fn single_segments_are_searched_upwards(rt: HostRuntime) -> Result<(), Fail> {
     let alloc = rt.alloc();
     let mut names = Names::new(alloc)?;
-    declare(alloc, &mut names, &["\\_SB", "\\_SB.PCI0", "\\_SB.PCI0.MA", "\\FOO", "\\_SB.FOO"])?;
+    declare(
+        alloc,
+        &mut names,
+        &["\\_SB", "\\_SB.PCI0", "\\_SB.PCI0.MA", "\\FOO", "\\_SB.FOO"],
+    )?;
     let foo = name(alloc, Prefix::Parents(0), "\\FOO")?;
     for (scope, place) in [
         ("\\_SB.PCI0.MA", "\\_SB_.FOO_"),
@@ -67,18 +90,34 @@ fn single_segments_are_searched_upwards(rt: HostRuntime) -> Result<(), Fail> {
         ("\\FOO", "\\FOO_"),
         ("\\NONE.AT.ALL", "\\FOO_"),
     ] {
-        assert_eq!(rt; found(alloc, &names, scope, &foo)?.as_str(), place, "{scope}");
+        assert_eq!(rt;
+            found(alloc, &names, scope, &foo)?.as_str(),
+            place,
+            "{scope}"
+        );
     }
     let up = name(alloc, Prefix::Parents(1), "\\FOO")?;
     assert_eq!(rt; found(alloc, &names, "\\_SB.PCI0.MA", &up), Err(NOT_FOUND));
-    assert_eq!(rt; found(alloc, &names, "\\_SB.PCI0", &up)?.as_str(), "\\_SB_.FOO_");
+    assert_eq!(rt;
+        found(alloc, &names, "\\_SB.PCI0", &up)?.as_str(),
+        "\\_SB_.FOO_"
+    );
     let two = name(alloc, Prefix::Parents(0), "\\PCI0.MA")?;
     assert_eq!(rt; found(alloc, &names, "\\_SB.PCI0", &two), Err(NOT_FOUND));
-    assert_eq!(rt; found(alloc, &names, "\\_SB", &two)?.as_str(), "\\_SB_.PCI0.MA__");
+    assert_eq!(rt;
+        found(alloc, &names, "\\_SB", &two)?.as_str(),
+        "\\_SB_.PCI0.MA__"
+    );
     let above = name(alloc, Prefix::Parents(2), "\\FOO")?;
-    assert_eq!(rt; found(alloc, &names, "\\_SB", &above), Err(Refusal::Name(NameFault::AboveRoot)));
+    assert_eq!(rt;
+        found(alloc, &names, "\\_SB", &above),
+        Err(Refusal::Name(NameFault::AboveRoot))
+    );
     let null = name(alloc, Prefix::Parents(0), "\\")?;
-    assert_eq!(rt; found(alloc, &names, "\\_SB", &null), Err(Refusal::Name(NameFault::BadName)));
+    assert_eq!(rt;
+        found(alloc, &names, "\\_SB", &null),
+        Err(Refusal::Name(NameFault::BadName))
+    );
     let root = name(alloc, Prefix::Root, "\\")?;
     assert_eq!(rt; found(alloc, &names, "\\_SB", &root)?.as_str(), "\\");
     Ok(())
@@ -89,16 +128,29 @@ fn aliases_lead_one_step(rt: HostRuntime) -> Result<(), Fail> {
     let alloc = rt.alloc();
     let mut names = Names::new(alloc)?;
     names.insert(path(alloc, "\\DATA")?, NamedObject::Data(Value::Integer(7)))?;
-    for (alias, target) in [("\\ONE", "\\DATA"), ("\\TWO", "\\ONE"), ("\\GONE", "\\NONE")] {
-        names.insert(path(alloc, alias)?, NamedObject::Alias(path(alloc, target)?))?;
+    for (alias, target) in [
+        ("\\ONE", "\\DATA"),
+        ("\\TWO", "\\ONE"),
+        ("\\GONE", "\\NONE"),
+    ] {
+        names.insert(
+            path(alloc, alias)?,
+            NamedObject::Alias(path(alloc, target)?),
+        )?;
     }
     let root = Path::root(alloc);
     let one = names.lookup(&root, &name(alloc, Prefix::Parents(0), "\\ONE")?)?;
     assert_eq!(rt; one.object, NamedObject::Data(Value::Integer(7)));
     assert_eq!(rt; one.number, 1);
-    assert_eq!(rt; found(alloc, &names, "\\", &name(alloc, Prefix::Root, "\\ONE")?)?.as_str(), "\\DATA");
+    assert_eq!(rt;
+        found(alloc, &names, "\\", &name(alloc, Prefix::Root, "\\ONE")?)?.as_str(),
+        "\\DATA"
+    );
     for alias in ["\\TWO", "\\GONE"] {
-        assert_eq!(rt; names.lookup(&root, &name(alloc, Prefix::Root, alias)?), Err(NOT_FOUND));
+        assert_eq!(rt;
+            names.lookup(&root, &name(alloc, Prefix::Root, alias)?),
+            Err(NOT_FOUND)
+        );
     }
     assert!(rt; names.get(&path(alloc, "\\TWO")?).is_some());
     Ok(())
@@ -108,9 +160,20 @@ fn aliases_lead_one_step(rt: HostRuntime) -> Result<(), Fail> {
 fn names_are_walked_in_path_order(rt: HostRuntime) -> Result<(), Fail> {
     let alloc = rt.alloc();
     let mut names = Names::new(alloc)?;
-    declare(alloc, &mut names, &["\\B", "\\A", "\\A.Z", "\\A.C", "\\A.C.D", "\\A0"])?;
+    declare(
+        alloc,
+        &mut names,
+        &["\\B", "\\A", "\\A.Z", "\\A.C", "\\A.C.D", "\\A0"],
+    )?;
     let walked = names.walk(alloc)?;
-    let order = ["\\A0__", "\\A___", "\\A___.C___", "\\A___.C___.D___", "\\A___.Z___", "\\B___"];
+    let order = [
+        "\\A0__",
+        "\\A___",
+        "\\A___.C___",
+        "\\A___.C___.D___",
+        "\\A___.Z___",
+        "\\B___",
+    ];
     assert_eq!(rt; walked.len(), order.len());
     for (one, text) in walked.iter().zip(order.iter()) {
         assert_eq!(rt; one.text(alloc)?.as_str(), *text);
@@ -119,6 +182,30 @@ fn names_are_walked_in_path_order(rt: HostRuntime) -> Result<(), Fail> {
     assert_eq!(rt; children.as_slice(), path(alloc, "\\C.Z")?.segments());
     assert_eq!(rt; names.children(alloc, &Path::root(alloc))?.len(), 3);
     assert!(rt; names.children(alloc, &path(alloc, "\\B")?)?.is_empty());
+    Ok(())
+}
+
+#[test]
+fn calls_are_answered_in_order(rt: HostRuntime) -> Result<(), Fail> {
+    let alloc = rt.alloc();
+    let mut names = Names::new(alloc)?;
+    let mut calls = VecDeque::new(alloc);
+    calls.push_back(Call::Insert(path(alloc, "\\A")?, NamedObject::Device))?;
+    calls.push_back(Call::Insert(path(alloc, "\\A.B")?, NamedObject::Event))?;
+    calls.push_back(Call::Insert(path(alloc, "\\A")?, NamedObject::Event))?;
+    calls.push_back(Call::Lookup(path(alloc, "\\A")?, name(alloc, Prefix::Parents(0), "\\B")?))?;
+    calls.push_back(Call::RemoveBelow(path(alloc, "\\A")?))?;
+    calls.push_back(Call::Lookup(path(alloc, "\\A")?, name(alloc, Prefix::Parents(0), "\\B")?))?;
+    let replies = names.answer_all(alloc, calls)?;
+    let wanted = [
+        Reply::Declared(Ok(1)),
+        Reply::Declared(Ok(2)),
+        Reply::Declared(Err(Refusal::Namespace(NamespaceFault::Exists))),
+        Reply::Found(Ok(2)),
+        Reply::Removed,
+        Reply::Found(Err(NOT_FOUND)),
+    ];
+    assert_eq!(rt; replies.as_slice(), wanted.as_slice());
     Ok(())
 }
 
@@ -151,13 +238,13 @@ fn searched(
     scope: &Path,
     segment: &Path,
 ) -> Result<Option<u64>, Refusal> {
-    for depth in (0..scope.depth() + 1).rev() {
-        let key = scope.below_prefix(alloc, depth, segment.segments())?;
+    for above in (0..scope.depth()).rev() {
+        let key = scope.below_prefix(alloc, above + 1, segment.segments())?;
         if let Some(number) = map.get(&key) {
             return Ok(Some(*number));
         }
     }
-    Ok(None)
+    Ok(map.get(segment).copied())
 }
 
 #[test]
@@ -176,7 +263,9 @@ fn ten_thousand_calls_agree_with_an_ordered_map(rt: HostRuntime) -> Result<(), F
             1..=3 => {
                 let segment = random_path(alloc, &mut state)?.prefix(alloc, 1)?;
                 let single = NameString::new(Prefix::Parents(0), segment.copy(alloc)?.into_vec());
-                let number = names.lookup(&path, &single).map(|entry: &Entry| entry.number);
+                let number = names
+                    .lookup(&path, &single)
+                    .map(|entry: &Entry| entry.number);
                 assert_eq!(rt; number.ok(), searched(alloc, &map, &path, &segment)?);
             }
             _ => {
