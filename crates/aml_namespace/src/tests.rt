@@ -261,7 +261,8 @@ fn ten_thousand_calls_agree_with_an_ordered_map(rt: HostRuntime) -> Result<(), F
                 map.retain(|key: &Path, _number: &mut u64| !key.is_below(&path));
             }
             1..=3 => {
-                let segment = random_path(alloc, &mut state)?.prefix(alloc, 1)?;
+                let other = random_path(alloc, &mut state)?;
+                let segment = other.prefix(alloc, other.depth().min(1))?;
                 let single = NameString::new(Prefix::Parents(0), segment.copy(alloc)?.into_vec());
                 let number = names
                     .lookup(&path, &single)

@@ -1,0 +1,8 @@
+pub mod Counts
+pub mod Gathering
+pub mod Listed
+pub mod Offering
+pub mod Splitting
+pub mod ReadsBack
+pub mod Members
+pub mod Spelling

@@ -1,0 +1,10 @@
+pub mod Current
+pub mod Descriptors
+pub mod FlagByte
+pub mod Items
+pub mod Listings
+pub mod Numbers
+pub mod Offers
+pub mod Records
+pub mod Settings
+pub mod Sound

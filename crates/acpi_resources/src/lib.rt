@@ -1,0 +1,26 @@
+//! Interrupt resources (ACPI 6.5, 6.4): which interrupts a link device may be set to, which it is set to, and the
+//! bytes that set it to one of them.
+#![tactic(auto)]
+
+mod current_resources;
+mod descriptor;
+mod flags;
+mod form;
+mod interrupt_numbers;
+mod interrupts;
+mod item;
+mod laws;
+mod offer;
+mod possible_resources;
+mod setting_bytes;
+
+pub use current_resources::current;
+pub use form::{Form, Polarity};
+pub use interrupt_numbers::InterruptNumbers;
+pub use laws::{a_set_has_the_numbers_of_its_list, an_item_is_read_as_it_is_written};
+pub use offer::Offer;
+pub use possible_resources::possible;
+pub use setting_bytes::setting;
+
+#[cfg(test)]
+mod tests;
