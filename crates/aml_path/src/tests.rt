@@ -1,4 +1,4 @@
-use crate::{NameString, Path, Prefix, Seg};
+use crate::{is_lead_name_char, is_name_char, NameString, Path, Prefix, Seg};
 use ar_space::{NameFault, Refusal};
 use std::alloc::Global;
 use std::cmp::Ordering;
@@ -114,5 +114,27 @@ fn single_segments_are_searched(rt: HostRuntime) -> Result<(), Fail> {
     ] {
         assert!(rt; !name(rt.alloc(), prefix, text)?.is_searched());
     }
+    Ok(())
+}
+
+#[test]
+fn characters_of_names(rt: HostRuntime) -> Result<(), Fail> {
+    for (lead, other, byte) in [
+        (true, true, b'A'),
+        (true, true, b'Z'),
+        (true, true, b'_'),
+        (false, true, b'0'),
+        (false, true, b'9'),
+        (false, false, b'a'),
+        (false, false, b'@'),
+        (false, false, b':'),
+        (false, false, 0),
+    ] {
+        assert_eq!(rt; is_lead_name_char(byte), lead);
+        assert_eq!(rt; is_name_char(byte), other);
+    }
+    let mut segments = Vec::new(rt.alloc());
+    segments.push(Seg::known(*b"_SB_"))?;
+    assert_eq!(rt; Path::from_vec(segments), path(rt.alloc(), "\\_SB_")?);
     Ok(())
 }

@@ -1,5 +1,5 @@
 use crate::{
-    EvaluationFault, FieldFault, InputFault, MachineFault, NameFault, NamespaceFault, PathText,
+    ByteMap, EvaluationFault, FieldFault, InputFault, MachineFault, NameFault, NamespaceFault, PathText,
     Place, Refusal, ReportFault, ResourceFault, RoutingFault, RoutingTableFault, Space, SpaceFault,
     Sparse, TableFault, TermFault, ValueFault, Width,
 };
@@ -154,5 +154,33 @@ fn an_absent_byte_refuses_the_access(rt: HostRuntime) -> Result<(), Fail> {
     }
     assert_eq!(rt; register(0xFFF).offset_by(1), None);
     assert_eq!(rt; space.read(register(0), Width::W8), Err(SpaceFault::NoRegister));
+    Ok(())
+}
+
+#[test]
+fn widths_have_bytes_and_bits(rt: HostRuntime) {
+    let table = [(Width::W8, 1, 8), (Width::W16, 2, 16), (Width::W32, 4, 32), (Width::W64, 8, 64)];
+    for (width, bytes, bits) in table {
+        assert_eq!(rt; width.bytes(), bytes);
+        assert_eq!(rt; width.bits(), bits);
+    }
+}
+
+#[test]
+fn a_path_text_is_its_string(rt: HostRuntime) -> Result<(), Fail> {
+    let text = PathText::new(String::from_str(rt.alloc(), "\\_SB_.LNKA")?);
+    assert_eq!(rt; text.as_str(), "\\_SB_.LNKA");
+    assert_eq!(rt; text.into_string().as_str(), "\\_SB_.LNKA");
+    Ok(())
+}
+
+#[test]
+fn the_last_byte_put_at_an_address_stays(rt: HostRuntime) -> Result<(), Fail> {
+    let mut map = ByteMap::new(rt.alloc());
+    for byte in [1, 2, 3] {
+        map.put(0xF_0000, byte)?;
+    }
+    assert_eq!(rt; map.byte(0xF_0000), Some(3));
+    assert_eq!(rt; map.byte(0xF_0001), None);
     Ok(())
 }
