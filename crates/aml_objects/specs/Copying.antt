@@ -15,7 +15,7 @@ use Rattle.aml_objects.specs.declared.object.Object.{Object}
 use Rattle.ar_space.specs.Change.{Change, Does, Same, give, stop, go_on, ◌>>=◌}
 use Rattle.ar_space.specs.Outcome.{Outcome}
 use Rattle.aml_objects.specs.Objects.{Objects, make, fits, make_string, make_buffer, string_at, buffer_at, elements_at}
-use Rattle.aml_objects.specs.Copies.{string_copy, buffer_copy, value_copy, held_copy, element_copy, copies_of, whole_copy, package_copy, if_whole, whole, copied}
+use Rattle.aml_objects.specs.Copies.{if_whole, string_copy, buffer_copy, value_copy, held_copy, element_copy, copies_of, whole_copy, package_copy, whole, copied}
 
 -- with a level left a package is copied
 pub level_is : (n o : ℕ) (h : Objects) → 0 < n → package_copy n o h ≡ whole_copy (package_copy (n - 1)) o h
@@ -154,3 +154,12 @@ unfolding copied
 does_copied_err v i = does_whole_err _ (grows_value (package_copy 64) (grows_package 64) v) i
 
 pub ruleset copying = (does_level, does_deep, does_copied_ok, does_copied_err)
+
+-- a copy adds objects, and leaves those that were there
+whole_grows : {A : Type 0} (r : Outcome A) (h h1 : Objects) (k : List Object) → h1 ≡ h ++ k → (j : List Object) × ((if_whole h r h1).1 ≡ h ++ j)
+whole_grows (Ok a) h h1 k e = (k, e)
+whole_grows (Err x) h h1 k e = ([], search rules)
+
+pub copy_grows : (v : Value) (h : Objects) → (k : List Object) × ((copied v h).1 ≡ h ++ k)
+unfolding copied whole
+copy_grows v h = whole_grows (value_copy (package_copy 64) v h).0 h (value_copy (package_copy 64) v h).1 ((grows_value (package_copy 64) (grows_package 64) v).more h).0 ((grows_value (package_copy 64) (grows_package 64) v).more h).1

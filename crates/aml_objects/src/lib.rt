@@ -5,6 +5,7 @@
 mod copies;
 mod entry;
 mod heap;
+pub mod laws;
 mod object;
 #[cfg(test)]
 mod tests;
