@@ -1,5 +1,6 @@
 //! Calls of a namespace, one after another.
-ghost use Rattle.std.specs.Prelude.{◌≡◌, false, IfOk, OnOk};
+ghost use Rattle.std.specs.Prelude.{◌≡◌, false, IfOk, OnOk, IsOkUnless};
+ghost use Rattle.ar_space.specs.declared.refusal.Refusal.TheVariants.{OutOfMemory};
 ghost use Rattle.ar_space.specs.Outcome.{NotMemory, seen};
 ghost use Rattle.aml_namespace.specs.Calls.{answered, inserted, removed, looked_up, replies_to, left_by};
 
@@ -33,7 +34,7 @@ pub enum Reply {
 
 impl Names {
     /// Answers calls in order. Each reply, and the namespace after them, are those of the finite map of paths and of the
-    /// next declaration's number.
+    /// next declaration's number. Only want of memory ends the run.
     pub fn answer_all(
         &mut self,
         alloc: Global,
@@ -41,6 +42,7 @@ impl Names {
     ) -> Result<Vec<Reply>, Refusal>
         ensures replies { IfOk result (λ replies. replies.items ≡ replies_to calls.items self.old) }
         ensures namespace { OnOk result (self.new ≡ left_by calls.items self.old) }
+        ensures memory { IsOkUnless result OutOfMemory }
     {
         let mut left = calls;
         let mut replies = Vec::new(alloc);
@@ -54,7 +56,8 @@ impl Names {
     /// Answers one call. A refusal of the call is its reply; only want of memory ends the run.
     #[tactic(auto, unfolding(crate::specs::Calls::answered))]
     fn answer(&mut self, call: Call) -> Result<Reply, Refusal>
-        ensures { IfOk result (λ reply. answered call self.old ≡ (reply, self.new)) }
+        ensures reply { IfOk result (λ reply. answered call self.old ≡ (reply, self.new)) }
+        ensures memory { IsOkUnless result OutOfMemory }
     {
         match call {
             Call::Insert(path, object) => self.answer_insert(path, object),
@@ -65,7 +68,8 @@ impl Names {
 
     #[tactic(auto, using(crate::proofs::Replies::replied))]
     fn answer_insert(&mut self, path: Path, object: NamedObject) -> Result<Reply, Refusal>
-        ensures { IfOk result (λ reply. inserted path object self.old ≡ (reply, self.new)) }
+        ensures reply { IfOk result (λ reply. inserted path object self.old ≡ (reply, self.new)) }
+        ensures memory { IsOkUnless result OutOfMemory }
     {
         let outcome = self.insert(path, object);
         if is_out_of_memory(&outcome) {
@@ -75,14 +79,16 @@ impl Names {
     }
 
     fn answer_remove(&mut self, path: Path) -> Result<Reply, Refusal>
-        ensures { IfOk result (λ reply. removed path self.old ≡ (reply, self.new)) }
+        ensures reply { IfOk result (λ reply. removed path self.old ≡ (reply, self.new)) }
+        ensures memory { IsOkUnless result OutOfMemory }
     {
         self.remove_below(&path);
         Ok(Reply::Removed)
     }
 
     fn answer_lookup(&mut self, scope: Path, name: NameString) -> Result<Reply, Refusal>
-        ensures { IfOk result (λ reply. looked_up scope name self.old ≡ (reply, self.new)) }
+        ensures reply { IfOk result (λ reply. looked_up scope name self.old ≡ (reply, self.new)) }
+        ensures memory { IsOkUnless result OutOfMemory }
     {
         Ok(Reply::Found(number_of(self.lookup(&scope, &name))))
     }
