@@ -9,5 +9,4 @@ ghost use Rattle.aml_objects.specs.Copies.{copied};
 #[tactic(auto, using(crate::specs::Copying::copy_grows))]
 pub fn a_copy_leaves_objects_as_they_were()
     ensures { (value : Value) (before : List Object) → (made : List Object) × ((copied value before).1 ≡ before ++ made) }
-{
-}
+{}

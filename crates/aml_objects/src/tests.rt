@@ -5,7 +5,9 @@ use std::alloc::Global;
 use std::test::Fail;
 
 const OBJECT_LIMIT: Refusal = Refusal::Evaluation(EvaluationFault::ObjectLimit);
+
 const WRONG_TYPE: Refusal = Refusal::Value(ValueFault::WrongType);
+
 const DEAD: Refusal = Refusal::Evaluation(EvaluationFault::DeadReference);
 
 fn octets(alloc: Global, bytes: &[u8]) -> Result<Octets, Refusal> {
@@ -18,7 +20,10 @@ fn objects_keep_their_numbers(rt: HostRuntime) -> Result<(), Fail> {
     let mut heap = Heap::new(alloc);
     assert!(rt; heap.is_empty());
     assert_eq!(rt; heap.make_string(octets(alloc, b"ABC")?)?, Value::String(0));
-    assert_eq!(rt; heap.make_buffer(octets(alloc, &[1, 2, 3])?)?, Value::Buffer(1));
+    assert_eq!(rt;
+        heap.make_buffer(octets(alloc, &[1, 2, 3])?)?,
+        Value::Buffer(1)
+    );
     let mut elements = Elements::new(alloc);
     elements.push(Element::Value(Value::String(0)))?;
     assert_eq!(rt; heap.make_package(elements)?, Value::Package(2));
@@ -63,15 +68,26 @@ fn elements_are_read_and_replaced(rt: HostRuntime) -> Result<(), Fail> {
     let mut heap = Heap::new(alloc);
     let mut elements = Elements::new(alloc);
     elements.push(Element::Value(Value::Uninitialized))?;
-    let name = NameString::new(Prefix::Parents(1), Path::from_text(alloc, b"\\FOO")?.into_vec());
+    let name = NameString::new(
+        Prefix::Parents(1),
+        Path::from_text(alloc, b"\\FOO")?.into_vec(),
+    );
     elements.push(Element::Name(name, Path::root(alloc)))?;
     heap.make_package(elements)?;
     let local = Value::Reference(Reference::Slot(3, Slot::Local(0)));
     heap.write_element(0, 0, Element::Value(local))?;
-    assert!(rt; matches!(heap.element(alloc, 0, 0)?, Element::Value(Value::Reference(_))));
+    assert!(rt;
+        matches!(
+            heap.element(alloc, 0, 0)?,
+            Element::Value(Value::Reference(_))
+        )
+    );
     assert!(rt; matches!(heap.element(alloc, 0, 1)?, Element::Name(_, _)));
     assert_eq!(rt; heap.element(alloc, 0, 2).err(), Some(DEAD));
-    assert_eq!(rt; heap.write_element(0, 2, Element::Value(Value::Uninitialized)), Err(DEAD));
+    assert_eq!(rt;
+        heap.write_element(0, 2, Element::Value(Value::Uninitialized)),
+        Err(DEAD)
+    );
     Ok(())
 }
 
@@ -110,8 +126,14 @@ fn objects_have_limits(rt: HostRuntime) -> Result<(), Fail> {
     bytes.resize(1_048_576, 0)?;
     heap.make_buffer(octets(alloc, bytes.as_slice())?)?;
     bytes.push(0)?;
-    assert_eq!(rt; heap.make_buffer(octets(alloc, bytes.as_slice())?), Err(OBJECT_LIMIT));
-    assert_eq!(rt; heap.make_string(octets(alloc, bytes.as_slice())?), Err(OBJECT_LIMIT));
+    assert_eq!(rt;
+        heap.make_buffer(octets(alloc, bytes.as_slice())?),
+        Err(OBJECT_LIMIT)
+    );
+    assert_eq!(rt;
+        heap.make_string(octets(alloc, bytes.as_slice())?),
+        Err(OBJECT_LIMIT)
+    );
     let mut elements = Elements::new(alloc);
     for _ in 0..65_536u32 {
         elements.push(Element::Value(Value::Uninitialized))?;

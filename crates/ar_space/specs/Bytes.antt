@@ -1,5 +1,5 @@
 -- A register space of bytes: what stands where, and what an access does.
-use Rattle.std.specs.Prelude.{◌≡◌, ℕ, zero, suc, ◌+◌, ◌*◌, ◌/◌, ◌%◌, is_some, Option, Some, None, Result, Ok, Err, option_and_then, if◌then◌else◌, refl}
+use Rattle.std.specs.Prelude.{ℕ, zero, suc, ◌+◌, ◌*◌, ◌/◌, ◌%◌, is_some, Option, Some, None, Result, Ok, Err, option_and_then, if◌then◌else◌, refl}
 use Rattle.std.specs.Option.{option_map}
 use Rattle.std.specs.FinMap as map
 use Rattle.std.specs.Coded.{Coded, code_by, coded×, coded_ℕ}
@@ -9,7 +9,6 @@ use Rattle.ar_space.specs.declared.refusal.SpaceFault.TheVariants.{NoRegister}
 use Rattle.ar_space.specs.declared.space.Place.{Place}
 use Rattle.ar_space.specs.declared.space.Place.TheVariants.{Memory, Io, Pci}
 use Rattle.ar_space.specs.declared.space.Width.{Width}
-use Rattle.ar_space.specs.declared.register_map.Register.{Register}
 use Rattle.ar_space.specs.Accesses.{byte_count, place_on}
 use Rattle.ar_space.specs.Maps.{replaced}
 use Rattle.ar_space.specs.Registers.{register_cmp, coded_register}

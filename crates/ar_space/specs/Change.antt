@@ -1,5 +1,5 @@
 -- Changes of a state that may stop: what a call with `&mut self` answers and leaves, beside what its definition gives.
-use Rattle.std.specs.Prelude.{◌≡◌, Result, Ok, Err, IsErr, IsErrAnd, refl}
+use Rattle.std.specs.Prelude.{◌≡◌, Ok, Err, IsErr, IsErrAnd, refl}
 use Rattle.std.proofs.Common.{◌∙◌, ap}
 use Rattle.ar_space.specs.declared.refusal.Refusal.{Refusal}
 use Rattle.ar_space.specs.declared.refusal.Refusal.TheVariants.{OutOfMemory}

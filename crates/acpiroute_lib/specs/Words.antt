@@ -1,0 +1,44 @@
+-- Words, numbers and bytes of a line of the machine text.
+use Rattle.std.specs.Prelude.{ℕ, ◌+◌, ◌*◌, ◌==◌, ◌&&◌, nat_le, nat_lt, List, [], ◌∷◌, length, Option, Some, None, Result, Ok, Err, option_and_then, if◌then◌else◌}
+use Rattle.std.specs.List.{slice_split, position_or_len, after_first}
+use Rattle.hex.specs.Hex.{hex_digit_value, decode_of}
+
+-- the `?` of options
+infixl 10 ◌>>=◌
+abbrev ◌>>=◌ : {A B : Type 0} → Option A → (A → Option B) → Option B
+m >>= f = option_and_then f m
+
+-- the words of a text, parted by single blanks
+abbrev pub words : List ℕ → List (List ℕ)
+words = slice_split (λ b. b == 32)
+
+-- what follows the first blank, if there is one
+abbrev pub tail_of : List ℕ → Option (List ℕ)
+tail_of line = if nat_lt (position_or_len (λ b. b == 32) line) (length line) then Some (after_first (λ b. b == 32) line) else None
+
+-- the words that are left, none where no blank stood before them
+abbrev pub words_left : Option (List ℕ) → List (List ℕ)
+words_left None = []
+words_left (Some text) = words text
+
+-- the value of hexadecimal digits, after those that gave n
+unfoldable pub number_from : ℕ → List ℕ → Option ℕ
+number_from n [] = Some n
+number_from n (c ∷ cs) = do
+  d ← hex_digit_value c
+  number_from (n * 16 + d) cs
+
+-- 1 to 16 digits, of a number that is at most `most`
+unfoldable pub number : ℕ → List ℕ → Option ℕ
+number most w = if nat_lt 0 (length w) && nat_le (length w) 16 then (do
+  n ← number_from 0 w
+  if nat_le n most then Some n else None) else None
+
+-- pairs of digits, at least one
+abbrev pub decoded : {E : Type 0} → Result (List ℕ) E → Option (List ℕ)
+decoded (Ok []) = None
+decoded (Ok (b ∷ bs)) = Some (b ∷ bs)
+decoded (Err e) = None
+
+unfoldable pub word_bytes : List ℕ → Option (List ℕ)
+word_bytes w = decoded (decode_of w)

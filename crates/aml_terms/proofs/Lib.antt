@@ -1,0 +1,3 @@
+pub mod Appended
+pub mod Numbers
+pub mod TermOperands

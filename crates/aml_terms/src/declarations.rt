@@ -1,0 +1,157 @@
+//! The arities that hold while a list is read.
+ghost use Rattle.std.specs.Prelude.{List, ◌≡◌, ◌≤◌, ◌++◌, ◌∷◌, [], Ok, OnOk, length};
+ghost use Rattle.ar_space.specs.Outcome.{Answers};
+ghost use Rattle.aml_terms.specs.declared.arities.Arity.{Arity};
+ghost use Rattle.aml_terms.specs.Arities.{latest, arity_at, known, search_up, found, arity_of, or_path};
+
+use crate::arities::{Arities, Arity, latest};
+use aml_path::{NameString, Path, Seg};
+use ar_space::Refusal;
+use std::alloc::{AllocError, Global};
+use std::marker::Model;
+
+/// The arities from before a list, and then those that it declares itself.
+#[derive(Drop)]
+pub(crate) struct Declarations<'a> {
+    before: &'a Arities,
+    added: Arities,
+}
+
+impl<'a> Model for Declarations<'a> {
+    ghost use Rattle.std.specs.Prelude.{List, ◌++◌};
+    ghost use Rattle.aml_terms.specs.declared.arities.Arity.{Arity};
+
+    ghost Value = { List Arity };
+
+    ghost view = { λ d. d.before.now ++ d.added };
+}
+
+impl<'a> Declarations<'a> {
+    pub(crate) fn new(alloc: Global, before: &'a Arities) -> Declarations<'a>
+        ensures { result ≡ before.now }
+    {
+        Declarations {
+            before,
+            added: Arities::new(alloc),
+        }
+    }
+
+    /// Adds a path as the latest.
+    pub(crate) fn add(&mut self, path: Path, count: u8, external: bool) -> Result<(), AllocError>
+        ensures { OnOk result (self.new ≡ self.old ++ record { path = path; count = count; external = external } ∷ []) }
+    {
+        self.added.add(path, count, external)
+    }
+
+    /// All of them, as arities of their own.
+    pub(crate) fn all(&self, alloc: Global) -> Result<Arities, Refusal>
+        ensures { Answers result (Ok self.now) }
+    {
+        let mut list = Arities::new(alloc);
+        list.append(alloc, self.before.entries())?;
+        list.append(alloc, self.added.entries())?;
+        Ok(list)
+    }
+
+    #[tactic(auto, using(crate::proofs::Appended::latest_append))]
+    fn latest(&self, path: &Path, external: bool) -> Option<u8>
+        ensures { result ≡ latest path.now external self.now }
+    {
+        match latest(self.added.entries(), path, external) {
+            Some(count) => Some(count),
+            None => latest(self.before.entries(), path, external),
+        }
+    }
+
+    #[tactic(auto, unfolding(crate::specs::Arities::arity_at))]
+    fn arity_at(&self, path: &Path) -> Option<u8>
+        ensures { result ≡ arity_at self.now path.now }
+    {
+        match self.latest(path, false) {
+            Some(count) => Some(count),
+            None => self.latest(path, true),
+        }
+    }
+
+    /// How many arguments a name takes that stands, without a search, for a path: none where it isn't found.
+    #[tactic(auto, using(ar_space::specs::Outcome::answering), unfolding(crate::specs::Arities::arity_of))]
+    pub(crate) fn arity_of(
+        &self,
+        alloc: Global,
+        name: &NameString,
+        scope: &Path,
+        path: &Path,
+    ) -> Result<u8, Refusal>
+        ensures { Answers result (Ok (arity_of self.now scope.now name.now path.now)) }
+    {
+        match self.find(alloc, name, scope, path)? {
+            None => Ok(0),
+            Some(found) => Ok(self.arity_at(&found).unwrap_or(0)),
+        }
+    }
+
+    /// The path where a name is found, or else the one that it stands for.
+    #[tactic(auto, using(ar_space::specs::Outcome::answering))]
+    pub(crate) fn place_of(
+        &self,
+        alloc: Global,
+        name: &NameString,
+        scope: &Path,
+        path: Path,
+    ) -> Result<Path, Refusal>
+        ensures { Answers result (Ok (or_path path (found self.now scope.now name.now path))) }
+    {
+        match self.find(alloc, name, scope, &path)? {
+            None => Ok(path),
+            Some(found) => Ok(found),
+        }
+    }
+
+    #[tactic(auto, using(ar_space::specs::Outcome::answering), unfolding(crate::specs::Arities::found))]
+    fn find(
+        &self,
+        alloc: Global,
+        name: &NameString,
+        scope: &Path,
+        path: &Path,
+    ) -> Result<Option<Path>, Refusal>
+        ensures { Answers result (Ok (found self.now scope.now name.now path.now)) }
+    {
+        if name.is_searched() {
+            self.search_up(alloc, scope, name.segments(), scope.depth())
+        } else {
+            self.known(path.copy(alloc)?)
+        }
+    }
+
+    fn known(&self, path: Path) -> Result<Option<Path>, Refusal>
+        ensures { Answers result (Ok (known self.now path)) }
+    {
+        match self.arity_at(&path) {
+            Some(_) => Ok(Some(path)),
+            None => Ok(None),
+        }
+    }
+
+    /// Tries below the first `depth` segments of the scope, and then below fewer.
+    #[tactic(auto, using(ar_space::specs::Outcome::answering), unfolding(crate::specs::Arities::search_up))]
+    fn search_up(
+        &self,
+        alloc: Global,
+        scope: &Path,
+        segments: &[Seg],
+        depth: usize,
+    ) -> Result<Option<Path>, Refusal>
+        requires { depth ≤ length scope.now }
+        ensures { Answers result (Ok (search_up self.now scope.now segments.now depth)) }
+    {
+        let path = scope.below_prefix(alloc, depth, segments)?;
+        if self.arity_at(&path).is_some() {
+            Ok(Some(path))
+        } else if depth == 0 {
+            Ok(None)
+        } else {
+            self.search_up(alloc, scope, segments, depth - 1)
+        }
+    }
+}

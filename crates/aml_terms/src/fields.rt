@@ -1,0 +1,95 @@
+//! Field elements that hold no terms (FieldElement of ACPI 6.5, 20.2.5.2).
+ghost use Rattle.std.specs.Prelude.{◌≡◌, ◌<◌, ◌≤◌, ◌∷◌, ◌++◌, [], length, OnOk};
+ghost use Rattle.ar_space.specs.Outcome.{seen};
+ghost use Rattle.ar_space.specs.Change.{Does};
+ghost use Rattle.aml_terms.specs.Operands.{reserved_field, access_field, extended_access_field, named_field};
+ghost use Rattle.aml_terms.specs.View.{tree_view};
+
+use crate::context::Context;
+use crate::names::segment;
+use crate::opcode::TermCode;
+use crate::operands::declare;
+use crate::reader::Reader;
+use crate::term::{Operand, Term};
+use aml_path::{NameString, Path, Prefix};
+use ar_space::Refusal;
+use std::alloc::Global;
+
+/// Bits that are passed over.
+#[tactic(auto, using(crate::specs::Viewed::viewing), unfolding(crate::specs::Operands::reserved_field))]
+pub(crate) fn reserved_field(alloc: Global, reader: &mut Reader<'_>) -> Result<Term, Refusal>
+    ensures reads { Does (seen tree_view result) reader.new reserved_field reader.old }
+    ensures shorter { OnOk result (length reader.new.rest < length reader.old.rest) }
+{
+    reader.byte()?;
+    let bits = reader.bit_count()?;
+    let mut operands = Vec::new(alloc);
+    operands.push(Operand::Number(bits))?;
+    Ok(Term {
+        code: TermCode::ReservedField,
+        operands,
+    })
+}
+
+/// The access and its attribute for the elements after it.
+#[tactic(auto, using(crate::specs::Viewed::viewing), unfolding(crate::specs::Operands::access_field))]
+pub(crate) fn access_field(alloc: Global, reader: &mut Reader<'_>) -> Result<Term, Refusal>
+    ensures reads { Does (seen tree_view result) reader.new access_field reader.old }
+    ensures shorter { OnOk result (length reader.new.rest < length reader.old.rest) }
+{
+    reader.byte()?;
+    let access = reader.byte()?;
+    let attribute = reader.byte()?;
+    let mut operands = Vec::new(alloc);
+    operands.push(Operand::Number(u64::from(access)))?;
+    operands.push(Operand::Number(u64::from(attribute)))?;
+    Ok(Term {
+        code: TermCode::AccessField,
+        operands,
+    })
+}
+
+/// The access, its attribute and its length for the elements after it.
+#[tactic(auto, using(crate::specs::Viewed::viewing), unfolding(crate::specs::Operands::extended_access_field))]
+pub(crate) fn extended_access_field(alloc: Global, reader: &mut Reader<'_>) -> Result<Term, Refusal>
+    ensures reads { Does (seen tree_view result) reader.new extended_access_field reader.old }
+    ensures shorter { OnOk result (length reader.new.rest < length reader.old.rest) }
+{
+    reader.byte()?;
+    let access = reader.byte()?;
+    let attribute = reader.byte()?;
+    let length = reader.byte()?;
+    let mut operands = Vec::new(alloc);
+    operands.push(Operand::Number(u64::from(access)))?;
+    operands.push(Operand::Number(u64::from(attribute)))?;
+    operands.push(Operand::Number(u64::from(length)))?;
+    Ok(Term {
+        code: TermCode::ExtendedAccessField,
+        operands,
+    })
+}
+
+/// A segment and a count of bits: it is declared in the scope where the Field stands.
+#[tactic(auto, using(crate::specs::Viewed::viewing), unfolding(crate::specs::Operands::named_field))]
+pub(crate) fn named_field(
+    alloc: Global,
+    reader: &mut Reader<'_>,
+    scope: &Path,
+    context: Context,
+) -> Result<Term, Refusal>
+    ensures reads { Does (seen tree_view result) reader.new (named_field scope.now context) reader.old }
+    ensures shorter { OnOk result (length reader.new.rest < length reader.old.rest) }
+{
+    let segment = segment(reader)?;
+    let path = scope.child(alloc, segment)?;
+    declare(alloc, reader, context, &path, 0, false)?;
+    let bits = reader.bit_count()?;
+    let name = NameString::new(Prefix::Parents(0), Vec::from_slice(alloc, &[segment])?);
+    let mut operands = Vec::new(alloc);
+    operands.push(Operand::Name(name))?;
+    operands.push(Operand::Number(bits))?;
+    Ok(Term {
+        code: TermCode::NamedField,
+        operands,
+    })
+}

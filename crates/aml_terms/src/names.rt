@@ -1,0 +1,140 @@
+//! How names are spelled (NameString of ACPI 6.5, 20.2.2).
+ghost use Rattle.std.specs.Prelude.{◌≡◌, ◌+◌, ◌<◌, ◌≤◌, ℕ, length, OnOk};
+ghost use Rattle.ar_space.specs.Outcome.{seen};
+ghost use Rattle.ar_space.specs.Change.{Does};
+ghost use Rattle.aml_terms.specs.State.{times};
+ghost use Rattle.aml_terms.specs.Names.{starts_name, lead_name_char, name_char, segment, counted_segments, multiple_segments, segments_at, segments, rooted_name, relative_name, name_at, name_string};
+
+use crate::reader::Reader;
+use aml_path::{NameString, Prefix, Seg, is_lead_name_char, is_name_char};
+use ar_space::{NameFault, Refusal};
+use std::alloc::Global;
+
+/// Whether a name begins with this byte.
+#[tactic(auto, unfolding(crate::specs::Names::starts_name))]
+pub(crate) fn starts_name(byte: u8) -> bool
+    ensures { result ≡ starts_name byte }
+{
+    byte == b'\\' || byte == b'^' || byte == b'.' || byte == b'/' || is_lead_name_char(byte)
+}
+
+#[tactic(auto, using(crate::specs::Steps::reading), unfolding(crate::specs::Names::lead_name_char))]
+fn lead_name_char(reader: &mut Reader<'_>) -> Result<u8, Refusal>
+    ensures reads { Does result reader.new lead_name_char reader.old }
+    ensures shorter { OnOk result (length reader.new.rest < length reader.old.rest) }
+{
+    let byte = reader.byte()?;
+    if is_lead_name_char(byte) {
+        Ok(byte)
+    } else {
+        Err(Refusal::Name(NameFault::BadName))
+    }
+}
+
+#[tactic(auto, using(crate::specs::Steps::reading), unfolding(crate::specs::Names::name_char))]
+fn name_char(reader: &mut Reader<'_>) -> Result<u8, Refusal>
+    ensures reads { Does result reader.new name_char reader.old }
+    ensures shorter { OnOk result (length reader.new.rest < length reader.old.rest) }
+{
+    let byte = reader.byte()?;
+    if is_name_char(byte) {
+        Ok(byte)
+    } else {
+        Err(Refusal::Name(NameFault::BadName))
+    }
+}
+
+/// One segment.
+#[tactic(auto, using(crate::specs::Steps::reading), unfolding(crate::specs::Names::segment))]
+pub(crate) fn segment(reader: &mut Reader<'_>) -> Result<Seg, Refusal>
+    ensures reads { Does result reader.new segment reader.old }
+    ensures shorter { OnOk result (length reader.new.rest < length reader.old.rest) }
+{
+    let first = lead_name_char(reader)?;
+    let second = name_char(reader)?;
+    let third = name_char(reader)?;
+    let fourth = name_char(reader)?;
+    Seg::new([first, second, third, fourth])
+}
+
+fn counted_segments(alloc: Global, reader: &mut Reader<'_>, count: u8) -> Result<Vec<Seg>, Refusal>
+    ensures reads { Does (seen (λ v. v.items) result) reader.new (times segment count) reader.old }
+    ensures shorter { OnOk result (length reader.new.rest + count ≤ length reader.old.rest) }
+{
+    let mut list = Vec::new(alloc);
+    'segments: for _ in 0..count {
+        let next = segment(reader)?;
+        list.push(next)?;
+    }
+    Ok(list)
+}
+
+#[tactic(auto, using(crate::specs::Steps::reading), unfolding(crate::specs::Names::multiple_segments))]
+fn multiple_segments(alloc: Global, reader: &mut Reader<'_>) -> Result<Vec<Seg>, Refusal>
+    ensures reads { Does (seen (λ v. v.items) result) reader.new multiple_segments reader.old }
+    ensures shorter { OnOk result (length reader.new.rest < length reader.old.rest) }
+{
+    let count = reader.byte()?;
+    if count == 0 {
+        return Err(Refusal::Name(NameFault::BadName));
+    }
+    counted_segments(alloc, reader, count)
+}
+
+/// The segments of a name after its prefix.
+#[tactic(auto, using(crate::specs::Steps::reading), unfolding(crate::specs::Names::segments))]
+fn segments(alloc: Global, reader: &mut Reader<'_>) -> Result<Vec<Seg>, Refusal>
+    ensures reads { Does (seen (λ v. v.items) result) reader.new segments reader.old }
+    ensures shorter { OnOk result (length reader.new.rest < length reader.old.rest) }
+{
+    let next = reader.peek()?;
+    if next == 0 {
+        reader.byte()?;
+        return Ok(Vec::new(alloc));
+    }
+    if next == b'.' {
+        reader.byte()?;
+        return counted_segments(alloc, reader, 2);
+    }
+    if next == b'/' {
+        reader.byte()?;
+        return multiple_segments(alloc, reader);
+    }
+    counted_segments(alloc, reader, 1)
+}
+
+#[tactic(auto, using(crate::specs::Steps::reading), unfolding(crate::specs::Names::rooted_name))]
+fn rooted_name(alloc: Global, reader: &mut Reader<'_>) -> Result<NameString, Refusal>
+    ensures reads { Does result reader.new rooted_name reader.old }
+    ensures shorter { OnOk result (length reader.new.rest < length reader.old.rest) }
+{
+    reader.byte()?;
+    let segments = segments(alloc, reader)?;
+    Ok(NameString::new(Prefix::Root, segments))
+}
+
+#[tactic(auto, using(crate::specs::Steps::reading), unfolding(crate::specs::Names::relative_name))]
+fn relative_name(alloc: Global, reader: &mut Reader<'_>) -> Result<NameString, Refusal>
+    ensures reads { Does result reader.new relative_name reader.old }
+    ensures shorter { OnOk result (length reader.new.rest < length reader.old.rest) }
+{
+    let count = reader.parents();
+    let segments = segments(alloc, reader)?;
+    Ok(NameString::new(Prefix::Parents(count), segments))
+}
+
+/// A name, where nothing else may stand: not the null name alone.
+#[tactic(auto, using(crate::specs::Steps::reading), unfolding(crate::specs::Names::name_string))]
+pub(crate) fn name_string(alloc: Global, reader: &mut Reader<'_>) -> Result<NameString, Refusal>
+    ensures reads { Does result reader.new name_string reader.old }
+    ensures shorter { OnOk result (length reader.new.rest < length reader.old.rest) }
+{
+    let next = reader.peek()?;
+    if next == 0 {
+        Err(Refusal::Name(NameFault::BadName))
+    } else if next == b'\\' {
+        rooted_name(alloc, reader)
+    } else {
+        relative_name(alloc, reader)
+    }
+}

@@ -1,0 +1,97 @@
+//! Whole lists of terms.
+ghost use Rattle.std.specs.Prelude.{◌≡◌, List, Bool, ℕ, map, ◌⊎◌};
+ghost use Rattle.ar_space.specs.declared.refusal.Refusal.{Refusal};
+ghost use Rattle.ar_space.specs.Outcome.{Answers, seen};
+ghost use Rattle.aml_path.specs.declared.segment.Seg.{Seg};
+ghost use Rattle.aml_terms.specs.declared.arities.Arity.{Arity};
+ghost use Rattle.aml_terms.specs.Tree.{Tree};
+ghost use Rattle.aml_terms.specs.View.{tree_view};
+ghost use Rattle.aml_terms.specs.Grammar.{reading, table_reading, Reads, Fails};
+
+use crate::arities::Arities;
+use crate::context::{Context, Position};
+use crate::reader::Reader;
+use crate::term::Term;
+use crate::terms::items;
+use aml_path::Path;
+use ar_space::Refusal;
+use std::alloc::Global;
+
+/// How many terms may be one inside another, the outermost counted.
+const MAX_DEPTH: usize = 64;
+
+/// The terms of a list: of a table after its header, or, where `body` is true, of the body of a control method
+/// (TermList of ACPI 6.5, 20.2.5).
+///
+/// Names stand in `scope`, and `arities` says how many arguments a name takes; outside a body, names that the list
+/// declares itself count too, from where they stand on. The first fault from left to right is refused:
+///
+/// - `BadName`: bytes that are no name where one must stand, or a declaration of a name without a segment;
+/// - `AboveRoot`: a name with more `^` than its scope has parents, where reading resolves it;
+/// - `BadOpcode`, `BadPkgLength`, `Truncated`, `TooDeep` or `NotInBody`, with the offset of the fault in `bytes`.
+#[tactic(auto, unfolding(crate::specs::Grammar::term_list))]
+pub fn parse_list(
+    alloc: Global,
+    bytes: &[u8],
+    scope: &Path,
+    body: bool,
+    arities: &Arities,
+) -> Result<Vec<Term>, Refusal>
+    ensures { Answers (seen (λ v. map tree_view v.items) result) (reading bytes.now scope.now body arities.now) }
+{
+    let context = Context {
+        body,
+        in_loop: false,
+        item: None,
+    };
+    let mut reader = Reader::new(alloc, bytes, arities);
+    items(
+        alloc,
+        &mut reader,
+        MAX_DEPTH,
+        Position::ListItem,
+        scope,
+        context,
+    )
+}
+
+/// The terms of a table after its header, whose names stand at the root, and the arities that hold after it: those from
+/// before, and then those that the table declares. The faults are those of `parse_list`.
+#[tactic(auto, using(crate::specs::Tables::tabling), unfolding(crate::specs::Grammar::term_list))]
+pub fn parse_table(
+    alloc: Global,
+    bytes: &[u8],
+    arities: &Arities,
+) -> Result<(Vec<Term>, Arities), Refusal>
+    ensures { Answers (seen (λ p. (map tree_view p.0.items, p.1)) result) (table_reading bytes.now arities.now) }
+{
+    let context = Context {
+        body: false,
+        in_loop: false,
+        item: None,
+    };
+    let root = Path::root(alloc);
+    let mut reader = Reader::new(alloc, bytes, arities);
+    let terms = items(
+        alloc,
+        &mut reader,
+        MAX_DEPTH,
+        Position::ListItem,
+        &root,
+        context,
+    )?;
+    let after = reader.all_arities(alloc)?;
+    Ok((terms, after))
+}
+
+/// Of each list exactly one holds: it has terms, or it has a first fault; and it has one of them.
+pub fn one_reading()
+    ensures some { (bs : List ℕ) (scope : List Seg) (body : Bool) (known : List Arity) →
+        ((ts : List Tree) × Reads bs scope body known ts) ⊎ ((r : Refusal) × Fails bs scope body known r) }
+    ensures trees { (bs : List ℕ) (scope : List Seg) (body : Bool) (known : List Arity) (ts us : List Tree) →
+        Reads bs scope body known ts → Reads bs scope body known us → ts ≡ us }
+    ensures fault { (bs : List ℕ) (scope : List Seg) (body : Bool) (known : List Arity) (q r : Refusal) →
+        Fails bs scope body known q → Fails bs scope body known r → q ≡ r }
+    ensures never_both { (bs : List ℕ) (scope : List Seg) (body : Bool) (known : List Arity) (ts : List Tree) (r : Refusal) →
+        Reads bs scope body known ts → Fails bs scope body known r → ⊥ }
+{}

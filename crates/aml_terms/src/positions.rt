@@ -1,0 +1,215 @@
+//! Where a term may stand, and the steps of a term that read no other term.
+ghost use Rattle.std.specs.Prelude.{◌≡◌, ◌<◌, ◌≤◌, ◌∷◌, ◌++◌, [], length, map, Ok, OnOk};
+ghost use Rattle.ar_space.specs.Outcome.{Answers, seen};
+ghost use Rattle.ar_space.specs.Change.{Does};
+ghost use Rattle.aml_terms.specs.Grammar.{stands, takes_name, costs_no_level, is_module_level, is_if, is_nothing, item_of, at_item, item_of_else, at_else, in_loop, opcode, admitted_row, admitted, row_at, element_name, argument_number, by_arities};
+ghost use Rattle.aml_terms.specs.View.{part_view, tree_view};
+ghost use Rattle.aml_terms.specs.Tree.{term};
+ghost use Rattle.aml_terms.specs.Shape.{parts_of};
+ghost use Rattle.aml_terms.specs.declared.opcode.TermCode.TheVariants as codes;
+
+use crate::context::{Context, Position};
+use crate::kinds::{Class, OperandKind, Row};
+use crate::names::name_string;
+use crate::opcode::{Opcode, TermCode};
+use crate::reader::Reader;
+use crate::table::row_of;
+use crate::term::{Operand, Term};
+use aml_path::{NameString, Path};
+use ar_space::{Refusal, TermFault};
+use std::alloc::Global;
+
+/// Whether a term may stand in a position.
+fn stands(class: Class, position: Position, context: Context) -> bool
+    ensures { result ≡ stands class position context }
+{
+    match position {
+        Position::ListItem => match class {
+            Class::InLoop => context.in_loop,
+            Class::InBody => context.body,
+            Class::AfterIf | Class::DebugObject => false,
+            _ => true,
+        },
+        Position::TermArg => matches!(
+            class,
+            Class::Expression | Class::Data | Class::Reference | Class::Slot
+        ),
+        Position::DataObject | Position::PackageElement => matches!(class, Class::Data),
+        Position::SuperName => {
+            matches!(class, Class::Slot | Class::DebugObject | Class::Reference)
+        }
+    }
+}
+
+/// Whether a term may be a name alone.
+pub(crate) fn takes_name(position: Position) -> bool
+    ensures { result ≡ takes_name position }
+{
+    matches!(
+        position,
+        Position::ListItem | Position::TermArg | Position::PackageElement
+    )
+}
+
+/// Whether a term costs no level: a local, an argument or Debug as a place.
+pub(crate) fn costs_no_level(class: Class, position: Position) -> bool
+    ensures { result ≡ costs_no_level class position }
+{
+    match class {
+        Class::DebugObject => true,
+        Class::Slot => matches!(position, Position::SuperName),
+        _ => false,
+    }
+}
+
+fn is_module_level(class: Class) -> bool
+    ensures { result ≡ is_module_level class }
+{
+    matches!(class, Class::ModuleLevel)
+}
+
+pub(crate) fn is_if(opcode: Opcode) -> bool
+    ensures { result ≡ is_if opcode }
+{
+    matches!(opcode, Opcode::If)
+}
+
+pub(crate) fn is_nothing(kind: OperandKind) -> bool
+    ensures { result ≡ is_nothing kind }
+{
+    matches!(kind, OperandKind::Nothing)
+}
+
+/// Where the item of the handed-in list begins that holds a term which begins here.
+pub(crate) fn item_of(item: Option<usize>, here: usize) -> usize
+    ensures { result ≡ item_of item here }
+{
+    item.unwrap_or(here)
+}
+
+/// What holds inside a term that begins here.
+pub(crate) fn at_item(context: Context, here: usize) -> Context
+    ensures { result ≡ at_item context here }
+{
+    Context {
+        body: context.body,
+        in_loop: context.in_loop,
+        item: Some(item_of(context.item, here)),
+    }
+}
+
+/// What holds inside an Else that begins here: it is an item of its own where its If, which began at `start`, is one.
+pub(crate) fn at_else(context: Context, start: usize, here: usize) -> Context
+    ensures { result ≡ at_else context start here }
+{
+    let item = item_of(context.item, start);
+    Context {
+        body: context.body,
+        in_loop: context.in_loop,
+        item: Some(if item == start { here } else { item }),
+    }
+}
+
+/// What holds inside a While.
+pub(crate) fn in_loop(context: Context) -> Context
+    ensures { result ≡ in_loop context }
+{
+    Context {
+        body: context.body,
+        in_loop: true,
+        item: context.item,
+    }
+}
+
+const EXT_OP_PREFIX: u8 = 0x5B;
+
+/// The number of an opcode: one byte, or two after ExtOpPrefix.
+#[tactic(auto, using(crate::specs::Steps::reading), unfolding(crate::specs::Grammar::opcode))]
+fn opcode(reader: &mut Reader<'_>) -> Result<u16, Refusal>
+    ensures reads { Does result reader.new opcode reader.old }
+    ensures shorter { OnOk result (length reader.new.rest < length reader.old.rest) }
+{
+    let first = reader.byte()?;
+    if first == EXT_OP_PREFIX {
+        let second = reader.byte()?;
+        Ok(0x5B00 + u16::from(second))
+    } else {
+        Ok(u16::from(first))
+    }
+}
+
+/// The row of the next opcode, which may stand in this position.
+#[tactic(auto, using(crate::specs::Steps::reading), unfolding(crate::specs::Grammar::row_at))]
+pub(crate) fn row_at(
+    reader: &mut Reader<'_>,
+    position: Position,
+    context: Context,
+    start: usize,
+) -> Result<Row, Refusal>
+    ensures reads { Does result reader.new (row_at position context start) reader.old }
+    ensures shorter { OnOk result (length reader.new.rest < length reader.old.rest) }
+{
+    let number = opcode(reader)?;
+    match row_of(number) {
+        None => Err(Refusal::Term(TermFault::BadOpcode, start)),
+        Some(row) => {
+            if !stands(row.1, position, context) {
+                return Err(Refusal::Term(TermFault::BadOpcode, start));
+            }
+            if context.body && is_module_level(row.1) {
+                return Err(Refusal::Term(TermFault::NotInBody, start));
+            }
+            Ok(row)
+        }
+    }
+}
+
+/// An element of a package that is a name.
+#[tactic(auto, using(crate::specs::Viewed::viewing), unfolding(crate::specs::Grammar::element_name))]
+pub(crate) fn element_name(alloc: Global, reader: &mut Reader<'_>) -> Result<Term, Refusal>
+    ensures reads { Does (seen tree_view result) reader.new element_name reader.old }
+    ensures shorter { OnOk result (length reader.new.rest < length reader.old.rest) }
+{
+    let name = name_string(alloc, reader)?;
+    let mut operands = Vec::new(alloc);
+    operands.push(Operand::Name(name))?;
+    Ok(Term {
+        code: TermCode::Name,
+        operands,
+    })
+}
+
+/// How many arguments a name takes; a call with arguments is marked.
+#[tactic(auto, using(crate::specs::Steps::reading), unfolding(crate::specs::Grammar::argument_number, crate::specs::Grammar::by_arities))]
+pub(crate) fn argument_number(
+    alloc: Global,
+    reader: &mut Reader<'_>,
+    start: usize,
+    scope: &Path,
+    name: &NameString,
+    path: &Path,
+) -> Result<u8, Refusal>
+    ensures reads { Does result reader.new (argument_number by_arities start scope.now name.now path.now) reader.old }
+    ensures kept { OnOk result (length reader.new.rest ≤ length reader.old.rest) }
+{
+    let count = reader.arity_of(alloc, name, scope, path)?;
+    reader.mark(start, count)?;
+    Ok(count)
+}
+
+/// An If with its Else, or nothing, as its last operand.
+#[tactic(auto, using(crate::specs::Viewed::pushing))]
+pub(crate) fn with_else(
+    opcode: Opcode,
+    mut operands: Vec<Operand>,
+    otherwise: Operand,
+) -> Result<Term, Refusal>
+    ensures { Answers (seen tree_view result)
+        (Ok (term (codes.Opcode opcode) (parts_of (map part_view operands.items ++ part_view otherwise ∷ [])))) }
+{
+    operands.push(otherwise)?;
+    Ok(Term {
+        code: TermCode::Opcode(opcode),
+        operands,
+    })
+}

@@ -1,0 +1,19 @@
+//! The ACPI tables of a machine (ACPI 6.5, 5.2), found in an image of its memory from the address of the RSDP on.
+#![tactic(auto)]
+
+mod fadt;
+mod image_bytes;
+mod madt;
+mod root_pointer;
+mod root_table;
+mod table;
+mod tables;
+
+pub use ar_space::ByteMap as Image;
+pub use fadt::Fadt;
+pub use madt::{Madt, MadtEntries, MadtEntry, madt_entries};
+pub use table::Table;
+pub use tables::{IntegerWidth, Ssdts, Tables, find_tables};
+
+#[cfg(test)]
+mod tests;
