@@ -1,5 +1,5 @@
 -- The machine text: what each line says, and what all lines say together.
-use Rattle.std.specs.Prelude.{ℕ, ◌+◌, ◌==◌, ◌&&◌, nat_le, nat_lt, Bool, true, List, [], ◌∷◌, ◌++◌, length, Option, Some, None, Result, Ok, Err, codes, is_some, ok_or, if◌then◌else◌}
+use Rattle.std.specs.Prelude.{ℕ, ◌+◌, ◌==◌, ◌&&◌, nat_le, nat_lt, Bool, true, List, [], ◌∷◌, ◌++◌, length, Option, Some, None, Ok, Err, codes, is_some, ok_or, if◌then◌else◌}
 use Rattle.std.specs.List.{before_first, list_all}
 use Rattle.std.specs.Str.{bytes_eq}
 use Rattle.std.specs.Str.Lines.{lines}
@@ -7,7 +7,6 @@ use Rattle.ar_space.specs.Outcome.{Outcome, ◌>>=◌}
 use Rattle.ar_space.specs.Bytes.{Bytes, with_byte, no_bytes}
 use Rattle.ar_space.specs.declared.space.Place.{Place}
 use Rattle.ar_space.specs.declared.space.Place.TheVariants as place
-use Rattle.ar_space.specs.declared.refusal.Refusal.{Refusal}
 use Rattle.ar_space.specs.declared.refusal.Refusal.TheVariants.{Input}
 use Rattle.ar_space.specs.declared.refusal.InputFault.TheVariants.{MachineLine}
 use Rattle.acpiroute_lib.specs.Words.{words_left, tail_of, number, word_bytes}

@@ -59,7 +59,8 @@ impl AddressSpace {
         ensures memory { IsOkUnless result OutOfMemory }
     {
         for (i, byte) in bytes.iter().enumerate() {
-            space.put(self.place(first + i as u64), *byte)?;
+            let place = self.place(first + i as u64);
+            space.put(place, *byte)?;
         }
         Ok(())
     }

@@ -35,10 +35,13 @@ fn first_line(text: &[u8]) -> (&[u8], &[u8])
     }
 }
 
+/// Dropped where it stands before a line feed.
+const RETURN: u8 = b'\r';
+
 fn without_return(line: &[u8]) -> &[u8]
     ensures { result.now ≡ strip_carriage_return line.now }
 {
-    if !line.is_empty() && line[line.len() - 1] == b'\r' {
+    if !line.is_empty() && line[line.len() - 1] == RETURN {
         &line[..line.len() - 1]
     } else {
         line

@@ -1,5 +1,5 @@
 -- What is picked in path order ascends.
-use Rattle.std.proofs.Common.{◌≡◌, ℕ, zero, suc, ◌+◌, ◌<◌, ◌≤◌, List, [], ◌∷◌, ◌++◌, length, take, drop, map, get_or, T, Bool, true, false, Some, None, refl, ap, sym, subst, ◌∙◌, arith, eqb→eq}
+use Rattle.std.proofs.Common.{◌≡◌, ℕ, ◌+◌, List, [], ◌∷◌, ◌++◌, length, take, map, T, Bool, true, false, Some, None, refl, sym, subst, ◌∙◌, arith, eqb→eq}
 use Rattle.std.specs.Prelude.{Option, ◌&&◌, ◌==◌, nat_lt, slice_get, if◌then◌else◌}
 use Rattle.std.specs.List.{filter_map, AllByRecursion}
 use Rattle.std.specs.declared.cmp.Ordering.{Ordering}

@@ -1,5 +1,5 @@
 -- A path one level below another.
-use Rattle.std.proofs.Common.{◌≡◌, ℕ, ◌+◌, ◌-◌, ◌<◌, List, length, get_or, Some, true, arith, sym, refl, eq-eqb}
+use Rattle.std.proofs.Common.{◌≡◌, ◌+◌, ◌-◌, ◌<◌, List, length, get_or, Some, true, arith, sym, refl, eq-eqb}
 use Rattle.std.proofs.lemmas.Option.{slice_get_read}
 use Rattle.std.specs.Prelude.{◌==◌}
 use Rattle.aml_path.specs.declared.segment.Seg.{Seg}

@@ -1,5 +1,5 @@
 -- Loops that pick from a list.
-use Rattle.std.proofs.Common.{◌≡◌, ℕ, ◌+◌, ◌<◌, ◌≤◌, List, [], ◌∷◌, ◌++◌, length, drop, map, get_or, Some, None, refl, ap, sym, ◌∙◌, add-one, drop-cons, append_assoc, append-nil}
+use Rattle.std.proofs.Common.{◌≡◌, ℕ, ◌+◌, ◌<◌, ◌≤◌, List, [], ◌∷◌, ◌++◌, length, drop, map, get_or, Some, None, refl, sym, add-one, drop-cons, append_assoc, append-nil}
 use Rattle.std.specs.Prelude.{Option}
 use Rattle.std.specs.List.{filter_map}
 use Rattle.std.proofs.lemmas.List.{drop_all}

@@ -1,8 +1,8 @@
 -- Steps of a search, and names that are resolved.
-use Rattle.std.proofs.Common.{◌≡◌, ◌≢◌, ℕ, zero, suc, ◌-◌, ◌++◌, List, take, length, Some, None, Ok, Err, Result, refl, arith, ap, ◌∙◌}
-use Rattle.std.specs.Prelude.{Option, Bool, true, false}
+use Rattle.std.proofs.Common.{◌≡◌, ◌≢◌, ℕ, zero, suc, ◌-◌, ◌++◌, List, take, length, Some, None, Ok, Err, refl, arith}
+use Rattle.std.specs.Prelude.{true, false}
 use Rattle.ar_space.specs.declared.refusal.Refusal.{Refusal}
-use Rattle.ar_space.specs.Outcome.{Outcome, ◌>>=◌, seen}
+use Rattle.ar_space.specs.Outcome.{◌>>=◌}
 use Rattle.aml_path.specs.declared.segment.Seg.{Seg}
 use Rattle.aml_path.specs.Paths.{Name, resolved, is_searched}
 use Rattle.aml_namespace.specs.Namespace.{Map}

@@ -1,15 +1,13 @@
 -- The entries in path order, as the map that they are.
-use Rattle.std.specs.Prelude.{◌≡◌, ℕ, zero, suc, ◌+◌, ◌-◌, ◌<◌, ◌≤◌, List, [], ◌∷◌, ◌++◌, length, take, drop, get_or, T, Bool, true, false, Option, Some, None, cond}
+use Rattle.std.specs.Prelude.{◌≡◌, ℕ, suc, ◌+◌, ◌<◌, ◌≤◌, List, [], ◌∷◌, ◌++◌, length, take, drop, get_or, T, Bool, Option, Some, None, cond}
 use Rattle.std.proofs.Common.{arith, ap, sym, ◌∙◌, refl, subst, rules, drop-cons, add-one}
-use Rattle.std.proofs.lemmas.List.{drop_all}
 use Rattle.std.specs.declared.cmp.Ordering.{Ordering}
 use Rattle.std.specs.declared.cmp.Ordering.TheVariants.{Less, Equal, Greater}
-use Rattle.std.specs.Ordering.{is_eq, eq_by_cmp, on, nat_cmp}
-use Rattle.std.specs.Cmp.Lexicographic.{slice_cmp}
+use Rattle.std.specs.Ordering.{is_eq}
 use Rattle.std.specs.Option.{option_map}
 use Rattle.std.specs.Cmp.{IsTotalOrder}
 use Rattle.std.specs.Cmp.Rules.{comparing}
-use Rattle.std.specs.FinMap.{FinMap, get, insert, retain_keys, entries, from_sorted, find, put, is_sorted, get-from_sorted, entries-insert, entries-from_sorted, same_entries_map, get-entries, same_map, get-retain_keys, empty, empty_of_len, len, len-entries, IsAntisymmetric, nat_cmp-IsAntisymmetric, slice_cmp-IsAntisymmetric}
+use Rattle.std.specs.FinMap.{FinMap, get, insert, retain_keys, from_sorted, find, put, is_sorted, get-from_sorted, entries-insert, entries-from_sorted, same_entries_map, same_map, get-retain_keys, empty, empty_of_len, len, len-entries, IsAntisymmetric, slice_cmp-IsAntisymmetric}
 use Rattle.std.specs.FinMap.Entries.{where_key, by_order, is_sorted-put, is_sorted-where_key, find-where_key}
 use Rattle.aml_path.specs.declared.segment.Seg.{Seg}
 use Rattle.aml_path.specs.Segments.{seg_cmp_exact}

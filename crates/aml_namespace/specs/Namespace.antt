@@ -1,16 +1,14 @@
 -- The namespace (ACPI 6.5, 5.3): a finite map of paths, and the number of the next declaration.
-use Rattle.std.specs.Prelude.{◌≡◌, ℕ, zero, suc, ◌+◌, ◌-◌, ◌^◌, ◌==◌, List, [], ◌∷◌, ◌++◌, length, take, Bool, true, false, not, is_some, Option, Some, None, Ok, Err, refl, if◌then◌else◌}
-use Rattle.std.specs.FinMap.{FinMap, get, contains_key, insert, retain_keys, entries, empty, code}
+use Rattle.std.specs.Prelude.{ℕ, ◌+◌, ◌-◌, ◌^◌, ◌==◌, List, [], ◌∷◌, length, take, not, Option, Some, None, Ok, Err, refl, if◌then◌else◌}
+use Rattle.std.specs.FinMap.{FinMap, contains_key, insert, retain_keys, entries, empty, code}
 use Rattle.std.specs.Coded.{Coded, code_by, coded×, coded_list, coded_ℕ}
-use Rattle.ar_space.specs.declared.refusal.Refusal.{Refusal}
 use Rattle.ar_space.specs.declared.refusal.Refusal.TheVariants as refusal
 use Rattle.ar_space.specs.declared.refusal.EvaluationFault.TheVariants.{ObjectLimit}
 use Rattle.ar_space.specs.declared.refusal.NamespaceFault.TheVariants.{Exists, NotFound}
-use Rattle.ar_space.specs.Outcome.{Outcome, ◌>>=◌}
 use Rattle.ar_space.specs.Change.{Change}
 use Rattle.aml_path.specs.contracts.segment.Seg as seg
 use Rattle.aml_path.specs.declared.segment.Seg.{Seg}
-use Rattle.aml_path.specs.Paths.{path_cmp, is_below, Name, resolved, is_searched}
+use Rattle.aml_path.specs.Paths.{path_cmp, is_below}
 use Rattle.aml_objects.specs.contracts.entry.Entry as entry_type
 use Rattle.aml_objects.specs.declared.entry.Entry.{Entry}
 use Rattle.aml_objects.specs.declared.entry.NamedObject.{NamedObject}

@@ -1,4 +1,4 @@
-use Rattle.std.proofs.Common.{rules, arith, ◌≡◌, ◌<◌, ◌^◌, ℕ, sym, ◌∙◌}
+use Rattle.std.proofs.Common.{arith, ◌∙◌}
 use Rattle.acpiroute_lib.proofs.Numbers.{room, below_next, digit_on, digit_bad, digits_done}
 use Rattle.acpiroute_lib.proofs.digits.digits.Goals as goal
 

@@ -1,4 +1,4 @@
-use Rattle.std.proofs.Common.{◌≡◌, OnOk, OnErr, List, IfOk, IfErr, Ok, Err, Some, None, ◌≤◌, length, ◌+◌, ◌^◌, ℕ, ◌-◌, ◌*◌, ◌<◌, drop}
+use Rattle.std.proofs.Common.{◌≡◌, ◌^◌, ◌<◌, drop}
 use Rattle.acpiroute_lib.specs.Words.{number_from}
 use Rattle.acpiroute_lib.proofs.digits.digits.Given as goal
 

@@ -1,4 +1,4 @@
-use Rattle.std.proofs.Common.{rules, arith, ◌≡◌, ◌∙◌, ◌+◌, ◌-◌, ◌∷◌, ◌<◌, ℕ, List, ap, ap₂, sym, length, drop, take, length-drop, refl}
+use Rattle.std.proofs.Common.{rules, arith, ◌≡◌, ◌∙◌, ◌+◌, ◌-◌, ◌∷◌, ℕ, List, ap, ap₂, sym, length, drop, take, length-drop}
 use Rattle.std.proofs.lemmas.List.{take_all}
 use Rattle.std.specs.Str.Lines.{lines, strip_carriage_return}
 use Rattle.acpiroute_lib.proofs.Reading.{first_of_lines}

@@ -1,4 +1,4 @@
-use Rattle.std.proofs.Common.{◌≡◌, length, sym, ◌∙◌, arith, eqb-true}
+use Rattle.std.proofs.Common.{sym, arith, eqb-true}
 use Rattle.std.specs.Str.Lines.{lines}
 use Rattle.acpiroute_lib.proofs.Reading.{lines_on, lines_fail, lines_done}
 use Rattle.acpiroute_lib.proofs.machine_lines.lines_read.Goals as goal

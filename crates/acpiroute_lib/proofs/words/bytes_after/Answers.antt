@@ -1,4 +1,4 @@
-use Rattle.std.proofs.Common.{◌≡◌, ◌∷◌, [], refl, ap, sym}
+use Rattle.std.proofs.Common.{◌∷◌, refl, ap, sym}
 use Rattle.acpiroute_lib.specs.MachineText.{bytes_after}
 use Rattle.acpiroute_lib.proofs.Bytes.{bytes_on, bytes_fail, bytes_done}
 use Rattle.acpiroute_lib.proofs.words.bytes_after.Goals as goal

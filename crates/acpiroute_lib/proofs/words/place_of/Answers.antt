@@ -1,4 +1,4 @@
-use Rattle.std.proofs.Common.{rules, arith, ◌≡◌, ◌<◌, ◌≤◌, ℕ, sym, length, ◌==◌, true, false, get_or}
+use Rattle.std.proofs.Common.{rules, arith, sym, ◌==◌}
 use Rattle.std.proofs.lemmas.List.Sums.{position_or_len_is}
 use Rattle.acpiroute_lib.proofs.words.place_of.Goals as goal
 

@@ -1,4 +1,4 @@
-use Rattle.std.proofs.Common.{sym, ◌∙◌, arith}
+use Rattle.std.proofs.Common.{sym, ◌∙◌}
 use Rattle.aml_path.specs.Segments.{seg_cmp}
 use Rattle.aml_namespace.proofs.Parts.{short, by_front}
 use Rattle.aml_namespace.proofs.compare.compare.Goals as goal

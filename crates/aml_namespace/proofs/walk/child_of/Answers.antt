@@ -1,4 +1,4 @@
-use Rattle.std.proofs.Common.{◌≡◌, ◌∙◌, ap, sym, arith, get_or}
+use Rattle.std.proofs.Common.{◌∙◌, sym, arith}
 use Rattle.aml_namespace.proofs.Children.{child_is}
 use Rattle.aml_namespace.proofs.walk.child_of.Goals as goal
 

@@ -1,4 +1,4 @@
-use Rattle.std.proofs.Common.{◌≡◌, ℕ, ◌+◌, ◌*◌, List, [], length, drop}
+use Rattle.std.proofs.Common.{◌+◌, ◌*◌, [], drop}
 use Rattle.ar_space.specs.Change.{Same}
 use Rattle.aml_objects.specs.Copies.{copies_of, package_copy}
 use Rattle.aml_objects.proofs.copies.+copies.Given as goal

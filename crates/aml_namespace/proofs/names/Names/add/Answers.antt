@@ -1,7 +1,7 @@
 use Rattle.std.proofs.Common.{ap, sym, ◌∙◌, ◌≡◌, None, refl}
 use Rattle.std.specs.FinMap.{find, get}
 use Rattle.aml_path.specs.Paths.{path_cmp}
-use Rattle.aml_namespace.specs.Kept.{place, get_kept, map_put, still_sorted}
+use Rattle.aml_namespace.specs.Kept.{get_kept, map_put, still_sorted}
 use Rattle.aml_namespace.proofs.names.Names.add.Goals as goal
 
 pub invariant_of-self-2 : goal.invariant_of-self-2

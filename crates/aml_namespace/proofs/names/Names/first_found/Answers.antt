@@ -1,5 +1,4 @@
-use Rattle.std.proofs.Common.{◌≡◌, ◌++◌, ◌∙◌, ap, sym, length, true, false}
-use Rattle.aml_path.specs.Paths.{is_searched}
+use Rattle.std.proofs.Common.{◌++◌, ◌∙◌, ap, sym, length}
 use Rattle.aml_namespace.specs.Search.{at_path, search_up, found_or_not}
 use Rattle.aml_namespace.proofs.Searching.{first_searched, first_resolved, first_refused}
 use Rattle.aml_namespace.proofs.names.Names.first_found.Goals as goal

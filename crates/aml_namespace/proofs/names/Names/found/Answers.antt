@@ -1,5 +1,4 @@
-use Rattle.std.proofs.Common.{◌≡◌, ◌∙◌, sym, Ok, Err}
-use Rattle.aml_namespace.specs.Search.{first_found}
+use Rattle.std.proofs.Common.{◌∙◌, sym}
 use Rattle.aml_namespace.proofs.Searching.{found_through, found_refused}
 use Rattle.aml_namespace.proofs.names.Names.found.Goals as goal
 

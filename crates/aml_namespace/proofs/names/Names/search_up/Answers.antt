@@ -1,4 +1,4 @@
-use Rattle.std.proofs.Common.{◌≡◌, ◌++◌, ◌∙◌, ap, sym, take, arith, Some, None}
+use Rattle.std.proofs.Common.{◌++◌, ◌∙◌, ap, sym, take, arith}
 use Rattle.std.specs.Option.{option_map}
 use Rattle.aml_namespace.specs.Search.{at_path}
 use Rattle.aml_namespace.proofs.Searching.{search_here, search_none, search_next}

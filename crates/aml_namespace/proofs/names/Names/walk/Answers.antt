@@ -1,6 +1,6 @@
-use Rattle.std.proofs.Common.{◌≡◌, ap, ◌∙◌}
+use Rattle.std.proofs.Common.{ap, ◌∙◌}
 use Rattle.std.specs.List.{filter_map}
-use Rattle.std.specs.FinMap.{keys, entries}
+use Rattle.std.specs.FinMap.{entries}
 use Rattle.aml_namespace.specs.Walks.{walked, named}
 use Rattle.aml_namespace.proofs.Picking.{picked_of}
 use Rattle.aml_namespace.proofs.names.Names.walk.Goals as goal
