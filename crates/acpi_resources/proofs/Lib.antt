@@ -1,3 +1,4 @@
+mod BeforeEnd
 pub mod Counts
 pub mod Gathering
 pub mod Listed

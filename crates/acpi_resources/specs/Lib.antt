@@ -1,5 +1,6 @@
 pub mod Current
 pub mod Descriptors
+pub mod EndTags
 pub mod FlagByte
 pub mod Items
 pub mod Listings

@@ -4,6 +4,7 @@
 
 mod current_resources;
 mod descriptor;
+mod end_tag;
 mod flags;
 mod form;
 mod interrupt_numbers;
@@ -15,6 +16,7 @@ mod possible_resources;
 mod setting_bytes;
 
 pub use current_resources::current;
+pub use end_tag::length_before_end_tag;
 pub use form::{Form, Polarity};
 pub use interrupt_numbers::InterruptNumbers;
 pub use laws::{a_set_has_the_numbers_of_its_list, an_item_is_read_as_it_is_written};

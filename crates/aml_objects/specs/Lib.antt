@@ -1,3 +1,4 @@
+pub mod Contents
 pub mod Copies
 pub mod Copying
 pub mod Objects

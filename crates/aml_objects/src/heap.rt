@@ -1,5 +1,5 @@
 //! The objects, each by its number.
-ghost use Rattle.std.specs.Prelude.{◌≡◌, ◌<◌, ◌++◌, ◌∷◌, [], List, length, take, ◌==◌, slice_get, slice_set, nat_lt, if◌then◌else◌, Ok, Err, OnOk, OnErr};
+ghost use Rattle.std.specs.Prelude.{◌≡◌, ◌<◌, ◌++◌, ◌∷◌, [], List, length, take, ◌==◌, slice_get, slice_set, nat_lt, if◌then◌else◌, option_map, Ok, Err, OnOk, OnErr};
 ghost use Rattle.ar_space.specs.Outcome.{Answers};
 ghost use Rattle.ar_space.specs.Change.{Does};
 ghost use Rattle.aml_objects.specs.Objects.{make, fits, few, make_string, make_buffer, make_package, string_at, buffer_at, elements_at, write_buffer, write_string, fitted_to, write_byte, byte_outcome, byte_written, or_dead, element_at, byte_at, write_element, element_outcome, element_written};
@@ -56,6 +56,13 @@ impl Heap {
         ensures { result ≡ (length self.now == 0) }
     {
         self.objects.is_empty()
+    }
+
+    /// The object with a number.
+    pub(crate) fn object(&self, number: usize) -> Option<&Object>
+        ensures { option_map (λ o. o.now) result ≡ slice_get self.now number }
+    {
+        self.objects.get(number)
     }
 
     /// Takes back the objects from a number on, which a refused copy made.

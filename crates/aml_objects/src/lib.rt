@@ -2,6 +2,7 @@
 //! namespace (ACPI 6.5, 5.3, 5.5.2 and 19.3.5).
 #![tactic(auto)]
 
+mod content;
 mod copies;
 mod entry;
 mod heap;
@@ -15,6 +16,7 @@ pub use entry::{
     BodyPlace, BufferField, Entry, FieldSource, FieldUnit, Method, MethodBody, NamedObject,
     OperationRegion, UpdateRule,
 };
+pub use content::Content;
 pub use heap::Heap;
 pub use object::{Element, Elements, Object, Octets};
 pub use value::{Reference, Slot, Value};

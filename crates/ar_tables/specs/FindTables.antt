@@ -11,8 +11,8 @@ use Rattle.ar_tables.specs.declared.table.TableKind.TheVariants as kind
 use Rattle.ar_tables.specs.declared.root_pointer.RootPointer.{RootPointer}
 use Rattle.ar_tables.specs.declared.root_table.Entry.{Entry}
 use Rattle.ar_tables.specs.declared.root_table.EntryKind.TheVariants as entry
-use Rattle.ar_tables.specs.declared.tables.IntegerWidth.{IntegerWidth}
-use Rattle.ar_tables.specs.declared.tables.IntegerWidth.TheVariants.{Bits32, Bits64}
+use Rattle.ar_space.specs.declared.integer_width.IntegerWidth.{IntegerWidth}
+use Rattle.ar_space.specs.declared.integer_width.IntegerWidth.TheVariants.{Bits32, Bits64}
 use Rattle.ar_tables.specs.declared.tables.Tables.{Tables}
 use Rattle.ar_tables.specs.Headers.{table_at}
 use Rattle.ar_tables.specs.RootPointers.{root_pointer}

@@ -10,10 +10,11 @@ mod table;
 mod tables;
 
 pub use ar_space::ByteMap as Image;
+pub use ar_space::IntegerWidth;
 pub use fadt::Fadt;
 pub use madt::{Madt, MadtEntries, MadtEntry, madt_entries};
 pub use table::Table;
-pub use tables::{IntegerWidth, Ssdts, Tables, find_tables};
+pub use tables::{Ssdts, Tables, find_tables};
 
 #[cfg(test)]
 mod tests;

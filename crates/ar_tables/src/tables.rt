@@ -8,19 +8,12 @@ use crate::madt::{Madt, well_structured};
 use crate::root_pointer::{RootKind, RootPointer, root_pointer};
 use crate::root_table::{Addresses, Entries, EntryKind, few};
 use crate::table::{Table, TableKind, table_at};
-use ar_space::{ByteMap, Refusal, TableFault};
+use ar_space::{ByteMap, IntegerWidth, Refusal, TableFault};
 use std::alloc::Global;
 use std::marker::Model;
 
 /// Where the revision of a table stands in its header.
 const REVISION: usize = 8;
-
-/// How wide the integers of AML are, in the SSDTs too.
-#[derive(Clone, Copy, Debug, PartialEq, Eq)]
-pub enum IntegerWidth {
-    Bits32,
-    Bits64,
-}
 
 /// The SSDTs of a machine, in the order of the list of its tables.
 #[derive(Debug, Drop)]

@@ -1,0 +1,2 @@
+pub mod DigitLoops
+pub mod ShortBuffers

@@ -1,0 +1,84 @@
+//! Conversion to an integer (ACPI 6.5, 19.3.5.7).
+ghost use Rattle.std.specs.Prelude.{◌≡◌};
+ghost use Rattle.byteorder.specs.Endian.{little_number};
+ghost use Rattle.ar_space.specs.Outcome.{Answers};
+ghost use Rattle.aml_objects.specs.Contents.{content_of};
+ghost use Rattle.aml_convert.specs.Integers.{bytes_of};
+ghost use Rattle.aml_convert.specs.Conversions.{to_integer_of, integer_in_string, integer_in_buffer, numeral, explicit_integer_of};
+
+use crate::digits::{Base, leading_number};
+use crate::widths::bytes;
+use aml_objects::Content;
+use ar_space::{IntegerWidth, Refusal, ValueFault};
+use byteorder::{ByteOrder, LittleEndian};
+
+/// A value as an integer, as operators take their operands.
+///
+/// An integer is itself. Of a string the hexadecimal digits count that it begins with, of either case, at most 8 or 16 of
+/// them; a string without any is 0. Of a buffer the first 4 or 8 bytes count, the lowest first; missing ones are 0. An
+/// empty string or buffer is refused as `EmptyValue`, every other value as `WrongType`.
+pub fn to_integer(width: IntegerWidth, content: Content<'_>) -> Result<u64, Refusal>
+    ensures { result ≡ to_integer_of width (content_of content.entry) }
+{
+    match content {
+        Content::Integer(n) => Ok(n),
+        Content::String(text) => integer_in_string(width, text),
+        Content::Buffer(buffer) => integer_in_buffer(width, buffer),
+        Content::Other => Err(Refusal::Value(ValueFault::WrongType)),
+    }
+}
+
+/// `to_integer`, as a step among others that may take memory.
+pub(crate) fn integer(width: IntegerWidth, content: Content<'_>) -> Result<u64, Refusal>
+    ensures { Answers result (to_integer_of width (content_of content.entry)) }
+{
+    to_integer(width, content)
+}
+
+/// A value as an integer, as ToInteger gives it (ACPI 6.5, 19.6.141).
+///
+/// It differs from `to_integer` at strings: the decimal digits count that the string begins with, or after `0x` or `0X`
+/// the hexadecimal ones. The number is taken modulo 2^32 or 2^64.
+pub fn explicit_integer(width: IntegerWidth, content: Content<'_>) -> Result<u64, Refusal>
+    ensures { result ≡ explicit_integer_of width (content_of content.entry) }
+{
+    match content {
+        Content::Integer(n) => Ok(n),
+        Content::String(text) => numeral(width, text),
+        Content::Buffer(buffer) => integer_in_buffer(width, buffer),
+        Content::Other => Err(Refusal::Value(ValueFault::WrongType)),
+    }
+}
+
+fn integer_in_string(width: IntegerWidth, text: &[u8]) -> Result<u64, Refusal>
+    ensures { result ≡ integer_in_string width text.now }
+{
+    if text.is_empty() {
+        return Err(Refusal::Value(ValueFault::EmptyValue));
+    }
+    let digits = text.len().min(2 * bytes(width));
+    Ok(leading_number(width, Base::Hexadecimal, &text[..digits]))
+}
+
+fn integer_in_buffer(width: IntegerWidth, buffer: &[u8]) -> Result<u64, Refusal>
+    ensures { result ≡ integer_in_buffer width buffer.now }
+{
+    if buffer.is_empty() {
+        return Err(Refusal::Value(ValueFault::EmptyValue));
+    }
+    let room = bytes(width);
+    if buffer.len() < room {
+        return Ok(LittleEndian::read_uint(buffer, buffer.len()));
+    }
+    Ok(LittleEndian::read_uint(buffer, room))
+}
+
+fn numeral(width: IntegerWidth, text: &[u8]) -> Result<u64, Refusal>
+    ensures { result ≡ numeral width text.now }
+{
+    match text {
+        [] => Err(Refusal::Value(ValueFault::EmptyValue)),
+        [b'0', b'x' | b'X', digits @ ..] => Ok(leading_number(width, Base::Hexadecimal, digits)),
+        digits => Ok(leading_number(width, Base::Decimal, digits)),
+    }
+}
