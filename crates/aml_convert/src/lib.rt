@@ -7,8 +7,11 @@ mod comparison;
 mod concatenation;
 mod digits;
 mod integers;
+pub mod laws;
 mod logic;
 mod operators;
+#[cfg(test)]
+mod tests;
 mod texts;
 mod widths;
 

@@ -17,11 +17,12 @@ returns-in-None c =
 
 pub loop-byte-preserved : goal.loop-byte-preserved
 loop-byte-preserved c =
-    let value : c.truncate-number.result ≡ truncated c.args.width (c.loop-byte.number * base_of c.args.base + c.in-Some.digit) = c.truncate-number.ensures.value ∙ ap (λ x. truncated c.args.width (x + c.in-Some.digit)) (ap (λ x. x * c.number.result) c.from.ensures ∙ ap (λ x. c.loop-byte.number * x) c.number.ensures) in
-    (ap (λ n. number_on c.args.width c.args.base n (drop (c.loop-byte.byte-index + 1) c.args.bytes.now)) value
-      ∙ sym (at_digit c.args.width c.args.base c.loop-byte.number c.in-Some.digit c.loop-byte.byte-index _ c.args.bytes.now c.loop-byte-test.true refl (sym c.in-Some.is ∙ c.value.ensures.value))
-      ∙ c.loop-byte.invariant.0,
-      is_integer c.args.width _ _ value)
+    let value : c.truncate-number.result ≡ truncated c.args.width (c.loop-byte.number * base_of c.args.base + c.in-Some.digit) = c.truncate-number.ensures.value ∙ ap (λ x. truncated c.args.width (x + c.in-Some.digit)) (ap (λ x. x * c.number.result) c.from.ensures ∙ ap (λ x. c.loop-byte.number * x) c.number.ensures) in (
+      ap (λ n. number_on c.args.width c.args.base n (drop (c.loop-byte.byte-index + 1) c.args.bytes.now)) value
+          ∙ sym (at_digit c.args.width c.args.base c.loop-byte.number c.in-Some.digit c.loop-byte.byte-index _ c.args.bytes.now c.loop-byte-test.true refl (sym c.in-Some.is ∙ c.value.ensures.value))
+          ∙ c.loop-byte.invariant.0,
+      is_integer c.args.width _ _ value,
+    )
 
 pub returns : goal.returns
 returns c =
