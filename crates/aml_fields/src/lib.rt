@@ -2,5 +2,7 @@
 #![tactic(auto)]
 
 mod bits;
+mod unit;
 
-pub use bits::copy_bits;
+pub use bits::{bytes_for, copy_bits, get_bits};
+pub use unit::{copy_from_unit, merge};
