@@ -74,9 +74,9 @@ flipped_other b j i ne = ap (λ x. x == 1) (bit_at_xor b (2 ^ j) i ∙ ap (λ y.
 flipped : (b j : ℕ) → j < 8 → bits_from (bit_xor b (2 ^ j)) 0 8 ≡ set (bits_from b 0 8) j (not (bit b j))
 flipped b j l = ext_get_or false _ _ (length_from (bit_xor b (2 ^ j)) 0 8 ∙ sym (length-set (bits_from b 0 8) j (not (bit b j)) ∙ length_from b 0 8))
     (λ i m. at_place i (subst (λ n. i < n) (length_from (bit_xor b (2 ^ j)) 0 8) m) (cases_eq i j)) where
-  at_place : (i : ℕ) → i < 8 → (i ≡ j) ⊎ (i ≢ j) → get_or (bits_from (bit_xor b (2 ^ j)) 0 8) i false ≡ get_or (set (bits_from b 0 8) j (not (bit b j))) i false
-  at_place i m (inl e) = rw e (byte_at (bit_xor b (2 ^ j)) j l ∙ flipped_same b j ∙ sym (get_or-set_same (bits_from b 0 8) j (not (bit b j)) false (subst (λ n. j < n) (sym (length_from b 0 8)) l)))
-  at_place i m (inr ne) = byte_at (bit_xor b (2 ^ j)) i m ∙ flipped_other b j i ne ∙ sym (get_or-set_other (bits_from b 0 8) j i (not (bit b j)) false ne ∙ byte_at b i m)
+      at_place : (i : ℕ) → i < 8 → (i ≡ j) ⊎ (i ≢ j) → get_or (bits_from (bit_xor b (2 ^ j)) 0 8) i false ≡ get_or (set (bits_from b 0 8) j (not (bit b j))) i false
+      at_place i m (inl e) = rw e (byte_at (bit_xor b (2 ^ j)) j l ∙ flipped_same b j ∙ sym (get_or-set_same (bits_from b 0 8) j (not (bit b j)) false (subst (λ n. j < n) (sym (length_from b 0 8)) l)))
+      at_place i m (inr ne) = byte_at (bit_xor b (2 ^ j)) i m ∙ flipped_other b j i ne ∙ sym (get_or-set_other (bits_from b 0 8) j i (not (bit b j)) false ne ∙ byte_at b i m)
 
 -- a bit that is turned has the value that it didn't have
 pub bit_turned : (bytes : List ℕ) (i : ℕ) (v : Bool) → i < 8 * length bytes → not (get_or (bits_of bytes) i false) ≡ v
@@ -84,4 +84,4 @@ pub bit_turned : (bytes : List ℕ) (i : ℕ) (v : Bool) → i < 8 * length byte
 bit_turned bytes i v l e =
     let value : not (bit (get_or bytes (i / 8) 0) (i % 8)) ≡ v = ap not (sym (bit_of bytes i)) ∙ e in
     set_at bytes (i / 8) (i % 8) i v (bit_xor (get_or bytes (i / 8) 0) (2 ^ (i % 8))) (mod-lt i (omega arith)) (split i) (omega (arith, split i))
-      (flipped (get_or bytes (i / 8) 0) (i % 8) (mod-lt i (omega arith)) ∙ ap (set (bits_from (get_or bytes (i / 8) 0) 0 8) (i % 8)) value)
+    (flipped (get_or bytes (i / 8) 0) (i % 8) (mod-lt i (omega arith)) ∙ ap (set (bits_from (get_or bytes (i / 8) 0) 0 8) (i % 8)) value)

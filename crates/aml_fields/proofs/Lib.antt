@@ -1,3 +1,4 @@
 pub mod BitLists
 pub mod Putting
 pub mod Numbers
+pub mod Turns

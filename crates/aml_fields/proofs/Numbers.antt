@@ -36,7 +36,7 @@ number_append [] ys = omega arith
 number_append (b ∷ xs) ys =
     let one_more : suc (length xs) ≡ 1 + length xs = omega arith in
     let e : 2 ^ suc (length xs) * number_of ys ≡ 2 * (2 ^ length xs * number_of ys) =
-      ap (λ x. 2 ^ x * number_of ys) one_more ∙ ap (λ x. x * number_of ys) (pow-add 2 1 (length xs)) ∙ mul_assoc 2 (2 ^ length xs) (number_of ys) in
+    ap (λ x. 2 ^ x * number_of ys) one_more ∙ ap (λ x. x * number_of ys) (pow-add 2 1 (length xs)) ∙ mul_assoc 2 (2 ^ length xs) (number_of ys) in
     omega (arith, e, number_append xs ys)
 
 pub same_number : (xs ys : List Bool) → length xs ≡ length ys → number_of xs ≡ number_of ys → xs ≡ ys
@@ -70,8 +70,8 @@ bits_of_number n l h =
     let places : length (little_bytes 8 n) ≡ 8 = length-bytes_low_first 0 8 n in
     let value : little_number (length (little_bytes 8 n)) (little_bytes 8 n) ≡ n = ap (λ k. little_number k (little_bytes 8 n)) places ∙ ap (little_number 8) (sym (append-nil (little_bytes 8 n))) ∙ little_from-bytes 8 0 n [] ∙ ap (λ x. x % 256 ^ 8) (div-one n) ∙ mod-eq_of_lt l in
     same_number (bits_of (little_bytes 8 n)) (bits_from n 0 64)
-      (length_of (little_bytes 8 n) ∙ ap (λ k. 8 * k) places ∙ sym (length_from n 0 64))
-      (sym (one_number (little_bytes 8 n) h) ∙ value ∙ sym (number_from n 0 64 ∙ ap (λ x. x % 2 ^ 64) (div-one n) ∙ mod-eq_of_lt l))
+    (length_of (little_bytes 8 n) ∙ ap (λ k. 8 * k) places ∙ sym (length_from n 0 64))
+    (sym (one_number (little_bytes 8 n) h) ∙ value ∙ sym (number_from n 0 64 ∙ ap (λ x. x % 2 ^ 64) (div-one n) ∙ mod-eq_of_lt l))
 
 -- bytes are what their bits are packed into
 pub unpacked : (xs : List ℕ) → ((i : ℕ) → slice_index xs i < 256) → bytes_within (length xs) (bits_of xs) ≡ xs

@@ -2,7 +2,9 @@
 #![tactic(auto)]
 
 mod bits;
+mod field_units;
 mod unit;
 
 pub use bits::{bytes_for, copy_bits, get_bits};
+pub use field_units::{FieldUnits, Unit, units};
 pub use unit::{copy_from_unit, merge};

@@ -12,15 +12,16 @@ loop-n-init c = (refl, put_none c.args.to (drop c.args.from (bits_of c.args.sour
 pub loop-n-preserved : goal.loop-n-preserved
 loop-n-preserved c =
     let old = bits_of c.args.target.now in
-    let room : c.args.to + c.loop-n.n < length old = subst (λ k. c.args.to + c.loop-n.n < k) (sym (length_of c.args.target.now)) (omega (arith, c.requires.inside)) in
-    (c.set_bit.ensures.len ∙ c.loop-n.invariant.0,
+    let room : c.args.to + c.loop-n.n < length old = subst (λ k. c.args.to + c.loop-n.n < k) (sym (length_of c.args.target.now)) (omega (arith, c.requires.inside)) in (
+      c.set_bit.ensures.len ∙ c.loop-n.invariant.0,
       c.set_bit.ensures.bits
-      ∙ ap (λ l. set l (c.args.to + c.loop-n.n) c.bit.result) c.loop-n.invariant.1
-      ∙ put_more c.args.to c.loop-n.n (drop c.args.from (bits_of c.args.source.now)) old c.bit.result room (get_or-drop c.args.from (bits_of c.args.source.now) c.loop-n.n false ∙ sym c.bit.ensures),
-      λ i. (c.type_inv.target i).fits)
+          ∙ ap (λ l. set l (c.args.to + c.loop-n.n) c.bit.result) c.loop-n.invariant.1
+          ∙ put_more c.args.to c.loop-n.n (drop c.args.from (bits_of c.args.source.now)) old c.bit.result room (get_or-drop c.args.from (bits_of c.args.source.now) c.loop-n.n false ∙ sym c.bit.ensures),
+      λ i. (c.type_inv.target i).fits,
+    )
 
 pub returns-clause-bytes : goal.returns-clause-bytes
 returns-clause-bytes c =
     let all : c.loop-n.n ≡ c.args.count = omega (arith, c.loop-n.auto.n-end) in
     known_by_bits c.loop-n.target (length c.args.target.now) _ c.loop-n.invariant.2 c.loop-n.invariant.0
-      (c.loop-n.invariant.1 ∙ ap (λ n. put c.args.to (field_bits c.args.source.now c.args.from n) (bits_of c.args.target.now)) all)
+    (c.loop-n.invariant.1 ∙ ap (λ n. put c.args.to (field_bits c.args.source.now c.args.from n) (bits_of c.args.target.now)) all)
