@@ -2,3 +2,5 @@ pub mod BitLists
 pub mod Putting
 pub mod Numbers
 pub mod Turns
+pub mod Covers
+pub mod Accessing

@@ -104,7 +104,7 @@ number_with_zeros zero xs zs h = refl
 number_with_zeros (suc n) [] zs h = zero_number (suc n) zs h
 number_with_zeros (suc n) (x ∷ xs) zs h = ap (λ y. (if x then 1 else 0) + 2 * y) (number_with_zeros n xs zs h)
 
-drop_zeros : (n : ℕ) (zs : List Bool) → AreZeros zs → AreZeros (drop n zs)
+pub drop_zeros : (n : ℕ) (zs : List Bool) → AreZeros zs → AreZeros (drop n zs)
 drop_zeros zero zs h = h
 drop_zeros (suc n) [] h = tt
 drop_zeros (suc n) (z ∷ zs) h = drop_zeros n zs h.1
@@ -150,7 +150,7 @@ small_bytes j (suc k) n (suc i) = small_bytes (suc j) k n i
 pub known_by_bits : (xs : List ℕ) (n : ℕ) (bits : List Bool) → ((i : ℕ) → slice_index xs i < 256) → length xs ≡ n → bits_of xs ≡ bits → xs ≡ bytes_within n bits
 known_by_bits xs n bits h e f = sym (unpacked xs h) ∙ ap (λ k. bytes_within k (bits_of xs)) e ∙ ap (bytes_within n) f
 
-take_whole : (t old : List ℕ) (k : ℕ) → length t ≡ k → length old ≡ k → take k (t ++ drop (length t) old) ≡ t
+pub take_whole : (t old : List ℕ) (k : ℕ) → length t ≡ k → length old ≡ k → take k (t ++ drop (length t) old) ≡ t
 take_whole t old k e f =
     ap (λ l. take k (t ++ l)) (drop_of_length-le old (omega (arith, e, f)))
     ∙ ap (take k) (append-nil t)
@@ -166,3 +166,8 @@ over_zeros t old k n field zeros e f room value =
     ∙ ap (λ m. bytes_within m (field ++ drop (0 + length field) (bits_of old))) count
     ∙ zeros_behind (byte_count n) field (drop (0 + length field) (bits_of old)) (drop_zeros (0 + length field) (bits_of old) (subst (λ l. AreZeros (bits_of l)) (sym zeros) (zero_bytes (byte_count n))))
     ∙ ap (λ m. bytes_within (byte_count m) field) (sym e)
+
+pub small_zeros : (n i : ℕ) → slice_index (replicate n 0) i < 256
+small_zeros zero i = omega arith
+small_zeros (suc n) zero = omega arith
+small_zeros (suc n) (suc i) = small_zeros n i

@@ -1,2 +1,4 @@
 pub mod Bits
+pub mod Covering
+pub mod Regions
 pub mod Units

@@ -1,10 +1,14 @@
 //! Bits of bytes, and the accesses by which firmware's fields are read and written (ACPI 6.5, 19.6.46).
 #![tactic(auto)]
 
+mod accesses;
 mod bits;
 mod field_units;
+mod region;
 mod unit;
 
+pub use accesses::{read_field, write_field};
 pub use bits::{bytes_for, copy_bits, get_bits};
 pub use field_units::{FieldUnits, Unit, units};
+pub use region::{AddressSpace, Region};
 pub use unit::{copy_from_unit, merge};

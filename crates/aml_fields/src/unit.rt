@@ -1,7 +1,7 @@
 //! Units: what one access of a field reads or writes (ACPI 6.5, 19.6.46).
 ghost use Rattle.std.specs.Prelude.{◌≡◌, ◌≤◌, ◌+◌, ◌*◌, ◌^◌, ◌<◌, length, take, drop};
 ghost use Rattle.aml_objects.specs.declared.entry.UpdateRule.TheVariants.{WriteAsOnes};
-ghost use Rattle.aml_fields.specs.Bits.{bits_of, bits_from, field_bits, put, extended, number_of, rest_of_unit, merged};
+ghost use Rattle.aml_fields.specs.Bits.{bits_of, bits_from, field_bits, put, extended, bytes_within, number_of, rest_of_unit, merged};
 
 use crate::bits::copy_bits;
 use aml_objects::UpdateRule;
@@ -74,6 +74,7 @@ pub fn copy_from_unit(target: &mut [u8], to: usize, unit: u64, first: usize, cou
     requires inside { to + count ≤ 8 * length target.old }
     requires to { to + count < 2 ^ 64 }
     ensures bits { bits_of target.new ≡ put to (extended count (drop first (bits_from unit 0 64))) (bits_of target.old) }
+    ensures bytes { target.new ≡ bytes_within (length target.old) (put to (extended count (drop first (bits_from unit 0 64))) (bits_of target.old)) }
     ensures len { length target.new ≡ length target.old }
 {
     copy_bits(target, to, &bytes_of(unit), first, count);
