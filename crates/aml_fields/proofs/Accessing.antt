@@ -46,15 +46,15 @@ module _ {S : Type 0} (reads : S → Place → Width → Result ℕ SpaceFault �
   pub writing_goes_on : (start here after : S) (u : Access) (us left : List Access) → left ≡ u ∷ us → Writing start left here → Does (Ok tt) after (write_unit reads writes r f source u) here → Writing start us after
   unfolding write_units
   writing_goes_on start here after u us left e h d =
-    let c : Cover f.bit_offset f.bits f.access h.done (u ∷ us) = subst (Cover f.bit_offset f.bits f.access h.done) e h.cover in
-    let s : Same (write_field reads writes r f source) start (write_units reads writes r f source (u ∷ us)) here = subst (λ l. Same (write_field reads writes r f source) start (write_units reads writes r f source l) here) e h.same in
-    record { done = h.done + u.count; cover = c.2; same = same_ok _ _ s d }
+      let c : Cover f.bit_offset f.bits f.access h.done (u ∷ us) = subst (Cover f.bit_offset f.bits f.access h.done) e h.cover in
+      let s : Same (write_field reads writes r f source) start (write_units reads writes r f source (u ∷ us)) here = subst (λ l. Same (write_field reads writes r f source) start (write_units reads writes r f source l) here) e h.same in
+      record { done = h.done + u.count; cover = c.2; same = same_ok _ _ s d }
 
   pub writing_stops : {e : _} (start here after : S) (u : Access) (us left : List Access) (x : Outcome (Unit {0})) → left ≡ u ∷ us → Writing start left here → Does {A = Unit {0}} (Err e) after (write_unit reads writes r f source u) here → IsErr x × IsErrAnd x (λ z. z ≡ e) → Does x after (write_field reads writes r f source) start
   unfolding write_units
   writing_stops start here after u us left x e h d i =
-    let s : Same (write_field reads writes r f source) start (write_units reads writes r f source (u ∷ us)) here = subst (λ l. Same (write_field reads writes r f source) start (write_units reads writes r f source l) here) e h.same in
-    does_same s (does_err _ _ d i)
+      let s : Same (write_field reads writes r f source) start (write_units reads writes r f source (u ∷ us)) here = subst (λ l. Same (write_field reads writes r f source) start (write_units reads writes r f source l) here) e h.same in
+      does_same s (does_err _ _ d i)
 
   pub writing_ends : (start here : S) (left : List Access) → left ≡ [] → Writing start left here → Does (Ok tt) here (write_field reads writes r f source) start
   unfolding write_units
@@ -87,12 +87,13 @@ module _ {S : Type 0} (reads : S → Place → Width → Result ℕ SpaceFault �
   pub reading_starts : (start : S) (items : List ℕ) → items ≡ replicate (byte_count f.bits) 0 → Reading start items (units_of f.bit_offset f.bits f.access) start
   unfolding read_field read_on
   reading_starts start items zeros = record {
-      done = [];
-      cover = units_cover f.bit_offset f.bits f.access;
-      size = ap length zeros ∙ length-replicate (byte_count f.bits) 0;
-      bits = ap bits_of zeros;
-      bytes = known_by_bits items (byte_count f.bits) _ (λ i. subst (λ l. slice_index l i < 256) (sym zeros) (small_zeros (byte_count f.bits) i)) (ap length zeros ∙ length-replicate (byte_count f.bits) 0) (ap bits_of zeros);
-      same = record { is = refl } }
+    done = [];
+    cover = units_cover f.bit_offset f.bits f.access;
+    size = ap length zeros ∙ length-replicate (byte_count f.bits) 0;
+    bits = ap bits_of zeros;
+    bytes = known_by_bits items (byte_count f.bits) _ (λ i. subst (λ l. slice_index l i < 256) (sym zeros) (small_zeros (byte_count f.bits) i)) (ap length zeros ∙ length-replicate (byte_count f.bits) 0) (ap bits_of zeros);
+    same = record { is = refl };
+  }
 
   by_outcome : (x done : List Bool) (o : Outcome (List Bool)) (s : S) → go_on (go_on o s (λ bits. give (x ++ bits))).0 (go_on o s (λ bits. give (x ++ bits))).1 (λ bits. give (packed (done ++ bits))) ≡ go_on o s (λ bits. give (packed ((done ++ x) ++ bits)))
   unfolding go_on give
@@ -106,35 +107,36 @@ module _ {S : Type 0} (reads : S → Place → Width → Result ℕ SpaceFault �
       → Reading start next us after
   unfolding read_units read_on ◌>>=◌ go_on
   reading_goes_on start here after items next unit u us left e h d len bits bytes =
-    let new = extended u.count (drop u.first (bits_from unit 0 64)) in
-    let zeros = bits_of (replicate (byte_count f.bits) 0) in
-    let c : Cover f.bit_offset f.bits f.access (length h.done) (u ∷ us) = subst (Cover f.bit_offset f.bits f.access (length h.done)) e h.cover in
-    let put_all : put u.position new (bits_of items) ≡ put 0 (h.done ++ new) zeros = ap (put u.position new) h.bits ∙ put_on h.done new zeros u.position (sym c.0.here) in
-    let count : length (h.done ++ new) ≡ length h.done + u.count = length-append h.done new ∙ ap (λ k. length h.done + k) (length_extended u.count (drop u.first (bits_from unit 0 64))) in
-    record {
-      done = h.done ++ new;
-      cover = subst (λ k. Cover f.bit_offset f.bits f.access k us) (sym count) c.2;
-      size = len ∙ h.size;
-      bits = bits ∙ put_all;
-      bytes = bytes ∙ ap (λ k. bytes_within k (put u.position new (bits_of items))) h.size ∙ ap (bytes_within (byte_count f.bits)) put_all;
-      same = record { is = (subst (λ l. Same (read_field reads r f) start (read_on h.done l) here) e h.same).is ∙ rw (d.is tt) (by_outcome new h.done (read_units reads r f.access us after).0 (read_units reads r f.access us after).1) } }
+      let new = extended u.count (drop u.first (bits_from unit 0 64)) in
+      let zeros = bits_of (replicate (byte_count f.bits) 0) in
+      let c : Cover f.bit_offset f.bits f.access (length h.done) (u ∷ us) = subst (Cover f.bit_offset f.bits f.access (length h.done)) e h.cover in
+      let put_all : put u.position new (bits_of items) ≡ put 0 (h.done ++ new) zeros = ap (put u.position new) h.bits ∙ put_on h.done new zeros u.position (sym c.0.here) in
+      let count : length (h.done ++ new) ≡ length h.done + u.count = length-append h.done new ∙ ap (λ k. length h.done + k) (length_extended u.count (drop u.first (bits_from unit 0 64))) in
+      record {
+        done = h.done ++ new;
+        cover = subst (λ k. Cover f.bit_offset f.bits f.access k us) (sym count) c.2;
+        size = len ∙ h.size;
+        bits = bits ∙ put_all;
+        bytes = bytes ∙ ap (λ k. bytes_within k (put u.position new (bits_of items))) h.size ∙ ap (bytes_within (byte_count f.bits)) put_all;
+        same = record { is = (subst (λ l. Same (read_field reads r f) start (read_on h.done l) here) e h.same).is ∙ rw (d.is tt) (by_outcome new h.done (read_units reads r f.access us after).0 (read_units reads r f.access us after).1) };
+      }
 
   pub reading_stops : {V : Type 0} {e : _} (x : Outcome V) (view : V → List ℕ) (start here after : S) (items : List ℕ) (u : Access) (us left : List Access) → left ≡ u ∷ us → Reading start items left here → Does {A = ℕ} (Err e) after (read_unit reads r f.access u) here → IsErr x × IsErrAnd x (λ z. z ≡ e) → Does (seen view x) after (read_field reads r f) start
   unfolding read_units read_on ◌>>=◌ go_on
   reading_stops (Ok y) view start here after items u us left e h d i = absurd (cc i.0)
   reading_stops (Err y) view start here after items u us left e h d i =
-    record { is = λ ne. (subst (λ l. Same (read_field reads r f) start (read_on h.done l) here) e h.same).is ∙ rw (d.is (λ q. ne (i.1 ∙ q)), i.1) refl }
+      record { is = λ ne. (subst (λ l. Same (read_field reads r f) start (read_on h.done l) here) e h.same).is ∙ rw (d.is (λ q. ne (i.1 ∙ q)), i.1) refl }
 
   whole : (items : List ℕ) (done : List Bool) → length done ≡ f.bits → items ≡ bytes_within (byte_count f.bits) (put 0 done (bits_of (replicate (byte_count f.bits) 0))) → items ≡ packed (done ++ [])
   whole items done e value =
-    let zeros = bits_of (replicate (byte_count f.bits) 0) in
-    value
-    ∙ zeros_behind (byte_count f.bits) done (drop (0 + length done) zeros) (drop_zeros (0 + length done) zeros (zero_bytes (byte_count f.bits)))
-    ∙ ap (λ k. bytes_within (byte_count k) done) (sym e)
-    ∙ ap packed (sym (append-nil done))
+      let zeros = bits_of (replicate (byte_count f.bits) 0) in
+      value
+      ∙ zeros_behind (byte_count f.bits) done (drop (0 + length done) zeros) (drop_zeros (0 + length done) zeros (zero_bytes (byte_count f.bits)))
+      ∙ ap (λ k. bytes_within (byte_count k) done) (sym e)
+      ∙ ap packed (sym (append-nil done))
 
   pub reading_ends : (start here : S) (items : List ℕ) (left : List Access) → left ≡ [] → Reading start items left here → Does (Ok items) here (read_field reads r f) start
   unfolding read_units read_on ◌>>=◌ go_on give
   reading_ends start here items left e h =
-    let c : length h.done ≡ f.bits = subst (Cover f.bit_offset f.bits f.access (length h.done)) e h.cover in
-    record { is = λ _. (subst (λ l. Same (read_field reads r f) start (read_on h.done l) here) e h.same).is ∙ ap (λ l. (Ok l, here)) (sym (whole items h.done c h.bytes)) }
+      let c : length h.done ≡ f.bits = subst (Cover f.bit_offset f.bits f.access (length h.done)) e h.cover in
+      record { is = λ _. (subst (λ l. Same (read_field reads r f) start (read_on h.done l) here) e h.same).is ∙ ap (λ l. (Ok l, here)) (sym (whole items h.done c h.bytes)) }

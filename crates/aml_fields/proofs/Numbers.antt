@@ -171,3 +171,12 @@ pub small_zeros : (n i : ℕ) → slice_index (replicate n 0) i < 256
 small_zeros zero i = omega arith
 small_zeros (suc n) zero = omega arith
 small_zeros (suc n) (suc i) = small_zeros n i
+
+pub number_again : (n count : ℕ) → n < 2 ^ count → number_of (bits_from n 0 count) ≡ n
+number_again n count l = number_from n 0 count ∙ ap (λ x. x % 2 ^ count) (div-one n) ∙ mod-eq_of_lt l
+
+pub packed_again : (bytes : List ℕ) → ((i : ℕ) → slice_index bytes i < 256) → packed (bits_of bytes) ≡ bytes
+packed_again bytes h =
+    let e = length_of bytes in
+    let count : byte_count (length (bits_of bytes)) ≡ length bytes = omega (arith, e) in
+    ap (λ n. bytes_within n (bits_of bytes)) count ∙ unpacked bytes h

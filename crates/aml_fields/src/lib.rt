@@ -4,7 +4,10 @@
 mod accesses;
 mod bits;
 mod field_units;
+pub mod laws;
 mod region;
+#[cfg(test)]
+mod tests;
 mod unit;
 
 pub use accesses::{read_field, write_field};
