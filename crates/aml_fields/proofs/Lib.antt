@@ -4,3 +4,7 @@ pub mod Numbers
 pub mod Turns
 pub mod Covers
 pub mod Accessing
+pub mod Cells
+pub mod SpaceBits
+pub mod UnitWrites
+pub mod FieldWrites

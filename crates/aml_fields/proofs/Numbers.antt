@@ -49,7 +49,7 @@ same_number (false ∷ xs) (false ∷ ys) e h = ap (λ l. false ∷ l) (same_num
 same_number (true ∷ xs) (false ∷ ys) e h = absurd (omega (arith, h))
 same_number (false ∷ xs) (true ∷ ys) e h = absurd (omega (arith, h))
 
-little_rest : (i n x : ℕ) (xs : List ℕ) → little_from (suc i) n (x ∷ xs) ≡ little_from i n xs
+pub little_rest : (i n x : ℕ) (xs : List ℕ) → little_from (suc i) n (x ∷ xs) ≡ little_from i n xs
 little_rest i zero x xs = refl
 little_rest i (suc n) x xs = ap (λ y. slice_index xs i + 256 * y) (little_rest (suc i) n x xs)
 
