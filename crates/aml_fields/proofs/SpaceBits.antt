@@ -22,9 +22,9 @@ number_below (z ∷ zs) =
     let h = number_below zs in
     let b : (if z then 1 else 0) ≤ 1 = at_most_one z in
     omega (arith, p, h, b) where
-  at_most_one : (z : Bool) → (if z then 1 else 0) ≤ 1
-  at_most_one true = omega arith
-  at_most_one false = omega arith
+      at_most_one : (z : Bool) → (if z then 1 else 0) ≤ 1
+      at_most_one true = omega arith
+      at_most_one false = omega arith
 
 pub bits_again : (zs : List Bool) → bits_from (number_of zs) 0 (length zs) ≡ zs
 bits_again zs = same_number (bits_from (number_of zs) 0 (length zs)) zs (length_from (number_of zs) 0 (length zs))
@@ -113,6 +113,6 @@ module _ (c : Cells) where
 
   pub stand_bit : (b : Bytes) (m : ℕ) (xs : List ℕ) (i : ℕ) → Stand c b m xs → i < 8 * length xs → space_bit b (8 * m + i) ≡ Some (get_or (bits_of xs) i false)
   stand_bit b m xs i h l =
-    let byte : (8 * m + i) / 8 ≡ m + i / 8 = omega arith in
-    let place : (8 * m + i) % 8 ≡ i % 8 = omega arith in
-    rw (byte, place) (ap (option_map (λ x. bit x (i % 8))) (stand_at b m xs (i / 8) h (omega (arith, l))) ∙ ap Some (sym (bit_of xs i)))
+      let byte : (8 * m + i) / 8 ≡ m + i / 8 = omega arith in
+      let place : (8 * m + i) % 8 ≡ i % 8 = omega arith in
+      rw (byte, place) (ap (option_map (λ x. bit x (i % 8))) (stand_at b m xs (i / 8) h (omega (arith, l))) ∙ ap Some (sym (bit_of xs i)))

@@ -75,8 +75,8 @@ module _ (c : Cells) (r : Region) (of : IsOf c r) where
     by_whole : (t : Bool) → (u.count == bit_count f.access) ≡ t → (if t then (Ok 0, b) else kept_by read_step write_step f.update p f.access b) ≡ (Ok old, b1) → (b1 ≡ b) × ((u.count ≡ bit_count f.access) ⊎ (number_on b p 0 (bytes_wide f.access) ≡ Some old))
     by_whole true is g = (sym (ap (λ x. x.1) g), inl (search rules))
     by_whole false is g =
-      let k = kept_read p f.access old b b1 (sym (ap (λ rule. kept_by read_step write_step rule p f.access b) rule) ∙ g) in
-      (k.1, inr k.0)
+        let k = kept_read p f.access old b b1 (sym (ap (λ rule. kept_by read_step write_step rule p f.access b) rule) ∙ g) in
+        (k.1, inr k.0)
 
   -- where a write succeeds, the bytes stand that it replaces
   pub record Replaced (p : Place) (w : Width) (value : ℕ) (b b' : Bytes) : Type 0 where
@@ -89,6 +89,7 @@ module _ (c : Cells) (r : Region) (of : IsOf c r) where
   replaced_by p w value b b' e = by_number (number_on b p 0 (bytes_wide w)) refl e where
     wrote : Option ℕ → Result (Unit {0}) SpaceFault × Bytes
     wrote o = if is_some o then (Ok tt, written_on b p 0 (bytes_wide w) value) else (Err NoRegister, b)
+
     by_number : (o : Option ℕ) → number_on b p 0 (bytes_wide w) ≡ o → ◌≡◌ {A = Outcome (Unit {0}) × Bytes} (faulted (wrote o).0, (wrote o).1) (Ok tt, b') → Replaced p w value b b'
     by_number None is f = absurd (let g : ◌≡◌ {A = Outcome (Unit {0})} (Err (refusal.Space NoRegister)) (Ok tt) = ap (λ x. x.0) f in cc g)
     by_number (Some v) is f = record { before = v; read = is; after = sym (ap (λ x. x.1) f) }
@@ -112,9 +113,9 @@ extended_at (suc n) xs i l = ap (λ y. get_or y i false) (extended_more n xs) �
   by_place : (i < n) ⊎ (n ≤ i) → (i < n → get_or (extended n xs) i false ≡ get_or xs i false) → get_or (extended n xs ++ get_or xs n false ∷ []) i false ≡ get_or xs i false
   by_place (inl m) h = get_or_append_left (extended n xs) (get_or xs n false ∷ []) false i (subst (λ k. i < k) (sym (length_extended n xs)) m) ∙ h m
   by_place (inr m) h =
-    let same : i ≡ n = omega (arith, l, m) in
-    let none : i - n ≡ 0 = omega (arith, l, m) in
-    get_or-append_right (extended n xs) (get_or xs n false ∷ []) n i false (length_extended n xs) m ∙ ap (λ k. get_or (get_or xs n false ∷ []) k false) none ∙ ap (λ k. get_or xs k false) (sym same)
+      let same : i ≡ n = omega (arith, l, m) in
+      let none : i - n ≡ 0 = omega (arith, l, m) in
+      get_or-append_right (extended n xs) (get_or xs n false ∷ []) n i false (length_extended n xs) m ∙ ap (λ k. get_or (get_or xs n false ∷ []) k false) none ∙ ap (λ k. get_or xs k false) (sym same)
 
 pub narrow : (w : Width) → bit_count w ≤ 64
 narrow W8 = omega arith
@@ -122,14 +123,14 @@ narrow W16 = omega arith
 narrow W32 = omega arith
 narrow W64 = omega arith
 
-eight : (w : Width) → bit_count w ≡ 8 * bytes_wide w
+pub eight : (w : Width) → bit_count w ≡ 8 * bytes_wide w
 eight W8 = refl
 eight W16 = refl
 eight W32 = refl
 eight W64 = refl
 
 module _ (c : Cells) where
-  stand_small : (b : Bytes) (m : ℕ) (xs : List ℕ) → Small c b → Stand c b m xs → (i : ℕ) → slice_index xs i < 256
+  pub stand_small : (b : Bytes) (m : ℕ) (xs : List ℕ) → Small c b → Stand c b m xs → (i : ℕ) → slice_index xs i < 256
   stand_small b m xs small h i = by_place (cases_lt i (length xs)) where
     by_place : (i < length xs) ⊎ (length xs ≤ i) → slice_index xs i < 256
     by_place (inl l) = small (m + i) (get_or xs i 0) (stand_at c b m xs i h l)
@@ -142,10 +143,10 @@ module _ (c : Cells) where
     by_place (inl l) q = ap is_some (below m l)
     by_place (inr l) (inr g) = ap is_some (above m g)
     by_place (inr l) (inl g) =
-      let at : a + (m - a) ≡ m = omega (arith, l) in
-      let old = stand_at c b a xs (m - a) s (omega (arith, l, g, many)) in
-      let new = stand_at c b' a ys (m - a) t (omega (arith, l, g, long)) in
-      ap is_some (ap (c.get b') (sym at) ∙ new) ∙ sym (ap is_some (ap (c.get b) (sym at) ∙ old))
+        let at : a + (m - a) ≡ m = omega (arith, l) in
+        let old = stand_at c b a xs (m - a) s (omega (arith, l, g, many)) in
+        let new = stand_at c b' a ys (m - a) t (omega (arith, l, g, long)) in
+        ap is_some (ap (c.get b') (sym at) ∙ new) ∙ sym (ap is_some (ap (c.get b) (sym at) ∙ old))
 
   kept_small : (b b' : Bytes) (a n : ℕ) (ys : List ℕ) → Stand c b' a ys → length ys ≡ n
       → ((k : ℕ) → k < a → c.get b' k ≡ c.get b k) → ((k : ℕ) → a + n ≤ k → c.get b' k ≡ c.get b k) → Small c b → ((q : ℕ) → get_or ys q 0 < 256) → Small c b'
@@ -154,10 +155,10 @@ module _ (c : Cells) where
     by_place (inl l) q = small m x (sym (below m l) ∙ e)
     by_place (inr l) (inr g) = small m x (sym (above m g) ∙ e)
     by_place (inr l) (inl g) =
-      let at : a + (m - a) ≡ m = omega (arith, l) in
-      let new = stand_at c b' a ys (m - a) t (omega (arith, l, g, long)) in
-      let same : get_or ys (m - a) 0 ≡ x = let h = sym (ap (c.get b') (sym at) ∙ new) ∙ e in cc h in
-      subst (λ y. y < 256) same (digit (m - a))
+        let at : a + (m - a) ≡ m = omega (arith, l) in
+        let new = stand_at c b' a ys (m - a) t (omega (arith, l, g, long)) in
+        let same : get_or ys (m - a) 0 ≡ x = let h = sym (ap (c.get b') (sym at) ∙ new) ∙ e in cc h in
+        subst (λ y. y < 256) same (digit (m - a))
 
   -- one unit before and after it is written at an address
   pub record Swapped (a : ℕ) (w : Width) (value before : ℕ) (b b' : Bytes) : Type 0 where
@@ -166,26 +167,29 @@ module _ (c : Cells) where
     pub under : (k : ℕ) → k < 8 * a → space_bit c b' k ≡ space_bit c b k
     pub over : (k : ℕ) → 8 * a + bit_count w ≤ k → space_bit c b' k ≡ space_bit c b k
     pub present : (m : ℕ) → is_some (c.get b' m) ≡ is_some (c.get b m)
+    pub others : c.others b' ≡ c.others b
     pub small : Small c b'
 
   pub swapped : (a : ℕ) (w : Width) (value before : ℕ) (b : Bytes) → Small c b → number_on b (c.place a) 0 (bytes_wide w) ≡ Some before → Swapped a w value before b (written_on b (c.place a) 0 (bytes_wide w) value)
   swapped a w value before b small e =
-    let found = read_stand c b a 0 (bytes_wide w) before e in
-    let xs = found.bytes in
-    let many = found.many in
-    let wide = eight w in
-    let start : a + 0 ≡ a = omega arith in
-    let stands : Stand c b a xs = subst (λ m. Stand c b m xs) start found.stand in
-    let bits : bits_from before 0 (8 * length xs) ≡ bits_of xs = bits_of_little xs before (stand_small b a xs small stands) found.value in
-    let b' = written_on b (c.place a) 0 (bytes_wide w) value in
-    let now : Written c b a 0 xs value b' = subst (λ n. Written c b a 0 xs value (written_on b (c.place a) 0 n value)) many (written c b a 0 xs value found.stand) in
-    let ys = digits (length xs) value in
-    let stands' : Stand c b' a ys = subst (λ m. Stand c b' m ys) start now.stand in
-    let long : length ys ≡ bytes_wide w = digits_many (length xs) value ∙ many in
-    record {
-      held = λ m l. stand_bit c b a xs m stands (omega (arith, l, many, wide)) ∙ ap Some (ap (λ z. get_or z m false) (sym bits) ∙ from_at before 0 (8 * length xs) m (omega (arith, l, many, wide)) ∙ ap (bit before) (omega arith));
-      holds = λ m l. stand_bit c b' a ys m stands' (omega (arith, l, long, wide)) ∙ ap Some (ap (λ z. get_or z m false) (bits_of_digits (length xs) value) ∙ from_at value 0 (8 * length xs) m (omega (arith, l, many, wide)) ∙ ap (bit value) (omega arith));
-      under = λ k l. ap (option_map (λ x. bit x (k % 8))) (now.below (k / 8) (omega (arith, l)));
-      over = λ k l. ap (option_map (λ x. bit x (k % 8))) (now.above (k / 8) (omega (arith, l, many, wide)));
-      present = kept_present b b' a (bytes_wide w) xs ys stands stands' many long (λ k l. now.below k (omega (arith, l))) (λ k l. now.above k (omega (arith, l, many)));
-      small = kept_small b b' a (bytes_wide w) ys stands' long (λ k l. now.below k (omega (arith, l))) (λ k l. now.above k (omega (arith, l, many))) small (digits_small (length xs) value) }
+      let found = read_stand c b a 0 (bytes_wide w) before e in
+      let xs = found.bytes in
+      let many = found.many in
+      let wide = eight w in
+      let start : a + 0 ≡ a = omega arith in
+      let stands : Stand c b a xs = subst (λ m. Stand c b m xs) start found.stand in
+      let bits : bits_from before 0 (8 * length xs) ≡ bits_of xs = bits_of_little xs before (stand_small b a xs small stands) found.value in
+      let b' = written_on b (c.place a) 0 (bytes_wide w) value in
+      let now : Written c b a 0 xs value b' = subst (λ n. Written c b a 0 xs value (written_on b (c.place a) 0 n value)) many (written c b a 0 xs value found.stand) in
+      let ys = digits (length xs) value in
+      let stands' : Stand c b' a ys = subst (λ m. Stand c b' m ys) start now.stand in
+      let long : length ys ≡ bytes_wide w = digits_many (length xs) value ∙ many in
+      record {
+        held = λ m l. stand_bit c b a xs m stands (omega (arith, l, many, wide)) ∙ ap Some (ap (λ z. get_or z m false) (sym bits) ∙ from_at before 0 (8 * length xs) m (omega (arith, l, many, wide)) ∙ ap (bit before) (omega arith));
+        holds = λ m l. stand_bit c b' a ys m stands' (omega (arith, l, long, wide)) ∙ ap Some (ap (λ z. get_or z m false) (bits_of_digits (length xs) value) ∙ from_at value 0 (8 * length xs) m (omega (arith, l, many, wide)) ∙ ap (bit value) (omega arith));
+        under = λ k l. ap (option_map (λ x. bit x (k % 8))) (now.below (k / 8) (omega (arith, l)));
+        over = λ k l. ap (option_map (λ x. bit x (k % 8))) (now.above (k / 8) (omega (arith, l, many, wide)));
+        present = kept_present b b' a (bytes_wide w) xs ys stands stands' many long (λ k l. now.below k (omega (arith, l))) (λ k l. now.above k (omega (arith, l, many)));
+        others = now.others;
+        small = kept_small b b' a (bytes_wide w) ys stands' long (λ k l. now.below k (omega (arith, l))) (λ k l. now.above k (omega (arith, l, many))) small (digits_small (length xs) value);
+      }

@@ -1,4 +1,5 @@
 pub mod Bits
 pub mod Covering
 pub mod Regions
+pub mod SpaceBits
 pub mod Units

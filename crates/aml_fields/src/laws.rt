@@ -1,7 +1,13 @@
 //! Laws of the definitions that the contracts cite, in the words of the subject. These functions do nothing.
-ghost use Rattle.std.specs.Prelude.{◌≡◌, ◌<◌, ◌≤◌, ◌+◌, ◌^◌, ℕ, List, slice_index};
+ghost use Rattle.std.specs.Prelude.{◌≡◌, ◌<◌, ◌≤◌, ◌+◌, ◌^◌, ℕ, List, Ok, slice_index};
 ghost use Rattle.ar_space.specs.declared.space.Width.{Width};
-ghost use Rattle.aml_fields.specs.Bits.{bits_from, bits_of, number_of, packed};
+ghost use Rattle.aml_fields.specs.Bits.{bits_from, bits_of, field_bits, number_of, packed};
+ghost use Rattle.aml_fields.specs.SpaceBits.{IsPlain, AreBytes, OthersAreSame, IsOutside, bit_of};
+ghost use Rattle.aml_fields.specs.Regions.{read_field, write_field};
+ghost use Rattle.aml_fields.specs.declared.region.Region.{Region};
+ghost use Rattle.aml_objects.specs.declared.entry.FieldUnit.{FieldUnit};
+ghost use Rattle.aml_objects.specs.declared.entry.UpdateRule.TheVariants.{Preserve};
+ghost use Rattle.ar_space.specs.Bytes.{Bytes, read_step, write_step};
 ghost use Rattle.aml_fields.specs.Units.{units_of};
 ghost use Rattle.aml_fields.specs.Covering.{Cover};
 
@@ -18,4 +24,21 @@ pub fn a_number_is_that_of_its_bits()
 /// Bytes are what their bits are packed into.
 pub fn bytes_are_their_bits_packed()
     ensures { (bytes : List ℕ) → ((i : ℕ) → slice_index bytes i < 256) → packed (bits_of bytes) ≡ bytes }
+{}
+
+/// A write of a field of SystemMemory or SystemIO, with the update rule Preserve, over a space of bytes: where it isn't
+/// refused, every bit outside the field stays as it was, and so do the other address spaces.
+pub fn a_write_that_preserves_leaves_other_bits()
+    ensures { (region : Region) (field : FieldUnit) (source : List ℕ) (before after : Bytes)
+        → IsPlain region.space → field.update ≡ Preserve → AreBytes region.space before
+        → write_field read_step write_step region field source before ≡ (Ok tt, after)
+        → OthersAreSame region.space before after × ((k : ℕ) → IsOutside region field k → bit_of region.space after k ≡ bit_of region.space before k) }
+{}
+
+/// A read after such a write gives the bits that were written.
+pub fn a_field_is_read_as_it_was_written()
+    ensures { (region : Region) (field : FieldUnit) (source : List ℕ) (before after : Bytes)
+        → IsPlain region.space → field.update ≡ Preserve → AreBytes region.space before
+        → write_field read_step write_step region field source before ≡ (Ok tt, after)
+        → read_field read_step region field after ≡ (Ok (packed (field_bits source 0 field.bits)), after) }
 {}
