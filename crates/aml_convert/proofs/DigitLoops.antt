@@ -1,13 +1,13 @@
 -- Digits one by one.
-use Rattle.std.proofs.Common.{◌≡◌, ℕ, suc, ◌+◌, ◌*◌, ◌/◌, ◌%◌, ◌^◌, ◌<◌, ◌≤◌, List, [], ◌∷◌, length, drop, slice_index, Option, Some, None, refl, ap, sym, ◌∙◌, arith, drop-cons, add-one}
+use Rattle.std.proofs.Common.{◌≡◌, ℕ, suc, ◌+◌, ◌*◌, ◌/◌, ◌%◌, ◌^◌, ◌<◌, ◌≤◌, List, [], ◌∷◌, length, drop, slice_index, Some, None, refl, ap, sym, ◌∙◌, drop-cons, add-one}
 use Rattle.std.proofs.Math.Nat.{mod-mod, mod-add-mod, mod-add-div', add-mul, mul_right_comm, add-mul-mod_self_right}
-use Rattle.std.specs.Int.Digits.{number_from_digits_after, number_from_digits}
+use Rattle.std.specs.Int.Digits.{number_from_digits_after}
 use Rattle.std.proofs.Math.ListN.{drop_of_length-le}
 use Rattle.ar_space.specs.declared.integer_width.IntegerWidth.{IntegerWidth}
 use Rattle.ar_space.specs.declared.integer_width.IntegerWidth.TheVariants.{Bits32, Bits64}
 use Rattle.aml_convert.specs.declared.digits.Base.{Base}
 use Rattle.aml_convert.specs.Integers.{bits_of, truncated}
-use Rattle.aml_convert.specs.Digits.{base_of, digit_value, digit_and, leading_digits, leading_number}
+use Rattle.aml_convert.specs.Digits.{base_of, digit_value, leading_digits}
 
 mod_times : (m n b : ℕ) → (n % m * b) % m ≡ (n * b) % m
 mod_times m n b = sym (ap (λ (x : ℕ). (x * b) % m) (sym (mod-add-div' n m)) ∙ ap (λ (x : ℕ). x % m) (add-mul (n % m) (n / m * m) b ∙ ap (λ (x : ℕ). n % m * b + x) (mul_right_comm (n / m) m b)) ∙ add-mul-mod_self_right (n % m * b) (n / m * b) m)

@@ -3,7 +3,7 @@ use Rattle.std.proofs.Common.{◌≡◌, ◌≤◌, ◌<◌, ◌-◌, ◌+◌, �
 use Rattle.std.proofs.lemmas.Nat.{leading_top}
 use Rattle.std.proofs.lemmas.Nat.Bits.{bit_at-trailing_zeros}
 use Rattle.std.specs.Int.{bit_at, w64}
-use Rattle.std.specs.Int.Count.{count_leading_zeros, count_trailing_zeros}
+use Rattle.std.specs.Int.Count.{count_trailing_zeros}
 use Rattle.aml_convert.specs.Operators.{highest_set_bit, lowest_set_bit}
 
 pub highest : (n : ℕ) → 0 < n → n < 2 ^ 64 → (2 ^ (highest_set_bit n - 1) ≤ n) × (n < 2 ^ highest_set_bit n)

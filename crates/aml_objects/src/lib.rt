@@ -12,11 +12,11 @@ mod object;
 mod tests;
 mod value;
 
+pub use content::Content;
 pub use entry::{
     BodyPlace, BufferField, Entry, FieldSource, FieldUnit, Method, MethodBody, NamedObject,
     OperationRegion, UpdateRule,
 };
-pub use content::Content;
 pub use heap::Heap;
 pub use object::{Element, Elements, Object, Octets};
 pub use value::{Reference, Slot, Value};

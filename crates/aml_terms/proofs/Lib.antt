@@ -1,3 +1,11 @@
 pub mod Appended
 pub mod Numbers
+pub mod SpelledNames
+pub mod SpelledNumbers
+pub mod SpelledOperands
+pub mod SpelledParts
+pub mod SpelledRowTerms
+pub mod SpelledRows
+pub mod SpelledTerms
+pub mod Takes
 pub mod TermOperands

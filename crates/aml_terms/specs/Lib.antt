@@ -9,6 +9,7 @@ pub mod Opcodes
 pub mod Operands
 pub mod PartTree
 pub mod Shape
+pub mod Spelling
 pub mod State
 pub mod Steps
 pub mod Table

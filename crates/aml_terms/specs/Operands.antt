@@ -5,6 +5,8 @@ use Rattle.aml_path.specs.declared.segment.Seg.{Seg}
 use Rattle.aml_path.specs.declared.name.Prefix.TheVariants.{Parents}
 use Rattle.aml_path.specs.Paths.{Name, resolved}
 use Rattle.aml_terms.specs.declared.opcode.TermCode.TheVariants.{NamedField, ReservedField, AccessField, ExtendedAccessField}
+use Rattle.aml_terms.specs.declared.kinds.OperandKind.{OperandKind}
+use Rattle.aml_terms.specs.declared.kinds.OperandKind.TheVariants as kinds
 use Rattle.aml_terms.specs.declared.context.Context.{Context}
 use Rattle.aml_terms.specs.declared.context.Earlier.{Earlier}
 use Rattle.aml_terms.specs.Arities.{found, or_path, arity_of}
@@ -25,6 +27,19 @@ declare context path n external s = (Ok tt, if context.body then s else adding p
 abbrev pub declare_earlier : Context → Option (List Seg) → ℕ → Bool → Step (Unit {0})
 declare_earlier context None n external = give tt
 declare_earlier context (Some path) n external = declare context path n external
+
+-- the operands that hold terms
+abbrev pub holds_terms : OperandKind → Bool
+holds_terms kinds.TermArg = true
+holds_terms kinds.DataObject = true
+holds_terms kinds.SuperName = true
+holds_terms kinds.Target = true
+holds_terms kinds.SimpleName = true
+holds_terms kinds.TermList = true
+holds_terms kinds.LoopTermList = true
+holds_terms kinds.PackageElementList = true
+holds_terms kinds.FieldList = true
+holds_terms _ = false
 
 -- ---- names
 

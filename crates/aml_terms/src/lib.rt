@@ -25,7 +25,7 @@ mod terms;
 pub use arities::{Arities, Arity};
 pub use marks::Mark;
 pub use opcode::{Opcode, TermCode};
-pub use parse::{one_reading, parse_list, parse_table};
+pub use parse::{one_reading, parse_list, parse_table, read_as_spelled};
 pub use term::{Operand, Term};
 pub use term_part::TermPart;
 pub use term_reader::{Item, OperandView, TermReader};

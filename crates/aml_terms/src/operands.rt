@@ -1,12 +1,15 @@
 //! Operands that hold no terms.
-ghost use Rattle.std.specs.Prelude.{◌≡◌, ◌<◌, ◌≤◌, ◌∷◌, ◌++◌, [], length, OnOk, Some};
+ghost use Rattle.std.specs.Prelude.{◌≡◌, ◌<◌, ◌≤◌, ◌∷◌, ◌++◌, [], false, length, OnOk, Some};
 ghost use Rattle.ar_space.specs.Outcome.{Answers, seen};
 ghost use Rattle.ar_space.specs.Change.{Does};
 ghost use Rattle.aml_terms.specs.DeclaredNames.{begins_outside, allowed_path, declared_path};
 ghost use Rattle.aml_terms.specs.Operands.{declare, declare_earlier, name_operand, scope_name, alias_source, external_name, declared_name, integer_operand, method_flags, object_type, argument_count, text_operand, bytes_operand};
+ghost use Rattle.aml_terms.specs.Grammar.{Inner, operand};
+ghost use Rattle.aml_terms.specs.Operands.{holds_terms};
 ghost use Rattle.aml_terms.specs.View.{part_view};
 
 use crate::context::{Context, Earlier};
+use crate::kinds::OperandKind;
 use crate::names::name_string;
 use crate::reader::Reader;
 use crate::term::Operand;
@@ -261,4 +264,47 @@ pub(crate) fn bytes_operand(alloc: Global, reader: &mut Reader<'_>) -> Result<Op
     ensures kept { OnOk result (length reader.new.rest ≤ length reader.old.rest) }
 {
     Ok(Operand::Bytes(reader.all_bytes(alloc)?))
+}
+
+// ---- by kind
+
+/// An operand of a kind that holds no terms.
+#[tactic(auto, using(crate::specs::Levels::leveling), unfolding(crate::specs::Grammar::operand))]
+pub(crate) fn operand(
+    alloc: Global,
+    reader: &mut Reader<'_>,
+    scope: &Path,
+    context: Context,
+    start: usize,
+    kind: OperandKind,
+    earlier: &mut Earlier,
+) -> Result<Operand, Refusal>
+    requires { holds_terms kind ≡ false }
+    ensures reads { (inner_term : Inner) → Does (seen (λ x. (part_view x, earlier.new)) result) reader.new
+        (operand inner_term scope.now context start kind earlier.old) reader.old }
+    ensures kept { OnOk result (length reader.new.rest ≤ length reader.old.rest) }
+{
+    match kind {
+        OperandKind::NameString => name_operand(alloc, reader),
+        OperandKind::ScopeName => scope_name(alloc, reader, scope, earlier),
+        OperandKind::AliasSource => alias_source(alloc, reader, scope, earlier),
+        OperandKind::AliasName => {
+            let count = earlier.count;
+            declared_name(alloc, reader, scope, context, start, count, earlier)
+        }
+        OperandKind::DeclaredName => declared_name(
+            alloc, reader, scope, context, start, 0, earlier,
+        ),
+        OperandKind::MethodFlags => method_flags(alloc, reader, context, earlier),
+        OperandKind::ExternalName => external_name(alloc, reader, scope, earlier),
+        OperandKind::ObjectType => object_type(reader, earlier),
+        OperandKind::ArgumentCount => argument_count(alloc, reader, context, earlier),
+        OperandKind::ByteData => integer_operand(reader, 1),
+        OperandKind::WordData => integer_operand(reader, 2),
+        OperandKind::DWordData => integer_operand(reader, 4),
+        OperandKind::QWordData => integer_operand(reader, 8),
+        OperandKind::AsciiCharList => text_operand(alloc, reader),
+        OperandKind::ByteList => bytes_operand(alloc, reader),
+        _ => Ok(Operand::Null),
+    }
 }

@@ -1,5 +1,5 @@
 //! Whole lists of terms.
-ghost use Rattle.std.specs.Prelude.{◌≡◌, List, Bool, ℕ, map, ◌⊎◌};
+ghost use Rattle.std.specs.Prelude.{◌≡◌, List, Bool, false, ℕ, Ok, map, ◌⊎◌};
 ghost use Rattle.ar_space.specs.declared.refusal.Refusal.{Refusal};
 ghost use Rattle.ar_space.specs.Outcome.{Answers, seen};
 ghost use Rattle.aml_path.specs.declared.segment.Seg.{Seg};
@@ -7,6 +7,7 @@ ghost use Rattle.aml_terms.specs.declared.arities.Arity.{Arity};
 ghost use Rattle.aml_terms.specs.Tree.{Tree};
 ghost use Rattle.aml_terms.specs.View.{tree_view};
 ghost use Rattle.aml_terms.specs.Grammar.{reading, table_reading, Reads, Fails};
+ghost use Rattle.aml_terms.specs.Spelling.{IsSpelled};
 
 use crate::arities::Arities;
 use crate::context::{Context, Position};
@@ -94,4 +95,16 @@ pub fn one_reading()
         Fails bs scope body known q → Fails bs scope body known r → q ≡ r }
     ensures never_both { (bs : List ℕ) (scope : List Seg) (body : Bool) (known : List Arity) (ts : List Tree) (r : Refusal) →
         Reads bs scope body known ts → Fails bs scope body known r → ⊥ }
+{}
+
+/// What is read is spelled so: the bytes of a list or a table are the spellings of its terms, one after another, and
+/// nothing else.
+///
+/// A term is spelled by its code, and then by each of its operands by its kind, in the order of the table of terms
+/// (ACPI 6.5, 20.2). A package length and a name have several spellings, and any of them is read.
+pub fn read_as_spelled()
+    ensures list { (bs : List ℕ) (scope : List Seg) (body : Bool) (known : List Arity) (ts : List Tree) →
+        Reads bs scope body known ts → IsSpelled body ts bs }
+    ensures table { (bs : List ℕ) (known : List Arity) (ts : List Tree) (after : List Arity) →
+        table_reading bs known ≡ Ok (ts, after) → IsSpelled false ts bs }
 {}

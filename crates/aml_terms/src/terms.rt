@@ -307,26 +307,6 @@ fn operand(
     ensures kept { OnOk result (length reader.new.rest ≤ length reader.old.rest) }
 {
     match kind {
-        OperandKind::Nothing => Ok(Operand::Null),
-        OperandKind::NameString => leaf::name_operand(alloc, reader),
-        OperandKind::ScopeName => leaf::scope_name(alloc, reader, scope, earlier),
-        OperandKind::AliasSource => leaf::alias_source(alloc, reader, scope, earlier),
-        OperandKind::AliasName => {
-            let count = earlier.count;
-            leaf::declared_name(alloc, reader, scope, context, start, count, earlier)
-        }
-        OperandKind::DeclaredName => {
-            leaf::declared_name(alloc, reader, scope, context, start, 0, earlier)
-        }
-        OperandKind::MethodFlags => leaf::method_flags(alloc, reader, context, earlier),
-        OperandKind::ExternalName => leaf::external_name(alloc, reader, scope, earlier),
-        OperandKind::ObjectType => leaf::object_type(reader, earlier),
-        OperandKind::ArgumentCount => leaf::argument_count(alloc, reader, context, earlier),
-        OperandKind::ByteData => leaf::integer_operand(reader, 1),
-        OperandKind::WordData => leaf::integer_operand(reader, 2),
-        OperandKind::DWordData => leaf::integer_operand(reader, 4),
-        OperandKind::QWordData => leaf::integer_operand(reader, 8),
-        OperandKind::AsciiCharList => leaf::text_operand(alloc, reader),
         OperandKind::TermArg => {
             term_operand(alloc, reader, levels, Position::TermArg, scope, context)
         }
@@ -336,42 +316,15 @@ fn operand(
         OperandKind::SuperName => super_name(alloc, reader, levels, scope, context),
         OperandKind::Target => target(alloc, reader, levels, scope, context),
         OperandKind::SimpleName => simple_name(alloc, reader, levels, scope, context),
-        OperandKind::TermList => {
-            list_under(
-                alloc,
-                reader,
-                levels,
-                Position::ListItem,
-                scope,
-                earlier,
-                context,
-            )
-        }
+        OperandKind::TermList => term_list(alloc, reader, levels, scope, earlier, context),
         OperandKind::LoopTermList => {
-            let inside = in_loop(context);
-            list_under(
-                alloc,
-                reader,
-                levels,
-                Position::ListItem,
-                scope,
-                earlier,
-                inside,
-            )
+            term_list(alloc, reader, levels, scope, earlier, in_loop(context))
         }
-        OperandKind::ByteList => leaf::bytes_operand(alloc, reader),
         OperandKind::PackageElementList => {
-            list_under(
-                alloc,
-                reader,
-                levels,
-                Position::PackageElement,
-                scope,
-                earlier,
-                context,
-            )
+            element_list(alloc, reader, levels, scope, earlier, context)
         }
         OperandKind::FieldList => fields_operand(alloc, reader, levels, scope, context),
+        _ => leaf::operand(alloc, reader, scope, context, start, kind, earlier),
     }
 }
 
@@ -389,6 +342,56 @@ pub(crate) fn term_operand(
     ensures kept { OnOk result (length reader.new.rest ≤ length reader.old.rest) }
 {
     Ok(Operand::Term(term(alloc, reader, levels, position, scope, context)?))
+}
+
+/// The terms of a term, under the path of its name where it has one.
+#[cycle(parse)]
+#[tactic(auto, using(crate::specs::Levels::leveling))]
+fn term_list(
+    alloc: Global,
+    reader: &mut Reader<'_>,
+    levels: usize,
+    scope: &Path,
+    earlier: &Earlier,
+    context: Context,
+) -> Result<Operand, Refusal>
+    ensures reads { Does (seen part_view result) reader.new (list_operand (term_at by_arities levels) positions.ListItem (scope_of scope.now earlier.now.path) context) reader.old }
+    ensures kept { OnOk result (length reader.new.rest ≤ length reader.old.rest) }
+{
+    list_under(
+        alloc,
+        reader,
+        levels,
+        Position::ListItem,
+        scope,
+        earlier,
+        context,
+    )
+}
+
+/// The elements of a package.
+#[cycle(parse)]
+#[tactic(auto, using(crate::specs::Levels::leveling))]
+fn element_list(
+    alloc: Global,
+    reader: &mut Reader<'_>,
+    levels: usize,
+    scope: &Path,
+    earlier: &Earlier,
+    context: Context,
+) -> Result<Operand, Refusal>
+    ensures reads { Does (seen part_view result) reader.new (list_operand (term_at by_arities levels) positions.PackageElement (scope_of scope.now earlier.now.path) context) reader.old }
+    ensures kept { OnOk result (length reader.new.rest ≤ length reader.old.rest) }
+{
+    list_under(
+        alloc,
+        reader,
+        levels,
+        Position::PackageElement,
+        scope,
+        earlier,
+        context,
+    )
 }
 
 /// The list of a term, under the path of its name where it has one.

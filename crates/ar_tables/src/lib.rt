@@ -9,8 +9,7 @@ mod root_table;
 mod table;
 mod tables;
 
-pub use ar_space::ByteMap as Image;
-pub use ar_space::IntegerWidth;
+pub use ar_space::{ByteMap as Image, IntegerWidth};
 pub use fadt::Fadt;
 pub use madt::{Madt, MadtEntries, MadtEntry, madt_entries};
 pub use table::Table;

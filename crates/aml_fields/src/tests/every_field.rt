@@ -17,7 +17,7 @@ const REGION: Region = Region {
 
 /// What stands in the region before each write.
 fn before(place: usize) -> u8 {
-    ((place * 37 + 11) % 256) as u8
+    (place.wrapping_mul(37).wrapping_add(11) % 256) as u8
 }
 
 /// What is written into each field.
@@ -27,16 +27,23 @@ fn is_set(byte: u8, bit: usize) -> bool {
     (byte >> (bit % 8)) & 1 == 1
 }
 
+/// Whether a bit of what is written is set.
+fn is_written(bit: usize) -> bool {
+    match SOURCE.get(bit / 8) {
+        None => false,
+        Some(byte) => is_set(*byte, bit),
+    }
+}
+
 /// Whether a bit of the region is set after a write, by the words of the specification.
 fn is_set_after(field: FieldUnit, bit: usize) -> bool {
     let first = field.bit_offset as usize;
-    let end = first + field.bits as usize;
+    let end = first.saturating_add(field.bits as usize);
     if bit >= first && bit < end {
-        let n = bit - first;
-        return is_set(SOURCE[n / 8], n);
+        return is_written(bit - first);
     }
     let size = usize::from(field.access.bits());
-    let is_in_a_unit = bit / size >= first / size && bit / size <= (end - 1) / size;
+    let is_in_a_unit = bit / size >= first / size && bit / size <= end.saturating_sub(1) / size;
     match field.update {
         UpdateRule::WriteAsOnes if is_in_a_unit => true,
         UpdateRule::WriteAsZeros if is_in_a_unit => false,
@@ -69,9 +76,12 @@ fn try_field(
         }
     }
     let read = read_field(alloc, space, REGION, field)?;
-    for n in 0..8 * read.len() {
-        let want = n < field.bits as usize && is_set(SOURCE[n / 8], n);
-        assert!(rt; is_set(read[n / 8], n) == want);
+    for (place, byte) in read.iter().enumerate() {
+        for n in 0..8 {
+            let bit = place.saturating_mul(8).saturating_add(n);
+            let want = bit < field.bits as usize && is_written(bit);
+            assert!(rt; is_set(*byte, n) == want);
+        }
     }
     Ok(())
 }

@@ -54,6 +54,12 @@ decreases-if_else::else_term l = 16 * l.levels + 5
 abbrev pub decreases-terms::list_under : goal.decreases-terms::list_under
 decreases-terms::list_under l = 16 * l.levels + 4
 
+abbrev pub decreases-terms::term_list : goal.decreases-terms::term_list
+decreases-terms::term_list l = 16 * l.levels + 5
+
+abbrev pub decreases-terms::element_list : goal.decreases-terms::element_list
+decreases-terms::element_list l = 16 * l.levels + 5
+
 abbrev pub decreases-terms::named_term : goal.decreases-terms::named_term
 decreases-terms::named_term l = 16 * l.levels + 4
 

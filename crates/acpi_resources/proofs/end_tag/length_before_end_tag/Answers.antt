@@ -1,5 +1,5 @@
 -- Each item adds its bytes.
-use Rattle.std.proofs.Common.{◌≡◌, ◌==◌, ℕ, true, false, sym, ◌∙◌, ap, arith, rules, refl, length}
+use Rattle.std.proofs.Common.{◌≡◌, sym, ◌∙◌, ap, arith, rules, refl, length}
 use Rattle.acpi_resources.proofs.BeforeEnd.{at_start, none_left, at_end_tag, at_item, shorter, end_tag_length}
 use Rattle.acpi_resources.proofs.end_tag.length_before_end_tag.Goals as goal
 
@@ -26,6 +26,7 @@ pub items-smaller : goal.items-smaller
 items-smaller c = omega (arith, shorter c.items.rest.now c.in_ok-item.item c.in_ok-item.behind.now c.in_ok-item.ensures)
 
 pub items-preserved : goal.items-preserved
-items-preserved c =
-    (omega (arith, c.items.invariant.0, shorter c.items.rest.now c.in_ok-item.item c.in_ok-item.behind.now c.in_ok-item.ensures),
-      c.items.invariant.1 ∙ at_item c.args.bytes.now c.items.rest.now c.in_ok-item.behind.now c.in_ok-item.item c.items.invariant.0 c.in_ok-item.ensures (search rules))
+items-preserved c = (
+  omega (arith, c.items.invariant.0, shorter c.items.rest.now c.in_ok-item.item c.in_ok-item.behind.now c.in_ok-item.ensures),
+  c.items.invariant.1 ∙ at_item c.args.bytes.now c.items.rest.now c.in_ok-item.behind.now c.in_ok-item.item c.items.invariant.0 c.in_ok-item.ensures (search rules),
+)

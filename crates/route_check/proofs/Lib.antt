@@ -1,0 +1,5 @@
+pub mod SamePath
+pub mod Loops
+pub mod Sums
+pub mod Proved
+pub mod Claimed

@@ -1,0 +1,6 @@
+use Rattle.std.proofs.Common.{take}
+use Rattle.std.specs.Prelude.{Contains, All}
+use Rattle.route_check.proofs.bound.are_inside.Given as goal
+
+abbrev pub invariant-loop-link : goal.invariant-loop-link
+invariant-loop-link l = All (λ x. Contains l.set x.path → All (Contains l.interrupts) x.offers) (take l.link-index l.links)

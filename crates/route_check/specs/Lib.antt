@@ -1,0 +1,4 @@
+pub mod Claims
+pub mod Valid
+pub mod Flaws
+pub mod Claimed

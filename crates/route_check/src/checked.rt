@@ -1,0 +1,49 @@
+//! The tests of a claim, one after the other.
+ghost use Rattle.std.specs.Prelude.{◌↔◌, IsOk, IfErr, OnOk};
+ghost use Rattle.route_check.specs.Valid.{Valid, IsProved};
+ghost use Rattle.route_check.specs.Flaws.{IsFirstFlaw};
+
+use crate::bound::{has_interrupt, is_crowded, offers_inside};
+use crate::claim::Claim;
+use crate::flaw::Flaw;
+use crate::known::none_missing;
+use crate::loads::is_busiest_right;
+use crate::offered::all_offered;
+use crate::repeated::none_repeated;
+
+/// Whether a claim is valid, or else its first flaw. It takes no memory.
+///
+/// The tests come in this order: `Repeated`, `LinkMissing`, `NotOffered`, `BusiestWrong`, and where the busiest
+/// interrupt serves a source, `SetEmpty`, `OfferOutsideSet`, `CountTooSmall`. Of a valid claim it is proved that the
+/// gives are an assignment of its links, that its busiest is theirs, and that no assignment has a less busy one.
+pub fn check(claim: &Claim) -> Result<(), Flaw>
+    ensures ok { IsOk result ↔ Valid claim.now }
+    ensures flaw { IfErr result (λ f. IsFirstFlaw claim.now f) }
+    ensures proved { OnOk result (IsProved claim.now) }
+{
+    if !none_repeated(claim) {
+        return Err(Flaw::Repeated);
+    }
+    if !none_missing(claim) {
+        return Err(Flaw::LinkMissing);
+    }
+    if !all_offered(claim) {
+        return Err(Flaw::NotOffered);
+    }
+    if !is_busiest_right(claim) {
+        return Err(Flaw::BusiestWrong);
+    }
+    if claim.busiest() == 0 {
+        return Ok(());
+    }
+    if !has_interrupt(claim) {
+        return Err(Flaw::SetEmpty);
+    }
+    if !offers_inside(claim) {
+        return Err(Flaw::OfferOutsideSet);
+    }
+    if !is_crowded(claim) {
+        return Err(Flaw::CountTooSmall);
+    }
+    Ok(())
+}

@@ -1,0 +1,20 @@
+//! Checks a claim on the routing of interrupts: that its links are given interrupts which they offer, that its busiest
+//! interrupt is theirs, and that no other assignment has a less busy one. It trusts nothing of whoever wrote the claim.
+#![tactic(auto)]
+
+mod bound;
+mod checked;
+mod claim;
+mod flaw;
+mod known;
+pub mod laws;
+mod loads;
+mod offered;
+mod paths;
+mod repeated;
+#[cfg(test)]
+mod tests;
+
+pub use checked::check;
+pub use claim::{Bound, Claim};
+pub use flaw::Flaw;

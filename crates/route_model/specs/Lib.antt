@@ -1,0 +1,4 @@
+pub mod Links
+pub mod Routing
+pub mod Placement
+pub mod Bound

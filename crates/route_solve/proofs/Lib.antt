@@ -1,0 +1,12 @@
+pub mod Exchange
+pub mod Parts
+pub mod Spreads
+pub mod Shifts
+pub mod Firsts
+pub mod Least
+pub mod Sets
+pub mod Filtered
+pub mod Showing
+pub mod Ascending
+pub mod PathOrder
+pub mod Unique

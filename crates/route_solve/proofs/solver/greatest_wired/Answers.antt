@@ -1,0 +1,39 @@
+use Rattle.std.proofs.Common.{◌≡◌, ◌≤◌, ◌<◌, get_or, subst, arith, inl, inr, below_more}
+use Rattle.std.specs.Prelude.{◌⊎◌}
+use Rattle.route_model.specs.Routing.{wired_to}
+use Rattle.route_model.proofs.Hall.{zero_or_more}
+use Rattle.route_model.proofs.Loads.{wired_somewhere}
+use Rattle.route_solve.proofs.solver.greatest_wired.Goals as goal
+use Rattle.route_solve.proofs.solver.greatest_wired.Goals.{then-count-greatest, else-count-greatest}
+
+pub loop-w-preserved : goal.loop-w-preserved
+loop-w-preserved c =
+    let inv = c.loop-w.invariant in
+    let i = (get_or c.args.wired.now c.loop-w.w-index (0, 0)).0 in
+    let value = c.wired_sources-count.ensures.value in
+    let small = c.wired_sources-count.ensures.small in
+    elim c.if-count-greatest.branch [
+      | then-count-greatest w ↦
+          let more = w.if-count-greatest.true in
+          rw w.greatest-is (record {
+            above = below_more (λ k. wired_to c.args.wired.now (get_or c.args.wired.now k (0, 0)).0 ≤ c.wired_sources-count.result) c.loop-w.w-index (λ k b. let h = inv.above k b in omega arith) (omega arith);
+            reached = inr (i, omega arith);
+            small = small;
+          })
+      | else-count-greatest w ↦
+          let more = w.if-count-greatest.false in
+          rw w.greatest-is (record {
+            above = below_more (λ k. wired_to c.args.wired.now (get_or c.args.wired.now k (0, 0)).0 ≤ c.loop-w.greatest) c.loop-w.w-index inv.above (omega arith);
+            reached = inv.reached;
+            small = inv.small;
+          })
+    ]
+
+pub returns-clause-above : goal.returns-clause-above
+returns-clause-above c i = go (zero_or_more (wired_to c.args.wired.now i))
+  where
+    go : (wired_to c.args.wired.now i ≡ 0) ⊎ (0 < wired_to c.args.wired.now i) → wired_to c.args.wired.now i ≤ c.loop-w.greatest
+    go (inl e) = omega arith
+    go (inr more) =
+        let k = wired_somewhere c.args.wired.now i more in
+        subst (λ j. wired_to c.args.wired.now j ≤ c.loop-w.greatest) k.2 (c.loop-w.invariant.above k.0 (omega (arith, k.1)))

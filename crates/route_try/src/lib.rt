@@ -1,0 +1,9 @@
+//! The first least assignment of a problem, found by trying all assignments: a second solver, to compare the first with.
+#![tactic(auto)]
+
+mod loads;
+#[cfg(test)]
+mod tests;
+mod trial;
+
+pub use trial::first_least;
