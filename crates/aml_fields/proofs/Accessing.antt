@@ -1,5 +1,5 @@
 -- Reads and writes of a field, unit by unit.
-use Rattle.std.proofs.Common.{◌≡◌, ◌<◌, ◌≤◌, ℕ, zero, suc, ◌+◌, ◌-◌, ◌*◌, Bool, List, [], ◌∷◌, ◌++◌, length, take, drop, replicate, slice_index, Ok, Err, Result, IsErr, IsErrAnd, refl, ap, sym, ◌∙◌, subst, arith, length-append}
+use Rattle.std.proofs.Common.{◌≡◌, ◌<◌, ◌≤◌, ℕ, ◌+◌, Bool, List, [], ◌∷◌, ◌++◌, length, take, drop, replicate, slice_index, Ok, Err, Result, IsErr, IsErrAnd, refl, ap, sym, ◌∙◌, subst, arith, length-append}
 use Rattle.std.proofs.Math.Seq.{take-append_seam, drop-append-add}
 use Rattle.std.proofs.lemmas.List.{append_assoc, drop-drop, length-replicate, append-nil}
 use Rattle.ar_space.specs.declared.space.Width.{Width}
@@ -8,16 +8,16 @@ use Rattle.ar_space.specs.declared.space.Place.{Place}
 use Rattle.ar_space.specs.declared.refusal.SpaceFault.{SpaceFault}
 use Rattle.ar_space.specs.Accesses.{bit_count}
 use Rattle.ar_space.specs.Outcome.{Outcome, seen}
-use Rattle.ar_space.specs.Change.{Change, Does, Same, give, go_on, ◌>>=◌, ◌>>◌, does_same, does_give, does_err, same_ok}
+use Rattle.ar_space.specs.Change.{Change, Does, Same, give, go_on, ◌>>=◌, does_same, does_give, does_err, same_ok}
 use Rattle.aml_objects.specs.declared.entry.FieldUnit.{FieldUnit}
 use Rattle.aml_fields.specs.declared.region.Region.{Region}
 use Rattle.aml_fields.specs.declared.field_units.Unit.{Unit as Access}
 use Rattle.aml_fields.specs.Bits.{bits_from, bits_of, bytes_within, byte_count, extended, packed, put}
 use Rattle.aml_fields.specs.Units.{units_of}
-use Rattle.aml_fields.specs.Covering.{IsUnit, Cover}
+use Rattle.aml_fields.specs.Covering.{Cover}
 use Rattle.aml_fields.specs.Regions.{read_unit, read_units, read_field, write_unit, write_units, write_field}
 use Rattle.aml_fields.proofs.Covers.{units_cover}
-use Rattle.aml_fields.proofs.Numbers.{AreZeros, zeros_behind, zero_bytes, drop_zeros, known_by_bits, small_zeros}
+use Rattle.aml_fields.proofs.Numbers.{zeros_behind, zero_bytes, drop_zeros, known_by_bits, small_zeros}
 use Rattle.aml_fields.proofs.Putting.{length_extended}
 
 narrow : (w : Width) → bit_count w ≤ 64

@@ -1,11 +1,10 @@
 -- What the write of a field does to the bits of an address space.
-use Rattle.std.proofs.Common.{◌≡◌, ◌<◌, ◌≤◌, ℕ, zero, suc, ◌+◌, ◌-◌, ◌*◌, ◌%◌, Bool, true, false, List, [], ◌∷◌, ◌++◌, length, drop, get_or, Option, Some, Ok, ◌⊎◌, inl, inr, refl, ap, sym, ◌∙◌, subst, arith, get_or-drop}
+use Rattle.std.proofs.Common.{◌≡◌, ◌<◌, ◌≤◌, ℕ, ◌+◌, ◌-◌, ◌*◌, Bool, false, List, [], ◌∷◌, length, drop, get_or, Option, Some, Ok, ◌⊎◌, inl, inr, ap, sym, ◌∙◌, subst, arith, get_or-drop}
 use Rattle.std.specs.Option.{is_some}
 use Rattle.std.proofs.lemmas.Bool.{cases_lt}
 use Rattle.ar_space.specs.declared.space.Place.{Place}
 use Rattle.ar_space.specs.Accesses.{byte_count as bytes_wide, bit_count}
-use Rattle.ar_space.specs.Outcome.{Outcome}
-use Rattle.ar_space.specs.Change.{settle, give, ◌>>=◌, ◌>>◌}
+use Rattle.ar_space.specs.Change.{settle, give}
 use Rattle.ar_space.specs.Bytes.{Bytes, number_on, written_on, read_step, write_step}
 use Rattle.aml_objects.specs.declared.entry.FieldUnit.{FieldUnit}
 use Rattle.aml_objects.specs.declared.entry.UpdateRule.TheVariants.{Preserve}
@@ -13,12 +12,12 @@ use Rattle.aml_fields.specs.declared.region.Region.{Region}
 use Rattle.aml_fields.specs.declared.field_units.Unit.{Unit as Access}
 use Rattle.aml_fields.specs.Bits.{bit, bits_from, bits_of, number_of, put, field_bits, rest_of_unit, merged}
 use Rattle.aml_fields.specs.Covering.{IsUnit, Cover}
-use Rattle.aml_fields.specs.Regions.{unit_place, write_access, kept, write_unit, write_units}
+use Rattle.aml_fields.specs.Regions.{write_unit, write_units}
 use Rattle.aml_fields.proofs.BitLists.{length_from, from_at}
 use Rattle.aml_fields.proofs.Putting.{length_extended}
 use Rattle.aml_fields.proofs.Cells.{Cells}
 use Rattle.aml_fields.proofs.SpaceBits.{space_bit, bits_again, put_before, put_inside, put_behind, length_put}
-use Rattle.aml_fields.proofs.UnitWrites.{Steps, steps, IsOf, place_is, kept_is, Replaced, replaced_by, Small, Swapped, swapped, extended_at, narrow}
+use Rattle.aml_fields.proofs.UnitWrites.{steps, IsOf, place_is, kept_is, replaced_by, Small, Swapped, swapped, extended_at, narrow}
 
 -- the bits of a source from one on stand in an address space from one on
 pub record Wrote (c : Cells) (from done count : ℕ) (source : List ℕ) (b b' : Bytes) : Type 0 where

@@ -1,5 +1,5 @@
 -- Bits put in place of others, one by one.
-use Rattle.std.proofs.Common.{◌≡◌, ℕ, zero, suc, ◌+◌, ◌-◌, ◌<◌, ◌≤◌, Bool, true, false, not, List, [], ◌∷◌, ◌++◌, length, take, drop, replicate, get_or, set, refl, ap, sym, ◌∙◌, subst, arith, length-append, drop-cons, get_or-drop}
+use Rattle.std.proofs.Common.{◌≡◌, ℕ, zero, suc, ◌+◌, ◌-◌, ◌<◌, Bool, false, List, [], ◌∷◌, ◌++◌, length, take, drop, replicate, get_or, set, refl, ap, sym, ◌∙◌, arith, length-append, drop-cons}
 use Rattle.std.proofs.lemmas.List.{set-append_right, append_assoc, take-append-drop, length-take-le, append-nil}
 use Rattle.aml_fields.specs.Bits.{extended, put}
 

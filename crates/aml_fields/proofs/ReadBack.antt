@@ -1,13 +1,11 @@
 -- What a field is read as after it was written.
-use Rattle.std.proofs.Common.{◌≡◌, ◌<◌, ◌≤◌, ℕ, zero, suc, ◌+◌, ◌-◌, ◌*◌, Bool, true, false, List, [], ◌∷◌, ◌++◌, length, drop, get_or, slice_index, Option, Some, None, Ok, refl, ap, sym, ◌∙◌, subst, arith, get_or-drop, ext_get_or}
+use Rattle.std.proofs.Common.{◌≡◌, ◌<◌, ℕ, zero, suc, ◌+◌, ◌-◌, ◌*◌, Bool, true, false, List, [], ◌∷◌, ◌++◌, length, drop, get_or, Option, Some, None, Ok, refl, ap, sym, ◌∙◌, subst, arith, get_or-drop, ext_get_or}
 use Rattle.std.specs.Option.{is_some}
 use Rattle.std.proofs.lemmas.List.{append_assoc, append-nil, drop-drop}
-use Rattle.ar_space.specs.declared.space.Place.{Place}
 use Rattle.ar_space.specs.declared.space.Width.{Width}
-use Rattle.ar_space.specs.Accesses.{byte_count as bytes_wide, bit_count}
-use Rattle.ar_space.specs.Outcome.{Outcome}
-use Rattle.ar_space.specs.Change.{settle, give, go_on, ◌>>=◌, ◌>>◌}
-use Rattle.ar_space.specs.Bytes.{Bytes, number_on, read_answer, read_step, write_step}
+use Rattle.ar_space.specs.Accesses.{byte_count as bytes_wide}
+use Rattle.ar_space.specs.Change.{settle, give, go_on, ◌>>=◌}
+use Rattle.ar_space.specs.Bytes.{Bytes, number_on, read_step, write_step}
 use Rattle.aml_objects.specs.declared.entry.FieldUnit.{FieldUnit}
 use Rattle.aml_objects.specs.declared.entry.UpdateRule.TheVariants.{Preserve}
 use Rattle.aml_fields.specs.declared.region.Region.{Region}
@@ -15,13 +13,13 @@ use Rattle.aml_fields.specs.declared.field_units.Unit.{Unit as Access}
 use Rattle.aml_fields.specs.Bits.{bit, bits_from, bits_of, extended, field_bits, packed}
 use Rattle.aml_fields.specs.Covering.{IsUnit, Cover}
 use Rattle.aml_fields.specs.Units.{units_of}
-use Rattle.aml_fields.specs.Regions.{faulted, unit_place, read_access, read_unit, read_units, read_field, write_unit, write_units, write_field}
+use Rattle.aml_fields.specs.Regions.{unit_place, read_access, read_unit, read_units, read_field, write_unit, write_units, write_field}
 use Rattle.aml_fields.proofs.BitLists.{from_at}
 use Rattle.aml_fields.proofs.Putting.{extended_more, extended_none, length_extended}
 use Rattle.aml_fields.proofs.Covers.{units_cover}
-use Rattle.aml_fields.proofs.Cells.{Cells, Stand, Found, little, read_stand, stand_read}
+use Rattle.aml_fields.proofs.Cells.{Cells, Stand, little, read_stand, stand_read}
 use Rattle.aml_fields.proofs.SpaceBits.{space_bit, stand_bit, bits_of_little}
-use Rattle.aml_fields.proofs.UnitWrites.{Steps, steps, IsOf, place_is, kept_is, replaced_by, Small, stand_small, extended_at, narrow, eight}
+use Rattle.aml_fields.proofs.UnitWrites.{steps, IsOf, place_is, kept_is, replaced_by, Small, stand_small, extended_at, narrow, eight}
 use Rattle.aml_fields.proofs.FieldWrites.{Wrote, unit_wrote, units_wrote}
 
 extended_append : (a b : ℕ) (xs : List Bool) → extended (a + b) xs ≡ extended a xs ++ extended b (drop a xs)

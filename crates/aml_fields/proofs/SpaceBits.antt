@@ -1,15 +1,14 @@
 -- The bits of an address space of bytes.
-use Rattle.std.proofs.Common.{◌≡◌, ◌≢◌, ◌<◌, ◌≤◌, ℕ, zero, suc, ◌+◌, ◌-◌, ◌*◌, ◌/◌, ◌%◌, ◌^◌, ◌==◌, Bool, true, false, if◌then◌else◌, List, [], ◌∷◌, ◌++◌, length, take, drop, replicate, get_or, slice_index, Option, Some, None, ◌⊎◌, inl, inr, refl, ap, sym, ◌∙◌, subst, arith, rules, length-append, length-drop}
-use Rattle.std.proofs.Math.Nat.{div-div-eq-div-mul, div-one, mod-eq_of_lt, mod-lt, mod-mod}
+use Rattle.std.proofs.Common.{◌≡◌, ◌<◌, ◌≤◌, ℕ, zero, suc, ◌+◌, ◌-◌, ◌*◌, ◌/◌, ◌%◌, ◌^◌, ◌==◌, Bool, true, false, if◌then◌else◌, List, [], ◌∷◌, ◌++◌, length, take, drop, get_or, slice_index, Option, Some, refl, ap, sym, ◌∙◌, arith, length-append, length-drop}
+use Rattle.std.proofs.Math.Nat.{div-div-eq-div-mul, div-one, mod-eq_of_lt, mod-mod}
 use Rattle.std.proofs.lemmas.Nat.{pow-add}
 use Rattle.std.proofs.lemmas.List.{get_or_append_left, get_or-append_right, get_or-drop, get_or-take, length-take-le}
-use Rattle.std.proofs.lemmas.Bool.{cases_lt}
 use Rattle.std.specs.Option.{option_map}
 use Rattle.byteorder.specs.Endian.{little_number}
 use Rattle.ar_space.specs.Bytes.{Bytes}
 use Rattle.aml_fields.specs.Bits.{bit, bits_from, bits_of, number_of, put}
-use Rattle.aml_fields.proofs.BitLists.{length_from, from_at, length_of, bit_of}
-use Rattle.aml_fields.proofs.Numbers.{number_from, number_append, same_number, one_number, little_rest}
+use Rattle.aml_fields.proofs.BitLists.{length_from, length_of, bit_of}
+use Rattle.aml_fields.proofs.Numbers.{number_from, same_number, one_number, little_rest}
 use Rattle.aml_fields.proofs.Cells.{Cells, Stand, little, digits}
 
 -- a list of bits is known by its number

@@ -1,10 +1,9 @@
 -- What the write of one unit does to the bits of an address space.
-use Rattle.std.proofs.Common.{◌≡◌, ◌≢◌, ◌<◌, ◌≤◌, ℕ, zero, suc, ◌+◌, ◌-◌, ◌*◌, ◌/◌, ◌%◌, ◌^◌, ◌==◌, nat_lt, Bool, true, false, if◌then◌else◌, List, [], ◌∷◌, ◌++◌, length, take, drop, get_or, slice_index, Option, Some, None, Result, Ok, Err, ◌⊎◌, inl, inr, refl, ap, sym, ◌∙◌, subst, arith, rules}
+use Rattle.std.proofs.Common.{◌≡◌, ◌<◌, ◌≤◌, ℕ, zero, suc, ◌+◌, ◌-◌, ◌*◌, ◌/◌, ◌%◌, ◌==◌, nat_lt, Bool, true, false, if◌then◌else◌, List, [], ◌∷◌, ◌++◌, length, get_or, slice_index, Option, Some, None, Result, Ok, Err, ◌⊎◌, inl, inr, refl, ap, sym, ◌∙◌, subst, arith, rules}
 use Rattle.std.proofs.Math.Nat.{mod-lt}
 use Rattle.std.proofs.lemmas.Bool.{cases_lt}
 use Rattle.std.proofs.lemmas.List.{get_or_append_left, get_or-append_right, get_or_past}
 use Rattle.std.specs.Option.{option_map, is_some}
-use Rattle.ar_space.specs.declared.refusal.Refusal.{Refusal}
 use Rattle.ar_space.specs.declared.refusal.Refusal.TheVariants as refusal
 use Rattle.ar_space.specs.declared.refusal.FieldFault.TheVariants.{RegionLimit}
 use Rattle.ar_space.specs.declared.space.Width.{Width}
@@ -12,7 +11,7 @@ use Rattle.ar_space.specs.declared.space.Width.TheVariants.{W8, W16, W32, W64}
 use Rattle.ar_space.specs.declared.space.Place.{Place}
 use Rattle.ar_space.specs.Accesses.{byte_count as bytes_wide, bit_count}
 use Rattle.ar_space.specs.Outcome.{Outcome}
-use Rattle.ar_space.specs.Change.{Change, give, settle, go_on, ◌>>=◌}
+use Rattle.ar_space.specs.Change.{Change, go_on, ◌>>=◌}
 use Rattle.ar_space.specs.Bytes.{Bytes, number_on, written_on, read_answer, read_step, write_step}
 use Rattle.ar_space.specs.declared.refusal.SpaceFault.{SpaceFault}
 use Rattle.ar_space.specs.declared.refusal.SpaceFault.TheVariants.{NoRegister}
@@ -20,13 +19,12 @@ use Rattle.aml_objects.specs.declared.entry.FieldUnit.{FieldUnit}
 use Rattle.aml_objects.specs.declared.entry.UpdateRule.TheVariants.{Preserve}
 use Rattle.aml_fields.specs.declared.region.Region.{Region}
 use Rattle.aml_fields.specs.declared.field_units.Unit.{Unit as Access}
-use Rattle.aml_fields.specs.Bits.{bit, bits_from, bits_of, number_of, put, extended, field_bits, rest_of_unit, merged}
-use Rattle.aml_fields.specs.Covering.{IsUnit}
-use Rattle.aml_fields.specs.Regions.{faulted, place_in, or_limit, unit_place, read_access, write_access, kept, kept_by, write_unit}
-use Rattle.aml_fields.proofs.BitLists.{length_from, from_at}
+use Rattle.aml_fields.specs.Bits.{bit, bits_from, bits_of, extended}
+use Rattle.aml_fields.specs.Regions.{faulted, place_in, or_limit, unit_place, read_access, write_access, kept, kept_by}
+use Rattle.aml_fields.proofs.BitLists.{from_at}
 use Rattle.aml_fields.proofs.Putting.{extended_more, length_extended}
-use Rattle.aml_fields.proofs.Cells.{Cells, Stand, Found, Written, little, digits, read_stand, written}
-use Rattle.aml_fields.proofs.SpaceBits.{space_bit, stand_at, stand_bit, bits_again, bits_of_digits, bits_of_little, put_before, put_inside, put_behind}
+use Rattle.aml_fields.proofs.Cells.{Cells, Stand, Written, digits, read_stand, written}
+use Rattle.aml_fields.proofs.SpaceBits.{space_bit, stand_at, stand_bit, bits_of_digits, bits_of_little}
 
 -- a change that goes through two steps
 pub record Steps {S A B : Type 0} (m : Change S A) (k : A → Change S B) (s : S) (b : B) (end : S) : Type 0 where

@@ -1,5 +1,5 @@
 -- Each unit is one write.
-use Rattle.std.proofs.Common.{◌≡◌, arith, rules, sym, subst, ◌∙◌}
+use Rattle.std.proofs.Common.{◌≡◌, arith, rules, subst}
 use Rattle.aml_fields.specs.Units.{units_of}
 use Rattle.aml_fields.proofs.Accessing.{Writing, in_unit, in_field, writing_starts, writing_goes_on, writing_stops, writing_ends}
 use Rattle.aml_fields.proofs.accesses.write_field.Goals as goal

@@ -1,4 +1,4 @@
-use Rattle.std.proofs.Common.{ap, sym, ◌∙◌, drop, length, ◌++◌, take, replicate, rules}
+use Rattle.std.proofs.Common.{ap, ◌∙◌, drop, length, replicate, rules}
 use Rattle.aml_fields.specs.Bits.{bits_of, field_bits, put, bytes_within}
 use Rattle.aml_fields.proofs.Numbers.{over_zeros}
 use Rattle.aml_fields.proofs.Putting.{length_extended}
