@@ -1,0 +1,3 @@
+pub mod Lifted
+pub mod Slots
+pub mod State

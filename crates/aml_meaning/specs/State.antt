@@ -1,0 +1,41 @@
+-- The world, as contracts see it.
+use Rattle.std.specs.Prelude.{ℕ, List, [], refl}
+use Rattle.std.specs.Coded.{Coded, code_by, coded×, coded_list, coded_ℕ}
+use Rattle.ar_space.specs.declared.integer_width.IntegerWidth.{IntegerWidth}
+use Rattle.ar_space.specs.contracts.integer_width.IntegerWidth as width_type
+use Rattle.ar_space.specs.Change.{Change}
+use Rattle.aml_terms.specs.declared.arities.Arity.{Arity}
+use Rattle.aml_terms.specs.contracts.arities.Arity as arity_type
+use Rattle.aml_objects.specs.declared.object.Object.{Object}
+use Rattle.aml_objects.specs.contracts.object.Object as object_type
+use Rattle.aml_objects.specs.Objects.{Objects}
+use Rattle.aml_namespace.specs.Namespace.{Namespace, namespace_code}
+use Rattle.aml_meaning.specs.declared.frame.Frame.{Frame}
+use Rattle.aml_meaning.specs.contracts.frame.Frame as frame_type
+
+pub record State (S : Type 0) : Type 0 where
+  pub names : Namespace
+  pub arities : List Arity
+  pub objects : List Object
+  pub frames : List Frame
+  pub started : ℕ
+  pub tables : List (List ℕ)
+  pub space : S
+  pub osi : List (List ℕ)
+  pub width : IntegerWidth
+
+abbrev pub state_code : {S : Type 0} → Coded S → Coded (State S)
+state_code {S = S} code =
+    code_by (Namespace × (List Arity × (List Object × (List Frame × (ℕ × (List (List ℕ) × (S × (List (List ℕ) × IntegerWidth))))))))
+      (coded× namespace_code (coded× (coded_list arity_type.the_row.coded) (coded× (coded_list object_type.the_row.coded) (coded× (coded_list frame_type.the_row.coded)
+        (coded× coded_ℕ (coded× (coded_list (coded_list coded_ℕ)) (coded× code (coded× (coded_list (coded_list coded_ℕ)) width_type.the_row.coded))))))))
+      (λ s. (s.names, (s.arities, (s.objects, (s.frames, (s.started, (s.tables, (s.space, (s.osi, s.width)))))))))
+      (λ p. record { names = p.0; arities = p.1.0; objects = p.1.1.0; frames = p.1.1.1.0; started = p.1.1.1.1.0; tables = p.1.1.1.1.1.0; space = p.1.1.1.1.1.1.0; osi = p.1.1.1.1.1.1.1.0; width = p.1.1.1.1.1.1.1.1 })
+      (λ _. refl)
+
+-- a change of the objects alone, and of the namespace alone
+unfoldable pub on_objects : {S A : Type 0} → Change Objects A → Change (State S) A
+on_objects m w = ((m w.objects).0, record w { objects = (m w.objects).1 })
+
+unfoldable pub on_names : {S A : Type 0} → Change Namespace A → Change (State S) A
+on_names m w = ((m w.names).0, record w { names = (m w.names).1 })

@@ -1,0 +1,10 @@
+//! Frames of control methods (ACPI 6.5, 5.5.2.3).
+use aml_objects::Value;
+
+/// What a call of a control method has of its own: a number that no other frame has, eight locals and seven arguments.
+#[derive(Clone, Copy, Debug)]
+pub struct Frame {
+    pub number: u64,
+    pub locals: [Value; 8],
+    pub arguments: [Value; 7],
+}

@@ -1,0 +1,78 @@
+//! Frames, and the slots in them (ACPI 6.5, 5.5.2.3 and 19.6: ArgX, LocalX).
+ghost use Rattle.std.specs.Prelude.{◌≡◌, ◌==◌, ◌<◌, length, position, slice_index_or, IfSome};
+ghost use Rattle.ar_space.specs.Change.{Does};
+ghost use Rattle.aml_meaning.specs.Slots.{slot_in, slot_of, opened, closed};
+ghost use Rattle.aml_objects.specs.declared.value.Value.TheVariants.{Uninitialized};
+
+use crate::frame::Frame;
+use crate::world::World;
+use aml_objects::{Slot, Value};
+use ar_space::{EvaluationFault, Refusal};
+
+/// The place of the frame with a number.
+fn place_of(frames: &[Frame], number: u64) -> Option<usize>
+    ensures place { result ≡ position (λ f. f.number == number) frames.now }
+    ensures within { IfSome result (λ i. i < length frames.now) }
+{
+    frames.iter().position(|frame| frame.number == number)
+}
+
+impl Frame {
+    /// What a slot holds.
+    fn slot(&self, slot: Slot) -> Value
+        ensures { result ≡ slot_in self.now slot }
+    {
+        match slot {
+            Slot::Local(index) => value_at(&self.locals, index),
+            Slot::Argument(index) => value_at(&self.arguments, index),
+        }
+    }
+}
+
+fn value_at(values: &[Value], index: u8) -> Value
+    ensures { result ≡ slice_index_or values.now index Uninitialized }
+{
+    match values.get(usize::from(index)) {
+        None => Value::Uninitialized,
+        Some(value) => *value,
+    }
+}
+
+impl<S> World<S> {
+    /// What a slot of the frame with a number holds; a frame that ended is refused as `DeadReference`.
+    #[tactic(auto, unfolding(crate::specs::Slots::slot_of))]
+    pub fn slot(&self, number: u64, slot: Slot) -> Result<Value, Refusal>
+        ensures { Does result self.now (slot_of number slot) self.now }
+    {
+        match place_of(&self.frames, number) {
+            None => Err(Refusal::Evaluation(EvaluationFault::DeadReference)),
+            Some(place) => Ok(self.frames[place].slot(slot)),
+        }
+    }
+
+    /// Opens a frame with these arguments, and gives its number, which is never given again; refused as `ObjectLimit` where
+    /// no number is left.
+    #[tactic(auto, unfolding(crate::specs::Slots::opened))]
+    pub fn open_frame(&mut self, arguments: [Value; 7]) -> Result<u64, Refusal>
+        ensures { Does result self.new (opened arguments) self.old }
+    {
+        if self.started == u64::MAX {
+            return Err(Refusal::Evaluation(EvaluationFault::ObjectLimit));
+        }
+        let number = self.started;
+        self.frames.push(Frame {
+            number,
+            locals: [Value::Uninitialized; 8],
+            arguments,
+        })?;
+        self.started += 1;
+        Ok(number)
+    }
+
+    /// Ends the latest frame.
+    pub fn close_frame(&mut self)
+        ensures { self.new ≡ closed self.old }
+    {
+        let _ = self.frames.pop();
+    }
+}
