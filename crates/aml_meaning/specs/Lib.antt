@@ -1,3 +1,4 @@
 pub mod Lifted
+pub mod Predefined
 pub mod Slots
 pub mod State

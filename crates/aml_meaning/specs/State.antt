@@ -27,11 +27,11 @@ pub record State (S : Type 0) : Type 0 where
 abbrev pub state_code : {S : Type 0} → Coded S → Coded (State S)
 state_code {S = S} code =
     code_by (Namespace × (List Arity × (List Object × (List Frame × (ℕ × (List (List ℕ) × (S × (List (List ℕ) × IntegerWidth))))))))
-      (coded× namespace_code (coded× (coded_list arity_type.the_row.coded) (coded× (coded_list object_type.the_row.coded) (coded× (coded_list frame_type.the_row.coded)
-        (coded× coded_ℕ (coded× (coded_list (coded_list coded_ℕ)) (coded× code (coded× (coded_list (coded_list coded_ℕ)) width_type.the_row.coded))))))))
-      (λ s. (s.names, (s.arities, (s.objects, (s.frames, (s.started, (s.tables, (s.space, (s.osi, s.width)))))))))
-      (λ p. record { names = p.0; arities = p.1.0; objects = p.1.1.0; frames = p.1.1.1.0; started = p.1.1.1.1.0; tables = p.1.1.1.1.1.0; space = p.1.1.1.1.1.1.0; osi = p.1.1.1.1.1.1.1.0; width = p.1.1.1.1.1.1.1.1 })
-      (λ _. refl)
+    (coded× namespace_code (coded× (coded_list arity_type.the_row.coded) (coded× (coded_list object_type.the_row.coded) (coded× (coded_list frame_type.the_row.coded)
+    (coded× coded_ℕ (coded× (coded_list (coded_list coded_ℕ)) (coded× code (coded× (coded_list (coded_list coded_ℕ)) width_type.the_row.coded))))))))
+    (λ s. (s.names, (s.arities, (s.objects, (s.frames, (s.started, (s.tables, (s.space, (s.osi, s.width)))))))))
+    (λ p. record { names = p.0; arities = p.1.0; objects = p.1.1.0; frames = p.1.1.1.0; started = p.1.1.1.1.0; tables = p.1.1.1.1.1.0; space = p.1.1.1.1.1.1.0; osi = p.1.1.1.1.1.1.1.0; width = p.1.1.1.1.1.1.1.1 })
+    (λ _. refl)
 
 -- a change of the objects alone, and of the namespace alone
 unfoldable pub on_objects : {S A : Type 0} → Change Objects A → Change (State S) A

@@ -16,7 +16,8 @@ impl<S> World<S> {
     /// number is left as `ObjectLimit`. Where a name is refused, nothing changes.
     #[tactic(auto, using(crate::specs::Lifted::parts))]
     pub fn declare(&mut self, path: Path, object: NamedObject) -> Result<u64, Refusal>
-        ensures { Does result self.new (on_names (declared path object)) self.old }
+        ensures world { Does result self.new (on_names (declared path object)) self.old }
+        ensures space { self.new.space ≡ self.old.space }
     {
         self.names.insert(path, object)
     }

@@ -4,6 +4,7 @@
 mod declarations;
 mod frame;
 mod objects;
+mod predefined;
 mod slots;
 mod world;
 

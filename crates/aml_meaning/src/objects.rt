@@ -22,7 +22,8 @@ impl<S> World<S> {
     /// A new string; refused as `ObjectLimit` where it is too long, or one object too many.
     #[tactic(auto, using(crate::specs::Lifted::parts))]
     pub fn make_string(&mut self, bytes: Octets) -> Result<Value, Refusal>
-        ensures { Does result self.new (on_objects (make_string bytes)) self.old }
+        ensures world { Does result self.new (on_objects (make_string bytes)) self.old }
+        ensures space { self.new.space ≡ self.old.space }
     {
         self.heap.make_string(bytes)
     }

@@ -1,11 +1,14 @@
 //! The world that evaluation changes.
-ghost use Rattle.std.specs.Prelude.{◌≡◌};
+ghost use Rattle.std.specs.Prelude.{◌≡◌, ◌≢◌, Ok, Err, IfOk, IfErr};
+ghost use Rattle.ar_space.specs.declared.refusal.Refusal.TheVariants.{OutOfMemory};
+ghost use Rattle.aml_meaning.specs.Predefined.{fresh, predefined};
 
 use crate::frame::Frame;
 use aml_namespace::Names;
 use aml_objects::{Heap, Octets};
 use aml_terms::Arities;
-use ar_space::IntegerWidth;
+use ar_space::{IntegerWidth, Refusal};
+use std::alloc::Global;
 use std::marker::Model;
 
 /// What evaluation changes, the register space among it: the namespace, how many arguments its names take, the objects, the
@@ -35,6 +38,46 @@ impl<S> Model for World<S> {
 }
 
 impl<S> World<S> {
+    /// A world with the predefined names, over a register space, with the texts that `_OSI` knows and integers of a width.
+    /// Where it is refused, which only want of memory does, the register space comes back as it was.
+    pub fn new(
+        alloc: Global,
+        width: IntegerWidth,
+        osi: Vec<Octets>,
+        space: S,
+    ) -> Result<World<S>, (Refusal, S)>
+        ensures world { IfOk result (λ world. predefined (fresh width osi.items space) ≡ (Ok tt, world)) }
+        ensures space { IfErr result (λ refused. refused.1 ≡ space) }
+        ensures refusal { IfErr result (λ refused. refused.0 ≢ OutOfMemory → (predefined (fresh width osi.items space)).0 ≡ Err refused.0) }
+    {
+        let names = match Names::new(alloc) {
+            Ok(names) => names,
+            Err(refusal) => return Err((refusal, space)),
+        };
+        let mut world = World {
+            names,
+            arities: Arities::new(alloc),
+            heap: Heap::new(alloc),
+            frames: Vec::new(alloc),
+            started: 0,
+            tables: Vec::new(alloc),
+            space,
+            osi,
+            width,
+        };
+        match world.predefine(alloc) {
+            Ok(()) => Ok(world),
+            Err(refusal) => Err((refusal, world.space)),
+        }
+    }
+
+    /// The register space, given back.
+    pub fn into_space(self) -> S
+        ensures { result ≡ self.space }
+    {
+        self.space
+    }
+
     /// The names that are declared.
     pub fn names(&self) -> &Names
         ensures { result.now ≡ self.now.names }

@@ -1,0 +1,104 @@
+//! The names that stand before any table is loaded (ACPI 6.5, 5.3.1 and 5.7).
+ghost use Rattle.std.specs.Prelude.{◌≡◌, ◌∷◌, [], Ok, codes};
+ghost use Rattle.ar_space.specs.Outcome.{Answers};
+ghost use Rattle.aml_path.specs.Segments.{seg_of};
+ghost use Rattle.aml_objects.specs.Objects.{make_string};
+ghost use Rattle.aml_meaning.specs.State.{on_objects};
+ghost use Rattle.ar_space.specs.Change.{Does};
+ghost use Rattle.aml_meaning.specs.Predefined.{at_root, predefined, predefined_objects, predefined_scopes, takes};
+
+use crate::world::World;
+use aml_objects::{Method, MethodBody, NamedObject, Octets, Value};
+use aml_path::{Path, Seg};
+use ar_space::Refusal;
+use std::alloc::Global;
+
+impl<S> World<S> {
+    /// The predefined names.
+    #[tactic(auto, using(ar_space::specs::Change::changing), unfolding(crate::specs::Predefined::predefined))]
+    pub(crate) fn predefine(&mut self, alloc: Global) -> Result<(), Refusal>
+        ensures world { Does result self.new predefined self.old }
+        ensures space { self.new.space ≡ self.old.space }
+    {
+        self.predefine_scopes(alloc)?;
+        self.predefine_objects(alloc)
+    }
+
+    #[tactic(auto, using(ar_space::specs::Change::changing), unfolding(crate::specs::Predefined::predefined_scopes))]
+    fn predefine_scopes(&mut self, alloc: Global) -> Result<(), Refusal>
+        ensures world { Does result self.new predefined_scopes self.old }
+        ensures space { self.new.space ≡ self.old.space }
+    {
+        self.at_root(alloc, *b"_GPE", NamedObject::Scope, 0)?;
+        self.at_root(alloc, *b"_PR_", NamedObject::Scope, 0)?;
+        self.at_root(alloc, *b"_SB_", NamedObject::Scope, 0)?;
+        self.at_root(alloc, *b"_SI_", NamedObject::Scope, 0)?;
+        self.at_root(alloc, *b"_TZ_", NamedObject::Scope, 0)
+    }
+
+    #[tactic(auto, using(ar_space::specs::Change::changing), unfolding(crate::specs::Predefined::predefined_objects))]
+    fn predefine_objects(&mut self, alloc: Global) -> Result<(), Refusal>
+        ensures world { Does result self.new predefined_objects self.old }
+        ensures space { self.new.space ≡ self.old.space }
+    {
+        self.at_root(alloc, *b"_GL_", NamedObject::Mutex(0), 0)?;
+        let text = self.operating_system(alloc)?;
+        self.at_root(alloc, *b"_OS_", NamedObject::Data(text), 0)?;
+        self.at_root(alloc, *b"_REV", NamedObject::Data(Value::Integer(2)), 0)?;
+        let osi = Method {
+            arguments: 1,
+            body: MethodBody::Osi,
+        };
+        self.at_root(alloc, *b"_OSI", NamedObject::Method(osi), 1)
+    }
+
+    /// A name at the root, given by its four characters, and how many arguments it takes.
+    #[tactic(auto, using(ar_space::specs::Change::changing), unfolding(crate::specs::Predefined::at_root))]
+    fn at_root(
+        &mut self,
+        alloc: Global,
+        name: [u8; 4],
+        object: NamedObject,
+        count: u8,
+    ) -> Result<(), Refusal>
+        ensures world { Does result self.new (at_root name object count) self.old }
+        ensures space { self.new.space ≡ self.old.space }
+    {
+        let segment = segment(name)?;
+        let path = below_root(alloc, segment)?;
+        self.declare(path, object)?;
+        let path = below_root(alloc, segment)?;
+        self.takes(path, count)
+    }
+
+    /// A path takes so many arguments from now on.
+    #[tactic(auto, unfolding(crate::specs::Predefined::takes))]
+    fn takes(&mut self, path: Path, count: u8) -> Result<(), Refusal>
+        ensures world { Does result self.new (takes path count) self.old }
+        ensures space { self.new.space ≡ self.old.space }
+    {
+        self.arities.add(path, count, false)?;
+        Ok(())
+    }
+
+    /// The value of `\\_OS_`.
+    fn operating_system(&mut self, alloc: Global) -> Result<Value, Refusal>
+        ensures world { Does result self.new (on_objects (make_string (codes "Microsoft Windows NT"))) self.old }
+        ensures space { self.new.space ≡ self.old.space }
+    {
+        let name = Octets::from_vec(Vec::from_slice(alloc, b"Microsoft Windows NT")?);
+        self.make_string(name)
+    }
+}
+
+fn segment(name: [u8; 4]) -> Result<Seg, Refusal>
+    ensures { Answers result (seg_of name) }
+{
+    Seg::new(name)
+}
+
+fn below_root(alloc: Global, segment: Seg) -> Result<Path, Refusal>
+    ensures { Answers result (Ok (segment ∷ [])) }
+{
+    Path::root(alloc).child(alloc, segment)
+}
