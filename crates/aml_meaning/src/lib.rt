@@ -6,6 +6,8 @@ mod frame;
 mod objects;
 mod predefined;
 mod slots;
+#[cfg(test)]
+mod tests;
 mod world;
 
 pub use frame::Frame;
