@@ -1,9 +1,8 @@
 -- The names that stand before any table is loaded (ACPI 6.5, 5.3.1 and 5.7).
-use Rattle.std.specs.Prelude.{ℕ, codes, false, List, [], ◌∷◌, ◌++◌, Ok, Err}
-use Rattle.ar_space.specs.Change.{Change, give, settle, ◌>>=◌, ◌>>◌}
+use Rattle.std.specs.Prelude.{ℕ, codes, false, List, [], ◌∷◌, ◌++◌, Ok}
+use Rattle.ar_space.specs.Change.{Change, settle, ◌>>=◌, ◌>>◌}
 use Rattle.aml_path.specs.declared.segment.Seg.{Seg}
 use Rattle.aml_path.specs.Segments.{seg_of}
-use Rattle.aml_objects.specs.declared.value.Value.{Value}
 use Rattle.aml_objects.specs.declared.value.Value.TheVariants as value
 use Rattle.aml_objects.specs.declared.entry.NamedObject.{NamedObject}
 use Rattle.aml_objects.specs.declared.entry.NamedObject.TheVariants as object

@@ -1,7 +1,7 @@
 -- Frames, and the slots in them (ACPI 6.5, 5.5.2.3 and 19.6: ArgX, LocalX).
-use Rattle.std.specs.Prelude.{ℕ, ◌+◌, ◌-◌, ◌^◌, ◌==◌, List, [], ◌∷◌, ◌++◌, length, take, replicate, nat_le, Option, Some, None, Ok, Err, slice_get, slice_set, slice_index_or, position, option_and_then, if◌then◌else◌}
+use Rattle.std.specs.Prelude.{ℕ, ◌+◌, ◌-◌, ◌^◌, ◌==◌, List, [], ◌∷◌, ◌++◌, length, take, replicate, Option, Some, None, Ok, Err, slice_get, slice_set, slice_index_or, position, if◌then◌else◌}
 use Rattle.ar_space.specs.declared.refusal.Refusal.TheVariants as refusal
-use Rattle.ar_space.specs.declared.refusal.EvaluationFault.TheVariants.{CallDepth, DeadReference, NoValue, ObjectLimit}
+use Rattle.ar_space.specs.declared.refusal.EvaluationFault.TheVariants.{DeadReference, ObjectLimit}
 use Rattle.ar_space.specs.Outcome.{Outcome}
 use Rattle.ar_space.specs.Change.{Change}
 use Rattle.aml_objects.specs.declared.value.Value.{Value}
