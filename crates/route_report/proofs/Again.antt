@@ -1,0 +1,150 @@
+-- Lines that are printed say what they were printed of.
+use Rattle.std.proofs.Common.{◌≡◌, ◌∙◌, ap, sym, refl, subst, ℕ, zero, suc, ◌+◌, ◌<◌, ◌≤◌, ◌^◌, List, [], ◌∷◌, ◌++◌, length, map, Bool, true, false, arith, append_assoc, append-nil, Ok, Err, Some, None, Option}
+use Rattle.std.specs.Prelude.{All, codes, decimal, nat_lt, slice_index, option_map}
+use Rattle.std.specs.List.Sorted.{IsStrictlyIncreasing}
+use Rattle.std.specs.Str.{bytes_eq}
+use Rattle.std.specs.Str.Parse.{AllDigits}
+use Rattle.std.proofs.lemmas.Bool.{lt-ltb}
+use Rattle.std.proofs.lemmas.Fmt.{decimal_is_IsNumeral}
+use Rattle.std.proofs.lemmas.List.Elements.{All-head, All-tail}
+use Rattle.ar_space.specs.Outcome.{Outcome, ◌>>=◌}
+use Rattle.aml_path.specs.declared.segment.Seg.{Seg}
+use Rattle.aml_path.specs.Text.{text_of}
+use Rattle.aml_path.proofs.Reading.{read_back}
+use Rattle.route_check.specs.Claims.{BoundingSet, interrupts_of_bound}
+use Rattle.route_report.specs.Lines.{number}
+use Rattle.route_report.specs.Reading.{Said, ascends, here, number_here, path_here, named, numbered, one_of, expected, offered, offers, with_offer, until, link, link_line, with_link, wired, wired_line, with_wired, give, give_line, with_give, busiest, busiest_line, with_busiest, with_path, set_links, with_number, numbers_after, set, bound, bound_line, with_bound, keyed, line}
+use Rattle.route_report.specs.declared.report.Form.{Form}
+use Rattle.route_report.specs.declared.report.Form.TheVariants as form
+use Rattle.route_report.specs.declared.report.Polarity.{Polarity}
+use Rattle.route_report.specs.declared.report.Polarity.TheVariants as polarity
+use Rattle.route_report.specs.declared.report.LinkLine.{LinkLine}
+use Rattle.route_report.specs.Printing.{Words, form_word, polarity_word, now_words, link_words, wired_words, give_words, busiest_words, path_words, set_of_bound, bound_words}
+use Rattle.route_report.specs.Readable.{link_of, IsReadableOffer}
+use Rattle.route_report.proofs.Decimals.{same_bytes, equal_bytes, number_of_decimal}
+
+then_ok : {A B : Type 0} (m : Outcome A) (k : A → Outcome B) (a : A) → m ≡ Ok a → (m >>= k) ≡ k a
+unfolding ◌>>=◌
+then_ok m k a is = ap (λ x. x >>= k) is
+
+number_again : (n k : ℕ) → k < 2 ^ 32 → number_here n (decimal k) ≡ Ok k
+number_again n k small = ap (here n) (number_of_decimal k small)
+
+path_again : (n : ℕ) (p : List Seg) → path_here n (text_of p) ≡ Ok p
+unfolding path_here ◌>>=◌
+path_again n p = rw (read_back p, same_bytes (text_of p)) refl
+
+named_again : (n : ℕ) (p : List Seg) (ws : Words) → named n (text_of p ∷ ws) ≡ Ok (p, ws)
+unfolding named ◌>>=◌
+named_again n p ws = rw (path_again n p) refl
+
+numbered_again : (n k : ℕ) (ws : Words) → k < 2 ^ 32 → numbered n (decimal k ∷ ws) ≡ Ok (k, ws)
+unfolding numbered ◌>>=◌
+numbered_again n k ws small = rw (number_of_decimal k small) refl
+
+-- a number is no word of letters
+no_number_by : (k : ℕ) (c : ℕ) (cs : List ℕ) (t : Bool) → bytes_eq (decimal k) (c ∷ cs) ≡ t → k < 2 ^ 32 → (AllDigits 10 (c ∷ cs) → ⊥) → bytes_eq (decimal k) (c ∷ cs) ≡ false
+no_number_by k c cs true is small not = absurd (not (subst (AllDigits 10) (equal_bytes (decimal k) (c ∷ cs) is) (decimal_is_IsNumeral k (omega arith)).0.1))
+no_number_by k c cs false is small not = is
+
+not_now : (k : ℕ) → k < 2 ^ 32 → bytes_eq (decimal k) (codes "now") ≡ false
+not_now k small = no_number_by k 110 (111 ∷ 119 ∷ []) (bytes_eq (decimal k) (codes "now")) refl small (λ h. let bad = h.0 in omega arith)
+
+ascends_push : (os : List ℕ) (k m : ℕ) → ascends (os ++ k ∷ []) m ≡ nat_lt k m
+ascends_push [] k m = refl
+ascends_push (x ∷ []) k m = refl
+ascends_push (x ∷ y ∷ ys) k m = ascends_push (y ∷ ys) k m
+
+offer_again : (n : ℕ) (os : List ℕ) (k : ℕ) → k < 2 ^ 32 → ascends os k ≡ true → with_offer n os (decimal k) ≡ Ok (os ++ k ∷ [])
+unfolding with_offer ◌>>=◌
+offer_again n os k small is = rw (number_of_decimal k small, is) refl
+
+increasing_tail : (k : ℕ) (xs : List ℕ) → IsStrictlyIncreasing (k ∷ xs) → IsStrictlyIncreasing xs
+increasing_tail k xs h j l =
+    let e : suc j + 1 ≡ suc (j + 1) = omega arith in
+    let P : ℕ → Type 0 = λ i. slice_index (k ∷ xs) (suc j) < slice_index (k ∷ xs) i in
+    subst P e (h (suc j) (omega arith))
+
+until_now : (n : ℕ) (os : List ℕ) (k : ℕ) (ks : List ℕ) (rest : Words) → IsStrictlyIncreasing (k ∷ ks) → All (λ m. m < 2 ^ 32) ks
+    → until n (codes "now") (with_offer n) (os ++ k ∷ []) (map decimal ks ++ codes "now" ∷ rest) ≡ Ok (os ++ k ∷ ks, rest)
+unfolding until ◌>>=◌
+until_now n os k [] rest up small = refl
+until_now n os k (m ∷ ms) rest up small =
+    let less : k < m = up 0 (omega arith) in
+    let here = All-head (λ x. x < 2 ^ 32) m ms small in
+    let done = os ++ k ∷ [] in
+    let step = offer_again n done m here (ascends_push os k m ∙ lt-ltb k m less) in
+    rw (not_now m here, step) (until_now n done m ms rest (increasing_tail k (m ∷ ms) up) (All-tail (λ x. x < 2 ^ 32) m ms small)
+    ∙ ap (λ xs. Ok (xs, rest)) (append_assoc os (k ∷ []) (m ∷ ms)))
+
+offers_again : (n k : ℕ) (ks : List ℕ) (rest : Words) → IsStrictlyIncreasing (k ∷ ks) → All (λ m. m < 2 ^ 32) (k ∷ ks) → offers n (map decimal (k ∷ ks) ++ codes "now" ∷ rest) ≡ Ok (k ∷ ks)
+unfolding offers ◌>>=◌
+offers_again n k ks rest up small =
+    rw (offer_again n [] k (All-head (λ x. x < 2 ^ 32) k ks small) refl, until_now n [] k ks rest up (All-tail (λ x. x < 2 ^ 32) k ks small)) refl
+
+offered_again : (n : ℕ) (f : Form) (p : Polarity) (ws : Words) → offered n (form_word f ∷ polarity_word p ∷ codes "offers" ∷ ws) ≡ offers n ws
+unfolding offered one_of expected ◌>>=◌
+offered_again n form.Small polarity.Low ws = refl
+offered_again n form.Small polarity.High ws = refl
+offered_again n form.Extended polarity.Low ws = refl
+offered_again n form.Extended polarity.High ws = refl
+
+offer_words : (n : ℕ) (os : List ℕ) (rest : Words) → IsReadableOffer os → All (λ m. m < 2 ^ 32) os → offers n (map decimal os ++ codes "now" ∷ rest) ≡ Ok os
+offer_words n [] rest readable small = let some = readable.some in absurd (omega arith)
+offer_words n (k ∷ ks) rest readable small = offers_again n k ks rest readable.ascending small
+
+pub link_again : (n : ℕ) (l : LinkLine) (d : Said) → length d.links < 256 → IsReadableOffer l.offers.items → All (λ m. m < 2 ^ 32) l.offers.items
+    → line n (link_words l) d ≡ Ok (record d { links = d.links ++ link_of l ∷ [] })
+unfolding line keyed link_line link with_link ◌>>=◌
+link_again n l d room readable small =
+    let rest = now_words (option_map (λ v. v.items) l.now) in
+    let tail = map decimal l.offers.items ++ codes "now" ∷ rest in
+    rw (named_again n l.path (form_word l.form ∷ polarity_word l.polarity ∷ codes "offers" ∷ tail), offered_again n l.form l.polarity tail, offer_words n l.offers.items rest readable small, lt-ltb (length d.links) 256 room) refl
+
+pub wired_again : (n : ℕ) (w : ℕ × ℕ) (d : Said) → length d.wired < 4096 → (w.0 < 2 ^ 32) × (w.1 < 2 ^ 32) → line n (wired_words w) d ≡ Ok (record d { wired = d.wired ++ w ∷ [] })
+unfolding line keyed wired_line wired with_wired ◌>>=◌
+wired_again n w d room small = rw (numbered_again n w.0 (decimal w.1 ∷ []) small.0, numbered_again n w.1 [] small.1, lt-ltb (length d.wired) 4096 room) refl
+
+pub give_again : (n : ℕ) (g : List Seg × ℕ) (d : Said) → g.1 < 2 ^ 32 → line n (give_words g) d ≡ Ok (record d { gives = d.gives ++ g ∷ [] })
+unfolding line keyed give_line give with_give ◌>>=◌
+give_again n g d small = rw (named_again n g.0 (decimal g.1 ∷ []), numbered_again n g.1 [] small) refl
+
+pub busiest_again : (n k : ℕ) (d : Said) → d.busiest ≡ None → k < 2 ^ 32 → line n (busiest_words k) d ≡ Ok (record d { busiest = Some k })
+unfolding line keyed busiest_line busiest with_busiest ◌>>=◌
+busiest_again n k d none small = rw (numbered_again n k [] small, none) refl
+
+path_more : (n : ℕ) (ps : List (List Seg)) (q : List Seg) → with_path n ps (text_of q) ≡ Ok (ps ++ q ∷ [])
+unfolding with_path ◌>>=◌
+path_more n ps q = rw (path_again n q) refl
+
+until_over : (n : ℕ) (ps qs : List (List Seg)) (rest : Words) → until n (codes "over") (with_path n) ps (map text_of qs ++ codes "over" ∷ rest) ≡ Ok (ps ++ qs, rest)
+unfolding until ◌>>=◌
+until_over n ps [] rest = rw (append-nil ps) refl
+until_over n ps (q ∷ qs) rest = rw (path_more n ps q) (until_over n (ps ++ q ∷ []) qs rest ∙ ap (λ xs. Ok (xs, rest)) (append_assoc ps (q ∷ []) qs))
+
+number_more : (n : ℕ) (is : List ℕ) (k : ℕ) → k < 2 ^ 32 → with_number n is (decimal k) ≡ Ok (is ++ k ∷ [])
+unfolding with_number ◌>>=◌
+number_more n is k small = rw (number_of_decimal k small) refl
+
+numbers_again : (n : ℕ) (is ks : List ℕ) → All (λ m. m < 2 ^ 32) ks → numbers_after n is (map decimal ks) ≡ Ok (is ++ ks)
+unfolding numbers_after ◌>>=◌
+numbers_again n is [] small = rw (append-nil is) refl
+numbers_again n is (k ∷ ks) small =
+    rw (number_more n is k (All-head (λ x. x < 2 ^ 32) k ks small)) (numbers_again n (is ++ k ∷ []) ks (All-tail (λ x. x < 2 ^ 32) k ks small) ∙ ap Ok (append_assoc is (k ∷ []) ks))
+
+bound_by : (n : ℕ) (ps : List (List Seg)) (is : List ℕ) → All (λ m. m < 2 ^ 32) is → bound n (path_words ps ++ codes "over" ∷ map decimal is) ≡ Ok (Some (record { links = ps; interrupts = is }))
+unfolding bound set set_links expected ◌>>=◌
+bound_by n [] is small = rw (numbers_again n [] is small) refl
+bound_by n (p ∷ ps) is small = rw (path_more n [] p, until_over n (p ∷ []) ps (map decimal is), numbers_again n [] is small) refl
+
+none_again : (n : ℕ) → bound n (codes "none" ∷ []) ≡ Ok None
+unfolding bound ◌>>=◌
+none_again n = refl
+
+set_again : (n : ℕ) (b : Option BoundingSet) → All (λ m. m < 2 ^ 32) (interrupts_of_bound b) → bound n (set_of_bound b) ≡ Ok b
+set_again n None small = none_again n
+set_again n (Some b) small = bound_by n b.links b.interrupts small
+
+pub bound_again : (n : ℕ) (b : Option BoundingSet) (d : Said) → d.bound ≡ None → All (λ m. m < 2 ^ 32) (interrupts_of_bound b) → line n (bound_words b) d ≡ Ok (record d { bound = Some b })
+unfolding line keyed bound_line with_bound ◌>>=◌
+bound_again n b d none small = rw (set_again n b small, none) refl

@@ -1,0 +1,9 @@
+pub mod Again
+pub mod Cuts
+pub mod Decimals
+pub mod Plain
+pub mod Putting
+pub mod Sections
+pub mod Steps
+pub mod Texts
+pub mod Turns

@@ -1,0 +1,352 @@
+-- All lines of a report, section by section.
+use Rattle.std.proofs.Common.{◌≡◌, ◌∙◌, ap, sym, refl, subst, ℕ, suc, ◌+◌, ◌<◌, ◌≤◌, ◌^◌, List, [], ◌∷◌, ◌++◌, length, map, get_or, arith, append_assoc, append-nil, length-append, Ok, None, Some, Option}
+use Rattle.std.specs.Prelude.{All, codes, decimal, option_map}
+use Rattle.std.proofs.lemmas.List.Elements.{All-nil, All-cons, All-head, All-tail, All-append, All-map}
+use Rattle.std.specs.Int.{to_be_bytes, w16, w32}
+use Rattle.hex.specs.Hex.{encode_upper}
+use Rattle.ar_space.specs.Outcome.{Outcome, ◌>>=◌}
+use Rattle.aml_path.specs.declared.segment.Seg.{Seg}
+use Rattle.aml_path.specs.Text.{text_of}
+use Rattle.route_model.specs.Links.{OfferingLink}
+use Rattle.route_check.specs.Claims.{BoundingSet, RoutingClaim, interrupts_of_bound}
+use Rattle.route_report.specs.Lines.{lines, words, joined, text_of_lines}
+use Rattle.route_report.specs.Reading.{Said, nothing_said, line, keyed, heading, expected, claimed, lines_read, all_read, claim_of_text}
+use Rattle.route_report.specs.declared.report.Mode.{Mode}
+use Rattle.route_report.specs.declared.report.Mode.TheVariants as mode
+use Rattle.route_report.specs.declared.report.Form.{Form}
+use Rattle.route_report.specs.declared.report.Form.TheVariants as form
+use Rattle.route_report.specs.declared.report.Polarity.{Polarity}
+use Rattle.route_report.specs.declared.report.Polarity.TheVariants as polarity
+use Rattle.route_report.specs.declared.report.PinName.{PinName}
+use Rattle.route_report.specs.declared.report.PinName.TheVariants as pin
+use Rattle.route_report.specs.declared.report.IoApicLine.{IoApicLine}
+use Rattle.route_report.specs.declared.report.OverrideLine.{OverrideLine}
+use Rattle.route_report.specs.declared.report.LinkLine.{LinkLine}
+use Rattle.route_report.specs.declared.report.PinRoute.{PinRoute}
+use Rattle.route_report.specs.declared.report.PinRoute.TheVariants as route
+use Rattle.route_report.specs.declared.report.PinLine.{PinLine}
+use Rattle.route_report.specs.declared.report.SetOutcome.{SetOutcome}
+use Rattle.route_report.specs.declared.report.SetOutcome.TheVariants as outcome
+use Rattle.route_report.specs.declared.report.SetLine.{SetLine}
+use Rattle.route_report.specs.declared.report.After.{After}
+use Rattle.route_report.specs.declared.report.After.TheVariants as after
+use Rattle.route_report.specs.declared.report.AfterLine.{AfterLine}
+use Rattle.route_report.specs.declared.report.Report.{Report}
+use Rattle.route_report.specs.Printing.{Words, mode_word, form_word, polarity_word, pin_word, number_words, path_words, now_words, heading_words, mode_words, io_apic_words, override_words, link_words, wired_words, route_words, pin_words, give_words, busiest_words, set_of_bound, bound_words, outcome_words, set_words, state_words, after_words, found_lines, chosen_lines, text_of_report}
+use Rattle.route_report.specs.Readable.{link_of, claim_of_report, IsReadableOffer, IsReadable, IsSmall}
+use Rattle.route_report.proofs.Plain.{Plain, PlainWords, literal, decimal_plain, upper_plain, path_plain, words_again, lines_again}
+use Rattle.route_report.proofs.Again.{link_again, wired_again, give_again, busiest_again, bound_again}
+
+-- the words of each line are plain
+key : (k : List ℕ) (ws : Words) → All Plain k → PlainWords ws → PlainWords (k ∷ ws)
+key k ws h i = All-cons (All Plain) k ws h i
+
+none : PlainWords []
+none = All-nil (All Plain)
+
+decimals : (ns : List ℕ) → PlainWords (map decimal ns)
+decimals ns = All-map (All Plain) decimal ns (λ i d l. decimal_plain (get_or ns i d))
+
+paths : (ps : List (List Seg)) → PlainWords (map text_of ps)
+paths ps = All-map (All Plain) text_of ps (λ i d l. path_plain (get_or ps i d))
+
+number_words_plain : (ns : List ℕ) → PlainWords (number_words ns)
+number_words_plain [] = key (codes "-") [] (literal (codes "-") refl) none
+number_words_plain (n ∷ ns) = decimals (n ∷ ns)
+
+path_words_plain : (ps : List (List Seg)) → PlainWords (path_words ps)
+path_words_plain [] = key (codes "-") [] (literal (codes "-") refl) none
+path_words_plain (p ∷ ps) = paths (p ∷ ps)
+
+now_plain : (now : Option (List ℕ)) → PlainWords (now_words now)
+now_plain None = key (codes "none") [] (literal (codes "none") refl) none
+now_plain (Some ns) = number_words_plain ns
+
+mode_word_plain : (m : Mode) → All Plain (mode_word m)
+mode_word_plain mode.Apic = literal (codes "apic") refl
+mode_word_plain mode.Pic = literal (codes "pic") refl
+
+form_plain : (f : Form) → All Plain (form_word f)
+form_plain form.Small = literal (codes "small") refl
+form_plain form.Extended = literal (codes "extended") refl
+
+polarity_plain : (p : Polarity) → All Plain (polarity_word p)
+polarity_plain polarity.Low = literal (codes "low") refl
+polarity_plain polarity.High = literal (codes "high") refl
+
+pin_word_plain : (p : PinName) → All Plain (pin_word p)
+pin_word_plain pin.A = literal (codes "A") refl
+pin_word_plain pin.B = literal (codes "B") refl
+pin_word_plain pin.C = literal (codes "C") refl
+pin_word_plain pin.D = literal (codes "D") refl
+
+heading_plain : PlainWords heading_words
+heading_plain = key (codes "acpiroute") (codes "1" ∷ []) (literal (codes "acpiroute") refl) (key (codes "1") [] (literal (codes "1") refl) none)
+
+mode_plain : (m : Mode) → PlainWords (mode_words m)
+mode_plain m = key (codes "mode") (mode_word m ∷ []) (literal (codes "mode") refl) (key (mode_word m) [] (mode_word_plain m) none)
+
+io_apic_plain : (a : IoApicLine) → PlainWords (io_apic_words a)
+io_apic_plain a =
+    let address = encode_upper (to_be_bytes w32 a.address) in
+    key (codes "ioapic") (decimal a.id ∷ codes "at" ∷ address ∷ codes "base" ∷ decimal a.gsi_base ∷ []) (literal (codes "ioapic") refl)
+    (key (decimal a.id) (codes "at" ∷ address ∷ codes "base" ∷ decimal a.gsi_base ∷ []) (decimal_plain a.id)
+    (key (codes "at") (address ∷ codes "base" ∷ decimal a.gsi_base ∷ []) (literal (codes "at") refl)
+    (key address (codes "base" ∷ decimal a.gsi_base ∷ []) (upper_plain (to_be_bytes w32 a.address))
+    (key (codes "base") (decimal a.gsi_base ∷ []) (literal (codes "base") refl)
+    (key (decimal a.gsi_base) [] (decimal_plain a.gsi_base) none)))))
+
+override_plain : (o : OverrideLine) → PlainWords (override_words o)
+override_plain o =
+    let flags = encode_upper (to_be_bytes w16 o.flags) in
+    key (codes "override") (decimal o.source ∷ codes "to" ∷ decimal o.gsi ∷ codes "flags" ∷ flags ∷ []) (literal (codes "override") refl)
+    (key (decimal o.source) (codes "to" ∷ decimal o.gsi ∷ codes "flags" ∷ flags ∷ []) (decimal_plain o.source)
+    (key (codes "to") (decimal o.gsi ∷ codes "flags" ∷ flags ∷ []) (literal (codes "to") refl)
+    (key (decimal o.gsi) (codes "flags" ∷ flags ∷ []) (decimal_plain o.gsi)
+    (key (codes "flags") (flags ∷ []) (literal (codes "flags") refl)
+    (key flags [] (upper_plain (to_be_bytes w16 o.flags)) none)))))
+
+link_plain : (l : LinkLine) → PlainWords (link_words l)
+link_plain l =
+    let now = now_words (option_map (λ v. v.items) l.now) in
+    let tail = map decimal l.offers.items ++ codes "now" ∷ now in
+    key (codes "link") (text_of l.path ∷ form_word l.form ∷ polarity_word l.polarity ∷ codes "offers" ∷ tail) (literal (codes "link") refl)
+    (key (text_of l.path) (form_word l.form ∷ polarity_word l.polarity ∷ codes "offers" ∷ tail) (path_plain l.path)
+    (key (form_word l.form) (polarity_word l.polarity ∷ codes "offers" ∷ tail) (form_plain l.form)
+    (key (polarity_word l.polarity) (codes "offers" ∷ tail) (polarity_plain l.polarity)
+    (key (codes "offers") tail (literal (codes "offers") refl)
+    (All-append (All Plain) (map decimal l.offers.items) (codes "now" ∷ now) (decimals l.offers.items) (key (codes "now") now (literal (codes "now") refl) (now_plain (option_map (λ v. v.items) l.now))))))))
+
+wired_plain : (w : ℕ × ℕ) → PlainWords (wired_words w)
+wired_plain w =
+    key (codes "wired") (decimal w.0 ∷ decimal w.1 ∷ []) (literal (codes "wired") refl)
+    (key (decimal w.0) (decimal w.1 ∷ []) (decimal_plain w.0) (key (decimal w.1) [] (decimal_plain w.1) none))
+
+route_plain : (r : PinRoute) → PlainWords (route_words r)
+route_plain (route.Link n p) = key (decimal n) (text_of p ∷ []) (decimal_plain n) (key (text_of p) [] (path_plain p) none)
+route_plain (route.Wired n) = key (decimal n) (codes "wired" ∷ []) (decimal_plain n) (key (codes "wired") [] (literal (codes "wired") refl) none)
+route_plain (route.Absent p) = key (codes "absent") (text_of p ∷ []) (literal (codes "absent") refl) (key (text_of p) [] (path_plain p) none)
+
+pin_plain : (p : PinLine) → PlainWords (pin_words p)
+pin_plain p =
+    let rest = route_words p.route in
+    key (codes "pin") (text_of p.device ∷ decimal p.number ∷ pin_word p.pin ∷ rest) (literal (codes "pin") refl)
+    (key (text_of p.device) (decimal p.number ∷ pin_word p.pin ∷ rest) (path_plain p.device)
+    (key (decimal p.number) (pin_word p.pin ∷ rest) (decimal_plain p.number)
+    (key (pin_word p.pin) rest (pin_word_plain p.pin) (route_plain p.route))))
+
+give_plain : (g : List Seg × ℕ) → PlainWords (give_words g)
+give_plain g =
+    key (codes "give") (text_of g.0 ∷ decimal g.1 ∷ []) (literal (codes "give") refl)
+    (key (text_of g.0) (decimal g.1 ∷ []) (path_plain g.0) (key (decimal g.1) [] (decimal_plain g.1) none))
+
+busiest_plain : (k : ℕ) → PlainWords (busiest_words k)
+busiest_plain k = key (codes "busiest") (decimal k ∷ []) (literal (codes "busiest") refl) (key (decimal k) [] (decimal_plain k) none)
+
+set_of_bound_plain : (b : Option BoundingSet) → PlainWords (set_of_bound b)
+set_of_bound_plain None = key (codes "none") [] (literal (codes "none") refl) none
+set_of_bound_plain (Some b) =
+    All-append (All Plain) (path_words b.links) (codes "over" ∷ map decimal b.interrupts) (path_words_plain b.links) (key (codes "over") (map decimal b.interrupts) (literal (codes "over") refl) (decimals b.interrupts))
+
+bound_plain : (b : Option BoundingSet) → PlainWords (bound_words b)
+bound_plain b = key (codes "bound") (set_of_bound b) (literal (codes "bound") refl) (set_of_bound_plain b)
+
+refused_plain : (r : ℕ) → PlainWords (codes "refused" ∷ decimal r ∷ [])
+refused_plain r = key (codes "refused") (decimal r ∷ []) (literal (codes "refused") refl) (key (decimal r) [] (decimal_plain r) none)
+
+outcome_plain : (o : SetOutcome) → PlainWords (outcome_words o)
+outcome_plain outcome.Done = key (codes "ok") [] (literal (codes "ok") refl) none
+outcome_plain outcome.NoSetting = key (codes "none") [] (literal (codes "none") refl) none
+outcome_plain (outcome.Refused r) = refused_plain r
+
+set_plain : (s : SetLine) → PlainWords (set_words s)
+set_plain s = key (codes "set") (text_of s.path ∷ outcome_words s.outcome) (literal (codes "set") refl) (key (text_of s.path) (outcome_words s.outcome) (path_plain s.path) (outcome_plain s.outcome))
+
+state_plain : (a : After) → PlainWords (state_words a)
+state_plain (after.Now now) = now_plain (option_map (λ v. v.items) now)
+state_plain (after.Refused r) = refused_plain r
+
+after_plain : (a : AfterLine) → PlainWords (after_words a)
+after_plain a = key (codes "after") (text_of a.path ∷ state_words a.state) (literal (codes "after") refl) (key (text_of a.path) (state_words a.state) (path_plain a.path) (state_plain a.state))
+
+section : {X : Type 0} (view : X → Words) → ((x : X) → PlainWords (view x)) → (xs : List X) → All PlainWords (map view xs)
+section view plain xs = All-map PlainWords view xs (λ i d l. plain (get_or xs i d))
+
+found_plain : (r : Report) → All PlainWords (found_lines r)
+found_plain r =
+    let pins = map pin_words r.pins.items in
+    let wireds = map wired_words r.wired.items ++ pins in
+    let links = map link_words r.links.items ++ wireds in
+    let overrides = map override_words r.overrides.items ++ links in
+    let io_apics = map io_apic_words r.io_apics.items ++ overrides in
+    All-cons PlainWords heading_words (mode_words r.mode ∷ io_apics) heading_plain
+    (All-cons PlainWords (mode_words r.mode) io_apics (mode_plain r.mode)
+    (All-append PlainWords (map io_apic_words r.io_apics.items) overrides (section io_apic_words io_apic_plain r.io_apics.items)
+    (All-append PlainWords (map override_words r.overrides.items) links (section override_words override_plain r.overrides.items)
+    (All-append PlainWords (map link_words r.links.items) wireds (section link_words link_plain r.links.items)
+    (All-append PlainWords (map wired_words r.wired.items) pins (section wired_words wired_plain r.wired.items) (section pin_words pin_plain r.pins.items))))))
+
+chosen_plain : (r : Report) → All PlainWords (chosen_lines r)
+chosen_plain r =
+    let afters = map after_words r.afters.items in
+    let sets = map set_words r.sets.items ++ afters in
+    All-append PlainWords (map give_words r.gives.items) (busiest_words r.busiest ∷ bound_words r.bound ∷ sets) (section give_words give_plain r.gives.items)
+    (All-cons PlainWords (busiest_words r.busiest) (bound_words r.bound ∷ sets) (busiest_plain r.busiest)
+    (All-cons PlainWords (bound_words r.bound) sets (bound_plain r.bound)
+    (All-append PlainWords (map set_words r.sets.items) afters (section set_words set_plain r.sets.items) (section after_words after_plain r.afters.items))))
+
+-- the rest of a report's lines
+abbrev reads : ℕ → List Words → Said → Outcome RoutingClaim
+reads n ls d = lines_read n (map joined ls) d
+
+reads_on : (n : ℕ) (w : List ℕ) (ws : Words) (ls : List Words) (d e : Said) → PlainWords (w ∷ ws) → line n (w ∷ ws) d ≡ Ok e → reads n ((w ∷ ws) ∷ ls) d ≡ reads (n + 1) ls e
+unfolding lines_read ◌>>=◌
+reads_on n w ws ls d e plain is = rw (words_again w ws plain, is) refl
+
+abbrev Reaches : ℕ → List Words → Said → List Words → Said → Type 0
+Reaches n ls d rest e = (m : ℕ) × (reads n ls d ≡ reads m rest e)
+
+reach : (n : ℕ) (w : List ℕ) (ws : Words) (ls : List Words) (d e : Said) (rest : List Words) (f : Said) → PlainWords (w ∷ ws) → line n (w ∷ ws) d ≡ Ok e → Reaches (n + 1) ls e rest f → Reaches n ((w ∷ ws) ∷ ls) d rest f
+reach n w ws ls d e rest f plain is r = (r.0, reads_on n w ws ls d e plain is ∙ r.1)
+
+-- lines that claim nothing
+over : {X : Type 0} (k : List ℕ) (tail : X → Words) → ((x : X) → PlainWords (k ∷ tail x)) → ((n : ℕ) (x : X) (d : Said) → line n (k ∷ tail x) d ≡ Ok d)
+    → (n : ℕ) (xs : List X) (rest : List Words) (d : Said) → Reaches n (map (λ x. k ∷ tail x) xs ++ rest) d rest d
+over k tail plain passes n [] rest d = (n, refl)
+over k tail plain passes n (x ∷ xs) rest d = reach n k (tail x) (map (λ y. k ∷ tail y) xs ++ rest) d d rest d (plain x) (passes n x d) (over k tail plain passes (n + 1) xs rest d)
+
+mode_passed : (n : ℕ) (m : Mode) (d : Said) → line n (mode_words m) d ≡ Ok d
+unfolding line keyed ◌>>=◌
+mode_passed n m d = refl
+
+io_apic_passed : (n : ℕ) (a : IoApicLine) (d : Said) → line n (io_apic_words a) d ≡ Ok d
+unfolding line keyed ◌>>=◌
+io_apic_passed n a d = refl
+
+override_passed : (n : ℕ) (o : OverrideLine) (d : Said) → line n (override_words o) d ≡ Ok d
+unfolding line keyed ◌>>=◌
+override_passed n o d = refl
+
+pin_passed : (n : ℕ) (p : PinLine) (d : Said) → line n (pin_words p) d ≡ Ok d
+unfolding line keyed ◌>>=◌
+pin_passed n p d = refl
+
+set_passed : (n : ℕ) (s : SetLine) (d : Said) → line n (set_words s) d ≡ Ok d
+unfolding line keyed ◌>>=◌
+set_passed n s d = refl
+
+after_passed : (n : ℕ) (a : AfterLine) (d : Said) → line n (after_words a) d ≡ Ok d
+unfolding line keyed ◌>>=◌
+after_passed n a d = refl
+
+-- lines that add to what is claimed
+all_links : (n : ℕ) (ls : List LinkLine) (rest : List Words) (d : Said) → length d.links + length ls ≤ 256 → All (λ l. IsReadableOffer l.offers.items) ls → All (λ l. All (λ m. m < 2 ^ 32) l.offers.items) ls
+    → Reaches n (map link_words ls ++ rest) d rest (record d { links = d.links ++ map link_of ls })
+all_links n [] rest d room readable small = (n, ap (λ ls. reads n rest (record d { links = ls })) (sym (append-nil d.links)))
+all_links n (l ∷ ls) rest d room readable small =
+    let e : Said = record d { links = d.links ++ link_of l ∷ [] } in
+    let long = length-append d.links (link_of l ∷ []) in
+    let tail = text_of l.path ∷ form_word l.form ∷ polarity_word l.polarity ∷ codes "offers" ∷ (map decimal l.offers.items ++ codes "now" ∷ now_words (option_map (λ v. v.items) l.now)) in
+    let r = all_links (n + 1) ls rest e (omega arith) (All-tail (λ x. IsReadableOffer x.offers.items) l ls readable) (All-tail (λ x. All (λ m. m < 2 ^ 32) x.offers.items) l ls small) in
+    let s = reach n (codes "link") tail (map link_words ls ++ rest) d e rest (record e { links = e.links ++ map link_of ls }) (link_plain l)
+    (link_again n l d (omega arith) (All-head (λ x. IsReadableOffer x.offers.items) l ls readable) (All-head (λ x. All (λ m. m < 2 ^ 32) x.offers.items) l ls small)) r in
+    (s.0, s.1 ∙ ap (λ xs. reads s.0 rest (record d { links = xs })) (append_assoc d.links (link_of l ∷ []) (map link_of ls)))
+
+all_wired : (n : ℕ) (ws : List (ℕ × ℕ)) (rest : List Words) (d : Said) → length d.wired + length ws ≤ 4096 → All (λ w. (w.0 < 2 ^ 32) × (w.1 < 2 ^ 32)) ws
+    → Reaches n (map wired_words ws ++ rest) d rest (record d { wired = d.wired ++ ws })
+all_wired n [] rest d room small = (n, ap (λ ws. reads n rest (record d { wired = ws })) (sym (append-nil d.wired)))
+all_wired n (w ∷ ws) rest d room small =
+    let e : Said = record d { wired = d.wired ++ w ∷ [] } in
+    let long = length-append d.wired (w ∷ []) in
+    let r = all_wired (n + 1) ws rest e (omega arith) (All-tail (λ x. (x.0 < 2 ^ 32) × (x.1 < 2 ^ 32)) w ws small) in
+    let s = reach n (codes "wired") (decimal w.0 ∷ decimal w.1 ∷ []) (map wired_words ws ++ rest) d e rest (record e { wired = e.wired ++ ws }) (wired_plain w)
+    (wired_again n w d (omega arith) (All-head (λ x. (x.0 < 2 ^ 32) × (x.1 < 2 ^ 32)) w ws small)) r in
+    (s.0, s.1 ∙ ap (λ xs. reads s.0 rest (record d { wired = xs })) (append_assoc d.wired (w ∷ []) ws))
+
+all_gives : (n : ℕ) (gs : List (List Seg × ℕ)) (rest : List Words) (d : Said) → All (λ g. g.1 < 2 ^ 32) gs → Reaches n (map give_words gs ++ rest) d rest (record d { gives = d.gives ++ gs })
+all_gives n [] rest d small = (n, ap (λ gs. reads n rest (record d { gives = gs })) (sym (append-nil d.gives)))
+all_gives n (g ∷ gs) rest d small =
+    let e : Said = record d { gives = d.gives ++ g ∷ [] } in
+    let r = all_gives (n + 1) gs rest e (All-tail (λ x. x.1 < 2 ^ 32) g gs small) in
+    let s = reach n (codes "give") (text_of g.0 ∷ decimal g.1 ∷ []) (map give_words gs ++ rest) d e rest (record e { gives = e.gives ++ gs }) (give_plain g) (give_again n g d (All-head (λ x. x.1 < 2 ^ 32) g gs small)) r in
+    (s.0, s.1 ∙ ap (λ xs. reads s.0 rest (record d { gives = xs })) (append_assoc d.gives (g ∷ []) gs))
+
+-- one section after another
+next : (n : ℕ) (ls : List Words) (d : Said) (rest : List Words) (e : Said) (last : List Words) (f : Said) → Reaches n ls d rest e → ((m : ℕ) → Reaches m rest e last f) → Reaches n ls d last f
+next n ls d rest e last f r go = let s = go r.0 in (s.0, r.1 ∙ s.1)
+
+abbrev linked : Report → Said
+linked r = record nothing_said { links = map link_of r.links.items }
+
+abbrev with_wires : Report → Said
+with_wires r = record (linked r) { wired = r.wired.items }
+
+abbrev given : Report → Said
+given r = record (with_wires r) { gives = r.gives.items }
+
+abbrev busy : Report → Said
+busy r = record (given r) { busiest = Some r.busiest }
+
+abbrev all_said : Report → Said
+all_said r = record (busy r) { bound = Some r.bound }
+
+abbrev last_lines : Report → List Words
+last_lines r = map set_words r.sets.items ++ (map after_words r.afters.items ++ [])
+
+abbrev chosen_rest : Report → List Words
+chosen_rest r = busiest_words r.busiest ∷ bound_words r.bound ∷ last_lines r
+
+abbrev all_lines : Report → List Words
+all_lines r = mode_words r.mode ∷ (map io_apic_words r.io_apics.items ++ (map override_words r.overrides.items
+    ++ (map link_words r.links.items ++ (map wired_words r.wired.items ++ (map pin_words r.pins.items ++ (map give_words r.gives.items ++ chosen_rest r))))))
+
+flat : (r : Report) → found_lines r ++ chosen_lines r ≡ heading_words ∷ all_lines r
+flat r = simp (append_assoc, append-nil) refl
+
+read_last : (r : Report) (d : Said) (n : ℕ) → Reaches n (last_lines r) d [] d
+read_last r d n =
+    let afters = map after_words r.afters.items ++ [] in
+    next n (last_lines r) d afters d [] d (over (codes "set") (λ (s : SetLine). text_of s.path ∷ outcome_words s.outcome) set_plain set_passed n r.sets.items afters d)
+    (λ m. over (codes "after") (λ (a : AfterLine). text_of a.path ∷ state_words a.state) after_plain after_passed m r.afters.items [] d)
+
+read_chosen : (r : Report) → IsSmall r → (n : ℕ) → Reaches n (map give_words r.gives.items ++ chosen_rest r) (with_wires r) [] (all_said r)
+read_chosen r small n =
+    next n (map give_words r.gives.items ++ chosen_rest r) (with_wires r) (chosen_rest r) (given r) [] (all_said r) (all_gives n r.gives.items (chosen_rest r) (with_wires r) small.gives)
+    (λ m. reach m (codes "busiest") (decimal r.busiest ∷ []) (bound_words r.bound ∷ last_lines r) (given r) (busy r) [] (all_said r) (busiest_plain r.busiest) (busiest_again m r.busiest (given r) refl small.busiest)
+    (reach (m + 1) (codes "bound") (set_of_bound r.bound) (last_lines r) (busy r) (all_said r) [] (all_said r) (bound_plain r.bound) (bound_again (m + 1) r.bound (busy r) refl small.interrupts)
+    (read_last r (all_said r) (m + 1 + 1))))
+
+read_all : (r : Report) → IsReadable r → IsSmall r → (n : ℕ) → Reaches n (all_lines r) nothing_said [] (all_said r)
+read_all r readable small n =
+    let gives = map give_words r.gives.items ++ chosen_rest r in
+    let pins = map pin_words r.pins.items ++ gives in
+    let wireds = map wired_words r.wired.items ++ pins in
+    let links = map link_words r.links.items ++ wireds in
+    let overrides = map override_words r.overrides.items ++ links in
+    let io_apics = map io_apic_words r.io_apics.items ++ overrides in
+    let few_links = readable.few_links in
+    let few_wired = readable.few_wired in
+    let d = nothing_said in
+    let e = all_said r in
+    reach n (codes "mode") (mode_word r.mode ∷ []) io_apics d d [] e (mode_plain r.mode) (mode_passed n r.mode d)
+    (next (n + 1) io_apics d overrides d [] e (over (codes "ioapic") (λ (a : IoApicLine). decimal a.id ∷ codes "at" ∷ encode_upper (to_be_bytes w32 a.address) ∷ codes "base" ∷ decimal a.gsi_base ∷ []) io_apic_plain io_apic_passed (n + 1) r.io_apics.items overrides d)
+    (λ m. next m overrides d links d [] e (over (codes "override") (λ (o : OverrideLine). decimal o.source ∷ codes "to" ∷ decimal o.gsi ∷ codes "flags" ∷ encode_upper (to_be_bytes w16 o.flags) ∷ []) override_plain override_passed m r.overrides.items links d)
+    (λ m. next m links d wireds (linked r) [] e (all_links m r.links.items wireds d (omega arith) readable.offers small.offers)
+    (λ m. next m wireds (linked r) pins (with_wires r) [] e (all_wired m r.wired.items pins (linked r) (omega arith) small.wired)
+    (λ m. next m pins (with_wires r) gives (with_wires r) [] e (over (codes "pin") (λ (p : PinLine). text_of p.device ∷ decimal p.number ∷ pin_word p.pin ∷ route_words p.route) pin_plain pin_passed m r.pins.items gives (with_wires r))
+    (λ m. read_chosen r small m))))))
+
+ended : (r : Report) (n : ℕ) → reads n [] (all_said r) ≡ Ok (claim_of_report r)
+unfolding lines_read claimed ◌>>=◌
+ended r n = refl
+
+headed : (ls : List Words) → all_read (map joined (heading_words ∷ ls)) ≡ reads 2 ls nothing_said
+unfolding all_read heading expected ◌>>=◌
+headed ls = refl
+
+pub read_back : (r : Report) → IsReadable r → IsSmall r → claim_of_text (text_of_report r) ≡ Ok (claim_of_report r)
+unfolding claim_of_text text_of_report
+read_back r readable small =
+    let all = read_all r readable small 2 in
+    ap all_read (lines_again (found_lines r ++ chosen_lines r) (All-append PlainWords (found_lines r) (chosen_lines r) (found_plain r) (chosen_plain r)) ∙ ap (map joined) (flat r))
+    ∙ (headed (all_lines r) ∙ (all.1 ∙ ended r all.0))

@@ -1,0 +1,143 @@
+-- The lines of a report.
+use Rattle.std.specs.Prelude.{ℕ, List, [], ◌∷◌, ◌++◌, map, Option, Some, None, option_map, codes, decimal}
+use Rattle.std.specs.Int.{to_be_bytes, w16, w32}
+use Rattle.hex.specs.Hex.{encode_upper}
+use Rattle.aml_path.specs.declared.segment.Seg.{Seg}
+use Rattle.aml_path.specs.Text.{text_of}
+use Rattle.route_check.specs.Claims.{BoundingSet}
+use Rattle.route_report.specs.Lines.{text_of_lines}
+use Rattle.route_report.specs.declared.report.Mode.{Mode}
+use Rattle.route_report.specs.declared.report.Mode.TheVariants as mode
+use Rattle.route_report.specs.declared.report.Form.{Form}
+use Rattle.route_report.specs.declared.report.Form.TheVariants as form
+use Rattle.route_report.specs.declared.report.Polarity.{Polarity}
+use Rattle.route_report.specs.declared.report.Polarity.TheVariants as polarity
+use Rattle.route_report.specs.declared.report.PinName.{PinName}
+use Rattle.route_report.specs.declared.report.PinName.TheVariants as pin
+use Rattle.route_report.specs.declared.report.IoApicLine.{IoApicLine}
+use Rattle.route_report.specs.declared.report.OverrideLine.{OverrideLine}
+use Rattle.route_report.specs.declared.report.LinkLine.{LinkLine}
+use Rattle.route_report.specs.declared.report.PinRoute.{PinRoute}
+use Rattle.route_report.specs.declared.report.PinRoute.TheVariants as route
+use Rattle.route_report.specs.declared.report.PinLine.{PinLine}
+use Rattle.route_report.specs.declared.report.SetOutcome.{SetOutcome}
+use Rattle.route_report.specs.declared.report.SetOutcome.TheVariants as outcome
+use Rattle.route_report.specs.declared.report.SetLine.{SetLine}
+use Rattle.route_report.specs.declared.report.After.{After}
+use Rattle.route_report.specs.declared.report.After.TheVariants as after
+use Rattle.route_report.specs.declared.report.AfterLine.{AfterLine}
+use Rattle.route_report.specs.declared.report.Report.{Report}
+
+abbrev pub Words : Type 0
+Words = List (List ℕ)
+
+abbrev pub mode_word : Mode → List ℕ
+mode_word mode.Apic = codes "apic"
+mode_word mode.Pic = codes "pic"
+
+abbrev pub form_word : Form → List ℕ
+form_word form.Small = codes "small"
+form_word form.Extended = codes "extended"
+
+abbrev pub polarity_word : Polarity → List ℕ
+polarity_word polarity.Low = codes "low"
+polarity_word polarity.High = codes "high"
+
+abbrev pub pin_word : PinName → List ℕ
+pin_word pin.A = codes "A"
+pin_word pin.B = codes "B"
+pin_word pin.C = codes "C"
+pin_word pin.D = codes "D"
+
+-- numbers; `-` stands for none
+abbrev pub number_words : List ℕ → Words
+number_words [] = codes "-" ∷ []
+number_words (n ∷ ns) = map decimal (n ∷ ns)
+
+-- paths; `-` stands for none
+abbrev pub path_words : List (List Seg) → Words
+path_words [] = codes "-" ∷ []
+path_words (p ∷ ps) = map text_of (p ∷ ps)
+
+-- the interrupts that a link is set to; `none` without `_CRS`
+abbrev pub now_words : Option (List ℕ) → Words
+now_words None = codes "none" ∷ []
+now_words (Some ns) = number_words ns
+
+-- `acpiroute 1`: a report of version 1
+abbrev pub heading_words : Words
+heading_words = codes "acpiroute" ∷ codes "1" ∷ []
+
+-- `mode apic` or `mode pic`
+abbrev pub mode_words : Mode → Words
+mode_words m = codes "mode" ∷ mode_word m ∷ []
+
+-- `ioapic I at A base G`, with A in eight hexadecimal digits
+abbrev pub io_apic_words : IoApicLine → Words
+io_apic_words a = codes "ioapic" ∷ decimal a.id ∷ codes "at" ∷ encode_upper (to_be_bytes w32 a.address) ∷ codes "base" ∷ decimal a.gsi_base ∷ []
+
+-- `override S to G flags F`, with F in four hexadecimal digits
+abbrev pub override_words : OverrideLine → Words
+override_words o = codes "override" ∷ decimal o.source ∷ codes "to" ∷ decimal o.gsi ∷ codes "flags" ∷ encode_upper (to_be_bytes w16 o.flags) ∷ []
+
+-- `link P small low offers N.. now V`
+abbrev pub link_words : LinkLine → Words
+link_words l = codes "link" ∷ text_of l.path ∷ form_word l.form ∷ polarity_word l.polarity ∷ codes "offers"
+    ∷ (map decimal l.offers.items ++ codes "now" ∷ now_words (option_map (λ v. v.items) l.now))
+
+-- `wired N C`
+abbrev pub wired_words : ℕ × ℕ → Words
+wired_words w = codes "wired" ∷ decimal w.0 ∷ decimal w.1 ∷ []
+
+abbrev pub route_words : PinRoute → Words
+route_words (route.Link n p) = decimal n ∷ text_of p ∷ []
+route_words (route.Wired n) = decimal n ∷ codes "wired" ∷ []
+route_words (route.Absent p) = codes "absent" ∷ text_of p ∷ []
+
+-- `pin D n X N P`, `pin D n X N wired`, `pin D n X absent P`
+abbrev pub pin_words : PinLine → Words
+pin_words p = codes "pin" ∷ text_of p.device ∷ decimal p.number ∷ pin_word p.pin ∷ route_words p.route
+
+-- `give P N`
+abbrev pub give_words : List Seg × ℕ → Words
+give_words g = codes "give" ∷ text_of g.0 ∷ decimal g.1 ∷ []
+
+-- `busiest K`
+abbrev pub busiest_words : ℕ → Words
+busiest_words k = codes "busiest" ∷ decimal k ∷ []
+
+-- `bound none` or `bound P.. over N..`
+abbrev pub set_of_bound : Option BoundingSet → Words
+set_of_bound None = codes "none" ∷ []
+set_of_bound (Some b) = path_words b.links ++ codes "over" ∷ map decimal b.interrupts
+
+abbrev pub bound_words : Option BoundingSet → Words
+bound_words b = codes "bound" ∷ set_of_bound b
+
+-- `set P ok`, `set P none`, `set P refused R`
+abbrev pub outcome_words : SetOutcome → Words
+outcome_words outcome.Done = codes "ok" ∷ []
+outcome_words outcome.NoSetting = codes "none" ∷ []
+outcome_words (outcome.Refused r) = codes "refused" ∷ decimal r ∷ []
+
+abbrev pub set_words : SetLine → Words
+set_words s = codes "set" ∷ text_of s.path ∷ outcome_words s.outcome
+
+-- `after P V`, `after P refused R`
+abbrev pub state_words : After → Words
+state_words (after.Now now) = now_words (option_map (λ v. v.items) now)
+state_words (after.Refused r) = codes "refused" ∷ decimal r ∷ []
+
+abbrev pub after_words : AfterLine → Words
+after_words a = codes "after" ∷ text_of a.path ∷ state_words a.state
+
+-- all lines, in their order: what was found, and what was chosen
+abbrev pub found_lines : Report → List Words
+found_lines r = heading_words ∷ mode_words r.mode ∷ (map io_apic_words r.io_apics.items ++ (map override_words r.overrides.items
+    ++ (map link_words r.links.items ++ (map wired_words r.wired.items ++ map pin_words r.pins.items))))
+
+abbrev pub chosen_lines : Report → List Words
+chosen_lines r = map give_words r.gives.items ++ (busiest_words r.busiest ∷ bound_words r.bound ∷ (map set_words r.sets.items ++ map after_words r.afters.items))
+
+unfoldable pub text_of_report : Report → List ℕ
+text_of_report r = text_of_lines (found_lines r ++ chosen_lines r)

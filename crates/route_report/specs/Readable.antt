@@ -1,0 +1,33 @@
+-- What a report claims itself, and which reports are read.
+use Rattle.std.specs.Prelude.{ℕ, List, ◌<◌, ◌≤◌, ◌^◌, length, map, All}
+use Rattle.std.specs.List.Sorted.{IsStrictlyIncreasing}
+use Rattle.route_model.specs.Links.{OfferingLink}
+use Rattle.route_check.specs.Claims.{RoutingClaim, interrupts_of_bound}
+use Rattle.route_report.specs.declared.report.LinkLine.{LinkLine}
+use Rattle.route_report.specs.declared.report.Report.{Report}
+
+abbrev pub link_of : LinkLine → OfferingLink
+link_of l = record { path = l.path; offers = l.offers.items }
+
+-- what the report claims
+abbrev pub claim_of_report : Report → RoutingClaim
+claim_of_report r = record { links = map link_of r.links.items; wired = r.wired.items; gives = r.gives.items; busiest = r.busiest; bound = r.bound }
+
+-- an offer that a line can show
+pub record IsReadableOffer (offers : List ℕ) : Type 0 where
+  pub some : 0 < length offers
+  pub ascending : IsStrictlyIncreasing offers
+
+-- a report within the limits of reading
+pub record IsReadable (r : Report) : Type 0 where
+  pub few_links : length r.links.items ≤ 256
+  pub few_wired : length r.wired.items ≤ 4096
+  pub offers : All (λ l. IsReadableOffer l.offers.items) r.links.items
+
+-- its numbers have 32 bits, as those of every report in memory do
+pub record IsSmall (r : Report) : Type 0 where
+  pub offers : All (λ l. All (λ n. n < 2 ^ 32) l.offers.items) r.links.items
+  pub wired : All (λ w. (w.0 < 2 ^ 32) × (w.1 < 2 ^ 32)) r.wired.items
+  pub gives : All (λ g. g.1 < 2 ^ 32) r.gives.items
+  pub busiest : r.busiest < 2 ^ 32
+  pub interrupts : All (λ n. n < 2 ^ 32) (interrupts_of_bound r.bound)

@@ -1,0 +1,286 @@
+-- What a report claims, read line by line.
+use Rattle.std.specs.Prelude.{ℕ, ◌+◌, ◌==◌, ◌||◌, nat_lt, Bool, true, List, [], ◌∷◌, ◌++◌, length, Option, Some, None, Ok, Err, codes, is_some, ok_or, if◌then◌else◌}
+use Rattle.std.specs.Str.{bytes_eq}
+use Rattle.ar_space.specs.Outcome.{Outcome, ◌>>=◌}
+use Rattle.ar_space.specs.declared.refusal.Refusal.TheVariants.{Report}
+use Rattle.ar_space.specs.declared.refusal.ReportFault.TheVariants.{BadLine}
+use Rattle.aml_path.specs.declared.segment.Seg.{Seg}
+use Rattle.aml_path.specs.Text.{text_of, path_of_text}
+use Rattle.route_model.specs.Links.{OfferingLink}
+use Rattle.route_check.specs.Claims.{BoundingSet, RoutingClaim}
+use Rattle.route_report.specs.Lines.{lines, words, number}
+
+-- what the lines have said so far; of a bound, that there is none is said too
+pub record Said : Type 0 where
+  pub links : List OfferingLink
+  pub wired : List (ℕ × ℕ)
+  pub gives : List (List Seg × ℕ)
+  pub busiest : Option ℕ
+  pub bound : Option (Option BoundingSet)
+
+abbrev pub nothing_said : Said
+nothing_said = record { links = []; wired = []; gives = []; busiest = None; bound = None }
+
+-- a number follows those before it
+abbrev pub ascends : List ℕ → ℕ → Bool
+ascends [] m = true
+ascends (k ∷ []) m = nat_lt k m
+ascends (k ∷ l ∷ ks) m = ascends (l ∷ ks) m
+
+-- the first word of a line that claims nothing
+abbrev pub is_passed_over : List ℕ → Bool
+is_passed_over key =
+    bytes_eq key (codes "mode") || bytes_eq key (codes "ioapic") || bytes_eq key (codes "override")
+    || bytes_eq key (codes "pin") || bytes_eq key (codes "set") || bytes_eq key (codes "after")
+
+-- n is the line's number
+module _ (n : ℕ) where
+  abbrev pub bad : {A : Type 0} → Outcome A
+  bad = Err (Report (BadLine n))
+
+  -- what is there, or the line is refused
+  abbrev pub here : {A : Type 0} → Option A → Outcome A
+  here found = ok_or found (Report (BadLine n))
+
+  -- what was found, or the line is refused
+  abbrev pub in_line : {A : Type 0} → Outcome A → Outcome A
+  in_line (Ok a) = Ok a
+  in_line (Err e) = bad
+
+  -- the first of the words, and the others
+  abbrev pub word : List (List ℕ) → Outcome (List ℕ × List (List ℕ))
+  word [] = bad
+  word (w ∷ ws) = Ok (w, ws)
+
+  -- no word is left
+  abbrev pub ended : List (List ℕ) → Outcome (Unit {0})
+  ended [] = Ok tt
+  ended (w ∷ ws) = bad
+
+  -- the first of the words is this one; the others
+  unfoldable pub expected : List ℕ → List (List ℕ) → Outcome (List (List ℕ))
+  expected key ws = do
+    w ← word ws
+    if bytes_eq w.0 key then Ok w.1 else bad
+
+  -- the first of the words is one of two; the others
+  unfoldable pub one_of : List ℕ → List ℕ → List (List ℕ) → Outcome (List (List ℕ))
+  one_of this that ws = do
+    w ← word ws
+    if bytes_eq w.0 this || bytes_eq w.0 that then Ok w.1 else bad
+
+  -- the number that a word is
+  abbrev pub number_here : List ℕ → Outcome ℕ
+  number_here w = here (number w)
+
+  -- the path that a word is: `\`, and segments of four characters
+  unfoldable pub path_here : List ℕ → Outcome (List Seg)
+  path_here w = do
+    p ← in_line (path_of_text w)
+    if bytes_eq (text_of p) w then Ok p else bad
+
+  -- the first of the words as a number or as a path, and the others
+  unfoldable pub numbered : List (List ℕ) → Outcome (ℕ × List (List ℕ))
+  numbered ws = do
+    w ← word ws
+    a ← number_here w.0
+    Ok (a, w.1)
+
+  unfoldable pub named : List (List ℕ) → Outcome (List Seg × List (List ℕ))
+  named ws = do
+    w ← word ws
+    p ← path_here w.0
+    Ok (p, w.1)
+
+  -- a number more, in ascending order
+  unfoldable pub with_offer : List ℕ → List ℕ → Outcome (List ℕ)
+  with_offer os w = do
+    m ← number_here w
+    if ascends os m then Ok (os ++ m ∷ []) else bad
+
+  -- what each word adds to what stands, up to a word that ends them, and the words behind it
+  unfoldable pub until : {A : Type 0} → List ℕ → (List A → List ℕ → Outcome (List A)) → List A → List (List ℕ) → Outcome (List A × List (List ℕ))
+  until key step xs [] = bad
+  until key step xs (w ∷ ws) = if bytes_eq w key then Ok (xs, ws) else (do
+    more ← step xs w
+    until key step more ws)
+
+  -- one number at least, up to the word `now`; what follows that doesn't count
+  unfoldable pub offers : List (List ℕ) → Outcome (List ℕ)
+  offers ws = do
+    w ← word ws
+    first ← with_offer [] w.0
+    all ← until (codes "now") with_offer first w.1
+    Ok all.0
+
+  -- `small low offers N.. now V`, or `extended`, or `high`
+  unfoldable pub offered : List (List ℕ) → Outcome (List ℕ)
+  offered ws = do
+    f ← one_of (codes "small") (codes "extended") ws
+    p ← one_of (codes "low") (codes "high") f
+    o ← expected (codes "offers") p
+    offers o
+
+  -- `P`, and what it offers
+  unfoldable pub link : List (List ℕ) → Outcome OfferingLink
+  link ws = do
+    p ← named ws
+    os ← offered p.1
+    Ok (record { path = p.0; offers = os })
+
+  -- `N C`
+  unfoldable pub wired : List (List ℕ) → Outcome (ℕ × ℕ)
+  wired ws = do
+    a ← numbered ws
+    c ← numbered a.1
+    _ ← ended c.1
+    Ok (a.0, c.0)
+
+  -- `P N`
+  unfoldable pub give : List (List ℕ) → Outcome (List Seg × ℕ)
+  give ws = do
+    p ← named ws
+    a ← numbered p.1
+    _ ← ended a.1
+    Ok (p.0, a.0)
+
+  -- `K`
+  unfoldable pub busiest : List (List ℕ) → Outcome ℕ
+  busiest ws = do
+    a ← numbered ws
+    _ ← ended a.1
+    Ok a.0
+
+  -- a path more
+  unfoldable pub with_path : List (List Seg) → List ℕ → Outcome (List (List Seg))
+  with_path ps w = do
+    p ← path_here w
+    Ok (ps ++ p ∷ [])
+
+  -- `-` for no path, or one at least, up to the word `over`; the words behind it
+  unfoldable pub set_links : List ℕ → List (List ℕ) → Outcome (List (List Seg) × List (List ℕ))
+  set_links w ws = if bytes_eq w (codes "-") then (do
+    rest ← expected (codes "over") ws
+    Ok ([], rest)) else (do
+      first ← with_path [] w
+      until (codes "over") with_path first ws)
+
+  -- a number more, and all words as numbers, after those before
+  unfoldable pub with_number : List ℕ → List ℕ → Outcome (List ℕ)
+  with_number is w = do
+    m ← number_here w
+    Ok (is ++ m ∷ [])
+
+  unfoldable pub numbers_after : List ℕ → List (List ℕ) → Outcome (List ℕ)
+  numbers_after is [] = Ok is
+  numbers_after is (w ∷ ws) = do
+    more ← with_number is w
+    numbers_after more ws
+
+  -- `P.. over N..`
+  unfoldable pub set : List ℕ → List (List ℕ) → Outcome BoundingSet
+  set w ws = do
+    ps ← set_links w ws
+    is ← numbers_after [] ps.1
+    Ok (record { links = ps.0; interrupts = is })
+
+  -- `none`, or a set
+  unfoldable pub bound : List (List ℕ) → Outcome (Option BoundingSet)
+  bound ws = do
+    w ← word ws
+    if bytes_eq w.0 (codes "none") then (do
+      _ ← ended w.1
+      Ok None) else (do
+        s ← set w.0 w.1
+        Ok (Some s))
+
+  -- what is said already, with a link more, a wired interrupt more and what a link is given more: at most 256 links and
+  -- 4096 wired interrupts
+  unfoldable pub with_link : OfferingLink → Said → Outcome Said
+  with_link l d = if nat_lt (length d.links) 256 then Ok (record d { links = d.links ++ l ∷ [] }) else bad
+
+  unfoldable pub with_wired : ℕ × ℕ → Said → Outcome Said
+  with_wired w d = if nat_lt (length d.wired) 4096 then Ok (record d { wired = d.wired ++ w ∷ [] }) else bad
+
+  unfoldable pub with_give : List Seg × ℕ → Said → Outcome Said
+  with_give g d = Ok (record d { gives = d.gives ++ g ∷ [] })
+
+  -- and with one busiest interrupt and one bound
+  unfoldable pub with_busiest : ℕ → Said → Outcome Said
+  with_busiest k d = if is_some d.busiest then bad else Ok (record d { busiest = Some k })
+
+  unfoldable pub with_bound : Option BoundingSet → Said → Outcome Said
+  with_bound b d = if is_some d.bound then bad else Ok (record d { bound = Some b })
+
+  -- what the words behind the first one say
+  unfoldable pub link_line : List (List ℕ) → Said → Outcome Said
+  link_line ws d = do
+    l ← link ws
+    with_link l d
+
+  unfoldable pub wired_line : List (List ℕ) → Said → Outcome Said
+  wired_line ws d = do
+    w ← wired ws
+    with_wired w d
+
+  unfoldable pub give_line : List (List ℕ) → Said → Outcome Said
+  give_line ws d = do
+    g ← give ws
+    with_give g d
+
+  unfoldable pub busiest_line : List (List ℕ) → Said → Outcome Said
+  busiest_line ws d = do
+    k ← busiest ws
+    with_busiest k d
+
+  unfoldable pub bound_line : List (List ℕ) → Said → Outcome Said
+  bound_line ws d = do
+    b ← bound ws
+    with_bound b d
+
+  -- a line by its first word
+  unfoldable pub keyed : List ℕ → List (List ℕ) → Said → Outcome Said
+  keyed key ws d =
+      if bytes_eq key (codes "link") then link_line ws d
+      else if bytes_eq key (codes "wired") then wired_line ws d
+      else if bytes_eq key (codes "give") then give_line ws d
+      else if bytes_eq key (codes "busiest") then busiest_line ws d
+      else if bytes_eq key (codes "bound") then bound_line ws d
+      else if is_passed_over key then Ok d
+      else bad
+
+  unfoldable pub line : List (List ℕ) → Said → Outcome Said
+  line ws d = do
+    w ← word ws
+    keyed w.0 w.1 d
+
+  -- the first line: a report of version 1
+  unfoldable pub heading : List (List ℕ) → Outcome (Unit {0})
+  heading ws = do
+    name ← expected (codes "acpiroute") ws
+    version ← expected (codes "1") name
+    ended version
+
+  -- what all lines claim: the busiest interrupt and the bound must be said
+  unfoldable pub claimed : Said → Outcome RoutingClaim
+  claimed d = do
+    k ← here d.busiest
+    b ← here d.bound
+    Ok (record { links = d.links; wired = d.wired; gives = d.gives; busiest = k; bound = b })
+
+-- the lines from the n-th on, and what was said before them
+unfoldable pub lines_read : ℕ → List (List ℕ) → Said → Outcome RoutingClaim
+lines_read n [] d = claimed n d
+lines_read n (l ∷ ls) d = do
+  e ← line n (words l) d
+  lines_read (n + 1) ls e
+
+unfoldable pub all_read : List (List ℕ) → Outcome RoutingClaim
+all_read [] = bad 1
+all_read (l ∷ ls) = do
+  _ ← heading 1 (words l)
+  lines_read 2 ls nothing_said
+
+-- what a report claims
+unfoldable pub claim_of_text : List ℕ → Outcome RoutingClaim
+claim_of_text text = all_read (lines text)

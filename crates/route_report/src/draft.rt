@@ -1,0 +1,147 @@
+//! What the lines of a report have said so far.
+ghost use Rattle.std.specs.Prelude.{◌≡◌};
+ghost use Rattle.ar_space.specs.Outcome.{Answers, seen};
+ghost use Rattle.route_report.specs.Reading.{nothing_said, with_link, with_wired, with_give, with_busiest, with_bound, here, claimed};
+
+use crate::words::bad;
+use aml_path::Path;
+use ar_space::Refusal;
+use route_check::{Bound, Claim};
+use route_model::Link;
+use std::alloc::Global;
+use std::marker::Model;
+
+/// How many links a report may have.
+const MAX_LINKS: usize = 256;
+/// How many wired interrupts a report may have.
+const MAX_WIRED: usize = 4096;
+
+/// A claim that isn't whole yet. Of a bound, that there is none is said too.
+#[derive(Drop)]
+pub(crate) struct Draft {
+    links: Vec<Link>,
+    wired: Vec<(u32, u32)>,
+    gives: Vec<(Path, u32)>,
+    busiest: Option<u32>,
+    bound: Option<Option<Bound>>,
+}
+
+impl Model for Draft {
+    ghost use Rattle.route_report.specs.Reading.{Said};
+
+    ghost Value = { Said };
+
+    ghost view = { λ d. record { links = d.links.items; wired = d.wired.items; gives = d.gives.items; busiest = d.busiest; bound = d.bound } };
+}
+
+impl Draft {
+    /// Nothing is said. It takes no memory.
+    pub(crate) fn new(alloc: Global) -> Draft
+        ensures { result ≡ nothing_said }
+    {
+        Draft {
+            links: Vec::new(alloc),
+            wired: Vec::new(alloc),
+            gives: Vec::new(alloc),
+            busiest: None,
+            bound: None,
+        }
+    }
+
+    /// A link more.
+    #[tactic(auto, using(ar_space::specs::Outcome::answering), unfolding(crate::specs::Reading::with_link))]
+    pub(crate) fn add_link(&mut self, n: usize, link: Link) -> Result<(), Refusal>
+        ensures { Answers (seen (λ _. self.new) result) (with_link n link self.old) }
+    {
+        if self.links.len() < MAX_LINKS {
+            self.links.push(link)?;
+            Ok(())
+        } else {
+            Err(bad(n))
+        }
+    }
+
+    /// A wired interrupt more.
+    #[tactic(auto, using(ar_space::specs::Outcome::answering), unfolding(crate::specs::Reading::with_wired))]
+    pub(crate) fn add_wired(&mut self, n: usize, wired: (u32, u32)) -> Result<(), Refusal>
+        ensures { Answers (seen (λ _. self.new) result) (with_wired n wired self.old) }
+    {
+        if self.wired.len() < MAX_WIRED {
+            self.wired.push(wired)?;
+            Ok(())
+        } else {
+            Err(bad(n))
+        }
+    }
+
+    /// What one link more is given.
+    #[tactic(auto, using(ar_space::specs::Outcome::answering), unfolding(crate::specs::Reading::with_give))]
+    pub(crate) fn add_give(&mut self, n: usize, give: (Path, u32)) -> Result<(), Refusal>
+        ensures { Answers (seen (λ _. self.new) result) (with_give n give self.old) }
+    {
+        self.gives.push(give)?;
+        Ok(())
+    }
+
+    /// How many sources the busiest interrupt serves, once.
+    #[tactic(auto, using(ar_space::specs::Outcome::answering), unfolding(crate::specs::Reading::with_busiest))]
+    pub(crate) fn set_busiest(&mut self, n: usize, busiest: u32) -> Result<(), Refusal>
+        ensures { Answers (seen (λ _. self.new) result) (with_busiest n busiest self.old) }
+    {
+        if self.busiest.is_some() {
+            return Err(bad(n));
+        }
+        self.busiest = Some(busiest);
+        Ok(())
+    }
+
+    /// Why no assignment has a less busy one, once.
+    #[tactic(auto, using(ar_space::specs::Outcome::answering), unfolding(crate::specs::Reading::with_bound))]
+    pub(crate) fn set_bound(&mut self, n: usize, bound: Option<Bound>) -> Result<(), Refusal>
+        ensures { Answers (seen (λ _. self.new) result) (with_bound n bound self.old) }
+    {
+        if self.bound.is_some() {
+            return Err(bad(n));
+        }
+        self.bound = Some(bound);
+        Ok(())
+    }
+
+    /// The claim, of a report that has n - 1 lines.
+    #[tactic(auto, using(ar_space::specs::Outcome::answering), unfolding(crate::specs::Reading::claimed))]
+    pub(crate) fn claim(self, n: usize) -> Result<Claim, Refusal>
+        ensures { Answers result (claimed n self) }
+    {
+        let busiest = busiest_here(n, self.busiest)?;
+        let bound = bound_here(n, self.bound)?;
+        Ok(Claim {
+            links: self.links,
+            wired: self.wired,
+            gives: self.gives,
+            busiest,
+            bound,
+        })
+    }
+}
+
+/// What was said of the busiest interrupt.
+#[tactic(auto, using(ar_space::specs::Outcome::answering))]
+fn busiest_here(n: usize, busiest: Option<u32>) -> Result<u32, Refusal>
+    ensures { Answers result (here n busiest) }
+{
+    match busiest {
+        Some(busiest) => Ok(busiest),
+        None => Err(bad(n)),
+    }
+}
+
+/// What was said of the bound.
+#[tactic(auto, using(ar_space::specs::Outcome::answering))]
+fn bound_here(n: usize, bound: Option<Option<Bound>>) -> Result<Option<Bound>, Refusal>
+    ensures { Answers result (here n bound) }
+{
+    match bound {
+        Some(bound) => Ok(bound),
+        None => Err(bad(n)),
+    }
+}

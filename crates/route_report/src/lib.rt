@@ -1,0 +1,24 @@
+//! The report of a run: what was found, what was chosen and why it is least busy, line by line; and the claim that is read
+//! from such a text.
+#![tactic(auto)]
+
+mod draft;
+pub mod laws;
+mod line;
+mod lines;
+mod numerals;
+mod printing;
+mod put;
+mod reading;
+mod report;
+mod words;
+
+pub use printing::print;
+pub use reading::read;
+pub use report::{
+    After, AfterLine, Form, IoApicLine, LinkLine, Mode, OverrideLine, PinLine, PinName, PinRoute,
+    Polarity, Report, SetLine, SetOutcome,
+};
+
+#[cfg(test)]
+mod tests;

@@ -1,0 +1,327 @@
+//! One line of a report.
+ghost use Rattle.std.specs.Prelude.{◌≡◌, [], codes};
+ghost use Rattle.ar_space.specs.Outcome.{Answers, seen};
+ghost use Rattle.route_report.specs.Lines.{words};
+ghost use Rattle.route_report.specs.Reading.{ascends, is_passed_over, with_offer, until, offers, offered, link, wired, give, busiest, with_path, set_links, with_number, numbers_after, set, bound, link_line, wired_line, give_line, busiest_line, bound_line, keyed, line, heading};
+
+use crate::draft::Draft;
+use crate::words::{Words, bad, number_here, path_here};
+use aml_path::Path;
+use ar_space::Refusal;
+use route_check::Bound;
+use route_model::Link;
+use std::alloc::Global;
+
+/// Whether a number follows those before it in ascending order.
+#[tactic(auto, using(crate::proofs::Steps::last_decides, crate::proofs::Steps::first_follows))]
+fn ascends(offers: &[u32], number: u32) -> bool
+    ensures { result ≡ ascends offers.now number }
+{
+    let count = offers.len();
+    count == 0 || offers[count - 1] < number
+}
+
+/// An offer more.
+#[tactic(auto, using(ar_space::specs::Outcome::answering), unfolding(crate::specs::Reading::with_offer))]
+fn add_offer(n: usize, offers: &mut Vec<u32>, word: &[u8]) -> Result<(), Refusal>
+    ensures { Answers (seen (λ _. offers.new.items) result) (with_offer n offers.old.items word.now) }
+{
+    let number = number_here(n, word)?;
+    if !ascends(offers, number) {
+        return Err(bad(n));
+    }
+    offers.push(number)?;
+    Ok(())
+}
+
+/// Offers up to the word `now`, after those before.
+fn add_offers(n: usize, offers: &mut Vec<u32>, words: &mut Words<'_>) -> Result<(), Refusal>
+    ensures { Answers (seen (λ _. (offers.new.items, words.new)) result) (until n (codes "now") (with_offer n) offers.old.items words.old) }
+{
+    while let Some(word) = words.take() {
+        if word == b"now".as_slice() {
+            return Ok(());
+        }
+        add_offer(n, offers, word)?;
+    }
+    Err(bad(n))
+}
+
+#[tactic(auto, using(ar_space::specs::Outcome::answering), unfolding(crate::specs::Reading::offers))]
+fn offers(alloc: Global, n: usize, words: &mut Words<'_>) -> Result<Vec<u32>, Refusal>
+    ensures { Answers (seen (λ v. v.items) result) (offers n words.old) }
+{
+    let first = words.word(n)?;
+    let mut offers = Vec::new(alloc);
+    add_offer(n, &mut offers, first)?;
+    add_offers(n, &mut offers, words)?;
+    Ok(offers)
+}
+
+/// `small low offers N.. now V`, or `extended`, or `high`
+#[tactic(auto, using(ar_space::specs::Outcome::answering), unfolding(crate::specs::Reading::offered))]
+fn offered(alloc: Global, n: usize, words: &mut Words<'_>) -> Result<Vec<u32>, Refusal>
+    ensures { Answers (seen (λ v. v.items) result) (offered n words.old) }
+{
+    words.one_of(n, b"small", b"extended")?;
+    words.one_of(n, b"low", b"high")?;
+    words.expected(n, b"offers")?;
+    offers(alloc, n, words)
+}
+
+/// `P`, and what it offers
+#[tactic(auto, using(ar_space::specs::Outcome::answering), unfolding(crate::specs::Reading::link))]
+fn link(alloc: Global, n: usize, words: &mut Words<'_>) -> Result<Link, Refusal>
+    ensures { Answers result (link n words.old) }
+{
+    let path = words.path(alloc, n)?;
+    let offers = offered(alloc, n, words)?;
+    Ok(Link::new(path, offers))
+}
+
+/// `N C`
+#[tactic(auto, using(ar_space::specs::Outcome::answering), unfolding(crate::specs::Reading::wired))]
+fn wired(n: usize, words: &mut Words<'_>) -> Result<(u32, u32), Refusal>
+    ensures { Answers result (wired n words.old) }
+{
+    let interrupt = words.number(n)?;
+    let count = words.number(n)?;
+    words.ended(n)?;
+    Ok((interrupt, count))
+}
+
+/// `P N`
+#[tactic(auto, using(ar_space::specs::Outcome::answering), unfolding(crate::specs::Reading::give))]
+fn give(alloc: Global, n: usize, words: &mut Words<'_>) -> Result<(Path, u32), Refusal>
+    ensures { Answers result (give n words.old) }
+{
+    let path = words.path(alloc, n)?;
+    let interrupt = words.number(n)?;
+    words.ended(n)?;
+    Ok((path, interrupt))
+}
+
+/// `K`
+#[tactic(auto, using(ar_space::specs::Outcome::answering), unfolding(crate::specs::Reading::busiest))]
+fn busiest(n: usize, words: &mut Words<'_>) -> Result<u32, Refusal>
+    ensures { Answers result (busiest n words.old) }
+{
+    let count = words.number(n)?;
+    words.ended(n)?;
+    Ok(count)
+}
+
+/// A path more.
+#[tactic(auto, using(ar_space::specs::Outcome::answering), unfolding(crate::specs::Reading::with_path))]
+fn add_path(alloc: Global, n: usize, paths: &mut Vec<Path>, word: &[u8]) -> Result<(), Refusal>
+    ensures { Answers (seen (λ _. paths.new.items) result) (with_path n paths.old.items word.now) }
+{
+    let path = path_here(alloc, n, word)?;
+    paths.push(path)?;
+    Ok(())
+}
+
+/// Paths up to the word `over`, after those before.
+fn add_paths(
+    alloc: Global,
+    n: usize,
+    paths: &mut Vec<Path>,
+    words: &mut Words<'_>,
+) -> Result<(), Refusal>
+    ensures { Answers (seen (λ _. (paths.new.items, words.new)) result) (until n (codes "over") (with_path n) paths.old.items words.old) }
+{
+    while let Some(word) = words.take() {
+        if word == b"over".as_slice() {
+            return Ok(());
+        }
+        add_path(alloc, n, paths, word)?;
+    }
+    Err(bad(n))
+}
+
+/// `-` for no path, or one at least, up to the word `over`.
+#[tactic(auto, using(ar_space::specs::Outcome::answering), unfolding(crate::specs::Reading::set_links))]
+fn set_links(
+    alloc: Global,
+    n: usize,
+    first: &[u8],
+    words: &mut Words<'_>,
+) -> Result<Vec<Path>, Refusal>
+    ensures { Answers (seen (λ v. (v.items, words.new)) result) (set_links n first.now words.old) }
+{
+    let mut links = Vec::new(alloc);
+    if first == b"-".as_slice() {
+        words.expected(n, b"over")?;
+        Ok(links)
+    } else {
+        add_path(alloc, n, &mut links, first)?;
+        add_paths(alloc, n, &mut links, words)?;
+        Ok(links)
+    }
+}
+
+/// A number more.
+#[tactic(auto, using(ar_space::specs::Outcome::answering), unfolding(crate::specs::Reading::with_number))]
+fn add_number(n: usize, numbers: &mut Vec<u32>, word: &[u8]) -> Result<(), Refusal>
+    ensures { Answers (seen (λ _. numbers.new.items) result) (with_number n numbers.old.items word.now) }
+{
+    let number = number_here(n, word)?;
+    numbers.push(number)?;
+    Ok(())
+}
+
+/// All words that are left, as numbers.
+fn numbers(alloc: Global, n: usize, words: &mut Words<'_>) -> Result<Vec<u32>, Refusal>
+    ensures { Answers (seen (λ v. v.items) result) (numbers_after n [] words.old) }
+{
+    let mut numbers = Vec::new(alloc);
+    while let Some(word) = words.take() {
+        add_number(n, &mut numbers, word)?;
+    }
+    Ok(numbers)
+}
+
+/// `P.. over N..`
+#[tactic(auto, using(ar_space::specs::Outcome::answering), unfolding(crate::specs::Reading::set))]
+fn set(alloc: Global, n: usize, first: &[u8], words: &mut Words<'_>) -> Result<Bound, Refusal>
+    ensures { Answers result (set n first.now words.old) }
+{
+    let links = set_links(alloc, n, first, words)?;
+    let interrupts = numbers(alloc, n, words)?;
+    Ok(Bound { links, interrupts })
+}
+
+/// `none`, or `P.. over N..`
+#[tactic(auto, using(ar_space::specs::Outcome::answering), unfolding(crate::specs::Reading::bound))]
+fn bound(alloc: Global, n: usize, words: &mut Words<'_>) -> Result<Option<Bound>, Refusal>
+    ensures { Answers result (bound n words.old) }
+{
+    let first = words.word(n)?;
+    if first == b"none".as_slice() {
+        words.ended(n)?;
+        Ok(None)
+    } else {
+        Ok(Some(set(alloc, n, first, words)?))
+    }
+}
+
+/// Whether a line that begins with this word claims nothing.
+fn is_passed_over(key: &[u8]) -> bool
+    ensures { result ≡ is_passed_over key.now }
+{
+    key == b"mode".as_slice()
+        || key == b"ioapic".as_slice()
+        || key == b"override".as_slice()
+        || key == b"pin".as_slice()
+        || key == b"set".as_slice()
+        || key == b"after".as_slice()
+}
+
+/// Adds a link.
+#[tactic(auto, using(ar_space::specs::Outcome::answering), unfolding(crate::specs::Reading::link_line))]
+fn link_line(
+    alloc: Global,
+    n: usize,
+    words: &mut Words<'_>,
+    draft: &mut Draft,
+) -> Result<(), Refusal>
+    ensures { Answers (seen (λ _. draft.new) result) (link_line n words.old draft.old) }
+{
+    let link = link(alloc, n, words)?;
+    draft.add_link(n, link)
+}
+
+/// Adds a wired interrupt with its count.
+#[tactic(auto, using(ar_space::specs::Outcome::answering), unfolding(crate::specs::Reading::wired_line))]
+fn wired_line(n: usize, words: &mut Words<'_>, draft: &mut Draft) -> Result<(), Refusal>
+    ensures { Answers (seen (λ _. draft.new) result) (wired_line n words.old draft.old) }
+{
+    let wired = wired(n, words)?;
+    draft.add_wired(n, wired)
+}
+
+/// Adds what a link is given.
+#[tactic(auto, using(ar_space::specs::Outcome::answering), unfolding(crate::specs::Reading::give_line))]
+fn give_line(
+    alloc: Global,
+    n: usize,
+    words: &mut Words<'_>,
+    draft: &mut Draft,
+) -> Result<(), Refusal>
+    ensures { Answers (seen (λ _. draft.new) result) (give_line n words.old draft.old) }
+{
+    let give = give(alloc, n, words)?;
+    draft.add_give(n, give)
+}
+
+/// Sets how busy the busiest interrupt is.
+#[tactic(auto, using(ar_space::specs::Outcome::answering), unfolding(crate::specs::Reading::busiest_line))]
+fn busiest_line(n: usize, words: &mut Words<'_>, draft: &mut Draft) -> Result<(), Refusal>
+    ensures { Answers (seen (λ _. draft.new) result) (busiest_line n words.old draft.old) }
+{
+    let busiest = busiest(n, words)?;
+    draft.set_busiest(n, busiest)
+}
+
+/// Sets why no assignment has a less busy one.
+#[tactic(auto, using(ar_space::specs::Outcome::answering), unfolding(crate::specs::Reading::bound_line))]
+fn bound_line(
+    alloc: Global,
+    n: usize,
+    words: &mut Words<'_>,
+    draft: &mut Draft,
+) -> Result<(), Refusal>
+    ensures { Answers (seen (λ _. draft.new) result) (bound_line n words.old draft.old) }
+{
+    let bound = bound(alloc, n, words)?;
+    draft.set_bound(n, bound)
+}
+
+/// A line by its first word.
+#[tactic(auto, using(ar_space::specs::Outcome::answering), unfolding(crate::specs::Reading::keyed))]
+fn keyed(
+    alloc: Global,
+    n: usize,
+    key: &[u8],
+    words: &mut Words<'_>,
+    draft: &mut Draft,
+) -> Result<(), Refusal>
+    ensures { Answers (seen (λ _. draft.new) result) (keyed n key.now words.old draft.old) }
+{
+    if key == b"link".as_slice() {
+        link_line(alloc, n, words, draft)
+    } else if key == b"wired".as_slice() {
+        wired_line(n, words, draft)
+    } else if key == b"give".as_slice() {
+        give_line(alloc, n, words, draft)
+    } else if key == b"busiest".as_slice() {
+        busiest_line(n, words, draft)
+    } else if key == b"bound".as_slice() {
+        bound_line(alloc, n, words, draft)
+    } else if is_passed_over(key) {
+        Ok(())
+    } else {
+        Err(bad(n))
+    }
+}
+
+/// The n-th line.
+#[tactic(auto, using(ar_space::specs::Outcome::answering), unfolding(crate::specs::Reading::line))]
+pub(crate) fn line(alloc: Global, n: usize, text: &[u8], draft: &mut Draft) -> Result<(), Refusal>
+    ensures { Answers (seen (λ _. draft.new) result) (line n (words text.now) draft.old) }
+{
+    let mut words = Words::of(text);
+    let key = words.word(n)?;
+    keyed(alloc, n, key, &mut words, draft)
+}
+
+/// The first line: a report of version 1.
+#[tactic(auto, using(ar_space::specs::Outcome::answering), unfolding(crate::specs::Reading::heading))]
+pub(crate) fn heading(n: usize, text: &[u8]) -> Result<(), Refusal>
+    ensures { Answers result (heading n (words text.now)) }
+{
+    let mut words = Words::of(text);
+    words.expected(n, b"acpiroute")?;
+    words.expected(n, b"1")?;
+    words.ended(n)
+}

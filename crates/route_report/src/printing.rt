@@ -1,0 +1,75 @@
+//! A report as text.
+ghost use Rattle.std.specs.Prelude.{◌≡◌, ◌<◌, ◌^◌, ◌++◌, All, OnOk, IfOk, Ok};
+ghost use Rattle.route_check.specs.Claims.{interrupts_of_bound};
+ghost use Rattle.ar_space.specs.Outcome.{Answers, seen};
+ghost use Rattle.route_report.specs.Lines.{text_of_lines};
+ghost use Rattle.route_report.specs.Printing.{found_lines, chosen_lines, text_of_report};
+ghost use Rattle.route_report.specs.Reading.{claim_of_text};
+ghost use Rattle.route_report.specs.Readable.{IsReadable, claim_of_report};
+
+use crate::lines::{put_all, put_bound, put_busiest, put_heading, put_mode};
+use crate::report::Report;
+use ar_space::Refusal;
+use std::alloc::{AllocError, Global};
+
+/// The lines of what was found.
+fn put_found(alloc: Global, text: &mut Vec<u8>, report: &Report) -> Result<(), AllocError>
+    ensures text { OnOk result (text.new.items ≡ text.old.items ++ text_of_lines (found_lines report.now)) }
+    ensures offers { OnOk result (All (λ l. All (λ n. n < 2 ^ 32) l.offers.items) report.now.links.items) }
+    ensures wired { OnOk result (All (λ w. (w.0 < 2 ^ 32) × (w.1 < 2 ^ 32)) report.now.wired.items) }
+{
+    put_heading(text)?;
+    put_mode(text, report.mode)?;
+    put_all(alloc, text, &report.io_apics)?;
+    put_all(alloc, text, &report.overrides)?;
+    put_all(alloc, text, &report.links)?;
+    put_all(alloc, text, &report.wired)?;
+    put_all(alloc, text, &report.pins)?;
+    Ok(())
+}
+
+/// The lines of what was chosen.
+fn put_chosen(alloc: Global, text: &mut Vec<u8>, report: &Report) -> Result<(), AllocError>
+    ensures text { OnOk result (text.new.items ≡ text.old.items ++ text_of_lines (chosen_lines report.now)) }
+    ensures gives { OnOk result (All (λ g. g.1 < 2 ^ 32) report.now.gives.items) }
+    ensures busiest { OnOk result (report.now.busiest < 2 ^ 32) }
+    ensures interrupts { OnOk result (All (λ n. n < 2 ^ 32) (interrupts_of_bound report.now.bound)) }
+{
+    put_all(alloc, text, &report.gives)?;
+    put_busiest(text, report.busiest)?;
+    put_bound(alloc, text, &report.bound)?;
+    put_all(alloc, text, &report.sets)?;
+    put_all(alloc, text, &report.afters)?;
+    Ok(())
+}
+
+/// The text of a report.
+///
+/// Its words are parted by single blanks, its lines end with LF, numbers are decimal. The lines, in this order:
+///
+/// - `acpiroute 1`: a report of version 1.
+/// - `mode apic` or `mode pic`.
+/// - `ioapic I at A base G` for each I/O APIC, A in eight hexadecimal digits.
+/// - `override S to G flags F` for each interrupt source override, F in four hexadecimal digits.
+/// - `link P small low offers N.. now V` for each present link: `small` or `extended`, `low` or `high`; V is the numbers
+///   that it is set to, `-` for no number, `none` without `_CRS`.
+/// - `wired N C` for each interrupt with the number of pins that are wired to it.
+/// - `pin D n X N P`, `pin D n X N wired` or `pin D n X absent P` for each pin: D has the routing table, n is the device
+///   number, X is A to D, N the interrupt, P the link.
+/// - `give P N` for each present link.
+/// - `busiest K`.
+/// - `bound none` or `bound P.. over N..`, `-` for no link.
+/// - `set P ok`, `set P none` or `set P refused R` for each link that was to be set.
+/// - `after P V` or `after P refused R` for each of these.
+///
+/// `read` gives the report's own claim of this text, where it has at most 256 links, each with an offer in ascending order,
+/// and at most 4096 wired interrupts. `OutOfMemory` where memory runs out.
+pub fn print(alloc: Global, report: &Report) -> Result<Vec<u8>, Refusal>
+    ensures text { Answers (seen (λ v. v.items) result) (Ok (text_of_report report.now)) }
+    ensures read_back { IfOk result (λ v. IsReadable report.now → claim_of_text v.items ≡ Ok (claim_of_report report.now)) }
+{
+    let mut text = Vec::new(alloc);
+    put_found(alloc, &mut text, report)?;
+    put_chosen(alloc, &mut text, report)?;
+    Ok(text)
+}

@@ -1,0 +1,56 @@
+//! All lines of a report.
+ghost use Rattle.std.specs.Prelude.{◌≡◌, ◌∷◌, ◌<◌, ◌-◌, ◌^◌, length};
+ghost use Rattle.ar_space.specs.Outcome.{Answers};
+ghost use Rattle.route_report.specs.Lines.{lines};
+ghost use Rattle.route_report.specs.Reading.{lines_read, claim_of_text, nothing_said};
+
+use crate::draft::Draft;
+use crate::line::{heading, line};
+use crate::words::{bad, place_of};
+use ar_space::Refusal;
+use route_check::Claim;
+use std::alloc::Global;
+
+/// The first line of a text that isn't empty, and what follows it.
+#[tactic(auto, using(crate::proofs::Texts::first_of_lines, crate::proofs::Texts::only_line))]
+fn first_line(text: &[u8]) -> (&[u8], &[u8])
+    requires { 0 < length text.now }
+    ensures lines { lines text.now ≡ result.0.now ∷ lines result.1.now }
+    ensures shorter { length result.1.now < length text.now }
+{
+    let i = place_of(b'\n', text);
+    if i < text.len() {
+        (&text[..i], &text[i + 1..])
+    } else {
+        (text, b"")
+    }
+}
+
+/// The lines from the second on.
+fn lines_read(alloc: Global, text: &[u8]) -> Result<Claim, Refusal>
+    requires { length text.now < 2 ^ 64 - 1 }
+    ensures { Answers result (lines_read 2 (lines text.now) nothing_said) }
+{
+    let mut draft = Draft::new(alloc);
+    let mut n = 2;
+    let mut rest = text;
+    while !rest.is_empty() {
+        let (first, after) = first_line(rest);
+        line(alloc, n, first, &mut draft)?;
+        rest = after;
+        n += 1;
+    }
+    draft.claim(n)
+}
+
+/// What a report claims.
+pub fn read(alloc: Global, text: &[u8]) -> Result<Claim, Refusal>
+    ensures { Answers result (claim_of_text text.now) }
+{
+    if text.is_empty() {
+        return Err(bad(1));
+    }
+    let (first, rest) = first_line(text);
+    heading(1, first)?;
+    lines_read(alloc, rest)
+}

@@ -1,0 +1,142 @@
+//! What a run reports: a field for each kind of line.
+use aml_path::Path;
+use route_check::Bound;
+
+/// Which interrupt controllers the machine was told to use (ACPI 6.5, 5.8.1).
+#[derive(Clone, Copy, Debug, PartialEq, Eq)]
+pub enum Mode {
+    Apic,
+    Pic,
+}
+
+/// The form of the descriptor that offers a link's interrupts.
+#[derive(Clone, Copy, Debug, PartialEq, Eq)]
+pub enum Form {
+    /// An IRQ descriptor, of at most 16 interrupts (ACPI 6.5, 6.4.2.1).
+    Small,
+    /// An Extended Interrupt descriptor (ACPI 6.5, 6.4.3.6).
+    Extended,
+}
+
+/// The polarity of a link's interrupts.
+#[derive(Clone, Copy, Debug, PartialEq, Eq)]
+pub enum Polarity {
+    Low,
+    High,
+}
+
+/// A pin of a PCI device.
+#[derive(Clone, Copy, Debug, PartialEq, Eq)]
+pub enum PinName {
+    A,
+    B,
+    C,
+    D,
+}
+
+/// An I/O APIC of the MADT (ACPI 6.5, 5.2.12.3).
+#[derive(Clone, Copy, Debug, PartialEq, Eq)]
+pub struct IoApicLine {
+    pub id: u8,
+    pub address: u32,
+    pub gsi_base: u32,
+}
+
+/// An interrupt source override of the MADT (ACPI 6.5, 5.2.12.5).
+#[derive(Clone, Copy, Debug, PartialEq, Eq)]
+pub struct OverrideLine {
+    pub source: u8,
+    pub gsi: u32,
+    pub flags: u16,
+}
+
+/// A present link device: what it offers, and what it is set to before the choice.
+#[derive(Debug, Drop)]
+pub struct LinkLine {
+    pub path: Path,
+    pub form: Form,
+    pub polarity: Polarity,
+    /// Ascending.
+    pub offers: Vec<u32>,
+    /// The interrupts that `_CRS` gives; none without `_CRS`.
+    pub now: Option<Vec<u32>>,
+}
+
+/// Where a pin leads.
+#[derive(Debug, Drop)]
+pub enum PinRoute {
+    /// To a link, which is given this interrupt.
+    Link(u32, Path),
+    /// To this interrupt, without a link.
+    Wired(u32),
+    /// To a link that isn't present.
+    Absent(Path),
+}
+
+/// A pin of a routing table (ACPI 6.5, 6.2.13).
+#[derive(Debug, Drop)]
+pub struct PinLine {
+    /// The device that has the routing table.
+    pub device: Path,
+    /// The number of the PCI device that has the pin.
+    pub number: u16,
+    pub pin: PinName,
+    pub route: PinRoute,
+}
+
+/// What came of setting a link.
+#[derive(Clone, Copy, Debug, PartialEq, Eq)]
+pub enum SetOutcome {
+    Done,
+    /// The link has no `_SRS`.
+    NoSetting,
+    /// The number of the refusal.
+    Refused(u8),
+}
+
+/// What came of setting one link.
+#[derive(Debug, Drop)]
+pub struct SetLine {
+    pub path: Path,
+    pub outcome: SetOutcome,
+}
+
+/// What a link is set to after the choice.
+#[derive(Debug, Drop)]
+pub enum After {
+    /// The interrupts that `_CRS` gives; none without `_CRS`.
+    Now(Option<Vec<u32>>),
+    /// The number of the refusal.
+    Refused(u8),
+}
+
+/// What one link is set to after the choice.
+#[derive(Debug, Drop)]
+pub struct AfterLine {
+    pub path: Path,
+    pub state: After,
+}
+
+/// What a run found and chose. `print` writes its lines in the order of the fields.
+#[derive(Debug, Drop)]
+pub struct Report {
+    pub mode: Mode,
+    pub io_apics: Vec<IoApicLine>,
+    pub overrides: Vec<OverrideLine>,
+    /// The present links, in path order.
+    pub links: Vec<LinkLine>,
+    /// Interrupts with the number of pins that are wired to them, ascending.
+    pub wired: Vec<(u32, u32)>,
+    /// The pins that count, device by device.
+    pub pins: Vec<PinLine>,
+    /// What each present link is given.
+    pub gives: Vec<(Path, u32)>,
+    /// How many sources the busiest interrupt serves.
+    pub busiest: u32,
+    /// Why no assignment has a less busy one.
+    pub bound: Option<Bound>,
+    /// What came of setting each present link; empty where none was to be set.
+    pub sets: Vec<SetLine>,
+    /// What each present link is set to then; empty where none was to be set.
+    pub afters: Vec<AfterLine>,
+}

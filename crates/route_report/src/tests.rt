@@ -1,0 +1,5 @@
+//! Reports as text, both ways.
+mod bad_lines;
+mod claims;
+mod printed;
+mod texts;
