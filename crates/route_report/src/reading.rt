@@ -43,7 +43,18 @@ fn lines_read(alloc: Global, text: &[u8]) -> Result<Claim, Refusal>
     draft.claim(n)
 }
 
-/// What a report claims.
+/// What a report claims: the links with their offers, the wired interrupts, what each link is given, how busy the busiest
+/// interrupt is, and why none is less busy. Whether the claim holds is for `route_check::check` to say.
+///
+/// The first line is `acpiroute 1`; the others come in any order, and the last may lack its LF. Lines whose first word is
+/// `mode`, `ioapic`, `override`, `pin`, `set` or `after` are passed over. `link`, `wired`, `give`, `busiest` and `bound`
+/// have the form in which `print` writes them, but that what follows the word `now` of a link isn't looked at, and that
+/// either list of a bound may be in any order, and its numbers may be missing. The numbers of a link ascend, and there is
+/// one at least. Numbers are below 2^32, without leading zeros.
+///
+/// `BadLine` with the number of a line, from 1, is the first one that is none of these, a second `busiest` or `bound`, the
+/// 257th link or the 4097th wired interrupt; where `busiest` or `bound` is missing it is the number of lines plus one.
+/// `OutOfMemory` where memory runs out.
 pub fn read(alloc: Global, text: &[u8]) -> Result<Claim, Refusal>
     ensures { Answers result (claim_of_text text.now) }
 {
