@@ -1,6 +1,6 @@
 -- The entries in path order, as the map that they are.
-use Rattle.std.specs.Prelude.{◌≡◌, ℕ, suc, ◌+◌, ◌<◌, ◌≤◌, List, [], ◌∷◌, ◌++◌, length, take, drop, get_or, T, Bool, Option, Some, None, cond}
-use Rattle.std.proofs.Common.{arith, ap, sym, ◌∙◌, refl, subst, rules, drop-cons, add-one}
+use Rattle.std.specs.Prelude.{◌≡◌, ℕ, suc, List, [], ◌∷◌, ◌++◌, length, take, drop, T, Bool, Option, Some, None, cond}
+use Rattle.std.proofs.Common.{ap, sym, ◌∙◌, refl, subst, rules}
 use Rattle.std.specs.declared.cmp.Ordering.{Ordering}
 use Rattle.std.specs.declared.cmp.Ordering.TheVariants.{Less, Equal, Greater}
 use Rattle.std.specs.Ordering.{is_eq}
@@ -19,11 +19,6 @@ path_total = search (comparing, rules) depth 9
 -- only equal paths tie
 pub only_equal : IsAntisymmetric path_cmp
 only_equal = slice_cmp-IsAntisymmetric seg_cmp_exact
-
-fits_by : (r : Ordering) (i n : ℕ) → i ≤ n → by_order r 0 0 (suc i) ≤ suc n
-fits_by Less i n h = omega arith
-fits_by Equal i n h = omega arith
-fits_by Greater i n h = omega arith
 
 module _ {X : Type 0} where
   -- where a path goes among those in order
@@ -68,15 +63,9 @@ module _ {X : Type 0} where
   entry_found k [] = refl
   entry_found k (e ∷ es) = entry_by (path_cmp k e.0) k e es refl (entry_found k es)
 
-  pub entry_step : (k : List Seg) (es : List (List Seg × X)) (i : ℕ) (e : List Seg × X) → i < length es → e ≡ get_or es i e → find_entry k (drop i es) ≡ cond (is_eq (path_cmp k e.0)) (Some e) (find_entry k (drop (i + 1) es))
-  entry_step k es i e l at = rw (drop-cons es i e l, ← at, add-one) refl
-
   -- in order, it is what the map has at the key
   pub entry_kept : (k : List Seg) (es : List (List Seg × X)) → T (is_sorted path_cmp es) → find_entry k es ≡ option_map (λ x. (k, x)) (get (from_sorted {R = path_cmp} es) k)
   entry_kept k es h = entry_found k es ∙ ap (option_map (λ x. (k, x))) (sym (get-from_sorted path_cmp es k h))
-
-  pub place_step : (k : List Seg) (es : List (List Seg × X)) (i : ℕ) (e : List Seg × X) → i < length es → e ≡ get_or es i e → place k (drop i es) ≡ by_order (path_cmp k e.0) 0 0 (suc (place k (drop (i + 1) es)))
-  place_step k es i e l at = rw (drop-cons es i e l, ← at, add-one) refl
 
   pub get_kept : (es : List (List Seg × X)) (q : List Seg) → T (is_sorted path_cmp es) → get (from_sorted {R = path_cmp} es) q ≡ find path_cmp q es
   get_kept es q h = get-from_sorted path_cmp es q h
@@ -89,10 +78,6 @@ module _ {X : Type 0} where
 
   pub len_kept : (es : List (List Seg × X)) → T (is_sorted path_cmp es) → len (from_sorted {R = path_cmp} es) ≡ length es
   len_kept es h = len-entries _ ∙ ap length (entries-from_sorted path_cmp es h)
-
-  pub place_fits : (k : List Seg) (es : List (List Seg × X)) → place k es ≤ length es
-  place_fits k [] = omega arith
-  place_fits k (e ∷ es) = fits_by (path_cmp k e.0) _ _ (place_fits k es)
 
 pub ruleset finding = (get_kept, entry_kept)
 

@@ -1,6 +1,8 @@
 //! The names that are declared, by whole paths in path order.
 ghost use Rattle.std.specs.Prelude.{◌≡◌, ◌++◌, ◌+◌, ◌<◌, ◌≤◌, ◌^◌, List, Ok, Err, None, OnOk, IsOkUnless, length, option_map};
 ghost use Rattle.std.specs.FinMap as map;
+ghost use Rattle.std.specs.Prelude.{T};
+ghost use Rattle.std.specs.Ordering.{is_gt};
 ghost use Rattle.ar_space.specs.declared.refusal.Refusal.TheVariants.{OutOfMemory};
 ghost use Rattle.ar_space.specs.Outcome.{Answers};
 ghost use Rattle.ar_space.specs.Change.{Does};
@@ -14,7 +16,6 @@ use aml_objects::{Entry, NamedObject};
 use aml_path::{Path, Seg};
 use ar_space::{EvaluationFault, NamespaceFault, Refusal};
 use std::alloc::Global;
-use std::cmp::Ordering;
 use std::marker::Model;
 
 /// The namespace: what stands at each path, and the number of the next declaration.
@@ -132,37 +133,47 @@ impl Names {
     }
 }
 
-/// The entry at a path that is given in two parts.
+/// The entry at a path that is given in two parts, among those in order.
 fn entry_at<'a>(
     entries: &'a [(Path, Entry)],
     front: &[Seg],
     back: &[Seg],
 ) -> Option<&'a (Path, Entry)>
+    requires sorted { T (map.is_sorted path_cmp entries.now) }
     ensures { option_map (λ found. found.now) result ≡ find_entry (front.now ++ back.now) entries.now }
 {
-    for entry in entries {
-        if compare(front, back, entry.0.segments()).is_eq() {
-            return Some(entry);
+    match entries.get(position(entries, front, back)) {
+        None => None,
+        Some(entry) => {
+            if compare(front, back, entry.0.segments()).is_eq() {
+                Some(entry)
+            } else {
+                None
+            }
         }
     }
-    None
 }
 
-/// Where a path goes among those in order.
-#[tactic(auto, using(crate::specs::Kept::place_fits))]
+/// Where a path goes among those in order: how many are above it.
 fn place(entries: &[(Path, Entry)], path: &Path) -> usize
+    requires sorted { T (map.is_sorted path_cmp entries.now) }
     ensures place { result ≡ place path.now entries.now }
     ensures within { result ≤ length entries.now }
 {
-    let mut count = 0;
-    for entry in entries {
-        match path.cmp(&entry.0) {
-            Ordering::Less => return count,
-            Ordering::Equal => return count,
-            Ordering::Greater => count += 1,
-        }
-    }
-    count
+    position(entries, &[], path.segments())
+}
+
+/// Where a path that is given in two parts goes among those in order.
+fn position(entries: &[(Path, Entry)], front: &[Seg], back: &[Seg]) -> usize
+    requires sorted { T (map.is_sorted path_cmp entries.now) }
+    ensures place { result ≡ place (front.now ++ back.now) entries.now }
+    ensures within { result ≤ length entries.now }
+{
+    entries.partition_point(
+        |entry: &(Path, Entry)| -> bool
+            ensures { result ≡ is_gt (path_cmp (front.entry.now ++ back.entry.now) entry.now.0) }
+        { compare(front, back, entry.0.segments()).is_gt() },
+    )
 }
 
 /// The declaration with a number.

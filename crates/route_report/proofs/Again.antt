@@ -1,5 +1,5 @@
 -- Lines that are printed say what they were printed of.
-use Rattle.std.proofs.Common.{◌≡◌, ◌∙◌, ap, sym, refl, subst, ℕ, zero, suc, ◌+◌, ◌<◌, ◌≤◌, ◌^◌, List, [], ◌∷◌, ◌++◌, length, map, Bool, true, false, arith, append_assoc, append-nil, Ok, Err, Some, None, Option}
+use Rattle.std.proofs.Common.{◌≡◌, ◌∙◌, ap, refl, subst, ℕ, suc, ◌+◌, ◌<◌, ◌^◌, List, [], ◌∷◌, ◌++◌, length, map, Bool, true, false, arith, append_assoc, append-nil, Ok, Some, None, Option}
 use Rattle.std.specs.Prelude.{All, codes, decimal, nat_lt, slice_index, option_map}
 use Rattle.std.specs.List.Sorted.{IsStrictlyIncreasing}
 use Rattle.std.specs.Str.{bytes_eq}
@@ -12,7 +12,6 @@ use Rattle.aml_path.specs.declared.segment.Seg.{Seg}
 use Rattle.aml_path.specs.Text.{text_of}
 use Rattle.aml_path.proofs.Reading.{read_back}
 use Rattle.route_check.specs.Claims.{BoundingSet, interrupts_of_bound}
-use Rattle.route_report.specs.Lines.{number}
 use Rattle.route_report.specs.Reading.{Said, ascends, here, number_here, path_here, named, numbered, one_of, expected, offered, offers, with_offer, until, link, link_line, with_link, wired, wired_line, with_wired, give, give_line, with_give, busiest, busiest_line, with_busiest, with_path, set_links, with_number, numbers_after, set, bound, bound_line, with_bound, keyed, line}
 use Rattle.route_report.specs.declared.report.Form.{Form}
 use Rattle.route_report.specs.declared.report.Form.TheVariants as form

@@ -1,9 +1,9 @@
 -- A word is a number exactly if it is the number's decimal text.
-use Rattle.std.proofs.Common.{◌≡◌, ◌≢◌, ◌∙◌, ap, subst, refl, sym, ℕ, ◌<◌, ◌^◌, List, Bool, true, false, arith, Option, Some, None, if◌then◌else◌}
-use Rattle.std.specs.Prelude.{MatchOption, decimal, nat_lt, ◌&&◌}
+use Rattle.std.proofs.Common.{◌≡◌, ◌≢◌, ◌∙◌, ap, refl, sym, ℕ, ◌<◌, ◌^◌, List, Bool, true, false, arith, Some, None, if◌then◌else◌}
+use Rattle.std.specs.Prelude.{decimal, nat_lt, ◌&&◌}
 use Rattle.std.specs.Str.{bytes_eq}
 use Rattle.std.specs.Str.Parse.{digits_value}
-use Rattle.std.proofs.lemmas.Bool.{lt-ltb, false≢true}
+use Rattle.std.proofs.lemmas.Bool.{lt-ltb}
 use Rattle.std.proofs.lemmas.Fmt.{decimal_is_IsNumeral}
 use Rattle.std.proofs.lemmas.Slice.Eq.{slice_eq-Decides}
 use Rattle.std.proofs.lemmas.Bool.Decides.{Decides-eqb, nat_tests}

@@ -1,7 +1,7 @@
 -- Words without blanks and line feeds.
-use Rattle.std.proofs.Common.{◌≡◌, ◌∙◌, ap, sym, refl, subst, ℕ, zero, suc, ◌+◌, ◌/◌, ◌%◌, ◌≤◌, List, [], ◌∷◌, ◌++◌, length, map, get_or, Bool, true, false, ◌==◌, arith, append_assoc, append-nil, if◌then◌else◌, eqb-true}
-use Rattle.std.specs.Prelude.{All, codes, decimal, nat_lt, ◌&&◌}
-use Rattle.std.specs.List.{slice_split, join_with_byte}
+use Rattle.std.proofs.Common.{◌≡◌, ◌∙◌, ap, sym, refl, subst, ℕ, zero, suc, ◌+◌, ◌/◌, ◌%◌, ◌≤◌, List, [], ◌∷◌, map, get_or, Bool, true, false, ◌==◌, arith, append_assoc, append-nil, if◌then◌else◌, eqb-true}
+use Rattle.std.specs.Prelude.{All, decimal, nat_lt, ◌&&◌}
+use Rattle.std.specs.List.{join_with_byte}
 use Rattle.std.specs.Fmt.{digits, digits_onto, digit_glyph}
 use Rattle.std.proofs.lemmas.List.Elements.{All-nil, All-cons, All-head, All-tail, All-append, All-weaker}
 use Rattle.std.proofs.lemmas.List.Splits.{slice_split_none, slice_split_at}
@@ -9,7 +9,7 @@ use Rattle.hex.specs.Hex.{encode_with, encode_upper, upper_digits}
 use Rattle.aml_path.specs.Characters.{is_lead_name_char, is_name_char, is_segment}
 use Rattle.aml_path.specs.declared.segment.Seg.{Seg}
 use Rattle.aml_path.specs.Text.{text_of}
-use Rattle.route_report.specs.Lines.{lines, words, spaced, joined, line_text, text_of_lines, without_end}
+use Rattle.route_report.specs.Lines.{lines, words, spaced, joined, text_of_lines, without_end}
 use Rattle.route_report.proofs.Texts.{more_lines}
 
 -- neither a blank nor a line feed

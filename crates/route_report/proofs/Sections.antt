@@ -1,5 +1,5 @@
 -- All lines of a report, section by section.
-use Rattle.std.proofs.Common.{◌≡◌, ◌∙◌, ap, sym, refl, subst, ℕ, suc, ◌+◌, ◌<◌, ◌≤◌, ◌^◌, List, [], ◌∷◌, ◌++◌, length, map, get_or, arith, append_assoc, append-nil, length-append, Ok, None, Some, Option}
+use Rattle.std.proofs.Common.{◌≡◌, ◌∙◌, ap, sym, refl, ℕ, ◌+◌, ◌<◌, ◌≤◌, ◌^◌, List, [], ◌∷◌, ◌++◌, length, map, get_or, arith, append_assoc, append-nil, length-append, Ok, None, Some, Option}
 use Rattle.std.specs.Prelude.{All, codes, decimal, option_map}
 use Rattle.std.proofs.lemmas.List.Elements.{All-nil, All-cons, All-head, All-tail, All-append, All-map}
 use Rattle.std.specs.Int.{to_be_bytes, w16, w32}
@@ -7,9 +7,8 @@ use Rattle.hex.specs.Hex.{encode_upper}
 use Rattle.ar_space.specs.Outcome.{Outcome, ◌>>=◌}
 use Rattle.aml_path.specs.declared.segment.Seg.{Seg}
 use Rattle.aml_path.specs.Text.{text_of}
-use Rattle.route_model.specs.Links.{OfferingLink}
-use Rattle.route_check.specs.Claims.{BoundingSet, RoutingClaim, interrupts_of_bound}
-use Rattle.route_report.specs.Lines.{lines, words, joined, text_of_lines}
+use Rattle.route_check.specs.Claims.{BoundingSet, RoutingClaim}
+use Rattle.route_report.specs.Lines.{joined}
 use Rattle.route_report.specs.Reading.{Said, nothing_said, line, keyed, heading, expected, claimed, lines_read, all_read, claim_of_text}
 use Rattle.route_report.specs.declared.report.Mode.{Mode}
 use Rattle.route_report.specs.declared.report.Mode.TheVariants as mode

@@ -1,5 +1,5 @@
 -- Words that are read one after the other.
-use Rattle.std.proofs.Common.{◌≡◌, ◌∙◌, ap, sym, refl, ℕ, suc, ◌-◌, ◌<◌, length, get_or, arith, List, [], ◌∷◌, Bool, true, false, Ok, Err, if◌then◌else◌}
+use Rattle.std.proofs.Common.{◌≡◌, ◌∙◌, ap, sym, refl, ℕ, suc, ◌-◌, ◌<◌, length, get_or, arith, List, [], ◌∷◌, true, false, Ok, Err, if◌then◌else◌}
 use Rattle.std.specs.Prelude.{IsErr, IsErrAnd, nat_lt}
 use Rattle.std.specs.Str.{bytes_eq}
 use Rattle.ar_space.specs.declared.refusal.Refusal.{Refusal}

@@ -1,5 +1,3 @@
-use Rattle.std.proofs.Common.{◌∙◌, ap, sym}
-use Rattle.route_report.specs.Reading.{numbers_after}
 use Rattle.route_report.proofs.Steps.{numbers_on, numbers_fail, numbers_done}
 use Rattle.route_report.proofs.line.numbers.Goals as goal
 

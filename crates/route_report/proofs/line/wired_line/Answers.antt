@@ -1,4 +1,3 @@
-use Rattle.std.proofs.Common.{ℕ}
 use Rattle.ar_space.specs.Outcome.{answers_ok, seen_err}
 use Rattle.route_report.specs.Reading.{wired, with_wired, wired_line}
 use Rattle.route_report.proofs.line.wired_line.Goals as goal

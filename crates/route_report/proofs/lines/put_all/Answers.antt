@@ -1,4 +1,4 @@
-use Rattle.std.proofs.Common.{ℕ, List, map, arith, subst}
+use Rattle.std.proofs.Common.{map, arith, subst}
 use Rattle.std.proofs.lemmas.List.Elements.{All-more}
 use Rattle.route_report.specs.Lines.{text_of_lines, line_text}
 use Rattle.route_report.proofs.Putting.{put_more, one_line}

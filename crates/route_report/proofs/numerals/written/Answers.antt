@@ -1,4 +1,4 @@
-use Rattle.std.proofs.Common.{arith, sym, ◌∙◌, ap, ◌≡◌, Ok, subst, List, ℕ}
+use Rattle.std.proofs.Common.{arith, sym, ◌∙◌, ap, ◌≡◌, subst}
 use Rattle.std.specs.Str.{IsUtf8}
 use Rattle.std.specs.Prelude.{decimal}
 use Rattle.std.proofs.lemmas.Bool.{false≢true}

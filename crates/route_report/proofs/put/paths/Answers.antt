@@ -1,4 +1,4 @@
-use Rattle.std.proofs.Common.{ℕ, List, map, arith, ◌∷◌}
+use Rattle.std.proofs.Common.{List, map, arith, ◌∷◌}
 use Rattle.aml_path.specs.declared.segment.Seg.{Seg}
 use Rattle.aml_path.specs.Text.{text_of}
 use Rattle.route_report.specs.Lines.{spaced}
