@@ -1,5 +1,10 @@
-pub mod Bytes
-pub mod Numbers
-pub mod Reading
-pub mod Turns
-pub mod Cuts
+pub mod Checks
+pub mod Deliveries
+pub mod ErrorLines
+pub mod Faults
+pub mod Getters
+pub mod Inputs
+pub mod Machines
+pub mod NameLines
+pub mod Outputs
+pub mod Routes

@@ -1,2 +1,13 @@
-pub mod MachineText
-pub mod Words
+pub mod Values
+pub mod CommandLine
+pub mod Decided
+pub mod Input
+pub mod ErrorLines
+pub mod Written
+pub mod CheckCommand
+pub mod Machines
+pub mod NameLines
+pub mod NamesCommand
+pub mod RouteCommand
+pub mod Commands
+pub mod Runs

@@ -1,16 +1,26 @@
-//! The machine text: a machine's memory, I/O ports and PCI configuration registers, written down line by line.
+//! The program over any reader and writers: the command line, the whole input, the commands, the one line that tells of a
+//! refusal, and the exit status.
 #![tactic(auto)]
 
-mod address_space;
-mod digits;
-mod draft;
-mod line;
-mod machine_lines;
-mod osi_texts;
-mod words;
+mod answer;
+mod check_command;
+mod command_line;
+mod commands;
+mod completion;
+mod delivery;
+mod error_line;
+mod input;
+mod machine;
+mod name_lines;
+mod names_command;
+mod program;
+mod request;
+mod route_command;
+mod values;
 
-pub use machine_lines::{MachineText, read_machine};
-pub use osi_texts::OsiTexts;
+pub use delivery::Delivery;
+pub use program::{run, run_telling};
+pub use request::Request;
 
 #[cfg(test)]
 mod tests;

@@ -1,4 +1,9 @@
-mod built_tables;
-mod hostile;
-mod lines;
-mod small_machine;
+//! The program over texts, and over readers and writers that fail.
+mod checks;
+mod command_lines;
+mod error_lines;
+mod machine_texts;
+mod names;
+mod ran;
+mod routes;
+mod streams;

@@ -1,13 +1,16 @@
-//! Declarations in the world's namespace (ACPI 6.5, 5.3).
+//! Declarations in the world's namespace (ACPI 6.5, 5.3 and 19.6).
 ghost use Rattle.std.specs.Prelude.{◌≡◌};
 ghost use Rattle.ar_space.specs.Change.{Does};
+ghost use Rattle.ar_space.specs.Outcome.{Answers};
 ghost use Rattle.aml_namespace.specs.Namespace.{declared, without_below};
-ghost use Rattle.aml_meaning.specs.State.{on_names, State};
+ghost use Rattle.aml_meaning.specs.State.{on_names};
+ghost use Rattle.aml_meaning.specs.Declaring.{not_in_method, no_method, new_name, kept, new_method, method_in};
 
 use crate::world::World;
-use aml_objects::NamedObject;
+use aml_objects::{BodyPlace, Method, MethodBody, NamedObject, Octets};
 use aml_path::Path;
-use ar_space::Refusal;
+use ar_space::{NamespaceFault, Refusal};
+use std::alloc::Global;
 
 impl<S> World<S> {
     /// Declares a name, and gives the number of the declaration, which is never given again.
@@ -22,10 +25,94 @@ impl<S> World<S> {
         self.names.insert(path, object)
     }
 
+    /// Declares a name; at module level its parent may be no control method, which is refused as `NotFound`, too.
+    #[tactic(auto, using(ar_space::specs::Change::changing), unfolding(crate::specs::Declaring::new_name))]
+    pub fn new_name(
+        &mut self,
+        alloc: Global,
+        module_level: bool,
+        path: Path,
+        object: NamedObject,
+    ) -> Result<u64, Refusal>
+        ensures { Does result self.new (new_name module_level path object) self.old }
+    {
+        self.not_in_method(alloc, module_level, &path)?;
+        self.declare(path, object)
+    }
+
+    /// Declares a control method with its count of arguments and its body, which the world keeps; refused as `new_name`
+    /// refuses it.
+    #[tactic(auto, using(ar_space::specs::Change::changing), unfolding(crate::specs::Declaring::new_method))]
+    pub fn new_method(
+        &mut self,
+        alloc: Global,
+        module_level: bool,
+        path: Path,
+        arguments: u8,
+        body: Octets,
+    ) -> Result<u64, Refusal>
+        ensures { Does result self.new (new_method module_level path arguments body) self.old }
+    {
+        let length = body.as_slice().len();
+        let table = self.keep(body)?;
+        self.new_name(alloc, module_level, path, method_in(arguments, table, length))
+    }
+
+    /// Keeps the AML in which the body of a control method stands, and gives its number.
+    #[tactic(auto, unfolding(crate::specs::Declaring::kept))]
+    fn keep(&mut self, bytes: Octets) -> Result<usize, Refusal>
+        ensures { Does result self.new (kept bytes) self.old }
+    {
+        let number = self.tables.len();
+        self.tables.push(bytes)?;
+        Ok(number)
+    }
+
+    #[tactic(auto, unfolding(crate::specs::Declaring::not_in_method))]
+    fn not_in_method(
+        &self,
+        alloc: Global,
+        module_level: bool,
+        path: &Path,
+    ) -> Result<(), Refusal>
+        ensures { Does result self.now (not_in_method module_level path.now) self.now }
+    {
+        if !module_level {
+            return Ok(());
+        }
+        let above = path.prefix(alloc, path.depth().saturating_sub(1))?;
+        match self.names.get(&above) {
+            None => Ok(()),
+            Some(entry) => no_method(&entry.object),
+        }
+    }
+
     /// Removes the names below a path, and not the name at it. It takes no memory.
     pub fn remove_below(&mut self, path: &Path)
         ensures { self.new ≡ record self.old { names = without_below path.now self.old.names } }
     {
         self.names.remove_below(path);
+    }
+}
+
+fn method_in(arguments: u8, table: usize, length: usize) -> NamedObject
+    ensures { result ≡ method_in arguments table length }
+{
+    NamedObject::Method(Method {
+        arguments,
+        body: MethodBody::Aml(BodyPlace {
+            table,
+            offset: 0,
+            length,
+        }),
+    })
+}
+
+fn no_method(object: &NamedObject) -> Result<(), Refusal>
+    ensures { Answers result (no_method object.now) }
+{
+    match object {
+        NamedObject::Method(_) => Err(Refusal::Namespace(NamespaceFault::NotFound)),
+        _ => Ok(()),
     }
 }

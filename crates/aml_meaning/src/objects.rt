@@ -3,7 +3,7 @@ ghost use Rattle.std.specs.Prelude.{◌≡◌};
 ghost use Rattle.ar_space.specs.Change.{Does};
 ghost use Rattle.aml_objects.specs.Contents.{content_of, content_in};
 ghost use Rattle.aml_objects.specs.Copies.{copied};
-ghost use Rattle.aml_objects.specs.Objects.{make_string, make_buffer, make_package, elements_at, write_buffer, write_string};
+ghost use Rattle.aml_objects.specs.Objects.{make_string, make_buffer, make_package, string_at, buffer_at, elements_at, write_buffer, write_string};
 ghost use Rattle.aml_meaning.specs.State.{on_objects};
 
 use crate::world::World;
@@ -51,6 +51,22 @@ impl<S> World<S> {
         ensures { Does result self.new (on_objects (copied value)) self.old }
     {
         self.heap.copy(alloc, value)
+    }
+
+    /// The bytes of a string; another kind of object is refused as `WrongType`.
+    #[tactic(auto, using(crate::specs::Lifted::parts))]
+    pub fn string(&self, alloc: Global, object: usize) -> Result<Octets, Refusal>
+        ensures { Does result self.now (on_objects (string_at object)) self.now }
+    {
+        self.heap.string(alloc, object)
+    }
+
+    /// The bytes of a buffer; another kind of object is refused as `WrongType`.
+    #[tactic(auto, using(crate::specs::Lifted::parts))]
+    pub fn buffer(&self, alloc: Global, object: usize) -> Result<Octets, Refusal>
+        ensures { Does result self.now (on_objects (buffer_at object)) self.now }
+    {
+        self.heap.buffer(alloc, object)
     }
 
     /// The elements of a package; another kind of object is refused as `WrongType`.

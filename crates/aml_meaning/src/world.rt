@@ -78,6 +78,13 @@ impl<S> World<S> {
         self.space
     }
 
+    /// Other texts that `_OSI` knows, in place of those before (ACPI 6.5, 5.7.2). It takes no memory.
+    pub fn set_osi(&mut self, osi: Vec<Octets>)
+        ensures { self.new ≡ record self.old { osi = osi.items } }
+    {
+        self.osi = osi;
+    }
+
     /// The names that are declared.
     pub fn names(&self) -> &Names
         ensures { result.now ≡ self.now.names }

@@ -1,10 +1,12 @@
 -- The namespace (ACPI 6.5, 5.3): a finite map of paths, and the number of the next declaration.
 use Rattle.std.specs.Prelude.{ℕ, ◌+◌, ◌-◌, ◌^◌, ◌==◌, List, [], ◌∷◌, length, take, not, Option, Some, None, Ok, Err, refl, if◌then◌else◌}
-use Rattle.std.specs.FinMap.{FinMap, contains_key, insert, retain_keys, entries, empty, code}
+use Rattle.std.specs.Prelude as list
+use Rattle.std.specs.FinMap.{FinMap, get, contains_key, insert, retain_keys, entries, empty, from_sorted, code}
 use Rattle.std.specs.Coded.{Coded, code_by, coded×, coded_list, coded_ℕ}
 use Rattle.ar_space.specs.declared.refusal.Refusal.TheVariants as refusal
 use Rattle.ar_space.specs.declared.refusal.EvaluationFault.TheVariants.{ObjectLimit}
 use Rattle.ar_space.specs.declared.refusal.NamespaceFault.TheVariants.{Exists, NotFound}
+use Rattle.ar_space.specs.Outcome.{Outcome}
 use Rattle.ar_space.specs.Change.{Change}
 use Rattle.aml_path.specs.contracts.segment.Seg as seg
 use Rattle.aml_path.specs.declared.segment.Seg.{Seg}
@@ -47,6 +49,30 @@ declared p o s =
 -- without the names below a path
 unfoldable pub without_below : List Seg → Namespace → Namespace
 without_below p s = record s { map = retain_keys s.map (λ q. not (is_below p q)) }
+
+-- another object under the same number
+abbrev pub with_object : NamedObject → Entry → Entry
+with_object o e = record e { object = o }
+
+abbrev pub replaced_in : List Seg → NamedObject → Namespace → Option Entry → Outcome (Unit {0}) × Namespace
+replaced_in p o s None = (Err (refusal.Namespace NotFound), s)
+replaced_in p o s (Some e) = (Ok tt, record s { map = insert s.map p (with_object o e) })
+
+-- what stands at a path becomes another object, under the number of its declaration
+unfoldable pub replaced : List Seg → NamedObject → Change Namespace (Unit {0})
+replaced p o s = replaced_in p o s (get s.map p)
+
+-- a mutex that nobody has acquired; anything else is itself
+abbrev pub released : NamedObject → NamedObject
+released (object.Mutex n) = object.Mutex 0
+released o = o
+
+abbrev pub entry_released : Entry → Entry
+entry_released e = with_object (released e.object) e
+
+-- every mutex released, and nothing else changed
+unfoldable pub mutexes_released : Namespace → Namespace
+mutexes_released s = record s { map = from_sorted (list.map (λ e. (e.0, entry_released e.1)) (entries s.map)) }
 
 -- the declaration with a number, while it stands
 abbrev pub with_number : ℕ → List (List Seg × Entry) → Option (List Seg × Entry)

@@ -1,15 +1,16 @@
 //! The names that are declared, by whole paths in path order.
-ghost use Rattle.std.specs.Prelude.{◌≡◌, ◌++◌, ◌+◌, ◌<◌, ◌≤◌, ◌^◌, List, Ok, Err, None, OnOk, IsOkUnless, length, option_map};
+ghost use Rattle.std.specs.Prelude.{◌≡◌, ◌++◌, ◌+◌, ◌<◌, ◌≤◌, ◌^◌, List, Ok, Err, None, OnOk, IsOkUnless, MatchOption, length, option_map};
+ghost use Rattle.std.specs.Prelude as list;
 ghost use Rattle.std.specs.FinMap as map;
 ghost use Rattle.std.specs.Prelude.{T};
 ghost use Rattle.std.specs.Ordering.{is_gt};
 ghost use Rattle.ar_space.specs.declared.refusal.Refusal.TheVariants.{OutOfMemory};
-ghost use Rattle.ar_space.specs.Outcome.{Answers};
+ghost use Rattle.ar_space.specs.Outcome.{Answers, NotMemory};
 ghost use Rattle.ar_space.specs.Change.{Does};
 ghost use Rattle.aml_path.specs.Paths.{path_cmp, is_below};
-ghost use Rattle.aml_namespace.specs.Namespace.{root_alone, declared, without_below, numbered, with_number};
+ghost use Rattle.aml_namespace.specs.Namespace.{root_alone, declared, without_below, with_object, replaced, released, entry_released, mutexes_released, numbered, with_number};
 ghost use Rattle.aml_namespace.specs.Search.{at_path};
-ghost use Rattle.aml_namespace.specs.Kept.{place, find_entry};
+ghost use Rattle.aml_namespace.specs.Kept.{place, find_entry, StandsAt};
 
 use crate::compare::compare;
 use aml_objects::{Entry, NamedObject};
@@ -124,6 +125,29 @@ impl Names {
         Ok(())
     }
 
+    /// Puts another object in place of what stands at a path, under the number of its declaration. It takes no memory.
+    ///
+    /// Where nothing stands at the path this is refused as `NotFound`, and nothing changes.
+    pub fn replace(&mut self, path: &Path, object: NamedObject) -> Result<(), Refusal>
+        ensures change { Does result self.new (replaced path.now object) self.old }
+        ensures memory { NotMemory result }
+    {
+        match index_at(&self.entries, &[], path.segments()) {
+            None => Err(Refusal::Namespace(NamespaceFault::NotFound)),
+            Some(index) => {
+                put_object(&mut self.entries[index].1, object);
+                Ok(())
+            }
+        }
+    }
+
+    /// Releases every mutex, however often it was acquired (ACPI 6.5, 19.6, Release). It takes no memory.
+    pub fn release_mutexes(&mut self)
+        ensures { self.new ≡ mutexes_released self.old }
+    {
+        release_all(&mut self.entries);
+    }
+
     /// Removes the names below a path, and not the name at it. It takes no memory.
     #[tactic(auto, using(crate::specs::Kept::removing), unfolding(crate::specs::Namespace::without_below))]
     pub fn remove_below(&mut self, path: &Path)
@@ -142,11 +166,23 @@ fn entry_at<'a>(
     requires sorted { T (map.is_sorted path_cmp entries.now) }
     ensures { option_map (λ found. found.now) result ≡ find_entry (front.now ++ back.now) entries.now }
 {
-    match entries.get(position(entries, front, back)) {
+    match index_at(entries, front, back) {
+        None => None,
+        Some(index) => Some(&entries[index]),
+    }
+}
+
+/// Where the entry at a path stands among those in order, if there is one. The path is given in two parts.
+fn index_at(entries: &[(Path, Entry)], front: &[Seg], back: &[Seg]) -> Option<usize>
+    requires sorted { T (map.is_sorted path_cmp entries.now) }
+    ensures { MatchOption result (find_entry (front.now ++ back.now) entries.now ≡ None) (λ index. StandsAt (front.now ++ back.now) entries.now index) }
+{
+    let index = position(entries, front, back);
+    match entries.get(index) {
         None => None,
         Some(entry) => {
             if compare(front, back, entry.0.segments()).is_eq() {
-                Some(entry)
+                Some(index)
             } else {
                 None
             }
@@ -186,4 +222,29 @@ fn with_number(entries: &[(Path, Entry)], number: u64) -> Option<&(Path, Entry)>
         }
     }
     None
+}
+
+/// Puts another object into an entry, under the same number.
+fn put_object(entry: &mut Entry, object: NamedObject)
+    ensures { entry.new ≡ with_object object entry.old }
+{
+    entry.object = object;
+}
+
+/// Releases the mutexes among entries.
+fn release_all(entries: &mut [(Path, Entry)])
+    ensures { entries.new ≡ list.map (λ entry. (entry.0, entry_released entry.1)) entries.old }
+{
+    for entry in entries.iter_mut() {
+        release(&mut entry.1.object);
+    }
+}
+
+/// Releases what is a mutex.
+fn release(object: &mut NamedObject)
+    ensures { object.new ≡ released object.old }
+{
+    if let NamedObject::Mutex(count) = object {
+        *count = 0;
+    }
 }

@@ -8,7 +8,11 @@ use std::alloc::Global;
 use std::collections::{BTreeMap, VecDeque};
 use std::test::Fail;
 
+const EXISTS: Refusal = Refusal::Namespace(NamespaceFault::Exists);
+
 const NOT_FOUND: Refusal = Refusal::Namespace(NamespaceFault::NotFound);
+
+const HERE: Prefix = Prefix::Parents(0);
 
 fn path(alloc: Global, text: &str) -> Result<Path, Refusal> {
     Path::from_text(alloc, text.as_bytes())
@@ -33,26 +37,15 @@ fn found(alloc: Global, names: &Names, scope: &str, name: &NameString) -> Result
 fn declarations_are_numbered(rt: HostRuntime) -> Result<(), Fail> {
     let alloc = rt.alloc();
     let mut names = Names::new(alloc)?;
-    assert_eq!(rt;
-        names.insert(path(alloc, "\\A")?, NamedObject::Device),
-        Ok(1)
-    );
-    assert_eq!(rt;
-        names.insert(path(alloc, "\\A.B")?, NamedObject::Event),
-        Ok(2)
-    );
-    assert_eq!(rt;
-        names.insert(path(alloc, "\\A.B")?, NamedObject::Event),
-        Err(Refusal::Namespace(NamespaceFault::Exists))
-    );
-    assert_eq!(rt;
-        names.insert(path(alloc, "\\B.A")?, NamedObject::Event),
-        Err(NOT_FOUND)
-    );
-    assert_eq!(rt;
-        names.insert(path(alloc, "\\B")?, NamedObject::Mutex(0)),
-        Ok(3)
-    );
+    for (text, object, number) in [
+        ("\\A", NamedObject::Device, Ok(1)),
+        ("\\A.B", NamedObject::Event, Ok(2)),
+        ("\\A.B", NamedObject::Event, Err(EXISTS)),
+        ("\\B.A", NamedObject::Event, Err(NOT_FOUND)),
+        ("\\B", NamedObject::Mutex(0), Ok(3)),
+    ] {
+        assert_eq!(rt; names.insert(path(alloc, text)?, object), number, "{text}");
+    }
     names.remove_below(&path(alloc, "\\A")?);
     assert!(rt; names.get(&path(alloc, "\\A")?).is_some());
     assert!(rt; names.get(&path(alloc, "\\A.B")?).is_none());
@@ -73,6 +66,73 @@ fn declarations_are_numbered(rt: HostRuntime) -> Result<(), Fail> {
 }
 
 #[test]
+fn an_object_is_replaced_under_its_number(rt: HostRuntime) -> Result<(), Fail> {
+    let alloc = rt.alloc();
+    let mut names = Names::new(alloc)?;
+    declare(alloc, &mut names, &["\\A", "\\B", "\\C"])?;
+    let seven = NamedObject::Data(Value::Integer(7));
+    assert_eq!(rt; names.replace(&path(alloc, "\\B")?, seven), Ok(()));
+    assert_eq!(rt;
+        names.replace(&path(alloc, "\\A.B")?, NamedObject::Event),
+        Err(NOT_FOUND)
+    );
+    for (text, number, object) in [
+        ("\\A", 1, NamedObject::Device),
+        ("\\B", 2, NamedObject::Data(Value::Integer(7))),
+        ("\\C", 3, NamedObject::Device),
+    ] {
+        let entry = Entry { number, object };
+        assert_eq!(rt; names.get(&path(alloc, text)?), Some(&entry), "{text}");
+    }
+    assert_eq!(rt;
+        names.insert(path(alloc, "\\D")?, NamedObject::Event),
+        Ok(4)
+    );
+    Ok(())
+}
+
+#[test]
+fn every_mutex_is_released(rt: HostRuntime) -> Result<(), Fail> {
+    let alloc = rt.alloc();
+    let mut names = Names::new(alloc)?;
+    names.insert(path(alloc, "\\ONE")?, NamedObject::Mutex(1))?;
+    names.insert(path(alloc, "\\DATA")?, NamedObject::Data(Value::Integer(2)))?;
+    names.insert(path(alloc, "\\TWO")?, NamedObject::Mutex(255))?;
+    names.release_mutexes();
+    for (text, number, object) in [
+        ("\\ONE", 1, NamedObject::Mutex(0)),
+        ("\\DATA", 2, NamedObject::Data(Value::Integer(2))),
+        ("\\TWO", 3, NamedObject::Mutex(0)),
+    ] {
+        let entry = Entry { number, object };
+        assert_eq!(rt; names.get(&path(alloc, text)?), Some(&entry), "{text}");
+    }
+    Ok(())
+}
+
+/// A scope, a name's prefix and segments, and the path that the name finds from there.
+const SEARCHES: [(&str, Prefix, &str, Result<&str, Refusal>); 13] = [
+    ("\\_SB.PCI0.MA", HERE, "\\FOO", Ok("\\_SB_.FOO_")),
+    ("\\_SB.PCI0", HERE, "\\FOO", Ok("\\_SB_.FOO_")),
+    ("\\_SB", HERE, "\\FOO", Ok("\\_SB_.FOO_")),
+    ("\\", HERE, "\\FOO", Ok("\\FOO_")),
+    ("\\FOO", HERE, "\\FOO", Ok("\\FOO_")),
+    ("\\NONE.AT.ALL", HERE, "\\FOO", Ok("\\FOO_")),
+    ("\\_SB.PCI0.MA", Prefix::Parents(1), "\\FOO", Err(NOT_FOUND)),
+    ("\\_SB.PCI0", Prefix::Parents(1), "\\FOO", Ok("\\_SB_.FOO_")),
+    ("\\_SB.PCI0", HERE, "\\PCI0.MA", Err(NOT_FOUND)),
+    ("\\_SB", HERE, "\\PCI0.MA", Ok("\\_SB_.PCI0.MA__")),
+    (
+        "\\_SB",
+        Prefix::Parents(2),
+        "\\FOO",
+        Err(Refusal::Name(NameFault::AboveRoot)),
+    ),
+    ("\\_SB", HERE, "\\", Err(Refusal::Name(NameFault::BadName))),
+    ("\\_SB", Prefix::Root, "\\", Ok("\\")),
+];
+
+#[test]
 fn single_segments_are_searched_upwards(rt: HostRuntime) -> Result<(), Fail> {
     let alloc = rt.alloc();
     let mut names = Names::new(alloc)?;
@@ -81,45 +141,14 @@ fn single_segments_are_searched_upwards(rt: HostRuntime) -> Result<(), Fail> {
         &mut names,
         &["\\_SB", "\\_SB.PCI0", "\\_SB.PCI0.MA", "\\FOO", "\\_SB.FOO"],
     )?;
-    let foo = name(alloc, Prefix::Parents(0), "\\FOO")?;
-    for (scope, place) in [
-        ("\\_SB.PCI0.MA", "\\_SB_.FOO_"),
-        ("\\_SB.PCI0", "\\_SB_.FOO_"),
-        ("\\_SB", "\\_SB_.FOO_"),
-        ("\\", "\\FOO_"),
-        ("\\FOO", "\\FOO_"),
-        ("\\NONE.AT.ALL", "\\FOO_"),
-    ] {
+    for (scope, prefix, text, wanted) in SEARCHES {
+        let place = found(alloc, &names, scope, &name(alloc, prefix, text)?);
         assert_eq!(rt;
-            found(alloc, &names, scope, &foo)?.as_str(),
-            place,
-            "{scope}"
+            place.as_ref().map(|place| place.as_str()),
+            wanted.as_ref().map(|place| *place),
+            "{scope} {text}"
         );
     }
-    let up = name(alloc, Prefix::Parents(1), "\\FOO")?;
-    assert_eq!(rt; found(alloc, &names, "\\_SB.PCI0.MA", &up), Err(NOT_FOUND));
-    assert_eq!(rt;
-        found(alloc, &names, "\\_SB.PCI0", &up)?.as_str(),
-        "\\_SB_.FOO_"
-    );
-    let two = name(alloc, Prefix::Parents(0), "\\PCI0.MA")?;
-    assert_eq!(rt; found(alloc, &names, "\\_SB.PCI0", &two), Err(NOT_FOUND));
-    assert_eq!(rt;
-        found(alloc, &names, "\\_SB", &two)?.as_str(),
-        "\\_SB_.PCI0.MA__"
-    );
-    let above = name(alloc, Prefix::Parents(2), "\\FOO")?;
-    assert_eq!(rt;
-        found(alloc, &names, "\\_SB", &above),
-        Err(Refusal::Name(NameFault::AboveRoot))
-    );
-    let null = name(alloc, Prefix::Parents(0), "\\")?;
-    assert_eq!(rt;
-        found(alloc, &names, "\\_SB", &null),
-        Err(Refusal::Name(NameFault::BadName))
-    );
-    let root = name(alloc, Prefix::Root, "\\")?;
-    assert_eq!(rt; found(alloc, &names, "\\_SB", &root)?.as_str(), "\\");
     Ok(())
 }
 
@@ -200,7 +229,7 @@ fn calls_are_answered_in_order(rt: HostRuntime) -> Result<(), Fail> {
     let wanted = [
         Reply::Declared(Ok(1)),
         Reply::Declared(Ok(2)),
-        Reply::Declared(Err(Refusal::Namespace(NamespaceFault::Exists))),
+        Reply::Declared(Err(EXISTS)),
         Reply::Found(Ok(2)),
         Reply::Removed,
         Reply::Found(Err(NOT_FOUND)),
@@ -247,6 +276,59 @@ fn searched(
     Ok(map.get(segment).copied())
 }
 
+/// Removes the names below a path, from both.
+fn remove(names: &mut Names, map: &mut BTreeMap<Path, u64>, path: &Path) {
+    names.remove_below(path);
+    map.retain(|key: &Path, _number: &mut u64| !key.is_below(path));
+}
+
+/// Whether both find the same by a random segment.
+fn find_alike(
+    alloc: Global,
+    names: &Names,
+    map: &BTreeMap<Path, u64>,
+    scope: &Path,
+    state: &mut u64,
+) -> Result<bool, Refusal> {
+    let other = random_path(alloc, state)?;
+    let segment = other.prefix(alloc, other.depth().min(1))?;
+    let single = NameString::new(HERE, segment.copy(alloc)?.into_vec());
+    let number = names
+        .lookup(scope, &single)
+        .map(|entry: &Entry| entry.number);
+    Ok(number.ok() == searched(alloc, map, scope, &segment)?)
+}
+
+/// Declares a path in both, and gives whether it was refused exactly as the map says.
+fn declare_alike(
+    alloc: Global,
+    names: &mut Names,
+    map: &mut BTreeMap<Path, u64>,
+    path: Path,
+) -> Result<bool, Refusal> {
+    let has_parent = match path.parent(alloc)? {
+        Some(parent) => parent.depth() == 0 || map.contains_key(&parent),
+        None => false,
+    };
+    let stands = map.contains_key(&path);
+    match names.insert(path.copy(alloc)?, NamedObject::Device) {
+        Ok(number) => {
+            map.insert(path, number)?;
+            Ok(has_parent && !stands)
+        }
+        Err(refusal) => {
+            let number = if has_parent { 60 } else { 61 };
+            Ok(refusal.number() == number && (stands || !has_parent))
+        }
+    }
+}
+
+/// Whether the names are walked in the order of the map.
+fn walk_alike(alloc: Global, names: &Names, map: &BTreeMap<Path, u64>) -> Result<bool, Refusal> {
+    let walked = names.walk(alloc)?;
+    Ok(walked.len() == map.len() && walked.iter().zip(map.keys()).all(|pair| pair.0 == pair.1))
+}
+
 #[test]
 fn ten_thousand_calls_agree_with_an_ordered_map(rt: HostRuntime) -> Result<(), Fail> {
     let alloc = rt.alloc();
@@ -256,43 +338,11 @@ fn ten_thousand_calls_agree_with_an_ordered_map(rt: HostRuntime) -> Result<(), F
     for _ in 0..10_000u32 {
         let path = random_path(alloc, &mut state)?;
         match next(&mut state, 8) {
-            0 => {
-                names.remove_below(&path);
-                map.retain(|key: &Path, _number: &mut u64| !key.is_below(&path));
-            }
-            1..=3 => {
-                let other = random_path(alloc, &mut state)?;
-                let segment = other.prefix(alloc, other.depth().min(1))?;
-                let single = NameString::new(Prefix::Parents(0), segment.copy(alloc)?.into_vec());
-                let number = names
-                    .lookup(&path, &single)
-                    .map(|entry: &Entry| entry.number);
-                assert_eq!(rt; number.ok(), searched(alloc, &map, &path, &segment)?);
-            }
-            _ => {
-                let has_parent = match path.parent(alloc)? {
-                    Some(parent) => parent.depth() == 0 || map.contains_key(&parent),
-                    None => false,
-                };
-                let stands = map.contains_key(&path);
-                match names.insert(path.copy(alloc)?, NamedObject::Device) {
-                    Ok(number) => {
-                        assert!(rt; has_parent && !stands);
-                        map.insert(path, number)?;
-                    }
-                    Err(refusal) => {
-                        let number = if has_parent { 60 } else { 61 };
-                        assert_eq!(rt; refusal.number(), number);
-                        assert!(rt; stands || !has_parent);
-                    }
-                }
-            }
+            0 => remove(&mut names, &mut map, &path),
+            1..=3 => assert!(rt; find_alike(alloc, &names, &map, &path, &mut state)?),
+            _ => assert!(rt; declare_alike(alloc, &mut names, &mut map, path)?),
         }
     }
-    let walked = names.walk(alloc)?;
-    assert_eq!(rt; walked.len(), map.len());
-    for (one, other) in walked.iter().zip(map.keys()) {
-        assert_eq!(rt; one, other);
-    }
+    assert!(rt; walk_alike(alloc, &names, &map)?);
     Ok(())
 }

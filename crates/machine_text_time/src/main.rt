@@ -1,7 +1,7 @@
 //! Reads a machine text from the standard input and prints the address of its RSDP: for measuring how fast it is read.
 #![tactic(auto)]
 
-use acpiroute_lib::read_machine;
+use machine_text::read_machine;
 use std::io;
 use std::io::Read;
 

@@ -1,25 +1,6 @@
-use Rattle.std.proofs.Common.{rules, arith, ap, sym, ◌∙◌, ◌≡◌, ◌++◌, ◌≤◌, ◌<◌, length, get_or, cond, Some, None, true, false, is_eq}
-use Rattle.aml_path.specs.Paths.{path_cmp}
-use Rattle.aml_namespace.proofs.Places.{none_there, one_there}
+use Rattle.std.proofs.Common.{◌∙◌, ap, sym, Some}
+use Rattle.aml_namespace.specs.Kept.{found_there}
 use Rattle.aml_namespace.proofs.names.entry_at.Goals as goal
 
-pub returns-in-None : goal.returns-in-None
-returns-in-None c =
-    let past : length c.args.entries.now ≤ c.position.result = grind (arith, rules) in
-    none_there _ _ c.position.result c.requires.sorted c.position.ensures.place past
-
-pub returns-then-is_eq : goal.returns-then-is_eq
-returns-then-is_eq c =
-    let k = c.args.front.now ++ c.args.back.now in
-    let within : c.position.result < length c.args.entries.now = search rules in
-    let here : c.in-Some.entry.now ≡ get_or c.args.entries.now c.position.result c.in-Some.entry.now = search rules in
-    let same : is_eq (path_cmp k c.in-Some.entry.now.0) ≡ true = sym (ap is_eq (c.compare.ensures ∙ ap (path_cmp k) c.segments.ensures)) ∙ sym c.is_eq.ensures ∙ c.if-is_eq.true in
-    sym (one_there k _ c.position.result c.in-Some.entry.now c.requires.sorted c.position.ensures.place within here ∙ ap (λ b. cond b (Some c.in-Some.entry.now) None) same)
-
-pub returns-else-is_eq : goal.returns-else-is_eq
-returns-else-is_eq c =
-    let k = c.args.front.now ++ c.args.back.now in
-    let within : c.position.result < length c.args.entries.now = search rules in
-    let here : c.in-Some.entry.now ≡ get_or c.args.entries.now c.position.result c.in-Some.entry.now = search rules in
-    let other : is_eq (path_cmp k c.in-Some.entry.now.0) ≡ false = sym (ap is_eq (c.compare.ensures ∙ ap (path_cmp k) c.segments.ensures)) ∙ sym c.is_eq.ensures ∙ c.if-is_eq.false in
-    sym (one_there k _ c.position.result c.in-Some.entry.now c.requires.sorted c.position.ensures.place within here ∙ ap (λ b. cond b (Some c.in-Some.entry.now) None) other)
+pub returns-in-Some : goal.returns-in-Some
+returns-in-Some c = ap Some c.index-entries-index.is ∙ sym (found_there _ _ c.in-Some.index c.index-entries-index.result c.in-Some.ensures)

@@ -1,0 +1,3 @@
+pub mod Configured
+pub mod Lines
+pub mod Rows

@@ -1,0 +1,79 @@
+//! Gathers, chooses, reports.
+ghost use Rattle.std.specs.Prelude.{◌≡◌, ◌≢◌, ◌<◌, ◌≤◌, All, Ok, Err, IfOk, IfErr, length, map};
+ghost use Rattle.ar_space.specs.declared.refusal.Refusal.TheVariants.{OutOfMemory};
+ghost use Rattle.ar_space.specs.Outcome.{Answers, seen};
+ghost use Rattle.route_solve.specs.Fits.{Fits};
+ghost use Rattle.acpi_links.specs.Gatherings.{gathered};
+ghost use Rattle.acpi_configure.specs.Rows.{rows};
+ghost use Rattle.acpi_configure.specs.Configured.{Solves, report_of, IsDryReport};
+
+use crate::chosen_lines::{bound_of, gives_of};
+use crate::link_lines::link_lines;
+use crate::madt_lines::{io_apics_of, overrides_of};
+use crate::names::mode_of;
+use crate::pin_lines::pin_lines;
+use acpi_links::{Gathered, gather};
+use acpi_machine::Machine;
+use ar_space::{Refusal, Space};
+use route_report::Report;
+use route_solve::{Answer, Problem, solve};
+use std::alloc::Global;
+
+/// Chooses an interrupt for each link device of a machine, and reports what was found and chosen. No link is set.
+///
+/// What is found is what `gather` gives, and its refusals are handed on. The choice is the first of the assignments whose
+/// busiest interrupt serves the fewest sources: compared link by link in path order, the smaller interrupt first. The bound
+/// is the set of links and interrupts that shows why none is less busy; there is none where no interrupt serves a source.
+/// The report has no line of a link that was set.
+pub fn configure_dry<S: Space>(alloc: Global, machine: &mut Machine<S>) -> Result<Report, Refusal>
+    ensures report { IfOk result (λ report. IsDryReport machine.old machine.new (rows report)) }
+    ensures refusal { IfErr result (λ refusal. refusal ≢ OutOfMemory → gathered machine.old ≡ (Err refusal, machine.new)) }
+{
+    let gathered = gather(alloc, machine)?;
+    let answer = answer_to(alloc, gathered.problem())?;
+    report_of(alloc, machine, &gathered, &answer)
+}
+
+/// The answer to a problem.
+#[tactic(auto, using(crate::proofs::Reported::solved))]
+fn answer_to(alloc: Global, problem: &Problem) -> Result<Answer, Refusal>
+    requires { Fits problem.now }
+    ensures solves { IfOk result (λ answer. Solves problem.now answer) }
+    ensures memory { IfErr result (λ refusal. refusal ≡ OutOfMemory) }
+{
+    Ok(solve(alloc, problem)?)
+}
+
+/// The report of what was found and chosen.
+#[tactic(auto, using(crate::proofs::Placed::placed, crate::proofs::Placed::chosen_for_each))]
+fn report_of<S: Space>(
+    alloc: Global,
+    machine: &Machine<S>,
+    gathered: &Gathered,
+    answer: &Answer,
+) -> Result<Report, Refusal>
+    requires { Solves gathered.now.problem answer.now }
+    ensures { Answers (seen rows result) (Ok (report_of machine.now gathered.now answer.now)) }
+{
+    let problem = gathered.problem();
+    let io_apics = io_apics_of(alloc, machine.madt())?;
+    let overrides = overrides_of(alloc, machine.madt())?;
+    let links = link_lines(alloc, gathered.links())?;
+    let wired = Vec::from_slice(alloc, problem.wired())?;
+    let gives = gives_of(alloc, problem.links(), &answer.choice)?;
+    let pins = pin_lines(alloc, &gives, gathered.pins())?;
+    let bound = bound_of(alloc, problem.links(), answer)?;
+    Ok(Report {
+        mode: mode_of(machine.mode()),
+        io_apics,
+        overrides,
+        links,
+        wired,
+        pins,
+        gives,
+        busiest: answer.busiest,
+        bound,
+        sets: Vec::new(alloc),
+        afters: Vec::new(alloc),
+    })
+}

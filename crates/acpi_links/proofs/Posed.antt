@@ -1,0 +1,68 @@
+-- The parts of a problem.
+use Rattle.std.proofs.Common.{◌≡◌, ℕ, ◌+◌, ◌<◌, ◌≤◌, List, [], ◌∷◌, ◌++◌, Option, Some, None, length, map, drop, get_or, Ok, refl, ◌∙◌, sym, ap, drop-cons, add-one, append_assoc, append-nil}
+use Rattle.std.proofs.lemmas.List.{drop_all, get_or-map, length-map}
+use Rattle.std.specs.Prelude.{All, sum_by}
+use Rattle.std.specs.List.{cons_option}
+use Rattle.std.specs.List.Sorted.{IsStrictlySortedBy, IsStrictlyIncreasing}
+use Rattle.std.specs.Ordering.{nat_cmp}
+use Rattle.std.specs.BTreeSet.{insert_key}
+use Rattle.ar_space.specs.Outcome.{Answers}
+use Rattle.aml_path.specs.declared.segment.Seg.{Seg}
+use Rattle.aml_path.specs.Paths.{path_cmp}
+use Rattle.acpi_resources.specs.Numbers.{with_numbers}
+use Rattle.acpi_prt.specs.declared.pin.Pin.{Pin}
+use Rattle.route_model.specs.Links.{OfferingLink, offers_of, paths_of}
+use Rattle.route_solve.specs.Fits.{Fits, IsOffer}
+use Rattle.acpi_links.specs.Links.{PresentLink}
+use Rattle.acpi_links.specs.Problems.{wired_number, with_number, wired_numbers, wired_counts, offering, problem_of}
+
+pushed : (o : Option ℕ) (list rest : List ℕ) → with_number list o ++ rest ≡ list ++ cons_option o rest
+pushed None list rest = refl
+pushed (Some n) list rest = append_assoc list (n ∷ []) rest
+
+pub number_more : (all list after : List ℕ) (pins : List (List Seg × Pin)) (i : ℕ) (pin : List Seg × Pin)
+    → list ++ wired_numbers (drop i pins) ≡ all → i < length pins → pin ≡ get_or pins i pin → after ≡ with_number list (wired_number pin.1.route)
+    → after ++ wired_numbers (drop (i + 1) pins) ≡ all
+unfolding wired_numbers
+number_more all list after pins i pin so l at e =
+    rw (e, add-one) (pushed (wired_number pin.1.route) list _ ∙ (sym (rw (drop-cons pins i pin l, ← at) refl) ∙ so))
+
+pub numbers_end : (all list : List ℕ) (pins : List (List Seg × Pin)) (i : ℕ) → list ++ wired_numbers (drop i pins) ≡ all → length pins ≤ i → list ≡ all
+unfolding wired_numbers
+numbers_end all list pins i so l = sym (append-nil list) ∙ (sym (rw (drop_all i pins l) refl) ∙ so)
+
+pub set_more : (all set after ns : List ℕ) (i : ℕ)
+    → with_numbers set (drop i ns) ≡ all → i < length ns → after ≡ insert_key nat_cmp set (get_or ns i 0) → with_numbers after (drop (i + 1) ns) ≡ all
+unfolding with_numbers
+set_more all set after ns i so l e = rw (e, add-one) (sym (rw (drop-cons ns i 0 l) refl) ∙ so)
+
+pub set_end : (all set after ns : List ℕ) (i : ℕ) → with_numbers set (drop i ns) ≡ all → length ns ≤ i → after ≡ set → after ≡ all
+unfolding with_numbers
+set_end all set after ns i so l e = e ∙ (sym (rw (drop_all i ns l) refl) ∙ so)
+
+-- a problem is made of its parts, and can be solved
+pub problem_is : (links : List PresentLink) (pins : List (List Seg × Pin)) (ls : List OfferingLink) (ns : List ℕ) (wired : List (ℕ × ℕ))
+    → Answers (Ok ls) (Ok (map offering links)) → ns ≡ wired_numbers pins → wired ≡ wired_counts ns
+    → Answers (Ok (record { links = ls; wired = wired })) (Ok (problem_of links pins))
+unfolding problem_of
+problem_is links pins ls ns wired a n w = record { is = λ _. cc (a.is tt, n, w) }
+
+offering-paths : (links : List PresentLink) → paths_of (map offering links) ≡ map (λ link. link.0) links
+offering-paths [] = refl
+offering-paths (l ∷ ls) = ap (λ rest. l.0 ∷ rest) (offering-paths ls)
+
+no_link : OfferingLink
+no_link = record { path = []; offers = [] }
+
+pub problem_fits : (links : List PresentLink) (ls : List OfferingLink) (wired : List (ℕ × ℕ))
+    → Answers (Ok ls) (Ok (map offering links)) → length links ≤ 256 → IsStrictlySortedBy path_cmp (map (λ link. link.0) links) → All (λ l. IsOffer l.offers) ls
+    → IsStrictlyIncreasing (map (λ w. w.0) wired) → sum_by (λ w. w.1) wired ≤ 4096 → Fits (record { links = ls; wired = wired })
+problem_fits links ls wired a few order offers ascend counts =
+    let same : map offering links ≡ ls = cc (a.is tt) in
+    record {
+      few = rw (← same, length-map) few;
+      in_order = rw (← same, offering-paths links) order;
+      offers = λ k l. rw (get_or-map (λ (l : OfferingLink). l.offers) ls k no_link [] l) (offers k no_link l);
+      wired_in_order = ascend;
+      counts = counts;
+    }

@@ -1,0 +1,61 @@
+-- The devices of a machine, and the pins of their routing tables (ACPI 6.5, 6.2.13).
+use Rattle.std.specs.Prelude.{ℕ, ◌+◌, List, [], ◌∷◌, ◌++◌, map, Bool, true, false, Option, Some, None, Ok, codes, if◌then◌else◌}
+use Rattle.std.specs.List.{filter_map}
+use Rattle.ar_space.specs.Change.{Change, give, settle, ◌>>=◌}
+use Rattle.aml_path.specs.declared.segment.Seg.{Seg}
+use Rattle.acpi_machine.specs.MachineStates.{MachineState}
+use Rattle.acpi_machine.specs.Kinds as kind
+use Rattle.acpi_machine.specs.Kinds.{Kind, kinds_walked}
+use Rattle.acpi_prt.specs.declared.pin.Pin.{Pin}
+use Rattle.acpi_prt.specs.RoutingTables.{routing_table}
+use Rattle.acpi_links.specs.Naming.{named_below}
+use Rattle.acpi_links.specs.Answered.{stands}
+use Rattle.acpi_links.specs.Folds.{folded}
+
+abbrev pub is_device : Kind → Bool
+is_device kind.Scope = false
+is_device kind.Device = true
+is_device kind.Processor = false
+is_device kind.PowerResource = false
+is_device kind.ThermalZone = false
+is_device (kind.Method n) = false
+is_device kind.Uninitialized = false
+is_device kind.Integer = false
+is_device kind.String = false
+is_device kind.Buffer = false
+is_device kind.Package = false
+is_device kind.Reference = false
+is_device kind.FieldUnit = false
+is_device kind.BufferField = false
+is_device kind.Region = false
+is_device kind.Mutex = false
+is_device kind.Event = false
+is_device (kind.Alias p) = false
+
+abbrev pub device_path : List Seg × Kind → Option (List Seg)
+device_path node = if is_device node.1 then Some node.0 else None
+
+-- the paths of all devices, in path order
+unfoldable pub devices : {S : Type 0} → MachineState S → List (List Seg)
+devices s = filter_map device_path (kinds_walked s.world.names.map)
+
+unfoldable pub devices_listed : {S : Type 0} → Change (MachineState S) (List (List Seg))
+devices_listed s = (Ok (devices s), s)
+
+-- the pins of a device whose routing table stands at a path, if it does
+unfoldable pub pins_at : {S : Type 0} → List Seg → List Seg → Change (MachineState S) (List Pin)
+pins_at device p s = if stands p s then routing_table device s else (Ok [], s)
+
+-- each pin with the device that has the routing table
+abbrev pub with_device : List Seg → List Pin → List (List Seg × Pin)
+with_device device pins = map (λ pin. (device, pin)) pins
+
+unfoldable pub pins_of_device : {S : Type 0} → List Seg → Change (MachineState S) (List (List Seg × Pin))
+pins_of_device device = do
+  prt ← settle (named_below device (codes "_PRT"))
+  pins ← pins_at device prt
+  give (with_device device pins)
+
+-- the pins of each device, in the order of the devices, each routing table as it is then
+abbrev pub pins_of_each : {S : Type 0} → List (List Seg) → Change (MachineState S) (List (List Seg × Pin))
+pins_of_each list = folded ◌++◌ pins_of_device list []

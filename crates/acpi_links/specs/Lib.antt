@@ -1,0 +1,10 @@
+pub mod Answered
+pub mod Devices
+pub mod Folds
+pub mod Gathering
+pub mod Gatherings
+pub mod Links
+pub mod Naming
+pub mod Presence
+pub mod Problems
+pub mod Resources

@@ -1,0 +1,60 @@
+//! Objects below a device, and what kind of value they answer.
+ghost use Rattle.std.specs.Prelude.{◌≡◌, Ok};
+ghost use Rattle.ar_space.specs.Outcome.{Answers, seen};
+ghost use Rattle.ar_space.specs.Change.{Does};
+ghost use Rattle.aml_path.specs.Segments.{seg_of};
+ghost use Rattle.aml_meaning.specs.Given.{given_of};
+ghost use Rattle.acpi_machine.specs.Calls.{evaluated_object};
+ghost use Rattle.acpi_links.specs.Naming.{named_below};
+ghost use Rattle.acpi_links.specs.Answered.{stands, bytes_in, buffer_at};
+
+use acpi_machine::Machine;
+use aml_meaning::Datum;
+use aml_objects::Octets;
+use aml_path::{Path, Seg};
+use ar_space::{Refusal, Space, ValueFault};
+use std::alloc::Global;
+
+/// The path of a name of four characters below another.
+#[tactic(auto, using(ar_space::specs::Outcome::answering), unfolding(crate::specs::Naming::named_below))]
+pub(crate) fn named_below(alloc: Global, path: &Path, name: [u8; 4]) -> Result<Path, Refusal>
+    ensures { Answers result (named_below path.now name) }
+{
+    let segment = segment(name)?;
+    path.child(alloc, segment)
+}
+
+fn segment(name: [u8; 4]) -> Result<Seg, Refusal>
+    ensures { Answers result (seg_of name) }
+{
+    Seg::new(name)
+}
+
+/// Whether a name stands at a path.
+pub(crate) fn stands<S: Space>(machine: &Machine<S>, path: &Path) -> bool
+    ensures { result ≡ stands path.now machine.now }
+{
+    machine.find_node(path).is_some()
+}
+
+/// The bytes of the buffer that the object at a path answers, without arguments; `WrongType` for any other value.
+#[tactic(auto, using(ar_space::specs::Change::changing), unfolding(crate::specs::Answered::buffer_at))]
+pub(crate) fn buffer_at<S: Space>(
+    alloc: Global,
+    machine: &mut Machine<S>,
+    path: &Path,
+) -> Result<Octets, Refusal>
+    ensures { Does result machine.new (buffer_at path.now) machine.old }
+{
+    let answer = machine.evaluate_object(alloc, path, Vec::new(alloc))?;
+    bytes_in(answer)
+}
+
+fn bytes_in(answer: Datum) -> Result<Octets, Refusal>
+    ensures { Answers result (bytes_in (given_of answer)) }
+{
+    match answer {
+        Datum::Bytes(bytes) => Ok(bytes),
+        _ => Err(Refusal::Value(ValueFault::WrongType)),
+    }
+}

@@ -1,0 +1,99 @@
+//! The devices of a machine, and the pins of their routing tables (ACPI 6.5, 6.2.13).
+ghost use Rattle.std.specs.Prelude.{◌≡◌, Ok, map};
+ghost use Rattle.std.specs.List.{filter_map};
+ghost use Rattle.ar_space.specs.Outcome.{Answers, seen};
+ghost use Rattle.ar_space.specs.Change.{Does};
+ghost use Rattle.acpi_machine.specs.Kinds.{kind_seen};
+ghost use Rattle.acpi_links.specs.Devices.{is_device, device_path, devices, pins_at, with_device, pins_of_device, pins_of_each};
+
+use crate::answers::{named_below, stands};
+use acpi_machine::{Kind, Machine};
+use acpi_prt::{Pin, get_irq_routing_table};
+use aml_path::Path;
+use ar_space::{Refusal, Space};
+use std::alloc::Global;
+
+/// The paths of all devices, in path order.
+#[tactic(auto, using(ar_space::specs::Outcome::answering), unfolding(crate::specs::Devices::devices))]
+pub(crate) fn devices<S: Space>(alloc: Global, machine: &Machine<S>) -> Result<Vec<Path>, Refusal>
+    ensures { Answers (seen (λ list. list.items) result) (Ok (devices machine.now)) }
+{
+    only_devices(alloc, machine.walk_namespace(alloc)?)
+}
+
+/// The paths of the devices among some names.
+fn only_devices(alloc: Global, nodes: Vec<(Path, Kind<'_>)>) -> Result<Vec<Path>, Refusal>
+    ensures { Answers (seen (λ list. list.items) result) (Ok (filter_map device_path (map (λ node. (node.0, kind_seen node.1)) nodes.entry.items))) }
+{
+    let mut list = Vec::new(alloc);
+    for (path, kind) in nodes {
+        if is_device(kind) {
+            list.push(path)?;
+        }
+    }
+    Ok(list)
+}
+
+fn is_device(kind: Kind<'_>) -> bool
+    ensures { result ≡ is_device (kind_seen kind.entry) }
+{
+    matches!(kind, Kind::Device)
+}
+
+/// The pins of the routing table of each of some devices that have one.
+pub(crate) fn pins_of_each<S: Space>(
+    alloc: Global,
+    machine: &mut Machine<S>,
+    devices: &[Path],
+) -> Result<Vec<(Path, Pin)>, Refusal>
+    ensures { Does (seen (λ list. list.items) result) machine.new (pins_of_each devices.now) machine.old }
+{
+    let mut list = Vec::new(alloc);
+    for device in devices {
+        let mut pins = pins_of_device(alloc, machine, device)?;
+        list.append(&mut pins)?;
+    }
+    Ok(list)
+}
+
+/// The pins of the routing table of a device, if it has one.
+#[tactic(auto, using(ar_space::specs::Change::changing), unfolding(crate::specs::Devices::pins_of_device))]
+fn pins_of_device<S: Space>(
+    alloc: Global,
+    machine: &mut Machine<S>,
+    device: &Path,
+) -> Result<Vec<(Path, Pin)>, Refusal>
+    ensures { Does (seen (λ list. list.items) result) machine.new (pins_of_device device.now) machine.old }
+{
+    let path = named_below(alloc, device, *b"_PRT")?;
+    let pins = pins_at(alloc, machine, device, &path)?;
+    with_device(alloc, device, pins)
+}
+
+/// The pins of a device whose routing table stands at a path, if it does.
+#[tactic(auto, unfolding(crate::specs::Devices::pins_at))]
+fn pins_at<S: Space>(
+    alloc: Global,
+    machine: &mut Machine<S>,
+    device: &Path,
+    path: &Path,
+) -> Result<Vec<Pin>, Refusal>
+    ensures { Does (seen (λ list. list.items) result) machine.new (pins_at device.now path.now) machine.old }
+{
+    if stands(machine, path) {
+        get_irq_routing_table(alloc, machine, device)
+    } else {
+        Ok(Vec::new(alloc))
+    }
+}
+
+/// Each pin with the device that has the routing table.
+fn with_device(alloc: Global, device: &Path, pins: Vec<Pin>) -> Result<Vec<(Path, Pin)>, Refusal>
+    ensures { Answers (seen (λ list. list.items) result) (Ok (with_device device.now pins.items)) }
+{
+    let mut list = Vec::new(alloc);
+    for pin in pins {
+        list.push((device.copy(alloc)?, pin))?;
+    }
+    Ok(list)
+}

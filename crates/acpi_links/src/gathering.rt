@@ -1,0 +1,95 @@
+//! Gathers the routing problem of a machine.
+ghost use Rattle.std.specs.Prelude.{◌≡◌, ◌≤◌, Ok, IfOk, length, map};
+ghost use Rattle.std.specs.List.Sorted.{IsStrictlySortedBy};
+ghost use Rattle.ar_space.specs.Outcome.{Answers, seen};
+ghost use Rattle.ar_space.specs.Change.{Does};
+ghost use Rattle.aml_path.specs.Paths.{path_cmp};
+ghost use Rattle.route_solve.specs.Fits.{Fits};
+ghost use Rattle.acpi_links.specs.Devices.{devices_listed};
+ghost use Rattle.acpi_links.specs.Gatherings.{pins_found, links_found, gathering, gathered};
+
+use crate::devices::{devices, pins_of_each};
+use crate::gathered::Gathered;
+use crate::links::{PresentLink, few_links, few_pins, links_named, links_of_each, one_polarity};
+use crate::problem::problem_of;
+use acpi_machine::Machine;
+use acpi_prt::Pin;
+use aml_path::Path;
+use ar_space::{Refusal, Space};
+use std::alloc::Global;
+
+/// The pins of all routing tables, the present link devices that they lead to, and the routing problem that these pose.
+///
+/// First the routing table of each Device that has a `_PRT` is read, Devices in path order; more than 4,096 pins that count,
+/// or more than 256 links that they lead to, are refused as `TooMany`. Then each such link is asked in path order: `_STA`,
+/// and where it is present `_PRS` and `_CRS`. Links of both polarities are refused as `MixedPolarity`. Refusals of
+/// `get_irq_routing_table`, `get_possible_resources`, `get_current_resources` and of evaluations are handed on, and so is
+/// `WrongType` where `_STA` answers no integer. No link is set.
+#[tactic(auto, using(ar_space::specs::Change::changing), unfolding(crate::specs::Gatherings::gathered))]
+pub fn gather<S: Space>(alloc: Global, machine: &mut Machine<S>) -> Result<Gathered, Refusal>
+    ensures value { Does result machine.new gathered machine.old }
+    ensures fits { IfOk result (λ g. Fits g.problem) }
+{
+    let pins = pins_found(alloc, machine)?;
+    let links = links_found(alloc, machine, &pins)?;
+    gathering(alloc, pins, links)
+}
+
+/// The pins of all routing tables.
+#[tactic(auto, using(ar_space::specs::Change::changing), unfolding(crate::specs::Gatherings::pins_found))]
+fn pins_found<S: Space>(
+    alloc: Global,
+    machine: &mut Machine<S>,
+) -> Result<Vec<(Path, Pin)>, Refusal>
+    ensures value { Does (seen (λ list. list.items) result) machine.new pins_found machine.old }
+    ensures few { IfOk result (λ list. length list.items ≤ 4096) }
+{
+    let list = devices_listed(alloc, machine)?;
+    let pins = pins_of_each(alloc, machine, &list)?;
+    few_pins(&pins)?;
+    Ok(pins)
+}
+
+#[tactic(auto, unfolding(crate::specs::Devices::devices_listed))]
+fn devices_listed<S: Space>(alloc: Global, machine: &Machine<S>) -> Result<Vec<Path>, Refusal>
+    ensures { Does (seen (λ list. list.items) result) machine.now devices_listed machine.now }
+{
+    devices(alloc, machine)
+}
+
+/// The present links that some pins lead to.
+#[tactic(auto, using(ar_space::specs::Change::changing), unfolding(crate::specs::Gatherings::links_found))]
+fn links_found<S: Space>(
+    alloc: Global,
+    machine: &mut Machine<S>,
+    pins: &[(Path, Pin)],
+) -> Result<Vec<PresentLink>, Refusal>
+    ensures value { Does (seen (λ list. list.items) result) machine.new (links_found pins.now) machine.old }
+    ensures few { IfOk result (λ list. length list.items ≤ 256) }
+    ensures in_order { IfOk result (λ list. IsStrictlySortedBy path_cmp (map (λ link. link.0) list.items)) }
+{
+    let named = links_named(alloc, pins)?;
+    few_links(&named)?;
+    let links = links_of_each(alloc, machine, &named)?;
+    one_polarity(&links)?;
+    Ok(links)
+}
+
+fn gathering(
+    alloc: Global,
+    pins: Vec<(Path, Pin)>,
+    links: Vec<PresentLink>,
+) -> Result<Gathered, Refusal>
+    requires pins { length pins.items ≤ 4096 }
+    requires few { length links.items ≤ 256 }
+    requires in_order { IsStrictlySortedBy path_cmp (map (λ link. link.0) links.items) }
+    ensures value { Answers result (Ok (gathering pins.items links.items)) }
+    ensures fits { IfOk result (λ g. Fits g.problem) }
+{
+    let problem = problem_of(alloc, &links, &pins)?;
+    Ok(Gathered {
+        pins,
+        links,
+        problem,
+    })
+}

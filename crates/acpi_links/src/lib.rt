@@ -1,0 +1,17 @@
+//! PCI interrupt link devices (ACPI 6.5, 6.2.13): what each offers and is set to, and the routing problem of a machine.
+#![tactic(auto)]
+
+mod answers;
+mod devices;
+mod gathered;
+mod gathering;
+mod links;
+mod presence;
+mod problem;
+mod resources;
+
+pub use gathered::Gathered;
+pub use gathering::gather;
+pub use links::PresentLink;
+pub use resources::{get_current_resources, get_possible_resources};
+

@@ -1,0 +1,218 @@
+//! The link devices that pins lead to, and those of them that are present.
+ghost use Rattle.std.specs.Prelude.{◌≡◌, ◌≤◌, [], Some, Ok, OnOk, IfOk, IsOkUnless, length, map};
+ghost use Rattle.std.specs.List.{list_any};
+ghost use Rattle.std.specs.List.Sorted.{IsStrictlySortedBy};
+ghost use Rattle.aml_path.specs.Paths.{path_cmp};
+ghost use Rattle.ar_space.specs.declared.refusal.Refusal.TheVariants.{OutOfMemory};
+ghost use Rattle.ar_space.specs.Outcome.{Answers, NotMemory, seen};
+ghost use Rattle.ar_space.specs.Change.{Does};
+ghost use Rattle.acpi_links.specs.Links.{few_pins, with_route, links_named, few_links, link_found, link_if, link_asked, with_link, IsAt, links_of_each, is_low, is_high, mixed, one_polarity};
+
+use crate::presence::is_present;
+use crate::resources::{get_current_resources, get_possible_resources};
+use acpi_machine::Machine;
+use acpi_prt::{Pin, Route};
+use acpi_resources::{InterruptNumbers, Offer, Polarity};
+use aml_path::Path;
+use ar_space::{Refusal, RoutingFault, Space};
+use std::alloc::{AllocError, Global};
+use std::collections::BTreeSet;
+
+/// A machine may have so many pins.
+const MAX_PINS: usize = 4096;
+/// So many links may be named.
+const MAX_LINKS: usize = 256;
+
+/// A present link: its path, what it offers, and what it is set to.
+pub type PresentLink = (Path, Offer, Option<InterruptNumbers>);
+
+/// More than 4,096 pins are refused as `TooMany`.
+pub(crate) fn few_pins(pins: &[(Path, Pin)]) -> Result<(), Refusal>
+    ensures value { Answers result (few_pins pins.now) }
+    ensures few { IfOk result (λ _. length pins.now ≤ 4096) }
+{
+    if pins.len() > MAX_PINS {
+        Err(Refusal::Routing(RoutingFault::TooMany))
+    } else {
+        Ok(())
+    }
+}
+
+/// The links that some pins lead to, in path order, each once.
+pub(crate) fn links_named(alloc: Global, pins: &[(Path, Pin)]) -> Result<Vec<Path>, Refusal>
+    ensures value { Answers (seen (λ list. list.items) result) (Ok (links_named pins.now)) }
+    ensures ascending { IfOk result (λ list. IsStrictlySortedBy path_cmp list.items) }
+{
+    let mut links = BTreeSet::new(alloc);
+    for (_, pin) in pins {
+        add_route(alloc, &mut links, &pin.route)?;
+    }
+    Ok(in_order(alloc, links)?)
+}
+
+/// The paths of a set.
+fn in_order(alloc: Global, links: BTreeSet<Path>) -> Result<Vec<Path>, AllocError>
+    ensures value { IfOk result (λ list. list.items ≡ links.keys) }
+    ensures ascending { IfOk result (λ list. IsStrictlySortedBy path_cmp list.items) }
+{
+    Ok(links.into_iter().collect(alloc)?)
+}
+
+/// Adds the link that a route leads to, if it leads to one.
+fn add_route(alloc: Global, links: &mut BTreeSet<Path>, route: &Route) -> Result<(), Refusal>
+    ensures ok { OnOk result (links.new.keys ≡ with_route links.old.keys route.now) }
+    ensures memory { IsOkUnless result OutOfMemory }
+{
+    match route {
+        Route::Wired(_) => {}
+        Route::Link(path) => {
+            links.insert(copy(alloc, path)?)?;
+        }
+    }
+    Ok(())
+}
+
+fn copy(alloc: Global, path: &Path) -> Result<Path, Refusal>
+    ensures value { IfOk result (λ copy. copy ≡ path.now) }
+    ensures memory { IsOkUnless result OutOfMemory }
+{
+    Ok(Path::from_vec(Vec::from_slice(alloc, path.segments())?))
+}
+
+/// More than 256 links are refused as `TooMany`.
+pub(crate) fn few_links(links: &[Path]) -> Result<(), Refusal>
+    ensures value { Answers result (few_links links.now) }
+    ensures few { IfOk result (λ _. length links.now ≤ 256) }
+{
+    if links.len() > MAX_LINKS {
+        Err(Refusal::Routing(RoutingFault::TooMany))
+    } else {
+        Ok(())
+    }
+}
+
+/// Those of some links that are present, each with what it offers and what it is set to.
+pub(crate) fn links_of_each<S: Space>(
+    alloc: Global,
+    machine: &mut Machine<S>,
+    links: &[Path],
+) -> Result<Vec<PresentLink>, Refusal>
+    ensures value { Does (seen (λ list. list.items) result) machine.new (links_of_each links.now) machine.old }
+    ensures few { IfOk result (λ list. length list.items ≤ length links.now) }
+    ensures in_order { IfOk result (λ list. IsStrictlySortedBy path_cmp links.now → IsStrictlySortedBy path_cmp (map (λ link. link.0) list.items)) }
+{
+    let mut list = Vec::new(alloc);
+    for link in links {
+        let found = link_asked(alloc, machine, link)?;
+        push_found(&mut list, found)?;
+    }
+    Ok(list)
+}
+
+/// Pushes a link that is present.
+fn push_found(list: &mut Vec<PresentLink>, found: Option<PresentLink>) -> Result<(), AllocError>
+    ensures items { OnOk result (list.new.items ≡ with_link list.old.items found) }
+{
+    if let Some(link) = found {
+        list.push(link)?;
+    }
+    Ok(())
+}
+
+/// A link, if it is present.
+#[tactic(auto, using(ar_space::specs::Change::changing), unfolding(crate::specs::Links::link_asked))]
+fn link_asked<S: Space>(
+    alloc: Global,
+    machine: &mut Machine<S>,
+    link: &Path,
+) -> Result<Option<PresentLink>, Refusal>
+    ensures value { Does result machine.new (link_asked link.now) machine.old }
+    ensures path { IfOk result (λ found. IsAt link.now found) }
+{
+    let present = is_present(alloc, machine, link)?;
+    link_if(alloc, machine, present, link)
+}
+
+#[tactic(auto, using(ar_space::specs::Change::changing), unfolding(crate::specs::Links::link_if))]
+fn link_if<S: Space>(
+    alloc: Global,
+    machine: &mut Machine<S>,
+    present: bool,
+    link: &Path,
+) -> Result<Option<PresentLink>, Refusal>
+    ensures value { Does result machine.new (link_if present link.now) machine.old }
+    ensures path { IfOk result (λ found. IsAt link.now found) }
+{
+    match present {
+        true => link_found(alloc, machine, link),
+        false => Ok(None),
+    }
+}
+
+/// A link that is present.
+#[tactic(auto, using(ar_space::specs::Change::changing), unfolding(crate::specs::Links::link_found))]
+fn link_found<S: Space>(
+    alloc: Global,
+    machine: &mut Machine<S>,
+    link: &Path,
+) -> Result<Option<PresentLink>, Refusal>
+    ensures value { Does result machine.new (link_found link.now) machine.old }
+    ensures path { IfOk result (λ found. IsAt link.now found) }
+{
+    let offer = get_possible_resources(alloc, machine, link)?;
+    let now = get_current_resources(alloc, machine, link)?;
+    present_link(alloc, link, offer, now)
+}
+
+fn present_link(
+    alloc: Global,
+    link: &Path,
+    offer: Offer,
+    now: Option<InterruptNumbers>,
+) -> Result<Option<PresentLink>, Refusal>
+    ensures value { Answers result (Ok (Some (link.now, offer, now))) }
+    ensures path { IfOk result (λ found. IsAt link.now found) }
+{
+    Ok(Some((link.copy(alloc)?, offer, now)))
+}
+
+/// Links of both polarities are refused as `MixedPolarity`.
+pub(crate) fn one_polarity(links: &[PresentLink]) -> Result<(), Refusal>
+    ensures { Answers result (one_polarity links.now) }
+{
+    if mixed(links) {
+        Err(Refusal::Routing(RoutingFault::MixedPolarity))
+    } else {
+        Ok(())
+    }
+}
+
+fn mixed(links: &[PresentLink]) -> bool
+    ensures { result ≡ mixed links.now }
+{
+    any_low(links) && any_high(links)
+}
+
+fn any_low(links: &[PresentLink]) -> bool
+    ensures { result ≡ list_any (λ l. is_low l.1.polarity) links.now }
+{
+    links.iter().any(|link| is_low(link.1.polarity()))
+}
+
+fn any_high(links: &[PresentLink]) -> bool
+    ensures { result ≡ list_any (λ l. is_high l.1.polarity) links.now }
+{
+    links.iter().any(|link| is_high(link.1.polarity()))
+}
+
+fn is_low(polarity: Polarity) -> bool
+    ensures { result ≡ is_low polarity }
+{
+    matches!(polarity, Polarity::Low)
+}
+
+fn is_high(polarity: Polarity) -> bool
+    ensures { result ≡ is_high polarity }
+{
+    matches!(polarity, Polarity::High)
+}

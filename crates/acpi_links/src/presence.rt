@@ -1,0 +1,66 @@
+//! Whether a link device is present (ACPI 6.5, 6.3.7).
+ghost use Rattle.std.specs.Prelude.{Ok};
+ghost use Rattle.ar_space.specs.Outcome.{Answers};
+ghost use Rattle.ar_space.specs.Change.{Does};
+ghost use Rattle.aml_meaning.specs.Given.{given_of};
+ghost use Rattle.acpi_links.specs.Presence.{presence, status_at, presence_at, is_present};
+
+use crate::answers::{named_below, stands};
+use acpi_machine::Machine;
+use aml_meaning::Datum;
+use aml_path::Path;
+use ar_space::{Refusal, Space, ValueFault};
+use std::alloc::Global;
+
+/// Whether a link device is present: bit 0 of the integer that its `_STA` answers; one without `_STA` is.
+///
+/// An answer that is no integer is refused as `WrongType`; a refusal of the evaluation is handed on.
+#[tactic(auto, using(ar_space::specs::Change::changing), unfolding(crate::specs::Presence::is_present))]
+pub(crate) fn is_present<S: Space>(
+    alloc: Global,
+    machine: &mut Machine<S>,
+    link: &Path,
+) -> Result<bool, Refusal>
+    ensures { Does result machine.new (is_present link.now) machine.old }
+{
+    let path = named_below(alloc, link, *b"_STA")?;
+    presence_at(alloc, machine, &path)
+}
+
+/// Whether a link device is present whose `_STA` stands at a path, if it does.
+#[tactic(auto, unfolding(crate::specs::Presence::presence_at))]
+fn presence_at<S: Space>(
+    alloc: Global,
+    machine: &mut Machine<S>,
+    path: &Path,
+) -> Result<bool, Refusal>
+    ensures { Does result machine.new (presence_at path.now) machine.old }
+{
+    if stands(machine, path) {
+        status_at(alloc, machine, path)
+    } else {
+        Ok(true)
+    }
+}
+
+/// Whether the status that an object answers says present.
+#[tactic(auto, using(ar_space::specs::Change::changing), unfolding(crate::specs::Presence::status_at))]
+fn status_at<S: Space>(
+    alloc: Global,
+    machine: &mut Machine<S>,
+    path: &Path,
+) -> Result<bool, Refusal>
+    ensures { Does result machine.new (status_at path.now) machine.old }
+{
+    let answer = machine.evaluate_object(alloc, path, Vec::new(alloc))?;
+    presence(&answer)
+}
+
+fn presence(answer: &Datum) -> Result<bool, Refusal>
+    ensures { Answers result (presence (given_of answer.now)) }
+{
+    match answer {
+        Datum::Integer(status) => Ok(*status % 2 == 1),
+        _ => Err(Refusal::Value(ValueFault::WrongType)),
+    }
+}

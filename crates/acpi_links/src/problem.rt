@@ -1,0 +1,135 @@
+//! The routing problem of present links and wired pins.
+ghost use Rattle.std.specs.Prelude.{◌≡◌, ◌≤◌, ◌==◌, ◌+◌, Ok, OnOk, IfOk, All, length, map, count_by, sum_by};
+ghost use Rattle.std.specs.List.Sorted.{IsStrictlyIncreasing, IsStrictlySortedBy};
+ghost use Rattle.std.specs.Ordering.{nat_cmp};
+ghost use Rattle.ar_space.specs.Outcome.{Answers, seen};
+ghost use Rattle.aml_path.specs.Paths.{path_cmp};
+ghost use Rattle.acpi_resources.specs.Numbers.{set_of};
+ghost use Rattle.route_solve.specs.Fits.{Fits, IsOffer};
+ghost use Rattle.acpi_links.specs.Problems.{wired_number, with_number, wired_numbers, counted, wired_counts, offering, problem_of};
+
+use crate::links::PresentLink;
+use acpi_prt::{Pin, Route};
+use acpi_resources::Offer;
+use aml_path::Path;
+use ar_space::Refusal;
+use route_model::Link;
+use route_solve::Problem;
+use std::alloc::{AllocError, Global};
+use std::collections::BTreeSet;
+
+/// The problem of some present links, in path order, and of the pins that are wired to an interrupt.
+pub(crate) fn problem_of(
+    alloc: Global,
+    links: &[PresentLink],
+    pins: &[(Path, Pin)],
+) -> Result<Problem, Refusal>
+    requires pins { length pins.now ≤ 4096 }
+    requires few { length links.now ≤ 256 }
+    requires in_order { IsStrictlySortedBy path_cmp (map (λ link. link.0) links.now) }
+    ensures value { Answers result (Ok (problem_of links.now pins.now)) }
+    ensures fits { IfOk result Fits }
+{
+    let offering = offering_links(alloc, links)?;
+    let numbers = wired_numbers(alloc, pins)?;
+    let wired = wired_counts(alloc, &numbers)?;
+    Ok(Problem {
+        links: offering,
+        wired,
+    })
+}
+
+/// Each link with what it offers.
+fn offering_links(alloc: Global, links: &[PresentLink]) -> Result<Vec<Link>, Refusal>
+    ensures value { Answers (seen (λ list. list.items) result) (Ok (map offering links.now)) }
+    ensures offers { IfOk result (λ list. All (λ link. IsOffer link.offers) list.items) }
+{
+    let mut list = Vec::new(alloc);
+    for (path, offer, _) in links {
+        list.push(offering(alloc, path, offer)?)?;
+    }
+    Ok(list)
+}
+
+fn offering(alloc: Global, path: &Path, offer: &Offer) -> Result<Link, Refusal>
+    ensures value { Answers result (Ok (record { path = path.now; offers = offer.now.numbers })) }
+    ensures offer { IfOk result (λ link. IsOffer link.offers) }
+{
+    let path = path.copy(alloc)?;
+    let numbers = Vec::from_slice(alloc, offer.numbers())?;
+    Ok(Link::new(path, numbers))
+}
+
+/// The interrupts that pins are wired to, one for each such pin.
+fn wired_numbers(alloc: Global, pins: &[(Path, Pin)]) -> Result<Vec<u32>, AllocError>
+    ensures value { IfOk result (λ list. list.items ≡ wired_numbers pins.now) }
+    ensures few { IfOk result (λ list. length list.items ≤ length pins.now) }
+{
+    let mut list = Vec::new(alloc);
+    for (_, pin) in pins {
+        push_wired(&mut list, &pin.route)?;
+    }
+    Ok(list)
+}
+
+/// Pushes the interrupt that a route is wired to, if it is to one.
+fn push_wired(list: &mut Vec<u32>, route: &Route) -> Result<(), AllocError>
+    ensures items { OnOk result (list.new.items ≡ with_number list.old.items (wired_number route.now)) }
+    ensures few { OnOk result (length list.new.items ≤ length list.old.items + 1) }
+{
+    match route {
+        Route::Wired(n) => list.push(*n)?,
+        Route::Link(_) => {}
+    }
+    Ok(())
+}
+
+/// The interrupts of a list, ascending, each with how often it is listed.
+fn wired_counts(alloc: Global, numbers: &[u32]) -> Result<Vec<(u32, u32)>, AllocError>
+    requires { length numbers.now ≤ 4096 }
+    ensures value { IfOk result (λ list. list.items ≡ wired_counts numbers.now) }
+    ensures ascending { IfOk result (λ list. IsStrictlyIncreasing (map (λ w. w.0) list.items)) }
+    ensures counts { IfOk result (λ list. sum_by (λ w. w.1) list.items ≤ 4096) }
+{
+    let set = set_of(alloc, numbers)?;
+    Ok(counts_of(alloc, numbers, set)?)
+}
+
+/// Each of some numbers, and how often a list has it.
+fn counts_of(alloc: Global, numbers: &[u32], set: Vec<u32>) -> Result<Vec<(u32, u32)>, AllocError>
+    requires { length numbers.now ≤ 4096 }
+    ensures { IfOk result (λ list. list.items ≡ map (counted numbers.now) set.items) }
+{
+    let mut counts = Vec::new(alloc);
+    for n in set {
+        counts.push((n, count(numbers, n) as u32))?;
+    }
+    Ok(counts)
+}
+
+/// The numbers of a list, ascending, each once.
+fn set_of(alloc: Global, numbers: &[u32]) -> Result<Vec<u32>, AllocError>
+    ensures value { IfOk result (λ list. list.items ≡ set_of numbers.now) }
+    ensures ascending { IfOk result (λ list. IsStrictlySortedBy nat_cmp list.items) }
+{
+    let mut set = BTreeSet::new(alloc);
+    for n in numbers {
+        set.insert(*n)?;
+    }
+    Ok(ascending(alloc, set)?)
+}
+
+fn ascending(alloc: Global, set: BTreeSet<u32>) -> Result<Vec<u32>, AllocError>
+    ensures value { IfOk result (λ list. list.items ≡ set.keys) }
+    ensures ascending { IfOk result (λ list. IsStrictlySortedBy nat_cmp list.items) }
+{
+    set.into_iter().collect(alloc)
+}
+
+/// How often a number is listed.
+fn count(numbers: &[u32], n: u32) -> usize
+    ensures value { result ≡ count_by (λ m. m == n) numbers.now }
+    ensures few { result ≤ length numbers.now }
+{
+    numbers.iter().filter(|m| **m == n).count()
+}

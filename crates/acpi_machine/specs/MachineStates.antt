@@ -1,0 +1,29 @@
+-- A machine, as contracts see it.
+use Rattle.std.specs.Prelude.{ℕ, Bool, false, refl}
+use Rattle.std.specs.Coded.{Coded, code_by, coded×, coded_ℕ, coded_bool}
+use Rattle.ar_tables.specs.declared.tables.Tables.{Tables}
+use Rattle.ar_tables.specs.contracts.tables.Tables as tables_type
+use Rattle.aml_meaning.specs.State.{State, state_code}
+use Rattle.acpi_machine.specs.declared.mode.Mode.{Mode}
+use Rattle.acpi_machine.specs.declared.mode.Mode.TheVariants.{Apic}
+use Rattle.acpi_machine.specs.contracts.mode.Mode as mode_type
+
+-- the world, the tables, the mode, how many steps an evaluation may take, and whether a call ran out of memory
+pub record MachineState (S : Type 0) : Type 0 where
+  pub world : State S
+  pub tables : Tables
+  pub mode : Mode
+  pub steps : ℕ
+  pub spent : Bool
+
+abbrev pub machine_code : {S : Type 0} → Coded S → Coded (MachineState S)
+machine_code {S = S} code =
+    code_by (State S × (Tables × (Mode × (ℕ × Bool))))
+    (coded× (state_code code) (coded× tables_type.the_row.coded (coded× mode_type.the_row.coded (coded× coded_ℕ coded_bool))))
+    (λ s. (s.world, (s.tables, (s.mode, (s.steps, s.spent)))))
+    (λ p. record { world = p.0; tables = p.1.0; mode = p.1.1.0; steps = p.1.1.1.0; spent = p.1.1.1.1 })
+    (λ _. refl)
+
+-- a machine as loading leaves it
+abbrev pub machine_of : {S : Type 0} → Tables → ℕ → State S → MachineState S
+machine_of t steps w = record { world = w; tables = t; mode = Apic; steps = steps; spent = false }

@@ -1,0 +1,17 @@
+//! A machine: tables are loaded into a namespace, and objects are evaluated in it (ACPI 6.5, 5.2, 5.3 and 5.5).
+#![tactic(auto)]
+
+mod calls;
+mod kind;
+mod loading;
+mod machine;
+mod mode;
+mod named_tables;
+mod nodes;
+#[cfg(test)]
+mod tests;
+
+pub use kind::Kind;
+pub use loading::load_tables;
+pub use machine::Machine;
+pub use mode::Mode;

@@ -1,0 +1,113 @@
+//! Loads the tables of a machine (ACPI 6.5, 5.4).
+ghost use Rattle.std.specs.Prelude.{◌≡◌, ◌≢◌, Ok, Err, IfOk, IfErr};
+ghost use Rattle.ar_space.specs.declared.refusal.Refusal.TheVariants.{OutOfMemory};
+ghost use Rattle.ar_space.specs.Change.{Does};
+ghost use Rattle.ar_space.specs.Outcome.{Answers, NotMemory};
+ghost use Rattle.aml_meaning.specs.Predefined.{fresh, predefined};
+ghost use Rattle.aml_meaning.specs.Calling.{loaded};
+ghost use Rattle.acpi_machine.specs.MachineStates.{machine_of};
+ghost use Rattle.acpi_machine.specs.Loading.{few_texts, each_loaded, all_loaded, loaded_tables, table_loaded};
+
+use crate::machine::Machine;
+use crate::mode::Mode;
+use aml_interp::load;
+use aml_meaning::World;
+use aml_objects::Octets;
+use ar_space::{EvaluationFault, Refusal, Space};
+use ar_tables::{Table, Tables};
+use std::alloc::Global;
+
+/// How many texts `_OSI` may know.
+const MAX_TEXTS: usize = 64;
+
+/// Loads the tables of a machine over a register space: the DSDT, and then each SSDT in the order of the list of tables,
+/// each within `steps` steps, 1 to 1,000,000,000. `osi` are the texts that `_OSI` knows (ACPI 6.5, 5.7.2).
+///
+/// More than 64 texts are refused as `ObjectLimit`, before anything is loaded. The first table that is refused ends it, and
+/// the register space comes back as it is then, with the accesses that were made.
+pub fn load_tables<S: Space>(
+    alloc: Global,
+    tables: Tables,
+    space: S,
+    steps: u64,
+    osi: Vec<Octets>,
+) -> Result<Machine<S>, (Refusal, S)>
+    ensures world { IfOk result (λ machine. loaded_tables tables steps osi.items (fresh tables.width osi.items space) ≡ (Ok tt, machine.world)) }
+    ensures machine { IfOk result (λ machine. machine ≡ machine_of tables steps machine.world) }
+    ensures refusal { IfErr result (λ refused. refused.0 ≢ OutOfMemory → (loaded_tables tables steps osi.items (fresh tables.width osi.items space)).0 ≡ Err refused.0) }
+    ensures space { IfErr result (λ refused. refused.0 ≢ OutOfMemory → (loaded_tables tables steps osi.items (fresh tables.width osi.items space)).1.space ≡ refused.1) }
+{
+    match few_texts(&osi) {
+        Ok(()) => {}
+        Err(refusal) => return Err((refusal, space)),
+    }
+    let mut world = match World::new(alloc, tables.width, osi, space) {
+        Ok(world) => world,
+        Err(refused) => return Err(refused),
+    };
+    match load_all(alloc, &mut world, &tables, steps) {
+        Ok(()) => Ok(Machine {
+            world,
+            tables,
+            mode: Mode::Apic,
+            steps,
+            spent: false,
+        }),
+        Err(refusal) => Err((refusal, world.into_space())),
+    }
+}
+
+/// `_OSI` may know so many texts; more are refused as `ObjectLimit`.
+pub(crate) fn few_texts(texts: &[Octets]) -> Result<(), Refusal>
+    ensures value { Answers result (few_texts texts.now) }
+    ensures memory { NotMemory result }
+{
+    if texts.len() > MAX_TEXTS {
+        Err(Refusal::Evaluation(EvaluationFault::ObjectLimit))
+    } else {
+        Ok(())
+    }
+}
+
+/// Loads the DSDT and the SSDTs.
+#[tactic(auto, using(ar_space::specs::Change::changing), unfolding(crate::specs::Loading::all_loaded))]
+fn load_all<S: Space>(
+    alloc: Global,
+    world: &mut World<S>,
+    tables: &Tables,
+    steps: u64,
+) -> Result<(), Refusal>
+    ensures { Does result world.new (all_loaded tables.now steps) world.old }
+{
+    load_table(alloc, world, &tables.dsdt, steps)?;
+    load_each(alloc, world, tables.ssdts.as_slice(), steps)
+}
+
+/// Loads each of some tables.
+#[tactic(auto, using(ar_space::specs::Change::changing, crate::specs::Loading::loading))]
+fn load_each<S: Space>(
+    alloc: Global,
+    world: &mut World<S>,
+    tables: &[Table],
+    steps: u64,
+) -> Result<(), Refusal>
+    ensures { Does result world.new (each_loaded steps tables.now) world.old }
+{
+    for table in tables {
+        load_table(alloc, world, table, steps)?;
+    }
+    Ok(())
+}
+
+/// Loads the AML behind the header of a table.
+#[tactic(auto, unfolding(crate::specs::Loading::table_loaded))]
+fn load_table<S: Space>(
+    alloc: Global,
+    world: &mut World<S>,
+    table: &Table,
+    steps: u64,
+) -> Result<(), Refusal>
+    ensures { Does result world.new (table_loaded steps table.now) world.old }
+{
+    load(alloc, world, table.body(), steps)
+}

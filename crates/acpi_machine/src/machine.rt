@@ -1,0 +1,58 @@
+//! A machine, and what it shows without evaluating.
+ghost use Rattle.std.specs.Prelude.{◌≡◌, option_map};
+
+use crate::mode::Mode;
+use aml_meaning::World;
+use ar_space::Space;
+use ar_tables::{Madt, Tables};
+use std::marker::Model;
+
+/// A machine: the world that its tables were loaded into, the tables, how it delivers interrupts, how many steps an
+/// evaluation may take, and whether a call ran out of memory.
+///
+/// After a call with `&mut self` that answered `OutOfMemory` each further one answers `Spent` and changes nothing; calls with
+/// `&self` still return, but nothing is promised of what they show.
+#[derive(Drop)]
+pub struct Machine<S> {
+    pub(crate) world: World<S>,
+    pub(crate) tables: Tables,
+    pub(crate) mode: Mode,
+    pub(crate) steps: u64,
+    pub(crate) spent: bool,
+}
+
+impl<S> Model for Machine<S> {
+    ghost use Rattle.acpi_machine.specs.MachineStates.{MachineState, machine_code};
+
+    ghost Value = { MachineState S };
+
+    ghost coded = { machine_code S.code };
+
+    ghost view = { λ m. record { world = m.world; tables = m.tables; mode = m.mode; steps = m.steps; spent = m.spent } };
+}
+
+impl<S: Space> Machine<S> {
+    /// The mode that was last handed to `initialize`, whether that was refused or not; `Apic` before.
+    pub fn mode(&self) -> Mode
+        ensures { result ≡ self.now.mode }
+    {
+        self.mode
+    }
+
+    /// The MADT, where there is one (ACPI 6.5, 5.2.12).
+    pub fn madt(&self) -> Option<&Madt>
+        ensures { option_map (λ madt. madt.now) result ≡ self.now.tables.madt }
+    {
+        match &self.tables.madt {
+            None => None,
+            Some(madt) => Some(madt),
+        }
+    }
+
+    /// The register space, with the accesses made so far.
+    pub fn space(&self) -> &S
+        ensures { result.now ≡ self.now.world.space }
+    {
+        self.world.space()
+    }
+}

@@ -1,0 +1,6 @@
+pub mod Children
+pub mod Entries
+pub mod Finding
+pub mod Links
+pub mod Pins
+pub mod RoutingTables

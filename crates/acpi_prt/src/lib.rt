@@ -1,0 +1,12 @@
+//! PCI routing tables: which interrupt each pin of a device leads to (ACPI 6.5, 6.2.13).
+#![tactic(auto)]
+
+mod entry;
+mod link;
+mod pin;
+mod routing_table;
+#[cfg(test)]
+mod tests;
+
+pub use pin::{Pin, Route};
+pub use routing_table::get_irq_routing_table;

@@ -1,0 +1,128 @@
+//! Interrupt link devices (ACPI 6.5, 6.2.13).
+ghost use Rattle.std.specs.Prelude.{◌≡◌, [], ◌∷◌, ◌++◌, Ok, option_map};
+ghost use Rattle.ar_space.specs.Outcome.{Answers};
+ghost use Rattle.ar_space.specs.Change.{Does};
+ghost use Rattle.aml_path.specs.Segments.{seg_of};
+ghost use Rattle.aml_meaning.specs.Given.{given_of};
+ghost use Rattle.acpi_machine.specs.Kinds.{kind_seen};
+ghost use Rattle.acpi_prt.specs.Children.{child_named};
+ghost use Rattle.acpi_prt.specs.Finding.{followed, device_or_not, device_in, id_or_not, id_in};
+ghost use Rattle.acpi_prt.specs.Links.{device_at, id_at, is_link_id, link_at};
+
+use acpi_machine::{Kind, Machine};
+use aml_meaning::Datum;
+use aml_path::{Path, Seg};
+use ar_space::{Refusal, RoutingTableFault, Space};
+use std::alloc::Global;
+
+const NOT_A_LINK: Refusal = Refusal::RoutingTable(RoutingTableFault::NotALink);
+
+/// The hardware id of interrupt link devices, as an integer: EISAID("PNP0C0F").
+const LINK_EISA_ID: u64 = 0x0F0C_D041;
+
+/// The path of the link device that stands at a path, or that an alias there leads to; else `NotALink`.
+#[tactic(auto, using(ar_space::specs::Change::changing), unfolding(crate::specs::Links::link_at))]
+pub(crate) fn link_at<S: Space>(
+    alloc: Global,
+    machine: &mut Machine<S>,
+    path: &Path,
+) -> Result<Path, Refusal>
+    ensures { Does result machine.new (link_at path.now) machine.old }
+{
+    let device = device_at(alloc, machine, path)?;
+    let hid = child_named(alloc, &device, *b"_HID")?;
+    let id = id_at(alloc, machine, &hid)?;
+    let answer = machine.evaluate_object(alloc, &id, Vec::new(alloc))?;
+    is_link_id(&answer)?;
+    Ok(device)
+}
+
+/// The path of the device that stands at a path, or that an alias there leads to.
+#[tactic(auto, unfolding(crate::specs::Links::device_at))]
+fn device_at<S: Space>(alloc: Global, machine: &Machine<S>, path: &Path) -> Result<Path, Refusal>
+    ensures { Does result machine.now (device_at path.now) machine.now }
+{
+    device_in(alloc, machine, path)
+}
+
+#[tactic(auto, using(ar_space::specs::Outcome::answering), unfolding(crate::specs::Finding::device_in))]
+fn device_in<S: Space>(alloc: Global, machine: &Machine<S>, path: &Path) -> Result<Path, Refusal>
+    ensures { Answers result (device_in machine.now.world.names.map path.now) }
+{
+    let found = followed(alloc, machine, path)?;
+    device_or_not(machine.find_node(&found))?;
+    Ok(found)
+}
+
+fn device_or_not(kind: Option<Kind<'_>>) -> Result<(), Refusal>
+    ensures { Answers result (device_or_not (option_map kind_seen kind.entry)) }
+{
+    match kind {
+        Some(Kind::Device) => Ok(()),
+        _ => Err(NOT_A_LINK),
+    }
+}
+
+/// The path of the name that holds an integer or a string and stands at a path, or that an alias there leads to.
+#[tactic(auto, unfolding(crate::specs::Links::id_at))]
+fn id_at<S: Space>(alloc: Global, machine: &Machine<S>, path: &Path) -> Result<Path, Refusal>
+    ensures { Does result machine.now (id_at path.now) machine.now }
+{
+    id_in(alloc, machine, path)
+}
+
+#[tactic(auto, using(ar_space::specs::Outcome::answering), unfolding(crate::specs::Finding::id_in))]
+fn id_in<S: Space>(alloc: Global, machine: &Machine<S>, path: &Path) -> Result<Path, Refusal>
+    ensures { Answers result (id_in machine.now.world.names.map path.now) }
+{
+    let found = followed(alloc, machine, path)?;
+    id_or_not(machine.find_node(&found))?;
+    Ok(found)
+}
+
+fn id_or_not(kind: Option<Kind<'_>>) -> Result<(), Refusal>
+    ensures { Answers result (id_or_not (option_map kind_seen kind.entry)) }
+{
+    match kind {
+        Some(Kind::Integer) => Ok(()),
+        Some(Kind::String) => Ok(()),
+        _ => Err(NOT_A_LINK),
+    }
+}
+
+/// The target of the alias at a path, or the path itself where no alias stands.
+fn followed<S: Space>(alloc: Global, machine: &Machine<S>, path: &Path) -> Result<Path, Refusal>
+    ensures { Answers result (Ok (followed machine.now.world.names.map path.now)) }
+{
+    match machine.find_node(path) {
+        Some(Kind::Alias(target)) => target.copy(alloc),
+        _ => path.copy(alloc),
+    }
+}
+
+/// Whether a hardware id is that of interrupt link devices.
+fn is_link_id(id: &Datum) -> Result<(), Refusal>
+    ensures { Answers result (is_link_id (given_of id.now)) }
+{
+    let is = match id {
+        Datum::Integer(number) => *number == LINK_EISA_ID,
+        Datum::Text(text) => text.as_slice() == b"PNP0C0F".as_slice(),
+        _ => false,
+    };
+    if is { Ok(()) } else { Err(NOT_A_LINK) }
+}
+
+/// The path of a name one level below another.
+#[tactic(auto, using(ar_space::specs::Outcome::answering), unfolding(crate::specs::Children::child_named))]
+pub(crate) fn child_named(alloc: Global, path: &Path, name: [u8; 4]) -> Result<Path, Refusal>
+    ensures { Answers result (child_named path.now name) }
+{
+    let segment = segment(name)?;
+    path.child(alloc, segment)
+}
+
+fn segment(name: [u8; 4]) -> Result<Seg, Refusal>
+    ensures { Answers result (seg_of name) }
+{
+    Seg::new(name)
+}

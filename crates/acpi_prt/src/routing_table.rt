@@ -1,0 +1,146 @@
+//! A PCI routing table, entry by entry (ACPI 6.5, 6.2.13).
+ghost use Rattle.std.specs.Prelude.{◌≡◌, [], Ok, map};
+ghost use Rattle.ar_space.specs.Outcome.{Answers, seen};
+ghost use Rattle.ar_space.specs.Change.{Does};
+ghost use Rattle.aml_meaning.specs.Given.{given_of};
+ghost use Rattle.acpi_prt.specs.RoutingTables.{linked, route_of, pin_among, pin_with, pin_of, pins_from, routing_table};
+
+use crate::entry::{
+    BAD_ENTRY, device_number, entries_of, letter_of, no_index, source_tested, word_of,
+};
+use crate::link::{child_named, link_at};
+use crate::pin::{Pin, Route, take};
+use acpi_machine::Machine;
+use aml_meaning::Datum;
+use aml_path::Path;
+use ar_space::{Refusal, Space};
+use std::alloc::Global;
+
+/// The pins that the routing table below a device names, in its order: what `_PRT` answers, entry by entry. The first entry
+/// of each device number and pin counts; later ones are tested and passed over, and so are entries that were left out.
+///
+/// Beside what the evaluation of `_PRT` refuses (`NotFound` where there is none) the first of these refuses it: `NotPackage`
+/// where the answer is no package; then of each entry `BadEntry` where it is no package of four, its address, pin or source
+/// index no integer of at most 32 bits, or its source neither 0 nor a name; `BadPin` where the pin is above 3; `NotALink`
+/// where the source names no link device: a Device whose `_HID` is a name that holds EISAID("PNP0C0F") or "PNP0C0F";
+/// `SourceIndex` where the source index at a link device isn't 0. `Spent` where an earlier call ran out of memory.
+#[tactic(auto, using(ar_space::specs::Change::changing), unfolding(crate::specs::RoutingTables::routing_table))]
+pub fn get_irq_routing_table<S: Space>(
+    alloc: Global,
+    machine: &mut Machine<S>,
+    device: &Path,
+) -> Result<Vec<Pin>, Refusal>
+    ensures { Does (seen (λ pins. pins.items) result) machine.new (routing_table device.now) machine.old }
+{
+    let name = child_named(alloc, device, *b"_PRT")?;
+    let answer = machine.evaluate_object(alloc, &name, Vec::new(alloc))?;
+    let entries = entries_of(&answer)?;
+    pins_from(alloc, machine, entries)
+}
+
+/// The pins of entries, in their order.
+fn pins_from<S: Space>(
+    alloc: Global,
+    machine: &mut Machine<S>,
+    entries: &[Datum],
+) -> Result<Vec<Pin>, Refusal>
+    ensures { Does (seen (λ pins. pins.items) result) machine.new (pins_from (map given_of entries.now) []) machine.old }
+{
+    let mut pins = Vec::new(alloc);
+    for entry in entries {
+        let pin = pin_of(alloc, machine, entry)?;
+        pins = take(pins, pin)?;
+    }
+    Ok(pins)
+}
+
+/// The pin of an entry; none of one that was left out.
+#[tactic(auto, using(ar_space::specs::Change::changing, crate::specs::Entries::rows))]
+fn pin_of<S: Space>(
+    alloc: Global,
+    machine: &mut Machine<S>,
+    entry: &Datum,
+) -> Result<Option<Pin>, Refusal>
+    ensures { Does result machine.new (pin_of (given_of entry.now)) machine.old }
+{
+    match entry {
+        Datum::Nothing => Ok(None),
+        Datum::Package(parts) => pin_among(alloc, machine, parts.as_slice()),
+        _ => Err(BAD_ENTRY),
+    }
+}
+
+/// The pin of an entry of four parts.
+#[tactic(auto, using(crate::proofs::Entries::others_refused))]
+fn pin_among<S: Space>(
+    alloc: Global,
+    machine: &mut Machine<S>,
+    parts: &[Datum],
+) -> Result<Option<Pin>, Refusal>
+    ensures { Does result machine.new (pin_among (map given_of parts.now)) machine.old }
+{
+    if parts.len() != 4 {
+        return Err(BAD_ENTRY);
+    }
+    let (address, pin, source, index) = (&parts[0], &parts[1], &parts[2], &parts[3]);
+    pin_with(alloc, machine, address, pin, source, index)
+}
+
+#[tactic(auto, using(ar_space::specs::Change::changing), unfolding(crate::specs::RoutingTables::pin_with))]
+fn pin_with<S: Space>(
+    alloc: Global,
+    machine: &mut Machine<S>,
+    address: &Datum,
+    pin: &Datum,
+    source: &Datum,
+    index: &Datum,
+) -> Result<Option<Pin>, Refusal>
+    ensures { Does result machine.new (pin_with (given_of address.now) (given_of pin.now) (given_of source.now) (given_of index.now)) machine.old }
+{
+    let address = word_of(address)?;
+    let pin = word_of(pin)?;
+    source_tested(source)?;
+    let index = word_of(index)?;
+    let letter = letter_of(pin)?;
+    let route = route_of(alloc, machine, source, index)?;
+    Ok(Some(Pin {
+        number: device_number(address),
+        pin: letter,
+        route,
+    }))
+}
+
+/// Where a source leads to with an index.
+#[tactic(auto, using(ar_space::specs::Change::changing))]
+fn route_of<S: Space>(
+    alloc: Global,
+    machine: &mut Machine<S>,
+    source: &Datum,
+    index: u32,
+) -> Result<Route, Refusal>
+    ensures { Does result machine.new (route_of (given_of source.now) index) machine.old }
+{
+    match source {
+        Datum::Integer(_) => Ok(Route::Wired(index)),
+        Datum::Named(path) => linked(alloc, machine, path, index),
+        Datum::Nothing => Err(BAD_ENTRY),
+        Datum::Text(_) => Err(BAD_ENTRY),
+        Datum::Bytes(_) => Err(BAD_ENTRY),
+        Datum::Package(_) => Err(BAD_ENTRY),
+        Datum::Reference => Err(BAD_ENTRY),
+    }
+}
+
+#[tactic(auto, using(ar_space::specs::Change::changing), unfolding(crate::specs::RoutingTables::linked))]
+fn linked<S: Space>(
+    alloc: Global,
+    machine: &mut Machine<S>,
+    path: &Path,
+    index: u32,
+) -> Result<Route, Refusal>
+    ensures { Does result machine.new (linked path.now index) machine.old }
+{
+    let link = link_at(alloc, machine, path)?;
+    no_index(index)?;
+    Ok(Route::Link(link))
+}

@@ -1,0 +1,39 @@
+-- What `route` answers.
+use Rattle.std.specs.Prelude.{◌≡◌, ℕ, List, Ok, Err}
+use Rattle.ar_space.specs.Outcome.{Outcome}
+use Rattle.ar_space.specs.Bytes.{Bytes}
+use Rattle.acpi_machine.specs.MachineStates.{MachineState}
+use Rattle.acpi_links.specs.Gatherings.{gathered}
+use Rattle.acpi_configure.specs.Rows.{rows}
+use Rattle.acpi_configure.specs.Configured.{IsDryReport}
+use Rattle.route_report.specs.declared.report.Mode.{Mode}
+use Rattle.route_report.specs.declared.report.Report.{Report}
+use Rattle.route_report.specs.Printing.{text_of_report}
+use Rattle.acpiroute_lib.specs.declared.completion.Completion.TheVariants.{Done}
+use Rattle.acpiroute_lib.specs.Machines.{machine_of_text_in}
+use Rattle.acpiroute_lib.specs.Written.{Written}
+
+-- a report as text
+abbrev pub printed : Report → Written
+printed report = record { text = text_of_report report; completion = Done }
+
+-- the text of the report of a machine of which no link is set
+pub record IsReportOf (m : MachineState Bytes) (w : Written) : Type 0 where
+  pub report : Report
+  pub after : MachineState Bytes
+  pub is_report : IsDryReport m after (rows report)
+  pub is_text : w ≡ printed report
+
+-- the report, or the refusal of what it has to find
+abbrev pub IsRouted : MachineState Bytes → Outcome Written → Type 0
+IsRouted m (Ok w) = IsReportOf m w
+IsRouted m (Err e) = (gathered m).0 ≡ Err e
+
+-- a machine that is refused has no report
+abbrev pub IsRoutedOn : Outcome (MachineState Bytes) → Outcome Written → Type 0
+IsRoutedOn (Ok m) r = IsRouted m r
+IsRoutedOn (Err e) r = r ≡ Err e
+
+-- what `route` answers over a machine text, in this mode and with this budget of steps, where no link is to be set
+abbrev pub IsRouteAnswer : Mode → ℕ → List ℕ → Outcome Written → Type 0
+IsRouteAnswer mode steps text r = IsRoutedOn (machine_of_text_in mode steps text) r

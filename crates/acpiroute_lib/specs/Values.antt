@@ -1,0 +1,39 @@
+-- The values of options.
+use Rattle.std.specs.Prelude.{ℕ, ◌+◌, ◌*◌, ◌-◌, ◌&&◌, nat_le, nat_lt, Bool, false, List, [], ◌∷◌, length, Option, Some, None, codes, option_and_then, if◌then◌else◌}
+use Rattle.std.specs.Str.{bytes_eq}
+use Rattle.clap.specs.Words.{Text}
+use Rattle.route_report.specs.declared.report.Mode.{Mode}
+use Rattle.route_report.specs.declared.report.Mode.TheVariants.{Apic, Pic}
+
+-- a value, and where there is one what follows from it
+infixl 10 ◌>>=◌
+abbrev pub ◌>>=◌ : {A B : Type 0} → Option A → (A → Option B) → Option B
+m >>= f = option_and_then f m
+
+-- the number below 2^64 that n and then these decimal digits make
+unfoldable pub number_from : ℕ → List ℕ → Option ℕ
+number_from n [] = Some n
+number_from n (c ∷ cs) =
+    if nat_le 48 c && (nat_le c 57 && nat_le (n * 10 + (c - 48)) 18446744073709551615) then number_from (n * 10 + (c - 48)) cs else None
+
+-- one digit at least, and nothing else: no sign
+unfoldable pub number : Text → Option ℕ
+number word = if nat_lt 0 (length word) then number_from 0 word else None
+
+abbrev pub mode_named : Option Text → Option Mode
+mode_named None = Some Apic
+mode_named (Some t) = if bytes_eq t (codes "apic") then Some Apic else if bytes_eq t (codes "pic") then Some Pic else None
+
+abbrev pub within_steps : ℕ → Option ℕ
+within_steps n = if nat_le 1 n && nat_le n 1000000000 then Some n else None
+
+-- a budget of steps
+abbrev pub steps_named : Option Text → Option ℕ
+steps_named None = Some 1000000
+steps_named (Some t) = do
+  n ← number t
+  within_steps n
+
+abbrev pub is_true : Option Text → Bool
+is_true None = false
+is_true (Some t) = bytes_eq t (codes "true")

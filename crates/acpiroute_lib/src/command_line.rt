@@ -1,0 +1,162 @@
+//! The command line: one level of commands, whose values are plain texts for clap and read here.
+ghost use Rattle.std.specs.Prelude.{◌≡◌, IfOk, IfErr, Some, map, option_map, false};
+ghost use Rattle.clap.specs.Words.{app_of, kind_of, rows_of, rule_of, found_of, subcommand_rows_of, FailsBy};
+ghost use Rattle.clap.specs.declared.builder.command.Command.TheViews.{out-Command as fields_of};
+ghost use Rattle.acpiroute_lib.specs.CommandLine.{app, bare_app, route_app, names_app, check_app, mode_rule, steps_rule, dry_rule, route_of, names_of, asked, asked_by, clap_faults, command_of, faults_of, request_of};
+
+use crate::request::Request;
+use crate::values::{is_true, mode_named, steps_named};
+use clap::error::ErrorKind;
+use clap::{Arg, ArgAction, ArgMatches, Command, Error};
+use std::alloc::{AllocError, Global};
+
+fn mode_arg<'a>(alloc: Global) -> Arg<'a>
+    ensures rule { rule_of result ≡ mode_rule }
+    ensures local { result.global ≡ false }
+{
+    Arg::new(alloc, "mode").long("mode").value_name("MODE").help(
+        "Which interrupt controllers are used: apic or pic, by default apic",
+    )
+}
+
+fn steps_arg<'a>(alloc: Global) -> Arg<'a>
+    ensures rule { rule_of result ≡ steps_rule }
+    ensures local { result.global ≡ false }
+{
+    Arg::new(alloc, "steps").long("steps").value_name("N").help(
+        "The budget of steps, from 1 to 1000000000, by default 1000000",
+    )
+}
+
+fn dry_arg<'a>(alloc: Global) -> Arg<'a>
+    ensures rule { rule_of result ≡ dry_rule }
+    ensures local { result.global ≡ false }
+{
+    Arg::new(alloc, "dry")
+        .long("dry")
+        .action(ArgAction::SetTrue)
+        .help("Set no link device")
+}
+
+fn route_command<'a>(alloc: Global) -> Result<Command<'a>, AllocError>
+    ensures app { IfOk result (λ c. app_of c ≡ route_app) }
+    ensures local { IfOk result (λ c. (fields_of c).has_globals ≡ false) }
+{
+    Command::new(alloc, "route")
+        .about("Read a machine text, route its interrupts, and write the report")
+        .arg(mode_arg(alloc))?
+        .arg(steps_arg(alloc))?
+        .arg(dry_arg(alloc))
+}
+
+fn names_command<'a>(alloc: Global) -> Result<Command<'a>, AllocError>
+    ensures app { IfOk result (λ c. app_of c ≡ names_app) }
+    ensures local { IfOk result (λ c. (fields_of c).has_globals ≡ false) }
+{
+    Command::new(alloc, "names")
+        .about("Read a machine text, and write the names of its namespace")
+        .arg(steps_arg(alloc))
+}
+
+fn check_command<'a>(alloc: Global) -> Command<'a>
+    ensures app { app_of result ≡ check_app }
+    ensures local { (fields_of result).has_globals ≡ false }
+{
+    Command::new(alloc, "check").about("Read a report, and write whether its claim is valid")
+}
+
+fn bare_command<'a>(alloc: Global) -> Command<'a>
+    ensures app { app_of result ≡ bare_app }
+    ensures local { (fields_of result).has_globals ≡ false }
+{
+    Command::new(alloc, "acpiroute")
+        .about("Routes the PCI interrupts of a machine by its ACPI tables")
+        .disable_help_subcommand(true)
+        .subcommand_required(true)
+}
+
+/// The program's commands and options.
+fn command<'a>(alloc: Global) -> Result<Command<'a>, AllocError>
+    ensures { IfOk result (λ c. app_of c ≡ app) }
+{
+    bare_command(alloc)
+        .subcommand(route_command(alloc)?)?
+        .subcommand(names_command(alloc)?)?
+        .subcommand(check_command(alloc))
+}
+
+/// The words, taken apart by clap.
+fn matches<'a>(alloc: Global, words: &'a [&'a str]) -> Result<ArgMatches<'a>, Error>
+    ensures ok { IfOk result (λ m. subcommand_rows_of m ≡ command_of (map (λ s. s.now) words.entry.now)) }
+    ensures faults { FailsBy (clap_faults (map (λ s. s.now) words.entry.now)) result }
+{
+    command(alloc)?.try_get_matches_from(words)
+}
+
+/// What the options of `route` say.
+#[tactic(auto, unfolding(crate::specs::CommandLine::route_of), using(crate::proofs::Getters::first_text))]
+fn route_of(matches: &ArgMatches<'_>) -> Option<Request>
+    ensures { result ≡ route_of (rows_of (found_of matches.now)) }
+{
+    let mode = mode_named(matches.get_str("mode"))?;
+    let steps = steps_named(matches.get_str("steps"))?;
+    let dry = is_true(matches.get_str("dry"));
+    Some(Request::Route { mode, steps, dry })
+}
+
+/// What the options of `names` say.
+#[tactic(auto, unfolding(crate::specs::CommandLine::names_of), using(crate::proofs::Getters::first_text))]
+fn names_of(matches: &ArgMatches<'_>) -> Option<Request>
+    ensures { result ≡ names_of (rows_of (found_of matches.now)) }
+{
+    let steps = steps_named(matches.get_str("steps"))?;
+    Some(Request::Names { steps })
+}
+
+/// The command of this name, with its options.
+#[tactic(auto, unfolding(crate::specs::CommandLine::asked))]
+fn asked(name: &str, matches: &ArgMatches<'_>) -> Option<Request>
+    ensures { result ≡ asked name.now (rows_of (found_of matches.now)) }
+{
+    if name == "route" {
+        route_of(matches)
+    } else if name == "names" {
+        names_of(matches)
+    } else if name == "check" {
+        Some(Request::Check)
+    } else {
+        None
+    }
+}
+
+fn asked_by(matches: &ArgMatches<'_>) -> Option<Request>
+    ensures { result ≡ asked_by (subcommand_rows_of matches.now) }
+{
+    match matches.subcommand() {
+        Some((name, inner)) => asked(name, inner),
+        None => None,
+    }
+}
+
+/// The text for values that are none.
+fn bad_value(alloc: Global) -> Result<Error, AllocError>
+    ensures { IfOk result (λ e. kind_of e ≡ ErrorKind.ValueValidation) }
+{
+    let mut command = command(alloc)?;
+    command.error(
+        ErrorKind::ValueValidation,
+        "a mode is apic or pic, and steps are a number from 1 to 1000000000",
+    )
+}
+
+/// What the words ask for, or the text for the user: a fault of the words, a wish for help, or that memory ran out.
+pub(crate) fn parse<'a>(alloc: Global, words: &'a [&'a str]) -> Result<Request, Error>
+    ensures faults { FailsBy (faults_of (map (λ s. s.now) words.entry.now)) result }
+    ensures request { IfOk result (λ q. request_of (map (λ s. s.now) words.entry.now) ≡ Some q) }
+{
+    let matches = matches(alloc, words)?;
+    match asked_by(&matches) {
+        Some(request) => Ok(request),
+        None => Err(bad_value(alloc)?),
+    }
+}

@@ -1,0 +1,22 @@
+//! The commands.
+ghost use Rattle.ar_space.specs.Outcome.{NotMemory};
+ghost use Rattle.acpiroute_lib.specs.Commands.{IsAnswer};
+
+use crate::answer::Answer;
+use crate::check_command::check_answer;
+use crate::names_command::names_answer;
+use crate::request::Request;
+use crate::route_command::route_answer;
+use ar_space::Refusal;
+use std::alloc::Global;
+
+/// The answer to a request over the whole input.
+pub(crate) fn answer_to(alloc: Global, request: Request, input: &[u8]) -> Result<Answer, Refusal>
+    ensures { NotMemory result → IsAnswer request input.now result }
+{
+    match request {
+        Request::Route { mode, steps, .. } => route_answer(alloc, mode, steps, input),
+        Request::Names { steps } => names_answer(alloc, steps, input),
+        Request::Check => check_answer(alloc, input),
+    }
+}

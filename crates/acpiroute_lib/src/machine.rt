@@ -1,0 +1,93 @@
+//! The machine that a machine text describes.
+ghost use Rattle.std.specs.Prelude.{◌≡◌, IfOk, map};
+ghost use Rattle.ar_space.specs.Outcome.{Answers};
+ghost use Rattle.acpiroute_lib.specs.Machines.{machine_with, machine_of_text, machine_mode_of, initialized_machine, machine_of_text_in};
+
+use acpi_machine::{Machine, Mode as MachineMode, load_tables};
+use aml_objects::Octets;
+use ar_space::{Refusal, Sparse};
+use ar_tables::{Tables, find_tables};
+use machine_text::read_machine;
+use route_report::Mode;
+use std::alloc::{AllocError, Global};
+
+/// Texts that `_OSI` is to know.
+fn octets(alloc: Global, texts: Vec<Vec<u8>>) -> Result<Vec<Octets>, AllocError>
+    ensures { IfOk result (λ list. list.items ≡ map (λ text. text.items) texts.items) }
+{
+    let mut list = Vec::new(alloc);
+    for text in texts {
+        list.push(Octets::from_vec(text))?;
+    }
+    Ok(list)
+}
+
+/// A machine of these tables over a register space.
+#[tactic(auto, unfolding(crate::specs::Machines::machine_with))]
+fn machine_with(
+    alloc: Global,
+    tables: Tables,
+    steps: u64,
+    space: Sparse,
+    osi: Vec<Octets>,
+) -> Result<Machine<Sparse>, Refusal>
+    ensures { Answers result (machine_with tables steps space osi.items) }
+{
+    match load_tables(alloc, tables, space, steps, osi) {
+        Ok(machine) => Ok(machine),
+        Err((refusal, _)) => Err(refusal),
+    }
+}
+
+/// The machine of a machine text, with its tables loaded, each within `steps` steps. The text's own refusal comes first,
+/// then that of the tables, then that of loading them.
+#[tactic(auto, using(ar_space::specs::Outcome::answering), unfolding(crate::specs::Machines::machine_of_text))]
+pub(crate) fn machine_of_text(
+    alloc: Global,
+    steps: u64,
+    text: &[u8],
+) -> Result<Machine<Sparse>, Refusal>
+    ensures { Answers result (machine_of_text steps text.now) }
+{
+    let said = read_machine(alloc, text)?;
+    let tables = find_tables(alloc, said.space.memory(), said.rsdp)?;
+    let osi = octets(alloc, said.osi.into_vec())?;
+    machine_with(alloc, tables, steps, said.space, osi)
+}
+
+/// A report and a machine name the same two modes.
+fn machine_mode_of(mode: Mode) -> MachineMode
+    ensures { result ≡ machine_mode_of mode }
+{
+    match mode {
+        Mode::Apic => MachineMode::Apic,
+        Mode::Pic => MachineMode::Pic,
+    }
+}
+
+#[tactic(auto, using(crate::proofs::Machines::initializing))]
+fn initialized_machine(
+    alloc: Global,
+    mode: Mode,
+    machine: Machine<Sparse>,
+) -> Result<Machine<Sparse>, Refusal>
+    ensures { Answers result (initialized_machine mode machine) }
+{
+    let mut machine = machine;
+    machine.initialize(alloc, machine_mode_of(mode))?;
+    Ok(machine)
+}
+
+/// The machine of a machine text, initialized in a mode. A refusal of initializing comes after those of `machine_of_text`.
+#[tactic(auto, using(ar_space::specs::Outcome::answering), unfolding(crate::specs::Machines::machine_of_text_in))]
+pub(crate) fn machine_of_text_in(
+    alloc: Global,
+    mode: Mode,
+    steps: u64,
+    text: &[u8],
+) -> Result<Machine<Sparse>, Refusal>
+    ensures { Answers result (machine_of_text_in mode steps text.now) }
+{
+    let machine = machine_of_text(alloc, steps, text)?;
+    initialized_machine(alloc, mode, machine)
+}

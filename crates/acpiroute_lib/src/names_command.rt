@@ -1,0 +1,33 @@
+//! `names`: loads a machine, and writes its names.
+ghost use Rattle.std.specs.Prelude.{◌≡◌, Ok};
+ghost use Rattle.ar_space.specs.Outcome.{Answers};
+ghost use Rattle.acpiroute_lib.specs.NamesCommand.{names_answer, names_of_machine};
+
+use crate::answer::Answer;
+use crate::completion::Completion;
+use crate::machine::machine_of_text;
+use crate::name_lines::name_lines;
+use acpi_machine::Machine;
+use ar_space::{Refusal, Sparse};
+use std::alloc::Global;
+
+/// All names of a machine but the root, in path order, one a line.
+fn names_of_machine(alloc: Global, machine: &Machine<Sparse>) -> Result<Answer, Refusal>
+    ensures { Answers result (Ok (names_of_machine machine.now)) }
+{
+    let nodes = machine.walk_namespace(alloc)?;
+    Ok(Answer {
+        text: name_lines(alloc, nodes.as_slice())?,
+        completion: Completion::Done,
+    })
+}
+
+/// What `names` answers over a machine text, with a budget of steps for each table: its names, one a line. It doesn't
+/// initialize the machine.
+#[tactic(auto, using(ar_space::specs::Outcome::answering), unfolding(crate::specs::NamesCommand::names_answer))]
+pub(crate) fn names_answer(alloc: Global, steps: u64, text: &[u8]) -> Result<Answer, Refusal>
+    ensures { Answers result (names_answer steps text.now) }
+{
+    let machine = machine_of_text(alloc, steps, text)?;
+    names_of_machine(alloc, &machine)
+}

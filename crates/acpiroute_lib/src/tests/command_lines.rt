@@ -1,0 +1,113 @@
+//! The words of the command line.
+use super::ran::ran;
+use crate::Request;
+use crate::command_line::parse;
+use route_report::Mode;
+use std::io::Read;
+use std::test::Fail;
+
+#[test]
+fn faulty_words(rt: HostRuntime) {
+    let cases: [&[&str]; 14] = [
+        &["acpiroute", "route", "--mode", "PIC", "--dry"],
+        &["acpiroute", "route", "--steps", "0", "--dry"],
+        &["acpiroute", "names", "--steps", "1000000001"],
+        &["acpiroute", "names", "--steps", "+5"],
+        &["acpiroute", "names", "--steps", ""],
+        &["acpiroute", "names", "--steps", "18446744073709551617"],
+        &["acpiroute", "names", "--dry"],
+        &[],
+        &["acpiroute"],
+        &["acpiroute", "help"],
+        &["acpiroute", "route", "--pin", "--dry"],
+        &["acpiroute", "check", "check"],
+        &["acpiroute", "check", "--steps", "5"],
+        &["acpiroute", "--version"],
+    ];
+    for words in &cases {
+        let ran = ran(rt.alloc(), words, b"acpiroute 1\nbusiest 0\nbound none\n");
+        assert_eq!(rt; ran.status, 2, "{words:?}");
+        assert!(rt; ran.output.is_empty());
+        assert!(rt; !ran.errors.is_empty());
+    }
+}
+
+#[test]
+fn help_goes_to_the_output(rt: HostRuntime) {
+    let cases: [&[&str]; 2] = [&["acpiroute", "--help"], &["acpiroute", "route", "--help"]];
+    for words in &cases {
+        let ran = ran(rt.alloc(), words, b"");
+        assert_eq!(rt; ran.status, 0);
+        assert!(rt; ran.errors.is_empty());
+        assert!(rt; !ran.output.is_empty());
+    }
+}
+
+#[test]
+fn a_faulty_command_line_reads_nothing(rt: HostRuntime) -> Result<(), Fail> {
+    let alloc = rt.alloc();
+    let mut reader: &[u8] = b"left";
+    let mut output = Vec::new(alloc);
+    let mut errors = Vec::new(alloc);
+    let status = crate::run(alloc, &["acpiroute"], &mut reader, &mut output, &mut errors);
+    assert_eq!(rt; status, 2);
+    let mut left = Vec::new(alloc);
+    reader.read_to_end(&mut left)?;
+    assert_eq!(rt; left.as_slice(), b"left".as_slice());
+    Ok(())
+}
+
+#[test]
+fn what_words_ask_for(rt: HostRuntime) -> Result<(), Fail> {
+    let cases: [(&[&str], Request); 7] = [
+        (
+            &["acpiroute", "route"],
+            Request::Route {
+                mode: Mode::Apic,
+                steps: 1_000_000,
+                dry: false,
+            },
+        ),
+        (
+            &["acpiroute", "route", "--mode", "apic", "--dry"],
+            Request::Route {
+                mode: Mode::Apic,
+                steps: 1_000_000,
+                dry: true,
+            },
+        ),
+        (
+            &["acpiroute", "route", "--dry", "--steps=1", "--mode=pic"],
+            Request::Route {
+                mode: Mode::Pic,
+                steps: 1,
+                dry: true,
+            },
+        ),
+        (&["acpiroute", "names"], Request::Names { steps: 1_000_000 }),
+        (
+            &["acpiroute", "names", "--steps", "1000000000"],
+            Request::Names {
+                steps: 1_000_000_000,
+            },
+        ),
+        (
+            &["acpiroute", "names", "--steps", "00000000000000000000007"],
+            Request::Names { steps: 7 },
+        ),
+        (&["acpiroute", "check"], Request::Check),
+    ];
+    for (words, request) in &cases {
+        let asked = parse(rt.alloc(), words);
+        assert!(rt; asked.is_ok_and(|asked| asked == *request));
+    }
+    Ok(())
+}
+
+#[test]
+fn links_are_not_set_yet(rt: HostRuntime) {
+    let ran = ran(rt.alloc(), &["acpiroute", "route"], b"rsdp 1000\n");
+    assert_eq!(rt; ran.status, 2);
+    assert_eq!(rt; ran.errors.as_slice(), b"only --dry\n".as_slice());
+    assert!(rt; ran.output.is_empty());
+}

@@ -1,0 +1,151 @@
+//! Declarations, and the scopes that they stand in (ACPI 6.5, 19.6).
+ghost use Rattle.std.specs.Prelude.{◌≡◌, ◌≤◌, ◌<◌};
+ghost use Rattle.ar_space.specs.Change.{Does};
+ghost use Rattle.aml_terms.specs.PartTree.{part_tree, part_list};
+ghost use Rattle.aml_meaning.specs.Meaning.{meaning};
+ghost use Rattle.aml_meaning.specs.Evaluation.{declaring, name_rule, alias_rule, method_rule, scope_rule, new_scope, module_level};
+ghost use Rattle.aml_meaning.specs.Declaring.{new_name};
+
+use crate::operands::{Reader, bytes, inner, list, number};
+use crate::terms::{eval_list, eval_value};
+use aml_meaning::{Flow, World};
+use aml_objects::NamedObject;
+use aml_path::Path;
+use aml_terms::TermReader;
+use ar_space::{Refusal, Space};
+use std::alloc::Global;
+
+/// A name that the term's first operand declares.
+#[tactic(auto, using(crate::specs::Steps::evaluating), unfolding(aml_meaning::specs::Evaluation::declaring))]
+pub(crate) fn eval_declaring<S: Space>(
+    alloc: Global,
+    world: &mut World<S>,
+    budget: u64,
+    scope: &Path,
+    depth: usize,
+    term: Reader<'_>,
+    object: NamedObject,
+) -> Result<Flow, Refusal>
+    ensures { Does result (world.new, budget) (declaring meaning scope.now depth (part_tree term.entry) object) (world.old, budget) }
+{
+    let name = term.name(alloc, 0)?;
+    let path = name.resolve_in(alloc, scope)?;
+    world.new_name(alloc, depth == 0, path, object)?;
+    Ok(Flow::Next)
+}
+
+#[cycle(evaluation)]
+#[tactic(auto, using(crate::specs::Steps::evaluating), unfolding(aml_meaning::specs::Evaluation::name_rule))]
+pub(crate) fn eval_name<S: Space>(
+    alloc: Global,
+    world: &mut World<S>,
+    budget: &mut u64,
+    scope: &Path,
+    depth: usize,
+    term: Reader<'_>,
+) -> Result<Flow, Refusal>
+    ensures spent { budget.new ≤ budget.old }
+    ensures means { Does result (world.new, budget.new) (name_rule meaning scope.now depth (part_tree term.entry)) (world.old, budget.old) }
+{
+    let datum = inner(term, 1)?;
+    let value = eval_value(alloc, world, budget, scope, depth, datum)?;
+    eval_declaring(alloc, world, *budget, scope, depth, term, NamedObject::Data(value))
+}
+
+#[tactic(auto, using(crate::specs::Steps::evaluating), unfolding(aml_meaning::specs::Evaluation::alias_rule))]
+pub(crate) fn eval_alias<S: Space>(
+    alloc: Global,
+    world: &mut World<S>,
+    budget: u64,
+    scope: &Path,
+    depth: usize,
+    term: Reader<'_>,
+) -> Result<Flow, Refusal>
+    ensures { Does result (world.new, budget) (alias_rule meaning scope.now depth (part_tree term.entry)) (world.old, budget) }
+{
+    let source = term.name(alloc, 0)?;
+    let name = term.name(alloc, 1)?;
+    let path = name.resolve_in(alloc, scope)?;
+    let target = world.locate(alloc, scope, &source)?;
+    world.new_name(alloc, depth == 0, path, NamedObject::Alias(target))?;
+    Ok(Flow::Next)
+}
+
+#[tactic(auto, using(crate::specs::Steps::evaluating), unfolding(aml_meaning::specs::Evaluation::method_rule))]
+pub(crate) fn eval_method<S: Space>(
+    alloc: Global,
+    world: &mut World<S>,
+    budget: u64,
+    scope: &Path,
+    depth: usize,
+    term: Reader<'_>,
+) -> Result<Flow, Refusal>
+    ensures { Does result (world.new, budget) (method_rule meaning scope.now depth (part_tree term.entry)) (world.old, budget) }
+{
+    let name = term.name(alloc, 0)?;
+    let path = name.resolve_in(alloc, scope)?;
+    let flags = number(term, 1)?;
+    let body = bytes(alloc, term, 2)?;
+    world.new_method(alloc, depth == 0, path, (flags % 8) as u8, body)?;
+    Ok(Flow::Next)
+}
+
+/// The list of a Scope stands in the scope that its name finds.
+#[cycle(evaluation)]
+#[tactic(auto, using(crate::specs::Steps::evaluating), unfolding(aml_meaning::specs::Evaluation::scope_rule))]
+pub(crate) fn eval_scope<S: Space>(
+    alloc: Global,
+    world: &mut World<S>,
+    budget: &mut u64,
+    scope: &Path,
+    depth: usize,
+    term: Reader<'_>,
+) -> Result<Flow, Refusal>
+    ensures spent { budget.new ≤ budget.old }
+    ensures means { Does result (world.new, budget.new) (scope_rule meaning scope.now depth (part_tree term.entry)) (world.old, budget.old) }
+{
+    let name = term.name(alloc, 0)?;
+    let path = world.locate_scope(alloc, scope, &name)?;
+    let items = list(term, 1)?;
+    eval_list(alloc, world, budget, &path, depth, items)
+}
+
+/// A new name, and then the list of the term in it, which is the operand at a place.
+#[cycle(evaluation)]
+#[tactic(auto, using(crate::specs::Steps::evaluating), unfolding(aml_meaning::specs::Evaluation::new_scope))]
+pub(crate) fn eval_new_scope<S: Space>(
+    alloc: Global,
+    world: &mut World<S>,
+    budget: &mut u64,
+    scope: &Path,
+    depth: usize,
+    term: Reader<'_>,
+    object: NamedObject,
+    place: usize,
+) -> Result<Flow, Refusal>
+    ensures spent { budget.new ≤ budget.old }
+    ensures means { Does result (world.new, budget.new) (new_scope meaning object place scope.now depth (part_tree term.entry)) (world.old, budget.old) }
+{
+    let name = term.name(alloc, 0)?;
+    let path = name.resolve_in(alloc, scope)?;
+    declare(alloc, world, depth, &path, object)?;
+    let items = list(term, place)?;
+    eval_list(alloc, world, budget, &path, depth, items)
+}
+
+/// Declares a name at a path that is used again.
+fn declare<S: Space>(
+    alloc: Global,
+    world: &mut World<S>,
+    depth: usize,
+    path: &Path,
+    object: NamedObject,
+) -> Result<u64, Refusal>
+    ensures { Does result world.new (new_name (module_level depth) path.now object) world.old }
+{
+    let own = match path.copy(alloc) {
+        Ok(own) => own,
+        Err(refusal) => return Err(refusal),
+    };
+    world.new_name(alloc, depth == 0, own, object)
+}

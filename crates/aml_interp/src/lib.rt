@@ -1,0 +1,16 @@
+//! Evaluates AML: tables are loaded, and objects are evaluated, as their written meaning says (ACPI 6.5, 5.4, 5.5 and 19.6).
+#![tactic(auto)]
+
+mod answers;
+mod data;
+mod declarations;
+mod loading;
+mod operands;
+mod outward;
+mod terms;
+
+#[cfg(test)]
+mod tests;
+
+pub use answers::{answer, eval};
+pub use loading::load;

@@ -1,0 +1,104 @@
+//! Loads a table (ACPI 6.5, 5.4).
+ghost use Rattle.std.specs.Prelude.{◌≡◌, map, replicate};
+ghost use Rattle.ar_space.specs.Change.{Does};
+ghost use Rattle.aml_terms.specs.Shape.{trees_of};
+ghost use Rattle.aml_terms.specs.View.{tree_view};
+ghost use Rattle.aml_objects.specs.declared.value.Value.TheVariants.{Uninitialized};
+ghost use Rattle.aml_meaning.specs.Calling.{loaded, table_run, in_frame, framed, with_steps, at_root};
+
+use crate::operands::Reader;
+use crate::terms::eval_list;
+use aml_meaning::World;
+use aml_objects::Value;
+use aml_path::Path;
+use aml_terms::Term;
+use ar_space::{Refusal, Space};
+use std::alloc::Global;
+
+/// Loads a table, given without its header of 36 bytes: reads its terms and evaluates them at the root, in so many steps.
+///
+/// Names that it declares stand in the world from then on. The first refusal ends it, and what was declared before stays:
+/// those of reading (`BadName`, `AboveRoot`, and with an offset `BadOpcode`, `BadPkgLength`, `Truncated`, `TooDeep`,
+/// `NotInBody`), and those of evaluation, such as `Exists`, `NotFound`, `OutOfSteps`, `Unsupported` and `ObjectLimit`.
+/// However it ends, all mutexes are free after it.
+#[tactic(auto, using(aml_meaning::specs::Calling::calling), unfolding(aml_meaning::specs::Calling::loaded))]
+pub fn load<S: Space>(
+    alloc: Global,
+    world: &mut World<S>,
+    table: &[u8],
+    steps: u64,
+) -> Result<(), Refusal>
+    ensures { Does result world.new (loaded table.now steps) world.old }
+{
+    let outcome = table_run(alloc, world, table, steps);
+    world.release_mutexes();
+    outcome
+}
+
+#[tactic(auto, using(aml_meaning::specs::Calling::calling), unfolding(aml_meaning::specs::Calling::table_run))]
+fn table_run<S: Space>(
+    alloc: Global,
+    world: &mut World<S>,
+    table: &[u8],
+    steps: u64,
+) -> Result<(), Refusal>
+    ensures { Does result world.new (table_run steps table.now) world.old }
+{
+    let terms = world.read_table(alloc, table)?;
+    in_frame(alloc, world, &terms, steps)
+}
+
+/// The terms, in a frame whose slots are uninitialized.
+#[tactic(auto, using(aml_meaning::specs::Calling::calling), unfolding(aml_meaning::specs::Calling::in_frame))]
+fn in_frame<S: Space>(
+    alloc: Global,
+    world: &mut World<S>,
+    terms: &[Term],
+    steps: u64,
+) -> Result<(), Refusal>
+    ensures { Does result world.new (in_frame (replicate 7 Uninitialized) (with_steps steps (at_root (trees_of (map tree_view terms.now))))) world.old }
+{
+    world.open_frame([Value::Uninitialized; 7])?;
+    framed(alloc, world, terms, steps)
+}
+
+#[tactic(auto, using(aml_meaning::specs::Calling::calling))]
+fn framed<S: Space>(
+    alloc: Global,
+    world: &mut World<S>,
+    terms: &[Term],
+    steps: u64,
+) -> Result<(), Refusal>
+    ensures { Does result world.new (framed (with_steps steps (at_root (trees_of (map tree_view terms.now))))) world.old }
+{
+    let outcome = with_steps(alloc, world, terms, steps);
+    world.close_frame();
+    outcome
+}
+
+#[tactic(auto, using(aml_meaning::specs::Calling::calling))]
+fn with_steps<S: Space>(
+    alloc: Global,
+    world: &mut World<S>,
+    terms: &[Term],
+    steps: u64,
+) -> Result<(), Refusal>
+    ensures { Does result world.new (with_steps steps (at_root (trees_of (map tree_view terms.now)))) world.old }
+{
+    let mut budget = steps;
+    at_root(alloc, world, &mut budget, terms)
+}
+
+#[tactic(auto, using(aml_meaning::specs::Calling::calling), unfolding(aml_meaning::specs::Calling::at_root))]
+fn at_root<S: Space>(
+    alloc: Global,
+    world: &mut World<S>,
+    budget: &mut u64,
+    terms: &[Term],
+) -> Result<(), Refusal>
+    ensures { Does result (world.new, budget.new) (at_root (trees_of (map tree_view terms.now))) (world.old, budget.old) }
+{
+    let root = Path::root(alloc);
+    eval_list(alloc, world, budget, &root, 0, Reader::List(terms))?;
+    Ok(())
+}

@@ -1,0 +1,86 @@
+//! Operands of terms, by the kind that the grammar gives them.
+ghost use Rattle.std.specs.Prelude.{◌≡◌, ◌==◌};
+ghost use Rattle.ar_space.specs.Outcome.{Answers, seen};
+ghost use Rattle.aml_terms.specs.PartTree.{part_tree, part_list};
+ghost use Rattle.aml_terms.specs.Apart.{operand_of, bytes_of};
+ghost use Rattle.aml_meaning.specs.Readings.{as_many};
+ghost use Rattle.aml_meaning.specs.Terms.{number_of, inner_of, list_of, count_of};
+
+use aml_objects::Octets;
+use aml_terms::{OperandView, TermPart, TermReader};
+use ar_space::{EvaluationFault, NameFault, Refusal};
+use std::alloc::Global;
+
+/// How evaluation reads terms. It is used through `TermReader` alone.
+pub(crate) type Reader<'t> = TermPart<'t>;
+
+/// An operand that is a number.
+pub(crate) fn number(term: Reader<'_>, index: usize) -> Result<u64, Refusal>
+    ensures { Answers result (number_of (operand_of (part_tree term.entry) index)) }
+{
+    match term.operand(index) {
+        OperandView::Number(number) => Ok(number),
+        _ => Err(Refusal::Name(NameFault::BadName)),
+    }
+}
+
+/// An operand that is a term.
+pub(crate) fn inner(term: Reader<'_>, index: usize) -> Result<Reader<'_>, Refusal>
+    ensures { Answers (seen part_tree result) (inner_of (operand_of (part_tree term.entry) index)) }
+{
+    match term.operand(index) {
+        OperandView::Term(part) => Ok(part),
+        _ => Err(Refusal::Name(NameFault::BadName)),
+    }
+}
+
+/// An operand that is a list of terms.
+pub(crate) fn list(term: Reader<'_>, index: usize) -> Result<Reader<'_>, Refusal>
+    ensures { Answers (seen part_list result) (list_of (operand_of (part_tree term.entry) index)) }
+{
+    match term.operand(index) {
+        OperandView::List(part) => Ok(part),
+        _ => Err(Refusal::Name(NameFault::BadName)),
+    }
+}
+
+/// An operand that is bytes.
+pub(crate) fn bytes(alloc: Global, term: Reader<'_>, index: usize) -> Result<Octets, Refusal>
+    ensures { Answers result (bytes_of (operand_of (part_tree term.entry) index)) }
+{
+    match term.bytes(alloc, index) {
+        Ok(bytes) => Ok(Octets::from_vec(bytes)),
+        Err(refusal) => Err(refusal),
+    }
+}
+
+/// A list has as many terms as are wanted, or is refused as `ArityChanged`.
+pub(crate) fn as_many(list: Reader<'_>, wanted: u8) -> Result<(), Refusal>
+    ensures { Answers result (as_many wanted (count_of (part_list list.entry))) }
+{
+    if has_count(list, wanted) {
+        Ok(())
+    } else {
+        Err(Refusal::Evaluation(EvaluationFault::ArityChanged))
+    }
+}
+
+/// Whether a list has so many terms.
+fn has_count(list: Reader<'_>, count: u8) -> bool
+    ensures { result ≡ (count == count_of (part_list list.entry)) }
+{
+    let mut left = count;
+    let mut rest = list;
+    'items: loop {
+        match rest.next() {
+            None => return left == 0,
+            Some(item) => {
+                if left == 0 {
+                    return false;
+                }
+                left -= 1;
+                rest = item.rest;
+            }
+        }
+    }
+}

@@ -1,0 +1,226 @@
+//! Terms and lists of them, each evaluated by its rule.
+ghost use Rattle.std.specs.Prelude.{◌≡◌, ◌≤◌, ◌<◌, OnOk};
+ghost use Rattle.ar_space.specs.Change.{Does};
+ghost use Rattle.aml_terms.specs.PartTree.{part_tree, part_list};
+ghost use Rattle.aml_terms.specs.Apart.{code_of};
+ghost use Rattle.ar_space.specs.declared.refusal.Refusal.TheVariants.{Evaluation};
+ghost use Rattle.ar_space.specs.declared.refusal.EvaluationFault.TheVariants.{Unsupported};
+ghost use Rattle.aml_terms.specs.Opcodes.{number_of};
+ghost use Rattle.aml_meaning.specs.Run.{charge};
+ghost use Rattle.aml_meaning.specs.Meaning.{meaning};
+ghost use Rattle.aml_meaning.specs.Evaluation.{task, rule, code_rule, kind_rule, in_turn, operand_value, operand_integer, name_value};
+ghost use Rattle.aml_meaning.specs.Terms.{kind_of};
+
+use crate::data::{
+    eval_buffer, eval_constant, eval_integer, eval_package, eval_string, eval_var_package,
+};
+use crate::declarations::{
+    eval_alias, eval_declaring, eval_method, eval_name, eval_new_scope, eval_scope,
+};
+use crate::operands::{Reader, as_many, list};
+use aml_meaning::{Flow, TermKind, World, kind_of};
+use aml_objects::{NamedObject, Value};
+use aml_path::Path;
+use aml_terms::{Opcode, TermCode, TermReader};
+use ar_space::{EvaluationFault, NameFault, Refusal, Space};
+use std::alloc::Global;
+
+/// One step of the budget.
+#[tactic(auto, unfolding(aml_meaning::specs::Run::charge))]
+pub(crate) fn charge<S: Space>(world: &World<S>, budget: &mut u64) -> Result<(), Refusal>
+    ensures does { Does result (world.now, budget.new) charge (world.now, budget.old) }
+    ensures spent { budget.new ≤ budget.old }
+    ensures paid { OnOk result (budget.new < budget.old) }
+{
+    if *budget == 0 {
+        return Err(Refusal::Evaluation(EvaluationFault::OutOfSteps));
+    }
+    *budget -= 1;
+    Ok(())
+}
+
+/// A term: it costs a step, and is then evaluated by its rule.
+#[cycle(evaluation)]
+#[tactic(auto, using(crate::specs::Steps::evaluating), unfolding(aml_meaning::specs::Evaluation::rule))]
+pub(crate) fn eval_term<S: Space>(
+    alloc: Global,
+    world: &mut World<S>,
+    budget: &mut u64,
+    scope: &Path,
+    depth: usize,
+    term: Reader<'_>,
+) -> Result<Flow, Refusal>
+    ensures spent { budget.new ≤ budget.old }
+    ensures paid { OnOk result (budget.new < budget.old) }
+    ensures means { Does result (world.new, budget.new) (meaning (task scope.now depth (part_tree term.entry))) (world.old, budget.old) }
+{
+    charge(world, budget)?;
+    eval_code(alloc, world, budget, scope, depth, term)
+}
+
+#[cycle(evaluation)]
+#[tactic(auto, using(crate::specs::Steps::evaluating))]
+fn eval_code<S: Space>(
+    alloc: Global,
+    world: &mut World<S>,
+    budget: &mut u64,
+    scope: &Path,
+    depth: usize,
+    term: Reader<'_>,
+) -> Result<Flow, Refusal>
+    ensures spent { budget.new ≤ budget.old }
+    ensures means { Does result (world.new, budget.new) (code_rule meaning (code_of (part_tree term.entry)) scope.now depth (part_tree term.entry)) (world.old, budget.old) }
+{
+    match term.code() {
+        TermCode::Opcode(opcode) => {
+            eval_kind(alloc, world, budget, scope, depth, term, opcode, kind_of(opcode))
+        }
+        TermCode::MethodInvocation => eval_name_value(alloc, world, *budget, scope, term),
+        TermCode::Name => Err(Refusal::Name(NameFault::BadName)),
+        TermCode::NamedField => Err(Refusal::Name(NameFault::BadName)),
+        TermCode::ReservedField => Err(Refusal::Name(NameFault::BadName)),
+        TermCode::AccessField => Err(Refusal::Name(NameFault::BadName)),
+        TermCode::ExtendedAccessField => Err(Refusal::Name(NameFault::BadName)),
+        TermCode::ConnectField => Err(Refusal::Name(NameFault::BadName)),
+    }
+}
+
+#[cycle(evaluation)]
+#[tactic(auto, using(crate::specs::Steps::evaluating))]
+fn eval_kind<S: Space>(
+    alloc: Global,
+    world: &mut World<S>,
+    budget: &mut u64,
+    scope: &Path,
+    depth: usize,
+    term: Reader<'_>,
+    opcode: Opcode,
+    kind: TermKind,
+) -> Result<Flow, Refusal>
+    ensures spent { budget.new ≤ budget.old }
+    ensures means { Does result (world.new, budget.new) (kind_rule meaning kind opcode scope.now depth (part_tree term.entry)) (world.old, budget.old) }
+{
+    match kind {
+        TermKind::Constant(number) => eval_constant(world, *budget, number),
+        TermKind::Integer => eval_integer(world, *budget, term),
+        TermKind::String => eval_string(alloc, world, *budget, term),
+        TermKind::Buffer => eval_buffer(alloc, world, budget, scope, depth, term),
+        TermKind::Package => eval_package(alloc, world, budget, scope, depth, term),
+        TermKind::VarPackage => eval_var_package(alloc, world, budget, scope, depth, term),
+        TermKind::Scope => eval_scope(alloc, world, budget, scope, depth, term),
+        TermKind::Device => {
+            eval_new_scope(alloc, world, budget, scope, depth, term, NamedObject::Device, 1)
+        }
+        TermKind::Processor => {
+            eval_new_scope(alloc, world, budget, scope, depth, term, NamedObject::Processor, 4)
+        }
+        TermKind::PowerResource => {
+            eval_new_scope(alloc, world, budget, scope, depth, term, NamedObject::PowerResource, 3)
+        }
+        TermKind::ThermalZone => {
+            eval_new_scope(alloc, world, budget, scope, depth, term, NamedObject::ThermalZone, 1)
+        }
+        TermKind::Name => eval_name(alloc, world, budget, scope, depth, term),
+        TermKind::Alias => eval_alias(alloc, world, *budget, scope, depth, term),
+        TermKind::External => Ok(Flow::Next),
+        TermKind::Method => eval_method(alloc, world, *budget, scope, depth, term),
+        TermKind::Mutex => {
+            eval_declaring(alloc, world, *budget, scope, depth, term, NamedObject::Mutex(0))
+        }
+        TermKind::Event => {
+            eval_declaring(alloc, world, *budget, scope, depth, term, NamedObject::Event)
+        }
+        TermKind::Unsupported => Err(unsupported(opcode)),
+    }
+}
+
+fn unsupported(opcode: Opcode) -> Refusal
+    ensures { result ≡ Evaluation (Unsupported (number_of opcode)) }
+{
+    Refusal::Evaluation(EvaluationFault::Unsupported(opcode.number()))
+}
+
+/// A name where a value stands, and its arguments.
+#[tactic(auto, using(crate::specs::Steps::evaluating), unfolding(aml_meaning::specs::Evaluation::name_value))]
+fn eval_name_value<S: Space>(
+    alloc: Global,
+    world: &World<S>,
+    budget: u64,
+    scope: &Path,
+    term: Reader<'_>,
+) -> Result<Flow, Refusal>
+    ensures { Does result (world.now, budget) (name_value meaning scope.now (part_tree term.entry)) (world.now, budget) }
+{
+    let name = term.name(alloc, 0)?;
+    let arguments = list(term, 1)?;
+    let wanted = world.arguments(scope, &name)?;
+    as_many(arguments, wanted)?;
+    let value = world.value_found(scope, &name)?;
+    Ok(Flow::Value(value))
+}
+
+/// An operand's value.
+#[cycle(evaluation)]
+#[tactic(auto, using(crate::specs::Steps::evaluating), unfolding(aml_meaning::specs::Evaluation::operand_value))]
+pub(crate) fn eval_value<S: Space>(
+    alloc: Global,
+    world: &mut World<S>,
+    budget: &mut u64,
+    scope: &Path,
+    depth: usize,
+    term: Reader<'_>,
+) -> Result<Value, Refusal>
+    ensures spent { budget.new ≤ budget.old }
+    ensures paid { OnOk result (budget.new < budget.old) }
+    ensures means { Does result (world.new, budget.new) (operand_value meaning scope.now depth (part_tree term.entry)) (world.old, budget.old) }
+{
+    let flow = eval_term(alloc, world, budget, scope, depth, term)?;
+    flow.value()
+}
+
+/// An integer that an operand gives.
+#[cycle(evaluation)]
+#[tactic(auto, using(crate::specs::Steps::evaluating), unfolding(aml_meaning::specs::Evaluation::operand_integer))]
+pub(crate) fn eval_operand_integer<S: Space>(
+    alloc: Global,
+    world: &mut World<S>,
+    budget: &mut u64,
+    scope: &Path,
+    depth: usize,
+    term: Reader<'_>,
+) -> Result<u64, Refusal>
+    ensures spent { budget.new ≤ budget.old }
+    ensures means { Does result (world.new, budget.new) (operand_integer meaning scope.now depth (part_tree term.entry)) (world.old, budget.old) }
+{
+    let value = eval_value(alloc, world, budget, scope, depth, term)?;
+    world.integer_in(value)
+}
+
+/// Items one after another, until one ends the list.
+#[cycle(evaluation)]
+#[tactic(auto, using(crate::specs::Steps::evaluating))]
+pub(crate) fn eval_list<S: Space>(
+    alloc: Global,
+    world: &mut World<S>,
+    budget: &mut u64,
+    scope: &Path,
+    depth: usize,
+    list: Reader<'_>,
+) -> Result<Flow, Refusal>
+    ensures spent { budget.new ≤ budget.old }
+    ensures means { Does result (world.new, budget.new) (in_turn meaning scope.now depth (part_list list.entry)) (world.old, budget.old) }
+{
+    let mut rest = list;
+    'items: loop {
+        match rest.next() {
+            None => return Ok(Flow::Next),
+            Some(item) => {
+                let flow = eval_term(alloc, world, budget, scope, depth, item.first)?;
+                if !flow.goes_on() {
+                    return Ok(flow);
+                }
+                rest = item.rest;
+            }
+        }
+    }
+}

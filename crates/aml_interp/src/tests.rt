@@ -1,0 +1,5 @@
+//! Tables that are loaded, and what their names answer.
+mod aml;
+mod answers;
+mod loading;
+mod worlds;

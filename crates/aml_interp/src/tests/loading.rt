@@ -1,0 +1,165 @@
+//! What tables declare, and how they are refused.
+use super::aml;
+use super::worlds::{STEPS, fresh, loaded, stands};
+use crate::load;
+use aml_objects::NamedObject;
+use aml_path::Path;
+use ar_space::{EvaluationFault, IntegerWidth, NamespaceFault, Refusal, TermFault};
+use std::test::Fail;
+
+/// The names of the example machine in path order: those that are predefined, and those of its table.
+const EXAMPLE_NAMES: &[&[u8]] = &[
+    b"\\_GL_",
+    b"\\_GPE",
+    b"\\_OSI",
+    b"\\_OS_",
+    b"\\_PR_",
+    b"\\_REV",
+    b"\\_SB_",
+    b"\\_SB_.LNKA",
+    b"\\_SB_.LNKA._HID",
+    b"\\_SB_.LNKA._PRS",
+    b"\\_SB_.LNKB",
+    b"\\_SB_.LNKB._HID",
+    b"\\_SB_.LNKB._PRS",
+    b"\\_SB_.PCI0",
+    b"\\_SB_.PCI0._PRT",
+    b"\\_SI_",
+    b"\\_TZ_",
+];
+
+/// How many terms the table of the example machine has: a scope, six for each link device, a device, a name, a package, and
+/// five for each of its three entries.
+const EXAMPLE_STEPS: u64 = 31;
+
+#[test]
+fn names_of_the_example(rt: HostRuntime) -> Result<(), Fail> {
+    let alloc = rt.alloc();
+    let world = loaded(alloc, aml::EXAMPLE)?;
+    let walked = world.names().walk(alloc)?;
+    assert_eq!(rt; walked.len(), EXAMPLE_NAMES.len());
+    for (path, text) in walked.iter().zip(EXAMPLE_NAMES.iter()) {
+        assert_eq!(rt; *path, Path::from_text(alloc, text)?);
+    }
+    Ok(())
+}
+
+#[test]
+fn each_term_costs_a_step(rt: HostRuntime) -> Result<(), Fail> {
+    let alloc = rt.alloc();
+    for steps in 0..EXAMPLE_STEPS {
+        let mut world = fresh(alloc, IntegerWidth::Bits64)?;
+        let outcome = load(alloc, &mut world, aml::EXAMPLE, steps);
+        assert_eq!(rt; outcome, Err(Refusal::Evaluation(EvaluationFault::OutOfSteps)));
+    }
+    let mut world = fresh(alloc, IntegerWidth::Bits64)?;
+    assert_eq!(rt; load(alloc, &mut world, aml::EXAMPLE, EXAMPLE_STEPS), Ok(()));
+    Ok(())
+}
+
+#[test]
+fn what_was_declared_before_a_refusal_stays(rt: HostRuntime) -> Result<(), Fail> {
+    let alloc = rt.alloc();
+    let mut world = fresh(alloc, IntegerWidth::Bits64)?;
+    let outcome = load(alloc, &mut world, aml::REFUSED_IN_ITS_MIDDLE, STEPS);
+    assert_eq!(rt; outcome, Err(Refusal::Namespace(NamespaceFault::Exists)));
+    assert!(rt; stands(alloc, &world, b"\\FST_")?);
+    assert!(rt; !stands(alloc, &world, b"\\LST_")?);
+    Ok(())
+}
+
+#[test]
+fn a_table_that_cannot_be_read_declares_nothing(rt: HostRuntime) -> Result<(), Fail> {
+    let alloc = rt.alloc();
+    let mut world = fresh(alloc, IntegerWidth::Bits64)?;
+    let end = aml::EXAMPLE.len() - 1;
+    let outcome = load(alloc, &mut world, &aml::EXAMPLE[..end], STEPS);
+    assert_eq!(rt; outcome, Err(Refusal::Term(TermFault::BadPkgLength, 1)));
+    assert_eq!(rt; world.names().walk(alloc)?.len(), 9);
+    Ok(())
+}
+
+/// Tables of one fault each, and the numbers of their refusals: nothing found, a value of another type, an object too large.
+const REFUSED: &[(&[u8], u8)] = &[
+    (aml::SCOPE_OF_NOTHING, 61),
+    (aml::SCOPE_OF_AN_INTEGER, 40),
+    (aml::NAME_IN_A_METHOD, 61),
+    (aml::NAME_IN_NOTHING, 61),
+    (aml::LONG_BUFFER, 81),
+    (aml::LONG_PACKAGE, 81),
+];
+
+#[test]
+fn refused_tables(rt: HostRuntime) -> Result<(), Fail> {
+    let alloc = rt.alloc();
+    for (table, number) in REFUSED {
+        let mut world = fresh(alloc, IntegerWidth::Bits64)?;
+        match load(alloc, &mut world, table, STEPS) {
+            Ok(()) => assert!(rt; false),
+            Err(refusal) => assert_eq!(rt; refusal.number(), *number),
+        }
+    }
+    Ok(())
+}
+
+/// Tables with a term that is not evaluated, and its opcode.
+const UNSUPPORTED: &[(&[u8], u16)] = &[
+    (aml::REGION, 0x5B80),
+    (aml::ADDITION, 0x72),
+    (aml::TIMER, 0x5B33),
+    (aml::CALL, 0x14),
+];
+
+#[test]
+fn terms_that_are_not_evaluated(rt: HostRuntime) -> Result<(), Fail> {
+    let alloc = rt.alloc();
+    for (table, opcode) in UNSUPPORTED {
+        let mut world = fresh(alloc, IntegerWidth::Bits64)?;
+        let refused = load(alloc, &mut world, table, STEPS);
+        let unsupported = Refusal::Evaluation(EvaluationFault::Unsupported(*opcode));
+        assert_eq!(rt; refused, Err(unsupported));
+    }
+    Ok(())
+}
+
+#[test]
+fn one_declaration_of_each_kind(rt: HostRuntime) -> Result<(), Fail> {
+    let alloc = rt.alloc();
+    let world = loaded(alloc, aml::KINDS)?;
+    let kinds = [
+        (b"\\DEV_".as_slice(), NamedObject::Device),
+        (b"\\CPU0".as_slice(), NamedObject::Processor),
+        (b"\\PWR_".as_slice(), NamedObject::PowerResource),
+        (b"\\THM_".as_slice(), NamedObject::ThermalZone),
+        (b"\\MTX_".as_slice(), NamedObject::Mutex(0)),
+        (b"\\EVT_".as_slice(), NamedObject::Event),
+        (
+            b"\\ALS_".as_slice(),
+            NamedObject::Alias(Path::from_text(alloc, b"\\DEV_.STR_")?),
+        ),
+    ];
+    for (path, object) in kinds.iter() {
+        let path = Path::from_text(alloc, path)?;
+        let entry = world.names().get(&path);
+        assert_eq!(rt; entry.map(|entry| &entry.object), Some(object));
+    }
+    assert!(rt; !stands(alloc, &world, b"\\OUT_")?);
+    let method = world.names().get(&Path::from_text(alloc, b"\\MTH_")?);
+    match method.map(|entry| &entry.object) {
+        Some(NamedObject::Method(method)) => assert_eq!(rt; method.arguments, 2),
+        _ => assert!(rt; false),
+    }
+    Ok(())
+}
+
+#[test]
+fn a_second_table_stands_on_the_first(rt: HostRuntime) -> Result<(), Fail> {
+    let alloc = rt.alloc();
+    let mut world = loaded(alloc, aml::EXAMPLE)?;
+    let second = b"\x10\x0D\\_SB_\x08TWO_\x0A\x02".as_slice();
+    assert_eq!(rt; load(alloc, &mut world, second, STEPS), Ok(()));
+    assert!(rt; stands(alloc, &world, b"\\_SB_.TWO_")?);
+    let again = load(alloc, &mut world, second, STEPS);
+    assert_eq!(rt; again, Err(Refusal::Namespace(NamespaceFault::Exists)));
+    Ok(())
+}

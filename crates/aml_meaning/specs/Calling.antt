@@ -1,0 +1,111 @@
+-- Loading a table, and what an object answers (ACPI 6.5, 5.4 and 5.5).
+use Rattle.std.specs.Prelude.{◌≡◌, ℕ, List, [], ◌++◌, length, replicate, Ok, Err, refl}
+use Rattle.ar_space.specs.Outcome.{Outcome, NotMemory, seen}
+use Rattle.ar_space.specs.Change.{Change, Does, give, settle, ◌>>=◌, ◌>>◌}
+use Rattle.aml_path.specs.declared.segment.Seg.{Seg}
+use Rattle.aml_terms.specs.declared.arities.Arity.{Arity}
+use Rattle.aml_terms.specs.Tree.{Tree, Trees}
+use Rattle.aml_terms.specs.Shape.{trees_of}
+use Rattle.aml_terms.specs.Grammar.{table_reading}
+use Rattle.aml_objects.specs.declared.value.Value.{Value}
+use Rattle.aml_objects.specs.declared.value.Value.TheVariants as value
+use Rattle.aml_namespace.specs.Namespace.{mutexes_released}
+use Rattle.aml_meaning.specs.declared.flow.Flow.{Flow}
+use Rattle.aml_meaning.specs.Given.{Given}
+use Rattle.aml_meaning.specs.State.{State}
+use Rattle.aml_meaning.specs.Run.{Run, lift, running}
+use Rattle.aml_meaning.specs.Slots.{opened, closed}
+use Rattle.aml_meaning.specs.Readings.{absolute, read_object}
+use Rattle.aml_meaning.specs.Evaluation.{in_turn}
+use Rattle.aml_meaning.specs.Meaning.{meaning}
+use Rattle.aml_meaning.specs.Outward.{outward}
+
+-- however an evaluation ended, all mutexes are free after it
+abbrev pub released : {S : Type 0} → State S → State S
+released w = record w { names = mutexes_released w.names }
+
+unfoldable pub ending : {S A : Type 0} → Change (State S) A → Change (State S) A
+ending m w = ((m w).0, released (m w).1)
+
+-- with so many steps
+unfoldable pub with_steps : {S A : Type 0} → ℕ → Run S A → Change (State S) A
+with_steps steps m w = ((m (w, steps)).0, (m (w, steps)).1.0)
+
+-- in a frame of its own, which is closed however the evaluation ended
+unfoldable pub framed : {S A : Type 0} → Change (State S) A → Change (State S) A
+framed m w = ((m w).0, closed (m w).1)
+
+unfoldable pub in_frame : {S A : Type 0} → List Value → Change (State S) A → Change (State S) A
+in_frame arguments m = do
+  number ← opened arguments
+  framed m
+
+-- the terms of a table; names that it declares take arguments from now on
+abbrev pub terms_kept : {S : Type 0} → Outcome (List Tree × List Arity) → Change (State S) Trees
+terms_kept (Ok (ts, after)) w = (Ok (trees_of ts), record w { arities = after })
+terms_kept (Err e) w = (Err e, w)
+
+unfoldable pub table_terms : {S : Type 0} → List ℕ → Change (State S) Trees
+table_terms bytes w = terms_kept (table_reading bytes w.arities) w
+
+-- the terms of a table, evaluated at the root
+unfoldable pub at_root : {S : Type 0} → Trees → Run S (Unit {0})
+at_root ts = do
+  last ← in_turn meaning [] 0 ts
+  give tt
+
+unfoldable pub table_run : {S : Type 0} → ℕ → List ℕ → Change (State S) (Unit {0})
+table_run steps bytes = do
+  ts ← table_terms bytes
+  in_frame (replicate 7 value.Uninitialized) (with_steps steps (at_root ts))
+
+-- a table, loaded
+unfoldable pub loaded : {S : Type 0} → List ℕ → ℕ → Change (State S) (Unit {0})
+loaded bytes steps = ending (table_run steps bytes)
+
+-- the value of the object at a path, with as many arguments
+unfoldable pub called : {S : Type 0} → List Seg → ℕ → Run S Value
+called p count = lift (read_object [] (absolute p) count)
+
+-- a value, and the steps that are left
+abbrev pub with_rest : Outcome Value → ℕ → Outcome (Value × ℕ)
+with_rest r rest = seen (λ v. (v, rest)) r
+
+unfoldable pub counted : {S : Type 0} → ℕ → Run S Value → Change (State S) (Value × ℕ)
+counted steps m w = (with_rest (m (w, steps)).0 (m (w, steps)).1.1, (m (w, steps)).1.0)
+
+unfoldable pub evaluated : {S : Type 0} → List Seg → List Value → ℕ → Change (State S) (Value × ℕ)
+evaluated p arguments steps = counted steps (called p (length arguments))
+
+-- the value that is handed out, in the same steps
+unfoldable pub handed_out : {S : Type 0} → List Seg → ℕ → Run S Given
+handed_out p count = do
+  v ← called p count
+  outward v
+
+unfoldable pub answered : {S : Type 0} → List Seg → List Given → ℕ → Change (State S) Given
+answered p arguments steps = ending (with_steps steps (handed_out p (length arguments)))
+
+-- ---- however the evaluation ended
+
+pub does_ending : {S A : Type 0} {r : Outcome A} {w w1 : State S} (m : Change (State S) A) → Does r w1 m w → Does r (released w1) (ending m) w
+unfolding ending
+does_ending m h = record { is = λ ne. rw (h.is ne) refl }
+
+pub does_framed : {S A : Type 0} {r : Outcome A} {w w1 : State S} (m : Change (State S) A) → Does r w1 m w → Does r (closed w1) (framed m) w
+unfolding framed
+does_framed m h = record { is = λ ne. rw (h.is ne) refl }
+
+pub does_steps : {S A : Type 0} {r : Outcome A} {w w1 : State S} {rest : ℕ} (steps : ℕ) (m : Run S A) → Does r (w1, rest) m (w, steps) → Does r w1 (with_steps steps m) w
+unfolding with_steps
+does_steps steps m h = record { is = λ ne. rw (h.is ne) refl }
+
+counts : (r : Outcome Value) (rest : ℕ) → NotMemory (with_rest r rest) → NotMemory r
+counts (Ok v) rest ne = tt
+counts (Err e) rest ne = ne
+
+pub does_counted : {S : Type 0} {w w1 : State S} (r : Outcome Value) (rest steps : ℕ) (m : Run S Value) → Does r (w1, rest) m (w, steps) → Does (with_rest r rest) w1 (counted steps m) w
+unfolding counted
+does_counted r rest steps m h = record { is = λ ne. rw (h.is (counts r rest ne)) refl }
+
+pub ruleset calling = (running, does_ending, does_framed, does_steps, does_counted)

@@ -1,0 +1,113 @@
+-- How an answer is handed out: each element of a package costs a step.
+use Rattle.std.specs.Prelude.{◌≡◌, ℕ, zero, suc, ◌+◌, ◌-◌, ◌==◌, List, [], ◌∷◌, ◌++◌, Option, Some, None, Ok, Err, if◌then◌else◌}
+use Rattle.ar_space.specs.declared.refusal.Refusal.{Refusal}
+use Rattle.ar_space.specs.declared.refusal.Refusal.TheVariants as refusal
+use Rattle.ar_space.specs.declared.refusal.EvaluationFault.TheVariants.{ObjectLimit, Unsupported}
+use Rattle.ar_space.specs.Outcome.{Outcome, seen}
+use Rattle.ar_space.specs.Change.{Change, give, stop, settle, ◌>>=◌, ◌>>◌}
+use Rattle.aml_path.specs.declared.segment.Seg.{Seg}
+use Rattle.aml_path.specs.Paths.{Name, resolved}
+use Rattle.aml_objects.specs.declared.value.Value.{Value}
+use Rattle.aml_objects.specs.declared.value.Value.TheVariants as value
+use Rattle.aml_objects.specs.declared.value.Reference.{Reference}
+use Rattle.aml_objects.specs.declared.value.Reference.TheVariants as reference
+use Rattle.aml_objects.specs.declared.object.Element.{Element}
+use Rattle.aml_objects.specs.declared.object.Element.TheVariants as element
+use Rattle.aml_objects.specs.declared.entry.Entry.{Entry}
+use Rattle.aml_objects.specs.declared.entry.NamedObject.{NamedObject}
+use Rattle.aml_objects.specs.declared.entry.NamedObject.TheVariants as object
+use Rattle.aml_objects.specs.Objects.{string_at, buffer_at, elements_at}
+use Rattle.aml_namespace.specs.Namespace.{numbered}
+use Rattle.aml_namespace.specs.Search.{found}
+use Rattle.aml_meaning.specs.declared.name_use.NameUse.{NameUse}
+use Rattle.aml_meaning.specs.declared.name_use.NameUse.TheVariants as uses
+use Rattle.aml_meaning.specs.State.{State, on_objects}
+use Rattle.aml_meaning.specs.Run.{Run, lift, charge}
+use Rattle.aml_meaning.specs.Given as given
+
+unfoldable pub text_out : {S : Type 0} → ℕ → Run S given.Given
+text_out o = do
+  bytes ← lift (on_objects (string_at o))
+  give (given.Text bytes)
+
+unfoldable pub bytes_out : {S : Type 0} → ℕ → Run S given.Given
+bytes_out o = do
+  bytes ← lift (on_objects (buffer_at o))
+  give (given.Bytes bytes)
+
+-- a reference to a name that stands is given as its path
+abbrev pub standing : Option (List Seg × Entry) → given.Given
+standing None = given.Reference
+standing (Some e) = given.Named e.0
+
+unfoldable pub path_of : {S : Type 0} → ℕ → Change (State S) given.Given
+path_of n w = (Ok (standing (numbered n w.names.map)), w)
+
+unfoldable pub reference_out : {S : Type 0} → Reference → Run S given.Given
+reference_out (reference.Name n) = lift (path_of n)
+reference_out (reference.Slot n slot) = give given.Reference
+reference_out (reference.Element o i) = give given.Reference
+reference_out (reference.Byte o i) = give given.Reference
+
+-- what an element stands for that is a name: the value that it holds, or else its path; where nothing is found, the path that it would
+-- have
+abbrev pub held_or_path : NamedObject → Outcome (List Seg) → Outcome NameUse
+held_or_path (object.Data v) p = Ok (uses.Value v)
+held_or_path (object.FieldUnit u) p = Err (refusal.Evaluation (Unsupported 0x5B81))
+held_or_path (object.BufferField b) p = Err (refusal.Evaluation (Unsupported 0x5B13))
+held_or_path _ p = seen uses.Path p
+
+abbrev pub use_of : Outcome Entry → Outcome (List Seg) → Outcome (List Seg) → Outcome NameUse
+use_of (Ok e) found_at would_be = held_or_path e.object found_at
+use_of (Err x) found_at would_be = seen uses.Path would_be
+
+unfoldable pub name_use : {S : Type 0} → Name → List Seg → Change (State S) NameUse
+name_use n scope w = (use_of (seen (λ f. f.1) (found w.names.map scope n)) (seen (λ f. f.0) (found w.names.map scope n)) (resolved n scope), w)
+
+module _ {S : Type 0} (package_out : ℕ → Run S given.Given) where
+  unfoldable pub value_out : Value → Run S given.Given
+  value_out value.Uninitialized = give given.Nothing
+  value_out (value.Integer n) = give (given.Integer n)
+  value_out (value.String o) = text_out o
+  value_out (value.Buffer o) = bytes_out o
+  value_out (value.Package o) = package_out o
+  value_out (value.Reference r) = reference_out r
+
+  unfoldable pub use_out : NameUse → Run S given.Given
+  use_out (uses.Value v) = value_out v
+  use_out (uses.Path p) = give (given.Named p)
+
+  unfoldable pub name_out : Name → List Seg → Run S given.Given
+  name_out n scope = do
+    u ← lift (name_use n scope)
+    use_out u
+
+  unfoldable pub held_out : Element → Run S given.Given
+  held_out (element.Value v) = value_out v
+  held_out (element.Name n scope) = name_out n scope
+
+  unfoldable pub element_out : Element → Run S given.Given
+  element_out e = do
+    step ← charge
+    held_out e
+
+  unfoldable pub each_out : List Element → List given.Given → Run S (List given.Given)
+  each_out [] done = give done
+  each_out (e ∷ es) done = do
+    g ← element_out e
+    each_out es (done ++ g ∷ [])
+
+  unfoldable pub elements_out : ℕ → Run S given.Given
+  elements_out o = do
+    es ← lift (on_objects (elements_at o))
+    gs ← each_out es []
+    give (given.Package (given.givens gs))
+
+-- packages nest at most so deep
+unfoldable pub package_out : {S : Type 0} → ℕ → ℕ → Run S given.Given
+package_out zero o = stop (refusal.Evaluation ObjectLimit)
+package_out (suc n) o = elements_out (package_out n) o
+
+-- a value as an answer hands it out
+unfoldable pub outward : {S : Type 0} → Value → Run S given.Given
+outward v = value_out (package_out 64) v

@@ -1,0 +1,51 @@
+//! What a term that was evaluated leaves.
+ghost use Rattle.std.specs.Prelude.{◌≡◌};
+ghost use Rattle.ar_space.specs.Outcome.{Answers};
+ghost use Rattle.aml_meaning.specs.Readings.{value_in};
+ghost use Rattle.aml_meaning.specs.Evaluation.{goes_on};
+
+use aml_objects::Value;
+use ar_space::{EvaluationFault, Refusal};
+
+/// What a term that was evaluated leaves: its value, and whether the list that it stands in goes on (ACPI 6.5, 19.6).
+#[derive(Clone, Copy, Debug, PartialEq, Eq)]
+pub enum Flow {
+    /// A value.
+    Value(Value),
+    /// No value: a statement, or a declaration.
+    Next,
+    /// The loop around the term ends.
+    Break,
+    /// The next turn of the loop around the term begins.
+    Continue,
+    /// The control method ends with a value.
+    Return(Value),
+}
+
+impl Flow {
+    /// The value of a term, where one is wanted; a term without one is refused as `NoValue`.
+    pub fn value(self) -> Result<Value, Refusal>
+        ensures { Answers result (value_in self) }
+    {
+        match self {
+            Flow::Value(value) => Ok(value),
+            Flow::Next => Err(Refusal::Evaluation(EvaluationFault::NoValue)),
+            Flow::Break => Err(Refusal::Evaluation(EvaluationFault::NoValue)),
+            Flow::Continue => Err(Refusal::Evaluation(EvaluationFault::NoValue)),
+            Flow::Return(_) => Err(Refusal::Evaluation(EvaluationFault::NoValue)),
+        }
+    }
+
+    /// Whether a list goes on after an item.
+    pub fn goes_on(self) -> bool
+        ensures { result ≡ goes_on self }
+    {
+        match self {
+            Flow::Value(_) => true,
+            Flow::Next => true,
+            Flow::Break => false,
+            Flow::Continue => false,
+            Flow::Return(_) => false,
+        }
+    }
+}

@@ -1,0 +1,109 @@
+//! What an element of a package stands for that is a name.
+ghost use Rattle.std.specs.Prelude.{◌≡◌, Ok};
+ghost use Rattle.ar_space.specs.Change.{Does};
+ghost use Rattle.ar_space.specs.Outcome.{Answers, seen};
+ghost use Rattle.aml_path.specs.Paths.{resolved};
+ghost use Rattle.aml_namespace.specs.Search.{found};
+ghost use Rattle.aml_meaning.specs.Outward.{name_use, held_or_path, path_of};
+ghost use Rattle.aml_meaning.specs.Given as given;
+ghost use Rattle.aml_meaning.specs.Given.{given_of};
+ghost use Rattle.aml_meaning.specs.declared.name_use.NameUse.TheVariants as uses;
+
+use crate::datum::Datum;
+use crate::world::World;
+use aml_objects::{NamedObject, Value};
+use aml_path::{NameString, Path};
+use ar_space::{EvaluationFault, Refusal};
+use std::alloc::Global;
+
+/// What an element of a package stands for that is a name.
+#[derive(Drop)]
+pub enum NameUse {
+    /// The value that the name holds.
+    Value(Value),
+    /// The path of what holds no value, or the path that the name would have where nothing is found.
+    Path(Path),
+}
+
+impl<S> World<S> {
+    /// What an element of a package stands for that is a name, searched for from the scope where the package was made.
+    #[tactic(auto, unfolding(crate::specs::Outward::name_use))]
+    pub fn name_use(
+        &self,
+        alloc: Global,
+        name: &NameString,
+        scope: &Path,
+    ) -> Result<NameUse, Refusal>
+        ensures { Does result self.now (name_use name.now scope.now) self.now }
+    {
+        match self.names.lookup(scope, name) {
+            Ok(entry) => self.held_or_path(alloc, &entry.object, name, scope),
+            Err(_) => path_it_would_have(alloc, name, scope),
+        }
+    }
+
+    fn held_or_path(
+        &self,
+        alloc: Global,
+        object: &NamedObject,
+        name: &NameString,
+        scope: &Path,
+    ) -> Result<NameUse, Refusal>
+        ensures { Answers result (held_or_path object.now (seen (λ f. f.0) (found self.now.names.map scope.now name.now))) }
+    {
+        match object {
+            NamedObject::Data(value) => Ok(NameUse::Value(*value)),
+            NamedObject::FieldUnit(_) => Err(Refusal::Evaluation(EvaluationFault::Unsupported(0x5B81))),
+            NamedObject::BufferField(_) => {
+                Err(Refusal::Evaluation(EvaluationFault::Unsupported(0x5B13)))
+            }
+            _ => self.path_found(alloc, name, scope),
+        }
+    }
+
+    fn path_found(
+        &self,
+        alloc: Global,
+        name: &NameString,
+        scope: &Path,
+    ) -> Result<NameUse, Refusal>
+        ensures { Answers result (seen uses.Path (seen (λ f. f.0) (found self.now.names.map scope.now name.now))) }
+    {
+        match self.names.locate(scope, name) {
+            Ok(path) => copied(alloc, path),
+            Err(refusal) => Err(refusal),
+        }
+    }
+
+    /// What the name of a declaration is handed out as: its path while it stands, and a reference to nothing else.
+    #[tactic(auto, unfolding(crate::specs::Outward::path_of))]
+    pub fn path_of(&self, alloc: Global, number: u64) -> Result<Datum, Refusal>
+        ensures { Does (seen given_of result) self.now (path_of number) self.now }
+    {
+        match self.names.numbered(number) {
+            None => Ok(Datum::Reference),
+            Some(found) => named(alloc, &found.0),
+        }
+    }
+}
+
+fn named(alloc: Global, path: &Path) -> Result<Datum, Refusal>
+    ensures { Answers (seen given_of result) (Ok (given.Named path.now)) }
+{
+    Ok(Datum::Named(path.copy(alloc)?))
+}
+
+fn copied(alloc: Global, path: &Path) -> Result<NameUse, Refusal>
+    ensures { Answers result (Ok (uses.Path path.now)) }
+{
+    Ok(NameUse::Path(path.copy(alloc)?))
+}
+
+fn path_it_would_have(alloc: Global, name: &NameString, scope: &Path) -> Result<NameUse, Refusal>
+    ensures { Answers result (seen uses.Path (resolved name.now scope.now)) }
+{
+    match name.resolve_in(alloc, scope) {
+        Ok(path) => Ok(NameUse::Path(path)),
+        Err(refusal) => Err(refusal),
+    }
+}

@@ -1,0 +1,85 @@
+//! Objects that terms form (ACPI 6.5, 19.6: Buffer, Package, VarPackage).
+ghost use Rattle.std.specs.Prelude.{◌≡◌, Ok};
+ghost use Rattle.ar_space.specs.Change.{Does};
+ghost use Rattle.ar_space.specs.Outcome.{Answers};
+ghost use Rattle.aml_objects.specs.Objects.{make_buffer};
+ghost use Rattle.aml_meaning.specs.State.{on_objects};
+ghost use Rattle.aml_meaning.specs.Evaluation.{within, sized, filled, new_buffer, new_package};
+
+use crate::world::World;
+use aml_objects::{Element, Elements, Octets, Value};
+use ar_space::{EvaluationFault, Refusal};
+
+/// How many bytes a buffer may have.
+const MAX_BYTES: u64 = 1_048_576;
+
+/// How many elements a package may have.
+const MAX_ELEMENTS: u64 = 65_535;
+
+impl<S> World<S> {
+    /// A new buffer as long as its size says, or as its bytes where they are more, zero-filled; refused as `ObjectLimit`
+    /// where it is too long, or one object too many.
+    #[tactic(auto, using(ar_space::specs::Change::changing), unfolding(crate::specs::Evaluation::new_buffer))]
+    pub fn new_buffer(&mut self, size: u64, bytes: Octets) -> Result<Value, Refusal>
+        ensures { Does result self.new (new_buffer size bytes) self.old }
+    {
+        self.within(MAX_BYTES, size)?;
+        self.make_sized(size, bytes)
+    }
+
+    fn make_sized(&mut self, size: u64, bytes: Octets) -> Result<Value, Refusal>
+        ensures { Does result self.new (on_objects (make_buffer (sized size bytes))) self.old }
+    {
+        let bytes = sized(size, bytes)?;
+        self.make_buffer(bytes)
+    }
+
+    /// A package may have so many elements; more are refused as `ObjectLimit`.
+    pub fn few_elements(&self, count: u64) -> Result<(), Refusal>
+        ensures { Does result self.now (within 65535 count) self.now }
+    {
+        self.within(MAX_ELEMENTS, count)
+    }
+
+    #[tactic(auto, unfolding(crate::specs::Evaluation::within))]
+    fn within(&self, most: u64, count: u64) -> Result<(), Refusal>
+        ensures { Does result self.now (within most count) self.now }
+    {
+        if most < count {
+            return Err(Refusal::Evaluation(EvaluationFault::ObjectLimit));
+        }
+        Ok(())
+    }
+
+    /// A new package with as many elements as it says; those that are left out are uninitialized. Refused as `ObjectLimit`
+    /// where it has too many, or one object too many.
+    #[tactic(auto, unfolding(crate::specs::Evaluation::new_package))]
+    pub fn new_package(&mut self, count: usize, elements: Elements) -> Result<Value, Refusal>
+        ensures { Does result self.new (new_package count elements) self.old }
+    {
+        let elements = filled(count, elements)?;
+        self.make_package(elements)
+    }
+}
+
+/// Bytes, and zeros up to a length.
+fn sized(size: u64, bytes: Octets) -> Result<Octets, Refusal>
+    ensures { Answers result (Ok (sized size bytes)) }
+{
+    let mut list = bytes.into_vec();
+    if (list.len() as u64) < size {
+        list.resize(size as usize, 0)?;
+    }
+    Ok(Octets::from_vec(list))
+}
+
+/// Elements, and uninitialized ones up to a count.
+fn filled(count: usize, elements: Elements) -> Result<Elements, Refusal>
+    ensures { Answers result (Ok (filled count elements)) }
+{
+    let mut all = elements;
+    while all.as_slice().len() < count {
+        all.push(Element::Value(Value::Uninitialized))?;
+    }
+    Ok(all)
+}

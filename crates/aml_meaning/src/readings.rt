@@ -1,0 +1,164 @@
+//! What names find, and what values are, in a world (ACPI 6.5, 5.3 and 19.3.5).
+ghost use Rattle.std.specs.Prelude.{◌≡◌};
+ghost use Rattle.ar_space.specs.Change.{Does};
+ghost use Rattle.ar_space.specs.Outcome.{Answers, seen};
+ghost use Rattle.aml_meaning.specs.Readings.{integer_kept, integer_in, entry_found, path_found, is_scope, scope_or_not, scope_found, arguments_of, arguments_found, as_many, value_of_entry, value_of_object, value_found, read_object};
+
+use crate::world::World;
+use aml_convert::{to_integer, truncate_integer};
+use aml_objects::{Entry, NamedObject, Reference, Value};
+use aml_path::{NameString, Path};
+use ar_space::{EvaluationFault, Refusal, ValueFault};
+use std::alloc::Global;
+
+impl<S> World<S> {
+    /// A number as an integer keeps it: its lowest 32 or 64 bits.
+    #[tactic(auto, unfolding(crate::specs::Readings::integer_kept))]
+    pub fn integer_kept(&self, number: u64) -> Result<Value, Refusal>
+        ensures { Does result self.now (integer_kept number) self.now }
+    {
+        Ok(Value::Integer(truncate_integer(self.width, number)))
+    }
+
+    /// A value where an integer is wanted, converted to one; it is refused as conversions are.
+    #[tactic(auto, unfolding(crate::specs::Readings::integer_in))]
+    pub fn integer_in(&self, value: Value) -> Result<u64, Refusal>
+        ensures { Does result self.now (integer_in value) self.now }
+    {
+        to_integer(self.width, self.heap.content(value))
+    }
+
+    /// What a name finds from a scope; refused as `Names::lookup` refuses it.
+    #[tactic(auto, unfolding(crate::specs::Readings::entry_found))]
+    pub(crate) fn entry(&self, scope: &Path, name: &NameString) -> Result<&Entry, Refusal>
+        ensures { Does (seen (λ e. e.now) result) self.now (entry_found scope.now name.now) self.now }
+    {
+        self.names.lookup(scope, name)
+    }
+
+    /// The path of what a name finds from a scope; refused as `Names::locate` refuses it.
+    #[tactic(auto, unfolding(crate::specs::Readings::path_found))]
+    pub fn locate(
+        &self,
+        alloc: Global,
+        scope: &Path,
+        name: &NameString,
+    ) -> Result<Path, Refusal>
+        ensures { Does result self.now (path_found scope.now name.now) self.now }
+    {
+        match self.names.locate(scope, name) {
+            Ok(path) => path.copy(alloc),
+            Err(refusal) => Err(refusal),
+        }
+    }
+
+    /// The path of the scope that a name finds: a predefined scope, a device, a processor, a power resource or a thermal
+    /// zone. Anything else is refused as `WrongType` (ACPI 6.5, 19.6, Scope).
+    #[tactic(auto, using(ar_space::specs::Change::changing), unfolding(crate::specs::Readings::scope_found))]
+    pub fn locate_scope(
+        &self,
+        alloc: Global,
+        scope: &Path,
+        name: &NameString,
+    ) -> Result<Path, Refusal>
+        ensures { Does result self.now (scope_found scope.now name.now) self.now }
+    {
+        let entry = self.entry(scope, name)?;
+        scope_or_not(&entry.object)?;
+        self.locate(alloc, scope, name)
+    }
+
+    /// How many arguments it takes to evaluate what a name finds: those of a control method, none of anything else. Refused
+    /// as `Names::lookup` refuses it.
+    #[tactic(auto, using(ar_space::specs::Change::changing), unfolding(crate::specs::Readings::arguments_found))]
+    pub fn arguments(&self, scope: &Path, name: &NameString) -> Result<u8, Refusal>
+        ensures { Does result self.now (arguments_found scope.now name.now) self.now }
+    {
+        let entry = self.entry(scope, name)?;
+        Ok(arguments_of(&entry.object))
+    }
+
+    /// What a name is read as: the value that it holds, or else a reference to it (ACPI 6.5, 19.3.5). A control method or a
+    /// field, which are not evaluated, is refused as `Unsupported`, and a name that finds nothing as `Names::lookup` refuses it.
+    #[tactic(auto, using(ar_space::specs::Change::changing), unfolding(crate::specs::Readings::value_found))]
+    pub fn value_found(&self, scope: &Path, name: &NameString) -> Result<Value, Refusal>
+        ensures { Does result self.now (value_found scope.now name.now) self.now }
+    {
+        let entry = self.entry(scope, name)?;
+        value_of(entry)
+    }
+
+    /// What a name is read as that stands with so many arguments; another count than it takes is refused as `ArityChanged`.
+    #[tactic(auto, using(ar_space::specs::Change::changing), unfolding(crate::specs::Readings::read_object))]
+    pub fn read(&self, scope: &Path, name: &NameString, count: usize) -> Result<Value, Refusal>
+        ensures { Does result self.now (read_object scope.now name.now count) self.now }
+    {
+        let wanted = self.arguments(scope, name)?;
+        as_many(wanted, count)?;
+        self.value_found(scope, name)
+    }
+}
+
+fn scope_or_not(object: &NamedObject) -> Result<(), Refusal>
+    ensures { Answers result (scope_or_not object.now) }
+{
+    if is_scope(object) {
+        Ok(())
+    } else {
+        Err(Refusal::Value(ValueFault::WrongType))
+    }
+}
+
+/// Whether names may be declared in what stands there by a Scope term.
+fn is_scope(object: &NamedObject) -> bool
+    ensures { result ≡ is_scope object.now }
+{
+    match object {
+        NamedObject::Scope => true,
+        NamedObject::Device => true,
+        NamedObject::Processor => true,
+        NamedObject::PowerResource => true,
+        NamedObject::ThermalZone => true,
+        _ => false,
+    }
+}
+
+fn as_many(wanted: u8, count: usize) -> Result<(), Refusal>
+    ensures { Answers result (as_many wanted count) }
+{
+    if usize::from(wanted) == count {
+        Ok(())
+    } else {
+        Err(Refusal::Evaluation(EvaluationFault::ArityChanged))
+    }
+}
+
+/// How many arguments it takes to evaluate an object.
+fn arguments_of(object: &NamedObject) -> u8
+    ensures { result ≡ arguments_of object.now }
+{
+    match object {
+        NamedObject::Method(method) => method.arguments,
+        _ => 0,
+    }
+}
+
+fn value_of(entry: &Entry) -> Result<Value, Refusal>
+    ensures { Answers result (value_of_entry entry.now) }
+{
+    value_of_object(entry.number, &entry.object)
+}
+
+fn value_of_object(number: u64, object: &NamedObject) -> Result<Value, Refusal>
+    ensures { Answers result (value_of_object number object.now) }
+{
+    match object {
+        NamedObject::Data(value) => Ok(*value),
+        NamedObject::Method(_) => Err(Refusal::Evaluation(EvaluationFault::Unsupported(0x14))),
+        NamedObject::FieldUnit(_) => Err(Refusal::Evaluation(EvaluationFault::Unsupported(0x5B81))),
+        NamedObject::BufferField(_) => {
+            Err(Refusal::Evaluation(EvaluationFault::Unsupported(0x5B13)))
+        }
+        _ => Ok(Value::Reference(Reference::Name(number))),
+    }
+}

@@ -1,0 +1,2 @@
+pub mod MachineText
+pub mod Words

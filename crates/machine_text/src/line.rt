@@ -1,0 +1,164 @@
+//! One line of the machine text.
+ghost use Rattle.std.specs.Prelude.{◌≡◌, ◌≤◌, ◌+◌, IfOk, nat_le, nat_lt, option_map, length};
+ghost use Rattle.std.specs.List.{list_all};
+ghost use Rattle.ar_space.specs.Outcome.{Answers, seen};
+ghost use Rattle.machine_text.specs.MachineText.{last_of, placed, configured, root, text, is_text, keyed, line};
+
+use crate::address_space::AddressSpace;
+use crate::draft::Draft;
+use crate::osi_texts::OsiTexts;
+use crate::words::{Words, bad, cut};
+use ar_space::{Refusal, Sparse};
+use std::alloc::Global;
+
+/// How many bytes an `osi` text may have.
+const MAX_TEXT: usize = 255;
+/// How many `osi` texts there may be.
+const MAX_TEXTS: usize = 64;
+
+/// `A bytes..`
+#[tactic(auto, using(ar_space::specs::Outcome::answering), unfolding(crate::specs::MachineText::placed))]
+fn placed(
+    alloc: Global,
+    n: usize,
+    in_space: AddressSpace,
+    space: &mut Sparse,
+    words: &mut Words<'_>,
+) -> Result<(), Refusal>
+    ensures { Answers (seen (λ _. space.new) result) (placed n in_space space.old words.old) }
+{
+    let last = in_space.last();
+    let first = words.number(n, last)?;
+    let bytes = words.bytes(alloc, n)?;
+    if !fits(first, bytes.len(), last) {
+        return Err(bad(n));
+    }
+    in_space.put_all(space, first, bytes.as_slice())?;
+    Ok(())
+}
+
+/// Whether none of `count` bytes from a place on stands past the last place.
+fn fits(first: u64, count: usize, last: u64) -> bool
+    requires { first ≤ last }
+    ensures { result ≡ nat_le (first + count) (last + 1) }
+{
+    count == 0 || count as u64 - 1 <= last - first
+}
+
+/// `S B D F R bytes..`
+#[tactic(auto, using(ar_space::specs::Outcome::answering), unfolding(crate::specs::MachineText::configured))]
+fn configured(
+    alloc: Global,
+    n: usize,
+    space: &mut Sparse,
+    words: &mut Words<'_>,
+) -> Result<(), Refusal>
+    ensures { Answers (seen (λ _. space.new) result) (configured n space.old words.old) }
+{
+    let seg = words.number(n, 0xFFFF)? as u16;
+    let bus = words.number(n, 0xFF)? as u8;
+    let dev = words.number(n, 0x1F)? as u8;
+    let func = words.number(n, 7)? as u8;
+    let function = AddressSpace::Pci {
+        seg,
+        bus,
+        dev,
+        func,
+    };
+    placed(alloc, n, function, space, words)
+}
+
+/// `A`, once.
+#[tactic(auto, using(ar_space::specs::Outcome::answering), unfolding(crate::specs::MachineText::root))]
+fn root(n: usize, rsdp: Option<u64>, words: &mut Words<'_>) -> Result<Option<u64>, Refusal>
+    ensures { Answers result (root n rsdp words.old) }
+{
+    let address = words.number(n, u64::MAX)?;
+    words.ended(n)?;
+    if rsdp.is_some() {
+        return Err(bad(n));
+    }
+    Ok(Some(address))
+}
+
+/// The rest of the line, as a text that `_OSI` knows.
+#[tactic(auto, using(ar_space::specs::Outcome::answering), unfolding(crate::specs::MachineText::text))]
+fn text(alloc: Global, n: usize, osi: &mut OsiTexts, tail: Option<&[u8]>) -> Result<(), Refusal>
+    ensures { Answers (seen (λ _. osi.new) result) (text n osi.old (option_map (λ s. s.now) tail.entry)) }
+{
+    match tail {
+        Some(text) => {
+            if is_text(text) && osi.len() < MAX_TEXTS {
+                osi.push(alloc, text)?;
+                Ok(())
+            } else {
+                Err(bad(n))
+            }
+        }
+        None => Err(bad(n)),
+    }
+}
+
+fn is_ascii(text: &[u8]) -> bool
+    ensures { result ≡ list_all (λ b. nat_lt b 128) text.now }
+{
+    text.iter().all(|b| *b < 128)
+}
+
+/// 1 to 255 bytes of ASCII.
+fn is_text(text: &[u8]) -> bool
+    ensures { result ≡ is_text text.now }
+{
+    !text.is_empty() && text.len() <= MAX_TEXT && is_ascii(text)
+}
+
+/// A line by its first word.
+#[tactic(auto, using(ar_space::specs::Outcome::answering), unfolding(crate::specs::MachineText::keyed))]
+fn keyed(
+    alloc: Global,
+    n: usize,
+    key: &[u8],
+    tail: Option<&[u8]>,
+    draft: &mut Draft,
+) -> Result<(), Refusal>
+    ensures { Answers (seen (λ _. draft.new) result) (keyed n key.now (option_map (λ s. s.now) tail.entry) draft.old) }
+{
+    if key == b"mem".as_slice() {
+        placed(
+            alloc,
+            n,
+            AddressSpace::Memory,
+            &mut draft.space,
+            &mut Words::new(tail),
+        )
+    } else if key == b"io".as_slice() {
+        placed(
+            alloc,
+            n,
+            AddressSpace::Io,
+            &mut draft.space,
+            &mut Words::new(tail),
+        )
+    } else if key == b"pci".as_slice() {
+        configured(alloc, n, &mut draft.space, &mut Words::new(tail))
+    } else if key == b"osi".as_slice() {
+        text(alloc, n, &mut draft.osi, tail)
+    } else if key == b"rsdp".as_slice() {
+        draft.rsdp = root(n, draft.rsdp, &mut Words::new(tail))?;
+        Ok(())
+    } else {
+        Err(bad(n))
+    }
+}
+
+/// The n-th line.
+#[tactic(auto, using(ar_space::specs::Outcome::answering), unfolding(crate::specs::MachineText::line))]
+pub(crate) fn line(alloc: Global, n: usize, text: &[u8], draft: &mut Draft) -> Result<(), Refusal>
+    ensures { Answers (seen (λ _. draft.new) result) (line n text.now draft.old) }
+{
+    if text.is_empty() || text[0] == b'#' {
+        return Ok(());
+    }
+    let (key, tail) = cut(text);
+    keyed(alloc, n, key, tail, draft)
+}

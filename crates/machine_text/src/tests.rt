@@ -1,0 +1,4 @@
+mod built_tables;
+mod hostile;
+mod lines;
+mod small_machine;
