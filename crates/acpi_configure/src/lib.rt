@@ -9,4 +9,3 @@ mod names;
 mod pin_lines;
 
 pub use configuring::configure_dry;
-

@@ -14,4 +14,3 @@ pub use gathered::Gathered;
 pub use gathering::gather;
 pub use links::PresentLink;
 pub use resources::{get_current_resources, get_possible_resources};
-

@@ -214,7 +214,11 @@ fn the_madt_and_the_space(rt: HostRuntime) -> Result<(), Fail> {
 }
 
 /// Why a machine is not initialized, and the mode that it has then.
-fn initialized(machine: &mut Machine<Sparse>, alloc: Global, mode: Mode) -> (Option<Refusal>, Mode) {
+fn initialized(
+    machine: &mut Machine<Sparse>,
+    alloc: Global,
+    mode: Mode,
+) -> (Option<Refusal>, Mode) {
     let refusal = machine.initialize(alloc, mode).err();
     (refusal, machine.mode())
 }

@@ -49,7 +49,15 @@ pub(crate) fn eval_name<S: Space>(
 {
     let datum = inner(term, 1)?;
     let value = eval_value(alloc, world, budget, scope, depth, datum)?;
-    eval_declaring(alloc, world, *budget, scope, depth, term, NamedObject::Data(value))
+    eval_declaring(
+        alloc,
+        world,
+        *budget,
+        scope,
+        depth,
+        term,
+        NamedObject::Data(value),
+    )
 }
 
 #[tactic(auto, using(crate::specs::Steps::evaluating), unfolding(aml_meaning::specs::Evaluation::alias_rule))]

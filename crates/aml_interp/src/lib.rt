@@ -8,7 +8,6 @@ mod loading;
 mod operands;
 mod outward;
 mod terms;
-
 #[cfg(test)]
 mod tests;
 

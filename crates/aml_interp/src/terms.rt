@@ -73,7 +73,16 @@ fn eval_code<S: Space>(
 {
     match term.code() {
         TermCode::Opcode(opcode) => {
-            eval_kind(alloc, world, budget, scope, depth, term, opcode, kind_of(opcode))
+            eval_kind(
+                alloc,
+                world,
+                budget,
+                scope,
+                depth,
+                term,
+                opcode,
+                kind_of(opcode),
+            )
         }
         TermCode::MethodInvocation => eval_name_value(alloc, world, *budget, scope, term),
         TermCode::Name => Err(Refusal::Name(NameFault::BadName)),
@@ -109,26 +118,78 @@ fn eval_kind<S: Space>(
         TermKind::VarPackage => eval_var_package(alloc, world, budget, scope, depth, term),
         TermKind::Scope => eval_scope(alloc, world, budget, scope, depth, term),
         TermKind::Device => {
-            eval_new_scope(alloc, world, budget, scope, depth, term, NamedObject::Device, 1)
+            eval_new_scope(
+                alloc,
+                world,
+                budget,
+                scope,
+                depth,
+                term,
+                NamedObject::Device,
+                1,
+            )
         }
         TermKind::Processor => {
-            eval_new_scope(alloc, world, budget, scope, depth, term, NamedObject::Processor, 4)
+            eval_new_scope(
+                alloc,
+                world,
+                budget,
+                scope,
+                depth,
+                term,
+                NamedObject::Processor,
+                4,
+            )
         }
         TermKind::PowerResource => {
-            eval_new_scope(alloc, world, budget, scope, depth, term, NamedObject::PowerResource, 3)
+            eval_new_scope(
+                alloc,
+                world,
+                budget,
+                scope,
+                depth,
+                term,
+                NamedObject::PowerResource,
+                3,
+            )
         }
         TermKind::ThermalZone => {
-            eval_new_scope(alloc, world, budget, scope, depth, term, NamedObject::ThermalZone, 1)
+            eval_new_scope(
+                alloc,
+                world,
+                budget,
+                scope,
+                depth,
+                term,
+                NamedObject::ThermalZone,
+                1,
+            )
         }
         TermKind::Name => eval_name(alloc, world, budget, scope, depth, term),
         TermKind::Alias => eval_alias(alloc, world, *budget, scope, depth, term),
         TermKind::External => Ok(Flow::Next),
         TermKind::Method => eval_method(alloc, world, *budget, scope, depth, term),
         TermKind::Mutex => {
-            eval_declaring(alloc, world, *budget, scope, depth, term, NamedObject::Mutex(0))
+            eval_declaring(
+                alloc,
+                world,
+                *budget,
+                scope,
+                depth,
+                term,
+                NamedObject::Mutex(0),
+            )
         }
         TermKind::Event => {
-            eval_declaring(alloc, world, *budget, scope, depth, term, NamedObject::Event)
+            eval_declaring(
+                alloc,
+                world,
+                *budget,
+                scope,
+                depth,
+                term,
+                NamedObject::Event,
+            )
         }
         TermKind::Unsupported => Err(unsupported(opcode)),
     }

@@ -7,7 +7,6 @@ use Rattle.aml_objects.specs.declared.object.Element.{Element}
 use Rattle.aml_objects.specs.declared.object.Element.TheVariants.{Value}
 use Rattle.aml_meaning.specs.Evaluation.{filled}
 
-
 one_more : (n m : ℕ) → m < n → n - m ≡ suc (n - (m + 1))
 one_more n m h = omega arith
 

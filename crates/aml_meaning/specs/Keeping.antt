@@ -76,9 +76,11 @@ entry n o = record { number = n; object = o }
 
 leaves_declared : {S : Type 0} (path : List Seg) (o : NamedObject) → Leaves {S = S} (on_names (declared path o))
 unfolding on_names declared
-leaves_declared path o = record { leaves = λ w q h. declared_by (contains_key w.names.map (above path)) (contains_key w.names.map path) (w.names.next == 2 ^ 64 - 1)
-    (Err (refusal.Namespace Exists), w.names) (Err (refusal.Evaluation ObjectLimit), w.names) (Ok w.names.next, record { map = insert w.names.map path (entry w.names.next o); next = w.names.next + 1 })
-    w.names q (refusal.Namespace NotFound) h h (inserted w.names.map path q (entry w.names.next o) h) h }
+leaves_declared path o = record {
+  leaves = λ w q h. declared_by (contains_key w.names.map (above path)) (contains_key w.names.map path) (w.names.next == 2 ^ 64 - 1)
+      (Err (refusal.Namespace Exists), w.names) (Err (refusal.Evaluation ObjectLimit), w.names) (Ok w.names.next, record { map = insert w.names.map path (entry w.names.next o); next = w.names.next + 1 })
+      w.names q (refusal.Namespace NotFound) h h (inserted w.names.map path q (entry w.names.next o) h) h;
+}
 
 leaves_outside : {S : Type 0} (module_level : Bool) (path : List Seg) → Leaves {S = S} (not_in_method module_level path)
 unfolding not_in_method

@@ -55,7 +55,12 @@ impl<S> World<S> {
     {
         let length = body.as_slice().len();
         let table = self.keep(body)?;
-        self.new_name(alloc, module_level, path, method_in(arguments, table, length))
+        self.new_name(
+            alloc,
+            module_level,
+            path,
+            method_in(arguments, table, length),
+        )
     }
 
     /// Keeps the AML in which the body of a control method stands, and gives its number.
@@ -69,12 +74,7 @@ impl<S> World<S> {
     }
 
     #[tactic(auto, unfolding(crate::specs::Declaring::not_in_method))]
-    fn not_in_method(
-        &self,
-        alloc: Global,
-        module_level: bool,
-        path: &Path,
-    ) -> Result<(), Refusal>
+    fn not_in_method(&self, alloc: Global, module_level: bool, path: &Path) -> Result<(), Refusal>
         ensures { Does result self.now (not_in_method module_level path.now) self.now }
     {
         if !module_level {

@@ -53,7 +53,9 @@ impl<S> World<S> {
     {
         match object {
             NamedObject::Data(value) => Ok(NameUse::Value(*value)),
-            NamedObject::FieldUnit(_) => Err(Refusal::Evaluation(EvaluationFault::Unsupported(0x5B81))),
+            NamedObject::FieldUnit(_) => Err(Refusal::Evaluation(EvaluationFault::Unsupported(
+                0x5B81,
+            ))),
             NamedObject::BufferField(_) => {
                 Err(Refusal::Evaluation(EvaluationFault::Unsupported(0x5B13)))
             }
@@ -61,12 +63,7 @@ impl<S> World<S> {
         }
     }
 
-    fn path_found(
-        &self,
-        alloc: Global,
-        name: &NameString,
-        scope: &Path,
-    ) -> Result<NameUse, Refusal>
+    fn path_found(&self, alloc: Global, name: &NameString, scope: &Path) -> Result<NameUse, Refusal>
         ensures { Answers result (seen uses.Path (seen (λ f. f.0) (found self.now.names.map scope.now name.now))) }
     {
         match self.names.locate(scope, name) {

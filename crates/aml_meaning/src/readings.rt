@@ -38,12 +38,7 @@ impl<S> World<S> {
 
     /// The path of what a name finds from a scope; refused as `Names::locate` refuses it.
     #[tactic(auto, unfolding(crate::specs::Readings::path_found))]
-    pub fn locate(
-        &self,
-        alloc: Global,
-        scope: &Path,
-        name: &NameString,
-    ) -> Result<Path, Refusal>
+    pub fn locate(&self, alloc: Global, scope: &Path, name: &NameString) -> Result<Path, Refusal>
         ensures { Does result self.now (path_found scope.now name.now) self.now }
     {
         match self.names.locate(scope, name) {

@@ -23,8 +23,9 @@ terms::eval_list-returns-then-not-goes_on-clause-means g t c =
 
 pub terms::eval_list-items-preserved : goal.terms::eval_list-items-preserved
 terms::eval_list-items-preserved g t c = (
-    let d = c.items.invariant.0 in let e = c.eval_term.ensures.spent in omega arith,
-    same_true _ _ _ (same_ok _ _ (same_item meaning c.args.scope.now c.args.depth _ c.items.invariant.1 (c.next.ensures ∙ ap (first_of part_tree part_list) c.in-Some.is)) c.in_ok-flow-in-Some.ensures.means) (sym c.goes_on.ensures ∙ c.if-not-goes_on.false))
+  let d = c.items.invariant.0 in let e = c.eval_term.ensures.spent in omega arith,
+  same_true _ _ _ (same_ok _ _ (same_item meaning c.args.scope.now c.args.depth _ c.items.invariant.1 (c.next.ensures ∙ ap (first_of part_tree part_list) c.in-Some.is)) c.in_ok-flow-in-Some.ensures.means) (sym c.goes_on.ensures ∙ c.if-not-goes_on.false),
+)
 
 pub data::eval_elements-returns-in-None-clause-means : goal.data::eval_elements-returns-in-None-clause-means
 data::eval_elements-returns-in-None-clause-means g t c = elements_end meaning c.args.scope.now c.args.depth c.items.left _ c.items.elements c.items.invariant.1 (c.next.ensures ∙ ap (first_of part_tree part_list) c.in-None.is)
@@ -36,9 +37,10 @@ data::eval_elements-returns-in_err-element-in-Some-clause-means g t c =
 
 pub data::eval_elements-items-preserved : goal.data::eval_elements-items-preserved
 data::eval_elements-items-preserved g t c = (
-    let d = c.items.invariant.0 in let e = c.eval_element.ensures.spent in omega arith,
-    rw (c.in_ok-push-in-Some.ensures.ok) (same_ok _ _ (same_element meaning c.args.scope.now c.args.depth c.items.left _ c.items.elements c.items.invariant.1 (c.next.ensures ∙ ap (first_of part_tree part_list) c.in-Some.is) (omega arith))
-    (coded meaning _ _ c.args.scope.now c.args.depth (part_tree c.in-Some.item.first) c.code-code.ensures c.in_ok-element-in-Some.ensures.means)))
+  let d = c.items.invariant.0 in let e = c.eval_element.ensures.spent in omega arith,
+  rw (c.in_ok-push-in-Some.ensures.ok) (same_ok _ _ (same_element meaning c.args.scope.now c.args.depth c.items.left _ c.items.elements c.items.invariant.1 (c.next.ensures ∙ ap (first_of part_tree part_list) c.in-Some.is) (omega arith))
+      (coded meaning _ _ c.args.scope.now c.args.depth (part_tree c.in-Some.item.first) c.code-code.ensures c.in_ok-element-in-Some.ensures.means)),
+)
 
 pub data::eval_elements-returns-clause-means : goal.data::eval_elements-returns-clause-means
 data::eval_elements-returns-clause-means g t c = elements_full meaning c.args.scope.now c.args.depth c.items.left _ c.items.elements c.items.invariant.1 (omega arith)

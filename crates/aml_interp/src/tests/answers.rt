@@ -98,18 +98,24 @@ const DEVICE_ONE: u64 = 0x1FFFF;
 fn names_link(alloc: Global, entry: &Vec<Datum>) -> Result<bool, Refusal> {
     let link = Path::from_text(alloc, b"\\_SB_.LNKA")?;
     match entry.as_slice() {
-        [Datum::Integer(address), Datum::Integer(pin), Datum::Named(path), Datum::Integer(index)] => {
-            Ok(*address == DEVICE_ONE && *pin == 0 && *path == link && *index == 0)
-        }
+        [
+            Datum::Integer(address),
+            Datum::Integer(pin),
+            Datum::Named(path),
+            Datum::Integer(index),
+        ] => { Ok(*address == DEVICE_ONE && *pin == 0 && *path == link && *index == 0) }
         _ => Ok(false),
     }
 }
 
 fn is_wired_to_ten(entry: &Vec<Datum>) -> bool {
     match entry.as_slice() {
-        [Datum::Integer(address), Datum::Integer(pin), Datum::Integer(source), Datum::Integer(index)] => {
-            *address == DEVICE_ONE && *pin == 2 && *source == 0 && *index == 10
-        }
+        [
+            Datum::Integer(address),
+            Datum::Integer(pin),
+            Datum::Integer(source),
+            Datum::Integer(index),
+        ] => { *address == DEVICE_ONE && *pin == 2 && *source == 0 && *index == 10 }
         _ => false,
     }
 }
@@ -118,7 +124,11 @@ fn is_wired_to_ten(entry: &Vec<Datum>) -> bool {
 fn an_alias_of_an_alias(rt: HostRuntime) -> Result<(), Fail> {
     let alloc = rt.alloc();
     let mut world = loaded(alloc, aml::ALIAS_TO_ALIAS)?;
-    for path in [b"\\INT_".as_slice(), b"\\AL1_".as_slice(), b"\\AL2_".as_slice()] {
+    for path in [
+        b"\\INT_".as_slice(),
+        b"\\AL1_".as_slice(),
+        b"\\AL2_".as_slice(),
+    ] {
         match answer_of(alloc, &mut world, path, 0)? {
             Datum::Integer(number) => assert_eq!(rt; number, 1),
             _ => assert!(rt; false),
@@ -161,7 +171,10 @@ fn values_and_what_is_left_of_the_steps(rt: HostRuntime) -> Result<(), Fail> {
     let mut arguments = Vec::new(alloc);
     arguments.push(Value::Integer(1))?;
     let refused = eval(alloc, &mut world, &path, arguments, 7);
-    assert_eq!(rt; refused.err(), Some(Refusal::Evaluation(EvaluationFault::ArityChanged)));
+    assert_eq!(rt;
+        refused.err(),
+        Some(Refusal::Evaluation(EvaluationFault::ArityChanged))
+    );
     Ok(())
 }
 
@@ -172,12 +185,18 @@ fn names_that_answer_nothing(rt: HostRuntime) -> Result<(), Fail> {
     let missing = answer_of(alloc, &mut world, b"\\NONE", 9).err();
     assert_eq!(rt; missing, Some(Refusal::Namespace(NamespaceFault::NotFound)));
     let few = answer_of(alloc, &mut world, b"\\MTH_", 9).err();
-    assert_eq!(rt; few, Some(Refusal::Evaluation(EvaluationFault::ArityChanged)));
+    assert_eq!(rt;
+        few,
+        Some(Refusal::Evaluation(EvaluationFault::ArityChanged))
+    );
     let mut arguments = Vec::new(alloc);
     arguments.push(Datum::Integer(1))?;
     let path = Path::from_text(alloc, b"\\MTH_")?;
     let method = crate::answer(alloc, &mut world, &path, arguments, 9).err();
-    assert_eq!(rt; method, Some(Refusal::Evaluation(EvaluationFault::Unsupported(0x14))));
+    assert_eq!(rt;
+        method,
+        Some(Refusal::Evaluation(EvaluationFault::Unsupported(0x14)))
+    );
     Ok(())
 }
 
@@ -205,6 +224,9 @@ fn packages_nest_64_deep(rt: HostRuntime) -> Result<(), Fail> {
     let mut world = chain(alloc, 65)?;
     assert!(rt; answer_of(alloc, &mut world, b"\\P63_", STEPS).is_ok());
     let refused = answer_of(alloc, &mut world, b"\\P64_", STEPS).err();
-    assert_eq!(rt; refused, Some(Refusal::Evaluation(EvaluationFault::ObjectLimit)));
+    assert_eq!(rt;
+        refused,
+        Some(Refusal::Evaluation(EvaluationFault::ObjectLimit))
+    );
     Ok(())
 }

@@ -50,10 +50,16 @@ fn each_term_costs_a_step(rt: HostRuntime) -> Result<(), Fail> {
     for steps in 0..EXAMPLE_STEPS {
         let mut world = fresh(alloc, IntegerWidth::Bits64)?;
         let outcome = load(alloc, &mut world, aml::EXAMPLE, steps);
-        assert_eq!(rt; outcome, Err(Refusal::Evaluation(EvaluationFault::OutOfSteps)));
+        assert_eq!(rt;
+            outcome,
+            Err(Refusal::Evaluation(EvaluationFault::OutOfSteps))
+        );
     }
     let mut world = fresh(alloc, IntegerWidth::Bits64)?;
-    assert_eq!(rt; load(alloc, &mut world, aml::EXAMPLE, EXAMPLE_STEPS), Ok(()));
+    assert_eq!(rt;
+        load(alloc, &mut world, aml::EXAMPLE, EXAMPLE_STEPS),
+        Ok(())
+    );
     Ok(())
 }
 
