@@ -5,7 +5,7 @@ use Rattle.std.proofs.lemmas.List.{append_assoc, append-nil, length-append}
 use Rattle.aml_objects.specs.declared.value.Value.TheVariants.{Uninitialized}
 use Rattle.aml_objects.specs.declared.object.Element.{Element}
 use Rattle.aml_objects.specs.declared.object.Element.TheVariants.{Value}
-use Rattle.aml_meaning.specs.Evaluation.{filled}
+use Rattle.aml_meaning.specs.NewObjects.{filled}
 
 one_more : (n m : ℕ) → m < n → n - m ≡ suc (n - (m + 1))
 one_more n m h = omega arith

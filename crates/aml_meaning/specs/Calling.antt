@@ -1,5 +1,5 @@
 -- Loading a table, and what an object answers (ACPI 6.5, 5.4 and 5.5).
-use Rattle.std.specs.Prelude.{◌≡◌, ℕ, List, [], ◌++◌, length, replicate, Ok, Err, refl}
+use Rattle.std.specs.Prelude.{◌≡◌, ℕ, List, [], ◌∷◌, ◌++◌, length, replicate, slice_index_or, Ok, Err, refl}
 use Rattle.ar_space.specs.Outcome.{Outcome, NotMemory, seen}
 use Rattle.ar_space.specs.Change.{Change, Does, give, settle, ◌>>=◌, ◌>>◌}
 use Rattle.aml_path.specs.declared.segment.Seg.{Seg}
@@ -10,13 +10,19 @@ use Rattle.aml_terms.specs.Grammar.{table_reading}
 use Rattle.aml_objects.specs.declared.value.Value.{Value}
 use Rattle.aml_objects.specs.declared.value.Value.TheVariants as value
 use Rattle.aml_namespace.specs.Namespace.{mutexes_released}
+use Rattle.aml_objects.specs.declared.entry.BodyPlace.{BodyPlace}
 use Rattle.aml_meaning.specs.declared.flow.Flow.{Flow}
+use Rattle.aml_meaning.specs.declared.flow.Flow.TheVariants as flow
+use Rattle.aml_meaning.specs.declared.invocation.Invocation.{Invocation}
+use Rattle.aml_meaning.specs.declared.invocation.Invocation.TheVariants as invocation
 use Rattle.aml_meaning.specs.Given.{Given}
 use Rattle.aml_meaning.specs.State.{State}
 use Rattle.aml_meaning.specs.Run.{Run, lift, running}
 use Rattle.aml_meaning.specs.Slots.{opened, closed}
-use Rattle.aml_meaning.specs.Readings.{absolute, read_object}
-use Rattle.aml_meaning.specs.Evaluation.{in_turn}
+use Rattle.aml_meaning.specs.Readings.{absolute}
+use Rattle.aml_meaning.specs.Tasks.{in_turn}
+use Rattle.aml_meaning.specs.Invocations.{invocation_found, invoked}
+use Rattle.aml_meaning.specs.Taking.{all_taken}
 use Rattle.aml_meaning.specs.Meaning.{meaning}
 use Rattle.aml_meaning.specs.Outward.{outward}
 
@@ -63,9 +69,35 @@ table_run steps bytes = do
 unfoldable pub loaded : {S : Type 0} → List ℕ → ℕ → Change (State S) (Unit {0})
 loaded bytes steps = ending (table_run steps bytes)
 
--- the value of the object at a path, with as many arguments
-unfoldable pub called : {S : Type 0} → List Seg → ℕ → Run S Value
-called p count = lift (read_object [] (absolute p) count)
+-- the slots of a frame for these arguments
+abbrev pub frame_arguments : List Value → List Value
+frame_arguments vs = slice_index_or vs 0 value.Uninitialized ∷ slice_index_or vs 1 value.Uninitialized ∷ slice_index_or vs 2 value.Uninitialized ∷ slice_index_or vs 3 value.Uninitialized
+    ∷ slice_index_or vs 4 value.Uninitialized ∷ slice_index_or vs 5 value.Uninitialized ∷ slice_index_or vs 6 value.Uninitialized ∷ []
+
+-- what a call leaves, as a value
+abbrev pub value_of_call : Flow → Value
+value_of_call (flow.Value v) = v
+value_of_call flow.Next = value.Uninitialized
+value_of_call flow.Break = value.Uninitialized
+value_of_call flow.Continue = value.Uninitialized
+value_of_call (flow.Return v) = value.Uninitialized
+
+-- the outermost call of a control method
+unfoldable pub method_value : {S : Type 0} → List Seg → BodyPlace → List Value → Run S Value
+method_value p body arguments = do
+  f ← invoked meaning 0 p body (frame_arguments arguments)
+  give (value_of_call f)
+
+-- a name that is no control method is read
+abbrev pub value_of : {S : Type 0} → Invocation → List Value → Run S Value
+value_of (invocation.Value v) arguments = give v
+value_of (invocation.Method p body) arguments = method_value p body arguments
+
+-- the value of the object at a path, with these arguments
+unfoldable pub called : {S : Type 0} → List Seg → List Value → Run S Value
+called p arguments = do
+  i ← lift (invocation_found [] (absolute p) (length arguments))
+  value_of i arguments
 
 -- a value, and the steps that are left
 abbrev pub with_rest : Outcome Value → ℕ → Outcome (Value × ℕ)
@@ -75,16 +107,18 @@ unfoldable pub counted : {S : Type 0} → ℕ → Run S Value → Change (State 
 counted steps m w = (with_rest (m (w, steps)).0 (m (w, steps)).1.1, (m (w, steps)).1.0)
 
 unfoldable pub evaluated : {S : Type 0} → List Seg → List Value → ℕ → Change (State S) (Value × ℕ)
-evaluated p arguments steps = counted steps (called p (length arguments))
+evaluated p arguments steps = counted steps (called p arguments)
 
--- the value that is handed out, in the same steps
-unfoldable pub handed_out : {S : Type 0} → List Seg → ℕ → Run S Given
-handed_out p count = do
-  v ← called p count
+-- the value that is handed out, in the same steps; arguments are taken once they are as many as are wanted
+unfoldable pub handed_out : {S : Type 0} → List Seg → List Given → Run S Given
+handed_out p arguments = do
+  i ← lift (invocation_found [] (absolute p) (length arguments))
+  vs ← lift (all_taken arguments [])
+  v ← value_of i vs
   outward v
 
 unfoldable pub answered : {S : Type 0} → List Seg → List Given → ℕ → Change (State S) Given
-answered p arguments steps = ending (with_steps steps (handed_out p (length arguments)))
+answered p arguments steps = ending (with_steps steps (handed_out p arguments))
 
 -- ---- however the evaluation ended
 

@@ -87,35 +87,3 @@ unfoldable pub arguments_found : {S : Type 0} → List Seg → Name → Change (
 arguments_found scope n = do
   e ← entry_found scope n
   give (arguments_of e.object)
-
--- what a name is read as: its value where it has one, else a reference to it; control methods and fields are not evaluated yet
-abbrev pub value_of_object : ℕ → NamedObject → Outcome Value
-value_of_object n (object.Data v) = Ok v
-value_of_object n (object.Method m) = Err (refusal.Evaluation (Unsupported 0x14))
-value_of_object n (object.FieldUnit u) = Err (refusal.Evaluation (Unsupported 0x5B81))
-value_of_object n (object.BufferField b) = Err (refusal.Evaluation (Unsupported 0x5B13))
-value_of_object n object.Scope = Ok (value.Reference (reference.Name n))
-value_of_object n object.Device = Ok (value.Reference (reference.Name n))
-value_of_object n object.Processor = Ok (value.Reference (reference.Name n))
-value_of_object n object.PowerResource = Ok (value.Reference (reference.Name n))
-value_of_object n object.ThermalZone = Ok (value.Reference (reference.Name n))
-value_of_object n (object.OperationRegion r) = Ok (value.Reference (reference.Name n))
-value_of_object n (object.Mutex c) = Ok (value.Reference (reference.Name n))
-value_of_object n object.Event = Ok (value.Reference (reference.Name n))
-value_of_object n (object.Alias p) = Ok (value.Reference (reference.Name n))
-
-abbrev pub value_of_entry : Entry → Outcome Value
-value_of_entry e = value_of_object e.number e.object
-
--- what the name is read as that finds an object
-unfoldable pub value_found : {S : Type 0} → List Seg → Name → Change (State S) Value
-value_found scope n = do
-  e ← entry_found scope n
-  settle (value_of_entry e)
-
--- the same, where the name stands with so many arguments
-unfoldable pub read_object : {S : Type 0} → List Seg → Name → ℕ → Change (State S) Value
-read_object scope n count = do
-  wanted ← arguments_found scope n
-  many ← settle (as_many wanted count)
-  value_found scope n

@@ -2,7 +2,8 @@
 ghost use Rattle.std.specs.Prelude.{◌≡◌};
 ghost use Rattle.ar_space.specs.Outcome.{Answers};
 ghost use Rattle.aml_meaning.specs.Readings.{value_in};
-ghost use Rattle.aml_meaning.specs.Evaluation.{goes_on};
+ghost use Rattle.aml_meaning.specs.Tasks.{goes_on};
+ghost use Rattle.aml_meaning.specs.Invocations.{returned_by};
 
 use aml_objects::Value;
 use ar_space::{EvaluationFault, Refusal};
@@ -46,6 +47,19 @@ impl Flow {
             Flow::Break => false,
             Flow::Continue => false,
             Flow::Return(_) => false,
+        }
+    }
+
+    /// What a call leaves whose body leaves this: the value of Return, or none.
+    pub fn of_call(self) -> Flow
+        ensures { result ≡ returned_by self }
+    {
+        match self {
+            Flow::Return(value) => Flow::Value(value),
+            Flow::Value(_) => Flow::Next,
+            Flow::Next => Flow::Next,
+            Flow::Break => Flow::Next,
+            Flow::Continue => Flow::Next,
         }
     }
 }

@@ -4,7 +4,7 @@ ghost use Rattle.ar_space.specs.Change.{Does};
 ghost use Rattle.ar_space.specs.Outcome.{Answers};
 ghost use Rattle.aml_objects.specs.Objects.{make_buffer};
 ghost use Rattle.aml_meaning.specs.State.{on_objects};
-ghost use Rattle.aml_meaning.specs.Evaluation.{within, sized, filled, new_buffer, new_package};
+ghost use Rattle.aml_meaning.specs.NewObjects.{within, sized, filled, new_buffer, new_package};
 
 use crate::world::World;
 use aml_objects::{Element, Elements, Octets, Value};
@@ -19,7 +19,7 @@ const MAX_ELEMENTS: u64 = 65_535;
 impl<S> World<S> {
     /// A new buffer as long as its size says, or as its bytes where they are more, zero-filled; refused as `ObjectLimit`
     /// where it is too long, or one object too many.
-    #[tactic(auto, using(ar_space::specs::Change::changing), unfolding(crate::specs::Evaluation::new_buffer))]
+    #[tactic(auto, using(ar_space::specs::Change::changing), unfolding(crate::specs::NewObjects::new_buffer))]
     pub fn new_buffer(&mut self, size: u64, bytes: Octets) -> Result<Value, Refusal>
         ensures { Does result self.new (new_buffer size bytes) self.old }
     {
@@ -41,7 +41,7 @@ impl<S> World<S> {
         self.within(MAX_ELEMENTS, count)
     }
 
-    #[tactic(auto, unfolding(crate::specs::Evaluation::within))]
+    #[tactic(auto, unfolding(crate::specs::NewObjects::within))]
     fn within(&self, most: u64, count: u64) -> Result<(), Refusal>
         ensures { Does result self.now (within most count) self.now }
     {
@@ -53,7 +53,7 @@ impl<S> World<S> {
 
     /// A new package with as many elements as it says; those that are left out are uninitialized. Refused as `ObjectLimit`
     /// where it has too many, or one object too many.
-    #[tactic(auto, unfolding(crate::specs::Evaluation::new_package))]
+    #[tactic(auto, unfolding(crate::specs::NewObjects::new_package))]
     pub fn new_package(&mut self, count: usize, elements: Elements) -> Result<Value, Refusal>
         ensures { Does result self.new (new_package count elements) self.old }
     {

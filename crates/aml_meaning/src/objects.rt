@@ -3,11 +3,11 @@ ghost use Rattle.std.specs.Prelude.{◌≡◌};
 ghost use Rattle.ar_space.specs.Change.{Does};
 ghost use Rattle.aml_objects.specs.Contents.{content_of, content_in};
 ghost use Rattle.aml_objects.specs.Copies.{copied};
-ghost use Rattle.aml_objects.specs.Objects.{make_string, make_buffer, make_package, string_at, buffer_at, elements_at, write_buffer, write_string};
+ghost use Rattle.aml_objects.specs.Objects.{make_string, make_buffer, make_package, string_at, buffer_at, elements_at, element_at, byte_at, write_buffer, write_string, write_element, write_byte};
 ghost use Rattle.aml_meaning.specs.State.{on_objects};
 
 use crate::world::World;
-use aml_objects::{Content, Elements, Octets, Value};
+use aml_objects::{Content, Element, Elements, Octets, Value};
 use ar_space::Refusal;
 use std::alloc::Global;
 
@@ -91,5 +91,37 @@ impl<S> World<S> {
         ensures { Does result self.new (on_objects (write_string object bytes)) self.old }
     {
         self.heap.write_string(object, bytes)
+    }
+
+    /// An element of a package; past its end, and of another kind of object, this is refused as `DeadReference`.
+    #[tactic(auto, using(crate::specs::Lifted::parts))]
+    pub(crate) fn element(&self, alloc: Global, object: usize, index: usize) -> Result<Element, Refusal>
+        ensures { Does result self.now (on_objects (element_at object index)) self.now }
+    {
+        self.heap.element(alloc, object, index)
+    }
+
+    /// A byte of a string or a buffer; past its end this is refused as `DeadReference`.
+    #[tactic(auto, using(crate::specs::Lifted::parts))]
+    pub(crate) fn byte(&self, object: usize, index: usize) -> Result<u8, Refusal>
+        ensures { Does result self.now (on_objects (byte_at object index)) self.now }
+    {
+        self.heap.byte(object, index)
+    }
+
+    /// Puts an element in place of one of a package.
+    #[tactic(auto, using(crate::specs::Lifted::parts))]
+    pub(crate) fn write_element(&mut self, object: usize, index: usize, element: Element) -> Result<(), Refusal>
+        ensures { Does result self.new (on_objects (write_element object index element)) self.old }
+    {
+        self.heap.write_element(object, index, element)
+    }
+
+    /// Puts a byte in place of one of a string or a buffer.
+    #[tactic(auto, using(crate::specs::Lifted::parts))]
+    pub(crate) fn write_byte(&mut self, object: usize, index: usize, byte: u8) -> Result<(), Refusal>
+        ensures { Does result self.new (on_objects (write_byte object index byte)) self.old }
+    {
+        self.heap.write_byte(object, index, byte)
     }
 }

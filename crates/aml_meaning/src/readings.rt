@@ -2,11 +2,11 @@
 ghost use Rattle.std.specs.Prelude.{◌≡◌};
 ghost use Rattle.ar_space.specs.Change.{Does};
 ghost use Rattle.ar_space.specs.Outcome.{Answers, seen};
-ghost use Rattle.aml_meaning.specs.Readings.{integer_kept, integer_in, entry_found, path_found, is_scope, scope_or_not, scope_found, arguments_of, arguments_found, as_many, value_of_entry, value_of_object, value_found, read_object};
+ghost use Rattle.aml_meaning.specs.Readings.{integer_kept, integer_in, entry_found, path_found, is_scope, scope_or_not, scope_found, arguments_of, arguments_found, as_many};
 
 use crate::world::World;
 use aml_convert::{to_integer, truncate_integer};
-use aml_objects::{Entry, NamedObject, Reference, Value};
+use aml_objects::{Entry, NamedObject, Value};
 use aml_path::{NameString, Path};
 use ar_space::{EvaluationFault, Refusal, ValueFault};
 use std::alloc::Global;
@@ -72,26 +72,6 @@ impl<S> World<S> {
         let entry = self.entry(scope, name)?;
         Ok(arguments_of(&entry.object))
     }
-
-    /// What a name is read as: the value that it holds, or else a reference to it (ACPI 6.5, 19.3.5). A control method or a
-    /// field, which are not evaluated, is refused as `Unsupported`, and a name that finds nothing as `Names::lookup` refuses it.
-    #[tactic(auto, using(ar_space::specs::Change::changing), unfolding(crate::specs::Readings::value_found))]
-    pub fn value_found(&self, scope: &Path, name: &NameString) -> Result<Value, Refusal>
-        ensures { Does result self.now (value_found scope.now name.now) self.now }
-    {
-        let entry = self.entry(scope, name)?;
-        value_of(entry)
-    }
-
-    /// What a name is read as that stands with so many arguments; another count than it takes is refused as `ArityChanged`.
-    #[tactic(auto, using(ar_space::specs::Change::changing), unfolding(crate::specs::Readings::read_object))]
-    pub fn read(&self, scope: &Path, name: &NameString, count: usize) -> Result<Value, Refusal>
-        ensures { Does result self.now (read_object scope.now name.now count) self.now }
-    {
-        let wanted = self.arguments(scope, name)?;
-        as_many(wanted, count)?;
-        self.value_found(scope, name)
-    }
 }
 
 fn scope_or_not(object: &NamedObject) -> Result<(), Refusal>
@@ -118,7 +98,7 @@ fn is_scope(object: &NamedObject) -> bool
     }
 }
 
-fn as_many(wanted: u8, count: usize) -> Result<(), Refusal>
+pub(crate) fn as_many(wanted: u8, count: usize) -> Result<(), Refusal>
     ensures { Answers result (as_many wanted count) }
 {
     if usize::from(wanted) == count {
@@ -135,25 +115,5 @@ fn arguments_of(object: &NamedObject) -> u8
     match object {
         NamedObject::Method(method) => method.arguments,
         _ => 0,
-    }
-}
-
-fn value_of(entry: &Entry) -> Result<Value, Refusal>
-    ensures { Answers result (value_of_entry entry.now) }
-{
-    value_of_object(entry.number, &entry.object)
-}
-
-fn value_of_object(number: u64, object: &NamedObject) -> Result<Value, Refusal>
-    ensures { Answers result (value_of_object number object.now) }
-{
-    match object {
-        NamedObject::Data(value) => Ok(*value),
-        NamedObject::Method(_) => Err(Refusal::Evaluation(EvaluationFault::Unsupported(0x14))),
-        NamedObject::FieldUnit(_) => Err(Refusal::Evaluation(EvaluationFault::Unsupported(0x5B81))),
-        NamedObject::BufferField(_) => {
-            Err(Refusal::Evaluation(EvaluationFault::Unsupported(0x5B13)))
-        }
-        _ => Ok(Value::Reference(Reference::Name(number))),
     }
 }

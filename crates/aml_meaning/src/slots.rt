@@ -1,7 +1,7 @@
 //! Frames, and the slots in them (ACPI 6.5, 5.5.2.3 and 19.6: ArgX, LocalX).
-ghost use Rattle.std.specs.Prelude.{◌≡◌, ◌==◌, ◌<◌, length, position, slice_index_or, IfSome};
+ghost use Rattle.std.specs.Prelude.{◌≡◌, ◌==◌, ◌<◌, length, position, slice_index_or, slice_set, IfSome};
 ghost use Rattle.ar_space.specs.Change.{Does};
-ghost use Rattle.aml_meaning.specs.Slots.{slot_in, slot_of, opened, closed};
+ghost use Rattle.aml_meaning.specs.Slots.{slot_in, with_slot, slot_of, opened, closed};
 ghost use Rattle.aml_objects.specs.declared.value.Value.TheVariants.{Uninitialized};
 
 use crate::frame::Frame;
@@ -10,7 +10,7 @@ use aml_objects::{Slot, Value};
 use ar_space::{EvaluationFault, Refusal};
 
 /// The place of the frame with a number.
-fn place_of(frames: &[Frame], number: u64) -> Option<usize>
+pub(crate) fn place_of(frames: &[Frame], number: u64) -> Option<usize>
     ensures place { result ≡ position (λ f. f.number == number) frames.now }
     ensures within { IfSome result (λ i. i < length frames.now) }
 {
@@ -19,7 +19,7 @@ fn place_of(frames: &[Frame], number: u64) -> Option<usize>
 
 impl Frame {
     /// What a slot holds.
-    fn slot(&self, slot: Slot) -> Value
+    pub(crate) fn slot(&self, slot: Slot) -> Value
         ensures { result ≡ slot_in self.now slot }
     {
         match slot {
@@ -27,14 +27,37 @@ impl Frame {
             Slot::Argument(index) => value_at(&self.arguments, index),
         }
     }
+
+    /// The frame with another value in a slot.
+    pub(crate) fn with_slot(self, slot: Slot, value: Value) -> Frame
+        ensures { result ≡ with_slot self slot value }
+    {
+        let mut frame = self;
+        match slot {
+            Slot::Local(index) => put(&mut frame.locals, index, value),
+            Slot::Argument(index) => put(&mut frame.arguments, index, value),
+        }
+        frame
+    }
 }
 
-fn value_at(values: &[Value], index: u8) -> Value
+/// The value at an index, and no value past the end.
+pub(crate) fn value_at(values: &[Value], index: u8) -> Value
     ensures { result ≡ slice_index_or values.now index Uninitialized }
 {
     match values.get(usize::from(index)) {
         None => Value::Uninitialized,
         Some(value) => *value,
+    }
+}
+
+/// Puts a value at an index; past the end nothing changes.
+fn put(values: &mut [Value], index: u8, value: Value)
+    ensures { values.new ≡ slice_set values.old index value }
+{
+    let index = usize::from(index);
+    if index < values.len() {
+        values[index] = value;
     }
 }
 

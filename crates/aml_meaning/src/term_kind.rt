@@ -1,12 +1,22 @@
 //! Which rule a term is evaluated by.
-ghost use Rattle.std.specs.Prelude.{◌≡◌};
-ghost use Rattle.aml_meaning.specs.Terms.{kind_of};
 
-use aml_terms::Opcode;
+use aml_convert::{BinaryOperator, Comparison, LogicalOperator, UnaryOperator};
+use aml_objects::Slot;
 
 /// Which rule a term is evaluated by.
 #[derive(Clone, Copy, Debug, PartialEq, Eq)]
 pub enum TermKind {
+    Data(DataKind),
+    Declaration(DeclarationKind),
+    Operator(OperatorKind),
+    Statement(StatementKind),
+    /// A term that is not evaluated.
+    Unsupported,
+}
+
+/// Data that a term forms.
+#[derive(Clone, Copy, Debug, PartialEq, Eq)]
+pub enum DataKind {
     /// An integer that the opcode says, taken as wide as integers are.
     Constant(u64),
     /// An integer that follows the opcode.
@@ -15,6 +25,11 @@ pub enum TermKind {
     Buffer,
     Package,
     VarPackage,
+}
+
+/// What a term declares, and Scope.
+#[derive(Clone, Copy, Debug, PartialEq, Eq)]
+pub enum DeclarationKind {
     Scope,
     Device,
     Processor,
@@ -26,37 +41,74 @@ pub enum TermKind {
     Method,
     Mutex,
     Event,
-    /// A term that is not evaluated.
-    Unsupported,
 }
 
-/// The rule by which a term with an opcode is evaluated.
-pub fn kind_of(opcode: Opcode) -> TermKind
-    ensures { result ≡ kind_of opcode }
-{
-    match opcode {
-        Opcode::Zero => TermKind::Constant(0),
-        Opcode::One => TermKind::Constant(1),
-        Opcode::Ones => TermKind::Constant(u64::MAX),
-        Opcode::Revision => TermKind::Constant(2),
-        Opcode::BytePrefix | Opcode::WordPrefix | Opcode::DWordPrefix | Opcode::QWordPrefix => {
-            TermKind::Integer
-        }
-        Opcode::StringPrefix => TermKind::String,
-        Opcode::Buffer => TermKind::Buffer,
-        Opcode::Package => TermKind::Package,
-        Opcode::VarPackage => TermKind::VarPackage,
-        Opcode::Scope => TermKind::Scope,
-        Opcode::Device => TermKind::Device,
-        Opcode::Processor => TermKind::Processor,
-        Opcode::PowerRes => TermKind::PowerResource,
-        Opcode::ThermalZone => TermKind::ThermalZone,
-        Opcode::Name => TermKind::Name,
-        Opcode::Alias => TermKind::Alias,
-        Opcode::External => TermKind::External,
-        Opcode::Method => TermKind::Method,
-        Opcode::Mutex => TermKind::Mutex,
-        Opcode::Event => TermKind::Event,
-        _ => TermKind::Unsupported,
-    }
+/// A term that has a value.
+#[derive(Clone, Copy, Debug, PartialEq, Eq)]
+pub enum OperatorKind {
+    /// A local or an argument, where a value stands.
+    Slot(Slot),
+    Store,
+    CopyObject,
+    /// Two operands and a target.
+    Two(TwoOperands),
+    Divide,
+    /// An operand and a target.
+    One(OneOperand),
+    /// Two operands, and no target.
+    Test(Test),
+    LogicalNot,
+    /// Increment and Decrement.
+    Count(Count),
+    SizeOf,
+    ObjectType,
+    Acquire,
+}
+
+/// A term with two operands and a target.
+#[derive(Clone, Copy, Debug, PartialEq, Eq)]
+pub enum TwoOperands {
+    Integers(BinaryOperator),
+    Concatenate,
+    ConcatenateResources,
+}
+
+/// A term with an operand and a target.
+#[derive(Clone, Copy, Debug, PartialEq, Eq)]
+pub enum OneOperand {
+    Integer(UnaryOperator),
+    ToBuffer,
+    ToInteger,
+}
+
+/// A term with two operands, whose value is True or False.
+#[derive(Clone, Copy, Debug, PartialEq, Eq)]
+pub enum Test {
+    Logical(LogicalOperator),
+    Compare(Comparison),
+}
+
+/// Which way a term counts.
+#[derive(Clone, Copy, Debug, PartialEq, Eq)]
+pub enum Count {
+    Up,
+    Down,
+}
+
+/// A term without a value.
+#[derive(Clone, Copy, Debug, PartialEq, Eq)]
+pub enum StatementKind {
+    If,
+    Else,
+    While,
+    Break,
+    Continue,
+    /// Noop and BreakPoint.
+    Noop,
+    Return,
+    Release,
+    Notify,
+    /// Stall and Sleep.
+    Pause,
+    Fatal,
 }

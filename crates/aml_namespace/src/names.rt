@@ -57,8 +57,8 @@ impl Names {
         Ok(Names { entries, next: 1 })
     }
 
-    /// The entries, in path order.
-    pub(crate) fn entries(&self) -> &[(Path, Entry)]
+    /// All names with what stands there, in path order. It takes no memory.
+    pub fn entries(&self) -> &[(Path, Entry)]
         ensures { map.entries self.now.map ≡ result.now }
     {
         &self.entries

@@ -19,7 +19,7 @@ impl Names {
     pub fn lookup(&self, scope: &Path, name: &NameString) -> Result<&Entry, Refusal>
         ensures { seen (λ entry. entry.now) result ≡ seen (λ f. f.1) (found self.now.map scope.now name.now) }
     {
-        match self.found(scope, name) {
+        match self.find(scope, name) {
             Ok(found) => Ok(&found.1),
             Err(refusal) => Err(refusal),
         }
@@ -29,14 +29,14 @@ impl Names {
     pub fn locate(&self, scope: &Path, name: &NameString) -> Result<&Path, Refusal>
         ensures { seen (λ path. path.now) result ≡ seen (λ f. f.0) (found self.now.map scope.now name.now) }
     {
-        match self.found(scope, name) {
+        match self.find(scope, name) {
             Ok(found) => Ok(&found.0),
             Err(refusal) => Err(refusal),
         }
     }
 
-    /// What a name finds from a scope, with its path.
-    fn found(&self, scope: &Path, name: &NameString) -> Result<&(Path, Entry), Refusal>
+    /// What a name finds from a scope, with its path; refused as `lookup` refuses it. It takes no memory.
+    pub fn find(&self, scope: &Path, name: &NameString) -> Result<&(Path, Entry), Refusal>
         ensures { seen (λ f. f.now) result ≡ found self.now.map scope.now name.now }
     {
         match self.first_found(scope, name) {

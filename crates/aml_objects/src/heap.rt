@@ -58,15 +58,15 @@ impl Heap {
         self.objects.is_empty()
     }
 
-    /// The object with a number.
-    pub(crate) fn object(&self, number: usize) -> Option<&Object>
+    /// The object with a number. It takes no memory.
+    pub fn object(&self, number: usize) -> Option<&Object>
         ensures { option_map (λ o. o.now) result ≡ slice_get self.now number }
     {
         self.objects.get(number)
     }
 
-    /// Takes back the objects from a number on, which a refused copy made.
-    pub(crate) fn truncate(&mut self, count: usize)
+    /// Takes back the objects from a number on, which something that was refused made. It takes no memory.
+    pub fn truncate(&mut self, count: usize)
         ensures { self.new ≡ take count self.old }
     {
         self.objects.truncate(count);

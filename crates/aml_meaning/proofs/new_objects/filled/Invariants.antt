@@ -1,5 +1,5 @@
 use Rattle.std.proofs.Common.{◌≡◌, ◌-◌, length}
-use Rattle.aml_meaning.specs.Evaluation.{filled}
+use Rattle.aml_meaning.specs.NewObjects.{filled}
 use Rattle.aml_meaning.proofs.new_objects.filled.Given as goal
 
 abbrev pub invariant-loop-all : goal.invariant-loop-all

@@ -1,0 +1,158 @@
+-- Names where values stand, and calls of control methods (ACPI 6.5, 5.5.2 and 20.2.5: MethodInvocation).
+use Rattle.std.specs.Prelude.{ℕ, ◌+◌, List, [], ◌∷◌, ◌++◌, take, drop, length, map, replicate, true, false, Option, Some, None, Ok, Err, slice_get, slice_set, nat_lt, if◌then◌else◌}
+use Rattle.std.specs.List.{filter}
+use Rattle.std.specs.FinMap.{get, entries}
+use Rattle.ar_space.specs.declared.refusal.Refusal.TheVariants as refusal
+use Rattle.ar_space.specs.declared.refusal.EvaluationFault.TheVariants.{CallDepth, Unsupported}
+use Rattle.ar_space.specs.Outcome.{Outcome, seen}
+use Rattle.ar_space.specs.Change.{Change, give, settle, ◌>>=◌}
+use Rattle.aml_path.specs.declared.segment.Seg.{Seg}
+use Rattle.aml_path.specs.Paths.{Name}
+use Rattle.aml_terms.specs.declared.arities.Arity.{Arity}
+use Rattle.aml_terms.specs.Grammar.{reading}
+use Rattle.aml_terms.specs.Shape.{trees_of}
+use Rattle.aml_terms.specs.Tree.{Tree, Trees, no_trees, tree}
+use Rattle.aml_terms.specs.Apart.{operand_of, name_of}
+use Rattle.aml_objects.specs.declared.value.Value.{Value}
+use Rattle.aml_objects.specs.declared.value.Value.TheVariants as value
+use Rattle.aml_objects.specs.declared.value.Reference.TheVariants as reference
+use Rattle.aml_objects.specs.declared.entry.Entry.{Entry}
+use Rattle.aml_objects.specs.declared.entry.NamedObject.{NamedObject}
+use Rattle.aml_objects.specs.declared.entry.NamedObject.TheVariants as object
+use Rattle.aml_objects.specs.declared.entry.MethodBody.{MethodBody}
+use Rattle.aml_objects.specs.declared.entry.MethodBody.TheVariants.{Osi, Aml}
+use Rattle.aml_objects.specs.declared.entry.BodyPlace.{BodyPlace}
+use Rattle.aml_namespace.specs.Namespace.{Map, without_below}
+use Rattle.aml_namespace.specs.Search.{found}
+use Rattle.aml_meaning.specs.declared.flow.Flow.{Flow}
+use Rattle.aml_meaning.specs.declared.flow.Flow.TheVariants as flow
+use Rattle.aml_meaning.specs.declared.invocation.Invocation.{Invocation}
+use Rattle.aml_meaning.specs.declared.invocation.Invocation.TheVariants as invocation
+use Rattle.aml_meaning.specs.State.{State}
+use Rattle.aml_meaning.specs.Run.{Run, lift}
+use Rattle.aml_meaning.specs.Slots.{opened, closed}
+use Rattle.aml_meaning.specs.Terms.{list_of, count_of}
+use Rattle.aml_meaning.specs.Readings.{arguments_found, as_many}
+use Rattle.aml_meaning.specs.Tasks.{Task, operand_value, in_turn}
+
+-- ---- what a name is where a value stands
+
+abbrev pub invocation_of_body : List Seg → MethodBody → Outcome Invocation
+invocation_of_body p Osi = Err (refusal.Evaluation (Unsupported 0x14))
+invocation_of_body p (Aml body) = Ok (invocation.Method p body)
+
+-- the value that it holds, a call of a control method, or else a reference to it; fields are not read yet
+abbrev pub invocation_of_object : List Seg → ℕ → NamedObject → Outcome Invocation
+invocation_of_object p n (object.Data v) = Ok (invocation.Value v)
+invocation_of_object p n (object.Method m) = invocation_of_body p m.body
+invocation_of_object p n (object.FieldUnit u) = Err (refusal.Evaluation (Unsupported 0x5B81))
+invocation_of_object p n (object.BufferField b) = Err (refusal.Evaluation (Unsupported 0x5B13))
+invocation_of_object p n object.Scope = Ok (invocation.Value (value.Reference (reference.Name n)))
+invocation_of_object p n object.Device = Ok (invocation.Value (value.Reference (reference.Name n)))
+invocation_of_object p n object.Processor = Ok (invocation.Value (value.Reference (reference.Name n)))
+invocation_of_object p n object.PowerResource = Ok (invocation.Value (value.Reference (reference.Name n)))
+invocation_of_object p n object.ThermalZone = Ok (invocation.Value (value.Reference (reference.Name n)))
+invocation_of_object p n (object.OperationRegion r) = Ok (invocation.Value (value.Reference (reference.Name n)))
+invocation_of_object p n (object.Mutex c) = Ok (invocation.Value (value.Reference (reference.Name n)))
+invocation_of_object p n object.Event = Ok (invocation.Value (value.Reference (reference.Name n)))
+invocation_of_object p n (object.Alias q) = Ok (invocation.Value (value.Reference (reference.Name n)))
+
+abbrev pub invocation_of : Outcome (List Seg × Entry) → Outcome Invocation
+invocation_of (Ok e) = invocation_of_object e.0 e.1.number e.1.object
+invocation_of (Err e) = Err e
+
+unfoldable pub named_use : {S : Type 0} → List Seg → Name → Change (State S) Invocation
+named_use scope n w = (invocation_of (found w.names.map scope n), w)
+
+-- the same, where the name stands with so many arguments
+unfoldable pub invocation_found : {S : Type 0} → List Seg → Name → ℕ → Change (State S) Invocation
+invocation_found scope n count = do
+  wanted ← arguments_found scope n
+  many ← settle (as_many wanted count)
+  named_use scope n
+
+-- ---- the body of a control method, which is read at each call
+
+-- how many arguments what stands at a path takes; an alias takes those of its target
+abbrev pub count_of_object : NamedObject → ℕ
+count_of_object (object.Method m) = m.arguments
+count_of_object _ = 0
+
+abbrev pub count_of_entry : Option Entry → ℕ
+count_of_entry None = 0
+count_of_entry (Some e) = count_of_object e.object
+
+abbrev pub count_through : Map → NamedObject → ℕ
+count_through names (object.Alias p) = count_of_entry (get names p)
+count_through names (object.Method m) = m.arguments
+count_through names _ = 0
+
+abbrev pub arity_of_entry : Map → List Seg × Entry → Arity
+arity_of_entry names e = record { path = e.0; count = count_through names e.1.object; external = false }
+
+-- in a body the names that stand take arguments, and those of which an External told
+abbrev pub body_arities : {S : Type 0} → State S → List Arity
+body_arities w = map (arity_of_entry w.names.map) (entries w.names.map) ++ filter (λ a. a.external) w.arities
+
+abbrev pub body_in : BodyPlace → Option (List ℕ) → List ℕ
+body_in body None = []
+body_in body (Some bytes) = take body.length (drop body.offset bytes)
+
+unfoldable pub body_terms : {S : Type 0} → List Seg → BodyPlace → Change (State S) Trees
+body_terms p body w = (seen trees_of (reading (body_in body (slice_get w.tables body.table)) p true (body_arities w)), w)
+
+-- ---- calls
+
+-- at most so many calls one inside another
+abbrev pub shallow : ℕ → Outcome (Unit {0})
+shallow depth = if nat_lt depth 32 then Ok tt else Err (refusal.Evaluation CallDepth)
+
+-- however the body ended, its frame ends, and the names below the control method are removed
+abbrev pub left : {S : Type 0} → List Seg → State S → State S
+left p w = record (closed w) { names = without_below p w.names }
+
+-- the value of a call
+abbrev pub returned_by : Flow → Flow
+returned_by (flow.Return v) = flow.Value v
+returned_by (flow.Value v) = flow.Next
+returned_by flow.Next = flow.Next
+returned_by flow.Break = flow.Next
+returned_by flow.Continue = flow.Next
+
+unfoldable pub leaving : {S : Type 0} → List Seg → Run S Flow → Run S Flow
+leaving p m s = (seen returned_by (m s).0, (left p (m s).1.0, (m s).1.1))
+
+-- no argument yet
+abbrev pub no_arguments : List Value
+no_arguments = replicate 7 value.Uninitialized
+
+module _ {S : Type 0} (ev : Task → Run S Flow) where
+  -- arguments from a place on, beside those before
+  unfoldable pub arguments_in_turn : List Seg → ℕ → Trees → ℕ → List Value → Run S (List Value)
+  arguments_in_turn scope depth no_trees i done = give done
+  arguments_in_turn scope depth (tree t ts) i done = do
+    v ← operand_value ev scope depth t
+    arguments_in_turn scope depth ts (i + 1) (slice_set done i v)
+
+  unfoldable pub invoked : ℕ → List Seg → BodyPlace → List Value → Run S Flow
+  invoked depth p body arguments = do
+    few ← settle (shallow depth)
+    ts ← lift (body_terms p body)
+    number ← lift (opened arguments)
+    leaving p (in_turn ev p (depth + 1) ts)
+
+  unfoldable pub call_rule : List Seg → ℕ → Trees → List Seg → BodyPlace → Run S Flow
+  call_rule scope depth ts p body = do
+    arguments ← arguments_in_turn scope depth ts 0 no_arguments
+    invoked depth p body arguments
+
+  abbrev pub invocation_rule : List Seg → ℕ → Trees → Invocation → Run S Flow
+  invocation_rule scope depth ts (invocation.Value v) = give (flow.Value v)
+  invocation_rule scope depth ts (invocation.Method p body) = call_rule scope depth ts p body
+
+  unfoldable pub name_value : List Seg → ℕ → Tree → Run S Flow
+  name_value scope depth t = do
+    n ← settle (name_of (operand_of t 0))
+    ts ← settle (list_of (operand_of t 1))
+    i ← lift (invocation_found scope n (count_of ts))
+    invocation_rule scope depth ts i

@@ -1,0 +1,58 @@
+-- Mutexes (ACPI 6.5, 19.6: Acquire, Release): how often each is acquired is counted; nothing else holds one.
+use Rattle.std.specs.Prelude.{ℕ, ◌+◌, ◌-◌, ◌^◌, ◌==◌, List, Option, Some, None, Ok, Err, if◌then◌else◌}
+use Rattle.std.specs.FinMap.{get}
+use Rattle.ar_space.specs.declared.refusal.Refusal.TheVariants as refusal
+use Rattle.ar_space.specs.declared.refusal.EvaluationFault.TheVariants.{NotAcquired, ObjectLimit}
+use Rattle.ar_space.specs.declared.refusal.NamespaceFault.TheVariants.{NotFound}
+use Rattle.ar_space.specs.declared.refusal.ValueFault.TheVariants.{WrongType}
+use Rattle.ar_space.specs.Outcome.{Outcome}
+use Rattle.ar_space.specs.Change.{Change, stop, settle, ◌>>=◌}
+use Rattle.aml_path.specs.declared.segment.Seg.{Seg}
+use Rattle.aml_objects.specs.declared.entry.Entry.{Entry}
+use Rattle.aml_objects.specs.declared.entry.NamedObject.{NamedObject}
+use Rattle.aml_objects.specs.declared.entry.NamedObject.TheVariants as object
+use Rattle.aml_namespace.specs.Namespace.{replaced}
+use Rattle.aml_meaning.specs.declared.place.Place.{Place}
+use Rattle.aml_meaning.specs.declared.place.Place.TheVariants as place
+use Rattle.aml_meaning.specs.State.{State, on_names}
+
+-- how often a mutex is acquired
+abbrev pub count_of_object : NamedObject → Outcome ℕ
+count_of_object (object.Mutex n) = Ok n
+count_of_object _ = Err (refusal.Value WrongType)
+
+abbrev pub count_in : Option Entry → Outcome ℕ
+count_in None = Err (refusal.Namespace NotFound)
+count_in (Some e) = count_of_object e.object
+
+unfoldable pub mutex_count : {S : Type 0} → List Seg → Change (State S) ℕ
+mutex_count p w = (count_in (get w.names.map p), w)
+
+abbrev pub once_more : ℕ → Outcome ℕ
+once_more n = if n == 2 ^ 64 - 1 then Err (refusal.Evaluation ObjectLimit) else Ok (n + 1)
+
+abbrev pub once_less : ℕ → Outcome ℕ
+once_less n = if n == 0 then Err (refusal.Evaluation NotAcquired) else Ok (n - 1)
+
+unfoldable pub acquired : {S : Type 0} → List Seg → Change (State S) (Unit {0})
+acquired p = do
+  n ← mutex_count p
+  m ← settle (once_more n)
+  on_names (replaced p (object.Mutex m))
+
+unfoldable pub given_back : {S : Type 0} → List Seg → Change (State S) (Unit {0})
+given_back p = do
+  n ← mutex_count p
+  m ← settle (once_less n)
+  on_names (replaced p (object.Mutex m))
+
+-- a mutex is given by its own name
+abbrev pub acquired_at : {S : Type 0} → Place → Change (State S) (Unit {0})
+acquired_at place.Nowhere = stop (refusal.Value WrongType)
+acquired_at (place.Slot slot) = stop (refusal.Value WrongType)
+acquired_at (place.Name p) = acquired p
+
+abbrev pub given_back_at : {S : Type 0} → Place → Change (State S) (Unit {0})
+given_back_at place.Nowhere = stop (refusal.Value WrongType)
+given_back_at (place.Slot slot) = stop (refusal.Value WrongType)
+given_back_at (place.Name p) = given_back p

@@ -1,0 +1,200 @@
+-- Operators over the values of a world (ACPI 6.5, 19.6).
+use Rattle.std.specs.Prelude.{ℕ, ◌+◌, ◌-◌, ◌^◌, List, length, Bool, Option, Some, None, Ok, Err, slice_get}
+use Rattle.std.specs.declared.cmp.Ordering.{Ordering}
+use Rattle.ar_space.specs.declared.integer_width.IntegerWidth.{IntegerWidth}
+use Rattle.ar_space.specs.declared.refusal.Refusal.TheVariants as refusal
+use Rattle.ar_space.specs.declared.refusal.EvaluationFault.TheVariants.{NoValue}
+use Rattle.ar_space.specs.declared.refusal.ValueFault.TheVariants.{WrongType}
+use Rattle.ar_space.specs.Outcome.{Outcome, seen}
+use Rattle.ar_space.specs.Change.{Change, give, stop, settle, ◌>>=◌}
+use Rattle.aml_objects.specs.Contents.{Content, content_in}
+use Rattle.aml_objects.specs.Contents as held
+use Rattle.aml_objects.specs.Objects.{Objects, make_string, make_buffer, string_at, buffer_at, elements_at}
+use Rattle.aml_objects.specs.declared.object.Object.{Object}
+use Rattle.aml_objects.specs.declared.object.Object.TheVariants as object
+use Rattle.aml_objects.specs.declared.value.Value.{Value}
+use Rattle.aml_objects.specs.declared.value.Value.TheVariants as value
+use Rattle.aml_convert.specs.Integers.{bits_of, truncated, truth}
+use Rattle.aml_convert.specs.Conversions.{explicit_integer_of, to_buffer_of, compared}
+use Rattle.aml_convert.specs.Operators.{result_of, unary_result_of, logical_result_of, negated, holds, divided}
+use Rattle.aml_convert.specs.Concatenation.{concatenated, resources_joined}
+use Rattle.aml_convert.specs.declared.operators.BinaryOperator.{BinaryOperator}
+use Rattle.aml_convert.specs.declared.operators.BinaryOperator.TheVariants.{Subtract}
+use Rattle.aml_convert.specs.declared.operators.UnaryOperator.{UnaryOperator}
+use Rattle.aml_convert.specs.declared.operators.Division.{Division}
+use Rattle.aml_convert.specs.declared.logic.LogicalOperator.{LogicalOperator}
+use Rattle.aml_convert.specs.declared.logic.Comparison.{Comparison}
+use Rattle.aml_meaning.specs.declared.object_type.ObjectType.{ObjectType}
+use Rattle.aml_meaning.specs.declared.object_type.ObjectType.TheVariants as types
+use Rattle.aml_meaning.specs.declared.object_type.Referent.{Referent}
+use Rattle.aml_meaning.specs.declared.object_type.Referent.TheVariants as referent
+use Rattle.aml_meaning.specs.State.{State, on_objects}
+use Rattle.aml_meaning.specs.Readings.{integer_in}
+
+abbrev pub as_integer : Outcome ℕ → Outcome Value
+as_integer x = seen value.Integer x
+
+-- ---- integers
+
+unfoldable pub integers_operated : {S : Type 0} → BinaryOperator → ℕ → ℕ → Change (State S) Value
+integers_operated op x y w = (as_integer (result_of op w.width x y), w)
+
+unfoldable pub operated : {S : Type 0} → BinaryOperator → Value → Value → Change (State S) Value
+operated op a b = do
+  x ← integer_in a
+  y ← integer_in b
+  integers_operated op x y
+
+unfoldable pub divided_in : {S : Type 0} → Value → Value → Change (State S) Division
+divided_in a b = do
+  x ← integer_in a
+  y ← integer_in b
+  settle (divided x y)
+
+unfoldable pub integer_operated : {S : Type 0} → UnaryOperator → ℕ → Change (State S) Value
+integer_operated op x w = (Ok (value.Integer (unary_result_of op w.width x)), w)
+
+unfoldable pub operated_on_one : {S : Type 0} → UnaryOperator → Value → Change (State S) Value
+operated_on_one op a = do
+  x ← integer_in a
+  integer_operated op x
+
+unfoldable pub integers_tested : {S : Type 0} → LogicalOperator → ℕ → ℕ → Change (State S) Value
+integers_tested op x y w = (Ok (value.Integer (logical_result_of op w.width x y)), w)
+
+unfoldable pub operated_logically : {S : Type 0} → LogicalOperator → Value → Value → Change (State S) Value
+operated_logically op a b = do
+  x ← integer_in a
+  y ← integer_in b
+  integers_tested op x y
+
+unfoldable pub integer_turned : {S : Type 0} → ℕ → Change (State S) Value
+integer_turned x w = (Ok (value.Integer (negated w.width x)), w)
+
+unfoldable pub turned : {S : Type 0} → Value → Change (State S) Value
+turned a = do
+  x ← integer_in a
+  integer_turned x
+
+unfoldable pub next_integer : {S : Type 0} → ℕ → Change (State S) Value
+next_integer x w = (Ok (value.Integer (truncated w.width (x + 1))), w)
+
+-- the next integer, and the one before
+unfoldable pub incremented : {S : Type 0} → Value → Change (State S) Value
+incremented a = do
+  x ← integer_in a
+  next_integer x
+
+unfoldable pub integer_before : {S : Type 0} → ℕ → Change (State S) Value
+integer_before x w = (as_integer (result_of Subtract w.width x 1), w)
+
+unfoldable pub decremented : {S : Type 0} → Value → Change (State S) Value
+decremented a = do
+  x ← integer_in a
+  integer_before x
+
+-- ---- integers, strings and buffers
+
+abbrev pub truth_of : IntegerWidth → Comparison → Outcome Ordering → Outcome Value
+truth_of width comparison order = seen (λ o. value.Integer (truth width (holds comparison o))) order
+
+unfoldable pub compared_in : {S : Type 0} → Comparison → Value → Value → Change (State S) Value
+compared_in c a b w = (truth_of w.width c (compared w.width (content_in w.objects a) (content_in w.objects b)), w)
+
+-- a new object of the contents
+abbrev pub made_of : Content → Change Objects Value
+made_of (held.Integer n) = give (value.Integer n)
+made_of (held.String bytes) = make_string bytes
+made_of (held.Buffer bytes) = make_buffer bytes
+made_of held.Other = stop (refusal.Value WrongType)
+
+unfoldable pub joined_contents : {S : Type 0} → Value → Value → Change (State S) Content
+joined_contents a b w = (concatenated w.width (content_in w.objects a) (content_in w.objects b), w)
+
+unfoldable pub joined : {S : Type 0} → Value → Value → Change (State S) Value
+joined a b = do
+  c ← joined_contents a b
+  on_objects (made_of c)
+
+unfoldable pub joined_items : {S : Type 0} → Value → Value → Change (State S) (List ℕ)
+joined_items a b w = (resources_joined (content_in w.objects a) (content_in w.objects b), w)
+
+unfoldable pub joined_resources : {S : Type 0} → Value → Value → Change (State S) Value
+joined_resources a b = do
+  bytes ← joined_items a b
+  on_objects (make_buffer bytes)
+
+-- ToInteger
+unfoldable pub to_integer_in : {S : Type 0} → Value → Change (State S) Value
+to_integer_in a w = (as_integer (explicit_integer_of w.width (content_in w.objects a)), w)
+
+-- ToBuffer: a buffer is itself
+unfoldable pub buffer_bytes : {S : Type 0} → Value → Change (State S) (List ℕ)
+buffer_bytes a w = (to_buffer_of w.width (content_in w.objects a), w)
+
+unfoldable pub new_buffer_of : {S : Type 0} → Value → Change (State S) Value
+new_buffer_of a = do
+  bytes ← buffer_bytes a
+  on_objects (make_buffer bytes)
+
+abbrev pub to_buffer_in : {S : Type 0} → Value → Change (State S) Value
+to_buffer_in (value.Buffer o) = give (value.Buffer o)
+to_buffer_in value.Uninitialized = new_buffer_of value.Uninitialized
+to_buffer_in (value.Integer n) = new_buffer_of (value.Integer n)
+to_buffer_in (value.String o) = new_buffer_of (value.String o)
+to_buffer_in (value.Package o) = new_buffer_of (value.Package o)
+to_buffer_in (value.Reference r) = new_buffer_of (value.Reference r)
+
+-- ---- SizeOf and ObjectType, of what stands at a place when references are followed
+
+-- bytes of a string or a buffer, elements of a package
+abbrev pub size_of_object : Option Object → Outcome ℕ
+size_of_object None = Err (refusal.Value WrongType)
+size_of_object (Some (object.String bytes)) = Ok (length bytes)
+size_of_object (Some (object.Buffer bytes)) = Ok (length bytes)
+size_of_object (Some (object.Package elements)) = Ok (length elements)
+
+abbrev pub size_of_value : List Object → Value → Outcome ℕ
+size_of_value objects (value.String o) = size_of_object (slice_get objects o)
+size_of_value objects (value.Buffer o) = size_of_object (slice_get objects o)
+size_of_value objects (value.Package o) = size_of_object (slice_get objects o)
+size_of_value objects value.Uninitialized = Err (refusal.Evaluation NoValue)
+size_of_value objects (value.Integer n) = Err (refusal.Value WrongType)
+size_of_value objects (value.Reference r) = Err (refusal.Value WrongType)
+
+abbrev pub size_of_referent : List Object → Referent → Outcome ℕ
+size_of_referent objects (referent.Value v) = size_of_value objects v
+size_of_referent objects (referent.Object t) = Err (refusal.Value WrongType)
+
+unfoldable pub size_in : {S : Type 0} → Referent → Change (State S) Value
+size_in r w = (as_integer (size_of_referent w.objects r), w)
+
+abbrev pub type_number : ObjectType → ℕ
+type_number types.Uninitialized = 0
+type_number types.Integer = 1
+type_number types.String = 2
+type_number types.Buffer = 3
+type_number types.Package = 4
+type_number types.FieldUnit = 5
+type_number types.Device = 6
+type_number types.Event = 7
+type_number types.Method = 8
+type_number types.Mutex = 9
+type_number types.OperationRegion = 10
+type_number types.PowerResource = 11
+type_number types.Processor = 12
+type_number types.ThermalZone = 13
+type_number types.BufferField = 14
+type_number types.DebugObject = 16
+
+abbrev pub type_of_value : Value → ObjectType
+type_of_value value.Uninitialized = types.Uninitialized
+type_of_value (value.Integer n) = types.Integer
+type_of_value (value.String o) = types.String
+type_of_value (value.Buffer o) = types.Buffer
+type_of_value (value.Package o) = types.Package
+type_of_value (value.Reference r) = types.Uninitialized
+
+abbrev pub type_of_referent : Referent → ObjectType
+type_of_referent (referent.Value v) = type_of_value v
+type_of_referent (referent.Object t) = t

@@ -1,0 +1,13 @@
+//! What a name is where a value stands.
+
+use aml_objects::{BodyPlace, Value};
+use aml_path::Path;
+
+/// What a name is where a value stands (ACPI 6.5, 19.3.5 and 20.2.5, MethodInvocation).
+#[derive(Debug, Drop)]
+pub enum Invocation {
+    /// A value: that which the name holds, or a reference to the name.
+    Value(Value),
+    /// A call of the control method at this path, with this body.
+    Method(Path, BodyPlace),
+}

@@ -1,0 +1,201 @@
+//! Names where values stand, and calls of control methods (ACPI 6.5, 5.5.2 and 20.2.5).
+ghost use Rattle.std.specs.Prelude.{◌≡◌, ◌<◌, OnOk, Ok, List, map};
+ghost use Rattle.std.specs.Prelude as list;
+ghost use Rattle.std.specs.List.{filter};
+ghost use Rattle.ar_space.specs.Change.{Does};
+ghost use Rattle.ar_space.specs.Outcome.{Answers, seen};
+ghost use Rattle.aml_terms.specs.Shape.{trees_of};
+ghost use Rattle.aml_terms.specs.View.{tree_view};
+ghost use Rattle.aml_namespace.specs.Search.{found};
+ghost use Rattle.aml_meaning.specs.Invocations.{invocation_of_body, invocation_of_object, invocation_of, named_use, invocation_found, count_of_object, count_of_entry, count_through, arity_of_entry, body_arities, body_in, body_terms, left};
+
+use crate::invocation::Invocation;
+use crate::readings::as_many;
+use crate::world::World;
+use aml_namespace::Names;
+use aml_objects::{BodyPlace, Entry, Method, MethodBody, NamedObject, Octets, Reference, Value};
+use aml_path::{NameString, Path};
+use aml_terms::{Arities, Arity, Term, parse_list};
+use ar_space::{EvaluationFault, Refusal};
+use std::alloc::Global;
+
+impl<S> World<S> {
+    /// What a name is where a value stands, with so many arguments.
+    ///
+    /// A name that holds a value is that value, a control method a call, and anything else a reference to it. Refused: a name
+    /// that isn't found as `NotFound`, another count than it takes as `ArityChanged`, and what is not evaluated, fields and
+    /// `_OSI`, as `Unsupported`.
+    #[tactic(auto, using(ar_space::specs::Change::changing), unfolding(crate::specs::Invocations::invocation_found))]
+    pub fn invocation(
+        &self,
+        alloc: Global,
+        scope: &Path,
+        name: &NameString,
+        count: usize,
+    ) -> Result<Invocation, Refusal>
+        ensures { Does result self.now (invocation_found scope.now name.now count) self.now }
+    {
+        let wanted = self.arguments(scope, name)?;
+        as_many(wanted, count)?;
+        self.named_use(alloc, scope, name)
+    }
+
+    #[tactic(auto, unfolding(crate::specs::Invocations::named_use))]
+    fn named_use(
+        &self,
+        alloc: Global,
+        scope: &Path,
+        name: &NameString,
+    ) -> Result<Invocation, Refusal>
+        ensures { Does result self.now (named_use scope.now name.now) self.now }
+    {
+        match self.names.find(scope, name) {
+            Ok(found) => use_of(alloc, found),
+            Err(refusal) => Err(refusal),
+        }
+    }
+
+    /// The terms of the body of the control method at a path, with the arguments that names take now; refused as
+    /// `parse_list` refuses them.
+    #[tactic(auto, unfolding(crate::specs::Invocations::body_terms))]
+    pub fn read_body(
+        &self,
+        alloc: Global,
+        path: &Path,
+        body: BodyPlace,
+    ) -> Result<Vec<Term>, Refusal>
+        ensures { Does (seen (λ v. trees_of (map tree_view v.items)) result) self.now (body_terms path.now body) self.now }
+    {
+        match self.body_arities(alloc) {
+            Ok(arities) => parse_list(alloc, self.body(body), path, true, &arities),
+            Err(refusal) => Err(refusal),
+        }
+    }
+
+    /// The AML of a body.
+    fn body(&self, body: BodyPlace) -> &[u8]
+        ensures { result.now ≡ body_in body (list.slice_get self.now.tables body.table) }
+    {
+        match self.tables.get(body.table) {
+            None => &[],
+            Some(bytes) => part(bytes, body.offset, body.length),
+        }
+    }
+
+    /// How many arguments the names take that stand, and those of which an External told.
+    fn body_arities(&self, alloc: Global) -> Result<Arities, Refusal>
+        ensures { Answers result (Ok (body_arities self.now)) }
+    {
+        let mut arities = arities_of(alloc, &self.names, self.names.entries())?;
+        for arity in self.arities.entries() {
+            if arity.external {
+                arities.push(copied(alloc, arity)?)?;
+            }
+        }
+        Ok(Arities::from_vec(arities))
+    }
+
+    /// The call of the control method at a path ends: its frame, and the names below it. It takes no memory.
+    pub fn leave(&mut self, path: &Path)
+        ensures { self.new ≡ left path.now self.old }
+    {
+        self.close_frame();
+        self.remove_below(path);
+    }
+}
+
+/// A part of some bytes, as far as there are any.
+fn part(bytes: &Octets, offset: usize, length: usize) -> &[u8]
+    ensures { result.now ≡ list.take length (list.drop offset bytes.now) }
+{
+    let bytes = bytes.as_slice();
+    let rest = &bytes[offset.min(bytes.len())..];
+    &rest[..length.min(rest.len())]
+}
+
+fn use_of(alloc: Global, found: &(Path, Entry)) -> Result<Invocation, Refusal>
+    ensures { Answers result (invocation_of_object found.now.0 found.now.1.number found.now.1.object) }
+{
+    match &found.1.object {
+        NamedObject::Data(value) => Ok(Invocation::Value(*value)),
+        NamedObject::Method(method) => call_of(alloc, &found.0, method.body),
+        NamedObject::FieldUnit(_) => Err(Refusal::Evaluation(EvaluationFault::Unsupported(0x5B81))),
+        NamedObject::BufferField(_) => {
+            Err(Refusal::Evaluation(EvaluationFault::Unsupported(0x5B13)))
+        }
+        _ => Ok(Invocation::Value(Value::Reference(Reference::Name(found.1.number)))),
+    }
+}
+
+fn call_of(alloc: Global, path: &Path, body: MethodBody) -> Result<Invocation, Refusal>
+    ensures { Answers result (invocation_of_body path.now body) }
+{
+    match body {
+        MethodBody::Osi => Err(Refusal::Evaluation(EvaluationFault::Unsupported(0x14))),
+        MethodBody::Aml(body) => Ok(Invocation::Method(path.copy(alloc)?, body)),
+    }
+}
+
+/// How many arguments these names take.
+fn arities_of(
+    alloc: Global,
+    names: &Names,
+    entries: &[(Path, Entry)],
+) -> Result<Vec<Arity>, Refusal>
+    ensures { Answers (seen (λ list. list.items) result) (Ok (map (arity_of_entry names.now.map) entries.now)) }
+{
+    let mut list = Vec::new(alloc);
+    for entry in entries {
+        list.push(arity_of(alloc, names, entry)?)?;
+    }
+    Ok(list)
+}
+
+fn arity_of(alloc: Global, names: &Names, entry: &(Path, Entry)) -> Result<Arity, Refusal>
+    ensures { Answers result (Ok (arity_of_entry names.now.map entry.now)) }
+{
+    Ok(Arity {
+        path: entry.0.copy(alloc)?,
+        count: count_through(names, &entry.1.object),
+        external: false,
+    })
+}
+
+fn copied(alloc: Global, arity: &Arity) -> Result<Arity, Refusal>
+    ensures { Answers result (Ok arity.now) }
+{
+    Ok(Arity {
+        path: arity.path.copy(alloc)?,
+        count: arity.count,
+        external: arity.external,
+    })
+}
+
+/// How many arguments an object takes; an alias takes those of its target.
+fn count_through(names: &Names, object: &NamedObject) -> u8
+    ensures { result ≡ count_through names.now.map object.now }
+{
+    match object {
+        NamedObject::Alias(path) => count_of_entry(names.get(path)),
+        NamedObject::Method(method) => method.arguments,
+        _ => 0,
+    }
+}
+
+fn count_of_entry(entry: Option<&Entry>) -> u8
+    ensures { result ≡ count_of_entry (list.option_map (λ e. e.now) entry.entry) }
+{
+    match entry {
+        None => 0,
+        Some(entry) => count_of_object(&entry.object),
+    }
+}
+
+fn count_of_object(object: &NamedObject) -> u8
+    ensures { result ≡ count_of_object object.now }
+{
+    match object {
+        NamedObject::Method(method) => method.arguments,
+        _ => 0,
+    }
+}

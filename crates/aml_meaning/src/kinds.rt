@@ -1,0 +1,280 @@
+//! The rule by which a term with an opcode is evaluated.
+ghost use Rattle.std.specs.Prelude.{◌≡◌};
+ghost use Rattle.aml_meaning.specs.Terms.{data_kind, declaration_kind, statement_kind, slot_kind, integer_operator, two_operands, one_operand, test_kind, other_operator, kind_of, declaration_or, statement_or, slot_or, integers_or, two_or, one_or, test_or, other_or, slot_place, place_of_opcode, place_of_code};
+
+use crate::place::Place;
+use crate::term_kind::{
+    Count, DataKind, DeclarationKind, OneOperand, OperatorKind, StatementKind, TermKind, Test,
+    TwoOperands,
+};
+use aml_convert::{BinaryOperator, Comparison, LogicalOperator, UnaryOperator};
+use aml_objects::Slot;
+use aml_terms::{Opcode, TermCode};
+
+/// Data.
+fn data_kind(opcode: Opcode) -> Option<DataKind>
+    ensures { result ≡ data_kind opcode }
+{
+    match opcode {
+        Opcode::Zero => Some(DataKind::Constant(0)),
+        Opcode::One => Some(DataKind::Constant(1)),
+        Opcode::Ones => Some(DataKind::Constant(u64::MAX)),
+        Opcode::Revision => Some(DataKind::Constant(2)),
+        Opcode::BytePrefix | Opcode::WordPrefix | Opcode::DWordPrefix | Opcode::QWordPrefix => Some(DataKind::Integer),
+        Opcode::StringPrefix => Some(DataKind::String),
+        Opcode::Buffer => Some(DataKind::Buffer),
+        Opcode::Package => Some(DataKind::Package),
+        Opcode::VarPackage => Some(DataKind::VarPackage),
+        _ => None,
+    }
+}
+
+/// Declarations, and Scope.
+fn declaration_kind(opcode: Opcode) -> Option<DeclarationKind>
+    ensures { result ≡ declaration_kind opcode }
+{
+    match opcode {
+        Opcode::Scope => Some(DeclarationKind::Scope),
+        Opcode::Device => Some(DeclarationKind::Device),
+        Opcode::Processor => Some(DeclarationKind::Processor),
+        Opcode::PowerRes => Some(DeclarationKind::PowerResource),
+        Opcode::ThermalZone => Some(DeclarationKind::ThermalZone),
+        Opcode::Name => Some(DeclarationKind::Name),
+        Opcode::Alias => Some(DeclarationKind::Alias),
+        Opcode::External => Some(DeclarationKind::External),
+        Opcode::Method => Some(DeclarationKind::Method),
+        Opcode::Mutex => Some(DeclarationKind::Mutex),
+        Opcode::Event => Some(DeclarationKind::Event),
+        _ => None,
+    }
+}
+
+/// Statements.
+fn statement_kind(opcode: Opcode) -> Option<StatementKind>
+    ensures { result ≡ statement_kind opcode }
+{
+    match opcode {
+        Opcode::If => Some(StatementKind::If),
+        Opcode::Else => Some(StatementKind::Else),
+        Opcode::While => Some(StatementKind::While),
+        Opcode::Break => Some(StatementKind::Break),
+        Opcode::Continue => Some(StatementKind::Continue),
+        Opcode::Noop | Opcode::BreakPoint => Some(StatementKind::Noop),
+        Opcode::Return => Some(StatementKind::Return),
+        Opcode::Release => Some(StatementKind::Release),
+        Opcode::Notify => Some(StatementKind::Notify),
+        Opcode::Stall | Opcode::Sleep => Some(StatementKind::Pause),
+        Opcode::Fatal => Some(StatementKind::Fatal),
+        _ => None,
+    }
+}
+
+/// Locals and arguments.
+fn slot_kind(opcode: Opcode) -> Option<Slot>
+    ensures { result ≡ slot_kind opcode }
+{
+    match opcode {
+        Opcode::Local0 => Some(Slot::Local(0)),
+        Opcode::Local1 => Some(Slot::Local(1)),
+        Opcode::Local2 => Some(Slot::Local(2)),
+        Opcode::Local3 => Some(Slot::Local(3)),
+        Opcode::Local4 => Some(Slot::Local(4)),
+        Opcode::Local5 => Some(Slot::Local(5)),
+        Opcode::Local6 => Some(Slot::Local(6)),
+        Opcode::Local7 => Some(Slot::Local(7)),
+        Opcode::Arg0 => Some(Slot::Argument(0)),
+        Opcode::Arg1 => Some(Slot::Argument(1)),
+        Opcode::Arg2 => Some(Slot::Argument(2)),
+        Opcode::Arg3 => Some(Slot::Argument(3)),
+        Opcode::Arg4 => Some(Slot::Argument(4)),
+        Opcode::Arg5 => Some(Slot::Argument(5)),
+        Opcode::Arg6 => Some(Slot::Argument(6)),
+        _ => None,
+    }
+}
+
+/// Operators on two integers.
+fn integer_operator(opcode: Opcode) -> Option<BinaryOperator>
+    ensures { result ≡ integer_operator opcode }
+{
+    match opcode {
+        Opcode::Add => Some(BinaryOperator::Add),
+        Opcode::Subtract => Some(BinaryOperator::Subtract),
+        Opcode::Multiply => Some(BinaryOperator::Multiply),
+        Opcode::Mod => Some(BinaryOperator::Mod),
+        Opcode::And => Some(BinaryOperator::And),
+        Opcode::Nand => Some(BinaryOperator::Nand),
+        Opcode::Or => Some(BinaryOperator::Or),
+        Opcode::Nor => Some(BinaryOperator::Nor),
+        Opcode::Xor => Some(BinaryOperator::Xor),
+        Opcode::ShiftLeft => Some(BinaryOperator::ShiftLeft),
+        Opcode::ShiftRight => Some(BinaryOperator::ShiftRight),
+        _ => None,
+    }
+}
+
+/// Other operators with two operands and a target.
+fn two_operands(opcode: Opcode) -> Option<TwoOperands>
+    ensures { result ≡ two_operands opcode }
+{
+    match opcode {
+        Opcode::Concat => Some(TwoOperands::Concatenate),
+        Opcode::ConcatRes => Some(TwoOperands::ConcatenateResources),
+        _ => None,
+    }
+}
+
+/// Operators with an operand and a target.
+fn one_operand(opcode: Opcode) -> Option<OneOperand>
+    ensures { result ≡ one_operand opcode }
+{
+    match opcode {
+        Opcode::Not => Some(OneOperand::Integer(UnaryOperator::Not)),
+        Opcode::FindSetLeftBit => Some(OneOperand::Integer(UnaryOperator::FindSetLeftBit)),
+        Opcode::FindSetRightBit => Some(OneOperand::Integer(UnaryOperator::FindSetRightBit)),
+        Opcode::ToBuffer => Some(OneOperand::ToBuffer),
+        Opcode::ToInteger => Some(OneOperand::ToInteger),
+        _ => None,
+    }
+}
+
+/// Comparisons, and logical operators with two operands.
+fn test_kind(opcode: Opcode) -> Option<Test>
+    ensures { result ≡ test_kind opcode }
+{
+    match opcode {
+        Opcode::LAnd => Some(Test::Logical(LogicalOperator::And)),
+        Opcode::LOr => Some(Test::Logical(LogicalOperator::Or)),
+        Opcode::LEqual => Some(Test::Compare(Comparison::Equal)),
+        Opcode::LGreater => Some(Test::Compare(Comparison::Greater)),
+        Opcode::LLess => Some(Test::Compare(Comparison::Less)),
+        _ => None,
+    }
+}
+
+/// The other terms that have a value.
+fn other_operator(opcode: Opcode) -> Option<OperatorKind>
+    ensures { result ≡ other_operator opcode }
+{
+    match opcode {
+        Opcode::Store => Some(OperatorKind::Store),
+        Opcode::CopyObject => Some(OperatorKind::CopyObject),
+        Opcode::Divide => Some(OperatorKind::Divide),
+        Opcode::LNot => Some(OperatorKind::LogicalNot),
+        Opcode::Increment => Some(OperatorKind::Count(Count::Up)),
+        Opcode::Decrement => Some(OperatorKind::Count(Count::Down)),
+        Opcode::SizeOf => Some(OperatorKind::SizeOf),
+        Opcode::ObjectType => Some(OperatorKind::ObjectType),
+        Opcode::Acquire => Some(OperatorKind::Acquire),
+        _ => None,
+    }
+}
+/// The rule by which a term with an opcode is evaluated.
+pub fn kind_of(opcode: Opcode) -> TermKind
+    ensures { result ≡ kind_of opcode }
+{
+    match data_kind(opcode) {
+        Some(kind) => TermKind::Data(kind),
+        None => declaration_or_other(opcode),
+    }
+}
+
+fn declaration_or_other(opcode: Opcode) -> TermKind
+    ensures { result ≡ declaration_or opcode (declaration_kind opcode) }
+{
+    match declaration_kind(opcode) {
+        Some(kind) => TermKind::Declaration(kind),
+        None => statement_or_other(opcode),
+    }
+}
+
+fn statement_or_other(opcode: Opcode) -> TermKind
+    ensures { result ≡ statement_or opcode (statement_kind opcode) }
+{
+    match statement_kind(opcode) {
+        Some(kind) => TermKind::Statement(kind),
+        None => slot_or_other(opcode),
+    }
+}
+
+fn slot_or_other(opcode: Opcode) -> TermKind
+    ensures { result ≡ slot_or opcode (slot_kind opcode) }
+{
+    match slot_kind(opcode) {
+        Some(slot) => TermKind::Operator(OperatorKind::Slot(slot)),
+        None => integers_or_other(opcode),
+    }
+}
+
+fn integers_or_other(opcode: Opcode) -> TermKind
+    ensures { result ≡ integers_or opcode (integer_operator opcode) }
+{
+    match integer_operator(opcode) {
+        Some(operator) => TermKind::Operator(OperatorKind::Two(TwoOperands::Integers(operator))),
+        None => two_or_other(opcode),
+    }
+}
+
+fn two_or_other(opcode: Opcode) -> TermKind
+    ensures { result ≡ two_or opcode (two_operands opcode) }
+{
+    match two_operands(opcode) {
+        Some(kind) => TermKind::Operator(OperatorKind::Two(kind)),
+        None => one_or_other(opcode),
+    }
+}
+
+fn one_or_other(opcode: Opcode) -> TermKind
+    ensures { result ≡ one_or opcode (one_operand opcode) }
+{
+    match one_operand(opcode) {
+        Some(kind) => TermKind::Operator(OperatorKind::One(kind)),
+        None => test_or_other(opcode),
+    }
+}
+
+fn test_or_other(opcode: Opcode) -> TermKind
+    ensures { result ≡ test_or opcode (test_kind opcode) }
+{
+    match test_kind(opcode) {
+        Some(kind) => TermKind::Operator(OperatorKind::Test(kind)),
+        None => other_kind(opcode),
+    }
+}
+
+fn other_kind(opcode: Opcode) -> TermKind
+    ensures { result ≡ other_or (other_operator opcode) }
+{
+    match other_operator(opcode) {
+        Some(kind) => TermKind::Operator(kind),
+        None => TermKind::Unsupported,
+    }
+}
+
+/// The place that a term is which stands where a place is named: Debug, a local or an argument.
+pub fn place_of(code: TermCode) -> Option<Place>
+    ensures { result ≡ place_of_code code }
+{
+    match code {
+        TermCode::Opcode(opcode) => place_of_opcode(opcode),
+        _ => None,
+    }
+}
+
+fn place_of_opcode(opcode: Opcode) -> Option<Place>
+    ensures { result ≡ place_of_opcode opcode }
+{
+    match opcode {
+        Opcode::Debug => Some(Place::Nowhere),
+        _ => slot_place(slot_kind(opcode)),
+    }
+}
+
+fn slot_place(slot: Option<Slot>) -> Option<Place>
+    ensures { result ≡ slot_place slot }
+{
+    match slot {
+        None => None,
+        Some(slot) => Some(Place::Slot(slot)),
+    }
+}

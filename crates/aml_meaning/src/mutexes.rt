@@ -1,0 +1,105 @@
+//! Mutexes (ACPI 6.5, 19.6: Acquire, Release). How often each is acquired is counted; nothing else holds one.
+ghost use Rattle.std.specs.Prelude.{◌≡◌};
+ghost use Rattle.ar_space.specs.Change.{Does};
+ghost use Rattle.ar_space.specs.Outcome.{Answers};
+ghost use Rattle.aml_objects.specs.declared.entry.NamedObject.TheVariants as object;
+ghost use Rattle.aml_namespace.specs.Namespace.{replaced};
+ghost use Rattle.aml_meaning.specs.State.{on_names};
+ghost use Rattle.aml_meaning.specs.Mutexes.{count_of_object, mutex_count, once_more, once_less, acquired, given_back, acquired_at, given_back_at};
+
+use crate::place::Place;
+use crate::world::World;
+use aml_objects::NamedObject;
+use aml_path::Path;
+use ar_space::{EvaluationFault, NamespaceFault, Refusal, ValueFault};
+
+impl<S> World<S> {
+    /// Acquires the mutex that is named. Anything else is refused as `WrongType`, and as `ObjectLimit` a mutex that is
+    /// acquired 2^64 - 1 times.
+    #[tactic(auto, using(ar_space::specs::Change::changing))]
+    pub fn acquire(&mut self, place: &Place) -> Result<(), Refusal>
+        ensures { Does result self.new (acquired_at place.now) self.old }
+    {
+        match place {
+            Place::Nowhere => Err(Refusal::Value(ValueFault::WrongType)),
+            Place::Slot(_) => Err(Refusal::Value(ValueFault::WrongType)),
+            Place::Name(path) => self.acquire_at(path),
+        }
+    }
+
+    /// Releases the mutex that is named. Anything else is refused as `WrongType`, and as `NotAcquired` a mutex that nobody
+    /// has acquired.
+    #[tactic(auto, using(ar_space::specs::Change::changing))]
+    pub fn release(&mut self, place: &Place) -> Result<(), Refusal>
+        ensures { Does result self.new (given_back_at place.now) self.old }
+    {
+        match place {
+            Place::Nowhere => Err(Refusal::Value(ValueFault::WrongType)),
+            Place::Slot(_) => Err(Refusal::Value(ValueFault::WrongType)),
+            Place::Name(path) => self.release_at(path),
+        }
+    }
+
+    #[tactic(auto, using(ar_space::specs::Change::changing), unfolding(crate::specs::Mutexes::acquired))]
+    fn acquire_at(&mut self, path: &Path) -> Result<(), Refusal>
+        ensures { Does result self.new (acquired path.now) self.old }
+    {
+        let count = self.mutex_count(path)?;
+        let more = once_more(count)?;
+        self.put_count(path, more)
+    }
+
+    #[tactic(auto, using(ar_space::specs::Change::changing), unfolding(crate::specs::Mutexes::given_back))]
+    fn release_at(&mut self, path: &Path) -> Result<(), Refusal>
+        ensures { Does result self.new (given_back path.now) self.old }
+    {
+        let count = self.mutex_count(path)?;
+        let less = once_less(count)?;
+        self.put_count(path, less)
+    }
+
+    #[tactic(auto, using(crate::specs::Lifted::parts))]
+    fn put_count(&mut self, path: &Path, count: u64) -> Result<(), Refusal>
+        ensures { Does result self.new (on_names (replaced path.now (object.Mutex count))) self.old }
+    {
+        self.names.replace(path, NamedObject::Mutex(count))
+    }
+
+    /// How often the mutex at a path is acquired.
+    #[tactic(auto, unfolding(crate::specs::Mutexes::mutex_count))]
+    fn mutex_count(&self, path: &Path) -> Result<u64, Refusal>
+        ensures { Does result self.now (mutex_count path.now) self.now }
+    {
+        match self.names.get(path) {
+            None => Err(Refusal::Namespace(NamespaceFault::NotFound)),
+            Some(entry) => count_of(&entry.object),
+        }
+    }
+}
+
+fn count_of(object: &NamedObject) -> Result<u64, Refusal>
+    ensures { Answers result (count_of_object object.now) }
+{
+    match object {
+        NamedObject::Mutex(count) => Ok(*count),
+        _ => Err(Refusal::Value(ValueFault::WrongType)),
+    }
+}
+
+fn once_more(count: u64) -> Result<u64, Refusal>
+    ensures { Answers result (once_more count) }
+{
+    if count == u64::MAX {
+        return Err(Refusal::Evaluation(EvaluationFault::ObjectLimit));
+    }
+    Ok(count + 1)
+}
+
+fn once_less(count: u64) -> Result<u64, Refusal>
+    ensures { Answers result (once_less count) }
+{
+    if count == 0 {
+        return Err(Refusal::Evaluation(EvaluationFault::NotAcquired));
+    }
+    Ok(count - 1)
+}

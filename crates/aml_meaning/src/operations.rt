@@ -1,0 +1,344 @@
+//! Operators over the values of a world (ACPI 6.5, 19.6).
+ghost use Rattle.std.specs.Prelude.{◌≡◌, option_map};
+ghost use Rattle.ar_space.specs.Change.{Does};
+ghost use Rattle.ar_space.specs.Outcome.{Answers, seen};
+ghost use Rattle.aml_convert.specs.Joined.{joined_content};
+ghost use Rattle.aml_objects.specs.Contents as held;
+ghost use Rattle.aml_meaning.specs.State.{on_objects};
+ghost use Rattle.aml_meaning.specs.Operations.{operated, integers_operated, divided_in, operated_on_one, integer_operated, operated_logically, integers_tested, turned, integer_turned, incremented, next_integer, decremented, integer_before, compared_in, truth_of, joined_contents, joined, made_of, joined_items, joined_resources, to_integer_in, buffer_bytes, new_buffer_of, to_buffer_in, size_in, size_of_referent, size_of_value, size_of_object, as_integer};
+ghost use Rattle.aml_meaning.specs.OperatorTerms.{result_of_two, result_of_one, result_of_test, counted_by};
+
+use crate::object_type::Referent;
+use crate::term_kind::{Count, OneOperand, Test, TwoOperands};
+use crate::world::World;
+use aml_convert::{
+    BinaryOperator, Comparison, Division, Joined, LogicalOperator, UnaryOperator, compare, concat,
+    concat_resources, divide, explicit_integer, holds, logical_not, operate, operate_logically,
+    operate_on_one, to_buffer, truncate, truth,
+};
+use aml_objects::{Object, Octets, Value};
+use ar_space::{EvaluationFault, Refusal, ValueFault};
+use std::alloc::Global;
+
+impl<S> World<S> {
+    /// What an operator gives of two values. Both are converted first, from left to right, and refused as that is.
+    #[tactic(auto, using(ar_space::specs::Change::changing))]
+    pub fn operate_on_two(
+        &mut self,
+        alloc: Global,
+        operator: TwoOperands,
+        first: Value,
+        second: Value,
+    ) -> Result<Value, Refusal>
+        ensures { Does result self.new (result_of_two operator first second) self.old }
+    {
+        match operator {
+            TwoOperands::Integers(operator) => self.operate(operator, first, second),
+            TwoOperands::Concatenate => self.join(alloc, first, second),
+            TwoOperands::ConcatenateResources => self.join_resources(alloc, first, second),
+        }
+    }
+
+    /// What an operator gives of a value, converted first.
+    #[tactic(auto, using(ar_space::specs::Change::changing))]
+    pub fn operate_on_one(
+        &mut self,
+        alloc: Global,
+        operator: OneOperand,
+        value: Value,
+    ) -> Result<Value, Refusal>
+        ensures { Does result self.new (result_of_one operator value) self.old }
+    {
+        match operator {
+            OneOperand::Integer(operator) => self.operate_on_integer(operator, value),
+            OneOperand::ToBuffer => self.to_buffer(alloc, value),
+            OneOperand::ToInteger => self.to_integer(value),
+        }
+    }
+
+    /// Whether a test holds of two values: True or False.
+    #[tactic(auto, using(ar_space::specs::Change::changing))]
+    pub fn test(
+        &self,
+        alloc: Global,
+        test: Test,
+        first: Value,
+        second: Value,
+    ) -> Result<Value, Refusal>
+        ensures { Does result self.now (result_of_test test first second) self.now }
+    {
+        match test {
+            Test::Logical(operator) => self.operate_logically(operator, first, second),
+            Test::Compare(comparison) => self.compare(alloc, comparison, first, second),
+        }
+    }
+
+    /// The quotient and the remainder of two values; a divisor of 0 is refused as `DivideByZero`.
+    #[tactic(auto, using(ar_space::specs::Change::changing), unfolding(crate::specs::Operations::divided_in))]
+    pub fn divide(&self, first: Value, second: Value) -> Result<Division, Refusal>
+        ensures { Does result self.now (divided_in first second) self.now }
+    {
+        let x = self.integer_in(first)?;
+        let y = self.integer_in(second)?;
+        divide(x, y)
+    }
+
+    /// True where a value is 0.
+    #[tactic(auto, using(ar_space::specs::Change::changing), unfolding(crate::specs::Operations::turned))]
+    pub fn logical_not(&self, value: Value) -> Result<Value, Refusal>
+        ensures { Does result self.now (turned value) self.now }
+    {
+        let x = self.integer_in(value)?;
+        self.integer_turned(x)
+    }
+
+    /// The next integer, or the one before.
+    #[tactic(auto, using(ar_space::specs::Change::changing))]
+    pub fn count(&self, count: Count, value: Value) -> Result<Value, Refusal>
+        ensures { Does result self.now (counted_by count value) self.now }
+    {
+        match count {
+            Count::Up => self.increment(value),
+            Count::Down => self.decrement(value),
+        }
+    }
+
+    /// How many bytes a string or a buffer has, or elements a package. Anything else is refused as `WrongType`, and what is
+    /// uninitialized as `NoValue`.
+    #[tactic(auto, unfolding(crate::specs::Operations::size_in))]
+    pub fn size(&self, referent: Referent) -> Result<Value, Refusal>
+        ensures { Does result self.now (size_in referent) self.now }
+    {
+        match self.size_of(referent) {
+            Ok(size) => Ok(Value::Integer(size)),
+            Err(refusal) => Err(refusal),
+        }
+    }
+
+    #[tactic(auto, using(ar_space::specs::Change::changing), unfolding(crate::specs::Operations::operated))]
+    fn operate(
+        &self,
+        operator: BinaryOperator,
+        first: Value,
+        second: Value,
+    ) -> Result<Value, Refusal>
+        ensures { Does result self.now (operated operator first second) self.now }
+    {
+        let x = self.integer_in(first)?;
+        let y = self.integer_in(second)?;
+        self.integers_operated(operator, x, y)
+    }
+
+    #[tactic(auto, unfolding(crate::specs::Operations::integers_operated))]
+    fn integers_operated(&self, operator: BinaryOperator, x: u64, y: u64) -> Result<Value, Refusal>
+        ensures { Does result self.now (integers_operated operator x y) self.now }
+    {
+        integer(operate(operator, self.width, x, y))
+    }
+
+    #[tactic(auto, using(ar_space::specs::Change::changing), unfolding(crate::specs::Operations::operated_on_one))]
+    fn operate_on_integer(&self, operator: UnaryOperator, value: Value) -> Result<Value, Refusal>
+        ensures { Does result self.now (operated_on_one operator value) self.now }
+    {
+        let x = self.integer_in(value)?;
+        self.integer_operated(operator, x)
+    }
+
+    #[tactic(auto, unfolding(crate::specs::Operations::integer_operated))]
+    fn integer_operated(&self, operator: UnaryOperator, x: u64) -> Result<Value, Refusal>
+        ensures { Does result self.now (integer_operated operator x) self.now }
+    {
+        Ok(Value::Integer(operate_on_one(operator, self.width, x)))
+    }
+
+    #[tactic(auto, using(ar_space::specs::Change::changing), unfolding(crate::specs::Operations::operated_logically))]
+    fn operate_logically(
+        &self,
+        operator: LogicalOperator,
+        first: Value,
+        second: Value,
+    ) -> Result<Value, Refusal>
+        ensures { Does result self.now (operated_logically operator first second) self.now }
+    {
+        let x = self.integer_in(first)?;
+        let y = self.integer_in(second)?;
+        self.integers_tested(operator, x, y)
+    }
+
+    #[tactic(auto, unfolding(crate::specs::Operations::integers_tested))]
+    fn integers_tested(&self, operator: LogicalOperator, x: u64, y: u64) -> Result<Value, Refusal>
+        ensures { Does result self.now (integers_tested operator x y) self.now }
+    {
+        Ok(Value::Integer(operate_logically(operator, self.width, x, y)))
+    }
+
+    #[tactic(auto, unfolding(crate::specs::Operations::integer_turned))]
+    fn integer_turned(&self, x: u64) -> Result<Value, Refusal>
+        ensures { Does result self.now (integer_turned x) self.now }
+    {
+        Ok(Value::Integer(logical_not(self.width, x)))
+    }
+
+    #[tactic(auto, using(ar_space::specs::Change::changing), unfolding(crate::specs::Operations::incremented))]
+    fn increment(&self, value: Value) -> Result<Value, Refusal>
+        ensures { Does result self.now (incremented value) self.now }
+    {
+        let x = self.integer_in(value)?;
+        self.next_integer(x)
+    }
+
+    #[tactic(auto, unfolding(crate::specs::Operations::next_integer))]
+    fn next_integer(&self, x: u64) -> Result<Value, Refusal>
+        ensures { Does result self.now (next_integer x) self.now }
+    {
+        Ok(Value::Integer(truncate(self.width, u128::from(x) + 1)))
+    }
+
+    #[tactic(auto, using(ar_space::specs::Change::changing), unfolding(crate::specs::Operations::decremented))]
+    fn decrement(&self, value: Value) -> Result<Value, Refusal>
+        ensures { Does result self.now (decremented value) self.now }
+    {
+        let x = self.integer_in(value)?;
+        self.integer_before(x)
+    }
+
+    #[tactic(auto, unfolding(crate::specs::Operations::integer_before))]
+    fn integer_before(&self, x: u64) -> Result<Value, Refusal>
+        ensures { Does result self.now (integer_before x) self.now }
+    {
+        integer(operate(BinaryOperator::Subtract, self.width, x, 1))
+    }
+
+    #[tactic(auto, unfolding(crate::specs::Operations::compared_in))]
+    fn compare(
+        &self,
+        alloc: Global,
+        comparison: Comparison,
+        first: Value,
+        second: Value,
+    ) -> Result<Value, Refusal>
+        ensures { Does result self.now (compared_in comparison first second) self.now }
+    {
+        match compare(alloc, self.width, self.heap.content(first), self.heap.content(second)) {
+            Ok(order) => Ok(Value::Integer(truth(self.width, holds(comparison, order)))),
+            Err(refusal) => Err(refusal),
+        }
+    }
+
+    #[tactic(auto, using(ar_space::specs::Change::changing), unfolding(crate::specs::Operations::joined))]
+    fn join(&mut self, alloc: Global, first: Value, second: Value) -> Result<Value, Refusal>
+        ensures { Does result self.new (joined first second) self.old }
+    {
+        let contents = self.joined_contents(alloc, first, second)?;
+        self.make_joined(contents)
+    }
+
+    #[tactic(auto, unfolding(crate::specs::Operations::joined_contents))]
+    fn joined_contents(&self, alloc: Global, first: Value, second: Value) -> Result<Joined, Refusal>
+        ensures { Does (seen joined_content result) self.now (joined_contents first second) self.now }
+    {
+        concat(alloc, self.width, self.heap.content(first), self.heap.content(second))
+    }
+
+    fn make_joined(&mut self, contents: Joined) -> Result<Value, Refusal>
+        ensures { Does result self.new (on_objects (made_of (joined_content contents))) self.old }
+    {
+        match contents {
+            Joined::String(bytes) => self.make_string(bytes),
+            Joined::Buffer(bytes) => self.make_buffer(bytes),
+        }
+    }
+
+    #[tactic(auto, using(ar_space::specs::Change::changing), unfolding(crate::specs::Operations::joined_resources))]
+    fn join_resources(&mut self, alloc: Global, first: Value, second: Value) -> Result<Value, Refusal>
+        ensures { Does result self.new (joined_resources first second) self.old }
+    {
+        let bytes = self.joined_items(alloc, first, second)?;
+        self.make_buffer(bytes)
+    }
+
+    #[tactic(auto, unfolding(crate::specs::Operations::joined_items))]
+    fn joined_items(&self, alloc: Global, first: Value, second: Value) -> Result<Octets, Refusal>
+        ensures { Does result self.now (joined_items first second) self.now }
+    {
+        concat_resources(alloc, self.heap.content(first), self.heap.content(second))
+    }
+
+    #[tactic(auto, unfolding(crate::specs::Operations::to_integer_in))]
+    fn to_integer(&self, value: Value) -> Result<Value, Refusal>
+        ensures { Does result self.now (to_integer_in value) self.now }
+    {
+        integer(explicit_integer(self.width, self.heap.content(value)))
+    }
+
+    #[tactic(auto, using(ar_space::specs::Change::changing))]
+    fn to_buffer(&mut self, alloc: Global, value: Value) -> Result<Value, Refusal>
+        ensures { Does result self.new (to_buffer_in value) self.old }
+    {
+        match value {
+            Value::Buffer(object) => Ok(Value::Buffer(object)),
+            Value::Uninitialized => self.new_buffer_of(alloc, Value::Uninitialized),
+            Value::Integer(number) => self.new_buffer_of(alloc, Value::Integer(number)),
+            Value::String(object) => self.new_buffer_of(alloc, Value::String(object)),
+            Value::Package(object) => self.new_buffer_of(alloc, Value::Package(object)),
+            Value::Reference(reference) => self.new_buffer_of(alloc, Value::Reference(reference)),
+        }
+    }
+
+    #[tactic(auto, using(ar_space::specs::Change::changing), unfolding(crate::specs::Operations::new_buffer_of))]
+    fn new_buffer_of(&mut self, alloc: Global, value: Value) -> Result<Value, Refusal>
+        ensures { Does result self.new (new_buffer_of value) self.old }
+    {
+        let bytes = self.buffer_bytes(alloc, value)?;
+        self.make_buffer(bytes)
+    }
+
+    #[tactic(auto, unfolding(crate::specs::Operations::buffer_bytes))]
+    fn buffer_bytes(&self, alloc: Global, value: Value) -> Result<Octets, Refusal>
+        ensures { Does result self.now (buffer_bytes value) self.now }
+    {
+        to_buffer(alloc, self.width, self.heap.content(value))
+    }
+
+    fn size_of(&self, referent: Referent) -> Result<u64, Refusal>
+        ensures { result ≡ size_of_referent self.now.objects referent }
+    {
+        match referent {
+            Referent::Value(value) => self.size_of_value(value),
+            Referent::Object(_) => Err(Refusal::Value(ValueFault::WrongType)),
+        }
+    }
+
+    fn size_of_value(&self, value: Value) -> Result<u64, Refusal>
+        ensures { result ≡ size_of_value self.now.objects value }
+    {
+        match value {
+            Value::String(object) => size_of_object(self.heap.object(object)),
+            Value::Buffer(object) => size_of_object(self.heap.object(object)),
+            Value::Package(object) => size_of_object(self.heap.object(object)),
+            Value::Uninitialized => Err(Refusal::Evaluation(EvaluationFault::NoValue)),
+            Value::Integer(_) => Err(Refusal::Value(ValueFault::WrongType)),
+            Value::Reference(_) => Err(Refusal::Value(ValueFault::WrongType)),
+        }
+    }
+}
+
+fn integer(number: Result<u64, Refusal>) -> Result<Value, Refusal>
+    ensures { result ≡ as_integer number }
+{
+    match number {
+        Ok(number) => Ok(Value::Integer(number)),
+        Err(refusal) => Err(refusal),
+    }
+}
+
+fn size_of_object(object: Option<&Object>) -> Result<u64, Refusal>
+    ensures { result ≡ size_of_object (option_map (λ o. o.now) object.entry) }
+{
+    match object {
+        None => Err(Refusal::Value(ValueFault::WrongType)),
+        Some(Object::String(bytes)) => Ok(bytes.as_slice().len() as u64),
+        Some(Object::Buffer(bytes)) => Ok(bytes.as_slice().len() as u64),
+        Some(Object::Package(elements)) => Ok(elements.as_slice().len() as u64),
+    }
+}

@@ -1,0 +1,25 @@
+//! Where values are stored.
+
+use aml_objects::{Slot, Value};
+use aml_path::Path;
+
+/// Where a value is read or stored to: the operand of Store, a target, and what Increment counts.
+#[derive(Debug, Drop)]
+pub enum Place {
+    /// Nothing is kept: a target that is left out, or Debug.
+    Nowhere,
+    /// A local or an argument of the control method that runs.
+    Slot(Slot),
+    /// The name at a path.
+    Name(Path),
+}
+
+/// What a name holds.
+#[derive(Clone, Copy, Debug, PartialEq, Eq)]
+pub enum Holding {
+    Value(Value),
+    FieldUnit,
+    BufferField,
+    /// Nothing that is stored to: a device, a control method, a mutex.
+    Nothing,
+}

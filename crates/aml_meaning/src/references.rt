@@ -1,0 +1,171 @@
+//! Storing values to what references refer to (ACPI 6.5, 19.3.5.8).
+ghost use Rattle.std.specs.Prelude.{◌≡◌};
+ghost use Rattle.ar_space.specs.Change.{Does};
+ghost use Rattle.ar_space.specs.Outcome.{Answers};
+ghost use Rattle.aml_objects.specs.Contents.{content_of};
+ghost use Rattle.aml_meaning.specs.Stores.{first_byte, byte_of, byte_in, store_byte, copy_into_element, copy_into_declared, store_over_slot, store_in_frame, store_in_frame_numbered, store_at_reference, stored_through};
+
+use crate::places::holding_of;
+use crate::world::World;
+use aml_objects::{Content, Element, Reference, Slot, Value};
+use ar_space::{EvaluationFault, Refusal, ValueFault};
+use std::alloc::Global;
+
+/// Stores a value to a slot of the frame at a place: an argument that holds a reference stands for what that refers to.
+#[cycle(through)]
+#[tactic(auto, using(ar_space::specs::Change::changing), unfolding(crate::specs::Stores::store_in_frame))]
+pub(crate) fn store_in_frame<S>(
+    alloc: Global,
+    world: &mut World<S>,
+    levels: usize,
+    place: usize,
+    slot: Slot,
+    value: Value,
+) -> Result<(), Refusal>
+    ensures { Does result world.new (store_in_frame (stored_through levels) place slot value) world.old }
+{
+    let held = world.slot_held(place, slot)?;
+    store_over_slot(alloc, world, levels, place, slot, held, value)
+}
+
+#[cycle(through)]
+#[tactic(auto, using(ar_space::specs::Change::changing))]
+fn store_over_slot<S>(
+    alloc: Global,
+    world: &mut World<S>,
+    levels: usize,
+    place: usize,
+    slot: Slot,
+    held: Value,
+    value: Value,
+) -> Result<(), Refusal>
+    ensures { Does result world.new (store_over_slot (stored_through levels) place slot held value) world.old }
+{
+    match (slot, held) {
+        (Slot::Argument(_), Value::Reference(reference)) => {
+            store_through(alloc, world, levels, reference, value)
+        }
+        (Slot::Local(index), _) => world.copy_into_slot(alloc, place, Slot::Local(index), value),
+        (Slot::Argument(index), _) => {
+            world.copy_into_slot(alloc, place, Slot::Argument(index), value)
+        }
+    }
+}
+
+/// Stores a value to what a reference refers to, at most so many followed one after another.
+#[cycle(through)]
+#[tactic(auto, using(crate::specs::Following::following))]
+fn store_through<S>(
+    alloc: Global,
+    world: &mut World<S>,
+    levels: usize,
+    reference: Reference,
+    value: Value,
+) -> Result<(), Refusal>
+    ensures { Does result world.new (stored_through levels reference value) world.old }
+{
+    if levels == 0 {
+        return Err(Refusal::Evaluation(EvaluationFault::DeadReference));
+    }
+    store_at_reference(alloc, world, levels - 1, reference, value)
+}
+
+#[cycle(through)]
+#[tactic(auto, using(ar_space::specs::Change::changing))]
+fn store_at_reference<S>(
+    alloc: Global,
+    world: &mut World<S>,
+    levels: usize,
+    reference: Reference,
+    value: Value,
+) -> Result<(), Refusal>
+    ensures { Does result world.new (store_at_reference (stored_through levels) reference value) world.old }
+{
+    match reference {
+        Reference::Name(number) => world.copy_into_declared(alloc, number, value),
+        Reference::Slot(number, slot) => {
+            store_in_frame_numbered(alloc, world, levels, number, slot, value)
+        }
+        Reference::Element(object, index) => world.copy_into_element(alloc, object, index, value),
+        Reference::Byte(object, index) => world.store_byte(object, index, value),
+    }
+}
+
+#[cycle(through)]
+#[tactic(auto, using(ar_space::specs::Change::changing), unfolding(crate::specs::Stores::store_in_frame_numbered))]
+fn store_in_frame_numbered<S>(
+    alloc: Global,
+    world: &mut World<S>,
+    levels: usize,
+    number: u64,
+    slot: Slot,
+    value: Value,
+) -> Result<(), Refusal>
+    ensures { Does result world.new (store_in_frame_numbered (stored_through levels) number slot value) world.old }
+{
+    let place = world.frame_found(number)?;
+    store_in_frame(alloc, world, levels, place, slot, value)
+}
+
+impl<S> World<S> {
+    /// The name of a declaration holds a copy of a value from now on.
+    #[tactic(auto, using(ar_space::specs::Change::changing), unfolding(crate::specs::Stores::copy_into_declared))]
+    fn copy_into_declared(&mut self, alloc: Global, number: u64, value: Value) -> Result<(), Refusal>
+        ensures { Does result self.new (copy_into_declared number value) self.old }
+    {
+        let found = self.declaration(number)?;
+        let held = holding_of(&found.1.object);
+        let path = found.0.copy(alloc)?;
+        self.copy_over(alloc, held, &path, value)
+    }
+
+    #[tactic(auto, using(ar_space::specs::Change::changing), unfolding(crate::specs::Stores::copy_into_element))]
+    fn copy_into_element(
+        &mut self,
+        alloc: Global,
+        object: usize,
+        index: usize,
+        value: Value,
+    ) -> Result<(), Refusal>
+        ensures { Does result self.new (copy_into_element object index value) self.old }
+    {
+        let copy = self.copy(alloc, value)?;
+        self.write_element(object, index, Element::Value(copy))
+    }
+
+    #[tactic(auto, using(ar_space::specs::Change::changing), unfolding(crate::specs::Stores::store_byte))]
+    fn store_byte(&mut self, object: usize, index: usize, value: Value) -> Result<(), Refusal>
+        ensures { Does result self.new (store_byte object index value) self.old }
+    {
+        let byte = self.byte_in(value)?;
+        self.write_byte(object, index, byte)
+    }
+
+    /// What a byte of a string or a buffer takes of a value.
+    #[tactic(auto, unfolding(crate::specs::Stores::byte_in))]
+    fn byte_in(&self, value: Value) -> Result<u8, Refusal>
+        ensures { Does result self.now (byte_in value) self.now }
+    {
+        byte_of(self.heap.content(value))
+    }
+}
+
+fn byte_of(content: Content<'_>) -> Result<u8, Refusal>
+    ensures { Answers result (byte_of (content_of content.entry)) }
+{
+    match content {
+        Content::Integer(number) => Ok((number % 256) as u8),
+        Content::String(bytes) => first_byte(bytes),
+        Content::Buffer(bytes) => first_byte(bytes),
+        Content::Other => Err(Refusal::Value(ValueFault::WrongType)),
+    }
+}
+
+fn first_byte(bytes: &[u8]) -> Result<u8, Refusal>
+    ensures { Answers result (first_byte bytes.now) }
+{
+    match bytes {
+        [] => Err(Refusal::Value(ValueFault::EmptyValue)),
+        [byte, ..] => Ok(*byte),
+    }
+}

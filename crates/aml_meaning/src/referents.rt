@@ -1,0 +1,231 @@
+//! What references refer to in the end (ACPI 6.5, 19.6: SizeOf, ObjectType).
+ghost use Rattle.std.specs.Prelude.{◌≡◌};
+ghost use Rattle.ar_space.specs.Change.{Does};
+ghost use Rattle.aml_meaning.specs.Places.{referent_of, value_followed, referent_followed, declared_followed, slot_followed, name_followed, element_followed, held_followed, byte_followed, reference_followed, followed, most_references, slot_referent, declared_referent, name_referent, place_referent};
+
+use crate::object_type::{ObjectType, Referent};
+use crate::place::Place;
+use crate::world::World;
+use aml_objects::{Element, NamedObject, Reference, Slot, Value};
+use aml_path::{NameString, Path};
+use ar_space::{EvaluationFault, NamespaceFault, Refusal};
+use std::alloc::Global;
+
+/// How many references are followed one after another.
+pub(crate) const MOST_REFERENCES: usize = 64;
+
+impl<S> World<S> {
+    /// What a place holds when references are followed, at most 64 of them. A reference to what is gone, and a longer chain,
+    /// are refused as `DeadReference`.
+    #[tactic(auto, using(ar_space::specs::Change::changing))]
+    pub fn place_referent(&self, alloc: Global, place: &Place) -> Result<Referent, Refusal>
+        ensures { Does result self.now (place_referent place.now) self.now }
+    {
+        match place {
+            Place::Nowhere => Ok(Referent::Object(ObjectType::DebugObject)),
+            Place::Slot(slot) => self.slot_referent(alloc, *slot),
+            Place::Name(path) => self.name_referent(alloc, path),
+        }
+    }
+
+    #[tactic(auto, using(ar_space::specs::Change::changing), unfolding(crate::specs::Places::slot_referent))]
+    fn slot_referent(&self, alloc: Global, slot: Slot) -> Result<Referent, Refusal>
+        ensures { Does result self.now (slot_referent slot) self.now }
+    {
+        let value = self.own_slot(slot)?;
+        value_followed(alloc, self, MOST_REFERENCES, value)
+    }
+
+    #[tactic(auto, using(ar_space::specs::Change::changing), unfolding(crate::specs::Places::name_referent))]
+    fn name_referent(&self, alloc: Global, path: &Path) -> Result<Referent, Refusal>
+        ensures { Does result self.now (name_referent path.now) self.now }
+    {
+        let referent = self.declared_referent(path)?;
+        referent_followed(alloc, self, MOST_REFERENCES, referent)
+    }
+
+    #[tactic(auto, unfolding(crate::specs::Places::declared_referent))]
+    fn declared_referent(&self, path: &Path) -> Result<Referent, Refusal>
+        ensures { Does result self.now (declared_referent path.now) self.now }
+    {
+        match self.names.get(path) {
+            None => Err(Refusal::Namespace(NamespaceFault::NotFound)),
+            Some(entry) => Ok(referent_of(&entry.object)),
+        }
+    }
+}
+
+fn referent_of(object: &NamedObject) -> Referent
+    ensures { result ≡ referent_of object.now }
+{
+    match object {
+        NamedObject::Data(value) => Referent::Value(*value),
+        NamedObject::Scope => Referent::Object(ObjectType::Uninitialized),
+        NamedObject::Device => Referent::Object(ObjectType::Device),
+        NamedObject::Processor => Referent::Object(ObjectType::Processor),
+        NamedObject::PowerResource => Referent::Object(ObjectType::PowerResource),
+        NamedObject::ThermalZone => Referent::Object(ObjectType::ThermalZone),
+        NamedObject::Method(_) => Referent::Object(ObjectType::Method),
+        NamedObject::OperationRegion(_) => Referent::Object(ObjectType::OperationRegion),
+        NamedObject::FieldUnit(_) => Referent::Object(ObjectType::FieldUnit),
+        NamedObject::BufferField(_) => Referent::Object(ObjectType::BufferField),
+        NamedObject::Mutex(_) => Referent::Object(ObjectType::Mutex),
+        NamedObject::Event => Referent::Object(ObjectType::Event),
+        NamedObject::Alias(_) => Referent::Object(ObjectType::Uninitialized),
+    }
+}
+
+#[cycle(following)]
+#[tactic(auto, using(ar_space::specs::Change::changing))]
+fn value_followed<S>(
+    alloc: Global,
+    world: &World<S>,
+    levels: usize,
+    value: Value,
+) -> Result<Referent, Refusal>
+    ensures { Does result world.now (value_followed (followed levels) value) world.now }
+{
+    match value {
+        Value::Uninitialized => Ok(Referent::Value(Value::Uninitialized)),
+        Value::Integer(number) => Ok(Referent::Value(Value::Integer(number))),
+        Value::String(object) => Ok(Referent::Value(Value::String(object))),
+        Value::Buffer(object) => Ok(Referent::Value(Value::Buffer(object))),
+        Value::Package(object) => Ok(Referent::Value(Value::Package(object))),
+        Value::Reference(reference) => follow(alloc, world, levels, reference),
+    }
+}
+
+#[cycle(following)]
+#[tactic(auto, using(ar_space::specs::Change::changing))]
+fn referent_followed<S>(
+    alloc: Global,
+    world: &World<S>,
+    levels: usize,
+    referent: Referent,
+) -> Result<Referent, Refusal>
+    ensures { Does result world.now (referent_followed (followed levels) referent) world.now }
+{
+    match referent {
+        Referent::Value(value) => value_followed(alloc, world, levels, value),
+        Referent::Object(object_type) => Ok(Referent::Object(object_type)),
+    }
+}
+
+/// What a reference refers to in the end, at most so many followed one after another.
+#[cycle(following)]
+#[tactic(auto, using(crate::specs::Following::following))]
+fn follow<S>(
+    alloc: Global,
+    world: &World<S>,
+    levels: usize,
+    reference: Reference,
+) -> Result<Referent, Refusal>
+    ensures { Does result world.now (followed levels reference) world.now }
+{
+    if levels == 0 {
+        return Err(Refusal::Evaluation(EvaluationFault::DeadReference));
+    }
+    reference_followed(alloc, world, levels - 1, reference)
+}
+
+#[cycle(following)]
+#[tactic(auto, using(ar_space::specs::Change::changing))]
+fn reference_followed<S>(
+    alloc: Global,
+    world: &World<S>,
+    levels: usize,
+    reference: Reference,
+) -> Result<Referent, Refusal>
+    ensures { Does result world.now (reference_followed (followed levels) reference) world.now }
+{
+    match reference {
+        Reference::Name(number) => declared_followed(alloc, world, levels, number),
+        Reference::Slot(number, slot) => slot_followed(alloc, world, levels, number, slot),
+        Reference::Element(object, index) => held_followed(alloc, world, levels, object, index),
+        Reference::Byte(object, index) => byte_followed(world, object, index),
+    }
+}
+
+#[cycle(following)]
+#[tactic(auto, using(ar_space::specs::Change::changing), unfolding(crate::specs::Places::declared_followed))]
+fn declared_followed<S>(
+    alloc: Global,
+    world: &World<S>,
+    levels: usize,
+    number: u64,
+) -> Result<Referent, Refusal>
+    ensures { Does result world.now (declared_followed (followed levels) number) world.now }
+{
+    let found = world.declaration(number)?;
+    referent_followed(alloc, world, levels, referent_of(&found.1.object))
+}
+
+#[cycle(following)]
+#[tactic(auto, using(ar_space::specs::Change::changing), unfolding(crate::specs::Places::slot_followed))]
+fn slot_followed<S>(
+    alloc: Global,
+    world: &World<S>,
+    levels: usize,
+    number: u64,
+    slot: Slot,
+) -> Result<Referent, Refusal>
+    ensures { Does result world.now (slot_followed (followed levels) number slot) world.now }
+{
+    let place = world.frame_found(number)?;
+    let value = world.slot_held(place, slot)?;
+    value_followed(alloc, world, levels, value)
+}
+
+#[cycle(following)]
+#[tactic(auto, using(ar_space::specs::Change::changing), unfolding(crate::specs::Places::held_followed))]
+fn held_followed<S>(
+    alloc: Global,
+    world: &World<S>,
+    levels: usize,
+    object: usize,
+    index: usize,
+) -> Result<Referent, Refusal>
+    ensures { Does result world.now (held_followed (followed levels) object index) world.now }
+{
+    let element = world.element(alloc, object, index)?;
+    element_followed(alloc, world, levels, &element)
+}
+
+#[cycle(following)]
+#[tactic(auto, using(ar_space::specs::Change::changing))]
+fn element_followed<S>(
+    alloc: Global,
+    world: &World<S>,
+    levels: usize,
+    element: &Element,
+) -> Result<Referent, Refusal>
+    ensures { Does result world.now (element_followed (followed levels) element.now) world.now }
+{
+    match element {
+        Element::Value(value) => value_followed(alloc, world, levels, *value),
+        Element::Name(name, scope) => name_followed(alloc, world, levels, name, scope),
+    }
+}
+
+#[cycle(following)]
+#[tactic(auto, using(ar_space::specs::Change::changing), unfolding(crate::specs::Places::name_followed))]
+fn name_followed<S>(
+    alloc: Global,
+    world: &World<S>,
+    levels: usize,
+    name: &NameString,
+    scope: &Path,
+) -> Result<Referent, Refusal>
+    ensures { Does result world.now (name_followed (followed levels) name.now scope.now) world.now }
+{
+    let entry = world.entry(scope, name)?;
+    referent_followed(alloc, world, levels, referent_of(&entry.object))
+}
+
+#[tactic(auto, using(ar_space::specs::Change::changing), unfolding(crate::specs::Places::byte_followed))]
+fn byte_followed<S>(world: &World<S>, object: usize, index: usize) -> Result<Referent, Refusal>
+    ensures { Does result world.now (byte_followed object index) world.now }
+{
+    world.byte(object, index)?;
+    Ok(Referent::Object(ObjectType::BufferField))
+}

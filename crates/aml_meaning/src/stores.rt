@@ -1,0 +1,227 @@
+//! Storing values (ACPI 6.5, 19.3.5.8 and 19.6: Store, CopyObject).
+ghost use Rattle.std.specs.Prelude.{◌≡◌};
+ghost use Rattle.ar_space.specs.Change.{Does};
+ghost use Rattle.ar_space.specs.Outcome.{Answers};
+ghost use Rattle.aml_objects.specs.declared.entry.NamedObject.TheVariants.{Data};
+ghost use Rattle.aml_namespace.specs.Namespace.{replaced};
+ghost use Rattle.aml_meaning.specs.State.{on_names};
+ghost use Rattle.aml_meaning.specs.Stores.{slot_put, copy_into_slot, copy_into_name, copy_over, text_in, bytes_in, store_integer, store_text, store_bytes, store_package, store_over_value, store_over, store_in_slot, store_in_name, stored, copy_in_name, copied_to};
+
+use crate::place::{Holding, Place};
+use crate::references::store_in_frame;
+use crate::referents::MOST_REFERENCES;
+use crate::world::World;
+use aml_convert::{to_buffer, to_text};
+use aml_objects::{NamedObject, Octets, Slot, Value};
+use aml_path::Path;
+use ar_space::{EvaluationFault, Refusal, ValueFault};
+use std::alloc::Global;
+
+impl<S> World<S> {
+    /// Stores a value to a place.
+    ///
+    /// A local takes a copy. So does an argument; where it holds a reference, that is followed, at most 64 times
+    /// (`DeadReference`). A name that holds an integer, a string or a buffer takes the value converted, as conversions are
+    /// refused; one that holds a package takes a copy of a package alone, and one that holds a reference a copy of anything.
+    /// Other names are refused as `WrongType`, and fields as `Unsupported`. A refused store changes nothing.
+    #[tactic(auto, using(ar_space::specs::Change::changing))]
+    pub fn store(&mut self, alloc: Global, place: &Place, value: Value) -> Result<(), Refusal>
+        ensures { Does result self.new (stored place.now value) self.old }
+    {
+        match place {
+            Place::Nowhere => Ok(()),
+            Place::Slot(slot) => self.store_in_slot(alloc, *slot, value),
+            Place::Name(path) => self.store_in_name(alloc, path, value),
+        }
+    }
+
+    /// Stores a copy of a value to a place, without conversion: a name that holds a value holds the copy after it. Anything
+    /// else is as `store` has it.
+    #[tactic(auto, using(ar_space::specs::Change::changing))]
+    pub fn copy_to(&mut self, alloc: Global, place: &Place, value: Value) -> Result<(), Refusal>
+        ensures { Does result self.new (copied_to place.now value) self.old }
+    {
+        match place {
+            Place::Nowhere => Ok(()),
+            Place::Slot(slot) => self.store_in_slot(alloc, *slot, value),
+            Place::Name(path) => self.copy_in_name(alloc, path, value),
+        }
+    }
+
+    #[tactic(auto, using(ar_space::specs::Change::changing), unfolding(crate::specs::Stores::store_in_slot))]
+    fn store_in_slot(&mut self, alloc: Global, slot: Slot, value: Value) -> Result<(), Refusal>
+        ensures { Does result self.new (store_in_slot slot value) self.old }
+    {
+        let place = self.latest_frame()?;
+        store_in_frame(alloc, self, MOST_REFERENCES, place, slot, value)
+    }
+
+    #[tactic(auto, using(ar_space::specs::Change::changing), unfolding(crate::specs::Stores::store_in_name))]
+    fn store_in_name(&mut self, alloc: Global, path: &Path, value: Value) -> Result<(), Refusal>
+        ensures { Does result self.new (store_in_name path.now value) self.old }
+    {
+        let held = self.held_at(path)?;
+        self.store_over(alloc, held, path, value)
+    }
+
+    #[tactic(auto, using(ar_space::specs::Change::changing), unfolding(crate::specs::Stores::copy_in_name))]
+    fn copy_in_name(&mut self, alloc: Global, path: &Path, value: Value) -> Result<(), Refusal>
+        ensures { Does result self.new (copy_in_name path.now value) self.old }
+    {
+        let held = self.held_at(path)?;
+        self.copy_over(alloc, held, path, value)
+    }
+
+    #[tactic(auto, using(ar_space::specs::Change::changing))]
+    fn store_over(
+        &mut self,
+        alloc: Global,
+        held: Holding,
+        path: &Path,
+        value: Value,
+    ) -> Result<(), Refusal>
+        ensures { Does result self.new (store_over held path.now value) self.old }
+    {
+        match held {
+            Holding::Value(old) => self.store_over_value(alloc, old, path, value),
+            Holding::FieldUnit => Err(Refusal::Evaluation(EvaluationFault::Unsupported(0x5B81))),
+            Holding::BufferField => Err(Refusal::Evaluation(EvaluationFault::Unsupported(0x5B13))),
+            Holding::Nothing => Err(Refusal::Value(ValueFault::WrongType)),
+        }
+    }
+
+    #[tactic(auto, using(ar_space::specs::Change::changing))]
+    fn store_over_value(
+        &mut self,
+        alloc: Global,
+        old: Value,
+        path: &Path,
+        value: Value,
+    ) -> Result<(), Refusal>
+        ensures { Does result self.new (store_over_value old path.now value) self.old }
+    {
+        match old {
+            Value::Integer(_) => self.store_integer(path, value),
+            Value::String(object) => self.store_text(alloc, object, value),
+            Value::Buffer(object) => self.store_bytes(alloc, object, value),
+            Value::Package(_) => self.store_package(alloc, path, value),
+            Value::Reference(_) => self.copy_into_name(alloc, path, value),
+            Value::Uninitialized => self.copy_into_name(alloc, path, value),
+        }
+    }
+
+    #[tactic(auto, using(ar_space::specs::Change::changing), unfolding(crate::specs::Stores::store_integer))]
+    fn store_integer(&mut self, path: &Path, value: Value) -> Result<(), Refusal>
+        ensures { Does result self.new (store_integer path.now value) self.old }
+    {
+        let number = self.integer_in(value)?;
+        self.put_data(path, Value::Integer(number))
+    }
+
+    #[tactic(auto, using(ar_space::specs::Change::changing), unfolding(crate::specs::Stores::store_text))]
+    fn store_text(&mut self, alloc: Global, object: usize, value: Value) -> Result<(), Refusal>
+        ensures { Does result self.new (store_text object value) self.old }
+    {
+        let bytes = self.text_in(alloc, value)?;
+        self.write_string(object, bytes)
+    }
+
+    #[tactic(auto, using(ar_space::specs::Change::changing), unfolding(crate::specs::Stores::store_bytes))]
+    fn store_bytes(&mut self, alloc: Global, object: usize, value: Value) -> Result<(), Refusal>
+        ensures { Does result self.new (store_bytes object value) self.old }
+    {
+        let bytes = self.bytes_in(alloc, value)?;
+        self.write_buffer(object, bytes)
+    }
+
+    #[tactic(auto, using(ar_space::specs::Change::changing))]
+    fn store_package(&mut self, alloc: Global, path: &Path, value: Value) -> Result<(), Refusal>
+        ensures { Does result self.new (store_package path.now value) self.old }
+    {
+        match value {
+            Value::Package(object) => self.copy_into_name(alloc, path, Value::Package(object)),
+            Value::Uninitialized => Err(Refusal::Value(ValueFault::WrongType)),
+            Value::Integer(_) => Err(Refusal::Value(ValueFault::WrongType)),
+            Value::String(_) => Err(Refusal::Value(ValueFault::WrongType)),
+            Value::Buffer(_) => Err(Refusal::Value(ValueFault::WrongType)),
+            Value::Reference(_) => Err(Refusal::Value(ValueFault::WrongType)),
+        }
+    }
+
+    /// A name that holds a value holds a copy of another.
+    #[tactic(auto, using(ar_space::specs::Change::changing))]
+    pub(crate) fn copy_over(
+        &mut self,
+        alloc: Global,
+        held: Holding,
+        path: &Path,
+        value: Value,
+    ) -> Result<(), Refusal>
+        ensures { Does result self.new (copy_over held path.now value) self.old }
+    {
+        match held {
+            Holding::Value(_) => self.copy_into_name(alloc, path, value),
+            Holding::FieldUnit => Err(Refusal::Evaluation(EvaluationFault::Unsupported(0x5B81))),
+            Holding::BufferField => Err(Refusal::Evaluation(EvaluationFault::Unsupported(0x5B13))),
+            Holding::Nothing => Err(Refusal::Value(ValueFault::WrongType)),
+        }
+    }
+
+    #[tactic(auto, using(ar_space::specs::Change::changing), unfolding(crate::specs::Stores::copy_into_name))]
+    fn copy_into_name(&mut self, alloc: Global, path: &Path, value: Value) -> Result<(), Refusal>
+        ensures { Does result self.new (copy_into_name path.now value) self.old }
+    {
+        let copy = self.copy(alloc, value)?;
+        self.put_data(path, copy)
+    }
+
+    /// The name at a path holds a value from now on.
+    #[tactic(auto, using(crate::specs::Lifted::parts))]
+    fn put_data(&mut self, path: &Path, value: Value) -> Result<(), Refusal>
+        ensures { Does result self.new (on_names (replaced path.now (Data value))) self.old }
+    {
+        self.names.replace(path, NamedObject::Data(value))
+    }
+
+    #[tactic(auto, using(ar_space::specs::Change::changing), unfolding(crate::specs::Stores::copy_into_slot))]
+    pub(crate) fn copy_into_slot(
+        &mut self,
+        alloc: Global,
+        place: usize,
+        slot: Slot,
+        value: Value,
+    ) -> Result<(), Refusal>
+        ensures { Does result self.new (copy_into_slot place slot value) self.old }
+    {
+        let copy = self.copy(alloc, value)?;
+        self.slot_put(place, slot, copy)
+    }
+
+    /// A slot of the frame at a place holds a value from now on.
+    #[tactic(auto, unfolding(crate::specs::Stores::slot_put))]
+    fn slot_put(&mut self, place: usize, slot: Slot, value: Value) -> Result<(), Refusal>
+        ensures { Does result self.new (slot_put place slot value) self.old }
+    {
+        if place < self.frames.len() {
+            let frame = self.frames[place];
+            self.frames[place] = frame.with_slot(slot, value);
+        }
+        Ok(())
+    }
+
+    /// A value as a string.
+    #[tactic(auto, unfolding(crate::specs::Stores::text_in))]
+    fn text_in(&self, alloc: Global, value: Value) -> Result<Octets, Refusal>
+        ensures { Does result self.now (text_in value) self.now }
+    {
+        to_text(alloc, self.width, self.heap.content(value))
+    }
+
+    /// A value as a buffer.
+    #[tactic(auto, unfolding(crate::specs::Stores::bytes_in))]
+    fn bytes_in(&self, alloc: Global, value: Value) -> Result<Octets, Refusal>
+        ensures { Does result self.now (bytes_in value) self.now }
+    {
+        to_buffer(alloc, self.width, self.heap.content(value))
+    }
+}

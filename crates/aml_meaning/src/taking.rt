@@ -1,0 +1,158 @@
+//! Arguments that callers hand in (ACPI 6.5, 5.5.2.3).
+ghost use Rattle.std.specs.Prelude.{◌≡◌, [], map};
+ghost use Rattle.ar_space.specs.Change.{Does};
+ghost use Rattle.ar_space.specs.Outcome.{Answers, seen};
+ghost use Rattle.aml_objects.specs.Objects.{make_string, make_buffer};
+ghost use Rattle.aml_meaning.specs.State.{on_objects};
+ghost use Rattle.aml_meaning.specs.Given.{given_of, givens};
+ghost use Rattle.aml_meaning.specs.Readings.{absolute};
+ghost use Rattle.aml_meaning.specs.Taking.{reference_to, taken_by, each_taken, elements_taken, package_taken, taken, all_taken};
+
+use crate::datum::Datum;
+use crate::world::World;
+use aml_objects::{Element, Elements, Octets, Reference, Value};
+use aml_path::{NameString, Path, Prefix};
+use ar_space::{EvaluationFault, Refusal, ValueFault};
+use std::alloc::Global;
+
+/// How deep packages may nest that are handed in.
+const MAX_NESTING: usize = 64;
+
+impl<S> World<S> {
+    /// A value that is handed in, as a value of this world.
+    ///
+    /// An integer is taken as wide as integers are, and a name as a reference to it. Refused: a name that isn't found as
+    /// `NotFound`, a reference as `WrongType`, and as `ObjectLimit` what is too large, packages that nest more than 64 deep,
+    /// and too many objects. A refused value makes no object.
+    #[tactic(auto, unfolding(crate::specs::Taking::taken))]
+    pub fn take(&mut self, alloc: Global, datum: &Datum) -> Result<Value, Refusal>
+        ensures { Does result self.new (taken (given_of datum.now)) self.old }
+    {
+        let before = self.heap.len();
+        match take_by(alloc, self, MAX_NESTING, datum) {
+            Ok(value) => Ok(value),
+            Err(refusal) => {
+                self.heap.truncate(before);
+                Err(refusal)
+            }
+        }
+    }
+
+    /// Values that are handed in, one after another.
+    pub fn take_all(&mut self, alloc: Global, data: &[Datum]) -> Result<Vec<Value>, Refusal>
+        ensures { Does (seen (λ list. list.items) result) self.new (all_taken (map given_of data.now) []) self.old }
+    {
+        let mut values = Vec::new(alloc);
+        for datum in data {
+            let value = self.take(alloc, datum)?;
+            values.push(value)?;
+        }
+        Ok(values)
+    }
+
+    /// A reference to the name at a path.
+    #[tactic(auto, using(ar_space::specs::Change::changing), unfolding(crate::specs::Taking::reference_to))]
+    fn reference_to(&self, alloc: Global, path: &Path) -> Result<Value, Refusal>
+        ensures { Does result self.now (reference_to path.now) self.now }
+    {
+        let name = absolute(alloc, path)?;
+        let entry = self.entry(&Path::root(alloc), &name)?;
+        Ok(Value::Reference(Reference::Name(entry.number)))
+    }
+
+    /// A new string of these bytes.
+    fn new_text(&mut self, alloc: Global, bytes: &Octets) -> Result<Value, Refusal>
+        ensures { Does result self.new (on_objects (make_string bytes.now)) self.old }
+    {
+        match bytes.copy(alloc) {
+            Ok(bytes) => self.make_string(bytes),
+            Err(refusal) => Err(refusal),
+        }
+    }
+
+    /// A new buffer of these bytes.
+    fn new_bytes(&mut self, alloc: Global, bytes: &Octets) -> Result<Value, Refusal>
+        ensures { Does result self.new (on_objects (make_buffer bytes.now)) self.old }
+    {
+        match bytes.copy(alloc) {
+            Ok(bytes) => self.make_buffer(bytes),
+            Err(refusal) => Err(refusal),
+        }
+    }
+}
+
+/// A path, as a name that stands for it anywhere.
+fn absolute(alloc: Global, path: &Path) -> Result<NameString, Refusal>
+    ensures { Answers result (Ok (absolute path.now)) }
+{
+    Ok(NameString::new(Prefix::Root, path.copy(alloc)?.into_vec()))
+}
+
+#[cycle(taking)]
+#[tactic(auto, using(crate::specs::Taken::taking))]
+fn take_by<S>(
+    alloc: Global,
+    world: &mut World<S>,
+    levels: usize,
+    datum: &Datum,
+) -> Result<Value, Refusal>
+    ensures { Does result world.new (taken_by (package_taken levels) (given_of datum.now)) world.old }
+{
+    match datum {
+        Datum::Nothing => Ok(Value::Uninitialized),
+        Datum::Integer(number) => world.integer_kept(*number),
+        Datum::Text(bytes) => world.new_text(alloc, bytes),
+        Datum::Bytes(bytes) => world.new_bytes(alloc, bytes),
+        Datum::Package(list) => take_package(alloc, world, levels, list),
+        Datum::Named(path) => world.reference_to(alloc, path),
+        Datum::Reference => Err(Refusal::Value(ValueFault::WrongType)),
+    }
+}
+
+#[cycle(taking)]
+#[tactic(auto, using(crate::specs::Taken::taking))]
+fn take_package<S>(
+    alloc: Global,
+    world: &mut World<S>,
+    levels: usize,
+    list: &[Datum],
+) -> Result<Value, Refusal>
+    ensures { Does result world.new (package_taken levels (givens (map given_of list.now))) world.old }
+{
+    if levels == 0 {
+        return Err(Refusal::Evaluation(EvaluationFault::ObjectLimit));
+    }
+    take_elements(alloc, world, levels - 1, list)
+}
+
+#[cycle(taking)]
+#[tactic(auto, using(ar_space::specs::Change::changing), unfolding(crate::specs::Taking::elements_taken))]
+fn take_elements<S>(
+    alloc: Global,
+    world: &mut World<S>,
+    levels: usize,
+    list: &[Datum],
+) -> Result<Value, Refusal>
+    ensures { Does result world.new (elements_taken (package_taken levels) (givens (map given_of list.now))) world.old }
+{
+    let elements = take_each(alloc, world, levels, list)?;
+    world.make_package(elements)
+}
+
+#[cycle(taking)]
+#[tactic(auto, using(ar_space::specs::Change::changing))]
+fn take_each<S>(
+    alloc: Global,
+    world: &mut World<S>,
+    levels: usize,
+    list: &[Datum],
+) -> Result<Elements, Refusal>
+    ensures { Does result world.new (each_taken (package_taken levels) (givens (map given_of list.now)) []) world.old }
+{
+    let mut done = Elements::new(alloc);
+    for datum in list {
+        let value = take_by(alloc, world, levels, datum)?;
+        done.push(Element::Value(value))?;
+    }
+    Ok(done)
+}
