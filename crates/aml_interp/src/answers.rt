@@ -4,11 +4,13 @@ ghost use Rattle.ar_space.specs.Outcome.{Answers, seen};
 ghost use Rattle.ar_space.specs.Change.{Does};
 ghost use Rattle.aml_meaning.specs.Given.{given_of};
 ghost use Rattle.aml_meaning.specs.Readings.{absolute};
-ghost use Rattle.aml_meaning.specs.Calling.{called, counted, evaluated, with_rest, with_steps, handed_out, answered};
+ghost use Rattle.aml_meaning.specs.Invocations.{invocation_found};
+ghost use Rattle.aml_meaning.specs.Calling.{called, counted, evaluated, with_rest, with_steps, handed_out, answered, value_of, method_value, value_of_call};
 
+use crate::invocations::eval_invoked;
 use crate::outward::outward;
-use aml_meaning::{Datum, World};
-use aml_objects::Value;
+use aml_meaning::{Datum, Flow, Invocation, World};
+use aml_objects::{BodyPlace, Value};
 use aml_path::{NameString, Path, Prefix};
 use ar_space::{Refusal, Space};
 use std::alloc::Global;
@@ -28,8 +30,9 @@ pub fn eval<S: Space>(
 ) -> Result<(Value, u64), Refusal>
     ensures { Does result world.new (evaluated path.now arguments.items budget) world.old }
 {
-    let value = call(alloc, world, budget, path, arguments.len());
-    with_rest(value, budget)
+    let mut rest = budget;
+    let value = call(alloc, world, &mut rest, path, &arguments);
+    with_rest(value, rest)
 }
 
 fn with_rest(value: Result<Value, Refusal>, rest: u64) -> Result<(Value, u64), Refusal>
@@ -56,7 +59,7 @@ pub fn answer<S: Space>(
 ) -> Result<Datum, Refusal>
     ensures { Does (seen given_of result) world.new (answered path.now (map given_of arguments.items) budget) world.old }
 {
-    let outcome = with_steps(alloc, world, path, arguments.len(), budget);
+    let outcome = with_steps(alloc, world, path, &arguments, budget);
     world.release_mutexes();
     outcome
 }
@@ -66,13 +69,13 @@ fn with_steps<S: Space>(
     alloc: Global,
     world: &mut World<S>,
     path: &Path,
-    count: usize,
+    arguments: &[Datum],
     steps: u64,
 ) -> Result<Datum, Refusal>
-    ensures { Does (seen given_of result) world.new (with_steps steps (handed_out path.now count)) world.old }
+    ensures { Does (seen given_of result) world.new (with_steps steps (handed_out path.now (length arguments.now) (map given_of arguments.now))) world.old }
 {
     let mut budget = steps;
-    handed_out(alloc, world, &mut budget, path, count)
+    handed_out(alloc, world, &mut budget, path, arguments)
 }
 
 #[tactic(auto, using(aml_meaning::specs::Calling::calling), unfolding(aml_meaning::specs::Calling::handed_out))]
@@ -81,28 +84,89 @@ fn handed_out<S: Space>(
     world: &mut World<S>,
     budget: &mut u64,
     path: &Path,
-    count: usize,
+    arguments: &[Datum],
 ) -> Result<Datum, Refusal>
-    ensures { Does (seen given_of result) (world.new, budget.new) (handed_out path.now count) (world.old, budget.old) }
+    ensures { Does (seen given_of result) (world.new, budget.new) (handed_out path.now (length arguments.now) (map given_of arguments.now)) (world.old, budget.old) }
 {
-    let value = call(alloc, world, *budget, path, count)?;
+    let invocation = invocation(alloc, world, path, arguments.len())?;
+    let values = world.take_all(alloc, arguments)?;
+    let value = value_of(alloc, world, budget, invocation, &values)?;
     outward(alloc, world, budget, value)
 }
 
-/// The value of the object at a path that takes so many arguments.
+/// The value of the object at a path, with these arguments.
 #[tactic(auto, using(aml_meaning::specs::Calling::calling), unfolding(aml_meaning::specs::Calling::called))]
 fn call<S: Space>(
     alloc: Global,
+    world: &mut World<S>,
+    budget: &mut u64,
+    path: &Path,
+    arguments: &[Value],
+) -> Result<Value, Refusal>
+    ensures { Does result (world.new, budget.new) (called path.now arguments.now) (world.old, budget.old) }
+{
+    let invocation = invocation(alloc, world, path, arguments.len())?;
+    value_of(alloc, world, budget, invocation, arguments)
+}
+
+/// What the object at a path is that is asked for with so many arguments.
+fn invocation<S: Space>(
+    alloc: Global,
     world: &World<S>,
-    budget: u64,
     path: &Path,
     count: usize,
-) -> Result<Value, Refusal>
-    ensures { Does result (world.now, budget) (called path.now count) (world.now, budget) }
+) -> Result<Invocation, Refusal>
+    ensures { Does result world.now (invocation_found [] (absolute path.now) count) world.now }
 {
     match absolute(alloc, path) {
-        Ok(name) => world.read(&Path::root(alloc), &name, count),
+        Ok(name) => world.invocation(alloc, &Path::root(alloc), &name, count),
         Err(refusal) => Err(refusal),
+    }
+}
+
+#[tactic(auto, using(aml_meaning::specs::Calling::calling))]
+fn value_of<S: Space>(
+    alloc: Global,
+    world: &mut World<S>,
+    budget: &mut u64,
+    invocation: Invocation,
+    arguments: &[Value],
+) -> Result<Value, Refusal>
+    ensures { Does result (world.new, budget.new) (value_of invocation arguments.now) (world.old, budget.old) }
+{
+    match invocation {
+        Invocation::Value(value) => Ok(value),
+        Invocation::Method(path, body) => {
+            method_value(alloc, world, budget, &path, body, arguments)
+        }
+    }
+}
+
+/// The outermost call of a control method.
+#[tactic(auto, using(aml_meaning::specs::Calling::calling), unfolding(aml_meaning::specs::Calling::method_value))]
+fn method_value<S: Space>(
+    alloc: Global,
+    world: &mut World<S>,
+    budget: &mut u64,
+    path: &Path,
+    body: BodyPlace,
+    arguments: &[Value],
+) -> Result<Value, Refusal>
+    ensures { Does result (world.new, budget.new) (method_value path.now body arguments.now) (world.old, budget.old) }
+{
+    let flow = eval_invoked(alloc, world, budget, 0, path, body, arguments)?;
+    Ok(value_of_call(flow))
+}
+
+fn value_of_call(flow: Flow) -> Value
+    ensures { result ≡ value_of_call flow }
+{
+    match flow {
+        Flow::Value(value) => value,
+        Flow::Next => Value::Uninitialized,
+        Flow::Break => Value::Uninitialized,
+        Flow::Continue => Value::Uninitialized,
+        Flow::Return(_) => Value::Uninitialized,
     }
 }
 

@@ -6,20 +6,45 @@ ghost use Rattle.aml_terms.specs.PartTree.{part_tree, part_list};
 ghost use Rattle.aml_terms.specs.Apart.{code_of};
 ghost use Rattle.aml_objects.specs.declared.object.Element.TheVariants as elements;
 ghost use Rattle.aml_meaning.specs.Meaning.{meaning};
-ghost use Rattle.aml_meaning.specs.Evaluation.{constant_rule, integer_rule, string_rule, buffer_rule, named_element, valued_element, element_by, elements_in_turn, package_of, package_rule, var_package_rule};
+ghost use Rattle.aml_meaning.specs.DataTerms.{data_rule, constant_rule, integer_rule, string_rule, buffer_rule, named_element, valued_element, element_by, elements_in_turn, package_of, package_rule, var_package_rule};
 
 use crate::operands::{Reader, bytes, inner, list, number};
 use crate::terms::{charge, eval_operand_integer, eval_value};
-use aml_meaning::{Flow, World};
+use aml_meaning::{DataKind, Flow, World};
 use aml_objects::{Element, Elements};
 use aml_path::{NameString, Path};
 use aml_terms::{TermCode, TermReader};
 use ar_space::{Refusal, Space};
 use std::alloc::Global;
 
+/// Data, by its kind.
+#[cycle(evaluation)]
+#[tactic(auto, using(crate::specs::Steps::evaluating))]
+pub(crate) fn eval_data<S: Space>(
+    alloc: Global,
+    world: &mut World<S>,
+    budget: &mut u64,
+    scope: &Path,
+    depth: usize,
+    term: Reader<'_>,
+    kind: DataKind,
+) -> Result<Flow, Refusal>
+    ensures spent { budget.new ≤ budget.old }
+    ensures means { Does result (world.new, budget.new) (data_rule meaning kind scope.now depth (part_tree term.entry)) (world.old, budget.old) }
+{
+    match kind {
+        DataKind::Constant(number) => eval_constant(world, *budget, number),
+        DataKind::Integer => eval_integer(world, *budget, term),
+        DataKind::String => eval_string(alloc, world, *budget, term),
+        DataKind::Buffer => eval_buffer(alloc, world, budget, scope, depth, term),
+        DataKind::Package => eval_package(alloc, world, budget, scope, depth, term),
+        DataKind::VarPackage => eval_var_package(alloc, world, budget, scope, depth, term),
+    }
+}
+
 /// An integer that an opcode says.
-#[tactic(auto, using(crate::specs::Steps::evaluating), unfolding(aml_meaning::specs::Evaluation::constant_rule))]
-pub(crate) fn eval_constant<S: Space>(
+#[tactic(auto, using(crate::specs::Steps::evaluating), unfolding(aml_meaning::specs::DataTerms::constant_rule))]
+fn eval_constant<S: Space>(
     world: &World<S>,
     budget: u64,
     number: u64,
@@ -31,8 +56,8 @@ pub(crate) fn eval_constant<S: Space>(
 }
 
 /// An integer that follows its opcode.
-#[tactic(auto, using(crate::specs::Steps::evaluating), unfolding(aml_meaning::specs::Evaluation::integer_rule))]
-pub(crate) fn eval_integer<S: Space>(
+#[tactic(auto, using(crate::specs::Steps::evaluating), unfolding(aml_meaning::specs::DataTerms::integer_rule))]
+fn eval_integer<S: Space>(
     world: &World<S>,
     budget: u64,
     term: Reader<'_>,
@@ -43,8 +68,8 @@ pub(crate) fn eval_integer<S: Space>(
     eval_constant(world, budget, number)
 }
 
-#[tactic(auto, using(crate::specs::Steps::evaluating), unfolding(aml_meaning::specs::Evaluation::string_rule))]
-pub(crate) fn eval_string<S: Space>(
+#[tactic(auto, using(crate::specs::Steps::evaluating), unfolding(aml_meaning::specs::DataTerms::string_rule))]
+fn eval_string<S: Space>(
     alloc: Global,
     world: &mut World<S>,
     budget: u64,
@@ -58,8 +83,8 @@ pub(crate) fn eval_string<S: Space>(
 }
 
 #[cycle(evaluation)]
-#[tactic(auto, using(crate::specs::Steps::evaluating), unfolding(aml_meaning::specs::Evaluation::buffer_rule))]
-pub(crate) fn eval_buffer<S: Space>(
+#[tactic(auto, using(crate::specs::Steps::evaluating), unfolding(aml_meaning::specs::DataTerms::buffer_rule))]
+fn eval_buffer<S: Space>(
     alloc: Global,
     world: &mut World<S>,
     budget: &mut u64,
@@ -78,8 +103,8 @@ pub(crate) fn eval_buffer<S: Space>(
 }
 
 #[cycle(evaluation)]
-#[tactic(auto, using(crate::specs::Steps::evaluating), unfolding(aml_meaning::specs::Evaluation::package_rule))]
-pub(crate) fn eval_package<S: Space>(
+#[tactic(auto, using(crate::specs::Steps::evaluating), unfolding(aml_meaning::specs::DataTerms::package_rule))]
+fn eval_package<S: Space>(
     alloc: Global,
     world: &mut World<S>,
     budget: &mut u64,
@@ -96,8 +121,8 @@ pub(crate) fn eval_package<S: Space>(
 }
 
 #[cycle(evaluation)]
-#[tactic(auto, using(crate::specs::Steps::evaluating), unfolding(aml_meaning::specs::Evaluation::var_package_rule))]
-pub(crate) fn eval_var_package<S: Space>(
+#[tactic(auto, using(crate::specs::Steps::evaluating), unfolding(aml_meaning::specs::DataTerms::var_package_rule))]
+fn eval_var_package<S: Space>(
     alloc: Global,
     world: &mut World<S>,
     budget: &mut u64,
@@ -117,7 +142,7 @@ pub(crate) fn eval_var_package<S: Space>(
 
 /// A package of so many elements, the first of which are given.
 #[cycle(evaluation)]
-#[tactic(auto, using(crate::specs::Steps::evaluating), unfolding(aml_meaning::specs::Evaluation::package_of))]
+#[tactic(auto, using(crate::specs::Steps::evaluating), unfolding(aml_meaning::specs::DataTerms::package_of))]
 fn package_of<S: Space>(
     alloc: Global,
     world: &mut World<S>,
@@ -196,7 +221,7 @@ fn eval_element<S: Space>(
 }
 
 /// A name in a package, which is searched for at each use.
-#[tactic(auto, using(crate::specs::Steps::evaluating), unfolding(aml_meaning::specs::Evaluation::named_element))]
+#[tactic(auto, using(crate::specs::Steps::evaluating), unfolding(aml_meaning::specs::DataTerms::named_element))]
 fn named_element<S: Space>(
     alloc: Global,
     world: &World<S>,
@@ -214,7 +239,7 @@ fn named_element<S: Space>(
 }
 
 #[cycle(evaluation)]
-#[tactic(auto, using(crate::specs::Steps::evaluating), unfolding(aml_meaning::specs::Evaluation::valued_element))]
+#[tactic(auto, using(crate::specs::Steps::evaluating), unfolding(aml_meaning::specs::DataTerms::valued_element))]
 fn valued_element<S: Space>(
     alloc: Global,
     world: &mut World<S>,

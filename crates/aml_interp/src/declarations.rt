@@ -3,21 +3,64 @@ ghost use Rattle.std.specs.Prelude.{◌≡◌, ◌≤◌, ◌<◌};
 ghost use Rattle.ar_space.specs.Change.{Does};
 ghost use Rattle.aml_terms.specs.PartTree.{part_tree, part_list};
 ghost use Rattle.aml_meaning.specs.Meaning.{meaning};
-ghost use Rattle.aml_meaning.specs.Evaluation.{declaring, name_rule, alias_rule, method_rule, scope_rule, new_scope, module_level};
+ghost use Rattle.aml_meaning.specs.Tasks.{module_level};
+ghost use Rattle.aml_meaning.specs.DeclarationTerms.{declaration_rule, declaring, name_rule, alias_rule, method_rule, scope_rule, new_scope};
 ghost use Rattle.aml_meaning.specs.Declaring.{new_name};
 
 use crate::operands::{Reader, bytes, inner, list, number};
 use crate::terms::{eval_list, eval_value};
-use aml_meaning::{Flow, World};
+use aml_meaning::{DeclarationKind, Flow, World};
 use aml_objects::NamedObject;
 use aml_path::Path;
 use aml_terms::TermReader;
 use ar_space::{Refusal, Space};
 use std::alloc::Global;
 
+/// A declaration or a Scope, by its kind.
+#[cycle(evaluation)]
+#[tactic(auto, using(crate::specs::Steps::evaluating))]
+pub(crate) fn eval_declaration<S: Space>(
+    alloc: Global,
+    world: &mut World<S>,
+    budget: &mut u64,
+    scope: &Path,
+    depth: usize,
+    term: Reader<'_>,
+    kind: DeclarationKind,
+) -> Result<Flow, Refusal>
+    ensures spent { budget.new ≤ budget.old }
+    ensures means { Does result (world.new, budget.new) (declaration_rule meaning kind scope.now depth (part_tree term.entry)) (world.old, budget.old) }
+{
+    match kind {
+        DeclarationKind::Scope => eval_scope(alloc, world, budget, scope, depth, term),
+        DeclarationKind::Device => {
+            eval_new_scope(alloc, world, budget, scope, depth, term, NamedObject::Device, 1)
+        }
+        DeclarationKind::Processor => {
+            eval_new_scope(alloc, world, budget, scope, depth, term, NamedObject::Processor, 4)
+        }
+        DeclarationKind::PowerResource => {
+            eval_new_scope(alloc, world, budget, scope, depth, term, NamedObject::PowerResource, 3)
+        }
+        DeclarationKind::ThermalZone => {
+            eval_new_scope(alloc, world, budget, scope, depth, term, NamedObject::ThermalZone, 1)
+        }
+        DeclarationKind::Name => eval_name(alloc, world, budget, scope, depth, term),
+        DeclarationKind::Alias => eval_alias(alloc, world, *budget, scope, depth, term),
+        DeclarationKind::External => Ok(Flow::Next),
+        DeclarationKind::Method => eval_method(alloc, world, *budget, scope, depth, term),
+        DeclarationKind::Mutex => {
+            eval_declaring(alloc, world, *budget, scope, depth, term, NamedObject::Mutex(0))
+        }
+        DeclarationKind::Event => {
+            eval_declaring(alloc, world, *budget, scope, depth, term, NamedObject::Event)
+        }
+    }
+}
+
 /// A name that the term's first operand declares.
-#[tactic(auto, using(crate::specs::Steps::evaluating), unfolding(aml_meaning::specs::Evaluation::declaring))]
-pub(crate) fn eval_declaring<S: Space>(
+#[tactic(auto, using(crate::specs::Steps::evaluating), unfolding(aml_meaning::specs::DeclarationTerms::declaring))]
+fn eval_declaring<S: Space>(
     alloc: Global,
     world: &mut World<S>,
     budget: u64,
@@ -35,8 +78,8 @@ pub(crate) fn eval_declaring<S: Space>(
 }
 
 #[cycle(evaluation)]
-#[tactic(auto, using(crate::specs::Steps::evaluating), unfolding(aml_meaning::specs::Evaluation::name_rule))]
-pub(crate) fn eval_name<S: Space>(
+#[tactic(auto, using(crate::specs::Steps::evaluating), unfolding(aml_meaning::specs::DeclarationTerms::name_rule))]
+fn eval_name<S: Space>(
     alloc: Global,
     world: &mut World<S>,
     budget: &mut u64,
@@ -60,8 +103,8 @@ pub(crate) fn eval_name<S: Space>(
     )
 }
 
-#[tactic(auto, using(crate::specs::Steps::evaluating), unfolding(aml_meaning::specs::Evaluation::alias_rule))]
-pub(crate) fn eval_alias<S: Space>(
+#[tactic(auto, using(crate::specs::Steps::evaluating), unfolding(aml_meaning::specs::DeclarationTerms::alias_rule))]
+fn eval_alias<S: Space>(
     alloc: Global,
     world: &mut World<S>,
     budget: u64,
@@ -79,8 +122,8 @@ pub(crate) fn eval_alias<S: Space>(
     Ok(Flow::Next)
 }
 
-#[tactic(auto, using(crate::specs::Steps::evaluating), unfolding(aml_meaning::specs::Evaluation::method_rule))]
-pub(crate) fn eval_method<S: Space>(
+#[tactic(auto, using(crate::specs::Steps::evaluating), unfolding(aml_meaning::specs::DeclarationTerms::method_rule))]
+fn eval_method<S: Space>(
     alloc: Global,
     world: &mut World<S>,
     budget: u64,
@@ -100,8 +143,8 @@ pub(crate) fn eval_method<S: Space>(
 
 /// The list of a Scope stands in the scope that its name finds.
 #[cycle(evaluation)]
-#[tactic(auto, using(crate::specs::Steps::evaluating), unfolding(aml_meaning::specs::Evaluation::scope_rule))]
-pub(crate) fn eval_scope<S: Space>(
+#[tactic(auto, using(crate::specs::Steps::evaluating), unfolding(aml_meaning::specs::DeclarationTerms::scope_rule))]
+fn eval_scope<S: Space>(
     alloc: Global,
     world: &mut World<S>,
     budget: &mut u64,
@@ -120,8 +163,8 @@ pub(crate) fn eval_scope<S: Space>(
 
 /// A new name, and then the list of the term in it, which is the operand at a place.
 #[cycle(evaluation)]
-#[tactic(auto, using(crate::specs::Steps::evaluating), unfolding(aml_meaning::specs::Evaluation::new_scope))]
-pub(crate) fn eval_new_scope<S: Space>(
+#[tactic(auto, using(crate::specs::Steps::evaluating), unfolding(aml_meaning::specs::DeclarationTerms::new_scope))]
+fn eval_new_scope<S: Space>(
     alloc: Global,
     world: &mut World<S>,
     budget: &mut u64,

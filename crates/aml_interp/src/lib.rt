@@ -4,9 +4,13 @@
 mod answers;
 mod data;
 mod declarations;
+mod invocations;
 mod loading;
 mod operands;
+mod operators;
 mod outward;
+mod places;
+mod statements;
 mod terms;
 #[cfg(test)]
 mod tests;

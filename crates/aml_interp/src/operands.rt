@@ -1,10 +1,10 @@
 //! Operands of terms, by the kind that the grammar gives them.
-ghost use Rattle.std.specs.Prelude.{◌≡◌, ◌==◌};
+ghost use Rattle.std.specs.Prelude.{◌≡◌, ◌==◌, option_map};
 ghost use Rattle.ar_space.specs.Outcome.{Answers, seen};
 ghost use Rattle.aml_terms.specs.PartTree.{part_tree, part_list};
 ghost use Rattle.aml_terms.specs.Apart.{operand_of, bytes_of};
 ghost use Rattle.aml_meaning.specs.Readings.{as_many};
-ghost use Rattle.aml_meaning.specs.Terms.{number_of, inner_of, list_of, count_of};
+ghost use Rattle.aml_meaning.specs.Terms.{number_of, inner_of, list_of, else_of, count_of};
 
 use aml_objects::Octets;
 use aml_terms::{OperandView, TermPart, TermReader};
@@ -41,6 +41,16 @@ pub(crate) fn list(term: Reader<'_>, index: usize) -> Result<Reader<'_>, Refusal
     match term.operand(index) {
         OperandView::List(part) => Ok(part),
         _ => Err(Refusal::Name(NameFault::BadName)),
+    }
+}
+
+/// The Else of an If, where it has one.
+pub(crate) fn else_of(term: Reader<'_>) -> Option<Reader<'_>>
+    ensures { option_map part_tree result ≡ else_of (operand_of (part_tree term.entry) 2) }
+{
+    match term.operand(2) {
+        OperandView::Term(part) => Some(part),
+        _ => None,
     }
 }
 

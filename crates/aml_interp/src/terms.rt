@@ -8,18 +8,18 @@ ghost use Rattle.ar_space.specs.declared.refusal.EvaluationFault.TheVariants.{Un
 ghost use Rattle.aml_terms.specs.Opcodes.{number_of};
 ghost use Rattle.aml_meaning.specs.Run.{charge};
 ghost use Rattle.aml_meaning.specs.Meaning.{meaning};
-ghost use Rattle.aml_meaning.specs.Evaluation.{task, rule, code_rule, kind_rule, in_turn, operand_value, operand_integer, name_value};
+ghost use Rattle.aml_meaning.specs.Tasks.{task, operand_value, value_at, two_values, operand_integer, in_turn};
+ghost use Rattle.aml_meaning.specs.Evaluation.{rule, code_rule, kind_rule};
 ghost use Rattle.aml_meaning.specs.Terms.{kind_of};
 
-use crate::data::{
-    eval_buffer, eval_constant, eval_integer, eval_package, eval_string, eval_var_package,
-};
-use crate::declarations::{
-    eval_alias, eval_declaring, eval_method, eval_name, eval_new_scope, eval_scope,
-};
-use crate::operands::{Reader, as_many, list};
+use crate::data::eval_data;
+use crate::declarations::eval_declaration;
+use crate::invocations::eval_name_value;
+use crate::operands::{Reader, inner};
+use crate::operators::eval_operator;
+use crate::statements::eval_statement;
 use aml_meaning::{Flow, TermKind, World, kind_of};
-use aml_objects::{NamedObject, Value};
+use aml_objects::Value;
 use aml_path::Path;
 use aml_terms::{Opcode, TermCode, TermReader};
 use ar_space::{EvaluationFault, NameFault, Refusal, Space};
@@ -84,7 +84,7 @@ fn eval_code<S: Space>(
                 kind_of(opcode),
             )
         }
-        TermCode::MethodInvocation => eval_name_value(alloc, world, *budget, scope, term),
+        TermCode::MethodInvocation => eval_name_value(alloc, world, budget, scope, depth, term),
         TermCode::Name => Err(Refusal::Name(NameFault::BadName)),
         TermCode::NamedField => Err(Refusal::Name(NameFault::BadName)),
         TermCode::ReservedField => Err(Refusal::Name(NameFault::BadName)),
@@ -110,87 +110,12 @@ fn eval_kind<S: Space>(
     ensures means { Does result (world.new, budget.new) (kind_rule meaning kind opcode scope.now depth (part_tree term.entry)) (world.old, budget.old) }
 {
     match kind {
-        TermKind::Constant(number) => eval_constant(world, *budget, number),
-        TermKind::Integer => eval_integer(world, *budget, term),
-        TermKind::String => eval_string(alloc, world, *budget, term),
-        TermKind::Buffer => eval_buffer(alloc, world, budget, scope, depth, term),
-        TermKind::Package => eval_package(alloc, world, budget, scope, depth, term),
-        TermKind::VarPackage => eval_var_package(alloc, world, budget, scope, depth, term),
-        TermKind::Scope => eval_scope(alloc, world, budget, scope, depth, term),
-        TermKind::Device => {
-            eval_new_scope(
-                alloc,
-                world,
-                budget,
-                scope,
-                depth,
-                term,
-                NamedObject::Device,
-                1,
-            )
+        TermKind::Data(kind) => eval_data(alloc, world, budget, scope, depth, term, kind),
+        TermKind::Declaration(kind) => {
+            eval_declaration(alloc, world, budget, scope, depth, term, kind)
         }
-        TermKind::Processor => {
-            eval_new_scope(
-                alloc,
-                world,
-                budget,
-                scope,
-                depth,
-                term,
-                NamedObject::Processor,
-                4,
-            )
-        }
-        TermKind::PowerResource => {
-            eval_new_scope(
-                alloc,
-                world,
-                budget,
-                scope,
-                depth,
-                term,
-                NamedObject::PowerResource,
-                3,
-            )
-        }
-        TermKind::ThermalZone => {
-            eval_new_scope(
-                alloc,
-                world,
-                budget,
-                scope,
-                depth,
-                term,
-                NamedObject::ThermalZone,
-                1,
-            )
-        }
-        TermKind::Name => eval_name(alloc, world, budget, scope, depth, term),
-        TermKind::Alias => eval_alias(alloc, world, *budget, scope, depth, term),
-        TermKind::External => Ok(Flow::Next),
-        TermKind::Method => eval_method(alloc, world, *budget, scope, depth, term),
-        TermKind::Mutex => {
-            eval_declaring(
-                alloc,
-                world,
-                *budget,
-                scope,
-                depth,
-                term,
-                NamedObject::Mutex(0),
-            )
-        }
-        TermKind::Event => {
-            eval_declaring(
-                alloc,
-                world,
-                *budget,
-                scope,
-                depth,
-                term,
-                NamedObject::Event,
-            )
-        }
+        TermKind::Operator(kind) => eval_operator(alloc, world, budget, scope, depth, term, kind),
+        TermKind::Statement(kind) => eval_statement(alloc, world, budget, scope, depth, term, kind),
         TermKind::Unsupported => Err(unsupported(opcode)),
     }
 }
@@ -201,28 +126,9 @@ fn unsupported(opcode: Opcode) -> Refusal
     Refusal::Evaluation(EvaluationFault::Unsupported(opcode.number()))
 }
 
-/// A name where a value stands, and its arguments.
-#[tactic(auto, using(crate::specs::Steps::evaluating), unfolding(aml_meaning::specs::Evaluation::name_value))]
-fn eval_name_value<S: Space>(
-    alloc: Global,
-    world: &World<S>,
-    budget: u64,
-    scope: &Path,
-    term: Reader<'_>,
-) -> Result<Flow, Refusal>
-    ensures { Does result (world.now, budget) (name_value meaning scope.now (part_tree term.entry)) (world.now, budget) }
-{
-    let name = term.name(alloc, 0)?;
-    let arguments = list(term, 1)?;
-    let wanted = world.arguments(scope, &name)?;
-    as_many(arguments, wanted)?;
-    let value = world.value_found(scope, &name)?;
-    Ok(Flow::Value(value))
-}
-
 /// An operand's value.
 #[cycle(evaluation)]
-#[tactic(auto, using(crate::specs::Steps::evaluating), unfolding(aml_meaning::specs::Evaluation::operand_value))]
+#[tactic(auto, using(crate::specs::Steps::evaluating), unfolding(aml_meaning::specs::Tasks::operand_value))]
 pub(crate) fn eval_value<S: Space>(
     alloc: Global,
     world: &mut World<S>,
@@ -239,9 +145,47 @@ pub(crate) fn eval_value<S: Space>(
     flow.value()
 }
 
+/// The value of the operand at a position.
+#[cycle(evaluation)]
+#[tactic(auto, using(crate::specs::Steps::evaluating), unfolding(aml_meaning::specs::Tasks::value_at))]
+pub(crate) fn eval_value_at<S: Space>(
+    alloc: Global,
+    world: &mut World<S>,
+    budget: &mut u64,
+    scope: &Path,
+    depth: usize,
+    term: Reader<'_>,
+    index: usize,
+) -> Result<Value, Refusal>
+    ensures spent { budget.new ≤ budget.old }
+    ensures means { Does result (world.new, budget.new) (value_at meaning scope.now depth (part_tree term.entry) index) (world.old, budget.old) }
+{
+    let operand = inner(term, index)?;
+    eval_value(alloc, world, budget, scope, depth, operand)
+}
+
+/// The values of the first two operands.
+#[cycle(evaluation)]
+#[tactic(auto, using(crate::specs::Steps::evaluating), unfolding(aml_meaning::specs::Tasks::two_values))]
+pub(crate) fn eval_two_values<S: Space>(
+    alloc: Global,
+    world: &mut World<S>,
+    budget: &mut u64,
+    scope: &Path,
+    depth: usize,
+    term: Reader<'_>,
+) -> Result<(Value, Value), Refusal>
+    ensures spent { budget.new ≤ budget.old }
+    ensures means { Does result (world.new, budget.new) (two_values meaning scope.now depth (part_tree term.entry)) (world.old, budget.old) }
+{
+    let first = eval_value_at(alloc, world, budget, scope, depth, term, 0)?;
+    let second = eval_value_at(alloc, world, budget, scope, depth, term, 1)?;
+    Ok((first, second))
+}
+
 /// An integer that an operand gives.
 #[cycle(evaluation)]
-#[tactic(auto, using(crate::specs::Steps::evaluating), unfolding(aml_meaning::specs::Evaluation::operand_integer))]
+#[tactic(auto, using(crate::specs::Steps::evaluating), unfolding(aml_meaning::specs::Tasks::operand_integer))]
 pub(crate) fn eval_operand_integer<S: Space>(
     alloc: Global,
     world: &mut World<S>,
@@ -251,6 +195,7 @@ pub(crate) fn eval_operand_integer<S: Space>(
     term: Reader<'_>,
 ) -> Result<u64, Refusal>
     ensures spent { budget.new ≤ budget.old }
+    ensures paid { OnOk result (budget.new < budget.old) }
     ensures means { Does result (world.new, budget.new) (operand_integer meaning scope.now depth (part_tree term.entry)) (world.old, budget.old) }
 {
     let value = eval_value(alloc, world, budget, scope, depth, term)?;

@@ -1,5 +1,5 @@
 -- Loading a table, and what an object answers (ACPI 6.5, 5.4 and 5.5).
-use Rattle.std.specs.Prelude.{◌≡◌, ℕ, List, [], ◌∷◌, ◌++◌, length, replicate, slice_index_or, Ok, Err, refl}
+use Rattle.std.specs.Prelude.{◌≡◌, ℕ, List, [], ◌∷◌, ◌++◌, length, replicate, Ok, Err, refl}
 use Rattle.ar_space.specs.Outcome.{Outcome, NotMemory, seen}
 use Rattle.ar_space.specs.Change.{Change, Does, give, settle, ◌>>=◌, ◌>>◌}
 use Rattle.aml_path.specs.declared.segment.Seg.{Seg}
@@ -69,11 +69,6 @@ table_run steps bytes = do
 unfoldable pub loaded : {S : Type 0} → List ℕ → ℕ → Change (State S) (Unit {0})
 loaded bytes steps = ending (table_run steps bytes)
 
--- the slots of a frame for these arguments
-abbrev pub frame_arguments : List Value → List Value
-frame_arguments vs = slice_index_or vs 0 value.Uninitialized ∷ slice_index_or vs 1 value.Uninitialized ∷ slice_index_or vs 2 value.Uninitialized ∷ slice_index_or vs 3 value.Uninitialized
-    ∷ slice_index_or vs 4 value.Uninitialized ∷ slice_index_or vs 5 value.Uninitialized ∷ slice_index_or vs 6 value.Uninitialized ∷ []
-
 -- what a call leaves, as a value
 abbrev pub value_of_call : Flow → Value
 value_of_call (flow.Value v) = v
@@ -85,7 +80,7 @@ value_of_call (flow.Return v) = value.Uninitialized
 -- the outermost call of a control method
 unfoldable pub method_value : {S : Type 0} → List Seg → BodyPlace → List Value → Run S Value
 method_value p body arguments = do
-  f ← invoked meaning 0 p body (frame_arguments arguments)
+  f ← invoked meaning 0 p body arguments
   give (value_of_call f)
 
 -- a name that is no control method is read
@@ -110,15 +105,15 @@ unfoldable pub evaluated : {S : Type 0} → List Seg → List Value → ℕ → 
 evaluated p arguments steps = counted steps (called p arguments)
 
 -- the value that is handed out, in the same steps; arguments are taken once they are as many as are wanted
-unfoldable pub handed_out : {S : Type 0} → List Seg → List Given → Run S Given
-handed_out p arguments = do
-  i ← lift (invocation_found [] (absolute p) (length arguments))
+unfoldable pub handed_out : {S : Type 0} → List Seg → ℕ → List Given → Run S Given
+handed_out p count arguments = do
+  i ← lift (invocation_found [] (absolute p) count)
   vs ← lift (all_taken arguments [])
   v ← value_of i vs
   outward v
 
 unfoldable pub answered : {S : Type 0} → List Seg → List Given → ℕ → Change (State S) Given
-answered p arguments steps = ending (with_steps steps (handed_out p arguments))
+answered p arguments steps = ending (with_steps steps (handed_out p (length arguments) arguments))
 
 -- ---- however the evaluation ended
 

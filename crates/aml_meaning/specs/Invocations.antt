@@ -1,5 +1,5 @@
 -- Names where values stand, and calls of control methods (ACPI 6.5, 5.5.2 and 20.2.5: MethodInvocation).
-use Rattle.std.specs.Prelude.{ℕ, ◌+◌, List, [], ◌∷◌, ◌++◌, take, drop, length, map, replicate, true, false, Option, Some, None, Ok, Err, slice_get, slice_set, nat_lt, if◌then◌else◌}
+use Rattle.std.specs.Prelude.{ℕ, ◌+◌, List, [], ◌∷◌, ◌++◌, take, drop, length, map, true, false, Option, Some, None, Ok, Err, slice_get, slice_index_or, nat_lt, if◌then◌else◌}
 use Rattle.std.specs.List.{filter}
 use Rattle.std.specs.FinMap.{get, entries}
 use Rattle.ar_space.specs.declared.refusal.Refusal.TheVariants as refusal
@@ -122,28 +122,29 @@ returned_by flow.Continue = flow.Next
 unfoldable pub leaving : {S : Type 0} → List Seg → Run S Flow → Run S Flow
 leaving p m s = (seen returned_by (m s).0, (left p (m s).1.0, (m s).1.1))
 
--- no argument yet
-abbrev pub no_arguments : List Value
-no_arguments = replicate 7 value.Uninitialized
+-- the slots of a frame for these arguments
+abbrev pub frame_arguments : List Value → List Value
+frame_arguments vs = slice_index_or vs 0 value.Uninitialized ∷ slice_index_or vs 1 value.Uninitialized ∷ slice_index_or vs 2 value.Uninitialized ∷ slice_index_or vs 3 value.Uninitialized
+    ∷ slice_index_or vs 4 value.Uninitialized ∷ slice_index_or vs 5 value.Uninitialized ∷ slice_index_or vs 6 value.Uninitialized ∷ []
 
 module _ {S : Type 0} (ev : Task → Run S Flow) where
-  -- arguments from a place on, beside those before
-  unfoldable pub arguments_in_turn : List Seg → ℕ → Trees → ℕ → List Value → Run S (List Value)
-  arguments_in_turn scope depth no_trees i done = give done
-  arguments_in_turn scope depth (tree t ts) i done = do
+  -- arguments behind those that are done
+  unfoldable pub arguments_in_turn : List Seg → ℕ → Trees → List Value → Run S (List Value)
+  arguments_in_turn scope depth no_trees done = give done
+  arguments_in_turn scope depth (tree t ts) done = do
     v ← operand_value ev scope depth t
-    arguments_in_turn scope depth ts (i + 1) (slice_set done i v)
+    arguments_in_turn scope depth ts (done ++ v ∷ [])
 
   unfoldable pub invoked : ℕ → List Seg → BodyPlace → List Value → Run S Flow
   invoked depth p body arguments = do
     few ← settle (shallow depth)
     ts ← lift (body_terms p body)
-    number ← lift (opened arguments)
+    number ← lift (opened (frame_arguments arguments))
     leaving p (in_turn ev p (depth + 1) ts)
 
   unfoldable pub call_rule : List Seg → ℕ → Trees → List Seg → BodyPlace → Run S Flow
   call_rule scope depth ts p body = do
-    arguments ← arguments_in_turn scope depth ts 0 no_arguments
+    arguments ← arguments_in_turn scope depth ts []
     invoked depth p body arguments
 
   abbrev pub invocation_rule : List Seg → ℕ → Trees → Invocation → Run S Flow
@@ -154,5 +155,7 @@ module _ {S : Type 0} (ev : Task → Run S Flow) where
   name_value scope depth t = do
     n ← settle (name_of (operand_of t 0))
     ts ← settle (list_of (operand_of t 1))
-    i ← lift (invocation_found scope n (count_of ts))
+    wanted ← lift (arguments_found scope n)
+    many ← settle (as_many wanted (count_of ts))
+    i ← lift (named_use scope n)
     invocation_rule scope depth ts i

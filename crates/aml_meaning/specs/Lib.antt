@@ -8,6 +8,7 @@ pub mod Following
 pub mod Given
 pub mod Invocations
 pub mod Lifted
+pub mod Loops
 pub mod Meaning
 pub mod Mutexes
 pub mod NewObjects

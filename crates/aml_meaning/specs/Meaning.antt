@@ -45,7 +45,7 @@ use Rattle.aml_meaning.specs.DataTerms.{constant_rule, integer_rule, string_rule
 use Rattle.aml_meaning.specs.DeclarationTerms.{declaring, name_rule, alias_rule, method_rule, scope_rule, new_scope, declaration_rule}
 use Rattle.aml_meaning.specs.PlaceTerms.{referring, place_of_term, name_place, place_by, place_at, targeted}
 use Rattle.aml_meaning.specs.OperatorTerms.{slot_rule, store_rule, copy_rule, two_rule, divide_rule, one_rule, test_rule, not_rule, count_rule, size_rule, type_rule, acquire_rule, operator_rule}
-use Rattle.aml_meaning.specs.StatementTerms.{otherwise, branch, if_rule, else_rule, turn_of, turn, after_turn, turns, loop, while_rule, return_rule, release_rule, notify_rule, pause_rule, fatal_rule, statement_rule}
+use Rattle.aml_meaning.specs.StatementTerms.{otherwise, branch, if_rule, else_rule, turn_of, turn, loop_end, after_turn, turns, loop, while_rule, return_rule, release_rule, notify_rule, pause_rule, fatal_rule, statement_rule}
 use Rattle.aml_meaning.specs.Invocations.{arguments_in_turn, leaving, invoked, call_rule, invocation_rule, name_value}
 use Rattle.aml_meaning.specs.Evaluation.{kind_rule, code_rule, rule}
 
@@ -293,7 +293,7 @@ module _ {S : Type 0} {n : ℕ} (ev ew : Task → Run S Flow) (parts : (t : Task
   unfolding else_rule
   agree_else scope depth t = agree_bind _ _ _ _ (agree_settle _) (λ ts. agree_turn scope depth ts)
 
-  agree_turn_of : (scope : List Seg) (depth : ℕ) (ts : Trees) (b : Bool) → Agree n (turn_of ev scope depth ts b) (turn_of ew scope depth ts b)
+  pub agree_turn_of : (scope : List Seg) (depth : ℕ) (ts : Trees) (b : Bool) → Agree n (turn_of ev scope depth ts b) (turn_of ew scope depth ts b)
   agree_turn_of scope depth ts true = agree_turn scope depth ts
   agree_turn_of scope depth ts false = agree_give _
 
@@ -301,17 +301,14 @@ module _ {S : Type 0} {n : ℕ} (ev ew : Task → Run S Flow) (parts : (t : Task
   unfolding turn
   agree_turning scope depth c ts = agree_bind _ _ _ _ (agree_integer scope depth c) (λ x. agree_turn_of scope depth ts _)
 
-  agree_after_turn : (f : Flow) (m k : Run S Flow) → Agree n m k → Agree n (after_turn ev f m) (after_turn ew f k)
-  agree_after_turn (flow.Value v) m k h = h
-  agree_after_turn flow.Next m k h = h
-  agree_after_turn flow.Break m k h = agree_give _
-  agree_after_turn flow.Continue m k h = h
-  agree_after_turn (flow.Return v) m k h = agree_give _
+  agree_after_turn : (o : Option Flow) (m k : Run S Flow) → Agree n m k → Agree n (after_turn ev o m) (after_turn ew o k)
+  agree_after_turn None m k h = h
+  agree_after_turn (Some f) m k h = agree_give _
 
   agree_turns : (k : ℕ) (scope : List Seg) (depth : ℕ) (c : Tree) (ts : Trees) → Agree n (turns ev k scope depth c ts) (turns ew k scope depth c ts)
   unfolding turns
   agree_turns zero scope depth c ts = agree_stop _
-  agree_turns (suc k) scope depth c ts = agree_bind _ _ _ _ (agree_turning scope depth c ts) (λ f. agree_after_turn f _ _ (agree_turns k scope depth c ts))
+  agree_turns (suc k) scope depth c ts = agree_bind _ _ _ _ (agree_turning scope depth c ts) (λ f. agree_after_turn (loop_end f) _ _ (agree_turns k scope depth c ts))
 
   agree_loop : (scope : List Seg) (depth : ℕ) (c : Tree) (ts : Trees) → Agree n (loop ev scope depth c ts) (loop ew scope depth c ts)
   unfolding loop
@@ -356,10 +353,10 @@ module _ {S : Type 0} {n : ℕ} (ev ew : Task → Run S Flow) (parts : (t : Task
 
   -- ---- calls
 
-  agree_arguments : (scope : List Seg) (depth : ℕ) (ts : Trees) (i : ℕ) (done : List Value) → Agree n (arguments_in_turn ev scope depth ts i done) (arguments_in_turn ew scope depth ts i done)
+  agree_arguments : (scope : List Seg) (depth : ℕ) (ts : Trees) (done : List Value) → Agree n (arguments_in_turn ev scope depth ts done) (arguments_in_turn ew scope depth ts done)
   unfolding arguments_in_turn
-  agree_arguments scope depth no_trees i done = agree_give _
-  agree_arguments scope depth (tree t ts) i done = agree_bind _ _ _ _ (agree_value scope depth t) (λ v. agree_arguments scope depth ts _ _)
+  agree_arguments scope depth no_trees done = agree_give _
+  agree_arguments scope depth (tree t ts) done = agree_bind _ _ _ _ (agree_value scope depth t) (λ v. agree_arguments scope depth ts _)
 
   agree_leaving : (p : List Seg) (m k : Run S Flow) → Agree n m k → Agree n (leaving p m) (leaving p k)
   unfolding leaving
@@ -371,7 +368,7 @@ module _ {S : Type 0} {n : ℕ} (ev ew : Task → Run S Flow) (parts : (t : Task
 
   agree_call : (scope : List Seg) (depth : ℕ) (ts : Trees) (p : List Seg) (body : BodyPlace) → Agree n (call_rule ev scope depth ts p body) (call_rule ew scope depth ts p body)
   unfolding call_rule
-  agree_call scope depth ts p body = agree_bind _ _ _ _ (agree_arguments scope depth ts _ _) (λ arguments. agree_invoked depth p body arguments)
+  agree_call scope depth ts p body = agree_bind _ _ _ _ (agree_arguments scope depth ts _) (λ arguments. agree_invoked depth p body arguments)
 
   agree_invocation : (scope : List Seg) (depth : ℕ) (ts : Trees) (i : Invocation) → Agree n (invocation_rule ev scope depth ts i) (invocation_rule ew scope depth ts i)
   agree_invocation scope depth ts (invocations.Value v) = agree_give _
@@ -379,7 +376,7 @@ module _ {S : Type 0} {n : ℕ} (ev ew : Task → Run S Flow) (parts : (t : Task
 
   agree_name_value : (scope : List Seg) (depth : ℕ) (t : Tree) → Agree n (name_value ev scope depth t) (name_value ew scope depth t)
   unfolding name_value
-  agree_name_value scope depth t = agree_bind _ _ _ _ (agree_settle _) (λ x. agree_bind _ _ _ _ (agree_settle _) (λ ts. agree_bind _ _ _ _ (agree_lift _) (λ i. agree_invocation scope depth ts i)))
+  agree_name_value scope depth t = agree_bind _ _ _ _ (agree_settle _) (λ x. agree_bind _ _ _ _ (agree_settle _) (λ ts. agree_bind _ _ _ _ (agree_lift _) (λ wanted. agree_bind _ _ _ _ (agree_settle _) (λ many. agree_bind _ _ _ _ (agree_lift _) (λ i. agree_invocation scope depth ts i)))))
 
   -- ---- which rule
 

@@ -18,6 +18,14 @@ use Rattle.aml_meaning.specs.Mutexes.{given_back_at}
 use Rattle.aml_meaning.specs.Tasks.{Task, task, operand_integer, value_at, in_turn}
 use Rattle.aml_meaning.specs.PlaceTerms.{place_at}
 
+-- how a loop ends with a turn, where it does
+abbrev pub loop_end : Flow → Option Flow
+loop_end flow.Break = Some flow.Next
+loop_end (flow.Return v) = Some (flow.Return v)
+loop_end (flow.Value v) = None
+loop_end flow.Next = None
+loop_end flow.Continue = None
+
 module _ {S : Type 0} (ev : Task → Run S Flow) where
   -- ---- If and Else
 
@@ -54,19 +62,17 @@ module _ {S : Type 0} (ev : Task → Run S Flow) where
     x ← operand_integer ev scope depth c
     turn_of scope depth ts (is_true x)
 
-  abbrev pub after_turn : Flow → Run S Flow → Run S Flow
-  after_turn (flow.Value v) again = again
-  after_turn flow.Next again = again
-  after_turn flow.Break again = give flow.Next
-  after_turn flow.Continue again = again
-  after_turn (flow.Return v) again = give (flow.Return v)
+  -- a turn is done: the loop ends, or it goes on
+  abbrev pub after_turn : Option Flow → Run S Flow → Run S Flow
+  after_turn None again = again
+  after_turn (Some f) again = give f
 
   -- at most so many turns
   unfoldable pub turns : ℕ → List Seg → ℕ → Tree → Trees → Run S Flow
   turns zero scope depth c ts = stop (refusal.Evaluation OutOfSteps)
   turns (suc n) scope depth c ts = do
     f ← turn scope depth c ts
-    after_turn f (turns n scope depth c ts)
+    after_turn (loop_end f) (turns n scope depth c ts)
 
   -- each turn costs a step, so that no more begin than one for each that is left and another, which finds none
   unfoldable pub loop : List Seg → ℕ → Tree → Trees → Run S Flow

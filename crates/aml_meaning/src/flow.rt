@@ -3,6 +3,7 @@ ghost use Rattle.std.specs.Prelude.{◌≡◌};
 ghost use Rattle.ar_space.specs.Outcome.{Answers};
 ghost use Rattle.aml_meaning.specs.Readings.{value_in};
 ghost use Rattle.aml_meaning.specs.Tasks.{goes_on};
+ghost use Rattle.aml_meaning.specs.StatementTerms.{loop_end};
 ghost use Rattle.aml_meaning.specs.Invocations.{returned_by};
 
 use aml_objects::Value;
@@ -47,6 +48,19 @@ impl Flow {
             Flow::Break => false,
             Flow::Continue => false,
             Flow::Return(_) => false,
+        }
+    }
+
+    /// How a loop ends with a turn that leaves this, where it does: after Break, and after Return with its value.
+    pub fn loop_end(self) -> Option<Flow>
+        ensures { result ≡ loop_end self }
+    {
+        match self {
+            Flow::Break => Some(Flow::Next),
+            Flow::Return(value) => Some(Flow::Return(value)),
+            Flow::Value(_) => None,
+            Flow::Next => None,
+            Flow::Continue => None,
         }
     }
 

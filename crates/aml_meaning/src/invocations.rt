@@ -40,8 +40,9 @@ impl<S> World<S> {
         self.named_use(alloc, scope, name)
     }
 
+    /// What a name is where a value stands; refused as `invocation` is, the count of arguments aside.
     #[tactic(auto, unfolding(crate::specs::Invocations::named_use))]
-    fn named_use(
+    pub fn named_use(
         &self,
         alloc: Global,
         scope: &Path,

@@ -2,56 +2,179 @@ use Rattle.std.proofs.Common.{◌≡◌, ℕ, ◌≤◌, ◌+◌, ◌*◌, ◌<�
 use Rattle.ar_space.specs.Change.{Same}
 use Rattle.aml_terms.specs.PartTree.{part_tree, part_list}
 use Rattle.aml_meaning.specs.Meaning.{meaning}
-use Rattle.aml_meaning.specs.Evaluation.{in_turn, elements_in_turn}
+use Rattle.aml_meaning.specs.Tasks.{in_turn}
+use Rattle.aml_meaning.specs.DataTerms.{elements_in_turn}
+use Rattle.aml_meaning.specs.StatementTerms.{loop}
+use Rattle.aml_meaning.specs.Invocations.{arguments_in_turn}
 use Rattle.aml_interp.proofs.+evaluation.Given as goal
 
 abbrev pub decreases-terms::eval_term : goal.decreases-terms::eval_term
-decreases-terms::eval_term g l = 9 * l.budget.now + 0
+decreases-terms::eval_term g l = 10 * l.budget.now + 0
 
 abbrev pub decreases-terms::eval_value : goal.decreases-terms::eval_value
-decreases-terms::eval_value g l = 9 * l.budget.now + 1
+decreases-terms::eval_value g l = 10 * l.budget.now + 1
 
 abbrev pub decreases-terms::eval_list : goal.decreases-terms::eval_list
-decreases-terms::eval_list g l = 9 * l.budget.now + 1
+decreases-terms::eval_list g l = 10 * l.budget.now + 1
 
-abbrev pub decreases-data::valued_element : goal.decreases-data::valued_element
-decreases-data::valued_element g l = 9 * l.budget.now + 2
+abbrev pub decreases-terms::eval_value_at : goal.decreases-terms::eval_value_at
+decreases-terms::eval_value_at g l = 10 * l.budget.now + 2
 
 abbrev pub decreases-terms::eval_operand_integer : goal.decreases-terms::eval_operand_integer
-decreases-terms::eval_operand_integer g l = 9 * l.budget.now + 2
+decreases-terms::eval_operand_integer g l = 10 * l.budget.now + 2
+
+abbrev pub decreases-terms::eval_two_values : goal.decreases-terms::eval_two_values
+decreases-terms::eval_two_values g l = 10 * l.budget.now + 3
+
+abbrev pub decreases-data::valued_element : goal.decreases-data::valued_element
+decreases-data::valued_element g l = 10 * l.budget.now + 2
 
 abbrev pub decreases-data::eval_element : goal.decreases-data::eval_element
-decreases-data::eval_element g l = 9 * l.budget.now + 3
+decreases-data::eval_element g l = 10 * l.budget.now + 3
 
 abbrev pub decreases-data::eval_elements : goal.decreases-data::eval_elements
-decreases-data::eval_elements g l = 9 * l.budget.now + 4
+decreases-data::eval_elements g l = 10 * l.budget.now + 4
 
 abbrev pub decreases-data::package_of : goal.decreases-data::package_of
-decreases-data::package_of g l = 9 * l.budget.now + 5
+decreases-data::package_of g l = 10 * l.budget.now + 5
 
 abbrev pub decreases-data::eval_package : goal.decreases-data::eval_package
-decreases-data::eval_package g l = 9 * l.budget.now + 6
+decreases-data::eval_package g l = 10 * l.budget.now + 6
 
 abbrev pub decreases-data::eval_var_package : goal.decreases-data::eval_var_package
-decreases-data::eval_var_package g l = 9 * l.budget.now + 6
+decreases-data::eval_var_package g l = 10 * l.budget.now + 6
 
 abbrev pub decreases-data::eval_buffer : goal.decreases-data::eval_buffer
-decreases-data::eval_buffer g l = 9 * l.budget.now + 3
+decreases-data::eval_buffer g l = 10 * l.budget.now + 3
+
+abbrev pub decreases-data::eval_data : goal.decreases-data::eval_data
+decreases-data::eval_data g l = 10 * l.budget.now + 7
 
 abbrev pub decreases-declarations::eval_name : goal.decreases-declarations::eval_name
-decreases-declarations::eval_name g l = 9 * l.budget.now + 2
+decreases-declarations::eval_name g l = 10 * l.budget.now + 2
 
 abbrev pub decreases-declarations::eval_scope : goal.decreases-declarations::eval_scope
-decreases-declarations::eval_scope g l = 9 * l.budget.now + 2
+decreases-declarations::eval_scope g l = 10 * l.budget.now + 2
 
 abbrev pub decreases-declarations::eval_new_scope : goal.decreases-declarations::eval_new_scope
-decreases-declarations::eval_new_scope g l = 9 * l.budget.now + 2
+decreases-declarations::eval_new_scope g l = 10 * l.budget.now + 2
+
+abbrev pub decreases-declarations::eval_declaration : goal.decreases-declarations::eval_declaration
+decreases-declarations::eval_declaration g l = 10 * l.budget.now + 7
+
+abbrev pub decreases-places::eval_referring : goal.decreases-places::eval_referring
+decreases-places::eval_referring g l = 10 * l.budget.now + 1
+
+abbrev pub decreases-places::eval_inner_place : goal.decreases-places::eval_inner_place
+decreases-places::eval_inner_place g l = 10 * l.budget.now + 2
+
+abbrev pub decreases-places::eval_place : goal.decreases-places::eval_place
+decreases-places::eval_place g l = 10 * l.budget.now + 3
+
+abbrev pub decreases-places::eval_targeted : goal.decreases-places::eval_targeted
+decreases-places::eval_targeted g l = 10 * l.budget.now + 4
+
+abbrev pub decreases-operators::eval_store : goal.decreases-operators::eval_store
+decreases-operators::eval_store g l = 10 * l.budget.now + 5
+
+abbrev pub decreases-operators::eval_copy : goal.decreases-operators::eval_copy
+decreases-operators::eval_copy g l = 10 * l.budget.now + 5
+
+abbrev pub decreases-operators::eval_two : goal.decreases-operators::eval_two
+decreases-operators::eval_two g l = 10 * l.budget.now + 5
+
+abbrev pub decreases-operators::eval_divide : goal.decreases-operators::eval_divide
+decreases-operators::eval_divide g l = 10 * l.budget.now + 5
+
+abbrev pub decreases-operators::eval_one : goal.decreases-operators::eval_one
+decreases-operators::eval_one g l = 10 * l.budget.now + 5
+
+abbrev pub decreases-operators::eval_test : goal.decreases-operators::eval_test
+decreases-operators::eval_test g l = 10 * l.budget.now + 5
+
+abbrev pub decreases-operators::eval_not : goal.decreases-operators::eval_not
+decreases-operators::eval_not g l = 10 * l.budget.now + 5
+
+abbrev pub decreases-operators::eval_count : goal.decreases-operators::eval_count
+decreases-operators::eval_count g l = 10 * l.budget.now + 5
+
+abbrev pub decreases-operators::eval_size : goal.decreases-operators::eval_size
+decreases-operators::eval_size g l = 10 * l.budget.now + 5
+
+abbrev pub decreases-operators::eval_type : goal.decreases-operators::eval_type
+decreases-operators::eval_type g l = 10 * l.budget.now + 5
+
+abbrev pub decreases-operators::eval_acquire : goal.decreases-operators::eval_acquire
+decreases-operators::eval_acquire g l = 10 * l.budget.now + 5
+
+abbrev pub decreases-operators::eval_operator : goal.decreases-operators::eval_operator
+decreases-operators::eval_operator g l = 10 * l.budget.now + 7
+
+abbrev pub decreases-statements::eval_otherwise : goal.decreases-statements::eval_otherwise
+decreases-statements::eval_otherwise g l = 10 * l.budget.now + 1
+
+abbrev pub decreases-statements::eval_branch : goal.decreases-statements::eval_branch
+decreases-statements::eval_branch g l = 10 * l.budget.now + 2
+
+abbrev pub decreases-statements::eval_if : goal.decreases-statements::eval_if
+decreases-statements::eval_if g l = 10 * l.budget.now + 3
+
+abbrev pub decreases-statements::eval_else : goal.decreases-statements::eval_else
+decreases-statements::eval_else g l = 10 * l.budget.now + 2
+
+abbrev pub decreases-statements::eval_turn_of : goal.decreases-statements::eval_turn_of
+decreases-statements::eval_turn_of g l = 10 * l.budget.now + 2
+
+abbrev pub decreases-statements::eval_turn : goal.decreases-statements::eval_turn
+decreases-statements::eval_turn g l = 10 * l.budget.now + 3
+
+abbrev pub decreases-statements::eval_loop : goal.decreases-statements::eval_loop
+decreases-statements::eval_loop g l = 10 * l.budget.now + 4
+
+abbrev pub decreases-statements::eval_while : goal.decreases-statements::eval_while
+decreases-statements::eval_while g l = 10 * l.budget.now + 5
+
+abbrev pub decreases-statements::eval_return : goal.decreases-statements::eval_return
+decreases-statements::eval_return g l = 10 * l.budget.now + 3
+
+abbrev pub decreases-statements::eval_release : goal.decreases-statements::eval_release
+decreases-statements::eval_release g l = 10 * l.budget.now + 4
+
+abbrev pub decreases-statements::eval_notify : goal.decreases-statements::eval_notify
+decreases-statements::eval_notify g l = 10 * l.budget.now + 4
+
+abbrev pub decreases-statements::eval_pause : goal.decreases-statements::eval_pause
+decreases-statements::eval_pause g l = 10 * l.budget.now + 3
+
+abbrev pub decreases-statements::eval_fatal : goal.decreases-statements::eval_fatal
+decreases-statements::eval_fatal g l = 10 * l.budget.now + 3
+
+abbrev pub decreases-statements::eval_statement : goal.decreases-statements::eval_statement
+decreases-statements::eval_statement g l = 10 * l.budget.now + 7
+
+abbrev pub decreases-invocations::eval_body : goal.decreases-invocations::eval_body
+decreases-invocations::eval_body g l = 10 * l.budget.now + 2
+
+abbrev pub decreases-invocations::eval_invoked : goal.decreases-invocations::eval_invoked
+decreases-invocations::eval_invoked g l = 10 * l.budget.now + 3
+
+abbrev pub decreases-invocations::eval_arguments : goal.decreases-invocations::eval_arguments
+decreases-invocations::eval_arguments g l = 10 * l.budget.now + 2
+
+abbrev pub decreases-invocations::eval_call : goal.decreases-invocations::eval_call
+decreases-invocations::eval_call g l = 10 * l.budget.now + 4
+
+abbrev pub decreases-invocations::eval_invocation : goal.decreases-invocations::eval_invocation
+decreases-invocations::eval_invocation g l = 10 * l.budget.now + 5
+
+abbrev pub decreases-invocations::eval_name_value : goal.decreases-invocations::eval_name_value
+decreases-invocations::eval_name_value g l = 10 * l.budget.now + 6
 
 abbrev pub decreases-terms::eval_kind : goal.decreases-terms::eval_kind
-decreases-terms::eval_kind g l = 9 * l.budget.now + 7
+decreases-terms::eval_kind g l = 10 * l.budget.now + 8
 
 abbrev pub decreases-terms::eval_code : goal.decreases-terms::eval_code
-decreases-terms::eval_code g l = 9 * l.budget.now + 8
+decreases-terms::eval_code g l = 10 * l.budget.now + 9
 
 abbrev pub invariant-terms::eval_list-items : goal.invariant-terms::eval_list-items
 invariant-terms::eval_list-items g l = (l.budget ≤ l.fn.budget) × Same (in_turn meaning l.fn.scope l.fn.depth (part_list l.fn.list)) (l.fn.world, l.fn.budget) (in_turn meaning l.fn.scope l.fn.depth (part_list l.rest)) (l.world, l.budget)
@@ -64,3 +187,15 @@ invariant-data::eval_elements-items g l = (l.budget ≤ l.fn.budget) × Same (el
 
 abbrev pub decreases-data::eval_elements-items : goal.decreases-data::eval_elements-items
 decreases-data::eval_elements-items g l = l.left
+
+abbrev pub invariant-invocations::eval_arguments-items : goal.invariant-invocations::eval_arguments-items
+invariant-invocations::eval_arguments-items g l = (l.budget ≤ l.fn.budget) × Same (arguments_in_turn meaning l.fn.scope l.fn.depth (part_list l.fn.arguments) []) (l.fn.world, l.fn.budget) (arguments_in_turn meaning l.fn.scope l.fn.depth (part_list l.rest) l.values.items) (l.world, l.budget)
+
+abbrev pub decreases-invocations::eval_arguments-items : goal.decreases-invocations::eval_arguments-items
+decreases-invocations::eval_arguments-items g l = l.budget
+
+abbrev pub invariant-statements::eval_loop-turns : goal.invariant-statements::eval_loop-turns
+invariant-statements::eval_loop-turns g l = (l.budget ≤ l.fn.budget) × Same (loop meaning l.fn.scope l.fn.depth (part_tree l.fn.condition) (part_list l.fn.items)) (l.fn.world, l.fn.budget) (loop meaning l.fn.scope l.fn.depth (part_tree l.fn.condition) (part_list l.fn.items)) (l.world, l.budget)
+
+abbrev pub decreases-statements::eval_loop-turns : goal.decreases-statements::eval_loop-turns
+decreases-statements::eval_loop-turns g l = l.budget

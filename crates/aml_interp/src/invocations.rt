@@ -1,0 +1,198 @@
+//! Names where values stand, and calls of control methods (ACPI 6.5, 5.5.2 and 20.2.5).
+ghost use Rattle.std.specs.Prelude.{◌≡◌, ◌≤◌, ◌<◌, OnOk, [], map, slice_index_or};
+ghost use Rattle.ar_space.specs.Change.{Does};
+ghost use Rattle.ar_space.specs.Outcome.{Answers, seen};
+ghost use Rattle.aml_terms.specs.PartTree.{part_tree, part_list};
+ghost use Rattle.aml_terms.specs.Shape.{trees_of};
+ghost use Rattle.aml_terms.specs.View.{tree_view};
+ghost use Rattle.aml_objects.specs.declared.value.Value.TheVariants.{Uninitialized};
+ghost use Rattle.aml_meaning.specs.Meaning.{meaning};
+ghost use Rattle.aml_meaning.specs.Tasks.{in_turn};
+ghost use Rattle.aml_meaning.specs.Invocations.{shallow, frame_arguments, arguments_in_turn, returned_by, leaving, invoked, call_rule, invocation_rule, name_value};
+
+use crate::operands::{Reader, as_many, list};
+use crate::terms::{eval_list, eval_value};
+use aml_meaning::{Flow, Invocation, World};
+use aml_objects::{BodyPlace, Value};
+use aml_path::Path;
+use aml_terms::{Term, TermReader};
+use ar_space::{EvaluationFault, Refusal, Space};
+use std::alloc::Global;
+
+/// How many control methods may be called one inside another.
+const MAX_DEPTH: usize = 32;
+
+/// A name where a value stands, and its arguments.
+#[cycle(evaluation)]
+#[tactic(auto, using(crate::specs::Steps::evaluating), unfolding(aml_meaning::specs::Invocations::name_value))]
+pub(crate) fn eval_name_value<S: Space>(
+    alloc: Global,
+    world: &mut World<S>,
+    budget: &mut u64,
+    scope: &Path,
+    depth: usize,
+    term: Reader<'_>,
+) -> Result<Flow, Refusal>
+    ensures spent { budget.new ≤ budget.old }
+    ensures means { Does result (world.new, budget.new) (name_value meaning scope.now depth (part_tree term.entry)) (world.old, budget.old) }
+{
+    let name = term.name(alloc, 0)?;
+    let arguments = list(term, 1)?;
+    let wanted = world.arguments(scope, &name)?;
+    as_many(arguments, wanted)?;
+    let invocation = world.named_use(alloc, scope, &name)?;
+    eval_invocation(alloc, world, budget, scope, depth, arguments, invocation)
+}
+
+#[cycle(evaluation)]
+#[tactic(auto, using(crate::specs::Steps::evaluating))]
+fn eval_invocation<S: Space>(
+    alloc: Global,
+    world: &mut World<S>,
+    budget: &mut u64,
+    scope: &Path,
+    depth: usize,
+    arguments: Reader<'_>,
+    invocation: Invocation,
+) -> Result<Flow, Refusal>
+    ensures spent { budget.new ≤ budget.old }
+    ensures means { Does result (world.new, budget.new) (invocation_rule meaning scope.now depth (part_list arguments.entry) invocation) (world.old, budget.old) }
+{
+    match invocation {
+        Invocation::Value(value) => Ok(Flow::Value(value)),
+        Invocation::Method(path, body) => {
+            eval_call(alloc, world, budget, scope, depth, arguments, &path, body)
+        }
+    }
+}
+
+#[cycle(evaluation)]
+#[tactic(auto, using(crate::specs::Steps::evaluating), unfolding(aml_meaning::specs::Invocations::call_rule))]
+fn eval_call<S: Space>(
+    alloc: Global,
+    world: &mut World<S>,
+    budget: &mut u64,
+    scope: &Path,
+    depth: usize,
+    arguments: Reader<'_>,
+    path: &Path,
+    body: BodyPlace,
+) -> Result<Flow, Refusal>
+    ensures spent { budget.new ≤ budget.old }
+    ensures means { Does result (world.new, budget.new) (call_rule meaning scope.now depth (part_list arguments.entry) path.now body) (world.old, budget.old) }
+{
+    let values = eval_arguments(alloc, world, budget, scope, depth, arguments)?;
+    eval_invoked(alloc, world, budget, depth, path, body, &values)
+}
+
+/// Arguments one after another.
+#[cycle(evaluation)]
+#[tactic(auto, using(crate::specs::Steps::evaluating))]
+fn eval_arguments<S: Space>(
+    alloc: Global,
+    world: &mut World<S>,
+    budget: &mut u64,
+    scope: &Path,
+    depth: usize,
+    arguments: Reader<'_>,
+) -> Result<Vec<Value>, Refusal>
+    ensures spent { budget.new ≤ budget.old }
+    ensures means { Does (seen (λ list. list.items) result) (world.new, budget.new) (arguments_in_turn meaning scope.now depth (part_list arguments.entry) []) (world.old, budget.old) }
+{
+    let mut values = Vec::new(alloc);
+    let mut rest = arguments;
+    'items: loop {
+        match rest.next() {
+            None => return Ok(values),
+            Some(item) => {
+                let value = eval_value(alloc, world, budget, scope, depth, item.first)?;
+                values.push(value)?;
+                rest = item.rest;
+            }
+        }
+    }
+}
+
+/// The body of the control method at a path, in a frame of its own.
+#[cycle(evaluation)]
+#[tactic(auto, using(crate::specs::Steps::evaluating), unfolding(aml_meaning::specs::Invocations::invoked))]
+pub(crate) fn eval_invoked<S: Space>(
+    alloc: Global,
+    world: &mut World<S>,
+    budget: &mut u64,
+    depth: usize,
+    path: &Path,
+    body: BodyPlace,
+    arguments: &[Value],
+) -> Result<Flow, Refusal>
+    ensures spent { budget.new ≤ budget.old }
+    ensures means { Does result (world.new, budget.new) (invoked meaning depth path.now body arguments.now) (world.old, budget.old) }
+{
+    shallow(depth)?;
+    let terms = world.read_body(alloc, path, body)?;
+    world.open_frame(frame_arguments(arguments))?;
+    eval_body(alloc, world, budget, depth + 1, path, &terms)
+}
+
+/// However the body ends, its frame ends, and the names below the control method are removed.
+#[cycle(evaluation)]
+#[tactic(auto, using(crate::specs::Steps::evaluating))]
+fn eval_body<S: Space>(
+    alloc: Global,
+    world: &mut World<S>,
+    budget: &mut u64,
+    depth: usize,
+    path: &Path,
+    terms: &[Term],
+) -> Result<Flow, Refusal>
+    ensures spent { budget.new ≤ budget.old }
+    ensures means { Does result (world.new, budget.new) (leaving path.now (in_turn meaning path.now depth (trees_of (map tree_view terms.now)))) (world.old, budget.old) }
+{
+    let outcome = eval_list(alloc, world, budget, path, depth, Reader::List(terms));
+    world.leave(path);
+    of_call(outcome)
+}
+
+fn of_call(outcome: Result<Flow, Refusal>) -> Result<Flow, Refusal>
+    ensures { result ≡ seen returned_by outcome }
+{
+    match outcome {
+        Ok(flow) => Ok(flow.of_call()),
+        Err(refusal) => Err(refusal),
+    }
+}
+
+fn shallow(depth: usize) -> Result<(), Refusal>
+    ensures answer { Answers result (shallow depth) }
+    ensures few { OnOk result (depth < 32) }
+{
+    if depth < MAX_DEPTH {
+        Ok(())
+    } else {
+        Err(Refusal::Evaluation(EvaluationFault::CallDepth))
+    }
+}
+
+/// The slots of a frame for these arguments.
+fn frame_arguments(arguments: &[Value]) -> [Value; 7]
+    ensures { result ≡ frame_arguments arguments.now }
+{
+    [
+        argument(arguments, 0),
+        argument(arguments, 1),
+        argument(arguments, 2),
+        argument(arguments, 3),
+        argument(arguments, 4),
+        argument(arguments, 5),
+        argument(arguments, 6),
+    ]
+}
+
+fn argument(arguments: &[Value], index: usize) -> Value
+    ensures { result ≡ slice_index_or arguments.now index Uninitialized }
+{
+    match arguments.get(index) {
+        None => Value::Uninitialized,
+        Some(value) => *value,
+    }
+}

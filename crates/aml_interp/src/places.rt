@@ -1,0 +1,117 @@
+//! Operands that name a place to read or to store to (ACPI 6.5, 20.2.2).
+ghost use Rattle.std.specs.Prelude.{◌≡◌, ◌≤◌, ◌<◌};
+ghost use Rattle.ar_space.specs.Change.{Does};
+ghost use Rattle.aml_terms.specs.PartTree.{part_tree};
+ghost use Rattle.aml_terms.specs.Apart.{code_of};
+ghost use Rattle.aml_meaning.specs.Meaning.{meaning};
+ghost use Rattle.aml_meaning.specs.Terms.{place_of_code};
+ghost use Rattle.aml_meaning.specs.PlaceTerms.{referring, place_of_term, name_place, place_at, targeted};
+
+use crate::operands::Reader;
+use crate::terms::eval_term;
+use aml_meaning::{Flow, Place, World, place_of};
+use aml_objects::Value;
+use aml_path::Path;
+use aml_terms::{OperandView, TermReader};
+use ar_space::{NameFault, Refusal, Space, ValueFault};
+use std::alloc::Global;
+
+/// The place that the operand at a position names.
+#[cycle(evaluation)]
+#[tactic(auto, using(crate::specs::Steps::evaluating))]
+pub(crate) fn eval_place<S: Space>(
+    alloc: Global,
+    world: &mut World<S>,
+    budget: &mut u64,
+    scope: &Path,
+    depth: usize,
+    term: Reader<'_>,
+    index: usize,
+) -> Result<Place, Refusal>
+    ensures spent { budget.new ≤ budget.old }
+    ensures means { Does result (world.new, budget.new) (place_at meaning scope.now depth (part_tree term.entry) index) (world.old, budget.old) }
+{
+    match term.operand(index) {
+        OperandView::Absent => Err(Refusal::Name(NameFault::BadName)),
+        OperandView::Null => Ok(Place::Nowhere),
+        OperandView::Name => named_place(alloc, world, *budget, scope, term, index),
+        OperandView::Number(_) => Err(Refusal::Name(NameFault::BadName)),
+        OperandView::Bytes => Err(Refusal::Name(NameFault::BadName)),
+        OperandView::Term(inner) => eval_inner_place(alloc, world, budget, scope, depth, inner),
+        OperandView::List(_) => Err(Refusal::Name(NameFault::BadName)),
+    }
+}
+
+#[tactic(auto, using(crate::specs::Steps::evaluating), unfolding(aml_meaning::specs::PlaceTerms::name_place))]
+fn named_place<S: Space>(
+    alloc: Global,
+    world: &World<S>,
+    budget: u64,
+    scope: &Path,
+    term: Reader<'_>,
+    index: usize,
+) -> Result<Place, Refusal>
+    ensures { Does result (world.now, budget) (name_place meaning scope.now (part_tree term.entry) index) (world.now, budget) }
+{
+    let name = term.name(alloc, index)?;
+    world.place_named(alloc, scope, &name)
+}
+
+/// The place that a term is: Debug, a local or an argument, or one that the term refers to.
+#[cycle(evaluation)]
+#[tactic(auto, using(crate::specs::Steps::evaluating))]
+fn eval_inner_place<S: Space>(
+    alloc: Global,
+    world: &mut World<S>,
+    budget: &mut u64,
+    scope: &Path,
+    depth: usize,
+    term: Reader<'_>,
+) -> Result<Place, Refusal>
+    ensures spent { budget.new ≤ budget.old }
+    ensures means { Does result (world.new, budget.new) (place_of_term meaning scope.now depth (part_tree term.entry) (place_of_code (code_of (part_tree term.entry)))) (world.old, budget.old) }
+{
+    match place_of(term.code()) {
+        Some(place) => Ok(place),
+        None => eval_referring(alloc, world, budget, scope, depth, term),
+    }
+}
+
+/// A term that refers to a place; none is evaluated yet, so that it is refused.
+#[cycle(evaluation)]
+#[tactic(auto, using(crate::specs::Steps::evaluating), unfolding(aml_meaning::specs::PlaceTerms::referring))]
+fn eval_referring<S: Space>(
+    alloc: Global,
+    world: &mut World<S>,
+    budget: &mut u64,
+    scope: &Path,
+    depth: usize,
+    term: Reader<'_>,
+) -> Result<Place, Refusal>
+    ensures spent { budget.new ≤ budget.old }
+    ensures means { Does result (world.new, budget.new) (referring meaning scope.now depth (part_tree term.entry)) (world.old, budget.old) }
+{
+    eval_term(alloc, world, budget, scope, depth, term)?;
+    Err(Refusal::Value(ValueFault::WrongType))
+}
+
+/// Stores a value to a target; it is the value of the term.
+#[cycle(evaluation)]
+#[tactic(auto, using(crate::specs::Steps::evaluating), unfolding(aml_meaning::specs::PlaceTerms::targeted))]
+pub(crate) fn eval_targeted<S: Space>(
+    alloc: Global,
+    world: &mut World<S>,
+    budget: &mut u64,
+    scope: &Path,
+    depth: usize,
+    term: Reader<'_>,
+    index: usize,
+    value: Value,
+) -> Result<Flow, Refusal>
+    ensures spent { budget.new ≤ budget.old }
+    ensures means { Does result (world.new, budget.new) (targeted meaning scope.now depth (part_tree term.entry) index value) (world.old, budget.old) }
+{
+    let place = eval_place(alloc, world, budget, scope, depth, term, index)?;
+    world.store(alloc, &place, value)?;
+    Ok(Flow::Value(value))
+}
