@@ -2,4 +2,7 @@
 mod aml;
 mod answers;
 mod loading;
+mod methods;
+mod operators;
+mod statements;
 mod worlds;

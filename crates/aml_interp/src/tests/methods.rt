@@ -1,0 +1,69 @@
+//! Control methods whose bodies are given as bytes.
+use super::worlds::{STEPS, fresh};
+use crate::{answer, load};
+use aml_meaning::{Datum, World};
+use aml_path::Path;
+use ar_space::{IntegerWidth, Refusal, Sparse};
+use std::alloc::Global;
+
+/// The table of a control method `M000` that takes as many arguments as its flags say.
+fn table(alloc: Global, flags: u8, body: &[u8]) -> Result<Vec<u8>, Refusal> {
+    let length = body.len() + 7;
+    let mut bytes = Vec::new(alloc);
+    bytes.push(0x14)?;
+    bytes.push(0x40 | (length % 16) as u8)?;
+    bytes.push((length / 16 % 256) as u8)?;
+    bytes.extend_from_slice(b"M000")?;
+    bytes.push(flags)?;
+    bytes.extend_from_slice(body)?;
+    Ok(bytes)
+}
+
+/// A world with that control method.
+pub fn with_method(
+    alloc: Global,
+    width: IntegerWidth,
+    flags: u8,
+    body: &[u8],
+) -> Result<World<Sparse>, Refusal> {
+    let mut world = fresh(alloc, width)?;
+    load(alloc, &mut world, &table(alloc, flags, body)?, STEPS)?;
+    Ok(world)
+}
+
+/// What it answers.
+pub fn called(
+    alloc: Global,
+    world: &mut World<Sparse>,
+    arguments: Vec<Datum>,
+    steps: u64,
+) -> Result<Datum, Refusal> {
+    answer(alloc, world, &Path::from_text(alloc, b"\\M000")?, arguments, steps)
+}
+
+/// What a body answers that takes no arguments.
+pub fn answer_to(
+    alloc: Global,
+    width: IntegerWidth,
+    body: &[u8],
+    steps: u64,
+) -> Result<Datum, Refusal> {
+    let mut world = with_method(alloc, width, 0, body)?;
+    called(alloc, &mut world, Vec::new(alloc), steps)
+}
+
+/// The integer that a body answers; what is none is told as 2^64 - 2.
+pub fn integer_of(alloc: Global, width: IntegerWidth, body: &[u8]) -> Result<u64, Refusal> {
+    match answer_to(alloc, width, body, STEPS)? {
+        Datum::Integer(number) => Ok(number),
+        _ => Ok(u64::MAX - 1),
+    }
+}
+
+/// The number by which a body is refused, 0 where it isn't.
+pub fn refusal_of(alloc: Global, body: &[u8]) -> u16 {
+    match answer_to(alloc, IntegerWidth::Bits64, body, STEPS) {
+        Ok(_) => 0,
+        Err(refusal) => u16::from(refusal.number()),
+    }
+}

@@ -1,0 +1,114 @@
+//! Statements and calls, as the values that control methods answer.
+use super::methods::{answer_to, called, integer_of, refusal_of, with_method};
+use super::worlds::{STEPS, stands};
+use aml_meaning::{Datum, World};
+use ar_space::{EvaluationFault, IntegerWidth, Refusal, Sparse};
+use std::alloc::Global;
+use std::test::Fail;
+
+const WIDE: IntegerWidth = IntegerWidth::Bits64;
+
+/// Bodies, and the integers that they answer.
+const INTEGERS: &[(&[u8], u64)] = &[
+    // If and Else
+    (b"\xA0\x04\x01\xA4\x07\xA4\x08", u64::MAX - 1),
+    (b"\xA0\x05\x01\xA4\x0A\x07\xA4\x0A\x08", 7),
+    (b"\xA0\x05\x00\xA4\x0A\x07\xA4\x0A\x08", 8),
+    (b"\xA0\x05\x00\xA4\x0A\x07\xA1\x04\xA4\x0A\x09\xA4\x0A\x08", 9),
+    (b"\xA0\x05\x01\xA4\x0A\x07\xA1\x04\xA4\x0A\x09\xA4\x0A\x08", 7),
+    // a loop of five turns
+    (b"\x70\x00\x61\x70\x0A\x05\x60\xA2\x06\x60\x76\x60\x75\x61\xA4\x61", 5),
+    // Break, Continue and Return in a loop
+    (b"\xA2\x03\x01\xA5\xA4\x0A\x07", 7),
+    (b"\x70\x00\x61\x70\x0A\x03\x60\xA2\x07\x60\x76\x60\x9F\x75\x61\xA4\x61", 0),
+    (b"\xA2\x05\x01\xA4\x0A\x07\xA4\x0A\x08", 7),
+    // Noop, BreakPoint, Notify, Stall and Sleep do nothing
+    (b"\xA3\xCC\x86\\_SB_\x00\x5B\x21\x01\x5B\x22\x01\xA4\x01", 1),
+    // a call without Return is no fault as an item
+    (b"\x08CNT_\x01\xA4CNT_", 1),
+];
+
+#[test]
+fn statements(rt: HostRuntime) -> Result<(), Fail> {
+    let alloc = rt.alloc();
+    for (body, wanted) in INTEGERS {
+        match integer_of(alloc, WIDE, body) {
+            Ok(number) => assert_eq!(rt; number, *wanted),
+            Err(_) => assert_eq!(rt; *wanted, u64::MAX - 1),
+        }
+    }
+    Ok(())
+}
+
+/// Bodies, and the numbers by which they are refused.
+const REFUSED: &[(&[u8], u16)] = &[
+    (b"\x5B\x32\x01\x00\x00\x00\x00\x00", 77),
+    (b"\x86NONE\x00", 61),
+    (b"\xA4M000", 71),
+    (b"\xA2\x02\x01", 70),
+    (b"\xA0\x03\\_SB_", 31),
+    (b"\xA0\x07\\_SB_\xA3", 40),
+];
+
+#[test]
+fn refused_statements(rt: HostRuntime) -> Result<(), Fail> {
+    let alloc = rt.alloc();
+    for (body, wanted) in REFUSED {
+        assert_eq!(rt; refusal_of(alloc, body), *wanted);
+    }
+    Ok(())
+}
+
+#[test]
+fn steps_of_a_return(rt: HostRuntime) -> Result<(), Fail> {
+    let alloc = rt.alloc();
+    let refused = answer_to(alloc, WIDE, b"\xA4\x01", 1).err();
+    assert_eq!(rt; refused, Some(Refusal::Evaluation(EvaluationFault::OutOfSteps)));
+    match answer_to(alloc, WIDE, b"\xA4\x01", 2)? {
+        Datum::Integer(number) => assert_eq!(rt; number, 1),
+        _ => assert!(rt; false),
+    }
+    match answer_to(alloc, WIDE, b"\xA3", 1)? {
+        Datum::Nothing => {}
+        _ => assert!(rt; false),
+    }
+    Ok(())
+}
+
+/// The integer that a call with these arguments answers.
+fn integer(
+    alloc: Global,
+    world: &mut World<Sparse>,
+    arguments: Vec<Datum>,
+) -> Result<u64, Refusal> {
+    match called(alloc, world, arguments, STEPS)? {
+        Datum::Integer(number) => Ok(number),
+        _ => Ok(u64::MAX - 1),
+    }
+}
+
+#[test]
+fn names_of_a_call_end_with_it(rt: HostRuntime) -> Result<(), Fail> {
+    let alloc = rt.alloc();
+    let mut world = with_method(alloc, WIDE, 0, b"\x08NUM_\x0A\x07\xA4NUM_")?;
+    assert_eq!(rt; integer(alloc, &mut world, Vec::new(alloc))?, 7);
+    assert_eq!(rt; integer(alloc, &mut world, Vec::new(alloc))?, 7);
+    assert!(rt; !stands(alloc, &world, b"\\M000.NUM_")?);
+    Ok(())
+}
+
+fn two(alloc: Global, first: Datum, second: Datum) -> Result<Vec<Datum>, Refusal> {
+    let mut arguments = Vec::new(alloc);
+    arguments.push(first)?;
+    arguments.push(second)?;
+    Ok(arguments)
+}
+
+#[test]
+fn arguments_are_passed(rt: HostRuntime) -> Result<(), Fail> {
+    let alloc = rt.alloc();
+    let mut world = with_method(alloc, WIDE, 2, b"\xA4\x74\x68\x69\x00")?;
+    let arguments = two(alloc, Datum::Integer(9), Datum::Integer(4))?;
+    assert_eq!(rt; integer(alloc, &mut world, arguments)?, 5);
+    Ok(())
+}
