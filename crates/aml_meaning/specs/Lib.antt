@@ -1,4 +1,5 @@
 pub mod Agree
+pub mod Callees
 pub mod Calling
 pub mod DataTerms
 pub mod DeclarationTerms
@@ -7,6 +8,9 @@ pub mod Evaluation
 pub mod Following
 pub mod Given
 pub mod Invocations
+pub mod Keeping
+pub mod Leaving
+pub mod LeavingPlaces
 pub mod Lifted
 pub mod Loops
 pub mod Meaning
@@ -15,13 +19,16 @@ pub mod NewObjects
 pub mod Operations
 pub mod OperatorTerms
 pub mod Outgoing
+pub mod Outside
 pub mod Outward
 pub mod PlaceTerms
 pub mod Places
+pub mod Placing
 pub mod Predefined
 pub mod Readings
 pub mod Run
 pub mod Slots
+pub mod Standing
 pub mod State
 pub mod StatementTerms
 pub mod Stores

@@ -1,0 +1,416 @@
+-- No evaluation removes a name that stands outside of control methods.
+use Rattle.std.specs.Prelude.{◌≡◌, ℕ, zero, suc, List, Bool, true, false, Option, Some, None, refl, if◌then◌else◌}
+use Rattle.ar_space.specs.Change.{give}
+use Rattle.aml_path.specs.declared.segment.Seg.{Seg}
+use Rattle.aml_path.specs.Paths.{is_below}
+use Rattle.aml_terms.specs.declared.opcode.Opcode.{Opcode}
+use Rattle.aml_terms.specs.declared.opcode.TermCode.{TermCode}
+use Rattle.aml_terms.specs.declared.opcode.TermCode.TheVariants as codes
+use Rattle.aml_terms.specs.Tree.{Tree, Trees, no_trees, tree, Part, null, name, number, bytes, inner, list}
+use Rattle.aml_terms.specs.Apart.{code_of, operand_of}
+use Rattle.aml_objects.specs.declared.value.Value.{Value}
+use Rattle.aml_objects.specs.declared.value.Slot.{Slot}
+use Rattle.aml_objects.specs.declared.object.Element.{Element}
+use Rattle.aml_objects.specs.declared.entry.NamedObject.{NamedObject}
+use Rattle.aml_objects.specs.declared.entry.BodyPlace.{BodyPlace}
+use Rattle.aml_meaning.specs.declared.flow.Flow.{Flow}
+use Rattle.aml_meaning.specs.declared.flow.Flow.TheVariants as flow
+use Rattle.aml_meaning.specs.declared.term_kind.TermKind.{TermKind}
+use Rattle.aml_meaning.specs.declared.term_kind.TermKind.TheVariants as kinds
+use Rattle.aml_meaning.specs.declared.term_kind.DataKind.{DataKind}
+use Rattle.aml_meaning.specs.declared.term_kind.DataKind.TheVariants as datas
+use Rattle.aml_meaning.specs.declared.term_kind.DeclarationKind.{DeclarationKind}
+use Rattle.aml_meaning.specs.declared.term_kind.DeclarationKind.TheVariants as declarations
+use Rattle.aml_meaning.specs.declared.term_kind.OperatorKind.{OperatorKind}
+use Rattle.aml_meaning.specs.declared.term_kind.OperatorKind.TheVariants as operators
+use Rattle.aml_meaning.specs.declared.term_kind.OneOperand.{OneOperand}
+use Rattle.aml_meaning.specs.declared.term_kind.TwoOperands.{TwoOperands}
+use Rattle.aml_meaning.specs.declared.term_kind.Test.{Test}
+use Rattle.aml_meaning.specs.declared.term_kind.Count.{Count}
+use Rattle.aml_meaning.specs.declared.term_kind.StatementKind.{StatementKind}
+use Rattle.aml_meaning.specs.declared.term_kind.StatementKind.TheVariants as statements
+use Rattle.aml_meaning.specs.declared.invocation.Invocation.{Invocation}
+use Rattle.aml_meaning.specs.declared.invocation.Invocation.TheVariants as invocations
+use Rattle.aml_meaning.specs.declared.place.Place.{Place}
+use Rattle.aml_meaning.specs.State.{State}
+use Rattle.aml_meaning.specs.Run.{Run}
+use Rattle.aml_meaning.specs.Terms.{kind_of}
+use Rattle.aml_meaning.specs.Tasks.{Task, operand_value, value_at, two_values, operand_integer, goes_on, in_turn}
+use Rattle.aml_meaning.specs.DataTerms.{constant_rule, integer_rule, string_rule, buffer_rule, named_element, valued_element, element_by, elements_in_turn, package_of, package_rule, var_package_rule, data_rule}
+use Rattle.aml_meaning.specs.DeclarationTerms.{declaring, name_rule, alias_rule, method_rule, scope_rule, new_scope, declaration_rule}
+use Rattle.aml_meaning.specs.PlaceTerms.{referring, place_of_term, name_place, place_by, place_at, targeted}
+use Rattle.aml_meaning.specs.OperatorTerms.{slot_rule, store_rule, copy_rule, two_rule, divide_rule, one_rule, test_rule, not_rule, count_rule, size_rule, type_rule, acquire_rule, operator_rule}
+use Rattle.aml_meaning.specs.StatementTerms.{otherwise, branch, if_rule, else_rule, turn_of, turn, after_turn, turns, loop, while_rule, return_rule, release_rule, notify_rule, pause_rule, fatal_rule, statement_rule}
+use Rattle.aml_meaning.specs.Invocations.{arguments_in_turn, invoked, call_rule, invocation_rule, name_value}
+use Rattle.aml_meaning.specs.Evaluation.{kind_rule, code_rule, rule}
+use Rattle.aml_meaning.specs.Meaning.{meaning, evaluated_within}
+use Rattle.aml_meaning.specs.Outside.{Outside, Stands, Kept, kept_same}
+use Rattle.aml_meaning.specs.Keeping.{Keeps, leaves_objects, keeps_give, keeps_stop, keeps_settle, keeps_lift, keeps_charge, keeps_bind, keeps_leaving, keeps_given}
+use Rattle.aml_meaning.specs.Leaving.{CalledApart, leaves_integer, leaves_read, leaves_path, leaves_scope, leaves_place_named, leaves_within, leaves_buffer, leaves_package, leaves_new, leaves_method, leaves_divided, leaves_turned, leaves_size, leaves_two, leaves_one, leaves_test, leaves_counted, leaves_terms, leaves_opened, leaves_invocation, invocation_apart}
+use Rattle.aml_meaning.specs.LeavingPlaces.{leaves_slot_read, leaves_place_read, leaves_referent, leaves_stored, leaves_copied, leaves_acquired_at, leaves_given_back_at}
+
+-- ---- parts that keep names make rules that keep them
+
+module _ {S : Type 0} {p : List Seg} (ev : Task → Run S Flow) (parts : (t : Task) → Keeps p (ev t)) where
+  pub keeps_value : (scope : List Seg) (depth : ℕ) (t : Tree) → Keeps p (operand_value ev scope depth t)
+  unfolding operand_value
+  keeps_value scope depth t = keeps_bind _ _ (parts _) (λ f. keeps_settle _)
+
+  pub keeps_after : (go : Bool) (f : Flow) (m : Run S Flow) → Keeps p m → Keeps p (if go then m else give f)
+  keeps_after true f m h = h
+  keeps_after false f m h = keeps_give _
+
+  pub keeps_turn : (scope : List Seg) (depth : ℕ) (ts : Trees) → Keeps p (in_turn ev scope depth ts)
+  unfolding in_turn
+  keeps_turn scope depth no_trees = keeps_give _
+  keeps_turn scope depth (tree t ts) = keeps_bind _ _ (parts _) (λ f. keeps_after (goes_on f) f _ (keeps_turn scope depth ts))
+
+  keeps_constant : (k : ℕ) → Keeps p (constant_rule ev k)
+  unfolding constant_rule
+  keeps_constant k = keeps_bind _ _ (keeps_lift _ (leaves_integer k)) (λ v. keeps_give _)
+
+  keeps_integer : (scope : List Seg) (depth : ℕ) (t : Tree) → Keeps p (operand_integer ev scope depth t)
+  unfolding operand_integer
+  keeps_integer scope depth t = keeps_bind _ _ (keeps_value scope depth t) (λ v. keeps_lift _ (leaves_read v))
+
+  keeps_buffer : (scope : List Seg) (depth : ℕ) (t : Tree) → Keeps p (buffer_rule ev scope depth t)
+  unfolding buffer_rule
+  keeps_buffer scope depth t = keeps_bind _ _ (keeps_settle _) (λ size. keeps_bind _ _ (keeps_integer scope depth size) (λ k. keeps_bind _ _ (keeps_settle _) (λ bytes. keeps_bind _ _ (keeps_lift _ (leaves_buffer k bytes)) (λ v. keeps_give _))))
+
+  keeps_named : (scope : List Seg) (t : Tree) → Keeps p (named_element ev scope t)
+  unfolding named_element
+  keeps_named scope t = keeps_bind _ _ keeps_charge (λ u. keeps_bind _ _ (keeps_settle _) (λ x. keeps_give _))
+
+  keeps_valued : (scope : List Seg) (depth : ℕ) (t : Tree) → Keeps p (valued_element ev scope depth t)
+  unfolding valued_element
+  keeps_valued scope depth t = keeps_bind _ _ (keeps_value scope depth t) (λ v. keeps_give _)
+
+  keeps_element : (c : TermCode) (scope : List Seg) (depth : ℕ) (t : Tree) → Keeps p (element_by ev c scope depth t)
+  keeps_element codes.Name scope depth t = keeps_named scope t
+  keeps_element (codes.Opcode op) scope depth t = keeps_valued scope depth t
+  keeps_element codes.MethodInvocation scope depth t = keeps_valued scope depth t
+  keeps_element codes.NamedField scope depth t = keeps_valued scope depth t
+  keeps_element codes.ReservedField scope depth t = keeps_valued scope depth t
+  keeps_element codes.AccessField scope depth t = keeps_valued scope depth t
+  keeps_element codes.ExtendedAccessField scope depth t = keeps_valued scope depth t
+  keeps_element codes.ConnectField scope depth t = keeps_valued scope depth t
+
+  keeps_elements : (scope : List Seg) (depth k : ℕ) (ts : Trees) (done : List Element) → Keeps p (elements_in_turn ev scope depth k ts done)
+  unfolding elements_in_turn
+  keeps_elements scope depth zero ts done = keeps_give _
+  keeps_elements scope depth (suc k) no_trees done = keeps_give _
+  keeps_elements scope depth (suc k) (tree t ts) done = keeps_bind _ _ (keeps_element (code_of t) scope depth t) (λ e. keeps_elements scope depth k ts _)
+
+  keeps_package_of : (scope : List Seg) (depth k : ℕ) (ts : Trees) → Keeps p (package_of ev scope depth k ts)
+  unfolding package_of
+  keeps_package_of scope depth k ts = keeps_bind _ _ (keeps_elements scope depth k ts _) (λ es. keeps_bind _ _ (keeps_lift _ (leaves_package k es)) (λ v. keeps_give _))
+
+  keeps_package : (scope : List Seg) (depth : ℕ) (t : Tree) → Keeps p (package_rule ev scope depth t)
+  unfolding package_rule
+  keeps_package scope depth t = keeps_bind _ _ (keeps_settle _) (λ k. keeps_bind _ _ (keeps_settle _) (λ ts. keeps_package_of scope depth k ts))
+
+  keeps_var_package : (scope : List Seg) (depth : ℕ) (t : Tree) → Keeps p (var_package_rule ev scope depth t)
+  unfolding var_package_rule
+  keeps_var_package scope depth t = keeps_bind _ _ (keeps_settle _) (λ size. keeps_bind _ _ (keeps_integer scope depth size) (λ k. keeps_bind _ _ (keeps_lift _ (leaves_within _ k)) (λ u. keeps_bind _ _ (keeps_settle _) (λ ts. keeps_package_of scope depth k ts))))
+
+  keeps_declaring : (scope : List Seg) (depth : ℕ) (t : Tree) (o : NamedObject) → Keeps p (declaring ev scope depth t o)
+  unfolding declaring
+  keeps_declaring scope depth t o = keeps_bind _ _ (keeps_settle _) (λ x. keeps_bind _ _ (keeps_settle _) (λ q. keeps_bind _ _ (keeps_lift _ (leaves_new _ q o)) (λ u. keeps_give _)))
+
+  keeps_name : (scope : List Seg) (depth : ℕ) (t : Tree) → Keeps p (name_rule ev scope depth t)
+  unfolding name_rule
+  keeps_name scope depth t = keeps_bind _ _ (keeps_settle _) (λ d. keeps_bind _ _ (keeps_value scope depth d) (λ v. keeps_declaring scope depth t _))
+
+  keeps_new_scope : (o : NamedObject) (place : ℕ) (scope : List Seg) (depth : ℕ) (t : Tree) → Keeps p (new_scope ev o place scope depth t)
+  unfolding new_scope
+  keeps_new_scope o place scope depth t = keeps_bind _ _ (keeps_settle _) (λ x. keeps_bind _ _ (keeps_settle _) (λ q. keeps_bind _ _ (keeps_lift _ (leaves_new _ q o)) (λ u. keeps_bind _ _ (keeps_settle _) (λ ts. keeps_turn q depth ts))))
+
+  keeps_scope : (scope : List Seg) (depth : ℕ) (t : Tree) → Keeps p (scope_rule ev scope depth t)
+  unfolding scope_rule
+  keeps_scope scope depth t = keeps_bind _ _ (keeps_settle _) (λ x. keeps_bind _ _ (keeps_lift _ (leaves_scope scope x)) (λ q. keeps_bind _ _ (keeps_settle _) (λ ts. keeps_turn q depth ts)))
+
+  keeps_alias : (scope : List Seg) (depth : ℕ) (t : Tree) → Keeps p (alias_rule ev scope depth t)
+  unfolding alias_rule
+  keeps_alias scope depth t = keeps_bind _ _ (keeps_settle _) (λ x. keeps_bind _ _ (keeps_settle _) (λ y. keeps_bind _ _ (keeps_settle _) (λ q. keeps_bind _ _ (keeps_lift _ (leaves_path scope x)) (λ target. keeps_bind _ _ (keeps_lift _ (leaves_new _ q _)) (λ u. keeps_give _)))))
+
+  keeps_method : (scope : List Seg) (depth : ℕ) (t : Tree) → Keeps p (method_rule ev scope depth t)
+  unfolding method_rule
+  keeps_method scope depth t = keeps_bind _ _ (keeps_settle _) (λ x. keeps_bind _ _ (keeps_settle _) (λ q. keeps_bind _ _ (keeps_settle _) (λ flags. keeps_bind _ _ (keeps_settle _) (λ body. keeps_bind _ _ (keeps_lift _ (leaves_method _ q _ body)) (λ u. keeps_give _)))))
+
+  keeps_string : (t : Tree) → Keeps p (string_rule ev t)
+  unfolding string_rule
+  keeps_string t = keeps_bind _ _ (keeps_settle _) (λ x. keeps_bind _ _ (keeps_lift _ (leaves_objects _)) (λ v. keeps_give _))
+
+  keeps_number : (t : Tree) → Keeps p (integer_rule ev t)
+  unfolding integer_rule
+  keeps_number t = keeps_bind _ _ (keeps_settle _) (λ k. keeps_constant k)
+
+  keeps_data : (k : DataKind) (scope : List Seg) (depth : ℕ) (t : Tree) → Keeps p (data_rule ev k scope depth t)
+  keeps_data (datas.Constant k) scope depth t = keeps_constant k
+  keeps_data datas.Integer scope depth t = keeps_number t
+  keeps_data datas.String scope depth t = keeps_string t
+  keeps_data datas.Buffer scope depth t = keeps_buffer scope depth t
+  keeps_data datas.Package scope depth t = keeps_package scope depth t
+  keeps_data datas.VarPackage scope depth t = keeps_var_package scope depth t
+
+  keeps_declaration : (k : DeclarationKind) (scope : List Seg) (depth : ℕ) (t : Tree) → Keeps p (declaration_rule ev k scope depth t)
+  keeps_declaration declarations.Scope scope depth t = keeps_scope scope depth t
+  keeps_declaration declarations.Device scope depth t = keeps_new_scope _ _ scope depth t
+  keeps_declaration declarations.Processor scope depth t = keeps_new_scope _ _ scope depth t
+  keeps_declaration declarations.PowerResource scope depth t = keeps_new_scope _ _ scope depth t
+  keeps_declaration declarations.ThermalZone scope depth t = keeps_new_scope _ _ scope depth t
+  keeps_declaration declarations.Name scope depth t = keeps_name scope depth t
+  keeps_declaration declarations.Alias scope depth t = keeps_alias scope depth t
+  keeps_declaration declarations.External scope depth t = keeps_give _
+  keeps_declaration declarations.Method scope depth t = keeps_method scope depth t
+  keeps_declaration declarations.Mutex scope depth t = keeps_declaring scope depth t _
+  keeps_declaration declarations.Event scope depth t = keeps_declaring scope depth t _
+
+  -- ---- places and operators
+
+  keeps_value_at : (scope : List Seg) (depth : ℕ) (t : Tree) (i : ℕ) → Keeps p (value_at ev scope depth t i)
+  unfolding value_at
+  keeps_value_at scope depth t i = keeps_bind _ _ (keeps_settle _) (λ x. keeps_value scope depth x)
+
+  keeps_two_values : (scope : List Seg) (depth : ℕ) (t : Tree) → Keeps p (two_values ev scope depth t)
+  unfolding two_values
+  keeps_two_values scope depth t = keeps_bind _ _ (keeps_value_at scope depth t 0) (λ v. keeps_bind _ _ (keeps_value_at scope depth t 1) (λ u. keeps_give _))
+
+  keeps_referring : (scope : List Seg) (depth : ℕ) (t : Tree) → Keeps p (referring ev scope depth t)
+  unfolding referring
+  keeps_referring scope depth t = keeps_bind _ _ (parts _) (λ f. keeps_stop _)
+
+  keeps_place_of_term : (scope : List Seg) (depth : ℕ) (t : Tree) (at : Option Place) → Keeps p (place_of_term ev scope depth t at)
+  keeps_place_of_term scope depth t None = keeps_referring scope depth t
+  keeps_place_of_term scope depth t (Some at) = keeps_give _
+
+  keeps_name_place : (scope : List Seg) (t : Tree) (i : ℕ) → Keeps p (name_place ev scope t i)
+  unfolding name_place
+  keeps_name_place scope t i = keeps_bind _ _ (keeps_settle _) (λ x. keeps_lift _ (leaves_place_named scope x))
+
+  keeps_place_by : (scope : List Seg) (depth : ℕ) (t : Tree) (i : ℕ) (o : Option Part) → Keeps p (place_by ev scope depth t i o)
+  keeps_place_by scope depth t i None = keeps_stop _
+  keeps_place_by scope depth t i (Some null) = keeps_give _
+  keeps_place_by scope depth t i (Some (name x)) = keeps_name_place scope t i
+  keeps_place_by scope depth t i (Some (number k)) = keeps_stop _
+  keeps_place_by scope depth t i (Some (bytes bs)) = keeps_stop _
+  keeps_place_by scope depth t i (Some (inner u)) = keeps_place_of_term scope depth u _
+  keeps_place_by scope depth t i (Some (list ts)) = keeps_stop _
+
+  keeps_place : (scope : List Seg) (depth : ℕ) (t : Tree) (i : ℕ) → Keeps p (place_at ev scope depth t i)
+  keeps_place scope depth t i = keeps_place_by scope depth t i (operand_of t i)
+
+  keeps_targeted : (scope : List Seg) (depth : ℕ) (t : Tree) (i : ℕ) (v : Value) → Keeps p (targeted ev scope depth t i v)
+  unfolding targeted
+  keeps_targeted scope depth t i v = keeps_bind _ _ (keeps_place scope depth t i) (λ q. keeps_bind _ _ (keeps_lift _ (leaves_stored q v)) (λ done. keeps_give _))
+
+  keeps_slot : (slot : Slot) → Keeps p (slot_rule ev slot)
+  unfolding slot_rule
+  keeps_slot slot = keeps_bind _ _ (keeps_lift _ (leaves_slot_read slot)) (λ v. keeps_give _)
+
+  keeps_store : (scope : List Seg) (depth : ℕ) (t : Tree) → Keeps p (store_rule ev scope depth t)
+  unfolding store_rule
+  keeps_store scope depth t = keeps_bind _ _ (keeps_value_at scope depth t 0) (λ v. keeps_targeted scope depth t 1 v)
+
+  keeps_copy : (scope : List Seg) (depth : ℕ) (t : Tree) → Keeps p (copy_rule ev scope depth t)
+  unfolding copy_rule
+  keeps_copy scope depth t = keeps_bind _ _ (keeps_value_at scope depth t 0) (λ v. keeps_bind _ _ (keeps_place scope depth t 1) (λ q. keeps_bind _ _ (keeps_lift _ (leaves_copied q v)) (λ done. keeps_give _)))
+
+  keeps_two : (k : TwoOperands) (scope : List Seg) (depth : ℕ) (t : Tree) → Keeps p (two_rule ev k scope depth t)
+  unfolding two_rule
+  keeps_two k scope depth t = keeps_bind _ _ (keeps_two_values scope depth t) (λ x. keeps_bind _ _ (keeps_lift _ (leaves_two k x.0 x.1)) (λ r. keeps_targeted scope depth t 2 r))
+
+  keeps_divide : (scope : List Seg) (depth : ℕ) (t : Tree) → Keeps p (divide_rule ev scope depth t)
+  unfolding divide_rule
+  keeps_divide scope depth t = keeps_bind _ _ (keeps_two_values scope depth t) (λ x. keeps_bind _ _ (keeps_lift _ (leaves_divided x.0 x.1)) (λ d. keeps_bind _ _ (keeps_targeted scope depth t 2 _) (λ done. keeps_targeted scope depth t 3 _)))
+
+  keeps_one : (k : OneOperand) (scope : List Seg) (depth : ℕ) (t : Tree) → Keeps p (one_rule ev k scope depth t)
+  unfolding one_rule
+  keeps_one k scope depth t = keeps_bind _ _ (keeps_value_at scope depth t 0) (λ v. keeps_bind _ _ (keeps_lift _ (leaves_one k v)) (λ r. keeps_targeted scope depth t 1 r))
+
+  keeps_test : (k : Test) (scope : List Seg) (depth : ℕ) (t : Tree) → Keeps p (test_rule ev k scope depth t)
+  unfolding test_rule
+  keeps_test k scope depth t = keeps_bind _ _ (keeps_two_values scope depth t) (λ x. keeps_bind _ _ (keeps_lift _ (leaves_test k x.0 x.1)) (λ r. keeps_give _))
+
+  keeps_not : (scope : List Seg) (depth : ℕ) (t : Tree) → Keeps p (not_rule ev scope depth t)
+  unfolding not_rule
+  keeps_not scope depth t = keeps_bind _ _ (keeps_value_at scope depth t 0) (λ v. keeps_bind _ _ (keeps_lift _ (leaves_turned v)) (λ r. keeps_give _))
+
+  keeps_count : (k : Count) (scope : List Seg) (depth : ℕ) (t : Tree) → Keeps p (count_rule ev k scope depth t)
+  unfolding count_rule
+  keeps_count k scope depth t = keeps_bind _ _ (keeps_place scope depth t 0) (λ q. keeps_bind _ _ (keeps_lift _ (leaves_place_read q)) (λ v. keeps_bind _ _ (keeps_lift _ (leaves_counted k v)) (λ r. keeps_bind _ _ (keeps_lift _ (leaves_stored q r)) (λ done. keeps_give _))))
+
+  keeps_size : (scope : List Seg) (depth : ℕ) (t : Tree) → Keeps p (size_rule ev scope depth t)
+  unfolding size_rule
+  keeps_size scope depth t = keeps_bind _ _ (keeps_place scope depth t 0) (λ q. keeps_bind _ _ (keeps_lift _ (leaves_referent q)) (λ r. keeps_bind _ _ (keeps_lift _ (leaves_size r)) (λ v. keeps_give _)))
+
+  keeps_type : (scope : List Seg) (depth : ℕ) (t : Tree) → Keeps p (type_rule ev scope depth t)
+  unfolding type_rule
+  keeps_type scope depth t = keeps_bind _ _ (keeps_place scope depth t 0) (λ q. keeps_bind _ _ (keeps_lift _ (leaves_referent q)) (λ r. keeps_give _))
+
+  keeps_acquire : (scope : List Seg) (depth : ℕ) (t : Tree) → Keeps p (acquire_rule ev scope depth t)
+  unfolding acquire_rule
+  keeps_acquire scope depth t = keeps_bind _ _ (keeps_place scope depth t 0) (λ q. keeps_bind _ _ (keeps_lift _ (leaves_acquired_at q)) (λ done. keeps_give _))
+
+  keeps_operator : (k : OperatorKind) (scope : List Seg) (depth : ℕ) (t : Tree) → Keeps p (operator_rule ev k scope depth t)
+  keeps_operator (operators.Slot slot) scope depth t = keeps_slot slot
+  keeps_operator operators.Store scope depth t = keeps_store scope depth t
+  keeps_operator operators.CopyObject scope depth t = keeps_copy scope depth t
+  keeps_operator (operators.Two k) scope depth t = keeps_two k scope depth t
+  keeps_operator operators.Divide scope depth t = keeps_divide scope depth t
+  keeps_operator (operators.One k) scope depth t = keeps_one k scope depth t
+  keeps_operator (operators.Test k) scope depth t = keeps_test k scope depth t
+  keeps_operator operators.LogicalNot scope depth t = keeps_not scope depth t
+  keeps_operator (operators.Count k) scope depth t = keeps_count k scope depth t
+  keeps_operator operators.SizeOf scope depth t = keeps_size scope depth t
+  keeps_operator operators.ObjectType scope depth t = keeps_type scope depth t
+  keeps_operator operators.Acquire scope depth t = keeps_acquire scope depth t
+
+  -- ---- statements
+
+  keeps_otherwise : (scope : List Seg) (depth : ℕ) (e : Option Tree) → Keeps p (otherwise ev scope depth e)
+  keeps_otherwise scope depth None = keeps_give _
+  keeps_otherwise scope depth (Some e) = parts _
+
+  keeps_branch : (scope : List Seg) (depth : ℕ) (ts : Trees) (e : Option Tree) (b : Bool) → Keeps p (branch ev scope depth ts e b)
+  keeps_branch scope depth ts e true = keeps_turn scope depth ts
+  keeps_branch scope depth ts e false = keeps_otherwise scope depth e
+
+  keeps_if : (scope : List Seg) (depth : ℕ) (t : Tree) → Keeps p (if_rule ev scope depth t)
+  unfolding if_rule
+  keeps_if scope depth t = keeps_bind _ _ (keeps_settle _) (λ c. keeps_bind _ _ (keeps_settle _) (λ ts. keeps_bind _ _ (keeps_integer scope depth c) (λ x. keeps_branch scope depth ts _ _)))
+
+  keeps_else : (scope : List Seg) (depth : ℕ) (t : Tree) → Keeps p (else_rule ev scope depth t)
+  unfolding else_rule
+  keeps_else scope depth t = keeps_bind _ _ (keeps_settle _) (λ ts. keeps_turn scope depth ts)
+
+  keeps_turn_of : (scope : List Seg) (depth : ℕ) (ts : Trees) (b : Bool) → Keeps p (turn_of ev scope depth ts b)
+  keeps_turn_of scope depth ts true = keeps_turn scope depth ts
+  keeps_turn_of scope depth ts false = keeps_give _
+
+  keeps_turning : (scope : List Seg) (depth : ℕ) (c : Tree) (ts : Trees) → Keeps p (turn ev scope depth c ts)
+  unfolding turn
+  keeps_turning scope depth c ts = keeps_bind _ _ (keeps_integer scope depth c) (λ x. keeps_turn_of scope depth ts _)
+
+  keeps_after_turn : (f : Flow) (m : Run S Flow) → Keeps p m → Keeps p (after_turn ev f m)
+  keeps_after_turn (flow.Value v) m h = h
+  keeps_after_turn flow.Next m h = h
+  keeps_after_turn flow.Break m h = keeps_give _
+  keeps_after_turn flow.Continue m h = h
+  keeps_after_turn (flow.Return v) m h = keeps_give _
+
+  keeps_turns : (k : ℕ) (scope : List Seg) (depth : ℕ) (c : Tree) (ts : Trees) → Keeps p (turns ev k scope depth c ts)
+  unfolding turns
+  keeps_turns zero scope depth c ts = keeps_stop _
+  keeps_turns (suc k) scope depth c ts = keeps_bind _ _ (keeps_turning scope depth c ts) (λ f. keeps_after_turn f _ (keeps_turns k scope depth c ts))
+
+  keeps_loop : (scope : List Seg) (depth : ℕ) (c : Tree) (ts : Trees) → Keeps p (loop ev scope depth c ts)
+  unfolding loop
+  keeps_loop scope depth c ts = record { keeps = λ s o. (keeps_turns (suc s.1) scope depth c ts).keeps s o }
+
+  keeps_while : (scope : List Seg) (depth : ℕ) (t : Tree) → Keeps p (while_rule ev scope depth t)
+  unfolding while_rule
+  keeps_while scope depth t = keeps_bind _ _ (keeps_settle _) (λ c. keeps_bind _ _ (keeps_settle _) (λ ts. keeps_loop scope depth c ts))
+
+  keeps_return : (scope : List Seg) (depth : ℕ) (t : Tree) → Keeps p (return_rule ev scope depth t)
+  unfolding return_rule
+  keeps_return scope depth t = keeps_bind _ _ (keeps_value_at scope depth t 0) (λ v. keeps_give _)
+
+  keeps_release : (scope : List Seg) (depth : ℕ) (t : Tree) → Keeps p (release_rule ev scope depth t)
+  unfolding release_rule
+  keeps_release scope depth t = keeps_bind _ _ (keeps_place scope depth t 0) (λ q. keeps_bind _ _ (keeps_lift _ (leaves_given_back_at q)) (λ done. keeps_give _))
+
+  keeps_notify : (scope : List Seg) (depth : ℕ) (t : Tree) → Keeps p (notify_rule ev scope depth t)
+  unfolding notify_rule
+  keeps_notify scope depth t = keeps_bind _ _ (keeps_place scope depth t 0) (λ q. keeps_bind _ _ (keeps_value_at scope depth t 1) (λ v. keeps_give _))
+
+  keeps_pause : (scope : List Seg) (depth : ℕ) (t : Tree) → Keeps p (pause_rule ev scope depth t)
+  unfolding pause_rule
+  keeps_pause scope depth t = keeps_bind _ _ (keeps_value_at scope depth t 0) (λ v. keeps_give _)
+
+  keeps_fatal : (scope : List Seg) (depth : ℕ) (t : Tree) → Keeps p (fatal_rule ev scope depth t)
+  unfolding fatal_rule
+  keeps_fatal scope depth t = keeps_bind _ _ (keeps_value_at scope depth t 2) (λ v. keeps_stop _)
+
+  keeps_statement : (k : StatementKind) (scope : List Seg) (depth : ℕ) (t : Tree) → Keeps p (statement_rule ev k scope depth t)
+  keeps_statement statements.If scope depth t = keeps_if scope depth t
+  keeps_statement statements.Else scope depth t = keeps_else scope depth t
+  keeps_statement statements.While scope depth t = keeps_while scope depth t
+  keeps_statement statements.Break scope depth t = keeps_give _
+  keeps_statement statements.Continue scope depth t = keeps_give _
+  keeps_statement statements.Noop scope depth t = keeps_give _
+  keeps_statement statements.Return scope depth t = keeps_return scope depth t
+  keeps_statement statements.Release scope depth t = keeps_release scope depth t
+  keeps_statement statements.Notify scope depth t = keeps_notify scope depth t
+  keeps_statement statements.Pause scope depth t = keeps_pause scope depth t
+  keeps_statement statements.Fatal scope depth t = keeps_fatal scope depth t
+
+  -- ---- calls
+
+  keeps_arguments : (scope : List Seg) (depth : ℕ) (ts : Trees) (i : ℕ) (done : List Value) → Keeps p (arguments_in_turn ev scope depth ts i done)
+  unfolding arguments_in_turn
+  keeps_arguments scope depth no_trees i done = keeps_give _
+  keeps_arguments scope depth (tree t ts) i done = keeps_bind _ _ (keeps_value scope depth t) (λ v. keeps_arguments scope depth ts _ _)
+
+  -- the control method is not above the path
+  keeps_invoked : (depth : ℕ) (q : List Seg) (body : BodyPlace) (arguments : List Value) → is_below q p ≡ false → Keeps p (invoked ev depth q body arguments)
+  unfolding invoked
+  keeps_invoked depth q body arguments apart = keeps_bind _ _ (keeps_settle _) (λ few. keeps_bind _ _ (keeps_lift _ (leaves_terms q body)) (λ ts. keeps_bind _ _ (keeps_lift _ (leaves_opened arguments)) (λ frame. keeps_leaving q _ apart (keeps_turn q _ ts))))
+
+  keeps_call : (scope : List Seg) (depth : ℕ) (ts : Trees) (q : List Seg) (body : BodyPlace) → is_below q p ≡ false → Keeps p (call_rule ev scope depth ts q body)
+  unfolding call_rule
+  keeps_call scope depth ts q body apart = keeps_bind _ _ (keeps_arguments scope depth ts _ _) (λ arguments. keeps_invoked depth q body arguments apart)
+
+  keeps_invocation : (scope : List Seg) (depth : ℕ) (ts : Trees) (i : Invocation) → CalledApart p i → Keeps p (invocation_rule ev scope depth ts i)
+  keeps_invocation scope depth ts (invocations.Value v) apart = keeps_give _
+  keeps_invocation scope depth ts (invocations.Method q body) apart = keeps_call scope depth ts q body (apart q body refl)
+
+  keeps_name_value : (scope : List Seg) (depth : ℕ) (t : Tree) → Keeps p (name_value ev scope depth t)
+  unfolding name_value
+  keeps_name_value scope depth t = keeps_bind _ _ (keeps_settle _) (λ x. keeps_bind _ _ (keeps_settle _) (λ ts. keeps_given _ _ _ (leaves_invocation scope x _) (invocation_apart scope x _) (λ i apart. keeps_invocation scope depth ts i apart)))
+
+  -- ---- which rule
+
+  keeps_kind : (k : TermKind) (op : Opcode) (scope : List Seg) (depth : ℕ) (t : Tree) → Keeps p (kind_rule ev k op scope depth t)
+  keeps_kind (kinds.Data k) op scope depth t = keeps_data k scope depth t
+  keeps_kind (kinds.Declaration k) op scope depth t = keeps_declaration k scope depth t
+  keeps_kind (kinds.Operator k) op scope depth t = keeps_operator k scope depth t
+  keeps_kind (kinds.Statement k) op scope depth t = keeps_statement k scope depth t
+  keeps_kind kinds.Unsupported op scope depth t = keeps_stop _
+
+  keeps_code : (c : TermCode) (scope : List Seg) (depth : ℕ) (t : Tree) → Keeps p (code_rule ev c scope depth t)
+  keeps_code (codes.Opcode op) scope depth t = keeps_kind (kind_of op) op scope depth t
+  keeps_code codes.MethodInvocation scope depth t = keeps_name_value scope depth t
+  keeps_code codes.Name scope depth t = keeps_stop _
+  keeps_code codes.NamedField scope depth t = keeps_stop _
+  keeps_code codes.ReservedField scope depth t = keeps_stop _
+  keeps_code codes.AccessField scope depth t = keeps_stop _
+  keeps_code codes.ExtendedAccessField scope depth t = keeps_stop _
+  keeps_code codes.ConnectField scope depth t = keeps_stop _
+
+  keeps_rule : (t : Task) → Keeps p (rule ev t)
+  unfolding rule
+  keeps_rule t = keeps_code (code_of t.term) t.scope t.depth t.term
+
+-- ---- evaluations
+
+within_keeps : {S : Type 0} {p : List Seg} (n : ℕ) (t : Task) (w : State S) (b : ℕ) → Outside w p → Kept w.names.map (evaluated_within n t (w, b)).1.0.names.map p
+unfolding evaluated_within
+within_keeps zero t w b o = kept_same _ _ o
+within_keeps (suc n) t w zero o = kept_same _ _ o
+within_keeps (suc n) t w (suc b) o = (keeps_rule (evaluated_within n) (λ u. record { keeps = λ s i. within_keeps n u s.0 s.1 i }) t).keeps (w, b) o
+
+pub meaning_keeps : {S : Type 0} {p : List Seg} (t : Task) → Keeps {S = S} p (meaning t)
+unfolding meaning
+meaning_keeps t = record { keeps = λ s o. within_keeps s.1 t s.0 s.1 o }
+
+pub list_keeps : {S : Type 0} {p : List Seg} (scope : List Seg) (depth : ℕ) (ts : Trees) → Keeps {S = S} p (in_turn meaning scope depth ts)
+list_keeps scope depth ts = keeps_turn meaning meaning_keeps scope depth ts
+
+-- a path that is outside of control methods before a term is evaluated is outside of them after it, however it ended
+pub outside_stays : {S : Type 0} (t : Task) (s : State S × ℕ) (p : List Seg) → Outside s.0 p → Outside (meaning t s).1.0 p
+outside_stays t s p o = ((meaning_keeps t).keeps s o).outside
+
+-- and a name that stands there stands there still
+pub names_stay : {S : Type 0} (t : Task) (s : State S × ℕ) (p : List Seg) → Outside s.0 p → Stands s.0 p → Stands (meaning t s).1.0 p
+names_stay t s p o st = ((meaning_keeps t).keeps s o).stands st
