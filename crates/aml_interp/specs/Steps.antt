@@ -26,7 +26,6 @@ use Rattle.aml_meaning.specs.Given.{Given, given_of}
 use Rattle.aml_meaning.specs.Calling.{ending, with_steps, handed_out, answered, calling}
 use Rattle.aml_meaning.specs.Meaning.{meaning, does_meaning}
 
-
 -- ---- a list is its first item and the others
 
 module _ {S : Type 0} (ev : Task → Run S Flow) where

@@ -44,11 +44,7 @@ pub(crate) fn eval_data<S: Space>(
 
 /// An integer that an opcode says.
 #[tactic(auto, using(crate::specs::Steps::evaluating), unfolding(aml_meaning::specs::DataTerms::constant_rule))]
-fn eval_constant<S: Space>(
-    world: &World<S>,
-    budget: u64,
-    number: u64,
-) -> Result<Flow, Refusal>
+fn eval_constant<S: Space>(world: &World<S>, budget: u64, number: u64) -> Result<Flow, Refusal>
     ensures { Does result (world.now, budget) (constant_rule meaning number) (world.now, budget) }
 {
     let value = world.integer_kept(number)?;
@@ -57,11 +53,7 @@ fn eval_constant<S: Space>(
 
 /// An integer that follows its opcode.
 #[tactic(auto, using(crate::specs::Steps::evaluating), unfolding(aml_meaning::specs::DataTerms::integer_rule))]
-fn eval_integer<S: Space>(
-    world: &World<S>,
-    budget: u64,
-    term: Reader<'_>,
-) -> Result<Flow, Refusal>
+fn eval_integer<S: Space>(world: &World<S>, budget: u64, term: Reader<'_>) -> Result<Flow, Refusal>
     ensures { Does result (world.now, budget) (integer_rule meaning (part_tree term.entry)) (world.now, budget) }
 {
     let number = number(term, 0)?;

@@ -34,26 +34,78 @@ pub(crate) fn eval_declaration<S: Space>(
     match kind {
         DeclarationKind::Scope => eval_scope(alloc, world, budget, scope, depth, term),
         DeclarationKind::Device => {
-            eval_new_scope(alloc, world, budget, scope, depth, term, NamedObject::Device, 1)
+            eval_new_scope(
+                alloc,
+                world,
+                budget,
+                scope,
+                depth,
+                term,
+                NamedObject::Device,
+                1,
+            )
         }
         DeclarationKind::Processor => {
-            eval_new_scope(alloc, world, budget, scope, depth, term, NamedObject::Processor, 4)
+            eval_new_scope(
+                alloc,
+                world,
+                budget,
+                scope,
+                depth,
+                term,
+                NamedObject::Processor,
+                4,
+            )
         }
         DeclarationKind::PowerResource => {
-            eval_new_scope(alloc, world, budget, scope, depth, term, NamedObject::PowerResource, 3)
+            eval_new_scope(
+                alloc,
+                world,
+                budget,
+                scope,
+                depth,
+                term,
+                NamedObject::PowerResource,
+                3,
+            )
         }
         DeclarationKind::ThermalZone => {
-            eval_new_scope(alloc, world, budget, scope, depth, term, NamedObject::ThermalZone, 1)
+            eval_new_scope(
+                alloc,
+                world,
+                budget,
+                scope,
+                depth,
+                term,
+                NamedObject::ThermalZone,
+                1,
+            )
         }
         DeclarationKind::Name => eval_name(alloc, world, budget, scope, depth, term),
         DeclarationKind::Alias => eval_alias(alloc, world, *budget, scope, depth, term),
         DeclarationKind::External => Ok(Flow::Next),
         DeclarationKind::Method => eval_method(alloc, world, *budget, scope, depth, term),
         DeclarationKind::Mutex => {
-            eval_declaring(alloc, world, *budget, scope, depth, term, NamedObject::Mutex(0))
+            eval_declaring(
+                alloc,
+                world,
+                *budget,
+                scope,
+                depth,
+                term,
+                NamedObject::Mutex(0),
+            )
         }
         DeclarationKind::Event => {
-            eval_declaring(alloc, world, *budget, scope, depth, term, NamedObject::Event)
+            eval_declaring(
+                alloc,
+                world,
+                *budget,
+                scope,
+                depth,
+                term,
+                NamedObject::Event,
+            )
         }
     }
 }

@@ -125,8 +125,26 @@ fn eval_divide<S: Space>(
 {
     let values = eval_two_values(alloc, world, budget, scope, depth, term)?;
     let division = world.divide(values.0, values.1)?;
-    eval_targeted(alloc, world, budget, scope, depth, term, 2, Value::Integer(division.remainder))?;
-    eval_targeted(alloc, world, budget, scope, depth, term, 3, Value::Integer(division.quotient))
+    eval_targeted(
+        alloc,
+        world,
+        budget,
+        scope,
+        depth,
+        term,
+        2,
+        Value::Integer(division.remainder),
+    )?;
+    eval_targeted(
+        alloc,
+        world,
+        budget,
+        scope,
+        depth,
+        term,
+        3,
+        Value::Integer(division.quotient),
+    )
 }
 
 /// An operator with an operand and a target.

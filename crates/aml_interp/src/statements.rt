@@ -63,7 +63,16 @@ fn eval_if<S: Space>(
     let condition = inner(term, 0)?;
     let items = list(term, 1)?;
     let number = eval_operand_integer(alloc, world, budget, scope, depth, condition)?;
-    eval_branch(alloc, world, budget, scope, depth, items, else_of(term), is_true(number))
+    eval_branch(
+        alloc,
+        world,
+        budget,
+        scope,
+        depth,
+        items,
+        else_of(term),
+        is_true(number),
+    )
 }
 
 /// The list of an If, or what follows it.

@@ -240,7 +240,7 @@ module _ {S : Type 0} {p : List Seg} where
   unfolding invocation_found
   leaves_invocation scope n many = leaves_bind _ _ (leaves_arguments scope n) (λ wanted. leaves_bind _ _ (leaves_settle _) (λ fit. leaves_use scope n))
 
-  use_apart : (scope : List Seg) (n : Name) → Gives p (CalledApart p) (named_use {S = S} scope n)
+  pub use_apart : (scope : List Seg) (n : Name) → Gives p (CalledApart p) (named_use {S = S} scope n)
   unfolding named_use
   use_apart scope n = record { gives = λ w o i e q body is. callee_apart w.names.map scope n p q body o (e ∙ ap Ok is) }
 

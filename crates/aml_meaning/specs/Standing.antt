@@ -40,13 +40,13 @@ use Rattle.aml_meaning.specs.DataTerms.{constant_rule, integer_rule, string_rule
 use Rattle.aml_meaning.specs.DeclarationTerms.{declaring, name_rule, alias_rule, method_rule, scope_rule, new_scope, declaration_rule}
 use Rattle.aml_meaning.specs.PlaceTerms.{referring, place_of_term, name_place, place_by, place_at, targeted}
 use Rattle.aml_meaning.specs.OperatorTerms.{slot_rule, store_rule, copy_rule, two_rule, divide_rule, one_rule, test_rule, not_rule, count_rule, size_rule, type_rule, acquire_rule, operator_rule}
-use Rattle.aml_meaning.specs.StatementTerms.{otherwise, branch, if_rule, else_rule, turn_of, turn, after_turn, turns, loop, while_rule, return_rule, release_rule, notify_rule, pause_rule, fatal_rule, statement_rule}
+use Rattle.aml_meaning.specs.StatementTerms.{otherwise, branch, if_rule, else_rule, turn_of, turn, loop_end, after_turn, turns, loop, while_rule, return_rule, release_rule, notify_rule, pause_rule, fatal_rule, statement_rule}
 use Rattle.aml_meaning.specs.Invocations.{arguments_in_turn, invoked, call_rule, invocation_rule, name_value}
 use Rattle.aml_meaning.specs.Evaluation.{kind_rule, code_rule, rule}
 use Rattle.aml_meaning.specs.Meaning.{meaning, evaluated_within}
 use Rattle.aml_meaning.specs.Outside.{Outside, Stands, Kept, kept_same}
 use Rattle.aml_meaning.specs.Keeping.{Keeps, leaves_objects, keeps_give, keeps_stop, keeps_settle, keeps_lift, keeps_charge, keeps_bind, keeps_leaving, keeps_given}
-use Rattle.aml_meaning.specs.Leaving.{CalledApart, leaves_integer, leaves_read, leaves_path, leaves_scope, leaves_place_named, leaves_within, leaves_buffer, leaves_package, leaves_new, leaves_method, leaves_divided, leaves_turned, leaves_size, leaves_two, leaves_one, leaves_test, leaves_counted, leaves_terms, leaves_opened, leaves_invocation, invocation_apart}
+use Rattle.aml_meaning.specs.Leaving.{CalledApart, leaves_integer, leaves_read, leaves_path, leaves_scope, leaves_place_named, leaves_within, leaves_buffer, leaves_package, leaves_new, leaves_method, leaves_divided, leaves_turned, leaves_size, leaves_two, leaves_one, leaves_test, leaves_counted, leaves_terms, leaves_opened, leaves_arguments, leaves_use, use_apart}
 use Rattle.aml_meaning.specs.LeavingPlaces.{leaves_slot_read, leaves_place_read, leaves_referent, leaves_stored, leaves_copied, leaves_acquired_at, leaves_given_back_at}
 
 -- ---- parts that keep names make rules that keep them
@@ -292,17 +292,14 @@ module _ {S : Type 0} {p : List Seg} (ev : Task → Run S Flow) (parts : (t : Ta
   unfolding turn
   keeps_turning scope depth c ts = keeps_bind _ _ (keeps_integer scope depth c) (λ x. keeps_turn_of scope depth ts _)
 
-  keeps_after_turn : (f : Flow) (m : Run S Flow) → Keeps p m → Keeps p (after_turn ev f m)
-  keeps_after_turn (flow.Value v) m h = h
-  keeps_after_turn flow.Next m h = h
-  keeps_after_turn flow.Break m h = keeps_give _
-  keeps_after_turn flow.Continue m h = h
-  keeps_after_turn (flow.Return v) m h = keeps_give _
+  keeps_after_turn : (o : Option Flow) (m : Run S Flow) → Keeps p m → Keeps p (after_turn ev o m)
+  keeps_after_turn None m h = h
+  keeps_after_turn (Some f) m h = keeps_give _
 
   keeps_turns : (k : ℕ) (scope : List Seg) (depth : ℕ) (c : Tree) (ts : Trees) → Keeps p (turns ev k scope depth c ts)
   unfolding turns
   keeps_turns zero scope depth c ts = keeps_stop _
-  keeps_turns (suc k) scope depth c ts = keeps_bind _ _ (keeps_turning scope depth c ts) (λ f. keeps_after_turn f _ (keeps_turns k scope depth c ts))
+  keeps_turns (suc k) scope depth c ts = keeps_bind _ _ (keeps_turning scope depth c ts) (λ f. keeps_after_turn (loop_end f) _ (keeps_turns k scope depth c ts))
 
   keeps_loop : (scope : List Seg) (depth : ℕ) (c : Tree) (ts : Trees) → Keeps p (loop ev scope depth c ts)
   unfolding loop
@@ -347,19 +344,19 @@ module _ {S : Type 0} {p : List Seg} (ev : Task → Run S Flow) (parts : (t : Ta
 
   -- ---- calls
 
-  keeps_arguments : (scope : List Seg) (depth : ℕ) (ts : Trees) (i : ℕ) (done : List Value) → Keeps p (arguments_in_turn ev scope depth ts i done)
+  keeps_arguments : (scope : List Seg) (depth : ℕ) (ts : Trees) (done : List Value) → Keeps p (arguments_in_turn ev scope depth ts done)
   unfolding arguments_in_turn
-  keeps_arguments scope depth no_trees i done = keeps_give _
-  keeps_arguments scope depth (tree t ts) i done = keeps_bind _ _ (keeps_value scope depth t) (λ v. keeps_arguments scope depth ts _ _)
+  keeps_arguments scope depth no_trees done = keeps_give _
+  keeps_arguments scope depth (tree t ts) done = keeps_bind _ _ (keeps_value scope depth t) (λ v. keeps_arguments scope depth ts _)
 
   -- the control method is not above the path
   keeps_invoked : (depth : ℕ) (q : List Seg) (body : BodyPlace) (arguments : List Value) → is_below q p ≡ false → Keeps p (invoked ev depth q body arguments)
   unfolding invoked
-  keeps_invoked depth q body arguments apart = keeps_bind _ _ (keeps_settle _) (λ few. keeps_bind _ _ (keeps_lift _ (leaves_terms q body)) (λ ts. keeps_bind _ _ (keeps_lift _ (leaves_opened arguments)) (λ frame. keeps_leaving q _ apart (keeps_turn q _ ts))))
+  keeps_invoked depth q body arguments apart = keeps_bind _ _ (keeps_settle _) (λ few. keeps_bind _ _ (keeps_lift _ (leaves_terms q body)) (λ ts. keeps_bind _ _ (keeps_lift _ (leaves_opened _)) (λ frame. keeps_leaving q _ apart (keeps_turn q _ ts))))
 
   keeps_call : (scope : List Seg) (depth : ℕ) (ts : Trees) (q : List Seg) (body : BodyPlace) → is_below q p ≡ false → Keeps p (call_rule ev scope depth ts q body)
   unfolding call_rule
-  keeps_call scope depth ts q body apart = keeps_bind _ _ (keeps_arguments scope depth ts _ _) (λ arguments. keeps_invoked depth q body arguments apart)
+  keeps_call scope depth ts q body apart = keeps_bind _ _ (keeps_arguments scope depth ts _) (λ arguments. keeps_invoked depth q body arguments apart)
 
   keeps_invocation : (scope : List Seg) (depth : ℕ) (ts : Trees) (i : Invocation) → CalledApart p i → Keeps p (invocation_rule ev scope depth ts i)
   keeps_invocation scope depth ts (invocations.Value v) apart = keeps_give _
@@ -367,7 +364,7 @@ module _ {S : Type 0} {p : List Seg} (ev : Task → Run S Flow) (parts : (t : Ta
 
   keeps_name_value : (scope : List Seg) (depth : ℕ) (t : Tree) → Keeps p (name_value ev scope depth t)
   unfolding name_value
-  keeps_name_value scope depth t = keeps_bind _ _ (keeps_settle _) (λ x. keeps_bind _ _ (keeps_settle _) (λ ts. keeps_given _ _ _ (leaves_invocation scope x _) (invocation_apart scope x _) (λ i apart. keeps_invocation scope depth ts i apart)))
+  keeps_name_value scope depth t = keeps_bind _ _ (keeps_settle _) (λ x. keeps_bind _ _ (keeps_settle _) (λ ts. keeps_bind _ _ (keeps_lift _ (leaves_arguments scope x)) (λ wanted. keeps_bind _ _ (keeps_settle _) (λ many. keeps_given _ _ _ (leaves_use scope x) (use_apart scope x) (λ i apart. keeps_invocation scope depth ts i apart)))))
 
   -- ---- which rule
 

@@ -153,6 +153,7 @@ other_operator opcodes.SizeOf = Some operators.SizeOf
 other_operator opcodes.ObjectType = Some operators.ObjectType
 other_operator opcodes.Acquire = Some operators.Acquire
 other_operator _ = None
+
 -- the kind of a term: one of those above, or it is not evaluated
 abbrev pub other_or : Option OperatorKind → TermKind
 other_or (Some k) = kinds.Operator k

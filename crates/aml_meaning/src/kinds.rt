@@ -20,7 +20,9 @@ fn data_kind(opcode: Opcode) -> Option<DataKind>
         Opcode::One => Some(DataKind::Constant(1)),
         Opcode::Ones => Some(DataKind::Constant(u64::MAX)),
         Opcode::Revision => Some(DataKind::Constant(2)),
-        Opcode::BytePrefix | Opcode::WordPrefix | Opcode::DWordPrefix | Opcode::QWordPrefix => Some(DataKind::Integer),
+        Opcode::BytePrefix | Opcode::WordPrefix | Opcode::DWordPrefix | Opcode::QWordPrefix => Some(
+            DataKind::Integer,
+        ),
         Opcode::StringPrefix => Some(DataKind::String),
         Opcode::Buffer => Some(DataKind::Buffer),
         Opcode::Package => Some(DataKind::Package),

@@ -95,7 +95,12 @@ impl<S> World<S> {
 
     /// An element of a package; past its end, and of another kind of object, this is refused as `DeadReference`.
     #[tactic(auto, using(crate::specs::Lifted::parts))]
-    pub(crate) fn element(&self, alloc: Global, object: usize, index: usize) -> Result<Element, Refusal>
+    pub(crate) fn element(
+        &self,
+        alloc: Global,
+        object: usize,
+        index: usize,
+    ) -> Result<Element, Refusal>
         ensures { Does result self.now (on_objects (element_at object index)) self.now }
     {
         self.heap.element(alloc, object, index)
@@ -111,7 +116,12 @@ impl<S> World<S> {
 
     /// Puts an element in place of one of a package.
     #[tactic(auto, using(crate::specs::Lifted::parts))]
-    pub(crate) fn write_element(&mut self, object: usize, index: usize, element: Element) -> Result<(), Refusal>
+    pub(crate) fn write_element(
+        &mut self,
+        object: usize,
+        index: usize,
+        element: Element,
+    ) -> Result<(), Refusal>
         ensures { Does result self.new (on_objects (write_element object index element)) self.old }
     {
         self.heap.write_element(object, index, element)
@@ -119,7 +129,12 @@ impl<S> World<S> {
 
     /// Puts a byte in place of one of a string or a buffer.
     #[tactic(auto, using(crate::specs::Lifted::parts))]
-    pub(crate) fn write_byte(&mut self, object: usize, index: usize, byte: u8) -> Result<(), Refusal>
+    pub(crate) fn write_byte(
+        &mut self,
+        object: usize,
+        index: usize,
+        byte: u8,
+    ) -> Result<(), Refusal>
         ensures { Does result self.new (on_objects (write_byte object index byte)) self.old }
     {
         self.heap.write_byte(object, index, byte)

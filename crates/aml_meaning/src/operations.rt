@@ -219,7 +219,12 @@ impl<S> World<S> {
     ) -> Result<Value, Refusal>
         ensures { Does result self.now (compared_in comparison first second) self.now }
     {
-        match compare(alloc, self.width, self.heap.content(first), self.heap.content(second)) {
+        match compare(
+            alloc,
+            self.width,
+            self.heap.content(first),
+            self.heap.content(second),
+        ) {
             Ok(order) => Ok(Value::Integer(truth(self.width, holds(comparison, order)))),
             Err(refusal) => Err(refusal),
         }
@@ -237,7 +242,12 @@ impl<S> World<S> {
     fn joined_contents(&self, alloc: Global, first: Value, second: Value) -> Result<Joined, Refusal>
         ensures { Does (seen joined_content result) self.now (joined_contents first second) self.now }
     {
-        concat(alloc, self.width, self.heap.content(first), self.heap.content(second))
+        concat(
+            alloc,
+            self.width,
+            self.heap.content(first),
+            self.heap.content(second),
+        )
     }
 
     fn make_joined(&mut self, contents: Joined) -> Result<Value, Refusal>
@@ -250,7 +260,12 @@ impl<S> World<S> {
     }
 
     #[tactic(auto, using(ar_space::specs::Change::changing), unfolding(crate::specs::Operations::joined_resources))]
-    fn join_resources(&mut self, alloc: Global, first: Value, second: Value) -> Result<Value, Refusal>
+    fn join_resources(
+        &mut self,
+        alloc: Global,
+        first: Value,
+        second: Value,
+    ) -> Result<Value, Refusal>
         ensures { Does result self.new (joined_resources first second) self.old }
     {
         let bytes = self.joined_items(alloc, first, second)?;

@@ -110,7 +110,12 @@ fn store_in_frame_numbered<S>(
 impl<S> World<S> {
     /// The name of a declaration holds a copy of a value from now on.
     #[tactic(auto, using(ar_space::specs::Change::changing), unfolding(crate::specs::Stores::copy_into_declared))]
-    fn copy_into_declared(&mut self, alloc: Global, number: u64, value: Value) -> Result<(), Refusal>
+    fn copy_into_declared(
+        &mut self,
+        alloc: Global,
+        number: u64,
+        value: Value,
+    ) -> Result<(), Refusal>
         ensures { Does result self.new (copy_into_declared number value) self.old }
     {
         let found = self.declaration(number)?;

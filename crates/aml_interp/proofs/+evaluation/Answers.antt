@@ -55,8 +55,9 @@ invocations::eval_arguments-returns-in_err-value-in-Some-clause-means g t c =
 
 pub invocations::eval_arguments-items-preserved : goal.invocations::eval_arguments-items-preserved
 invocations::eval_arguments-items-preserved g t c = (
-    let d = c.items.invariant.0 in let e = c.eval_value.ensures.spent in omega arith,
-    rw (c.in_ok-push-in-Some.ensures.items) (same_ok _ _ (same_argument meaning c.args.scope.now c.args.depth _ c.items.values.items c.items.invariant.1 (c.next.ensures ∙ ap (first_of part_tree part_list) c.in-Some.is)) c.in_ok-value-in-Some.ensures.means))
+  let d = c.items.invariant.0 in let e = c.eval_value.ensures.spent in omega arith,
+  rw (c.in_ok-push-in-Some.ensures.items) (same_ok _ _ (same_argument meaning c.args.scope.now c.args.depth _ c.items.values.items c.items.invariant.1 (c.next.ensures ∙ ap (first_of part_tree part_list) c.in-Some.is)) c.in_ok-value-in-Some.ensures.means),
+)
 
 pub statements::eval_loop-returns-in_err-flow-clause-means : goal.statements::eval_loop-returns-in_err-flow-clause-means
 statements::eval_loop-returns-in_err-flow-clause-means g t c =
@@ -68,5 +69,6 @@ statements::eval_loop-returns-in-Some-clause-means g t c =
 
 pub statements::eval_loop-turns-preserved : goal.statements::eval_loop-turns-preserved
 statements::eval_loop-turns-preserved g t c = (
-    let d = c.turns.invariant.0 in let e = c.eval_turn.ensures.spent in omega arith,
-    same_after _ _ (same_ok _ _ (same_turn c.args.scope.now c.args.depth _ _ c.turns.invariant.1) c.in_ok-flow.ensures.means) (sym c.loop_end.ensures ∙ c.in-None.is))
+  let d = c.turns.invariant.0 in let e = c.eval_turn.ensures.spent in omega arith,
+  same_after _ _ (same_ok _ _ (same_turn c.args.scope.now c.args.depth _ _ c.turns.invariant.1) c.in_ok-flow.ensures.means) (sym c.loop_end.ensures ∙ c.in-None.is),
+)

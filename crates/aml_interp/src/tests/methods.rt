@@ -38,7 +38,13 @@ pub fn called(
     arguments: Vec<Datum>,
     steps: u64,
 ) -> Result<Datum, Refusal> {
-    answer(alloc, world, &Path::from_text(alloc, b"\\M000")?, arguments, steps)
+    answer(
+        alloc,
+        world,
+        &Path::from_text(alloc, b"\\M000")?,
+        arguments,
+        steps,
+    )
 }
 
 /// What a body answers that takes no arguments.

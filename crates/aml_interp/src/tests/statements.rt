@@ -14,13 +14,25 @@ const INTEGERS: &[(&[u8], u64)] = &[
     (b"\xA0\x04\x01\xA4\x07\xA4\x08", u64::MAX - 1),
     (b"\xA0\x05\x01\xA4\x0A\x07\xA4\x0A\x08", 7),
     (b"\xA0\x05\x00\xA4\x0A\x07\xA4\x0A\x08", 8),
-    (b"\xA0\x05\x00\xA4\x0A\x07\xA1\x04\xA4\x0A\x09\xA4\x0A\x08", 9),
-    (b"\xA0\x05\x01\xA4\x0A\x07\xA1\x04\xA4\x0A\x09\xA4\x0A\x08", 7),
+    (
+        b"\xA0\x05\x00\xA4\x0A\x07\xA1\x04\xA4\x0A\x09\xA4\x0A\x08",
+        9,
+    ),
+    (
+        b"\xA0\x05\x01\xA4\x0A\x07\xA1\x04\xA4\x0A\x09\xA4\x0A\x08",
+        7,
+    ),
     // a loop of five turns
-    (b"\x70\x00\x61\x70\x0A\x05\x60\xA2\x06\x60\x76\x60\x75\x61\xA4\x61", 5),
+    (
+        b"\x70\x00\x61\x70\x0A\x05\x60\xA2\x06\x60\x76\x60\x75\x61\xA4\x61",
+        5,
+    ),
     // Break, Continue and Return in a loop
     (b"\xA2\x03\x01\xA5\xA4\x0A\x07", 7),
-    (b"\x70\x00\x61\x70\x0A\x03\x60\xA2\x07\x60\x76\x60\x9F\x75\x61\xA4\x61", 0),
+    (
+        b"\x70\x00\x61\x70\x0A\x03\x60\xA2\x07\x60\x76\x60\x9F\x75\x61\xA4\x61",
+        0,
+    ),
     (b"\xA2\x05\x01\xA4\x0A\x07\xA4\x0A\x08", 7),
     // Noop, BreakPoint, Notify, Stall and Sleep do nothing
     (b"\xA3\xCC\x86\\_SB_\x00\x5B\x21\x01\x5B\x22\x01\xA4\x01", 1),
@@ -63,7 +75,10 @@ fn refused_statements(rt: HostRuntime) -> Result<(), Fail> {
 fn steps_of_a_return(rt: HostRuntime) -> Result<(), Fail> {
     let alloc = rt.alloc();
     let refused = answer_to(alloc, WIDE, b"\xA4\x01", 1).err();
-    assert_eq!(rt; refused, Some(Refusal::Evaluation(EvaluationFault::OutOfSteps)));
+    assert_eq!(rt;
+        refused,
+        Some(Refusal::Evaluation(EvaluationFault::OutOfSteps))
+    );
     match answer_to(alloc, WIDE, b"\xA4\x01", 2)? {
         Datum::Integer(number) => assert_eq!(rt; number, 1),
         _ => assert!(rt; false),
