@@ -83,7 +83,7 @@ fn integer(machine: &mut Machine<Sparse>, alloc: Global, text: &[u8]) -> Result<
     }
 }
 
-/// What `_INI` and `_PIC` would write.
+/// What `_INI` and `_PIC` write.
 fn written(machine: &mut Machine<Sparse>, alloc: Global) -> Result<(u64, u64), Refusal> {
     let flag = integer(machine, alloc, b"\\FLAG")?;
     Ok((flag, integer(machine, alloc, b"\\PICF")?))
@@ -231,12 +231,21 @@ fn nothing_is_called_before(rt: HostRuntime) -> Result<(), Fail> {
     Ok(())
 }
 
+/// What `_INI` and `_PIC` have written after each of two calls.
+fn initialized_twice(
+    machine: &mut Machine<Sparse>,
+    alloc: Global,
+) -> Result<((u64, u64), (u64, u64)), Refusal> {
+    machine.initialize(alloc, Mode::Apic)?;
+    let first = written(machine, alloc)?;
+    machine.initialize(alloc, Mode::Pic)?;
+    Ok((first, written(machine, alloc)?))
+}
+
 #[test]
-fn control_methods_are_not_called_yet(rt: HostRuntime) -> Result<(), Fail> {
+fn control_methods_are_called_to_initialize(rt: HostRuntime) -> Result<(), Fail> {
     let mut machine = machine_by(rt.alloc(), XSDT_WITH_SSDT)?;
-    let unsupported = Refusal::Evaluation(EvaluationFault::Unsupported(0x14));
-    let (refusal, mode) = initialized(&mut machine, rt.alloc(), Mode::Pic);
-    assert!(rt; refusal == Some(unsupported) && mode == Mode::Pic);
+    assert!(rt; initialized_twice(&mut machine, rt.alloc())? == ((1, 1), (1, 0)));
     Ok(())
 }
 

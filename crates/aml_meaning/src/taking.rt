@@ -39,11 +39,11 @@ impl<S> World<S> {
     }
 
     /// Values that are handed in, one after another.
-    pub fn take_all(&mut self, alloc: Global, data: &[Datum]) -> Result<Vec<Value>, Refusal>
-        ensures { Does (seen (λ list. list.items) result) self.new (all_taken (map given_of data.now) []) self.old }
+    pub fn take_all(&mut self, alloc: Global, arguments: &[Datum]) -> Result<Vec<Value>, Refusal>
+        ensures { Does (seen (λ list. list.items) result) self.new (all_taken (map given_of arguments.now) []) self.old }
     {
         let mut values = Vec::new(alloc);
-        for datum in data {
+        for datum in arguments {
             let value = self.take(alloc, datum)?;
             values.push(value)?;
         }

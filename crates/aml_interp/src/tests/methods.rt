@@ -2,6 +2,7 @@
 use super::worlds::{STEPS, fresh};
 use crate::{answer, load};
 use aml_meaning::{Datum, World};
+use aml_objects::Octets;
 use aml_path::Path;
 use ar_space::{IntegerWidth, Refusal, Sparse};
 use std::alloc::Global;
@@ -71,5 +72,14 @@ pub fn refusal_of(alloc: Global, body: &[u8]) -> u16 {
     match answer_to(alloc, IntegerWidth::Bits64, body, STEPS) {
         Ok(_) => 0,
         Err(refusal) => u16::from(refusal.number()),
+    }
+}
+
+/// The bytes of the string or the buffer that a body answers; of anything else there are none.
+pub fn bytes_of(alloc: Global, body: &[u8]) -> Result<Octets, Refusal> {
+    match answer_to(alloc, IntegerWidth::Bits64, body, STEPS)? {
+        Datum::Text(bytes) => Ok(bytes),
+        Datum::Bytes(bytes) => Ok(bytes),
+        _ => Ok(Octets::from_vec(Vec::new(alloc))),
     }
 }

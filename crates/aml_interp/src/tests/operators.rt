@@ -1,7 +1,5 @@
 //! Operators and stores, as the values that control methods answer.
-use super::methods::{answer_to, integer_of, refusal_of};
-use super::worlds::STEPS;
-use aml_meaning::Datum;
+use super::methods::{bytes_of, integer_of, refusal_of};
 use ar_space::IntegerWidth;
 use std::test::Fail;
 
@@ -135,11 +133,7 @@ const BYTES: &[(&[u8], &[u8])] = &[
 fn strings_and_buffers(rt: HostRuntime) -> Result<(), Fail> {
     let alloc = rt.alloc();
     for (body, wanted) in BYTES {
-        match answer_to(alloc, IntegerWidth::Bits64, body, STEPS)? {
-            Datum::Text(bytes) => assert_eq!(rt; bytes.as_slice(), *wanted),
-            Datum::Bytes(bytes) => assert_eq!(rt; bytes.as_slice(), *wanted),
-            _ => assert!(rt; false),
-        }
+        assert_eq!(rt; bytes_of(alloc, body)?.as_slice(), *wanted);
     }
     Ok(())
 }

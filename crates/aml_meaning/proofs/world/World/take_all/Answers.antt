@@ -4,10 +4,10 @@ use Rattle.aml_meaning.specs.Taken.{same_argument, arguments_end}
 use Rattle.aml_meaning.proofs.world.World.take_all.Goals as goal
 
 pub loop-datum-preserved : goal.loop-datum-preserved
-loop-datum-preserved g c = rw (c.in_ok-push.ensures.items) (same_ok _ _ (same_argument c.args.data.now c.loop-datum.values.items c.loop-datum.datum-index _ c.loop-datum.invariant (omega arith) c.datum-item.is) c.in_ok-value.ensures)
+loop-datum-preserved g c = rw (c.in_ok-push.ensures.items) (same_ok _ _ (same_argument c.args.arguments.now c.loop-datum.values.items c.loop-datum.datum-index _ c.loop-datum.invariant (omega arith) c.datum-item.is) c.in_ok-value.ensures)
 
 pub returns : goal.returns
-returns g c = arguments_end c.args.data.now c.loop-datum.values.items c.loop-datum.datum-index c.loop-datum.invariant (omega arith)
+returns g c = arguments_end c.args.arguments.now c.loop-datum.values.items c.loop-datum.datum-index c.loop-datum.invariant (omega arith)
 
 pub returns-in_err-value : goal.returns-in_err-value
-returns-in_err-value g c = does_same (same_argument c.args.data.now c.loop-datum.values.items c.loop-datum.datum-index _ c.loop-datum.invariant (omega arith) c.datum-item.is) (does_seen_err c.from_residual.result (λ v. v.items) _ _ c.in_err-value.ensures c.from_residual.ensures)
+returns-in_err-value g c = does_same (same_argument c.args.arguments.now c.loop-datum.values.items c.loop-datum.datum-index _ c.loop-datum.invariant (omega arith) c.datum-item.is) (does_seen_err c.from_residual.result (λ v. v.items) _ _ c.in_err-value.ensures c.from_residual.ensures)
