@@ -2,11 +2,11 @@
 use Rattle.std.specs.Prelude.{ℕ, Bool, true, List, [], ◌∷◌, Option, Some, None, codes, if◌then◌else◌}
 use Rattle.std.specs.Str.{bytes_eq}
 use Rattle.clap.specs.Kinds.{or_else}
-use Rattle.clap.specs.Words.{App, Kinds, Row, Rule, Text, fault_of, first_of, new_app, new_rule, subcommand_of, with_rule, with_subcommand}
+use Rattle.clap.specs.Words.{App, Kinds, Row, Rule, Text, all_of, fault_of, first_of, new_app, new_rule, subcommand_of, with_rule, with_subcommand}
 use Rattle.clap.specs.declared.builder.action.ArgAction.TheVariants.{SetTrue}
 use Rattle.clap.specs.declared.error.kind.ErrorKind.TheVariants as kind
 use Rattle.route_report.specs.declared.report.Mode.{Mode}
-use Rattle.acpiroute_lib.specs.Values.{◌>>=◌, mode_named, steps_named, is_true}
+use Rattle.acpiroute_lib.specs.Values.{◌>>=◌, mode_named, numbers_named, steps_named, is_true}
 use Rattle.acpiroute_lib.specs.declared.request.Request.{Request}
 use Rattle.acpiroute_lib.specs.declared.request.Request.TheVariants as request
 
@@ -31,6 +31,16 @@ route_app = with_rule (with_rule (with_rule (new_app (codes "route")) mode_rule)
 abbrev pub names_app : App
 names_app = with_rule (new_app (codes "names")) steps_rule
 
+-- a path, and then at most seven numbers
+abbrev pub path_rule : Rule
+path_rule = record (new_rule (codes "path")) { value_names = 1; required = true }
+
+abbrev pub arguments_rule : Rule
+arguments_rule = record (new_rule (codes "arguments")) { value_names = 1; range = Some (record { start_inclusive = 1; end_inclusive = 7 }) }
+
+abbrev pub eval_app : App
+eval_app = with_rule (with_rule (with_rule (with_rule (new_app (codes "eval")) mode_rule) steps_rule) path_rule) arguments_rule
+
 abbrev pub check_app : App
 check_app = new_app (codes "check")
 
@@ -39,7 +49,7 @@ abbrev pub bare_app : App
 bare_app = record { top = record ((new_app (codes "acpiroute")).top) { disable_help_subcommand = true; subcommand_required = true }; subs = [] }
 
 abbrev pub app : App
-app = with_subcommand (with_subcommand (with_subcommand bare_app route_app.top) names_app.top) check_app.top
+app = with_subcommand (with_subcommand (with_subcommand (with_subcommand bare_app route_app.top) names_app.top) eval_app.top) check_app.top
 
 -- ---- what they say
 
@@ -48,6 +58,12 @@ mode_of rows = mode_named (first_of (codes "mode") rows)
 
 abbrev pub steps_of : List Row → Option ℕ
 steps_of rows = steps_named (first_of (codes "steps") rows)
+
+abbrev pub path_of : List Row → Option Text
+path_of rows = first_of (codes "path") rows
+
+abbrev pub arguments_of : List Row → Option (List ℕ)
+arguments_of rows = numbers_named (all_of (codes "arguments") rows)
 
 abbrev pub is_dry : List Row → Bool
 is_dry rows = is_true (first_of (codes "dry") rows)
@@ -63,11 +79,24 @@ names_of rows = do
   steps ← steps_of rows
   Some (request.Names steps)
 
+-- all of it must be said
+unfoldable pub eval_with : Option Mode → Option ℕ → Option Text → Option (List ℕ) → Option Request
+eval_with maybe_mode maybe_steps maybe_path maybe_arguments = do
+  mode ← maybe_mode
+  steps ← maybe_steps
+  path ← maybe_path
+  arguments ← maybe_arguments
+  Some (request.Eval mode steps path arguments)
+
+unfoldable pub eval_of : List Row → Option Request
+eval_of rows = eval_with (mode_of rows) (steps_of rows) (path_of rows) (arguments_of rows)
+
 -- the command of this name, with its options
 unfoldable pub asked : Text → List Row → Option Request
 asked name rows =
     if bytes_eq name (codes "route") then route_of rows
     else if bytes_eq name (codes "names") then names_of rows
+    else if bytes_eq name (codes "eval") then eval_of rows
     else if bytes_eq name (codes "check") then Some request.Check
     else None
 
@@ -99,4 +128,5 @@ faults_of words = or_else (clap_faults words) (value_faults (request_of words))
 abbrev pub is_supported : Request → Bool
 is_supported (request.Route mode steps dry) = dry
 is_supported (request.Names steps) = true
+is_supported (request.Eval mode steps path arguments) = true
 is_supported request.Check = true

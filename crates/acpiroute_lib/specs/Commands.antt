@@ -2,8 +2,9 @@
 use Rattle.std.specs.Prelude.{◌≡◌, ℕ, List}
 use Rattle.ar_space.specs.Outcome.{Outcome}
 use Rattle.acpiroute_lib.specs.declared.request.Request.{Request}
-use Rattle.acpiroute_lib.specs.declared.request.Request.TheVariants.{Route, Names, Check}
+use Rattle.acpiroute_lib.specs.declared.request.Request.TheVariants.{Route, Names, Eval, Check}
 use Rattle.acpiroute_lib.specs.CheckCommand.{IsCheckAnswer}
+use Rattle.acpiroute_lib.specs.EvalCommand.{eval_answer}
 use Rattle.acpiroute_lib.specs.NamesCommand.{names_answer}
 use Rattle.acpiroute_lib.specs.RouteCommand.{IsRouteAnswer}
 use Rattle.acpiroute_lib.specs.Written.{Written}
@@ -12,4 +13,5 @@ use Rattle.acpiroute_lib.specs.Written.{Written}
 abbrev pub IsAnswer : Request → List ℕ → Outcome Written → Type 0
 IsAnswer (Route mode steps dry) input r = IsRouteAnswer mode steps input r
 IsAnswer (Names steps) input r = names_answer steps input ≡ r
+IsAnswer (Eval mode steps path arguments) input r = eval_answer mode steps path arguments input ≡ r
 IsAnswer Check input r = IsCheckAnswer input r

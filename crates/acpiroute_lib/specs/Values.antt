@@ -34,6 +34,19 @@ steps_named (Some t) = do
   n ← number t
   within_steps n
 
+-- each number of some texts
+unfoldable pub numbers : List Text → Option (List ℕ)
+numbers [] = Some []
+numbers (word ∷ words) = do
+  n ← number word
+  ns ← numbers words
+  Some (n ∷ ns)
+
+-- none where no text is given
+abbrev pub numbers_named : Option (List Text) → Option (List ℕ)
+numbers_named None = Some []
+numbers_named (Some words) = numbers words
+
 abbrev pub is_true : Option Text → Bool
 is_true None = false
 is_true (Some t) = bytes_eq t (codes "true")

@@ -4,6 +4,7 @@ ghost use Rattle.acpiroute_lib.specs.Commands.{IsAnswer};
 
 use crate::answer::Answer;
 use crate::check_command::check_answer;
+use crate::eval_command::eval_answer;
 use crate::names_command::names_answer;
 use crate::request::Request;
 use crate::route_command::route_answer;
@@ -17,6 +18,12 @@ pub(crate) fn answer_to(alloc: Global, request: Request, input: &[u8]) -> Result
     match request {
         Request::Route { mode, steps, .. } => route_answer(alloc, mode, steps, input),
         Request::Names { steps } => names_answer(alloc, steps, input),
+        Request::Eval {
+            mode,
+            steps,
+            path,
+            arguments,
+        } => eval_answer(alloc, mode, steps, &path, &arguments, input),
         Request::Check => check_answer(alloc, input),
     }
 }

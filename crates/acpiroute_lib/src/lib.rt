@@ -9,16 +9,21 @@ mod commands;
 mod completion;
 mod delivery;
 mod error_line;
+mod eval_command;
 mod input;
+mod integers;
 mod machine;
 mod name_lines;
 mod names_command;
 mod program;
+mod put;
 mod request;
 mod route_command;
+mod value_text;
 mod values;
 
 pub use delivery::Delivery;
+pub use integers::Integers;
 pub use program::{run, run_telling};
 pub use request::Request;
 

@@ -1,37 +1,20 @@
 //! The names of a namespace, put line by line behind a text.
-ghost use Rattle.std.specs.Prelude.{◌≡◌, ◌++◌, IfOk, OnOk, codes, decimal, map, string_bytes};
+ghost use Rattle.std.specs.Prelude.{◌≡◌, ◌++◌, IfOk, OnOk, codes, decimal, map};
 ghost use Rattle.aml_path.specs.Text.{text_of};
 ghost use Rattle.acpi_machine.specs.Kinds.{kind_seen};
 ghost use Rattle.acpiroute_lib.specs.NameLines.{kind_text, name_line, name_lines};
 
+use crate::put::{put_number, put_path};
 use acpi_machine::Kind;
 use aml_path::Path;
 use std::alloc::{AllocError, Global};
-
-/// The text of a path, which is refused only where memory runs out.
-fn path_text(alloc: Global, path: &Path) -> Result<String, AllocError>
-    ensures { IfOk result (λ t. string_bytes t ≡ text_of path.now) }
-{
-    match path.text(alloc) {
-        Ok(text) => Ok(text),
-        Err(_) => Err(AllocError),
-    }
-}
-
-fn put_path(alloc: Global, text: &mut Vec<u8>, path: &Path) -> Result<(), AllocError>
-    ensures { OnOk result (text.new.items ≡ text.old.items ++ text_of path.now) }
-{
-    let path = path_text(alloc, path)?;
-    text.extend_from_slice(path.as_bytes())
-}
 
 /// A method, and how many arguments it takes.
 fn put_method(text: &mut Vec<u8>, arguments: u8) -> Result<(), AllocError>
     ensures { OnOk result (text.new.items ≡ text.old.items ++ (codes "Method " ++ decimal arguments)) }
 {
-    let mut buffer = itoa::Buffer::new();
     text.extend_from_slice(b"Method ")?;
-    text.extend_from_slice(buffer.format(arguments).as_bytes())
+    put_number(text, u64::from(arguments))
 }
 
 /// An alias, and the path that it stands for.

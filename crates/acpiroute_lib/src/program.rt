@@ -82,6 +82,11 @@ pub fn run_telling<R: Read, W: Write, E: Write>(
 /// The commands:
 ///
 /// - `check`: reads a report, and writes `yes`, or `no` and the number of its flaw.
+/// - `eval [--mode apic|pic] [--steps N] PATH [INTEGER..]`: reads a machine text, loads its tables, initializes the machine in
+///   the mode, by default `apic`, evaluates the object at the path with these integers as arguments, at most seven below 2^64
+///   in decimal digits, and writes its value with a line feed: `integer N` in decimal digits; `string H` and `buffer H`, the
+///   bytes in upper-case hexadecimal digits, `-` where there is none; `package C ( V.. )`, the count of its elements and the
+///   elements, each behind a blank; `name P`, the path of what holds no data; `reference`; `none`, no value.
 /// - `names [--steps N]`: reads a machine text, loads its tables, and writes the names of the namespace, one a line in path
 ///   order: the path, a blank, and the kind of what stands there, with a method how many arguments it takes, with an alias its
 ///   target.
@@ -90,7 +95,8 @@ pub fn run_telling<R: Read, W: Write, E: Write>(
 ///   line `only --dry` and status 2.
 ///
 /// N is the budget of steps for each table and each evaluation, a number from 1 to 1,000,000,000 in decimal digits, by default
-/// 1,000,000. Refusals come in this order: of the machine text, of the tables, of loading, of initializing, of routing.
+/// 1,000,000. Refusals come in this order: of the machine text, of the tables, of loading, of initializing, of the path's text,
+/// of evaluating or routing.
 ///
 /// The result is the exit status: 0 where all went well, 1 for a refusal, 2 for a faulty command line, 4 where `check` says
 /// no. A faulty command line is found before any input is read, and `--help` is written to the output with 0.

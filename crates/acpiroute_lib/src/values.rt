@@ -1,8 +1,10 @@
 //! The values of options.
-ghost use Rattle.std.specs.Prelude.{◌≡◌, option_map};
-ghost use Rattle.acpiroute_lib.specs.Values.{number, number_from, mode_named, steps_named, within_steps, is_true};
+ghost use Rattle.std.specs.Prelude.{◌≡◌, IfOk, map, option_map};
+ghost use Rattle.acpiroute_lib.specs.Values.{number, number_from, numbers, numbers_named, mode_named, steps_named, within_steps, is_true};
 
+use crate::integers::Integers;
 use route_report::Mode;
+use std::alloc::{AllocError, Global};
 
 /// The number that n and then these decimal digits make.
 #[tactic(auto, unfolding(crate::specs::Values::number_from))]
@@ -30,6 +32,33 @@ fn number(text: &str) -> Option<u64>
         return None;
     }
     number_from(0, text.as_bytes())
+}
+
+/// Each number of some texts.
+fn numbers(alloc: Global, texts: &[&str]) -> Result<Option<Integers>, AllocError>
+    ensures { IfOk result (λ r. r ≡ numbers (map (λ s. s.now) texts.now)) }
+{
+    let mut list = Vec::new(alloc);
+    for text in texts {
+        match number(text) {
+            Some(n) => list.push(n)?,
+            None => return Ok(None),
+        }
+    }
+    Ok(Some(Integers::from_vec(list)))
+}
+
+/// The numbers of texts; none where no text is given.
+pub(crate) fn numbers_named(
+    alloc: Global,
+    texts: Option<&[&str]>,
+) -> Result<Option<Integers>, AllocError>
+    ensures { IfOk result (λ r. r ≡ numbers_named (option_map (λ t. map (λ s. s.now) t.now) texts.entry)) }
+{
+    match texts {
+        None => Ok(Some(Integers::from_vec(Vec::new(alloc)))),
+        Some(texts) => numbers(alloc, texts),
+    }
 }
 
 /// A mode, `apic` where none is given.

@@ -1,0 +1,36 @@
+-- What `eval` answers.
+use Rattle.std.specs.Prelude.{ℕ, List, ◌++◌, map, Ok, codes}
+use Rattle.ar_space.specs.Outcome.{Outcome, ◌>>=◌}
+use Rattle.ar_space.specs.Bytes.{Bytes}
+use Rattle.aml_path.specs.declared.segment.Seg.{Seg}
+use Rattle.aml_path.specs.Text.{path_of_text}
+use Rattle.aml_meaning.specs.Given as given
+use Rattle.acpi_machine.specs.Calls.{evaluated_object}
+use Rattle.acpi_machine.specs.MachineStates.{MachineState}
+use Rattle.route_report.specs.declared.report.Mode.{Mode}
+use Rattle.acpiroute_lib.specs.declared.completion.Completion.TheVariants.{Done}
+use Rattle.acpiroute_lib.specs.Machines.{machine_of_text_in}
+use Rattle.acpiroute_lib.specs.ValueText.{value_text}
+use Rattle.acpiroute_lib.specs.Written.{Written}
+
+-- what the object at a path of a machine answers to arguments
+unfoldable pub value_at : MachineState Bytes → List Seg → List given.Given → Outcome given.Given
+value_at m path arguments = (evaluated_object path arguments m).0
+
+-- a value on a line of its own
+abbrev pub value_written : given.Given → Written
+value_written value = record { text = value_text value ++ codes "\n"; completion = Done }
+
+-- the value of the object whose path this text is, where the arguments are these integers
+unfoldable pub evaluated_text : MachineState Bytes → List ℕ → List ℕ → Outcome Written
+evaluated_text m path integers = do
+  p ← path_of_text path
+  value ← value_at m p (map given.Integer integers)
+  Ok (value_written value)
+
+-- what `eval` answers over a machine text, in this mode and with this budget of steps: the text of the path is looked at once
+-- the machine is initialized
+unfoldable pub eval_answer : Mode → ℕ → List ℕ → List ℕ → List ℕ → Outcome Written
+eval_answer mode steps path integers text = do
+  m ← machine_of_text_in mode steps text
+  evaluated_text m path integers

@@ -1,0 +1,85 @@
+//! `eval`: loads and initializes a machine, evaluates an object, and writes its value.
+ghost use Rattle.std.specs.Prelude.{◌≡◌, IfOk, Ok, map};
+ghost use Rattle.ar_space.specs.Outcome.{Answers, seen};
+ghost use Rattle.aml_meaning.specs.Given as given;
+ghost use Rattle.acpiroute_lib.specs.EvalCommand.{value_at, value_written, evaluated_text, eval_answer};
+
+use crate::answer::Answer;
+use crate::completion::Completion;
+use crate::integers::Integers;
+use crate::machine::machine_of_text_in;
+use crate::value_text::value_line;
+use acpi_machine::Machine;
+use aml_meaning::Datum;
+use aml_path::Path;
+use ar_space::{PathText, Refusal, Sparse};
+use route_report::Mode;
+use std::alloc::{AllocError, Global};
+
+/// Integers as arguments.
+fn arguments(alloc: Global, integers: &[u64]) -> Result<Vec<Datum>, AllocError>
+    ensures { IfOk result (λ list. map given.given_of list.items ≡ map given.Integer integers.now) }
+{
+    let mut list = Vec::new(alloc);
+    for integer in integers {
+        list.push(Datum::Integer(*integer))?;
+    }
+    Ok(list)
+}
+
+/// What the object at a path answers.
+#[tactic(auto, using(crate::proofs::Evaluated::change_answers), unfolding(crate::specs::EvalCommand::value_at))]
+fn value_at(
+    alloc: Global,
+    machine: &mut Machine<Sparse>,
+    path: &Path,
+    arguments: Vec<Datum>,
+) -> Result<Datum, Refusal>
+    ensures { Answers (seen given.given_of result) (value_at machine.old path.now (map given.given_of arguments.items)) }
+{
+    machine.evaluate_object(alloc, path, arguments)
+}
+
+/// A value on a line of its own.
+fn value_written(alloc: Global, value: &Datum) -> Result<Answer, Refusal>
+    ensures { Answers result (Ok (value_written (given.given_of value.now))) }
+{
+    Ok(Answer {
+        text: value_line(alloc, value)?,
+        completion: Completion::Done,
+    })
+}
+
+/// The value of the object whose path a text is.
+#[tactic(auto, using(ar_space::specs::Outcome::answering), unfolding(crate::specs::EvalCommand::evaluated_text))]
+fn evaluated_text(
+    alloc: Global,
+    machine: &mut Machine<Sparse>,
+    path: &str,
+    integers: &[u64],
+) -> Result<Answer, Refusal>
+    ensures { Answers result (evaluated_text machine.old path.now integers.now) }
+{
+    let path = Path::from_text(alloc, path.as_bytes())?;
+    let arguments = arguments(alloc, integers)?;
+    let value = value_at(alloc, machine, &path, arguments)?;
+    value_written(alloc, &value)
+}
+
+/// What `eval` answers over a machine text, in a mode and with a budget of steps for each table and each evaluation: the value
+/// of the object whose path a text is, called with these integers. Refused are the machine text, its tables, their loading,
+/// initializing, then the path's text, and then the evaluation.
+#[tactic(auto, using(ar_space::specs::Outcome::answering), unfolding(crate::specs::EvalCommand::eval_answer))]
+pub(crate) fn eval_answer(
+    alloc: Global,
+    mode: Mode,
+    steps: u64,
+    path: &PathText,
+    integers: &Integers,
+    text: &[u8],
+) -> Result<Answer, Refusal>
+    ensures { Answers result (eval_answer mode steps path.now integers.now text.now) }
+{
+    let mut machine = machine_of_text_in(alloc, mode, steps, text)?;
+    evaluated_text(alloc, &mut machine, path.as_str(), integers.as_slice())
+}
