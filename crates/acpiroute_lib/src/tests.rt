@@ -2,6 +2,7 @@
 mod checks;
 mod command_lines;
 mod error_lines;
+mod eval;
 mod machine_texts;
 mod names;
 mod ran;

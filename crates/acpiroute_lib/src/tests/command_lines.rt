@@ -1,14 +1,16 @@
 //! The words of the command line.
 use super::ran::ran;
-use crate::Request;
 use crate::command_line::parse;
+use crate::{Integers, Request};
+use ar_space::PathText;
 use route_report::Mode;
+use std::alloc::{AllocError, Global};
 use std::io::Read;
 use std::test::Fail;
 
 #[test]
 fn faulty_words(rt: HostRuntime) {
-    let cases: [&[&str]; 14] = [
+    let cases: [&[&str]; 25] = [
         &["acpiroute", "route", "--mode", "PIC", "--dry"],
         &["acpiroute", "route", "--steps", "0", "--dry"],
         &["acpiroute", "names", "--steps", "1000000001"],
@@ -23,6 +25,29 @@ fn faulty_words(rt: HostRuntime) {
         &["acpiroute", "check", "check"],
         &["acpiroute", "check", "--steps", "5"],
         &["acpiroute", "--version"],
+        &["acpiroute", "eval"],
+        &[
+            "acpiroute",
+            "eval",
+            "\\",
+            "1",
+            "2",
+            "3",
+            "4",
+            "5",
+            "6",
+            "7",
+            "8",
+        ],
+        &["acpiroute", "eval", "\\", "18446744073709551616"],
+        &["acpiroute", "eval", "\\", "1", "x"],
+        &["acpiroute", "eval", "\\", "0x1"],
+        &["acpiroute", "eval", "\\", "+1"],
+        &["acpiroute", "eval", "\\", "-1"],
+        &["acpiroute", "eval", "\\", ""],
+        &["acpiroute", "eval", "\\", "--dry"],
+        &["acpiroute", "eval", "--mode", "PIC", "\\"],
+        &["acpiroute", "eval", "--steps", "0", "\\"],
     ];
     for words in &cases {
         let ran = ran(rt.alloc(), words, b"acpiroute 1\nbusiest 0\nbound none\n");
@@ -34,7 +59,11 @@ fn faulty_words(rt: HostRuntime) {
 
 #[test]
 fn help_goes_to_the_output(rt: HostRuntime) {
-    let cases: [&[&str]; 2] = [&["acpiroute", "--help"], &["acpiroute", "route", "--help"]];
+    let cases: [&[&str]; 3] = [
+        &["acpiroute", "--help"],
+        &["acpiroute", "route", "--help"],
+        &["acpiroute", "eval", "--help"],
+    ];
     for words in &cases {
         let ran = ran(rt.alloc(), words, b"");
         assert_eq!(rt; ran.status, 0);
@@ -100,6 +129,54 @@ fn what_words_ask_for(rt: HostRuntime) -> Result<(), Fail> {
     for (words, request) in &cases {
         let asked = parse(rt.alloc(), words);
         assert!(rt; asked.is_ok_and(|asked| asked == *request));
+    }
+    Ok(())
+}
+
+/// A request of `eval`.
+fn eval(
+    alloc: Global,
+    mode: Mode,
+    steps: u64,
+    path: &str,
+    integers: &[u64],
+) -> Result<Request, AllocError> {
+    Ok(Request::Eval {
+        mode,
+        steps,
+        path: PathText::new(String::from_str(alloc, path)?),
+        arguments: Integers::from_vec(Vec::from_slice(alloc, integers)?),
+    })
+}
+
+#[test]
+fn what_the_words_of_eval_ask_for(rt: HostRuntime) -> Result<(), Fail> {
+    let alloc = rt.alloc();
+    let cases: [(&[&str], Request); 5] = [
+        (
+            &["acpiroute", "eval", "\\_SB_.LNKA._PRS"],
+            eval(alloc, Mode::Apic, 1_000_000, "\\_SB_.LNKA._PRS", &[])?,
+        ),
+        (
+            &["acpiroute", "eval", "--mode", "pic", "\\", "007", "0"],
+            eval(alloc, Mode::Pic, 1_000_000, "\\", &[7, 0])?,
+        ),
+        (
+            &["acpiroute", "eval", "x", "1", "--steps=5"],
+            eval(alloc, Mode::Apic, 5, "x", &[1])?,
+        ),
+        (
+            &["acpiroute", "eval", "--", "-x", "18446744073709551615"],
+            eval(alloc, Mode::Apic, 1_000_000, "-x", &[u64::MAX])?,
+        ),
+        (
+            &["acpiroute", "eval", "", "1", "2", "3", "4", "5", "6", "7"],
+            eval(alloc, Mode::Apic, 1_000_000, "", &[1, 2, 3, 4, 5, 6, 7])?,
+        ),
+    ];
+    for (words, request) in &cases {
+        let asked = parse(alloc, words);
+        assert!(rt; asked.is_ok_and(|asked| asked == *request), "{words:?}");
     }
     Ok(())
 }
