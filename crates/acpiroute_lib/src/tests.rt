@@ -1,6 +1,7 @@
 //! The program over texts, and over readers and writers that fail.
 mod checks;
 mod command_lines;
+mod control_methods;
 mod error_lines;
 mod eval;
 mod machine_texts;
