@@ -53,13 +53,13 @@ pub const NAME_IN_NOTHING: &[u8] = b"\x08\x5C\x2E\x4E\x4F\x4E\x45\x49\x4E\x54\x5
 /// An operation region.
 pub const REGION: &[u8] = b"\x5B\x80\x52\x45\x47\x5F\x01\x0A\x60\x0A\x02";
 
-/// A sum.
-pub const ADDITION: &[u8] = b"\x72\x01\x01\x00";
+/// A reference to a local.
+pub const REFERENCE: &[u8] = b"\x71\x60";
 
 /// The timer.
 pub const TIMER: &[u8] = b"\x5B\x33";
 
-/// A control method that is called for the size of a buffer.
+/// A control method without Return that is called for the size of a buffer.
 pub const CALL: &[u8] =
     b"\x14\x06\x4D\x54\x48\x5F\x01\x08\x56\x41\x52\x5F\x11\x06\x4D\x54\x48\x5F\x01";
 

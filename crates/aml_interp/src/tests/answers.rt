@@ -192,11 +192,10 @@ fn names_that_answer_nothing(rt: HostRuntime) -> Result<(), Fail> {
     let mut arguments = Vec::new(alloc);
     arguments.push(Datum::Integer(1))?;
     let path = Path::from_text(alloc, b"\\MTH_")?;
-    let method = crate::answer(alloc, &mut world, &path, arguments, 9).err();
-    assert_eq!(rt;
-        method,
-        Some(Refusal::Evaluation(EvaluationFault::Unsupported(0x14)))
-    );
+    match crate::answer(alloc, &mut world, &path, arguments, 0)? {
+        Datum::Nothing => {}
+        _ => assert!(rt; false),
+    }
     Ok(())
 }
 

@@ -93,6 +93,7 @@ const REFUSED: &[(&[u8], u8)] = &[
     (aml::NAME_IN_NOTHING, 61),
     (aml::LONG_BUFFER, 81),
     (aml::LONG_PACKAGE, 81),
+    (aml::CALL, 76),
 ];
 
 #[test]
@@ -111,9 +112,8 @@ fn refused_tables(rt: HostRuntime) -> Result<(), Fail> {
 /// Tables with a term that is not evaluated, and its opcode.
 const UNSUPPORTED: &[(&[u8], u16)] = &[
     (aml::REGION, 0x5B80),
-    (aml::ADDITION, 0x72),
+    (aml::REFERENCE, 0x71),
     (aml::TIMER, 0x5B33),
-    (aml::CALL, 0x14),
 ];
 
 #[test]

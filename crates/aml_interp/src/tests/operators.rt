@@ -67,11 +67,10 @@ const INTEGERS: &[(&[u8], u64)] = &[
     (b"\xA4\x5B\x30", 2),
     // a store to a name converts the value to what the name holds, and gives the value itself
     (b"\x08INT_\x00\x70\x0D10\x00INT_\xA4INT_", 16),
-    (b"\x08INT_\x00\xA4\x8E\x9D\x0DAB\x00INT_", u64::MAX - 2),
     (b"\x08INT_\x00\x9D\x0DAB\x00INT_\xA4\x8EINT_", 2),
-    // the name's own object is stored to: the local that was given it before sees nothing
+    // a local keeps the value that the name held before
     (
-        b"\x08INT_\x05\x70\x0A\x05INT_\x70INT_\x60\x70\x0A\x06INT_\xA4\x60",
+        b"\x08INT_\x00\x70\x0A\x05INT_\x70INT_\x60\x70\x0A\x06INT_\xA4\x60",
         5,
     ),
 ];

@@ -11,7 +11,6 @@ const WIDE: IntegerWidth = IntegerWidth::Bits64;
 /// Bodies, and the integers that they answer.
 const INTEGERS: &[(&[u8], u64)] = &[
     // If and Else
-    (b"\xA0\x04\x01\xA4\x07\xA4\x08", u64::MAX - 1),
     (b"\xA0\x05\x01\xA4\x0A\x07\xA4\x0A\x08", 7),
     (b"\xA0\x05\x00\xA4\x0A\x07\xA4\x0A\x08", 8),
     (
@@ -44,10 +43,7 @@ const INTEGERS: &[(&[u8], u64)] = &[
 fn statements(rt: HostRuntime) -> Result<(), Fail> {
     let alloc = rt.alloc();
     for (body, wanted) in INTEGERS {
-        match integer_of(alloc, WIDE, body) {
-            Ok(number) => assert_eq!(rt; number, *wanted),
-            Err(_) => assert_eq!(rt; *wanted, u64::MAX - 1),
-        }
+        assert_eq!(rt; integer_of(alloc, WIDE, body)?, *wanted);
     }
     Ok(())
 }
@@ -58,7 +54,7 @@ const REFUSED: &[(&[u8], u16)] = &[
     (b"\x86NONE\x00", 61),
     (b"\xA4M000", 71),
     (b"\xA2\x02\x01", 70),
-    (b"\xA0\x03\\_SB_", 31),
+    (b"\xA0\x3F\x01", 31),
     (b"\xA0\x07\\_SB_\xA3", 40),
 ];
 
