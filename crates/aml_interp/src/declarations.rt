@@ -167,9 +167,9 @@ fn eval_alias<S: Space>(
     ensures { Does result (world.new, budget) (alias_rule meaning scope.now depth (part_tree term.entry)) (world.old, budget) }
 {
     let source = term.name(alloc, 0)?;
+    let target = world.locate(alloc, scope, &source)?;
     let name = term.name(alloc, 1)?;
     let path = name.resolve_in(alloc, scope)?;
-    let target = world.locate(alloc, scope, &source)?;
     world.new_name(alloc, depth == 0, path, NamedObject::Alias(target))?;
     Ok(Flow::Next)
 }

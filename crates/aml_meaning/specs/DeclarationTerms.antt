@@ -36,9 +36,9 @@ module _ {S : Type 0} (ev : Task → Run S Flow) where
   unfoldable pub alias_rule : List Seg → ℕ → Tree → Run S Flow
   alias_rule scope depth t = do
     source ← settle (name_of (operand_of t 0))
+    target ← lift (path_found scope source)
     n ← settle (name_of (operand_of t 1))
     p ← settle (resolved n scope)
-    target ← lift (path_found scope source)
     number ← lift (new_name (module_level depth) p (object.Alias target))
     give flow.Next
 

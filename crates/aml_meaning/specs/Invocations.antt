@@ -41,9 +41,18 @@ abbrev pub invocation_of_body : List Seg → MethodBody → Outcome Invocation
 invocation_of_body p Osi = Err (refusal.Evaluation (Unsupported 0x14))
 invocation_of_body p (Aml body) = Ok (invocation.Method p body)
 
+-- a name is read as the value that it holds; where that is a reference, as a reference to the name
+abbrev pub read_as : ℕ → Value → Value
+read_as n value.Uninitialized = value.Uninitialized
+read_as n (value.Integer x) = value.Integer x
+read_as n (value.String o) = value.String o
+read_as n (value.Buffer o) = value.Buffer o
+read_as n (value.Package o) = value.Package o
+read_as n (value.Reference r) = value.Reference (reference.Name n)
+
 -- the value that it holds, a call of a control method, or else a reference to it; fields are not read yet
 abbrev pub invocation_of_object : List Seg → ℕ → NamedObject → Outcome Invocation
-invocation_of_object p n (object.Data v) = Ok (invocation.Value v)
+invocation_of_object p n (object.Data v) = Ok (invocation.Value (read_as n v))
 invocation_of_object p n (object.Method m) = invocation_of_body p m.body
 invocation_of_object p n (object.FieldUnit u) = Err (refusal.Evaluation (Unsupported 0x5B81))
 invocation_of_object p n (object.BufferField b) = Err (refusal.Evaluation (Unsupported 0x5B13))

@@ -140,7 +140,7 @@ module _ {S : Type 0} {n : ℕ} (ev ew : Task → Run S Flow) (parts : (t : Task
 
   agree_alias : (scope : List Seg) (depth : ℕ) (t : Tree) → Agree n (alias_rule ev scope depth t) (alias_rule ew scope depth t)
   unfolding alias_rule
-  agree_alias scope depth t = agree_bind _ _ _ _ (agree_settle _) (λ x. agree_bind _ _ _ _ (agree_settle _) (λ y. agree_bind _ _ _ _ (agree_settle _) (λ p. agree_bind _ _ _ _ (agree_lift _) (λ target. agree_bind _ _ _ _ (agree_lift _) (λ u. agree_give _)))))
+  agree_alias scope depth t = agree_bind _ _ _ _ (agree_settle _) (λ x. agree_bind _ _ _ _ (agree_lift _) (λ target. agree_bind _ _ _ _ (agree_settle _) (λ y. agree_bind _ _ _ _ (agree_settle _) (λ p. agree_bind _ _ _ _ (agree_lift _) (λ u. agree_give _)))))
 
   agree_method : (scope : List Seg) (depth : ℕ) (t : Tree) → Agree n (method_rule ev scope depth t) (method_rule ew scope depth t)
   unfolding method_rule

@@ -51,8 +51,16 @@ reference_out (reference.Byte o i) = give given.Reference
 
 -- what an element stands for that is a name: the value that it holds, or else its path; where nothing is found, the path that it would
 -- have
+abbrev pub value_or_path : Value → Outcome (List Seg) → Outcome NameUse
+value_or_path value.Uninitialized p = Ok (uses.Value value.Uninitialized)
+value_or_path (value.Integer n) p = Ok (uses.Value (value.Integer n))
+value_or_path (value.String o) p = Ok (uses.Value (value.String o))
+value_or_path (value.Buffer o) p = Ok (uses.Value (value.Buffer o))
+value_or_path (value.Package o) p = Ok (uses.Value (value.Package o))
+value_or_path (value.Reference r) p = seen uses.Path p
+
 abbrev pub held_or_path : NamedObject → Outcome (List Seg) → Outcome NameUse
-held_or_path (object.Data v) p = Ok (uses.Value v)
+held_or_path (object.Data v) p = value_or_path v p
 held_or_path (object.FieldUnit u) p = Err (refusal.Evaluation (Unsupported 0x5B81))
 held_or_path (object.BufferField b) p = Err (refusal.Evaluation (Unsupported 0x5B13))
 held_or_path _ p = seen uses.Path p

@@ -163,7 +163,7 @@ module _ {S : Type 0} (scope : List Seg) (depth : ℕ) (t : Tree) (p : List Seg)
 
   sets_alias : name_of (operand_of t 1) ≡ Ok n → resolved n scope ≡ Ok p → Sets (alias_rule {S = S} meaning scope depth t) p
   unfolding alias_rule
-  sets_alias named at = sets_then _ _ p (keeps_settle _) (λ source. sets_known _ n _ p named (sets_known _ p _ p at (sets_then _ _ p (keeps_lift _ (leaves_path scope source)) (λ target. sets_declared _ _ (leaves_new _ p _) (sets_name _ p _) (λ number. keeps_give _)))))
+  sets_alias named at = sets_then _ _ p (keeps_settle _) (λ source. sets_then _ _ p (keeps_lift _ (leaves_path scope source)) (λ target. sets_known _ n _ p named (sets_known _ p _ p at (sets_declared _ _ (leaves_new _ p _) (sets_name _ p _) (λ number. keeps_give _)))))
 
   sets_procedure : name_of (operand_of t 0) ≡ Ok n → resolved n scope ≡ Ok p → Sets (method_rule {S = S} meaning scope depth t) p
   unfolding method_rule

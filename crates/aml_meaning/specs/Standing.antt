@@ -131,7 +131,7 @@ module _ {S : Type 0} {p : List Seg} (ev : Task → Run S Flow) (parts : (t : Ta
 
   keeps_alias : (scope : List Seg) (depth : ℕ) (t : Tree) → Keeps p (alias_rule ev scope depth t)
   unfolding alias_rule
-  keeps_alias scope depth t = keeps_bind _ _ (keeps_settle _) (λ x. keeps_bind _ _ (keeps_settle _) (λ y. keeps_bind _ _ (keeps_settle _) (λ q. keeps_bind _ _ (keeps_lift _ (leaves_path scope x)) (λ target. keeps_bind _ _ (keeps_lift _ (leaves_new _ q _)) (λ u. keeps_give _)))))
+  keeps_alias scope depth t = keeps_bind _ _ (keeps_settle _) (λ x. keeps_bind _ _ (keeps_lift _ (leaves_path scope x)) (λ target. keeps_bind _ _ (keeps_settle _) (λ y. keeps_bind _ _ (keeps_settle _) (λ q. keeps_bind _ _ (keeps_lift _ (leaves_new _ q _)) (λ u. keeps_give _)))))
 
   keeps_method : (scope : List Seg) (depth : ℕ) (t : Tree) → Keeps p (method_rule ev scope depth t)
   unfolding method_rule

@@ -7,7 +7,7 @@ ghost use Rattle.ar_space.specs.Outcome.{Answers, seen};
 ghost use Rattle.aml_terms.specs.Shape.{trees_of};
 ghost use Rattle.aml_terms.specs.View.{tree_view};
 ghost use Rattle.aml_namespace.specs.Search.{found};
-ghost use Rattle.aml_meaning.specs.Invocations.{invocation_of_body, invocation_of_object, invocation_of, named_use, invocation_found, count_of_object, count_of_entry, count_through, arity_of_entry, body_arities, body_in, body_terms, left};
+ghost use Rattle.aml_meaning.specs.Invocations.{read_as, invocation_of_body, invocation_of_object, invocation_of, named_use, invocation_found, count_of_object, count_of_entry, count_through, arity_of_entry, body_arities, body_in, body_terms, left};
 
 use crate::invocation::Invocation;
 use crate::readings::as_many;
@@ -22,7 +22,8 @@ use std::alloc::Global;
 impl<S> World<S> {
     /// What a name is where a value stands, with so many arguments.
     ///
-    /// A name that holds a value is that value, a control method a call, and anything else a reference to it. Refused: a name
+    /// A name that holds a value is that value, a control method a call, and anything else a reference to it; so is a name
+    /// that holds a reference. Refused: a name
     /// that isn't found as `NotFound`, another count than it takes as `ArityChanged`, and what is not evaluated, fields and
     /// `_OSI`, as `Unsupported`.
     #[tactic(auto, using(ar_space::specs::Change::changing), unfolding(crate::specs::Invocations::invocation_found))]
@@ -118,13 +119,27 @@ fn use_of(alloc: Global, found: &(Path, Entry)) -> Result<Invocation, Refusal>
     ensures { Answers result (invocation_of_object found.now.0 found.now.1.number found.now.1.object) }
 {
     match &found.1.object {
-        NamedObject::Data(value) => Ok(Invocation::Value(*value)),
+        NamedObject::Data(value) => Ok(Invocation::Value(read_as(found.1.number, *value))),
         NamedObject::Method(method) => call_of(alloc, &found.0, method.body),
         NamedObject::FieldUnit(_) => Err(Refusal::Evaluation(EvaluationFault::Unsupported(0x5B81))),
         NamedObject::BufferField(_) => {
             Err(Refusal::Evaluation(EvaluationFault::Unsupported(0x5B13)))
         }
         _ => Ok(Invocation::Value(Value::Reference(Reference::Name(found.1.number)))),
+    }
+}
+
+/// What a name is read as that holds a value: the value, or a reference to the name where that is a reference.
+fn read_as(number: u64, value: Value) -> Value
+    ensures { result ≡ read_as number value }
+{
+    match value {
+        Value::Uninitialized => Value::Uninitialized,
+        Value::Integer(number) => Value::Integer(number),
+        Value::String(object) => Value::String(object),
+        Value::Buffer(object) => Value::Buffer(object),
+        Value::Package(object) => Value::Package(object),
+        Value::Reference(_) => Value::Reference(Reference::Name(number)),
     }
 }
 

@@ -4,7 +4,7 @@ ghost use Rattle.ar_space.specs.Change.{Does};
 ghost use Rattle.ar_space.specs.Outcome.{Answers, seen};
 ghost use Rattle.aml_path.specs.Paths.{resolved};
 ghost use Rattle.aml_namespace.specs.Search.{found};
-ghost use Rattle.aml_meaning.specs.Outward.{name_use, held_or_path, path_of};
+ghost use Rattle.aml_meaning.specs.Outward.{name_use, value_or_path, held_or_path, path_of};
 ghost use Rattle.aml_meaning.specs.Given as given;
 ghost use Rattle.aml_meaning.specs.Given.{given_of};
 ghost use Rattle.aml_meaning.specs.declared.name_use.NameUse.TheVariants as uses;
@@ -52,7 +52,7 @@ impl<S> World<S> {
         ensures { Answers result (held_or_path object.now (seen (λ f. f.0) (found self.now.names.map scope.now name.now))) }
     {
         match object {
-            NamedObject::Data(value) => Ok(NameUse::Value(*value)),
+            NamedObject::Data(value) => self.value_or_path(alloc, *value, name, scope),
             NamedObject::FieldUnit(_) => Err(Refusal::Evaluation(EvaluationFault::Unsupported(
                 0x5B81,
             ))),
@@ -60,6 +60,26 @@ impl<S> World<S> {
                 Err(Refusal::Evaluation(EvaluationFault::Unsupported(0x5B13)))
             }
             _ => self.path_found(alloc, name, scope),
+        }
+    }
+
+    /// A name that holds a reference stands for itself, any other for its value.
+    fn value_or_path(
+        &self,
+        alloc: Global,
+        value: Value,
+        name: &NameString,
+        scope: &Path,
+    ) -> Result<NameUse, Refusal>
+        ensures { Answers result (value_or_path value (seen (λ f. f.0) (found self.now.names.map scope.now name.now))) }
+    {
+        match value {
+            Value::Uninitialized => Ok(NameUse::Value(Value::Uninitialized)),
+            Value::Integer(number) => Ok(NameUse::Value(Value::Integer(number))),
+            Value::String(object) => Ok(NameUse::Value(Value::String(object))),
+            Value::Buffer(object) => Ok(NameUse::Value(Value::Buffer(object))),
+            Value::Package(object) => Ok(NameUse::Value(Value::Package(object))),
+            Value::Reference(_) => self.path_found(alloc, name, scope),
         }
     }
 

@@ -123,3 +123,15 @@ fn arguments_are_passed(rt: HostRuntime) -> Result<(), Fail> {
     assert_eq!(rt; integer(alloc, &mut world, arguments)?, 5);
     Ok(())
 }
+
+#[test]
+fn a_name_that_holds_a_reference_is_read_as_itself(rt: HostRuntime) -> Result<(), Fail> {
+    let alloc = rt.alloc();
+    let body = b"\x08NUM_\x00\x9D\\_SB_NUM_\xA4NUM_";
+    match answer_to(alloc, WIDE, body, STEPS)? {
+        // the name that is given goes with the call
+        Datum::Reference => {}
+        _ => assert!(rt; false),
+    }
+    Ok(())
+}
