@@ -21,7 +21,7 @@ fn table(alloc: Global, flags: u8, body: &[u8]) -> Result<Vec<u8>, Refusal> {
 }
 
 /// A world with that control method.
-pub fn with_method(
+pub(super) fn with_method(
     alloc: Global,
     width: IntegerWidth,
     flags: u8,
@@ -33,7 +33,7 @@ pub fn with_method(
 }
 
 /// What it answers.
-pub fn called(
+pub(super) fn called(
     alloc: Global,
     world: &mut World<Sparse>,
     arguments: Vec<Datum>,
@@ -49,7 +49,7 @@ pub fn called(
 }
 
 /// What a body answers that takes no arguments.
-pub fn answer_to(
+pub(super) fn answer_to(
     alloc: Global,
     width: IntegerWidth,
     body: &[u8],
@@ -60,7 +60,7 @@ pub fn answer_to(
 }
 
 /// The integer that a body answers; what is none is told as 2^64 - 2.
-pub fn integer_of(alloc: Global, width: IntegerWidth, body: &[u8]) -> Result<u64, Refusal> {
+pub(super) fn integer_of(alloc: Global, width: IntegerWidth, body: &[u8]) -> Result<u64, Refusal> {
     match answer_to(alloc, width, body, STEPS)? {
         Datum::Integer(number) => Ok(number),
         _ => Ok(u64::MAX - 1),
@@ -68,7 +68,7 @@ pub fn integer_of(alloc: Global, width: IntegerWidth, body: &[u8]) -> Result<u64
 }
 
 /// The number by which a body is refused, 0 where it isn't.
-pub fn refusal_of(alloc: Global, body: &[u8]) -> u16 {
+pub(super) fn refusal_of(alloc: Global, body: &[u8]) -> u16 {
     match answer_to(alloc, IntegerWidth::Bits64, body, STEPS) {
         Ok(_) => 0,
         Err(refusal) => u16::from(refusal.number()),
@@ -76,7 +76,7 @@ pub fn refusal_of(alloc: Global, body: &[u8]) -> u16 {
 }
 
 /// The bytes of the string or the buffer that a body answers; of anything else there are none.
-pub fn bytes_of(alloc: Global, body: &[u8]) -> Result<Octets, Refusal> {
+pub(super) fn bytes_of(alloc: Global, body: &[u8]) -> Result<Octets, Refusal> {
     match answer_to(alloc, IntegerWidth::Bits64, body, STEPS)? {
         Datum::Text(bytes) => Ok(bytes),
         Datum::Bytes(bytes) => Ok(bytes),

@@ -9,7 +9,7 @@ use std::alloc::Global;
 pub const STEPS: u64 = 1000;
 
 /// A world with the predefined names alone.
-pub fn fresh(alloc: Global, width: IntegerWidth) -> Result<World<Sparse>, Refusal> {
+pub(super) fn fresh(alloc: Global, width: IntegerWidth) -> Result<World<Sparse>, Refusal> {
     match World::new(alloc, width, Vec::new(alloc), Sparse::new(alloc)) {
         Ok(world) => Ok(world),
         Err((refusal, _)) => Err(refusal),
@@ -17,14 +17,14 @@ pub fn fresh(alloc: Global, width: IntegerWidth) -> Result<World<Sparse>, Refusa
 }
 
 /// A world with a table loaded.
-pub fn loaded(alloc: Global, aml: &[u8]) -> Result<World<Sparse>, Refusal> {
+pub(super) fn loaded(alloc: Global, aml: &[u8]) -> Result<World<Sparse>, Refusal> {
     let mut world = fresh(alloc, IntegerWidth::Bits64)?;
     load(alloc, &mut world, aml, STEPS)?;
     Ok(world)
 }
 
 /// What the name at a path answers that takes no arguments.
-pub fn answer_of(
+pub(super) fn answer_of(
     alloc: Global,
     world: &mut World<Sparse>,
     path: &[u8],
@@ -35,7 +35,7 @@ pub fn answer_of(
 }
 
 /// Whether a name stands at a path.
-pub fn stands(alloc: Global, world: &World<Sparse>, path: &[u8]) -> Result<bool, Refusal> {
+pub(super) fn stands(alloc: Global, world: &World<Sparse>, path: &[u8]) -> Result<bool, Refusal> {
     let path = Path::from_text(alloc, path)?;
     Ok(world.names().get(&path).is_some())
 }
