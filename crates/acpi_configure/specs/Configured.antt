@@ -1,5 +1,6 @@
 -- The report of a run that sets no link.
 use Rattle.std.specs.Prelude.{◌≡◌, List, [], map, Ok}
+use Rattle.ar_space.specs.Accesses.{Accesses}
 use Rattle.acpi_machine.specs.MachineStates.{MachineState}
 use Rattle.acpi_links.specs.Gathering.{Gathering}
 use Rattle.acpi_links.specs.Gatherings.{gathered}
@@ -34,9 +35,9 @@ report_of s g a = record {
 }
 
 -- what is reported of a machine, which gathering leaves as it is after
-pub record IsDryReport {S : Type 0} (before after : MachineState S) (r : ReportRows) : Type 0 where
+pub record IsDryReport {S : Type 0} (accesses : Accesses S) (before after : MachineState S) (r : ReportRows) : Type 0 where
   pub found : Gathering
-  pub is_found : gathered before ≡ (Ok found, after)
+  pub is_found : gathered accesses before ≡ (Ok found, after)
   pub answer : RoutingAnswer
   pub solves : Solves found.problem answer
   pub lines : r ≡ report_of after found answer

@@ -26,8 +26,8 @@ use std::alloc::Global;
 /// is the set of links and interrupts that shows why none is less busy; there is none where no interrupt serves a source.
 /// The report has no line of a link that was set.
 pub fn configure_dry<S: Space>(alloc: Global, machine: &mut Machine<S>) -> Result<Report, Refusal>
-    ensures report { IfOk result (λ report. IsDryReport machine.old machine.new (rows report)) }
-    ensures refusal { IfErr result (λ refusal. refusal ≢ OutOfMemory → gathered machine.old ≡ (Err refusal, machine.new)) }
+    ensures report { IfOk result (λ report. IsDryReport S.accesses machine.old machine.new (rows report)) }
+    ensures refusal { IfErr result (λ refusal. refusal ≢ OutOfMemory → gathered S.accesses machine.old ≡ (Err refusal, machine.new)) }
 {
     let gathered = gather(alloc, machine)?;
     let answer = answer_to(alloc, gathered.problem())?;

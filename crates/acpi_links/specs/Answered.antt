@@ -3,6 +3,7 @@ use Rattle.std.specs.Prelude.{ℕ, List, [], ◌∷◌, ◌++◌, Bool, Ok, Err}
 use Rattle.std.specs.Option.{is_some}
 use Rattle.ar_space.specs.declared.refusal.Refusal.TheVariants as refusal
 use Rattle.ar_space.specs.declared.refusal.ValueFault.TheVariants.{WrongType}
+use Rattle.ar_space.specs.Accesses.{Accesses}
 use Rattle.ar_space.specs.Outcome.{Outcome}
 use Rattle.ar_space.specs.Change.{Change, settle, ◌>>=◌}
 use Rattle.aml_path.specs.declared.segment.Seg.{Seg}
@@ -26,7 +27,7 @@ bytes_in (given.Named p) = Err (refusal.Value WrongType)
 bytes_in given.Reference = Err (refusal.Value WrongType)
 
 -- the buffer that the object at a path answers
-unfoldable pub buffer_at : {S : Type 0} → List Seg → Change (MachineState S) (List ℕ)
-buffer_at p = do
-  answer ← evaluated_object p []
+unfoldable pub buffer_at : {S : Type 0} → Accesses S → List Seg → Change (MachineState S) (List ℕ)
+buffer_at accesses p = do
+  answer ← evaluated_object accesses p []
   settle (bytes_in answer)

@@ -1,6 +1,7 @@
 -- The devices of a machine, and the pins of their routing tables (ACPI 6.5, 6.2.13).
 use Rattle.std.specs.Prelude.{ℕ, ◌+◌, List, [], ◌∷◌, ◌++◌, map, Bool, true, false, Option, Some, None, Ok, codes, if◌then◌else◌}
 use Rattle.std.specs.List.{filter_map}
+use Rattle.ar_space.specs.Accesses.{Accesses}
 use Rattle.ar_space.specs.Change.{Change, give, settle, ◌>>=◌}
 use Rattle.aml_path.specs.declared.segment.Seg.{Seg}
 use Rattle.acpi_machine.specs.MachineStates.{MachineState}
@@ -42,20 +43,22 @@ devices s = filter_map device_path (kinds_walked s.world.names.map)
 unfoldable pub devices_listed : {S : Type 0} → Change (MachineState S) (List (List Seg))
 devices_listed s = (Ok (devices s), s)
 
--- the pins of a device whose routing table stands at a path, if it does
-unfoldable pub pins_at : {S : Type 0} → List Seg → List Seg → Change (MachineState S) (List Pin)
-pins_at device p s = if stands p s then routing_table device s else (Ok [], s)
-
 -- each pin with the device that has the routing table
 abbrev pub with_device : List Seg → List Pin → List (List Seg × Pin)
 with_device device pins = map (λ pin. (device, pin)) pins
 
-unfoldable pub pins_of_device : {S : Type 0} → List Seg → Change (MachineState S) (List (List Seg × Pin))
-pins_of_device device = do
-  prt ← settle (named_below device (codes "_PRT"))
-  pins ← pins_at device prt
-  give (with_device device pins)
+-- accesses: what the register space makes of them
+module _ {S : Type 0} (accesses : Accesses S) where
+  -- the pins of a device whose routing table stands at a path, if it does
+  unfoldable pub pins_at : List Seg → List Seg → Change (MachineState S) (List Pin)
+  pins_at device p s = if stands p s then routing_table accesses device s else (Ok [], s)
 
--- the pins of each device, in the order of the devices, each routing table as it is then
-abbrev pub pins_of_each : {S : Type 0} → List (List Seg) → Change (MachineState S) (List (List Seg × Pin))
-pins_of_each list = folded ◌++◌ pins_of_device list []
+  unfoldable pub pins_of_device : List Seg → Change (MachineState S) (List (List Seg × Pin))
+  pins_of_device device = do
+    prt ← settle (named_below device (codes "_PRT"))
+    pins ← pins_at device prt
+    give (with_device device pins)
+
+  -- the pins of each device, in the order of the devices, each routing table as it is then
+  abbrev pub pins_of_each : List (List Seg) → Change (MachineState S) (List (List Seg × Pin))
+  pins_of_each list = folded ◌++◌ pins_of_device list []

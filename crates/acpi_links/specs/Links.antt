@@ -4,6 +4,7 @@ use Rattle.std.specs.List.{list_any}
 use Rattle.std.specs.BTreeSet.{insert_key}
 use Rattle.ar_space.specs.declared.refusal.Refusal.TheVariants as refusal
 use Rattle.ar_space.specs.declared.refusal.RoutingFault.TheVariants.{MixedPolarity, TooMany}
+use Rattle.ar_space.specs.Accesses.{Accesses}
 use Rattle.ar_space.specs.Outcome.{Outcome}
 use Rattle.ar_space.specs.Change.{Change, give, ◌>>=◌}
 use Rattle.aml_path.specs.declared.segment.Seg.{Seg}
@@ -43,22 +44,6 @@ few_links links = if nat_lt 256 (length links) then Err (refusal.Routing TooMany
 abbrev pub PresentLink : Type 0
 PresentLink = List Seg × InterruptOffer × Option (List ℕ)
 
-unfoldable pub link_found : {S : Type 0} → List Seg → Change (MachineState S) (Option PresentLink)
-link_found link = do
-  offer ← possible_resources link
-  now ← current_resources link
-  give (Some (link, offer, now))
-
--- a link that is absent isn't asked
-unfoldable pub link_if : {S : Type 0} → Bool → List Seg → Change (MachineState S) (Option PresentLink)
-link_if true link = link_found link
-link_if false link = give None
-
-unfoldable pub link_asked : {S : Type 0} → List Seg → Change (MachineState S) (Option PresentLink)
-link_asked link = do
-  present ← is_present link
-  link_if present link
-
 -- a link that was found is that at a path
 abbrev pub IsAt : List Seg → Option PresentLink → Type 0
 IsAt p None = ⊤
@@ -68,9 +53,27 @@ abbrev pub with_link : List PresentLink → Option PresentLink → List PresentL
 with_link links None = links
 with_link links (Some link) = links ++ link ∷ []
 
--- those of some links that are present, in the order of the links
-abbrev pub links_of_each : {S : Type 0} → List (List Seg) → Change (MachineState S) (List PresentLink)
-links_of_each list = folded with_link link_asked list []
+-- accesses: what the register space makes of them
+module _ {S : Type 0} (accesses : Accesses S) where
+  unfoldable pub link_found : List Seg → Change (MachineState S) (Option PresentLink)
+  link_found link = do
+    offer ← possible_resources accesses link
+    now ← current_resources accesses link
+    give (Some (link, offer, now))
+
+  -- a link that is absent isn't asked
+  unfoldable pub link_if : Bool → List Seg → Change (MachineState S) (Option PresentLink)
+  link_if true link = link_found link
+  link_if false link = give None
+
+  unfoldable pub link_asked : List Seg → Change (MachineState S) (Option PresentLink)
+  link_asked link = do
+    present ← is_present accesses link
+    link_if present link
+
+  -- those of some links that are present, in the order of the links
+  abbrev pub links_of_each : List (List Seg) → Change (MachineState S) (List PresentLink)
+  links_of_each list = folded with_link link_asked list []
 
 abbrev pub is_low : Polarity → Bool
 is_low Low = true

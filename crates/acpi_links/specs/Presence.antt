@@ -2,6 +2,7 @@
 use Rattle.std.specs.Prelude.{ℕ, ◌%◌, ◌==◌, List, [], Bool, true, Ok, Err, codes, if◌then◌else◌}
 use Rattle.ar_space.specs.declared.refusal.Refusal.TheVariants as refusal
 use Rattle.ar_space.specs.declared.refusal.ValueFault.TheVariants.{WrongType}
+use Rattle.ar_space.specs.Accesses.{Accesses}
 use Rattle.ar_space.specs.Outcome.{Outcome}
 use Rattle.ar_space.specs.Change.{Change, settle, ◌>>=◌}
 use Rattle.aml_path.specs.declared.segment.Seg.{Seg}
@@ -21,18 +22,20 @@ presence (given.Package gs) = Err (refusal.Value WrongType)
 presence (given.Named p) = Err (refusal.Value WrongType)
 presence given.Reference = Err (refusal.Value WrongType)
 
--- what the object at a path says
-unfoldable pub status_at : {S : Type 0} → List Seg → Change (MachineState S) Bool
-status_at p = do
-  answer ← evaluated_object p []
-  settle (presence answer)
+-- accesses: what the register space makes of them
+module _ {S : Type 0} (accesses : Accesses S) where
+  -- what the object at a path says
+  unfoldable pub status_at : List Seg → Change (MachineState S) Bool
+  status_at p = do
+    answer ← evaluated_object accesses p []
+    settle (presence answer)
 
--- of a link whose _STA stands at a path, if it does
-unfoldable pub presence_at : {S : Type 0} → List Seg → Change (MachineState S) Bool
-presence_at p s = if stands p s then status_at p s else (Ok true, s)
+  -- of a link whose _STA stands at a path, if it does
+  unfoldable pub presence_at : List Seg → Change (MachineState S) Bool
+  presence_at p s = if stands p s then status_at p s else (Ok true, s)
 
--- a link without _STA is present
-unfoldable pub is_present : {S : Type 0} → List Seg → Change (MachineState S) Bool
-is_present link = do
-  sta ← settle (named_below link (codes "_STA"))
-  presence_at sta
+  -- a link without _STA is present
+  unfoldable pub is_present : List Seg → Change (MachineState S) Bool
+  is_present link = do
+    sta ← settle (named_below link (codes "_STA"))
+    presence_at sta

@@ -2,6 +2,7 @@
 use Rattle.std.specs.Prelude.{ℕ, List, Option, Some, None, codes, Ok, Err, if◌then◌else◌}
 use Rattle.ar_space.specs.declared.refusal.Refusal.TheVariants as refusal
 use Rattle.ar_space.specs.declared.refusal.RoutingFault.TheVariants.{NoOffer}
+use Rattle.ar_space.specs.Accesses.{Accesses}
 use Rattle.ar_space.specs.Change.{Change, give, settle, ◌>>=◌}
 use Rattle.aml_path.specs.declared.segment.Seg.{Seg}
 use Rattle.aml_path.specs.Text.{text_of}
@@ -12,35 +13,37 @@ use Rattle.acpi_machine.specs.MachineStates.{MachineState}
 use Rattle.acpi_links.specs.Naming.{named_below}
 use Rattle.acpi_links.specs.Answered.{stands, buffer_at}
 
--- the offer in the buffer that an object answers
-unfoldable pub offer_at : {S : Type 0} → List Seg → Change (MachineState S) InterruptOffer
-offer_at p = do
-  bytes ← buffer_at p
-  settle (possible_of bytes)
+-- accesses: what the register space makes of them
+module _ {S : Type 0} (accesses : Accesses S) where
+  -- the offer in the buffer that an object answers
+  unfoldable pub offer_at : List Seg → Change (MachineState S) InterruptOffer
+  offer_at p = do
+    bytes ← buffer_at accesses p
+    settle (possible_of bytes)
 
--- of a link whose _PRS stands at a path, if it does
-unfoldable pub possible_at : {S : Type 0} → List Seg → List Seg → Change (MachineState S) InterruptOffer
-possible_at link p s = if stands p s then offer_at p s else (Err (refusal.Routing (NoOffer (text_of link))), s)
+  -- of a link whose _PRS stands at a path, if it does
+  unfoldable pub possible_at : List Seg → List Seg → Change (MachineState S) InterruptOffer
+  possible_at link p s = if stands p s then offer_at p s else (Err (refusal.Routing (NoOffer (text_of link))), s)
 
--- what a link may be set to
-unfoldable pub possible_resources : {S : Type 0} → List Seg → Change (MachineState S) InterruptOffer
-possible_resources link = do
-  prs ← settle (named_below link (codes "_PRS"))
-  possible_at link prs
+  -- what a link may be set to
+  unfoldable pub possible_resources : List Seg → Change (MachineState S) InterruptOffer
+  possible_resources link = do
+    prs ← settle (named_below link (codes "_PRS"))
+    possible_at link prs
 
--- the numbers in the buffer that an object answers
-unfoldable pub numbers_at : {S : Type 0} → List Seg → Change (MachineState S) (Option (List ℕ))
-numbers_at p = do
-  bytes ← buffer_at p
-  numbers ← settle (current_of bytes)
-  give (Some numbers)
+  -- the numbers in the buffer that an object answers
+  unfoldable pub numbers_at : List Seg → Change (MachineState S) (Option (List ℕ))
+  numbers_at p = do
+    bytes ← buffer_at accesses p
+    numbers ← settle (current_of bytes)
+    give (Some numbers)
 
--- of a link whose _CRS stands at a path, if it does
-unfoldable pub current_at : {S : Type 0} → List Seg → Change (MachineState S) (Option (List ℕ))
-current_at p s = if stands p s then numbers_at p s else (Ok None, s)
+  -- of a link whose _CRS stands at a path, if it does
+  unfoldable pub current_at : List Seg → Change (MachineState S) (Option (List ℕ))
+  current_at p s = if stands p s then numbers_at p s else (Ok None, s)
 
--- what a link is set to
-unfoldable pub current_resources : {S : Type 0} → List Seg → Change (MachineState S) (Option (List ℕ))
-current_resources link = do
-  crs ← settle (named_below link (codes "_CRS"))
-  current_at crs
+  -- what a link is set to
+  unfoldable pub current_resources : List Seg → Change (MachineState S) (Option (List ℕ))
+  current_resources link = do
+    crs ← settle (named_below link (codes "_CRS"))
+    current_at crs

@@ -44,7 +44,7 @@ pub(crate) fn buffer_at<S: Space>(
     machine: &mut Machine<S>,
     path: &Path,
 ) -> Result<Octets, Refusal>
-    ensures { Does result machine.new (buffer_at path.now) machine.old }
+    ensures { Does result machine.new (buffer_at S.accesses path.now) machine.old }
 {
     let answer = machine.evaluate_object(alloc, path, Vec::new(alloc))?;
     bytes_in(answer)

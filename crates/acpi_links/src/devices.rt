@@ -46,7 +46,7 @@ pub(crate) fn pins_of_each<S: Space>(
     machine: &mut Machine<S>,
     devices: &[Path],
 ) -> Result<Vec<(Path, Pin)>, Refusal>
-    ensures { Does (seen (λ list. list.items) result) machine.new (pins_of_each devices.now) machine.old }
+    ensures { Does (seen (λ list. list.items) result) machine.new (pins_of_each S.accesses devices.now) machine.old }
 {
     let mut list = Vec::new(alloc);
     for device in devices {
@@ -63,7 +63,7 @@ fn pins_of_device<S: Space>(
     machine: &mut Machine<S>,
     device: &Path,
 ) -> Result<Vec<(Path, Pin)>, Refusal>
-    ensures { Does (seen (λ list. list.items) result) machine.new (pins_of_device device.now) machine.old }
+    ensures { Does (seen (λ list. list.items) result) machine.new (pins_of_device S.accesses device.now) machine.old }
 {
     let path = named_below(alloc, device, *b"_PRT")?;
     let pins = pins_at(alloc, machine, device, &path)?;
@@ -78,7 +78,7 @@ fn pins_at<S: Space>(
     device: &Path,
     path: &Path,
 ) -> Result<Vec<Pin>, Refusal>
-    ensures { Does (seen (λ list. list.items) result) machine.new (pins_at device.now path.now) machine.old }
+    ensures { Does (seen (λ list. list.items) result) machine.new (pins_at S.accesses device.now path.now) machine.old }
 {
     if stands(machine, path) {
         get_irq_routing_table(alloc, machine, device)

@@ -27,7 +27,7 @@ use std::alloc::Global;
 /// `WrongType` where `_STA` answers no integer. No link is set.
 #[tactic(auto, using(ar_space::specs::Change::changing), unfolding(crate::specs::Gatherings::gathered))]
 pub fn gather<S: Space>(alloc: Global, machine: &mut Machine<S>) -> Result<Gathered, Refusal>
-    ensures value { Does result machine.new gathered machine.old }
+    ensures value { Does result machine.new (gathered S.accesses) machine.old }
     ensures fits { IfOk result (λ g. Fits g.problem) }
 {
     let pins = pins_found(alloc, machine)?;
@@ -41,7 +41,7 @@ fn pins_found<S: Space>(
     alloc: Global,
     machine: &mut Machine<S>,
 ) -> Result<Vec<(Path, Pin)>, Refusal>
-    ensures value { Does (seen (λ list. list.items) result) machine.new pins_found machine.old }
+    ensures value { Does (seen (λ list. list.items) result) machine.new (pins_found S.accesses) machine.old }
     ensures few { IfOk result (λ list. length list.items ≤ 4096) }
 {
     let list = devices_listed(alloc, machine)?;
@@ -64,7 +64,7 @@ fn links_found<S: Space>(
     machine: &mut Machine<S>,
     pins: &[(Path, Pin)],
 ) -> Result<Vec<PresentLink>, Refusal>
-    ensures value { Does (seen (λ list. list.items) result) machine.new (links_found pins.now) machine.old }
+    ensures value { Does (seen (λ list. list.items) result) machine.new (links_found S.accesses pins.now) machine.old }
     ensures few { IfOk result (λ list. length list.items ≤ 256) }
     ensures in_order { IfOk result (λ list. IsStrictlySortedBy path_cmp (map (λ link. link.0) list.items)) }
 {

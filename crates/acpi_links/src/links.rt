@@ -97,7 +97,7 @@ pub(crate) fn links_of_each<S: Space>(
     machine: &mut Machine<S>,
     links: &[Path],
 ) -> Result<Vec<PresentLink>, Refusal>
-    ensures value { Does (seen (λ list. list.items) result) machine.new (links_of_each links.now) machine.old }
+    ensures value { Does (seen (λ list. list.items) result) machine.new (links_of_each S.accesses links.now) machine.old }
     ensures few { IfOk result (λ list. length list.items ≤ length links.now) }
     ensures in_order { IfOk result (λ list. IsStrictlySortedBy path_cmp links.now → IsStrictlySortedBy path_cmp (map (λ link. link.0) list.items)) }
 {
@@ -126,7 +126,7 @@ fn link_asked<S: Space>(
     machine: &mut Machine<S>,
     link: &Path,
 ) -> Result<Option<PresentLink>, Refusal>
-    ensures value { Does result machine.new (link_asked link.now) machine.old }
+    ensures value { Does result machine.new (link_asked S.accesses link.now) machine.old }
     ensures path { IfOk result (λ found. IsAt link.now found) }
 {
     let present = is_present(alloc, machine, link)?;
@@ -140,7 +140,7 @@ fn link_if<S: Space>(
     present: bool,
     link: &Path,
 ) -> Result<Option<PresentLink>, Refusal>
-    ensures value { Does result machine.new (link_if present link.now) machine.old }
+    ensures value { Does result machine.new (link_if S.accesses present link.now) machine.old }
     ensures path { IfOk result (λ found. IsAt link.now found) }
 {
     match present {
@@ -156,7 +156,7 @@ fn link_found<S: Space>(
     machine: &mut Machine<S>,
     link: &Path,
 ) -> Result<Option<PresentLink>, Refusal>
-    ensures value { Does result machine.new (link_found link.now) machine.old }
+    ensures value { Does result machine.new (link_found S.accesses link.now) machine.old }
     ensures path { IfOk result (λ found. IsAt link.now found) }
 {
     let offer = get_possible_resources(alloc, machine, link)?;

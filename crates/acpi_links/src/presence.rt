@@ -21,7 +21,7 @@ pub(crate) fn is_present<S: Space>(
     machine: &mut Machine<S>,
     link: &Path,
 ) -> Result<bool, Refusal>
-    ensures { Does result machine.new (is_present link.now) machine.old }
+    ensures { Does result machine.new (is_present S.accesses link.now) machine.old }
 {
     let path = named_below(alloc, link, *b"_STA")?;
     presence_at(alloc, machine, &path)
@@ -34,7 +34,7 @@ fn presence_at<S: Space>(
     machine: &mut Machine<S>,
     path: &Path,
 ) -> Result<bool, Refusal>
-    ensures { Does result machine.new (presence_at path.now) machine.old }
+    ensures { Does result machine.new (presence_at S.accesses path.now) machine.old }
 {
     if stands(machine, path) {
         status_at(alloc, machine, path)
@@ -50,7 +50,7 @@ fn status_at<S: Space>(
     machine: &mut Machine<S>,
     path: &Path,
 ) -> Result<bool, Refusal>
-    ensures { Does result machine.new (status_at path.now) machine.old }
+    ensures { Does result machine.new (status_at S.accesses path.now) machine.old }
 {
     let answer = machine.evaluate_object(alloc, path, Vec::new(alloc))?;
     presence(&answer)

@@ -24,7 +24,7 @@ pub fn get_possible_resources<S: Space>(
     machine: &mut Machine<S>,
     link: &Path,
 ) -> Result<Offer, Refusal>
-    ensures { Does result machine.new (possible_resources link.now) machine.old }
+    ensures { Does result machine.new (possible_resources S.accesses link.now) machine.old }
 {
     let path = named_below(alloc, link, *b"_PRS")?;
     possible_at(alloc, machine, link, &path)
@@ -38,7 +38,7 @@ fn possible_at<S: Space>(
     link: &Path,
     path: &Path,
 ) -> Result<Offer, Refusal>
-    ensures { Does result machine.new (possible_at link.now path.now) machine.old }
+    ensures { Does result machine.new (possible_at S.accesses link.now path.now) machine.old }
 {
     if stands(machine, path) {
         offer_at(alloc, machine, path)
@@ -62,7 +62,7 @@ fn offer_at<S: Space>(
     machine: &mut Machine<S>,
     path: &Path,
 ) -> Result<Offer, Refusal>
-    ensures { Does result machine.new (offer_at path.now) machine.old }
+    ensures { Does result machine.new (offer_at S.accesses path.now) machine.old }
 {
     let bytes = buffer_at(alloc, machine, path)?;
     possible(alloc, bytes.as_slice())
@@ -78,7 +78,7 @@ pub fn get_current_resources<S: Space>(
     machine: &mut Machine<S>,
     link: &Path,
 ) -> Result<Option<InterruptNumbers>, Refusal>
-    ensures { Does result machine.new (current_resources link.now) machine.old }
+    ensures { Does result machine.new (current_resources S.accesses link.now) machine.old }
 {
     let path = named_below(alloc, link, *b"_CRS")?;
     current_at(alloc, machine, &path)
@@ -91,7 +91,7 @@ fn current_at<S: Space>(
     machine: &mut Machine<S>,
     path: &Path,
 ) -> Result<Option<InterruptNumbers>, Refusal>
-    ensures { Does result machine.new (current_at path.now) machine.old }
+    ensures { Does result machine.new (current_at S.accesses path.now) machine.old }
 {
     if stands(machine, path) {
         numbers_at(alloc, machine, path)
@@ -107,7 +107,7 @@ fn numbers_at<S: Space>(
     machine: &mut Machine<S>,
     path: &Path,
 ) -> Result<Option<InterruptNumbers>, Refusal>
-    ensures { Does result machine.new (numbers_at path.now) machine.old }
+    ensures { Does result machine.new (numbers_at S.accesses path.now) machine.old }
 {
     let bytes = buffer_at(alloc, machine, path)?;
     let numbers = current(alloc, bytes.as_slice())?;

@@ -3,6 +3,7 @@ use Rattle.std.specs.Prelude.{ℕ, List, [], ◌∷◌, codes, Ok, if◌then◌e
 use Rattle.std.specs.FinMap.{contains_key}
 use Rattle.ar_space.specs.declared.refusal.Refusal.TheVariants as refusal
 use Rattle.ar_space.specs.declared.refusal.MachineFault.TheVariants.{Spent}
+use Rattle.ar_space.specs.Accesses.{Accesses}
 use Rattle.ar_space.specs.Change.{Change, give, stop, settle, ◌>>=◌, ◌>>◌}
 use Rattle.aml_path.specs.declared.segment.Seg.{Seg}
 use Rattle.aml_meaning.specs.State.{State}
@@ -22,45 +23,47 @@ on_world m s = ((m s.world).0, record s { world = (m s.world).1 })
 unfoldable pub unless_spent : {S A : Type 0} → Change (MachineState S) A → Change (MachineState S) A
 unless_spent m s = if s.spent then stop (refusal.Machine Spent) s else m s
 
--- what the object at a path answers within the steps of the machine
-unfoldable pub object_answered : {S : Type 0} → List Seg → List given.Given → Change (MachineState S) given.Given
-object_answered p arguments s = on_world (answered p arguments s.steps) s
-
-unfoldable pub evaluated_object : {S : Type 0} → List Seg → List given.Given → Change (MachineState S) given.Given
-evaluated_object p arguments = unless_spent (object_answered p arguments)
-
--- ---- initializing
-
 -- the argument of `\_PIC` (ACPI 6.5, 5.8.1)
 abbrev pub mode_number : Mode → ℕ
 mode_number Pic = 0
 mode_number Apic = 1
 
--- what it answers is dropped
-unfoldable pub object_called : {S : Type 0} → List Seg → List given.Given → Change (MachineState S) (Unit {0})
-object_called p arguments = do
-  answer ← object_answered p arguments
-  give tt
+-- accesses: what the register space makes of them
+module _ {S : Type 0} (accesses : Accesses S) where
+  -- what the object at a path answers within the steps of the machine
+  unfoldable pub object_answered : List Seg → List given.Given → Change (MachineState S) given.Given
+  object_answered p arguments s = on_world (answered accesses p arguments s.steps) s
 
--- where a name stands at the path itself
-unfoldable pub called_where_it_stands : {S : Type 0} → List Seg → List given.Given → Change (MachineState S) (Unit {0})
-called_where_it_stands p arguments s = if contains_key s.world.names.map p then object_called p arguments s else (Ok tt, s)
+  unfoldable pub evaluated_object : List Seg → List given.Given → Change (MachineState S) given.Given
+  evaluated_object p arguments = unless_spent (object_answered p arguments)
 
-unfoldable pub initial_calls : {S : Type 0} → Mode → Change (MachineState S) (Unit {0})
-initial_calls mode = do
-  root_ini ← settle (at_root (codes "_INI"))
-  called_where_it_stands root_ini []
-  bus_ini ← settle (below_root (codes "_SB_") (codes "_INI"))
-  called_where_it_stands bus_ini []
-  pic ← settle (at_root (codes "_PIC"))
-  called_where_it_stands pic (given.Integer (mode_number mode) ∷ [])
+  -- ---- initializing
 
--- the mode is kept, however the calls end
-unfoldable pub started : {S : Type 0} → Mode → Change (MachineState S) (Unit {0})
-started mode s = initial_calls mode (record s { mode = mode })
+  -- what it answers is dropped
+  unfoldable pub object_called : List Seg → List given.Given → Change (MachineState S) (Unit {0})
+  object_called p arguments = do
+    answer ← object_answered p arguments
+    give tt
 
-unfoldable pub initialized : {S : Type 0} → Mode → Change (MachineState S) (Unit {0})
-initialized mode = unless_spent (started mode)
+  -- where a name stands at the path itself
+  unfoldable pub called_where_it_stands : List Seg → List given.Given → Change (MachineState S) (Unit {0})
+  called_where_it_stands p arguments s = if contains_key s.world.names.map p then object_called p arguments s else (Ok tt, s)
+
+  unfoldable pub initial_calls : Mode → Change (MachineState S) (Unit {0})
+  initial_calls mode = do
+    root_ini ← settle (at_root (codes "_INI"))
+    called_where_it_stands root_ini []
+    bus_ini ← settle (below_root (codes "_SB_") (codes "_INI"))
+    called_where_it_stands bus_ini []
+    pic ← settle (at_root (codes "_PIC"))
+    called_where_it_stands pic (given.Integer (mode_number mode) ∷ [])
+
+  -- the mode is kept, however the calls end
+  unfoldable pub started : Mode → Change (MachineState S) (Unit {0})
+  started mode s = initial_calls mode (record s { mode = mode })
+
+  unfoldable pub initialized : Mode → Change (MachineState S) (Unit {0})
+  initialized mode = unless_spent (started mode)
 
 -- ---- the texts that `_OSI` knows
 

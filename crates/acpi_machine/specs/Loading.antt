@@ -4,6 +4,7 @@ use Rattle.std.proofs.Common.{refl, ◌∙◌, drop-cons, add-one}
 use Rattle.std.proofs.lemmas.List.{drop_all}
 use Rattle.ar_space.specs.declared.refusal.Refusal.TheVariants as refusal
 use Rattle.ar_space.specs.declared.refusal.EvaluationFault.TheVariants.{ObjectLimit}
+use Rattle.ar_space.specs.Accesses.{Accesses}
 use Rattle.ar_space.specs.Outcome.{Outcome}
 use Rattle.ar_space.specs.Change.{Change, Does, Same, same_ok, does_same, give, settle, ◌>>=◌, ◌>>◌}
 use Rattle.ar_tables.specs.declared.tables.Tables.{Tables}
@@ -15,40 +16,42 @@ use Rattle.aml_meaning.specs.Calling.{loaded}
 abbrev pub few_texts : List (List ℕ) → Outcome (Unit {0})
 few_texts texts = if nat_lt 64 (length texts) then Err (refusal.Evaluation ObjectLimit) else Ok tt
 
--- the AML of a table stands behind its header of 36 bytes
-unfoldable pub table_loaded : {S : Type 0} → ℕ → List ℕ → Change (State S) (Unit {0})
-table_loaded steps table = loaded (drop 36 table) steps
+-- accesses: what the register space makes of them
+module _ {S : Type 0} (accesses : Accesses S) where
+  -- the AML of a table stands behind its header of 36 bytes
+  unfoldable pub table_loaded : ℕ → List ℕ → Change (State S) (Unit {0})
+  table_loaded steps table = loaded accesses (drop 36 table) steps
 
-unfoldable pub each_loaded : {S : Type 0} → ℕ → List (List ℕ) → Change (State S) (Unit {0})
-each_loaded steps [] = give tt
-each_loaded steps (table ∷ tables) = do
-  table_loaded steps table
-  each_loaded steps tables
+  unfoldable pub each_loaded : ℕ → List (List ℕ) → Change (State S) (Unit {0})
+  each_loaded steps [] = give tt
+  each_loaded steps (table ∷ tables) = do
+    table_loaded steps table
+    each_loaded steps tables
 
--- the DSDT, and each SSDT in the order of the list
-unfoldable pub all_loaded : {S : Type 0} → Tables → ℕ → Change (State S) (Unit {0})
-all_loaded t steps = do
-  table_loaded steps t.dsdt
-  each_loaded steps t.ssdts
+  -- the DSDT, and each SSDT in the order of the list
+  unfoldable pub all_loaded : Tables → ℕ → Change (State S) (Unit {0})
+  all_loaded t steps = do
+    table_loaded steps t.dsdt
+    each_loaded steps t.ssdts
 
--- from a world in which nothing is declared
-unfoldable pub loaded_tables : {S : Type 0} → Tables → ℕ → List (List ℕ) → Change (State S) (Unit {0})
-loaded_tables t steps osi = do
-  settle (few_texts osi)
-  predefined
-  all_loaded t steps
+  -- from a world in which nothing is declared
+  unfoldable pub loaded_tables : Tables → ℕ → List (List ℕ) → Change (State S) (Unit {0})
+  loaded_tables t steps osi = do
+    settle (few_texts osi)
+    predefined
+    all_loaded t steps
 
--- ---- the loop over tables
+  -- ---- the loop over tables
 
-pub same_each : {S : Type 0} {w0 w : State S} {m : Change (State S) (Unit {0})} (steps : ℕ) (tables : List (List ℕ)) (i : ℕ) (t : List ℕ)
-    → Same m w0 (each_loaded steps (drop i tables)) w → i < length tables → t ≡ get_or tables i t
-    → Same m w0 (table_loaded steps t >>= (λ _. each_loaded steps (drop (i + 1) tables))) w
-unfolding each_loaded
-same_each steps tables i t h l at = record { is = h.is ∙ rw (drop-cons tables i t l, ← at, add-one) refl }
+  pub same_each : {w0 w : State S} {m : Change (State S) (Unit {0})} (steps : ℕ) (tables : List (List ℕ)) (i : ℕ) (t : List ℕ)
+      → Same m w0 (each_loaded steps (drop i tables)) w → i < length tables → t ≡ get_or tables i t
+      → Same m w0 (table_loaded steps t >>= (λ _. each_loaded steps (drop (i + 1) tables))) w
+  unfolding each_loaded
+  same_each steps tables i t h l at = record { is = h.is ∙ rw (drop-cons tables i t l, ← at, add-one) refl }
 
-pub does_end : {S : Type 0} {w0 w : State S} {m : Change (State S) (Unit {0})} (steps : ℕ) (tables : List (List ℕ)) (i : ℕ)
-    → Same m w0 (each_loaded steps (drop i tables)) w → length tables ≤ i → Does (Ok tt) w m w0
-unfolding each_loaded give
-does_end steps tables i h l = record { is = λ _. h.is ∙ rw (drop_all i tables l) refl }
+  pub does_end : {w0 w : State S} {m : Change (State S) (Unit {0})} (steps : ℕ) (tables : List (List ℕ)) (i : ℕ)
+      → Same m w0 (each_loaded steps (drop i tables)) w → length tables ≤ i → Does (Ok tt) w m w0
+  unfolding each_loaded give
+  does_end steps tables i h l = record { is = λ _. h.is ∙ rw (drop_all i tables l) refl }
 
 pub ruleset loading = (same_each, same_ok, does_same, does_end)

@@ -4,6 +4,7 @@ use Rattle.std.proofs.Common.{refl, ◌∙◌, ap}
 use Rattle.ar_space.specs.declared.refusal.Refusal.{Refusal}
 use Rattle.ar_space.specs.declared.refusal.Refusal.TheVariants as refusal
 use Rattle.ar_space.specs.Outcome.{Outcome, NotMemory, seen}
+use Rattle.ar_space.specs.Accesses.{Accesses}
 use Rattle.ar_space.specs.Change.{Change, Does, stop}
 use Rattle.ar_space.specs.declared.refusal.MachineFault.TheVariants.{Spent}
 use Rattle.ar_tables.specs.declared.tables.Tables.{Tables}
@@ -83,10 +84,10 @@ pub ruleset noticing = (does_noticed, does_seen_noticed, spent_now)
 
 -- ---- a change of the world alone
 
-pub object_changed : {S : Type 0} {r : Outcome Given} (w w1 : State S) (t : Tables) (mode : Mode) (n : ℕ) (b : Bool) (p : List Seg) (arguments : List Given) (s : MachineState S)
-    → record { world = w; tables = t; mode = mode; steps = n; spent = b } ≡ s → Does r w1 (answered p arguments n) w → Does r (record { world = w1; tables = t; mode = mode; steps = n; spent = b }) (object_answered p arguments) s
+pub object_changed : {S : Type 0} {r : Outcome Given} (accesses : Accesses S) (w w1 : State S) (t : Tables) (mode : Mode) (n : ℕ) (b : Bool) (p : List Seg) (arguments : List Given) (s : MachineState S)
+    → record { world = w; tables = t; mode = mode; steps = n; spent = b } ≡ s → Does r w1 (answered accesses p arguments n) w → Does r (record { world = w1; tables = t; mode = mode; steps = n; spent = b }) (object_answered accesses p arguments) s
 unfolding object_answered on_world
-object_changed w w1 t mode n b p arguments s e h = record { is = λ ne. rw (← e, h.is ne) refl }
+object_changed accesses w w1 t mode n b p arguments s e h = record { is = λ ne. rw (← e, h.is ne) refl }
 
 pub ruleset worlds = (object_changed)
 

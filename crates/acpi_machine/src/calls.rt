@@ -33,7 +33,7 @@ impl<S: Space> Machine<S> {
     /// `Spent` where an earlier call ran out of memory; then nothing changes.
     #[tactic(auto, using(crate::specs::Noticing::spending), unfolding(crate::specs::Calls::initialized))]
     pub fn initialize(&mut self, alloc: Global, mode: Mode) -> Result<(), Refusal>
-        ensures answer { Does result self.new (initialized mode) self.old }
+        ensures answer { Does result self.new (initialized S.accesses mode) self.old }
         ensures memory { IfErr result (λ refusal. refusal ≡ OutOfMemory → self.new.spent ≡ true) }
         ensures spent { self.old.spent ≡ true → (result ≡ Err (refusals.Machine Spent)) × (self.new ≡ self.old) }
     {
@@ -54,7 +54,7 @@ impl<S: Space> Machine<S> {
         path: &Path,
         arguments: Vec<Datum>,
     ) -> Result<Datum, Refusal>
-        ensures answer { Does (seen given_of result) self.new (evaluated_object path.now (map given_of arguments.items)) self.old }
+        ensures answer { Does (seen given_of result) self.new (evaluated_object S.accesses path.now (map given_of arguments.items)) self.old }
         ensures memory { IfErr result (λ refusal. refusal ≡ OutOfMemory → self.new.spent ≡ true) }
         ensures spent { self.old.spent ≡ true → (result ≡ Err (refusals.Machine Spent)) × (self.new ≡ self.old) }
     {
@@ -97,7 +97,7 @@ impl<S: Space> Machine<S> {
 
     #[tactic(auto, using(crate::specs::Noticing::noticing))]
     fn start(&mut self, alloc: Global, mode: Mode) -> Result<(), Refusal>
-        ensures answer { Does result self.new (started mode) self.old }
+        ensures answer { Does result self.new (started S.accesses mode) self.old }
         ensures memory { IfErr result (λ refusal. refusal ≡ OutOfMemory → self.new.spent ≡ true) }
     {
         let outcome = self.call_first(alloc, mode);
@@ -112,7 +112,7 @@ impl<S: Space> Machine<S> {
         path: &Path,
         arguments: Vec<Datum>,
     ) -> Result<Datum, Refusal>
-        ensures answer { Does (seen given_of result) self.new (object_answered path.now (map given_of arguments.items)) self.old }
+        ensures answer { Does (seen given_of result) self.new (object_answered S.accesses path.now (map given_of arguments.items)) self.old }
         ensures memory { IfErr result (λ refusal. refusal ≡ OutOfMemory → self.new.spent ≡ true) }
     {
         let outcome = self.answer(alloc, path, arguments);
@@ -131,7 +131,7 @@ impl<S: Space> Machine<S> {
 
     #[tactic(auto, unfolding(crate::specs::Calls::started))]
     fn call_first(&mut self, alloc: Global, mode: Mode) -> Result<(), Refusal>
-        ensures { Does result self.new (started mode) self.old }
+        ensures { Does result self.new (started S.accesses mode) self.old }
     {
         self.mode = mode;
         self.make_calls(alloc, mode)
@@ -139,7 +139,7 @@ impl<S: Space> Machine<S> {
 
     #[tactic(auto, using(ar_space::specs::Change::changing), unfolding(crate::specs::Calls::initial_calls))]
     fn make_calls(&mut self, alloc: Global, mode: Mode) -> Result<(), Refusal>
-        ensures { Does result self.new (initial_calls mode) self.old }
+        ensures { Does result self.new (initial_calls S.accesses mode) self.old }
     {
         let root_ini = at_root(alloc, *b"_INI")?;
         self.call_where_it_stands(alloc, &root_ini, Vec::new(alloc))?;
@@ -157,7 +157,7 @@ impl<S: Space> Machine<S> {
         path: &Path,
         arguments: Vec<Datum>,
     ) -> Result<(), Refusal>
-        ensures { Does result self.new (called_where_it_stands path.now (map given_of arguments.items)) self.old }
+        ensures { Does result self.new (called_where_it_stands S.accesses path.now (map given_of arguments.items)) self.old }
     {
         if self.stands(path) {
             self.call(alloc, path, arguments)
@@ -168,7 +168,7 @@ impl<S: Space> Machine<S> {
 
     #[tactic(auto, using(ar_space::specs::Change::changing), unfolding(crate::specs::Calls::object_called))]
     fn call(&mut self, alloc: Global, path: &Path, arguments: Vec<Datum>) -> Result<(), Refusal>
-        ensures { Does result self.new (object_called path.now (map given_of arguments.items)) self.old }
+        ensures { Does result self.new (object_called S.accesses path.now (map given_of arguments.items)) self.old }
     {
         self.answer(alloc, path, arguments)?;
         Ok(())
@@ -188,7 +188,7 @@ impl<S: Space> Machine<S> {
         path: &Path,
         arguments: Vec<Datum>,
     ) -> Result<Datum, Refusal>
-        ensures { Does (seen given_of result) self.new (object_answered path.now (map given_of arguments.items)) self.old }
+        ensures { Does (seen given_of result) self.new (object_answered S.accesses path.now (map given_of arguments.items)) self.old }
     {
         answer(alloc, &mut self.world, path, arguments, self.steps)
     }

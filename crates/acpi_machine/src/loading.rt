@@ -32,10 +32,10 @@ pub fn load_tables<S: Space>(
     steps: u64,
     osi: Vec<Octets>,
 ) -> Result<Machine<S>, (Refusal, S)>
-    ensures world { IfOk result (λ machine. loaded_tables tables steps osi.items (fresh tables.width osi.items space) ≡ (Ok tt, machine.world)) }
+    ensures world { IfOk result (λ machine. loaded_tables S.accesses tables steps osi.items (fresh tables.width osi.items space) ≡ (Ok tt, machine.world)) }
     ensures machine { IfOk result (λ machine. machine ≡ machine_of tables steps machine.world) }
-    ensures refusal { IfErr result (λ refused. refused.0 ≢ OutOfMemory → (loaded_tables tables steps osi.items (fresh tables.width osi.items space)).0 ≡ Err refused.0) }
-    ensures space { IfErr result (λ refused. refused.0 ≢ OutOfMemory → (loaded_tables tables steps osi.items (fresh tables.width osi.items space)).1.space ≡ refused.1) }
+    ensures refusal { IfErr result (λ refused. refused.0 ≢ OutOfMemory → (loaded_tables S.accesses tables steps osi.items (fresh tables.width osi.items space)).0 ≡ Err refused.0) }
+    ensures space { IfErr result (λ refused. refused.0 ≢ OutOfMemory → (loaded_tables S.accesses tables steps osi.items (fresh tables.width osi.items space)).1.space ≡ refused.1) }
 {
     match few_texts(&osi) {
         Ok(()) => {}
@@ -77,7 +77,7 @@ fn load_all<S: Space>(
     tables: &Tables,
     steps: u64,
 ) -> Result<(), Refusal>
-    ensures { Does result world.new (all_loaded tables.now steps) world.old }
+    ensures { Does result world.new (all_loaded S.accesses tables.now steps) world.old }
 {
     load_table(alloc, world, &tables.dsdt, steps)?;
     load_each(alloc, world, tables.ssdts.as_slice(), steps)
@@ -91,7 +91,7 @@ fn load_each<S: Space>(
     tables: &[Table],
     steps: u64,
 ) -> Result<(), Refusal>
-    ensures { Does result world.new (each_loaded steps tables.now) world.old }
+    ensures { Does result world.new (each_loaded S.accesses steps tables.now) world.old }
 {
     for table in tables {
         load_table(alloc, world, table, steps)?;
@@ -107,7 +107,7 @@ fn load_table<S: Space>(
     table: &Table,
     steps: u64,
 ) -> Result<(), Refusal>
-    ensures { Does result world.new (table_loaded steps table.now) world.old }
+    ensures { Does result world.new (table_loaded S.accesses steps table.now) world.old }
 {
     load(alloc, world, table.body(), steps)
 }

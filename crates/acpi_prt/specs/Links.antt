@@ -3,6 +3,7 @@ use Rattle.std.specs.Prelude.{◌==◌, codes, List, [], Bool, false, Ok, Err, i
 use Rattle.std.specs.Str.{bytes_eq}
 use Rattle.ar_space.specs.declared.refusal.Refusal.TheVariants.{RoutingTable}
 use Rattle.ar_space.specs.declared.refusal.RoutingTableFault.TheVariants.{NotALink}
+use Rattle.ar_space.specs.Accesses.{Accesses}
 use Rattle.ar_space.specs.Outcome.{Outcome}
 use Rattle.ar_space.specs.Change.{Change, give, settle, ◌>>=◌, ◌>>◌}
 use Rattle.aml_path.specs.declared.segment.Seg.{Seg}
@@ -29,11 +30,11 @@ abbrev pub is_link_id : given.Given → Outcome (Unit {0})
 is_link_id id = if has_link_id id then Ok tt else Err (RoutingTable NotALink)
 
 -- the path of the link device at a path
-unfoldable pub link_at : {S : Type 0} → List Seg → Change (MachineState S) (List Seg)
-link_at p = do
+unfoldable pub link_at : {S : Type 0} → Accesses S → List Seg → Change (MachineState S) (List Seg)
+link_at accesses p = do
   device ← device_at p
   hid ← settle (child_named device (codes "_HID"))
   name ← id_at hid
-  id ← evaluated_object name []
+  id ← evaluated_object accesses name []
   settle (is_link_id id)
   give device

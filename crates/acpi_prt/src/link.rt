@@ -27,7 +27,7 @@ pub(crate) fn link_at<S: Space>(
     machine: &mut Machine<S>,
     path: &Path,
 ) -> Result<Path, Refusal>
-    ensures { Does result machine.new (link_at path.now) machine.old }
+    ensures { Does result machine.new (link_at S.accesses path.now) machine.old }
 {
     let device = device_at(alloc, machine, path)?;
     let hid = child_named(alloc, &device, *b"_HID")?;

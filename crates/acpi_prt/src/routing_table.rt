@@ -30,7 +30,7 @@ pub fn get_irq_routing_table<S: Space>(
     machine: &mut Machine<S>,
     device: &Path,
 ) -> Result<Vec<Pin>, Refusal>
-    ensures { Does (seen (λ pins. pins.items) result) machine.new (routing_table device.now) machine.old }
+    ensures { Does (seen (λ pins. pins.items) result) machine.new (routing_table S.accesses device.now) machine.old }
 {
     let name = child_named(alloc, device, *b"_PRT")?;
     let answer = machine.evaluate_object(alloc, &name, Vec::new(alloc))?;
@@ -44,7 +44,7 @@ fn pins_from<S: Space>(
     machine: &mut Machine<S>,
     entries: &[Datum],
 ) -> Result<Vec<Pin>, Refusal>
-    ensures { Does (seen (λ pins. pins.items) result) machine.new (pins_from (map given_of entries.now) []) machine.old }
+    ensures { Does (seen (λ pins. pins.items) result) machine.new (pins_from S.accesses (map given_of entries.now) []) machine.old }
 {
     let mut pins = Vec::new(alloc);
     for entry in entries {
@@ -61,7 +61,7 @@ fn pin_of<S: Space>(
     machine: &mut Machine<S>,
     entry: &Datum,
 ) -> Result<Option<Pin>, Refusal>
-    ensures { Does result machine.new (pin_of (given_of entry.now)) machine.old }
+    ensures { Does result machine.new (pin_of S.accesses (given_of entry.now)) machine.old }
 {
     match entry {
         Datum::Nothing => Ok(None),
@@ -77,7 +77,7 @@ fn pin_among<S: Space>(
     machine: &mut Machine<S>,
     parts: &[Datum],
 ) -> Result<Option<Pin>, Refusal>
-    ensures { Does result machine.new (pin_among (map given_of parts.now)) machine.old }
+    ensures { Does result machine.new (pin_among S.accesses (map given_of parts.now)) machine.old }
 {
     if parts.len() != 4 {
         return Err(BAD_ENTRY);
@@ -95,7 +95,7 @@ fn pin_with<S: Space>(
     source: &Datum,
     index: &Datum,
 ) -> Result<Option<Pin>, Refusal>
-    ensures { Does result machine.new (pin_with (given_of address.now) (given_of pin.now) (given_of source.now) (given_of index.now)) machine.old }
+    ensures { Does result machine.new (pin_with S.accesses (given_of address.now) (given_of pin.now) (given_of source.now) (given_of index.now)) machine.old }
 {
     let address = word_of(address)?;
     let pin = word_of(pin)?;
@@ -118,7 +118,7 @@ fn route_of<S: Space>(
     source: &Datum,
     index: u32,
 ) -> Result<Route, Refusal>
-    ensures { Does result machine.new (route_of (given_of source.now) index) machine.old }
+    ensures { Does result machine.new (route_of S.accesses (given_of source.now) index) machine.old }
 {
     match source {
         Datum::Integer(_) => Ok(Route::Wired(index)),
@@ -138,7 +138,7 @@ fn linked<S: Space>(
     path: &Path,
     index: u32,
 ) -> Result<Route, Refusal>
-    ensures { Does result machine.new (linked path.now index) machine.old }
+    ensures { Does result machine.new (linked S.accesses path.now index) machine.old }
 {
     let link = link_at(alloc, machine, path)?;
     no_index(index)?;

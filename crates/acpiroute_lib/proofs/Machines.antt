@@ -2,7 +2,7 @@
 use Rattle.std.proofs.Common.{◌≡◌, ◌∙◌, refl}
 use Rattle.std.specs.Prelude.{Ok, Err, IsErr, IsErrAnd}
 use Rattle.ar_space.specs.declared.refusal.Refusal.{Refusal}
-use Rattle.ar_space.specs.Bytes.{Bytes}
+use Rattle.ar_space.specs.Bytes.{Bytes, byte_accesses}
 use Rattle.ar_space.specs.Change.{Does}
 use Rattle.ar_space.specs.Outcome.{Outcome, Answers}
 use Rattle.acpi_machine.specs.Calls.{initialized}
@@ -10,11 +10,11 @@ use Rattle.acpi_machine.specs.MachineStates.{MachineState}
 use Rattle.route_report.specs.declared.report.Mode.{Mode}
 use Rattle.acpiroute_lib.specs.Machines.{machine_mode_of, initialized_machine}
 
-pub initialized_ok : {u : Unit {0}} {m after : MachineState Bytes} (mode : Mode) → Does (Ok u) after (initialized (machine_mode_of mode)) m → Answers (Ok after) (initialized_machine mode m)
+pub initialized_ok : {u : Unit {0}} {m after : MachineState Bytes} (mode : Mode) → Does (Ok u) after (initialized byte_accesses (machine_mode_of mode)) m → Answers (Ok after) (initialized_machine mode m)
 unfolding initialized_machine
 initialized_ok mode h = record { is = λ _. rw (h.is tt) refl }
 
-pub initialized_err : {e : Refusal} {m after : MachineState Bytes} {r : Outcome (MachineState Bytes)} (mode : Mode) → Does (Err e) after (initialized (machine_mode_of mode)) m → IsErr r × IsErrAnd r (λ x. x ≡ e)
+pub initialized_err : {e : Refusal} {m after : MachineState Bytes} {r : Outcome (MachineState Bytes)} (mode : Mode) → Does (Err e) after (initialized byte_accesses (machine_mode_of mode)) m → IsErr r × IsErrAnd r (λ x. x ≡ e)
     → Answers r (initialized_machine mode m)
 unfolding initialized_machine
 initialized_err {r = Ok x} mode h i = absurd (cc i.0)

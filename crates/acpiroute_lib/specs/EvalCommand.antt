@@ -1,7 +1,7 @@
 -- What `eval` answers.
 use Rattle.std.specs.Prelude.{ℕ, List, ◌++◌, map, Ok, codes}
 use Rattle.ar_space.specs.Outcome.{Outcome, ◌>>=◌}
-use Rattle.ar_space.specs.Bytes.{Bytes}
+use Rattle.ar_space.specs.Bytes.{Bytes, byte_accesses}
 use Rattle.aml_path.specs.declared.segment.Seg.{Seg}
 use Rattle.aml_path.specs.Text.{path_of_text}
 use Rattle.aml_meaning.specs.Given as given
@@ -15,7 +15,7 @@ use Rattle.acpiroute_lib.specs.Written.{Written}
 
 -- what the object at a path of a machine answers to arguments
 unfoldable pub value_at : MachineState Bytes → List Seg → List given.Given → Outcome given.Given
-value_at m path arguments = (evaluated_object path arguments m).0
+value_at m path arguments = (evaluated_object byte_accesses path arguments m).0
 
 -- a value on a line of its own
 abbrev pub value_written : given.Given → Written

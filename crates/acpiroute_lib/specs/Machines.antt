@@ -1,7 +1,7 @@
 -- The machine that a machine text describes, with its tables loaded.
 use Rattle.std.specs.Prelude.{ℕ, List, Ok, Err}
 use Rattle.ar_space.specs.Outcome.{Outcome, ◌>>=◌}
-use Rattle.ar_space.specs.Bytes.{Bytes}
+use Rattle.ar_space.specs.Bytes.{Bytes, byte_accesses}
 use Rattle.ar_tables.specs.declared.tables.Tables.{Tables}
 use Rattle.ar_tables.specs.FindTables.{tables_of}
 use Rattle.machine_text.specs.MachineText.{machine_text}
@@ -22,7 +22,7 @@ machine_left t steps w (Err e) = Err e
 
 -- the tables, loaded over a register space, where `_OSI` knows these texts
 unfoldable pub machine_with : Tables → ℕ → Bytes → List (List ℕ) → Outcome (MachineState Bytes)
-machine_with t steps space osi = let l = loaded_tables t steps osi (fresh t.width osi space) in machine_left t steps l.1 l.0
+machine_with t steps space osi = let l = loaded_tables byte_accesses t steps osi (fresh t.width osi space) in machine_left t steps l.1 l.0
 
 -- the machine of a machine text, within a budget of steps: the image of its tables is its memory, and its bytes are the
 -- register space
@@ -45,7 +45,7 @@ initialized_left m (Ok u) = Ok m
 initialized_left m (Err e) = Err e
 
 unfoldable pub initialized_machine : Mode → MachineState Bytes → Outcome (MachineState Bytes)
-initialized_machine mode m = let i = initialized (machine_mode_of mode) m in initialized_left i.1 i.0
+initialized_machine mode m = let i = initialized byte_accesses (machine_mode_of mode) m in initialized_left i.1 i.0
 
 -- the machine of a machine text, initialized in this mode
 unfoldable pub machine_of_text_in : Mode → ℕ → List ℕ → Outcome (MachineState Bytes)

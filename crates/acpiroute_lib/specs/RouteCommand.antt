@@ -1,7 +1,7 @@
 -- What `route` answers.
 use Rattle.std.specs.Prelude.{◌≡◌, ℕ, List, Ok, Err}
 use Rattle.ar_space.specs.Outcome.{Outcome}
-use Rattle.ar_space.specs.Bytes.{Bytes}
+use Rattle.ar_space.specs.Bytes.{Bytes, byte_accesses}
 use Rattle.acpi_machine.specs.MachineStates.{MachineState}
 use Rattle.acpi_links.specs.Gatherings.{gathered}
 use Rattle.acpi_configure.specs.Rows.{rows}
@@ -21,13 +21,13 @@ printed report = record { text = text_of_report report; completion = Done }
 pub record IsReportOf (m : MachineState Bytes) (w : Written) : Type 0 where
   pub report : Report
   pub after : MachineState Bytes
-  pub is_report : IsDryReport m after (rows report)
+  pub is_report : IsDryReport byte_accesses m after (rows report)
   pub is_text : w ≡ printed report
 
 -- the report, or the refusal of what it has to find
 abbrev pub IsRouted : MachineState Bytes → Outcome Written → Type 0
 IsRouted m (Ok w) = IsReportOf m w
-IsRouted m (Err e) = (gathered m).0 ≡ Err e
+IsRouted m (Err e) = (gathered byte_accesses m).0 ≡ Err e
 
 -- a machine that is refused has no report
 abbrev pub IsRoutedOn : Outcome (MachineState Bytes) → Outcome Written → Type 0

@@ -5,16 +5,17 @@ use Rattle.std.proofs.lemmas.Bool.{cases_lt}
 use Rattle.ar_space.specs.declared.space.Place.{Place}
 use Rattle.ar_space.specs.Accesses.{byte_count as bytes_wide, bit_count}
 use Rattle.ar_space.specs.Change.{settle, give}
-use Rattle.ar_space.specs.Bytes.{Bytes, number_on, written_on, read_step, write_step}
+use Rattle.ar_space.specs.Bytes.{Bytes, number_on, written_on, byte_accesses}
 use Rattle.aml_objects.specs.declared.entry.FieldUnit.{FieldUnit}
 use Rattle.aml_objects.specs.declared.entry.UpdateRule.TheVariants.{Preserve}
 use Rattle.aml_fields.specs.declared.region.Region.{Region}
 use Rattle.aml_fields.specs.declared.field_units.Unit.{Unit as Access}
 use Rattle.aml_fields.specs.Bits.{bit, bits_from, bits_of, number_of, put, field_bits, rest_of_unit, merged}
 use Rattle.aml_fields.specs.Covering.{IsUnit, Cover}
-use Rattle.aml_fields.specs.Regions.{write_unit, write_units}
-use Rattle.aml_fields.proofs.BitLists.{length_from, from_at}
-use Rattle.aml_fields.proofs.Putting.{length_extended}
+use Rattle.aml_fields.specs.Regions.{write_unit}
+use Rattle.aml_fields.specs.UnitByUnit.{write_units}
+use Rattle.aml_fields.specs.BitLists.{length_from, from_at}
+use Rattle.aml_fields.specs.Putting.{length_extended}
 use Rattle.aml_fields.proofs.Cells.{Cells}
 use Rattle.aml_fields.proofs.SpaceBits.{space_bit, bits_again, put_before, put_inside, put_behind, length_put}
 use Rattle.aml_fields.proofs.UnitWrites.{steps, IsOf, place_is, kept_is, replaced_by, Small, Swapped, swapped, extended_at, narrow}
@@ -106,7 +107,7 @@ module _ (c : Cells) (r : Region) (of : IsOf c r) (f : FieldUnit) (rule : f.upda
             ∙ ap (space_bit c b) at
 
   -- one unit is written
-  pub unit_wrote : (u : Access) (done : ℕ) (b b' : Bytes) → IsUnit f.bit_offset f.access done u → Small c b → write_unit read_step write_step r f source u b ≡ (Ok tt, b') → Wrote c (8 * r.offset + f.bit_offset) done u.count source b b'
+  pub unit_wrote : (u : Access) (done : ℕ) (b b' : Bytes) → IsUnit f.bit_offset f.access done u → Small c b → write_unit byte_accesses r f source u b ≡ (Ok tt, b') → Wrote c (8 * r.offset + f.bit_offset) done u.count source b b'
   unfolding write_unit settle
   unit_wrote u done b b' unit small e =
       let at = steps _ _ b tt b' e in
@@ -128,7 +129,7 @@ module _ (c : Cells) (r : Region) (of : IsOf c r) (f : FieldUnit) (rule : f.upda
         by_kept p s old before (inr n) h = inr (h n)
 
   -- all units from one on are written
-  pub units_wrote : (us : List Access) (done : ℕ) (b b' : Bytes) → Cover f.bit_offset f.bits f.access done us → Small c b → write_units read_step write_step r f source us b ≡ (Ok tt, b') → Wrote c (8 * r.offset + f.bit_offset) done (f.bits - done) source b b'
+  pub units_wrote : (us : List Access) (done : ℕ) (b b' : Bytes) → Cover f.bit_offset f.bits f.access done us → Small c b → write_units (write_unit byte_accesses r f source) us b ≡ (Ok tt, b') → Wrote c (8 * r.offset + f.bit_offset) done (f.bits - done) source b b'
   unfolding write_units give
   units_wrote [] done b b' cover small e =
       let same : b' ≡ b = sym (ap (λ x. x.1) e) in

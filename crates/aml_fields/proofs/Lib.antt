@@ -1,9 +1,4 @@
-pub mod BitLists
-pub mod Putting
-pub mod Numbers
 pub mod Turns
-pub mod Covers
-pub mod Accessing
 pub mod Cells
 pub mod SpaceBits
 pub mod UnitWrites

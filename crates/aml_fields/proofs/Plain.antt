@@ -1,6 +1,6 @@
 -- SystemMemory and SystemIO as address spaces of bytes.
 use Rattle.std.proofs.Common.{◌≡◌, ℕ, ◌+◌, ◌*◌, List, Ok, inl, inr, ap, sym, subst, arith}
-use Rattle.ar_space.specs.Bytes.{Bytes, read_step, write_step}
+use Rattle.ar_space.specs.Bytes.{Bytes, byte_accesses}
 use Rattle.aml_objects.specs.declared.entry.FieldUnit.{FieldUnit}
 use Rattle.aml_objects.specs.declared.entry.UpdateRule.TheVariants.{Preserve}
 use Rattle.aml_fields.specs.declared.region.AddressSpace.TheVariants.{Memory, Io}
@@ -24,7 +24,7 @@ outside : (c : Cells) (r : Region) (f : FieldUnit) (source : List ℕ) (b b' : B
 outside c r f source b b' w k (inl l) = w.below k (omega (arith, l))
 outside c r f source b b' w k (inr l) = w.above k (omega (arith, l))
 
-pub leaves_others : (r : Region) (f : FieldUnit) (source : List ℕ) (b b' : Bytes) → IsPlain r.space → f.update ≡ Preserve → AreBytes r.space b → write_field read_step write_step r f source b ≡ (Ok tt, b')
+pub leaves_others : (r : Region) (f : FieldUnit) (source : List ℕ) (b b' : Bytes) → IsPlain r.space → f.update ≡ Preserve → AreBytes r.space b → write_field byte_accesses r f source b ≡ (Ok tt, b')
     → OthersAreSame r.space b b' × ((k : ℕ) → IsOutside r f k → bit_of r.space b' k ≡ bit_of r.space b k)
 leaves_others r f source b b' (inl e) rule small h =
     let w = field_wrote memory_cells r (of_memory r e) f rule source b b' (subst (λ s. AreBytes s b) e small) h in (
@@ -37,7 +37,7 @@ leaves_others r f source b b' (inr e) rule small h =
       λ k l. subst (λ s. bit_of s b' k ≡ bit_of s b k) (sym e) (outside port_cells r f source b b' w k l),
     )
 
-pub reads_back : (r : Region) (f : FieldUnit) (source : List ℕ) (b b' : Bytes) → IsPlain r.space → f.update ≡ Preserve → AreBytes r.space b → write_field read_step write_step r f source b ≡ (Ok tt, b')
-    → read_field read_step r f b' ≡ (Ok (packed (field_bits source 0 f.bits)), b')
+pub reads_back : (r : Region) (f : FieldUnit) (source : List ℕ) (b b' : Bytes) → IsPlain r.space → f.update ≡ Preserve → AreBytes r.space b → write_field byte_accesses r f source b ≡ (Ok tt, b')
+    → read_field byte_accesses r f b' ≡ (Ok (packed (field_bits source 0 f.bits)), b')
 reads_back r f source b b' (inl e) rule small h = read_back memory_cells r (of_memory r e) f rule source b b' (subst (λ s. AreBytes s b) e small) h
 reads_back r f source b b' (inr e) rule small h = read_back port_cells r (of_ports r e) f rule source b b' (subst (λ s. AreBytes s b) e small) h

@@ -5,7 +5,7 @@ use Rattle.std.proofs.lemmas.List.{append_assoc, append-nil, drop-drop}
 use Rattle.ar_space.specs.declared.space.Width.{Width}
 use Rattle.ar_space.specs.Accesses.{byte_count as bytes_wide}
 use Rattle.ar_space.specs.Change.{settle, give, go_on, ◌>>=◌}
-use Rattle.ar_space.specs.Bytes.{Bytes, number_on, read_step, write_step}
+use Rattle.ar_space.specs.Bytes.{Bytes, number_on, byte_accesses, read_step}
 use Rattle.aml_objects.specs.declared.entry.FieldUnit.{FieldUnit}
 use Rattle.aml_objects.specs.declared.entry.UpdateRule.TheVariants.{Preserve}
 use Rattle.aml_fields.specs.declared.region.Region.{Region}
@@ -13,10 +13,11 @@ use Rattle.aml_fields.specs.declared.field_units.Unit.{Unit as Access}
 use Rattle.aml_fields.specs.Bits.{bit, bits_from, bits_of, extended, field_bits, packed}
 use Rattle.aml_fields.specs.Covering.{IsUnit, Cover}
 use Rattle.aml_fields.specs.Units.{units_of}
-use Rattle.aml_fields.specs.Regions.{unit_place, read_access, read_unit, read_units, read_field, write_unit, write_units, write_field}
-use Rattle.aml_fields.proofs.BitLists.{from_at}
-use Rattle.aml_fields.proofs.Putting.{extended_more, extended_none, length_extended}
-use Rattle.aml_fields.proofs.Covers.{units_cover}
+use Rattle.aml_fields.specs.Regions.{unit_place, read_access, read_unit, read_field, write_unit, write_field}
+use Rattle.aml_fields.specs.UnitByUnit.{bits_read, read_units, write_units}
+use Rattle.aml_fields.specs.BitLists.{from_at}
+use Rattle.aml_fields.specs.Putting.{extended_more, extended_none, length_extended}
+use Rattle.aml_fields.specs.Covers.{units_cover}
 use Rattle.aml_fields.proofs.Cells.{Cells, Stand, little, read_stand, stand_read}
 use Rattle.aml_fields.proofs.SpaceBits.{space_bit, stand_bit, bits_of_little}
 use Rattle.aml_fields.proofs.UnitWrites.{steps, IsOf, place_is, kept_is, replaced_by, Small, stand_small, extended_at, narrow, eight}
@@ -62,7 +63,7 @@ module _ (c : Cells) (r : Region) (of : IsOf c r) (w : Width) where
   AllReady b (u ∷ us) = Ready b u × AllReady b us
 
   -- a unit is read as its bytes
-  unit_read : (b : Bytes) (u : Access) → (h : Ready b u) → read_unit read_step r w u b ≡ (Ok (little h.bytes), b)
+  unit_read : (b : Bytes) (u : Access) → (h : Ready b u) → read_unit byte_accesses r w u b ≡ (Ok (little h.bytes), b)
   unfolding read_unit read_access read_step settle ◌>>=◌ go_on
   unit_read b u h =
       let start : r.offset + u.offset + 0 ≡ r.offset + u.offset = omega arith in
@@ -99,7 +100,7 @@ module _ (c : Cells) (r : Region) (of : IsOf c r) (w : Width) where
   -- the units from one on are read as the rest of the field
   units_read : (us : List Access) (b : Bytes) (from done bits bit_offset : ℕ) (source : List ℕ) → from ≡ 8 * r.offset + bit_offset → AllReady b us → Small c b → Cover bit_offset bits w done us
       → ((i : ℕ) → i < bits - done → space_bit c b (from + done + i) ≡ Some (get_or (bits_of source) (done + i) false))
-      → read_units read_step r w us b ≡ (Ok (field_bits source done (bits - done)), b)
+      → read_units (read_unit byte_accesses r w) us b ≡ (Ok (field_bits source done (bits - done)), b)
   unfolding read_units AllReady give ◌>>=◌ go_on
   units_read [] b from done bits bit_offset source start ready small cover h =
       let none : bits - done ≡ 0 = omega (arith, cover) in
@@ -119,7 +120,7 @@ module _ (c : Cells) (r : Region) (of : IsOf c r) (w : Width) where
 
 module _ (c : Cells) (r : Region) (of : IsOf c r) (f : FieldUnit) (rule : f.update ≡ Preserve) (source : List ℕ) where
   -- a unit that was written can be read
-  unit_ready : (u : Access) (b b' : Bytes) → write_unit read_step write_step r f source u b ≡ (Ok tt, b') → Ready c r of f.access b u
+  unit_ready : (u : Access) (b b' : Bytes) → write_unit byte_accesses r f source u b ≡ (Ok tt, b') → Ready c r of f.access b u
   unfolding write_unit settle
   unit_ready u b b' e =
       let at = steps _ _ b tt b' e in
@@ -133,7 +134,7 @@ module _ (c : Cells) (r : Region) (of : IsOf c r) (f : FieldUnit) (rule : f.upda
       let start : r.offset + u.offset + 0 ≡ r.offset + u.offset = omega arith in
       record { place = ap (λ x. x.0) at.first ∙ ap Ok p; bytes = found.bytes; many = found.many; stand = subst (λ m. Stand c b m found.bytes) start found.stand }
 
-  units_ready : (us : List Access) (done : ℕ) (b b' : Bytes) → Cover f.bit_offset f.bits f.access done us → Small c b → write_units read_step write_step r f source us b ≡ (Ok tt, b') → AllReady c r of f.access b' us
+  units_ready : (us : List Access) (done : ℕ) (b b' : Bytes) → Cover f.bit_offset f.bits f.access done us → Small c b → write_units (write_unit byte_accesses r f source) us b ≡ (Ok tt, b') → AllReady c r of f.access b' us
   unfolding write_units AllReady
   units_ready [] done b b' cover small e = tt
   units_ready (u ∷ us) done b b' cover small e =
@@ -144,12 +145,11 @@ module _ (c : Cells) (r : Region) (of : IsOf c r) (f : FieldUnit) (rule : f.upda
         units_ready us (done + u.count) two.middle b' cover.2 first.small two.second,
       )
 
-  pub field_wrote : (b b' : Bytes) → Small c b → write_field read_step write_step r f source b ≡ (Ok tt, b') → Wrote c (8 * r.offset + f.bit_offset) 0 f.bits source b b'
-  unfolding write_field
+  pub field_wrote : (b b' : Bytes) → Small c b → write_field byte_accesses r f source b ≡ (Ok tt, b') → Wrote c (8 * r.offset + f.bit_offset) 0 f.bits source b b'
   field_wrote b b' small e = let all : f.bits - 0 ≡ f.bits = omega arith in subst (λ n. Wrote c (8 * r.offset + f.bit_offset) 0 n source b b') all (units_wrote c r of f rule source (units_of f.bit_offset f.bits f.access) 0 b b' (units_cover f.bit_offset f.bits f.access) small e)
 
-  pub read_back : (b b' : Bytes) → Small c b → write_field read_step write_step r f source b ≡ (Ok tt, b') → read_field read_step r f b' ≡ (Ok (packed (field_bits source 0 f.bits)), b')
-  unfolding write_field read_field give ◌>>=◌ go_on
+  pub read_back : (b b' : Bytes) → Small c b → write_field byte_accesses r f source b ≡ (Ok tt, b') → read_field byte_accesses r f b' ≡ (Ok (packed (field_bits source 0 f.bits)), b')
+  unfolding bits_read give ◌>>=◌ go_on
   read_back b b' small e =
       let all : f.bits - 0 ≡ f.bits = omega arith in
       let wrote = field_wrote b b' small e in

@@ -12,7 +12,7 @@ use Rattle.ar_space.specs.declared.space.Place.{Place}
 use Rattle.ar_space.specs.Accesses.{byte_count as bytes_wide, bit_count}
 use Rattle.ar_space.specs.Outcome.{Outcome}
 use Rattle.ar_space.specs.Change.{Change, go_on, ◌>>=◌}
-use Rattle.ar_space.specs.Bytes.{Bytes, number_on, written_on, read_answer, read_step, write_step}
+use Rattle.ar_space.specs.Bytes.{Bytes, number_on, written_on, read_answer, byte_accesses, read_step, write_step}
 use Rattle.ar_space.specs.declared.refusal.SpaceFault.{SpaceFault}
 use Rattle.ar_space.specs.declared.refusal.SpaceFault.TheVariants.{NoRegister}
 use Rattle.aml_objects.specs.declared.entry.FieldUnit.{FieldUnit}
@@ -20,9 +20,10 @@ use Rattle.aml_objects.specs.declared.entry.UpdateRule.TheVariants.{Preserve}
 use Rattle.aml_fields.specs.declared.region.Region.{Region}
 use Rattle.aml_fields.specs.declared.field_units.Unit.{Unit as Access}
 use Rattle.aml_fields.specs.Bits.{bit, bits_from, bits_of, extended}
-use Rattle.aml_fields.specs.Regions.{faulted, place_in, or_limit, unit_place, read_access, write_access, kept, kept_by}
-use Rattle.aml_fields.proofs.BitLists.{from_at}
-use Rattle.aml_fields.proofs.Putting.{extended_more, length_extended}
+use Rattle.aml_fields.specs.Regions.{faulted, place_in, or_limit, unit_place, read_access, write_access}
+use Rattle.aml_fields.specs.UnitByUnit.{kept, kept_by}
+use Rattle.aml_fields.specs.BitLists.{from_at}
+use Rattle.aml_fields.specs.Putting.{extended_more, length_extended}
 use Rattle.aml_fields.proofs.Cells.{Cells, Stand, Written, digits, read_stand, written}
 use Rattle.aml_fields.proofs.SpaceBits.{space_bit, stand_at, stand_bit, bits_of_digits, bits_of_little}
 
@@ -58,7 +59,7 @@ module _ (c : Cells) (r : Region) (of : IsOf c r) where
   place_is w o p e = by_length (r.offset + o) (nat_lt r.length (o + bytes_wide w)) p e
 
   -- what a unit holds where a write keeps some of it
-  kept_read : (p : Place) (w : Width) (old : ℕ) (b b1 : Bytes) → read_access read_step p w b ≡ (Ok old, b1) → (number_on b p 0 (bytes_wide w) ≡ Some old) × (b1 ≡ b)
+  kept_read : (p : Place) (w : Width) (old : ℕ) (b b1 : Bytes) → read_access byte_accesses p w b ≡ (Ok old, b1) → (number_on b p 0 (bytes_wide w) ≡ Some old) × (b1 ≡ b)
   unfolding read_access read_step
   kept_read p w old b b1 e = by_number (number_on b p 0 (bytes_wide w)) refl (ap (λ x. x.0) e) (ap (λ x. x.1) e) where
     by_number : (o : Option ℕ) → number_on b p 0 (bytes_wide w) ≡ o → faulted (read_answer o) ≡ Ok old → b ≡ b1 → (number_on b p 0 (bytes_wide w) ≡ Some old) × (b1 ≡ b)
@@ -66,14 +67,14 @@ module _ (c : Cells) (r : Region) (of : IsOf c r) where
     by_number (Some v) is f g = (is ∙ (let h : v ≡ old = cc f in ap Some h), sym g)
 
   -- a unit is the field's as a whole, or what it holds is read
-  pub kept_is : (f : FieldUnit) (u : Access) (p : Place) (old : ℕ) (b b1 : Bytes) → f.update ≡ Preserve → kept read_step write_step f u p b ≡ (Ok old, b1)
+  pub kept_is : (f : FieldUnit) (u : Access) (p : Place) (old : ℕ) (b b1 : Bytes) → f.update ≡ Preserve → kept f u (read_access byte_accesses p f.access) b ≡ (Ok old, b1)
       → (b1 ≡ b) × ((u.count ≡ bit_count f.access) ⊎ (number_on b p 0 (bytes_wide f.access) ≡ Some old))
   unfolding kept
   kept_is f u p old b b1 rule e = by_whole (u.count == bit_count f.access) refl e where
-    by_whole : (t : Bool) → (u.count == bit_count f.access) ≡ t → (if t then (Ok 0, b) else kept_by read_step write_step f.update p f.access b) ≡ (Ok old, b1) → (b1 ≡ b) × ((u.count ≡ bit_count f.access) ⊎ (number_on b p 0 (bytes_wide f.access) ≡ Some old))
+    by_whole : (t : Bool) → (u.count == bit_count f.access) ≡ t → (if t then (Ok 0, b) else kept_by f.update (read_access byte_accesses p f.access) b) ≡ (Ok old, b1) → (b1 ≡ b) × ((u.count ≡ bit_count f.access) ⊎ (number_on b p 0 (bytes_wide f.access) ≡ Some old))
     by_whole true is g = (sym (ap (λ x. x.1) g), inl (search rules))
     by_whole false is g =
-        let k = kept_read p f.access old b b1 (sym (ap (λ rule. kept_by read_step write_step rule p f.access b) rule) ∙ g) in
+        let k = kept_read p f.access old b b1 (sym (ap (λ rule. kept_by rule (read_access byte_accesses p f.access) b) rule) ∙ g) in
         (k.1, inr k.0)
 
   -- where a write succeeds, the bytes stand that it replaces
@@ -82,7 +83,7 @@ module _ (c : Cells) (r : Region) (of : IsOf c r) where
     pub read : number_on b p 0 (bytes_wide w) ≡ Some before
     pub after : b' ≡ written_on b p 0 (bytes_wide w) value
 
-  pub replaced_by : (p : Place) (w : Width) (value : ℕ) (b b' : Bytes) → write_access read_step write_step p w value b ≡ (Ok tt, b') → Replaced p w value b b'
+  pub replaced_by : (p : Place) (w : Width) (value : ℕ) (b b' : Bytes) → write_access byte_accesses p w value b ≡ (Ok tt, b') → Replaced p w value b b'
   unfolding write_access write_step
   replaced_by p w value b b' e = by_number (number_on b p 0 (bytes_wide w)) refl e where
     wrote : Option ℕ → Result (Unit {0}) SpaceFault × Bytes

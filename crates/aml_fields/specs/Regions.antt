@@ -6,18 +6,17 @@ use Rattle.ar_space.specs.declared.space.Place.TheVariants as place
 use Rattle.ar_space.specs.declared.refusal.SpaceFault.{SpaceFault}
 use Rattle.ar_space.specs.declared.refusal.Refusal.TheVariants as refusal
 use Rattle.ar_space.specs.declared.refusal.FieldFault.TheVariants.{RegionLimit}
-use Rattle.ar_space.specs.Accesses.{byte_count, bit_count}
+use Rattle.ar_space.specs.Accesses.{Accesses, byte_count, bit_count}
 use Rattle.ar_space.specs.Outcome.{Outcome}
 use Rattle.ar_space.specs.Change.{Change, give, settle, ◌>>=◌, ◌>>◌}
 use Rattle.aml_objects.specs.declared.entry.FieldUnit.{FieldUnit}
-use Rattle.aml_objects.specs.declared.entry.UpdateRule.{UpdateRule}
-use Rattle.aml_objects.specs.declared.entry.UpdateRule.TheVariants.{Preserve, WriteAsOnes, WriteAsZeros}
 use Rattle.aml_fields.specs.declared.region.AddressSpace.{AddressSpace}
 use Rattle.aml_fields.specs.declared.region.AddressSpace.TheVariants.{Memory, Io, Pci}
 use Rattle.aml_fields.specs.declared.region.Region.{Region}
 use Rattle.aml_fields.specs.declared.field_units.Unit.{Unit as Access}
-use Rattle.aml_fields.specs.Bits.{bits_from, extended, field_bits, rest_of_unit, merged, packed}
+use Rattle.aml_fields.specs.Bits.{field_bits, rest_of_unit, merged}
 use Rattle.aml_fields.specs.Units.{units_of}
+use Rattle.aml_fields.specs.UnitByUnit.{bits_read, kept, write_units}
 
 -- the place with a number, in an address space that has it
 abbrev pub place_in : AddressSpace → ℕ → Option Place
@@ -41,55 +40,29 @@ abbrev pub faulted : {A : Type 0} → Result A SpaceFault → Outcome A
 faulted (Ok a) = Ok a
 faulted (Err fault) = Err (refusal.Space fault)
 
-module _ {S : Type 0} (reads : S → Place → Width → Result ℕ SpaceFault × S) where
+module _ {S : Type 0} (accesses : Accesses S) where
   unfoldable pub read_access : Place → Width → Change S ℕ
-  read_access p w s = (faulted (reads s p w).0, (reads s p w).1)
+  read_access p w s = (faulted (accesses.reads s p w).0, (accesses.reads s p w).1)
 
   unfoldable pub read_unit : Region → Width → Access → Change S ℕ
   read_unit r w u = do
     p ← settle (unit_place r w u.offset)
     read_access p w
 
-  -- the bits of the field in each unit, lowest first
-  unfoldable pub read_units : Region → Width → List Access → Change S (List Bool)
-  read_units r w [] = give []
-  read_units r w (u ∷ us) = do
-    unit ← read_unit r w u
-    bits ← read_units r w us
-    give (extended u.count (drop u.first (bits_from unit 0 64)) ++ bits)
-
   -- a read of a field
-  unfoldable pub read_field : Region → FieldUnit → Change S (List ℕ)
-  read_field r f = do
-    bits ← read_units r f.access (units_of f.bit_offset f.bits f.access)
-    give (packed bits)
+  abbrev pub read_field : Region → FieldUnit → Change S (List ℕ)
+  read_field r f = bits_read (read_unit r f.access) f
 
-module _ {S : Type 0} (reads : S → Place → Width → Result ℕ SpaceFault × S) (writes : S → Place → Width → ℕ → Result (Unit {0}) SpaceFault × S) where
   unfoldable pub write_access : Place → Width → ℕ → Change S (Unit {0})
-  write_access p w value s = (faulted (writes s p w value).0, (writes s p w value).1)
-
-  -- what a unit holds is read where bits of it are kept, and nowhere else
-  abbrev pub kept_by : UpdateRule → Place → Width → Change S ℕ
-  kept_by Preserve p w s = read_access reads p w s
-  kept_by WriteAsOnes p w s = (Ok 0, s)
-  kept_by WriteAsZeros p w s = (Ok 0, s)
-
-  unfoldable pub kept : FieldUnit → Access → Place → Change S ℕ
-  kept f u p s = if u.count == bit_count f.access then (Ok 0, s) else kept_by f.update p f.access s
+  write_access p w value s = (faulted (accesses.writes s p w value).0, (accesses.writes s p w value).1)
 
   -- one unit is written: as a whole, or merged with what it holds, ones or zeros
   unfoldable pub write_unit : Region → FieldUnit → List ℕ → Access → Change S (Unit {0})
   write_unit r f source u = do
     p ← settle (unit_place r f.access u.offset)
-    old ← kept f u p
+    old ← kept f u (read_access p f.access)
     write_access p f.access (merged (rest_of_unit f.update f.access old) u.first (field_bits source u.position u.count))
 
-  unfoldable pub write_units : Region → FieldUnit → List ℕ → List Access → Change S (Unit {0})
-  write_units r f source [] = give tt
-  write_units r f source (u ∷ us) = do
-    write_unit r f source u
-    write_units r f source us
-
   -- a write of a field: the bits of some bytes, cut or with zeros behind them
-  unfoldable pub write_field : Region → FieldUnit → List ℕ → Change S (Unit {0})
-  write_field r f source = write_units r f source (units_of f.bit_offset f.bits f.access)
+  abbrev pub write_field : Region → FieldUnit → List ℕ → Change S (Unit {0})
+  write_field r f source = write_units (write_unit r f source) (units_of f.bit_offset f.bits f.access)

@@ -2,7 +2,8 @@
 ghost use Rattle.std.specs.Prelude.{◌≡◌, ◌+◌, ◌≤◌, ◌<◌, ◌^◌};
 ghost use Rattle.ar_space.specs.Outcome.{seen};
 ghost use Rattle.ar_space.specs.Change.{Does};
-ghost use Rattle.aml_fields.specs.Regions.{read_access, read_unit, write_access, kept, kept_by, write_unit, write_units, write_field, read_field};
+ghost use Rattle.aml_fields.specs.Regions.{read_access, read_unit, write_access, write_unit, write_field, read_field};
+ghost use Rattle.aml_fields.specs.UnitByUnit.{kept, kept_by, write_units, bits_read};
 
 use crate::bits::bytes_for;
 use crate::field_units::{Unit, units};
@@ -15,7 +16,7 @@ use std::alloc::Global;
 /// One access that reads.
 #[tactic(auto, unfolding(crate::specs::Regions::read_access))]
 fn read_access<S: Space>(space: &mut S, place: Place, width: Width) -> Result<u64, Refusal>
-    ensures { Does result space.new (read_access S.reads place width) space.old }
+    ensures { Does result space.new (read_access S.accesses place width) space.old }
 {
     match space.read(place, width) {
         Ok(value) => Ok(value),
@@ -31,7 +32,7 @@ fn write_access<S: Space>(
     width: Width,
     value: u64,
 ) -> Result<(), Refusal>
-    ensures { Does result space.new (write_access S.reads S.writes place width value) space.old }
+    ensures { Does result space.new (write_access S.accesses place width value) space.old }
 {
     match space.write(place, width, value) {
         Ok(()) => Ok(()),
@@ -47,16 +48,16 @@ fn read_unit<S: Space>(
     width: Width,
     unit: Unit,
 ) -> Result<u64, Refusal>
-    ensures { Does result space.new (read_unit S.reads region width unit) space.old }
+    ensures { Does result space.new (read_unit S.accesses region width unit) space.old }
 {
     let place = region.place(width, unit.offset)?;
     read_access(space, place, width)
 }
 
 /// What a unit holds that a write keeps: it is read where the field isn't all of it and the update rule is Preserve.
-#[tactic(auto, unfolding(crate::specs::Regions::kept))]
+#[tactic(auto, unfolding(crate::specs::UnitByUnit::kept))]
 fn kept<S: Space>(space: &mut S, field: FieldUnit, unit: Unit, place: Place) -> Result<u64, Refusal>
-    ensures { Does result space.new (kept S.reads S.writes field unit place) space.old }
+    ensures { Does result space.new (kept field unit (read_access S.accesses place field.access)) space.old }
 {
     if unit.count == usize::from(field.access.bits()) {
         return Ok(0);
@@ -79,7 +80,7 @@ fn write_unit<S: Space>(
 ) -> Result<(), Refusal>
     requires inside { unit.first + unit.count ≤ 64 }
     requires position { unit.position + unit.count < 2 ^ 64 }
-    ensures { Does result space.new (write_unit S.reads S.writes region field source.now unit) space.old }
+    ensures { Does result space.new (write_unit S.accesses region field source.now unit) space.old }
 {
     let place = region.place(field.access, unit.offset)?;
     let old = kept(space, field, unit, place)?;
@@ -106,7 +107,7 @@ pub fn write_field<S: Space>(
     field: FieldUnit,
     source: &[u8],
 ) -> Result<(), Refusal>
-    ensures { Does result space.new (write_field S.reads S.writes region field source.now) space.old }
+    ensures { Does result space.new (write_field S.accesses region field source.now) space.old }
 {
     for unit in units(field.bit_offset, field.bits, field.access) {
         write_unit(space, region, field, unit, source)?;
@@ -118,14 +119,14 @@ pub fn write_field<S: Space>(
 ///
 /// Each unit is one access, lowest first. A unit that doesn't lie within the region is refused as `RegionLimit` before its
 /// access. A fault of the space ends the read.
-#[tactic(auto, using(ar_space::specs::Change::changing), unfolding(crate::specs::Regions::read_field))]
+#[tactic(auto, using(ar_space::specs::Change::changing), unfolding(crate::specs::UnitByUnit::bits_read))]
 pub fn read_field<S: Space>(
     alloc: Global,
     space: &mut S,
     region: Region,
     field: FieldUnit,
 ) -> Result<Vec<u8>, Refusal>
-    ensures { Does (seen (λ v. v.items) result) space.new (read_field S.reads region field) space.old }
+    ensures { Does (seen (λ v. v.items) result) space.new (read_field S.accesses region field) space.old }
 {
     let count = field.bits as usize;
     let mut bits = vec![in alloc; 0; bytes_for(count)]?;

@@ -7,7 +7,7 @@ ghost use Rattle.aml_fields.specs.Regions.{read_field, write_field};
 ghost use Rattle.aml_fields.specs.declared.region.Region.{Region};
 ghost use Rattle.aml_objects.specs.declared.entry.FieldUnit.{FieldUnit};
 ghost use Rattle.aml_objects.specs.declared.entry.UpdateRule.TheVariants.{Preserve};
-ghost use Rattle.ar_space.specs.Bytes.{Bytes, read_step, write_step};
+ghost use Rattle.ar_space.specs.Bytes.{Bytes, byte_accesses};
 ghost use Rattle.aml_fields.specs.Units.{units_of};
 ghost use Rattle.aml_fields.specs.Covering.{Cover};
 
@@ -31,7 +31,7 @@ pub fn bytes_are_their_bits_packed()
 pub fn a_write_that_preserves_leaves_other_bits()
     ensures { (region : Region) (field : FieldUnit) (source : List ℕ) (before after : Bytes)
         → IsPlain region.space → field.update ≡ Preserve → AreBytes region.space before
-        → write_field read_step write_step region field source before ≡ (Ok tt, after)
+        → write_field byte_accesses region field source before ≡ (Ok tt, after)
         → OthersAreSame region.space before after × ((k : ℕ) → IsOutside region field k → bit_of region.space after k ≡ bit_of region.space before k) }
 {}
 
@@ -39,6 +39,6 @@ pub fn a_write_that_preserves_leaves_other_bits()
 pub fn a_field_is_read_as_it_was_written()
     ensures { (region : Region) (field : FieldUnit) (source : List ℕ) (before after : Bytes)
         → IsPlain region.space → field.update ≡ Preserve → AreBytes region.space before
-        → write_field read_step write_step region field source before ≡ (Ok tt, after)
-        → read_field read_step region field after ≡ (Ok (packed (field_bits source 0 field.bits)), after) }
+        → write_field byte_accesses region field source before ≡ (Ok tt, after)
+        → read_field byte_accesses region field after ≡ (Ok (packed (field_bits source 0 field.bits)), after) }
 {}

@@ -14,4 +14,4 @@ pub use accesses::{read_field, write_field};
 pub use bits::{bytes_for, copy_bits, get_bits};
 pub use field_units::{FieldUnits, Unit, units};
 pub use region::{AddressSpace, Region};
-pub use unit::{copy_from_unit, merge};
+pub use unit::{bytes_of, copy_from_unit, merge};

@@ -32,8 +32,9 @@ fn ones(width: Width) -> u64
 }
 
 /// The bytes of a unit, the lowest first.
-fn bytes_of(unit: u64) -> [u8; 8]
-    ensures { bits_of result ≡ bits_from unit 0 64 }
+pub fn bytes_of(unit: u64) -> [u8; 8]
+    ensures bits { bits_of result ≡ bits_from unit 0 64 }
+    ensures bytes { result ≡ bytes_within 8 (bits_from unit 0 64) }
 {
     let mut bytes = [0; 8];
     LittleEndian::write_u64(&mut bytes, unit);

@@ -1,9 +1,12 @@
 -- What closes the functions of evaluation.
-use Rattle.std.specs.Prelude.{◌≡◌, ℕ, zero, suc, ◌+◌, ◌-◌, ◌<◌, List, [], ◌∷◌, ◌++◌, length, map, Bool, true, false, Option, Some, None, Ok, Err, refl, if◌then◌else◌}
+use Rattle.std.specs.Prelude.{◌≡◌, ℕ, zero, suc, ◌+◌, ◌-◌, ◌<◌, ◌||◌, List, [], ◌∷◌, ◌++◌, length, map, Bool, true, false, Option, Some, None, Ok, Err, refl, if◌then◌else◌}
 use Rattle.std.proofs.Common.{arith, ◌∙◌, ap, sub-one}
 use Rattle.std.proofs.lemmas.List.{length-map}
+use Rattle.ar_space.specs.declared.refusal.Refusal.TheVariants as refusal
+use Rattle.ar_space.specs.declared.refusal.EvaluationFault.TheVariants.{CallDepth}
+use Rattle.ar_space.specs.Accesses.{Accesses}
 use Rattle.ar_space.specs.Outcome.{Outcome, NotMemory, seen}
-use Rattle.ar_space.specs.Change.{Change, Does, Same, give, ◌>>=◌}
+use Rattle.ar_space.specs.Change.{Change, Does, Same, give, stop, ◌>>=◌}
 use Rattle.aml_path.specs.declared.segment.Seg.{Seg}
 use Rattle.aml_terms.specs.declared.opcode.TermCode.{TermCode}
 use Rattle.aml_terms.specs.Tree.{Tree, Trees, no_trees, tree}
@@ -16,7 +19,14 @@ use Rattle.aml_meaning.specs.Run.{Run, running}
 use Rattle.aml_meaning.specs.declared.flow.Flow.TheVariants as flow
 use Rattle.aml_meaning.specs.Tasks.{Task, task, goes_on, in_turn, operand_value}
 use Rattle.aml_meaning.specs.DataTerms.{element_by, elements_in_turn}
-use Rattle.aml_meaning.specs.Invocations.{arguments_in_turn, leaving, left, returned_by, invocation_found}
+use Rattle.aml_meaning.specs.Invocations.{leaving, left, returned_by}
+use Rattle.aml_meaning.specs.InvocationTerms.{arguments_in_turn}
+use Rattle.aml_meaning.specs.FieldCalls.{asked, answer_over, answer_within}
+use Rattle.aml_meaning.specs.FieldTerms.{element_laid, elements_laid, is_connection, has_connection}
+use Rattle.aml_meaning.specs.Terms.{count_of}
+use Rattle.aml_meaning.specs.declared.field_layout.FieldLayout.{FieldLayout}
+use Rattle.aml_meaning.specs.declared.field_layout.FieldGroup.{FieldGroup}
+use Rattle.aml_meaning.specs.declared.invocation.Invocation.{Invocation}
 use Rattle.aml_meaning.specs.StatementTerms.{turn, after_turn, loop}
 use Rattle.aml_meaning.specs.Loops.{turn_and_loop, loop_is}
 use Rattle.aml_objects.specs.declared.value.Value.{Value}
@@ -76,16 +86,16 @@ module _ {S : Type 0} (ev : Task → Run S Flow) where
   unfolding arguments_in_turn give
   arguments_end scope depth ts done h e = record { is = λ _. h.is ∙ rw e refl }
 
-pub same_turn : {S : Type 0} {m : Run S Flow} {s0 s : State S × ℕ} (scope : List Seg) (depth : ℕ) (c : Tree) (ts : Trees) → Same m s0 (loop meaning scope depth c ts) s → Same m s0 (turn_and_loop scope depth c ts) s
-same_turn scope depth c ts h = record { is = h.is ∙ loop_is scope depth c ts _ }
+pub same_turn : {S : Type 0} {m : Run S Flow} {s0 s : State S × ℕ} (accesses : Accesses S) (scope : List Seg) (depth : ℕ) (c : Tree) (ts : Trees) → Same m s0 (loop (meaning accesses) scope depth c ts) s → Same m s0 (turn_and_loop accesses scope depth c ts) s
+same_turn accesses scope depth c ts h = record { is = h.is ∙ loop_is accesses scope depth c ts _ }
 
-pub same_after : {S : Type 0} {m : Run S Flow} {s0 s : State S × ℕ} (o : Option Flow) (again : Run S Flow) → Same m s0 (after_turn meaning o again) s → o ≡ None → Same m s0 again s
-same_after None again h e = h
-same_after (Some f) again h e = absurd (cc e)
+pub same_after : {S : Type 0} {m : Run S Flow} {s0 s : State S × ℕ} (accesses : Accesses S) (o : Option Flow) (again : Run S Flow) → Same m s0 (after_turn (meaning accesses) o again) s → o ≡ None → Same m s0 again s
+same_after accesses None again h e = h
+same_after accesses (Some f) again h e = absurd (cc e)
 
-pub same_ended : {S : Type 0} {m : Run S Flow} {s0 s : State S × ℕ} (o : Option Flow) (f : Flow) (again : Run S Flow) → Same m s0 (after_turn meaning o again) s → o ≡ Some f → Same m s0 (give f) s
-same_ended None f again h e = absurd (cc e)
-same_ended {s = s} (Some x) f again h e = record { is = h.is ∙ ap (λ y. after_turn meaning y again s) e }
+pub same_ended : {S : Type 0} {m : Run S Flow} {s0 s : State S × ℕ} (accesses : Accesses S) (o : Option Flow) (f : Flow) (again : Run S Flow) → Same m s0 (after_turn (meaning accesses) o again) s → o ≡ Some f → Same m s0 (give f) s
+same_ended accesses None f again h e = absurd (cc e)
+same_ended {s = s} accesses (Some x) f again h e = record { is = h.is ∙ ap (λ y. after_turn (meaning accesses) y again s) e }
 
 returned : (r : Outcome Flow) → NotMemory (seen returned_by r) → NotMemory r
 returned (Ok f) ne = tt
@@ -95,11 +105,60 @@ pub does_leaving : {S : Type 0} {w1 : State S} {rest : ℕ} {s : State S × ℕ}
 unfolding leaving
 does_leaving r p m h = record { is = λ ne. rw (h.is (returned r ne)) refl }
 
-pub ruleset evaluating = (running, does_meaning, does_leaving)
+-- ---- lists of fields
+
+pub fewer : {t : Tree} {us : Trees} (ts : Trees) → ts ≡ tree t us → count_of us < count_of ts
+fewer ts e = rw e (omega arith)
+
+pub same_laid : {S : Type 0} {m : Change (State S) (Unit {0})} {w0 w : State S} (group : FieldGroup) (scope : List Seg) (depth : ℕ) (at : FieldLayout) (ts : Trees) {t : Tree} {us : Trees} → Same m w0 (elements_laid group scope depth at ts) w → ts ≡ tree t us
+    → Same m w0 (element_laid group scope depth (code_of t) at t >>= (λ next. elements_laid group scope depth next us)) w
+unfolding elements_laid
+same_laid group scope depth at ts h e = record { is = h.is ∙ rw e refl }
+
+pub laid_end : {S : Type 0} {m : Change (State S) (Unit {0})} {w0 w : State S} (group : FieldGroup) (scope : List Seg) (depth : ℕ) (at : FieldLayout) (ts : Trees) → Same m w0 (elements_laid group scope depth at ts) w → ts ≡ no_trees → Does (Ok tt) w m w0
+unfolding elements_laid give
+laid_end group scope depth at ts h e = record { is = λ _. h.is ∙ rw e refl }
+
+pub laid_by : {S : Type 0} {r : Outcome FieldLayout} {w w1 : State S} (group : FieldGroup) (scope : List Seg) (depth : ℕ) (k c : TermCode) (at : FieldLayout) (t : Tree) → k ≡ c → Does r w1 (element_laid group scope depth k at t) w → Does r w1 (element_laid group scope depth c at t) w
+laid_by group scope depth k c at t e h = rw (← e) h
+
+pub connected : {t : Tree} {us : Trees} (ts : Trees) → ts ≡ tree t us → has_connection ts ≡ (is_connection (code_of t) || has_connection us)
+unfolding has_connection
+connected ts e = rw e refl
+
+pub or_true : (c k : TermCode) (b : Bool) → is_connection k ≡ true → k ≡ c → (is_connection c || b) ≡ true
+or_true c k b h e = rw (← e, h) refl
+
+pub or_false : (c k : TermCode) (b : Bool) → is_connection k ≡ false → k ≡ c → (is_connection c || b) ≡ b
+or_false c k b h e = rw (← e, h) refl
+
+pub unconnected_end : (ts : Trees) → ts ≡ no_trees → has_connection ts ≡ false
+unfolding has_connection
+unconnected_end ts e = rw e refl
+
+-- ---- calls that an address takes
+
+answer_is : {S : Type 0} (accesses : Accesses S) (n : ℕ) (i : Invocation) (s : State S × ℕ) → 0 < n → answer_within accesses (meaning accesses) n i s ≡ answer_over accesses (meaning accesses) (n - 1) (asked (answer_within accesses (meaning accesses) (n - 1))) i s
+unfolding answer_within
+answer_is accesses zero i s l = absurd (omega arith)
+answer_is accesses (suc n) i s l = rw sub-one refl
+
+answer_none : {S : Type 0} (accesses : Accesses S) (n : ℕ) (i : Invocation) (s : State S × ℕ) → n ≡ 0 → answer_within accesses (meaning accesses) n i s ≡ (Err (refusal.Evaluation CallDepth), s)
+unfolding answer_within stop
+answer_none accesses n i s e = rw e refl
+
+pub does_answer : {S : Type 0} {r : Outcome ℕ} {s1 : State S × ℕ} (accesses : Accesses S) (n : ℕ) (i : Invocation) (s : State S × ℕ) → 0 < n → Does r s1 (answer_over accesses (meaning accesses) (n - 1) (asked (answer_within accesses (meaning accesses) (n - 1))) i) s
+    → Does r s1 (answer_within accesses (meaning accesses) n i) s
+does_answer accesses n i s l h = record { is = λ ne. answer_is accesses n i s l ∙ h.is ne }
+
+pub does_not_answer : {S : Type 0} (accesses : Accesses S) (n : ℕ) (i : Invocation) {s : State S × ℕ} → n ≡ 0 → Does (Err (refusal.Evaluation CallDepth)) s (answer_within accesses (meaning accesses) n i) s
+does_not_answer accesses n i {s} e = record { is = λ _. answer_none accesses n i s e }
+
+pub ruleset evaluating = (running, does_meaning, does_leaving, does_answer, does_not_answer)
 
 -- arguments are counted before they are looked at
-pub does_answered : {S : Type 0} {r : Outcome Given} {w w1 : State S} (p : List Seg) (arguments : List Datum) (steps : ℕ) → Does r w1 (ending (with_steps steps (handed_out p (length arguments) (map given_of arguments)))) w → Does r w1 (answered p (map given_of arguments) steps) w
+pub does_answered : {S : Type 0} {r : Outcome Given} {w w1 : State S} (accesses : Accesses S) (p : List Seg) (arguments : List Datum) (steps : ℕ) → Does r w1 (ending (with_steps steps (handed_out accesses p (length arguments) (map given_of arguments)))) w → Does r w1 (answered accesses p (map given_of arguments) steps) w
 unfolding answered
-does_answered p arguments steps h = rw (length-map arguments given_of) h
+does_answered accesses p arguments steps h = rw (length-map arguments given_of) h
 
 pub ruleset answering = (calling, does_answered)

@@ -5,21 +5,22 @@ ghost use Rattle.ar_space.specs.Change.{Does};
 ghost use Rattle.aml_meaning.specs.Given.{given_of};
 ghost use Rattle.aml_meaning.specs.Readings.{absolute};
 ghost use Rattle.aml_meaning.specs.Invocations.{invocation_found};
-ghost use Rattle.aml_meaning.specs.Calling.{called, counted, evaluated, with_rest, with_steps, handed_out, answered, value_of, method_value, value_of_call};
+ghost use Rattle.aml_meaning.specs.Calling.{called, counted, evaluated, with_rest, with_steps, handed_out, answered, value_of};
 
-use crate::invocations::eval_invoked;
+use crate::field_calls::eval_field_read;
+use crate::invocations::eval_method_value;
 use crate::outward::outward;
-use aml_meaning::{Datum, Flow, Invocation, World};
-use aml_objects::{BodyPlace, Value};
+use aml_meaning::{Datum, Invocation, World};
+use aml_objects::Value;
 use aml_path::{NameString, Path, Prefix};
 use ar_space::{Refusal, Space};
 use std::alloc::Global;
 
 /// The value of the object at a path, and how many of the steps are left.
 ///
-/// A name that holds a value has that value, any other is a reference to it; reading one costs no step. An alias at the path
-/// stands for its target. Refused: `NotFound` where nothing stands at the path, `ArityChanged` where it takes another number
-/// of arguments, `Unsupported` of a control method.
+/// A control method is called. A name that holds a value has that value, a field unit its bits, any other is a reference to
+/// it; reading one costs no step, but what the address of a field calls does. An alias at the path stands for its target. Refused: `NotFound` where nothing stands at the
+/// path, `ArityChanged` where it takes another number of arguments, and as its evaluation is.
 #[tactic(auto, using(aml_meaning::specs::Calling::calling), unfolding(aml_meaning::specs::Calling::evaluated))]
 pub fn eval<S: Space>(
     alloc: Global,
@@ -28,7 +29,7 @@ pub fn eval<S: Space>(
     arguments: Vec<Value>,
     budget: u64,
 ) -> Result<(Value, u64), Refusal>
-    ensures { Does result world.new (evaluated path.now arguments.items budget) world.old }
+    ensures { Does result world.new (evaluated S.accesses path.now arguments.items budget) world.old }
 {
     let mut rest = budget;
     let value = call(alloc, world, &mut rest, path, &arguments);
@@ -57,7 +58,7 @@ pub fn answer<S: Space>(
     arguments: Vec<Datum>,
     budget: u64,
 ) -> Result<Datum, Refusal>
-    ensures { Does (seen given_of result) world.new (answered path.now (map given_of arguments.items) budget) world.old }
+    ensures { Does (seen given_of result) world.new (answered S.accesses path.now (map given_of arguments.items) budget) world.old }
 {
     let outcome = with_steps(alloc, world, path, &arguments, budget);
     world.release_mutexes();
@@ -72,7 +73,7 @@ fn with_steps<S: Space>(
     arguments: &[Datum],
     steps: u64,
 ) -> Result<Datum, Refusal>
-    ensures { Does (seen given_of result) world.new (with_steps steps (handed_out path.now (length arguments.now) (map given_of arguments.now))) world.old }
+    ensures { Does (seen given_of result) world.new (with_steps steps (handed_out S.accesses path.now (length arguments.now) (map given_of arguments.now))) world.old }
 {
     let mut budget = steps;
     handed_out(alloc, world, &mut budget, path, arguments)
@@ -86,7 +87,7 @@ fn handed_out<S: Space>(
     path: &Path,
     arguments: &[Datum],
 ) -> Result<Datum, Refusal>
-    ensures { Does (seen given_of result) (world.new, budget.new) (handed_out path.now (length arguments.now) (map given_of arguments.now)) (world.old, budget.old) }
+    ensures { Does (seen given_of result) (world.new, budget.new) (handed_out S.accesses path.now (length arguments.now) (map given_of arguments.now)) (world.old, budget.old) }
 {
     let invocation = invocation(alloc, world, path, arguments.len())?;
     let values = world.take_all(alloc, arguments)?;
@@ -103,14 +104,14 @@ fn call<S: Space>(
     path: &Path,
     arguments: &[Value],
 ) -> Result<Value, Refusal>
-    ensures { Does result (world.new, budget.new) (called path.now arguments.now) (world.old, budget.old) }
+    ensures { Does result (world.new, budget.new) (called S.accesses path.now arguments.now) (world.old, budget.old) }
 {
     let invocation = invocation(alloc, world, path, arguments.len())?;
     value_of(alloc, world, budget, invocation, arguments)
 }
 
 /// What the object at a path is that is asked for with so many arguments.
-fn invocation<S: Space>(
+pub(crate) fn invocation<S: Space>(
     alloc: Global,
     world: &World<S>,
     path: &Path,
@@ -132,41 +133,14 @@ fn value_of<S: Space>(
     invocation: Invocation,
     arguments: &[Value],
 ) -> Result<Value, Refusal>
-    ensures { Does result (world.new, budget.new) (value_of invocation arguments.now) (world.old, budget.old) }
+    ensures { Does result (world.new, budget.new) (value_of S.accesses invocation arguments.now) (world.old, budget.old) }
 {
     match invocation {
         Invocation::Value(value) => Ok(value),
+        Invocation::FieldUnit(unit) => eval_field_read(alloc, world, budget, 1, unit),
         Invocation::Method(path, body) => {
-            method_value(alloc, world, budget, &path, body, arguments)
+            eval_method_value(alloc, world, budget, 0, &path, body, arguments)
         }
-    }
-}
-
-/// The outermost call of a control method.
-#[tactic(auto, using(aml_meaning::specs::Calling::calling), unfolding(aml_meaning::specs::Calling::method_value))]
-fn method_value<S: Space>(
-    alloc: Global,
-    world: &mut World<S>,
-    budget: &mut u64,
-    path: &Path,
-    body: BodyPlace,
-    arguments: &[Value],
-) -> Result<Value, Refusal>
-    ensures { Does result (world.new, budget.new) (method_value path.now body arguments.now) (world.old, budget.old) }
-{
-    let flow = eval_invoked(alloc, world, budget, 0, path, body, arguments)?;
-    Ok(value_of_call(flow))
-}
-
-fn value_of_call(flow: Flow) -> Value
-    ensures { result ≡ value_of_call flow }
-{
-    match flow {
-        Flow::Value(value) => value,
-        Flow::Next => Value::Uninitialized,
-        Flow::Break => Value::Uninitialized,
-        Flow::Continue => Value::Uninitialized,
-        Flow::Return(_) => Value::Uninitialized,
     }
 }
 

@@ -30,7 +30,7 @@ pub(crate) fn eval_data<S: Space>(
     kind: DataKind,
 ) -> Result<Flow, Refusal>
     ensures spent { budget.new ≤ budget.old }
-    ensures means { Does result (world.new, budget.new) (data_rule meaning kind scope.now depth (part_tree term.entry)) (world.old, budget.old) }
+    ensures means { Does result (world.new, budget.new) (data_rule (meaning S.accesses) kind scope.now depth (part_tree term.entry)) (world.old, budget.old) }
 {
     match kind {
         DataKind::Constant(number) => eval_constant(world, *budget, number),
@@ -45,7 +45,7 @@ pub(crate) fn eval_data<S: Space>(
 /// An integer that an opcode says.
 #[tactic(auto, using(crate::specs::Steps::evaluating), unfolding(aml_meaning::specs::DataTerms::constant_rule))]
 fn eval_constant<S: Space>(world: &World<S>, budget: u64, number: u64) -> Result<Flow, Refusal>
-    ensures { Does result (world.now, budget) (constant_rule meaning number) (world.now, budget) }
+    ensures { Does result (world.now, budget) (constant_rule (meaning S.accesses) number) (world.now, budget) }
 {
     let value = world.integer_kept(number)?;
     Ok(Flow::Value(value))
@@ -54,7 +54,7 @@ fn eval_constant<S: Space>(world: &World<S>, budget: u64, number: u64) -> Result
 /// An integer that follows its opcode.
 #[tactic(auto, using(crate::specs::Steps::evaluating), unfolding(aml_meaning::specs::DataTerms::integer_rule))]
 fn eval_integer<S: Space>(world: &World<S>, budget: u64, term: Reader<'_>) -> Result<Flow, Refusal>
-    ensures { Does result (world.now, budget) (integer_rule meaning (part_tree term.entry)) (world.now, budget) }
+    ensures { Does result (world.now, budget) (integer_rule (meaning S.accesses) (part_tree term.entry)) (world.now, budget) }
 {
     let number = number(term, 0)?;
     eval_constant(world, budget, number)
@@ -67,7 +67,7 @@ fn eval_string<S: Space>(
     budget: u64,
     term: Reader<'_>,
 ) -> Result<Flow, Refusal>
-    ensures { Does result (world.new, budget) (string_rule meaning (part_tree term.entry)) (world.old, budget) }
+    ensures { Does result (world.new, budget) (string_rule (meaning S.accesses) (part_tree term.entry)) (world.old, budget) }
 {
     let text = bytes(alloc, term, 0)?;
     let value = world.make_string(text)?;
@@ -85,7 +85,7 @@ fn eval_buffer<S: Space>(
     term: Reader<'_>,
 ) -> Result<Flow, Refusal>
     ensures spent { budget.new ≤ budget.old }
-    ensures means { Does result (world.new, budget.new) (buffer_rule meaning scope.now depth (part_tree term.entry)) (world.old, budget.old) }
+    ensures means { Does result (world.new, budget.new) (buffer_rule (meaning S.accesses) scope.now depth (part_tree term.entry)) (world.old, budget.old) }
 {
     let size = inner(term, 0)?;
     let length = eval_operand_integer(alloc, world, budget, scope, depth, size)?;
@@ -105,7 +105,7 @@ fn eval_package<S: Space>(
     term: Reader<'_>,
 ) -> Result<Flow, Refusal>
     ensures spent { budget.new ≤ budget.old }
-    ensures means { Does result (world.new, budget.new) (package_rule meaning scope.now depth (part_tree term.entry)) (world.old, budget.old) }
+    ensures means { Does result (world.new, budget.new) (package_rule (meaning S.accesses) scope.now depth (part_tree term.entry)) (world.old, budget.old) }
 {
     let count = number(term, 0)?;
     let elements = list(term, 1)?;
@@ -123,7 +123,7 @@ fn eval_var_package<S: Space>(
     term: Reader<'_>,
 ) -> Result<Flow, Refusal>
     ensures spent { budget.new ≤ budget.old }
-    ensures means { Does result (world.new, budget.new) (var_package_rule meaning scope.now depth (part_tree term.entry)) (world.old, budget.old) }
+    ensures means { Does result (world.new, budget.new) (var_package_rule (meaning S.accesses) scope.now depth (part_tree term.entry)) (world.old, budget.old) }
 {
     let size = inner(term, 0)?;
     let count = eval_operand_integer(alloc, world, budget, scope, depth, size)?;
@@ -145,7 +145,7 @@ fn package_of<S: Space>(
     list: Reader<'_>,
 ) -> Result<Flow, Refusal>
     ensures spent { budget.new ≤ budget.old }
-    ensures means { Does result (world.new, budget.new) (package_of meaning scope.now depth count (part_list list.entry)) (world.old, budget.old) }
+    ensures means { Does result (world.new, budget.new) (package_of (meaning S.accesses) scope.now depth count (part_list list.entry)) (world.old, budget.old) }
 {
     let elements = eval_elements(alloc, world, budget, scope, depth, count, list)?;
     let value = world.new_package(count, elements)?;
@@ -165,7 +165,7 @@ fn eval_elements<S: Space>(
     list: Reader<'_>,
 ) -> Result<Elements, Refusal>
     ensures spent { budget.new ≤ budget.old }
-    ensures means { Does result (world.new, budget.new) (elements_in_turn meaning scope.now depth count (part_list list.entry) []) (world.old, budget.old) }
+    ensures means { Does result (world.new, budget.new) (elements_in_turn (meaning S.accesses) scope.now depth count (part_list list.entry) []) (world.old, budget.old) }
 {
     let mut elements = Elements::new(alloc);
     let mut left = count;
@@ -198,7 +198,7 @@ fn eval_element<S: Space>(
 ) -> Result<Element, Refusal>
     ensures spent { budget.new ≤ budget.old }
     ensures paid { OnOk result (budget.new < budget.old) }
-    ensures means { Does result (world.new, budget.new) (element_by meaning code scope.now depth (part_tree term.entry)) (world.old, budget.old) }
+    ensures means { Does result (world.new, budget.new) (element_by (meaning S.accesses) code scope.now depth (part_tree term.entry)) (world.old, budget.old) }
 {
     match code {
         TermCode::Name => named_element(alloc, world, budget, scope, term),
@@ -223,7 +223,7 @@ fn named_element<S: Space>(
 ) -> Result<Element, Refusal>
     ensures spent { budget.new ≤ budget.old }
     ensures paid { OnOk result (budget.new < budget.old) }
-    ensures means { Does result (world.now, budget.new) (named_element meaning scope.now (part_tree term.entry)) (world.now, budget.old) }
+    ensures means { Does result (world.now, budget.new) (named_element (meaning S.accesses) scope.now (part_tree term.entry)) (world.now, budget.old) }
 {
     charge(world, budget)?;
     let name = term.name(alloc, 0)?;
@@ -242,7 +242,7 @@ fn valued_element<S: Space>(
 ) -> Result<Element, Refusal>
     ensures spent { budget.new ≤ budget.old }
     ensures paid { OnOk result (budget.new < budget.old) }
-    ensures means { Does result (world.new, budget.new) (valued_element meaning scope.now depth (part_tree term.entry)) (world.old, budget.old) }
+    ensures means { Does result (world.new, budget.new) (valued_element (meaning S.accesses) scope.now depth (part_tree term.entry)) (world.old, budget.old) }
 {
     let value = eval_value(alloc, world, budget, scope, depth, term)?;
     Ok(Element::Value(value))

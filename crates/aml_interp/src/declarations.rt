@@ -29,7 +29,7 @@ pub(crate) fn eval_declaration<S: Space>(
     kind: DeclarationKind,
 ) -> Result<Flow, Refusal>
     ensures spent { budget.new ≤ budget.old }
-    ensures means { Does result (world.new, budget.new) (declaration_rule meaning kind scope.now depth (part_tree term.entry)) (world.old, budget.old) }
+    ensures means { Does result (world.new, budget.new) (declaration_rule (meaning S.accesses) kind scope.now depth (part_tree term.entry)) (world.old, budget.old) }
 {
     match kind {
         DeclarationKind::Scope => eval_scope(alloc, world, budget, scope, depth, term),
@@ -112,7 +112,7 @@ pub(crate) fn eval_declaration<S: Space>(
 
 /// A name that the term's first operand declares.
 #[tactic(auto, using(crate::specs::Steps::evaluating), unfolding(aml_meaning::specs::DeclarationTerms::declaring))]
-fn eval_declaring<S: Space>(
+pub(crate) fn eval_declaring<S: Space>(
     alloc: Global,
     world: &mut World<S>,
     budget: u64,
@@ -121,7 +121,7 @@ fn eval_declaring<S: Space>(
     term: Reader<'_>,
     object: NamedObject,
 ) -> Result<Flow, Refusal>
-    ensures { Does result (world.new, budget) (declaring meaning scope.now depth (part_tree term.entry) object) (world.old, budget) }
+    ensures { Does result (world.new, budget) (declaring (meaning S.accesses) scope.now depth (part_tree term.entry) object) (world.old, budget) }
 {
     let name = term.name(alloc, 0)?;
     let path = name.resolve_in(alloc, scope)?;
@@ -140,7 +140,7 @@ fn eval_name<S: Space>(
     term: Reader<'_>,
 ) -> Result<Flow, Refusal>
     ensures spent { budget.new ≤ budget.old }
-    ensures means { Does result (world.new, budget.new) (name_rule meaning scope.now depth (part_tree term.entry)) (world.old, budget.old) }
+    ensures means { Does result (world.new, budget.new) (name_rule (meaning S.accesses) scope.now depth (part_tree term.entry)) (world.old, budget.old) }
 {
     let datum = inner(term, 1)?;
     let value = eval_value(alloc, world, budget, scope, depth, datum)?;
@@ -164,7 +164,7 @@ fn eval_alias<S: Space>(
     depth: usize,
     term: Reader<'_>,
 ) -> Result<Flow, Refusal>
-    ensures { Does result (world.new, budget) (alias_rule meaning scope.now depth (part_tree term.entry)) (world.old, budget) }
+    ensures { Does result (world.new, budget) (alias_rule (meaning S.accesses) scope.now depth (part_tree term.entry)) (world.old, budget) }
 {
     let source = term.name(alloc, 0)?;
     let target = world.locate(alloc, scope, &source)?;
@@ -183,7 +183,7 @@ fn eval_method<S: Space>(
     depth: usize,
     term: Reader<'_>,
 ) -> Result<Flow, Refusal>
-    ensures { Does result (world.new, budget) (method_rule meaning scope.now depth (part_tree term.entry)) (world.old, budget) }
+    ensures { Does result (world.new, budget) (method_rule (meaning S.accesses) scope.now depth (part_tree term.entry)) (world.old, budget) }
 {
     let name = term.name(alloc, 0)?;
     let path = name.resolve_in(alloc, scope)?;
@@ -205,7 +205,7 @@ fn eval_scope<S: Space>(
     term: Reader<'_>,
 ) -> Result<Flow, Refusal>
     ensures spent { budget.new ≤ budget.old }
-    ensures means { Does result (world.new, budget.new) (scope_rule meaning scope.now depth (part_tree term.entry)) (world.old, budget.old) }
+    ensures means { Does result (world.new, budget.new) (scope_rule (meaning S.accesses) scope.now depth (part_tree term.entry)) (world.old, budget.old) }
 {
     let name = term.name(alloc, 0)?;
     let path = world.locate_scope(alloc, scope, &name)?;
@@ -227,7 +227,7 @@ fn eval_new_scope<S: Space>(
     place: usize,
 ) -> Result<Flow, Refusal>
     ensures spent { budget.new ≤ budget.old }
-    ensures means { Does result (world.new, budget.new) (new_scope meaning object place scope.now depth (part_tree term.entry)) (world.old, budget.old) }
+    ensures means { Does result (world.new, budget.new) (new_scope (meaning S.accesses) object place scope.now depth (part_tree term.entry)) (world.old, budget.old) }
 {
     let name = term.name(alloc, 0)?;
     let path = name.resolve_in(alloc, scope)?;

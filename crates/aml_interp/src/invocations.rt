@@ -8,23 +8,25 @@ ghost use Rattle.aml_terms.specs.View.{tree_view};
 ghost use Rattle.aml_objects.specs.declared.value.Value.TheVariants.{Uninitialized};
 ghost use Rattle.aml_meaning.specs.Meaning.{meaning};
 ghost use Rattle.aml_meaning.specs.Tasks.{in_turn};
-ghost use Rattle.aml_meaning.specs.Invocations.{shallow, frame_arguments, arguments_in_turn, returned_by, leaving, invoked, call_rule, invocation_rule, name_value};
+ghost use Rattle.aml_meaning.specs.Invocations.{shallow, frame_arguments, returned_by, leaving, invoked, value_of_call, method_value};
+ghost use Rattle.aml_meaning.specs.InvocationTerms.{arguments_in_turn, call_rule, field_rule, invocation_rule, name_value};
 
+use crate::field_calls::eval_field_read;
 use crate::operands::{Reader, as_many, list};
 use crate::terms::{eval_list, eval_value};
 use aml_meaning::{Flow, Invocation, World};
-use aml_objects::{BodyPlace, Value};
+use aml_objects::{BodyPlace, FieldUnit, Value};
 use aml_path::Path;
 use aml_terms::{Term, TermReader};
 use ar_space::{EvaluationFault, Refusal, Space};
 use std::alloc::Global;
 
 /// How many control methods may be called one inside another.
-const MAX_DEPTH: usize = 32;
+pub(crate) const MAX_DEPTH: usize = 32;
 
 /// A name where a value stands, and its arguments.
 #[cycle(evaluation)]
-#[tactic(auto, using(crate::specs::Steps::evaluating), unfolding(aml_meaning::specs::Invocations::name_value))]
+#[tactic(auto, using(crate::specs::Steps::evaluating), unfolding(aml_meaning::specs::InvocationTerms::name_value))]
 pub(crate) fn eval_name_value<S: Space>(
     alloc: Global,
     world: &mut World<S>,
@@ -34,7 +36,7 @@ pub(crate) fn eval_name_value<S: Space>(
     term: Reader<'_>,
 ) -> Result<Flow, Refusal>
     ensures spent { budget.new ≤ budget.old }
-    ensures means { Does result (world.new, budget.new) (name_value meaning scope.now depth (part_tree term.entry)) (world.old, budget.old) }
+    ensures means { Does result (world.new, budget.new) (name_value S.accesses (meaning S.accesses) scope.now depth (part_tree term.entry)) (world.old, budget.old) }
 {
     let name = term.name(alloc, 0)?;
     let arguments = list(term, 1)?;
@@ -56,18 +58,36 @@ fn eval_invocation<S: Space>(
     invocation: Invocation,
 ) -> Result<Flow, Refusal>
     ensures spent { budget.new ≤ budget.old }
-    ensures means { Does result (world.new, budget.new) (invocation_rule meaning scope.now depth (part_list arguments.entry) invocation) (world.old, budget.old) }
+    ensures means { Does result (world.new, budget.new) (invocation_rule S.accesses (meaning S.accesses) scope.now depth (part_list arguments.entry) invocation) (world.old, budget.old) }
 {
     match invocation {
         Invocation::Value(value) => Ok(Flow::Value(value)),
+        Invocation::FieldUnit(unit) => eval_field(alloc, world, budget, depth, unit),
         Invocation::Method(path, body) => {
             eval_call(alloc, world, budget, scope, depth, arguments, &path, body)
         }
     }
 }
 
+/// The bits of a field unit, as a value.
 #[cycle(evaluation)]
-#[tactic(auto, using(crate::specs::Steps::evaluating), unfolding(aml_meaning::specs::Invocations::call_rule))]
+#[tactic(auto, using(crate::specs::Steps::evaluating), unfolding(aml_meaning::specs::InvocationTerms::field_rule))]
+fn eval_field<S: Space>(
+    alloc: Global,
+    world: &mut World<S>,
+    budget: &mut u64,
+    depth: usize,
+    unit: FieldUnit,
+) -> Result<Flow, Refusal>
+    ensures spent { budget.new ≤ budget.old }
+    ensures means { Does result (world.new, budget.new) (field_rule S.accesses (meaning S.accesses) depth unit) (world.old, budget.old) }
+{
+    let value = eval_field_read(alloc, world, budget, depth, unit)?;
+    Ok(Flow::Value(value))
+}
+
+#[cycle(evaluation)]
+#[tactic(auto, using(crate::specs::Steps::evaluating), unfolding(aml_meaning::specs::InvocationTerms::call_rule))]
 fn eval_call<S: Space>(
     alloc: Global,
     world: &mut World<S>,
@@ -79,7 +99,7 @@ fn eval_call<S: Space>(
     body: BodyPlace,
 ) -> Result<Flow, Refusal>
     ensures spent { budget.new ≤ budget.old }
-    ensures means { Does result (world.new, budget.new) (call_rule meaning scope.now depth (part_list arguments.entry) path.now body) (world.old, budget.old) }
+    ensures means { Does result (world.new, budget.new) (call_rule (meaning S.accesses) scope.now depth (part_list arguments.entry) path.now body) (world.old, budget.old) }
 {
     let values = eval_arguments(alloc, world, budget, scope, depth, arguments)?;
     eval_invoked(alloc, world, budget, depth, path, body, &values)
@@ -97,7 +117,7 @@ fn eval_arguments<S: Space>(
     arguments: Reader<'_>,
 ) -> Result<Vec<Value>, Refusal>
     ensures spent { budget.new ≤ budget.old }
-    ensures means { Does (seen (λ list. list.items) result) (world.new, budget.new) (arguments_in_turn meaning scope.now depth (part_list arguments.entry) []) (world.old, budget.old) }
+    ensures means { Does (seen (λ list. list.items) result) (world.new, budget.new) (arguments_in_turn (meaning S.accesses) scope.now depth (part_list arguments.entry) []) (world.old, budget.old) }
 {
     let mut values = Vec::new(alloc);
     let mut rest = arguments;
@@ -116,7 +136,7 @@ fn eval_arguments<S: Space>(
 /// The body of the control method at a path, in a frame of its own.
 #[cycle(evaluation)]
 #[tactic(auto, using(crate::specs::Steps::evaluating), unfolding(aml_meaning::specs::Invocations::invoked))]
-pub(crate) fn eval_invoked<S: Space>(
+fn eval_invoked<S: Space>(
     alloc: Global,
     world: &mut World<S>,
     budget: &mut u64,
@@ -126,12 +146,43 @@ pub(crate) fn eval_invoked<S: Space>(
     arguments: &[Value],
 ) -> Result<Flow, Refusal>
     ensures spent { budget.new ≤ budget.old }
-    ensures means { Does result (world.new, budget.new) (invoked meaning depth path.now body arguments.now) (world.old, budget.old) }
+    ensures means { Does result (world.new, budget.new) (invoked (meaning S.accesses) depth path.now body arguments.now) (world.old, budget.old) }
 {
     shallow(depth)?;
     let terms = world.read_body(alloc, path, body)?;
     world.open_frame(frame_arguments(arguments))?;
     eval_body(alloc, world, budget, depth + 1, path, &terms)
+}
+
+/// The value of a call of the control method at a path.
+#[cycle(evaluation)]
+#[tactic(auto, using(crate::specs::Steps::evaluating), unfolding(aml_meaning::specs::Invocations::method_value))]
+pub(crate) fn eval_method_value<S: Space>(
+    alloc: Global,
+    world: &mut World<S>,
+    budget: &mut u64,
+    depth: usize,
+    path: &Path,
+    body: BodyPlace,
+    arguments: &[Value],
+) -> Result<Value, Refusal>
+    ensures spent { budget.new ≤ budget.old }
+    ensures means { Does result (world.new, budget.new) (method_value (meaning S.accesses) depth path.now body arguments.now) (world.old, budget.old) }
+{
+    let flow = eval_invoked(alloc, world, budget, depth, path, body, arguments)?;
+    Ok(value_of_call(flow))
+}
+
+fn value_of_call(flow: Flow) -> Value
+    ensures { result ≡ value_of_call flow }
+{
+    match flow {
+        Flow::Value(value) => value,
+        Flow::Next => Value::Uninitialized,
+        Flow::Break => Value::Uninitialized,
+        Flow::Continue => Value::Uninitialized,
+        Flow::Return(_) => Value::Uninitialized,
+    }
 }
 
 /// However the body ends, its frame ends, and the names below the control method are removed.
@@ -146,7 +197,7 @@ fn eval_body<S: Space>(
     terms: &[Term],
 ) -> Result<Flow, Refusal>
     ensures spent { budget.new ≤ budget.old }
-    ensures means { Does result (world.new, budget.new) (leaving path.now (in_turn meaning path.now depth (trees_of (map tree_view terms.now)))) (world.old, budget.old) }
+    ensures means { Does result (world.new, budget.new) (leaving path.now (in_turn (meaning S.accesses) path.now depth (trees_of (map tree_view terms.now)))) (world.old, budget.old) }
 {
     let outcome = eval_list(alloc, world, budget, path, depth, Reader::List(terms));
     world.leave(path);

@@ -4,12 +4,16 @@
 mod answers;
 mod data;
 mod declarations;
+mod field_calls;
+mod fields;
+mod index_fields;
 mod invocations;
 mod loading;
 mod operands;
 mod operators;
 mod outward;
 mod places;
+mod regions;
 mod statements;
 mod terms;
 #[cfg(test)]

@@ -28,7 +28,7 @@ pub fn load<S: Space>(
     table: &[u8],
     steps: u64,
 ) -> Result<(), Refusal>
-    ensures { Does result world.new (loaded table.now steps) world.old }
+    ensures { Does result world.new (loaded S.accesses table.now steps) world.old }
 {
     let outcome = table_run(alloc, world, table, steps);
     world.release_mutexes();
@@ -42,7 +42,7 @@ fn table_run<S: Space>(
     table: &[u8],
     steps: u64,
 ) -> Result<(), Refusal>
-    ensures { Does result world.new (table_run steps table.now) world.old }
+    ensures { Does result world.new (table_run S.accesses steps table.now) world.old }
 {
     let terms = world.read_table(alloc, table)?;
     in_frame(alloc, world, &terms, steps)
@@ -56,7 +56,7 @@ fn in_frame<S: Space>(
     terms: &[Term],
     steps: u64,
 ) -> Result<(), Refusal>
-    ensures { Does result world.new (in_frame (replicate 7 Uninitialized) (with_steps steps (at_root (trees_of (map tree_view terms.now))))) world.old }
+    ensures { Does result world.new (in_frame (replicate 7 Uninitialized) (with_steps steps (at_root S.accesses (trees_of (map tree_view terms.now))))) world.old }
 {
     world.open_frame([Value::Uninitialized; 7])?;
     framed(alloc, world, terms, steps)
@@ -69,7 +69,7 @@ fn framed<S: Space>(
     terms: &[Term],
     steps: u64,
 ) -> Result<(), Refusal>
-    ensures { Does result world.new (framed (with_steps steps (at_root (trees_of (map tree_view terms.now))))) world.old }
+    ensures { Does result world.new (framed (with_steps steps (at_root S.accesses (trees_of (map tree_view terms.now))))) world.old }
 {
     let outcome = with_steps(alloc, world, terms, steps);
     world.close_frame();
@@ -83,7 +83,7 @@ fn with_steps<S: Space>(
     terms: &[Term],
     steps: u64,
 ) -> Result<(), Refusal>
-    ensures { Does result world.new (with_steps steps (at_root (trees_of (map tree_view terms.now)))) world.old }
+    ensures { Does result world.new (with_steps steps (at_root S.accesses (trees_of (map tree_view terms.now)))) world.old }
 {
     let mut budget = steps;
     at_root(alloc, world, &mut budget, terms)
@@ -96,7 +96,7 @@ fn at_root<S: Space>(
     budget: &mut u64,
     terms: &[Term],
 ) -> Result<(), Refusal>
-    ensures { Does result (world.new, budget.new) (at_root (trees_of (map tree_view terms.now))) (world.old, budget.old) }
+    ensures { Does result (world.new, budget.new) (at_root S.accesses (trees_of (map tree_view terms.now))) (world.old, budget.old) }
 {
     let root = Path::root(alloc);
     eval_list(alloc, world, budget, &root, 0, Reader::List(terms))?;

@@ -5,6 +5,7 @@ ghost use Rattle.aml_terms.specs.PartTree.{part_tree};
 ghost use Rattle.aml_meaning.specs.Meaning.{meaning};
 ghost use Rattle.aml_meaning.specs.OperatorTerms.{operator_rule, slot_rule, store_rule, copy_rule, two_rule, divide_rule, one_rule, test_rule, not_rule, count_rule, size_rule, type_rule, acquire_rule};
 
+use crate::field_calls::{eval_completed, eval_held, eval_stored_back};
 use crate::operands::Reader;
 use crate::places::{eval_place, eval_targeted};
 use crate::terms::{eval_two_values, eval_value_at};
@@ -27,7 +28,7 @@ pub(crate) fn eval_operator<S: Space>(
     kind: OperatorKind,
 ) -> Result<Flow, Refusal>
     ensures spent { budget.new ≤ budget.old }
-    ensures means { Does result (world.new, budget.new) (operator_rule meaning kind scope.now depth (part_tree term.entry)) (world.old, budget.old) }
+    ensures means { Does result (world.new, budget.new) (operator_rule S.accesses (meaning S.accesses) kind scope.now depth (part_tree term.entry)) (world.old, budget.old) }
 {
     match kind {
         OperatorKind::Slot(slot) => eval_slot(world, *budget, slot),
@@ -48,7 +49,7 @@ pub(crate) fn eval_operator<S: Space>(
 /// A local or an argument, where a value stands.
 #[tactic(auto, using(crate::specs::Steps::evaluating), unfolding(aml_meaning::specs::OperatorTerms::slot_rule))]
 fn eval_slot<S: Space>(world: &World<S>, budget: u64, slot: Slot) -> Result<Flow, Refusal>
-    ensures { Does result (world.now, budget) (slot_rule meaning slot) (world.now, budget) }
+    ensures { Does result (world.now, budget) (slot_rule S.accesses (meaning S.accesses) slot) (world.now, budget) }
 {
     let value = world.slot_read(slot)?;
     Ok(Flow::Value(value))
@@ -65,7 +66,7 @@ fn eval_store<S: Space>(
     term: Reader<'_>,
 ) -> Result<Flow, Refusal>
     ensures spent { budget.new ≤ budget.old }
-    ensures means { Does result (world.new, budget.new) (store_rule meaning scope.now depth (part_tree term.entry)) (world.old, budget.old) }
+    ensures means { Does result (world.new, budget.new) (store_rule S.accesses (meaning S.accesses) scope.now depth (part_tree term.entry)) (world.old, budget.old) }
 {
     let value = eval_value_at(alloc, world, budget, scope, depth, term, 0)?;
     eval_targeted(alloc, world, budget, scope, depth, term, 1, value)
@@ -82,11 +83,12 @@ fn eval_copy<S: Space>(
     term: Reader<'_>,
 ) -> Result<Flow, Refusal>
     ensures spent { budget.new ≤ budget.old }
-    ensures means { Does result (world.new, budget.new) (copy_rule meaning scope.now depth (part_tree term.entry)) (world.old, budget.old) }
+    ensures means { Does result (world.new, budget.new) (copy_rule S.accesses (meaning S.accesses) scope.now depth (part_tree term.entry)) (world.old, budget.old) }
 {
     let value = eval_value_at(alloc, world, budget, scope, depth, term, 0)?;
     let place = eval_place(alloc, world, budget, scope, depth, term, 1)?;
-    world.copy_to(alloc, &place, value)?;
+    let stored = world.copy_to(alloc, &place, value)?;
+    eval_completed(alloc, world, budget, depth, stored, value)?;
     Ok(Flow::Value(value))
 }
 
@@ -103,7 +105,7 @@ fn eval_two<S: Space>(
     kind: TwoOperands,
 ) -> Result<Flow, Refusal>
     ensures spent { budget.new ≤ budget.old }
-    ensures means { Does result (world.new, budget.new) (two_rule meaning kind scope.now depth (part_tree term.entry)) (world.old, budget.old) }
+    ensures means { Does result (world.new, budget.new) (two_rule S.accesses (meaning S.accesses) kind scope.now depth (part_tree term.entry)) (world.old, budget.old) }
 {
     let values = eval_two_values(alloc, world, budget, scope, depth, term)?;
     let result = world.operate_on_two(alloc, kind, values.0, values.1)?;
@@ -121,7 +123,7 @@ fn eval_divide<S: Space>(
     term: Reader<'_>,
 ) -> Result<Flow, Refusal>
     ensures spent { budget.new ≤ budget.old }
-    ensures means { Does result (world.new, budget.new) (divide_rule meaning scope.now depth (part_tree term.entry)) (world.old, budget.old) }
+    ensures means { Does result (world.new, budget.new) (divide_rule S.accesses (meaning S.accesses) scope.now depth (part_tree term.entry)) (world.old, budget.old) }
 {
     let values = eval_two_values(alloc, world, budget, scope, depth, term)?;
     let division = world.divide(values.0, values.1)?;
@@ -160,7 +162,7 @@ fn eval_one<S: Space>(
     kind: OneOperand,
 ) -> Result<Flow, Refusal>
     ensures spent { budget.new ≤ budget.old }
-    ensures means { Does result (world.new, budget.new) (one_rule meaning kind scope.now depth (part_tree term.entry)) (world.old, budget.old) }
+    ensures means { Does result (world.new, budget.new) (one_rule S.accesses (meaning S.accesses) kind scope.now depth (part_tree term.entry)) (world.old, budget.old) }
 {
     let value = eval_value_at(alloc, world, budget, scope, depth, term, 0)?;
     let result = world.operate_on_one(alloc, kind, value)?;
@@ -180,7 +182,7 @@ fn eval_test<S: Space>(
     kind: Test,
 ) -> Result<Flow, Refusal>
     ensures spent { budget.new ≤ budget.old }
-    ensures means { Does result (world.new, budget.new) (test_rule meaning kind scope.now depth (part_tree term.entry)) (world.old, budget.old) }
+    ensures means { Does result (world.new, budget.new) (test_rule S.accesses (meaning S.accesses) kind scope.now depth (part_tree term.entry)) (world.old, budget.old) }
 {
     let values = eval_two_values(alloc, world, budget, scope, depth, term)?;
     let result = world.test(alloc, kind, values.0, values.1)?;
@@ -198,7 +200,7 @@ fn eval_not<S: Space>(
     term: Reader<'_>,
 ) -> Result<Flow, Refusal>
     ensures spent { budget.new ≤ budget.old }
-    ensures means { Does result (world.new, budget.new) (not_rule meaning scope.now depth (part_tree term.entry)) (world.old, budget.old) }
+    ensures means { Does result (world.new, budget.new) (not_rule S.accesses (meaning S.accesses) scope.now depth (part_tree term.entry)) (world.old, budget.old) }
 {
     let value = eval_value_at(alloc, world, budget, scope, depth, term, 0)?;
     let result = world.logical_not(value)?;
@@ -218,12 +220,13 @@ fn eval_count<S: Space>(
     kind: Count,
 ) -> Result<Flow, Refusal>
     ensures spent { budget.new ≤ budget.old }
-    ensures means { Does result (world.new, budget.new) (count_rule meaning kind scope.now depth (part_tree term.entry)) (world.old, budget.old) }
+    ensures means { Does result (world.new, budget.new) (count_rule S.accesses (meaning S.accesses) kind scope.now depth (part_tree term.entry)) (world.old, budget.old) }
 {
     let place = eval_place(alloc, world, budget, scope, depth, term, 0)?;
-    let value = world.place_read(&place)?;
-    let result = world.count(kind, value)?;
-    world.store(alloc, &place, result)?;
+    let held = world.place_read(&place)?;
+    let number = eval_held(alloc, world, budget, depth, held)?;
+    let result = world.count(kind, number)?;
+    eval_stored_back(alloc, world, budget, depth, held, &place, result)?;
     Ok(Flow::Value(result))
 }
 
@@ -238,7 +241,7 @@ fn eval_size<S: Space>(
     term: Reader<'_>,
 ) -> Result<Flow, Refusal>
     ensures spent { budget.new ≤ budget.old }
-    ensures means { Does result (world.new, budget.new) (size_rule meaning scope.now depth (part_tree term.entry)) (world.old, budget.old) }
+    ensures means { Does result (world.new, budget.new) (size_rule S.accesses (meaning S.accesses) scope.now depth (part_tree term.entry)) (world.old, budget.old) }
 {
     let place = eval_place(alloc, world, budget, scope, depth, term, 0)?;
     let referent = world.place_referent(alloc, &place)?;
@@ -257,7 +260,7 @@ fn eval_type<S: Space>(
     term: Reader<'_>,
 ) -> Result<Flow, Refusal>
     ensures spent { budget.new ≤ budget.old }
-    ensures means { Does result (world.new, budget.new) (type_rule meaning scope.now depth (part_tree term.entry)) (world.old, budget.old) }
+    ensures means { Does result (world.new, budget.new) (type_rule S.accesses (meaning S.accesses) scope.now depth (part_tree term.entry)) (world.old, budget.old) }
 {
     let place = eval_place(alloc, world, budget, scope, depth, term, 0)?;
     let referent = world.place_referent(alloc, &place)?;
@@ -276,7 +279,7 @@ fn eval_acquire<S: Space>(
     term: Reader<'_>,
 ) -> Result<Flow, Refusal>
     ensures spent { budget.new ≤ budget.old }
-    ensures means { Does result (world.new, budget.new) (acquire_rule meaning scope.now depth (part_tree term.entry)) (world.old, budget.old) }
+    ensures means { Does result (world.new, budget.new) (acquire_rule S.accesses (meaning S.accesses) scope.now depth (part_tree term.entry)) (world.old, budget.old) }
 {
     let place = eval_place(alloc, world, budget, scope, depth, term, 0)?;
     world.acquire(&place)?;

@@ -6,6 +6,7 @@ ghost use Rattle.aml_objects.specs.Objects.{string_at, buffer_at};
 ghost use Rattle.aml_meaning.specs.Given as given;
 ghost use Rattle.aml_meaning.specs.Outward.{text_out, bytes_out, reference_out, value_out, use_out, name_out, held_out, element_out, each_out, elements_out, package_out, outward};
 
+use crate::field_calls::field_out;
 use crate::terms::charge;
 use aml_meaning::{Datum, NameUse, World};
 use aml_objects::{Element, Reference, Value};
@@ -20,11 +21,11 @@ const MAX_NESTING: usize = 64;
 #[tactic(auto, unfolding(aml_meaning::specs::Outward::outward))]
 pub(crate) fn outward<S: Space>(
     alloc: Global,
-    world: &World<S>,
+    world: &mut World<S>,
     budget: &mut u64,
     value: Value,
 ) -> Result<Datum, Refusal>
-    ensures { Does (seen given.given_of result) (world.now, budget.new) (outward value) (world.now, budget.old) }
+    ensures { Does (seen given.given_of result) (world.new, budget.new) (outward S.accesses value) (world.old, budget.old) }
 {
     value_out(alloc, world, budget, MAX_NESTING, value)
 }
@@ -83,12 +84,12 @@ fn reference_out<S: Space>(
 #[tactic(auto, using(aml_meaning::specs::Outgoing::outgoing), unfolding(aml_meaning::specs::Outward::value_out))]
 fn value_out<S: Space>(
     alloc: Global,
-    world: &World<S>,
+    world: &mut World<S>,
     budget: &mut u64,
     levels: usize,
     value: Value,
 ) -> Result<Datum, Refusal>
-    ensures { Does (seen given.given_of result) (world.now, budget.new) (value_out (package_out levels) value) (world.now, budget.old) }
+    ensures { Does (seen given.given_of result) (world.new, budget.new) (value_out S.accesses (package_out S.accesses levels) value) (world.old, budget.old) }
 {
     match value {
         Value::Uninitialized => Ok(Datum::Nothing),
@@ -104,12 +105,12 @@ fn value_out<S: Space>(
 #[tactic(auto, using(aml_meaning::specs::Outgoing::outgoing))]
 fn package_out<S: Space>(
     alloc: Global,
-    world: &World<S>,
+    world: &mut World<S>,
     budget: &mut u64,
     levels: usize,
     object: usize,
 ) -> Result<Datum, Refusal>
-    ensures { Does (seen given.given_of result) (world.now, budget.new) (package_out levels object) (world.now, budget.old) }
+    ensures { Does (seen given.given_of result) (world.new, budget.new) (package_out S.accesses levels object) (world.old, budget.old) }
 {
     if levels == 0 {
         return Err(Refusal::Evaluation(EvaluationFault::ObjectLimit));
@@ -121,12 +122,12 @@ fn package_out<S: Space>(
 #[tactic(auto, using(aml_meaning::specs::Outgoing::outgoing), unfolding(aml_meaning::specs::Outward::elements_out))]
 fn elements_out<S: Space>(
     alloc: Global,
-    world: &World<S>,
+    world: &mut World<S>,
     budget: &mut u64,
     levels: usize,
     object: usize,
 ) -> Result<Datum, Refusal>
-    ensures { Does (seen given.given_of result) (world.now, budget.new) (elements_out (package_out levels) object) (world.now, budget.old) }
+    ensures { Does (seen given.given_of result) (world.new, budget.new) (elements_out S.accesses (package_out S.accesses levels) object) (world.old, budget.old) }
 {
     let elements = world.elements(alloc, object)?;
     let list = each_out(alloc, world, budget, levels, elements.as_slice())?;
@@ -137,12 +138,12 @@ fn elements_out<S: Space>(
 #[tactic(auto, using(aml_meaning::specs::Outgoing::outgoing))]
 fn each_out<S: Space>(
     alloc: Global,
-    world: &World<S>,
+    world: &mut World<S>,
     budget: &mut u64,
     levels: usize,
     elements: &[Element],
 ) -> Result<Vec<Datum>, Refusal>
-    ensures { Does (seen (λ v. map given.given_of v.items) result) (world.now, budget.new) (each_out (package_out levels) elements.now []) (world.now, budget.old) }
+    ensures { Does (seen (λ v. map given.given_of v.items) result) (world.new, budget.new) (each_out S.accesses (package_out S.accesses levels) elements.now []) (world.old, budget.old) }
 {
     let mut done = Vec::new(alloc);
     for element in elements {
@@ -157,12 +158,12 @@ fn each_out<S: Space>(
 #[tactic(auto, using(aml_meaning::specs::Outgoing::outgoing), unfolding(aml_meaning::specs::Outward::element_out))]
 fn element_out<S: Space>(
     alloc: Global,
-    world: &World<S>,
+    world: &mut World<S>,
     budget: &mut u64,
     levels: usize,
     element: &Element,
 ) -> Result<Datum, Refusal>
-    ensures { Does (seen given.given_of result) (world.now, budget.new) (element_out (package_out levels) element.now) (world.now, budget.old) }
+    ensures { Does (seen given.given_of result) (world.new, budget.new) (element_out S.accesses (package_out S.accesses levels) element.now) (world.old, budget.old) }
 {
     charge(world, budget)?;
     held_out(alloc, world, budget, levels, element)
@@ -172,12 +173,12 @@ fn element_out<S: Space>(
 #[tactic(auto, using(aml_meaning::specs::Outgoing::outgoing), unfolding(aml_meaning::specs::Outward::held_out))]
 fn held_out<S: Space>(
     alloc: Global,
-    world: &World<S>,
+    world: &mut World<S>,
     budget: &mut u64,
     levels: usize,
     element: &Element,
 ) -> Result<Datum, Refusal>
-    ensures { Does (seen given.given_of result) (world.now, budget.new) (held_out (package_out levels) element.now) (world.now, budget.old) }
+    ensures { Does (seen given.given_of result) (world.new, budget.new) (held_out S.accesses (package_out S.accesses levels) element.now) (world.old, budget.old) }
 {
     match element {
         Element::Value(value) => value_out(alloc, world, budget, levels, *value),
@@ -189,13 +190,13 @@ fn held_out<S: Space>(
 #[tactic(auto, using(aml_meaning::specs::Outgoing::outgoing), unfolding(aml_meaning::specs::Outward::name_out))]
 fn name_out<S: Space>(
     alloc: Global,
-    world: &World<S>,
+    world: &mut World<S>,
     budget: &mut u64,
     levels: usize,
     name: &NameString,
     scope: &Path,
 ) -> Result<Datum, Refusal>
-    ensures { Does (seen given.given_of result) (world.now, budget.new) (name_out (package_out levels) name.now scope.now) (world.now, budget.old) }
+    ensures { Does (seen given.given_of result) (world.new, budget.new) (name_out S.accesses (package_out S.accesses levels) name.now scope.now) (world.old, budget.old) }
 {
     let found = world.name_use(alloc, name, scope)?;
     use_out(alloc, world, budget, levels, found)
@@ -205,15 +206,16 @@ fn name_out<S: Space>(
 #[tactic(auto, using(aml_meaning::specs::Outgoing::outgoing), unfolding(aml_meaning::specs::Outward::use_out))]
 fn use_out<S: Space>(
     alloc: Global,
-    world: &World<S>,
+    world: &mut World<S>,
     budget: &mut u64,
     levels: usize,
     found: NameUse,
 ) -> Result<Datum, Refusal>
-    ensures { Does (seen given.given_of result) (world.now, budget.new) (use_out (package_out levels) found) (world.now, budget.old) }
+    ensures { Does (seen given.given_of result) (world.new, budget.new) (use_out S.accesses (package_out S.accesses levels) found) (world.old, budget.old) }
 {
     match found {
         NameUse::Value(value) => value_out(alloc, world, budget, levels, value),
+        NameUse::FieldUnit(unit) => field_out(alloc, world, budget, unit),
         NameUse::Path(path) => Ok(Datum::Named(path)),
     }
 }

@@ -7,6 +7,7 @@ ghost use Rattle.aml_meaning.specs.Meaning.{meaning};
 ghost use Rattle.aml_meaning.specs.Terms.{place_of_code};
 ghost use Rattle.aml_meaning.specs.PlaceTerms.{referring, place_of_term, name_place, place_at, targeted};
 
+use crate::field_calls::eval_stored_to;
 use crate::operands::Reader;
 use crate::terms::eval_term;
 use aml_meaning::{Flow, Place, World, place_of};
@@ -29,7 +30,7 @@ pub(crate) fn eval_place<S: Space>(
     index: usize,
 ) -> Result<Place, Refusal>
     ensures spent { budget.new ≤ budget.old }
-    ensures means { Does result (world.new, budget.new) (place_at meaning scope.now depth (part_tree term.entry) index) (world.old, budget.old) }
+    ensures means { Does result (world.new, budget.new) (place_at (meaning S.accesses) scope.now depth (part_tree term.entry) index) (world.old, budget.old) }
 {
     match term.operand(index) {
         OperandView::Absent => Err(Refusal::Name(NameFault::BadName)),
@@ -51,7 +52,7 @@ fn named_place<S: Space>(
     term: Reader<'_>,
     index: usize,
 ) -> Result<Place, Refusal>
-    ensures { Does result (world.now, budget) (name_place meaning scope.now (part_tree term.entry) index) (world.now, budget) }
+    ensures { Does result (world.now, budget) (name_place (meaning S.accesses) scope.now (part_tree term.entry) index) (world.now, budget) }
 {
     let name = term.name(alloc, index)?;
     world.place_named(alloc, scope, &name)
@@ -69,7 +70,7 @@ fn eval_inner_place<S: Space>(
     term: Reader<'_>,
 ) -> Result<Place, Refusal>
     ensures spent { budget.new ≤ budget.old }
-    ensures means { Does result (world.new, budget.new) (place_of_term meaning scope.now depth (part_tree term.entry) (place_of_code (code_of (part_tree term.entry)))) (world.old, budget.old) }
+    ensures means { Does result (world.new, budget.new) (place_of_term (meaning S.accesses) scope.now depth (part_tree term.entry) (place_of_code (code_of (part_tree term.entry)))) (world.old, budget.old) }
 {
     match place_of(term.code()) {
         Some(place) => Ok(place),
@@ -89,7 +90,7 @@ fn eval_referring<S: Space>(
     term: Reader<'_>,
 ) -> Result<Place, Refusal>
     ensures spent { budget.new ≤ budget.old }
-    ensures means { Does result (world.new, budget.new) (referring meaning scope.now depth (part_tree term.entry)) (world.old, budget.old) }
+    ensures means { Does result (world.new, budget.new) (referring (meaning S.accesses) scope.now depth (part_tree term.entry)) (world.old, budget.old) }
 {
     eval_term(alloc, world, budget, scope, depth, term)?;
     Err(Refusal::Value(ValueFault::WrongType))
@@ -109,9 +110,9 @@ pub(crate) fn eval_targeted<S: Space>(
     value: Value,
 ) -> Result<Flow, Refusal>
     ensures spent { budget.new ≤ budget.old }
-    ensures means { Does result (world.new, budget.new) (targeted meaning scope.now depth (part_tree term.entry) index value) (world.old, budget.old) }
+    ensures means { Does result (world.new, budget.new) (targeted S.accesses (meaning S.accesses) scope.now depth (part_tree term.entry) index value) (world.old, budget.old) }
 {
     let place = eval_place(alloc, world, budget, scope, depth, term, index)?;
-    world.store(alloc, &place, value)?;
+    eval_stored_to(alloc, world, budget, depth, &place, value)?;
     Ok(Flow::Value(value))
 }

@@ -30,7 +30,7 @@ pub(crate) fn eval_statement<S: Space>(
     kind: StatementKind,
 ) -> Result<Flow, Refusal>
     ensures spent { budget.new ≤ budget.old }
-    ensures means { Does result (world.new, budget.new) (statement_rule meaning kind scope.now depth (part_tree term.entry)) (world.old, budget.old) }
+    ensures means { Does result (world.new, budget.new) (statement_rule (meaning S.accesses) kind scope.now depth (part_tree term.entry)) (world.old, budget.old) }
 {
     match kind {
         StatementKind::If => eval_if(alloc, world, budget, scope, depth, term),
@@ -58,7 +58,7 @@ fn eval_if<S: Space>(
     term: Reader<'_>,
 ) -> Result<Flow, Refusal>
     ensures spent { budget.new ≤ budget.old }
-    ensures means { Does result (world.new, budget.new) (if_rule meaning scope.now depth (part_tree term.entry)) (world.old, budget.old) }
+    ensures means { Does result (world.new, budget.new) (if_rule (meaning S.accesses) scope.now depth (part_tree term.entry)) (world.old, budget.old) }
 {
     let condition = inner(term, 0)?;
     let items = list(term, 1)?;
@@ -89,7 +89,7 @@ fn eval_branch<S: Space>(
     holds: bool,
 ) -> Result<Flow, Refusal>
     ensures spent { budget.new ≤ budget.old }
-    ensures means { Does result (world.new, budget.new) (branch meaning scope.now depth (part_list items.entry) (option_map part_tree other.entry) holds) (world.old, budget.old) }
+    ensures means { Does result (world.new, budget.new) (branch (meaning S.accesses) scope.now depth (part_list items.entry) (option_map part_tree other.entry) holds) (world.old, budget.old) }
 {
     if holds {
         eval_list(alloc, world, budget, scope, depth, items)
@@ -109,7 +109,7 @@ fn eval_otherwise<S: Space>(
     other: Option<Reader<'_>>,
 ) -> Result<Flow, Refusal>
     ensures spent { budget.new ≤ budget.old }
-    ensures means { Does result (world.new, budget.new) (otherwise meaning scope.now depth (option_map part_tree other.entry)) (world.old, budget.old) }
+    ensures means { Does result (world.new, budget.new) (otherwise (meaning S.accesses) scope.now depth (option_map part_tree other.entry)) (world.old, budget.old) }
 {
     match other {
         None => Ok(Flow::Next),
@@ -128,7 +128,7 @@ fn eval_else<S: Space>(
     term: Reader<'_>,
 ) -> Result<Flow, Refusal>
     ensures spent { budget.new ≤ budget.old }
-    ensures means { Does result (world.new, budget.new) (else_rule meaning scope.now depth (part_tree term.entry)) (world.old, budget.old) }
+    ensures means { Does result (world.new, budget.new) (else_rule (meaning S.accesses) scope.now depth (part_tree term.entry)) (world.old, budget.old) }
 {
     let items = list(term, 0)?;
     eval_list(alloc, world, budget, scope, depth, items)
@@ -145,7 +145,7 @@ fn eval_while<S: Space>(
     term: Reader<'_>,
 ) -> Result<Flow, Refusal>
     ensures spent { budget.new ≤ budget.old }
-    ensures means { Does result (world.new, budget.new) (while_rule meaning scope.now depth (part_tree term.entry)) (world.old, budget.old) }
+    ensures means { Does result (world.new, budget.new) (while_rule (meaning S.accesses) scope.now depth (part_tree term.entry)) (world.old, budget.old) }
 {
     let condition = inner(term, 0)?;
     let items = list(term, 1)?;
@@ -165,7 +165,7 @@ fn eval_loop<S: Space>(
     items: Reader<'_>,
 ) -> Result<Flow, Refusal>
     ensures spent { budget.new ≤ budget.old }
-    ensures means { Does result (world.new, budget.new) (loop meaning scope.now depth (part_tree condition.entry) (part_list items.entry)) (world.old, budget.old) }
+    ensures means { Does result (world.new, budget.new) (loop (meaning S.accesses) scope.now depth (part_tree condition.entry) (part_list items.entry)) (world.old, budget.old) }
 {
     'turns: loop {
         let flow = eval_turn(alloc, world, budget, scope, depth, condition, items)?;
@@ -190,7 +190,7 @@ fn eval_turn<S: Space>(
 ) -> Result<Flow, Refusal>
     ensures spent { budget.new ≤ budget.old }
     ensures paid { OnOk result (budget.new < budget.old) }
-    ensures means { Does result (world.new, budget.new) (turn meaning scope.now depth (part_tree condition.entry) (part_list items.entry)) (world.old, budget.old) }
+    ensures means { Does result (world.new, budget.new) (turn (meaning S.accesses) scope.now depth (part_tree condition.entry) (part_list items.entry)) (world.old, budget.old) }
 {
     let number = eval_operand_integer(alloc, world, budget, scope, depth, condition)?;
     eval_turn_of(alloc, world, budget, scope, depth, items, is_true(number))
@@ -208,7 +208,7 @@ fn eval_turn_of<S: Space>(
     holds: bool,
 ) -> Result<Flow, Refusal>
     ensures spent { budget.new ≤ budget.old }
-    ensures means { Does result (world.new, budget.new) (turn_of meaning scope.now depth (part_list items.entry) holds) (world.old, budget.old) }
+    ensures means { Does result (world.new, budget.new) (turn_of (meaning S.accesses) scope.now depth (part_list items.entry) holds) (world.old, budget.old) }
 {
     if holds {
         eval_list(alloc, world, budget, scope, depth, items)
@@ -228,7 +228,7 @@ fn eval_return<S: Space>(
     term: Reader<'_>,
 ) -> Result<Flow, Refusal>
     ensures spent { budget.new ≤ budget.old }
-    ensures means { Does result (world.new, budget.new) (return_rule meaning scope.now depth (part_tree term.entry)) (world.old, budget.old) }
+    ensures means { Does result (world.new, budget.new) (return_rule (meaning S.accesses) scope.now depth (part_tree term.entry)) (world.old, budget.old) }
 {
     let value = eval_value_at(alloc, world, budget, scope, depth, term, 0)?;
     Ok(Flow::Return(value))
@@ -245,7 +245,7 @@ fn eval_release<S: Space>(
     term: Reader<'_>,
 ) -> Result<Flow, Refusal>
     ensures spent { budget.new ≤ budget.old }
-    ensures means { Does result (world.new, budget.new) (release_rule meaning scope.now depth (part_tree term.entry)) (world.old, budget.old) }
+    ensures means { Does result (world.new, budget.new) (release_rule (meaning S.accesses) scope.now depth (part_tree term.entry)) (world.old, budget.old) }
 {
     let place = eval_place(alloc, world, budget, scope, depth, term, 0)?;
     world.release(&place)?;
@@ -264,7 +264,7 @@ fn eval_notify<S: Space>(
     term: Reader<'_>,
 ) -> Result<Flow, Refusal>
     ensures spent { budget.new ≤ budget.old }
-    ensures means { Does result (world.new, budget.new) (notify_rule meaning scope.now depth (part_tree term.entry)) (world.old, budget.old) }
+    ensures means { Does result (world.new, budget.new) (notify_rule (meaning S.accesses) scope.now depth (part_tree term.entry)) (world.old, budget.old) }
 {
     eval_place(alloc, world, budget, scope, depth, term, 0)?;
     eval_value_at(alloc, world, budget, scope, depth, term, 1)?;
@@ -283,7 +283,7 @@ fn eval_pause<S: Space>(
     term: Reader<'_>,
 ) -> Result<Flow, Refusal>
     ensures spent { budget.new ≤ budget.old }
-    ensures means { Does result (world.new, budget.new) (pause_rule meaning scope.now depth (part_tree term.entry)) (world.old, budget.old) }
+    ensures means { Does result (world.new, budget.new) (pause_rule (meaning S.accesses) scope.now depth (part_tree term.entry)) (world.old, budget.old) }
 {
     eval_value_at(alloc, world, budget, scope, depth, term, 0)?;
     Ok(Flow::Next)
@@ -300,7 +300,7 @@ fn eval_fatal<S: Space>(
     term: Reader<'_>,
 ) -> Result<Flow, Refusal>
     ensures spent { budget.new ≤ budget.old }
-    ensures means { Does result (world.new, budget.new) (fatal_rule meaning scope.now depth (part_tree term.entry)) (world.old, budget.old) }
+    ensures means { Does result (world.new, budget.new) (fatal_rule (meaning S.accesses) scope.now depth (part_tree term.entry)) (world.old, budget.old) }
 {
     eval_value_at(alloc, world, budget, scope, depth, term, 2)?;
     Err(Refusal::Evaluation(EvaluationFault::Fatal))

@@ -17,6 +17,7 @@ use crate::declarations::eval_declaration;
 use crate::invocations::eval_name_value;
 use crate::operands::{Reader, inner};
 use crate::operators::eval_operator;
+use crate::regions::eval_region_term;
 use crate::statements::eval_statement;
 use aml_meaning::{Flow, TermKind, World, kind_of};
 use aml_objects::Value;
@@ -52,7 +53,7 @@ pub(crate) fn eval_term<S: Space>(
 ) -> Result<Flow, Refusal>
     ensures spent { budget.new ≤ budget.old }
     ensures paid { OnOk result (budget.new < budget.old) }
-    ensures means { Does result (world.new, budget.new) (meaning (task scope.now depth (part_tree term.entry))) (world.old, budget.old) }
+    ensures means { Does result (world.new, budget.new) (meaning S.accesses (task scope.now depth (part_tree term.entry))) (world.old, budget.old) }
 {
     charge(world, budget)?;
     eval_code(alloc, world, budget, scope, depth, term)
@@ -69,7 +70,7 @@ fn eval_code<S: Space>(
     term: Reader<'_>,
 ) -> Result<Flow, Refusal>
     ensures spent { budget.new ≤ budget.old }
-    ensures means { Does result (world.new, budget.new) (code_rule meaning (code_of (part_tree term.entry)) scope.now depth (part_tree term.entry)) (world.old, budget.old) }
+    ensures means { Does result (world.new, budget.new) (code_rule S.accesses (meaning S.accesses) (code_of (part_tree term.entry)) scope.now depth (part_tree term.entry)) (world.old, budget.old) }
 {
     match term.code() {
         TermCode::Opcode(opcode) => {
@@ -107,20 +108,21 @@ fn eval_kind<S: Space>(
     kind: TermKind,
 ) -> Result<Flow, Refusal>
     ensures spent { budget.new ≤ budget.old }
-    ensures means { Does result (world.new, budget.new) (kind_rule meaning kind opcode scope.now depth (part_tree term.entry)) (world.old, budget.old) }
+    ensures means { Does result (world.new, budget.new) (kind_rule S.accesses (meaning S.accesses) kind opcode scope.now depth (part_tree term.entry)) (world.old, budget.old) }
 {
     match kind {
         TermKind::Data(kind) => eval_data(alloc, world, budget, scope, depth, term, kind),
         TermKind::Declaration(kind) => {
             eval_declaration(alloc, world, budget, scope, depth, term, kind)
         }
+        TermKind::Region(kind) => eval_region_term(alloc, world, budget, scope, depth, term, kind),
         TermKind::Operator(kind) => eval_operator(alloc, world, budget, scope, depth, term, kind),
         TermKind::Statement(kind) => eval_statement(alloc, world, budget, scope, depth, term, kind),
         TermKind::Unsupported => Err(unsupported(opcode)),
     }
 }
 
-fn unsupported(opcode: Opcode) -> Refusal
+pub(crate) fn unsupported(opcode: Opcode) -> Refusal
     ensures { result ≡ Evaluation (Unsupported (number_of opcode)) }
 {
     Refusal::Evaluation(EvaluationFault::Unsupported(opcode.number()))
@@ -139,7 +141,7 @@ pub(crate) fn eval_value<S: Space>(
 ) -> Result<Value, Refusal>
     ensures spent { budget.new ≤ budget.old }
     ensures paid { OnOk result (budget.new < budget.old) }
-    ensures means { Does result (world.new, budget.new) (operand_value meaning scope.now depth (part_tree term.entry)) (world.old, budget.old) }
+    ensures means { Does result (world.new, budget.new) (operand_value (meaning S.accesses) scope.now depth (part_tree term.entry)) (world.old, budget.old) }
 {
     let flow = eval_term(alloc, world, budget, scope, depth, term)?;
     flow.value()
@@ -158,7 +160,7 @@ pub(crate) fn eval_value_at<S: Space>(
     index: usize,
 ) -> Result<Value, Refusal>
     ensures spent { budget.new ≤ budget.old }
-    ensures means { Does result (world.new, budget.new) (value_at meaning scope.now depth (part_tree term.entry) index) (world.old, budget.old) }
+    ensures means { Does result (world.new, budget.new) (value_at (meaning S.accesses) scope.now depth (part_tree term.entry) index) (world.old, budget.old) }
 {
     let operand = inner(term, index)?;
     eval_value(alloc, world, budget, scope, depth, operand)
@@ -176,7 +178,7 @@ pub(crate) fn eval_two_values<S: Space>(
     term: Reader<'_>,
 ) -> Result<(Value, Value), Refusal>
     ensures spent { budget.new ≤ budget.old }
-    ensures means { Does result (world.new, budget.new) (two_values meaning scope.now depth (part_tree term.entry)) (world.old, budget.old) }
+    ensures means { Does result (world.new, budget.new) (two_values (meaning S.accesses) scope.now depth (part_tree term.entry)) (world.old, budget.old) }
 {
     let first = eval_value_at(alloc, world, budget, scope, depth, term, 0)?;
     let second = eval_value_at(alloc, world, budget, scope, depth, term, 1)?;
@@ -196,7 +198,7 @@ pub(crate) fn eval_operand_integer<S: Space>(
 ) -> Result<u64, Refusal>
     ensures spent { budget.new ≤ budget.old }
     ensures paid { OnOk result (budget.new < budget.old) }
-    ensures means { Does result (world.new, budget.new) (operand_integer meaning scope.now depth (part_tree term.entry)) (world.old, budget.old) }
+    ensures means { Does result (world.new, budget.new) (operand_integer (meaning S.accesses) scope.now depth (part_tree term.entry)) (world.old, budget.old) }
 {
     let value = eval_value(alloc, world, budget, scope, depth, term)?;
     world.integer_in(value)
@@ -214,7 +216,7 @@ pub(crate) fn eval_list<S: Space>(
     list: Reader<'_>,
 ) -> Result<Flow, Refusal>
     ensures spent { budget.new ≤ budget.old }
-    ensures means { Does result (world.new, budget.new) (in_turn meaning scope.now depth (part_list list.entry)) (world.old, budget.old) }
+    ensures means { Does result (world.new, budget.new) (in_turn (meaning S.accesses) scope.now depth (part_list list.entry)) (world.old, budget.old) }
 {
     let mut rest = list;
     'items: loop {

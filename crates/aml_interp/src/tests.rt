@@ -1,8 +1,10 @@
 //! Tables that are loaded, and what their names answer.
 mod aml;
 mod answers;
+mod fields;
 mod loading;
 mod methods;
 mod operators;
 mod statements;
+mod traces;
 mod worlds;

@@ -1,5 +1,6 @@
 -- Loading a table, and what an object answers (ACPI 6.5, 5.4 and 5.5).
 use Rattle.std.specs.Prelude.{◌≡◌, ℕ, List, [], ◌∷◌, ◌++◌, length, replicate, Ok, Err, refl}
+use Rattle.ar_space.specs.Accesses.{Accesses}
 use Rattle.ar_space.specs.Outcome.{Outcome, NotMemory, seen}
 use Rattle.ar_space.specs.Change.{Change, Does, give, settle, ◌>>=◌, ◌>>◌}
 use Rattle.aml_path.specs.declared.segment.Seg.{Seg}
@@ -21,7 +22,8 @@ use Rattle.aml_meaning.specs.Run.{Run, lift, running}
 use Rattle.aml_meaning.specs.Slots.{opened, closed}
 use Rattle.aml_meaning.specs.Readings.{absolute}
 use Rattle.aml_meaning.specs.Tasks.{in_turn}
-use Rattle.aml_meaning.specs.Invocations.{invocation_found, invoked}
+use Rattle.aml_meaning.specs.Invocations.{invocation_found, method_value}
+use Rattle.aml_meaning.specs.FieldCalls.{field_read}
 use Rattle.aml_meaning.specs.Taking.{all_taken}
 use Rattle.aml_meaning.specs.Meaning.{meaning}
 use Rattle.aml_meaning.specs.Outward.{outward}
@@ -55,44 +57,31 @@ unfoldable pub table_terms : {S : Type 0} → List ℕ → Change (State S) Tree
 table_terms bytes w = terms_kept (table_reading bytes w.arities) w
 
 -- the terms of a table, evaluated at the root
-unfoldable pub at_root : {S : Type 0} → Trees → Run S (Unit {0})
-at_root ts = do
-  last ← in_turn meaning [] 0 ts
+unfoldable pub at_root : {S : Type 0} → Accesses S → Trees → Run S (Unit {0})
+at_root accesses ts = do
+  last ← in_turn (meaning accesses) [] 0 ts
   give tt
 
-unfoldable pub table_run : {S : Type 0} → ℕ → List ℕ → Change (State S) (Unit {0})
-table_run steps bytes = do
+unfoldable pub table_run : {S : Type 0} → Accesses S → ℕ → List ℕ → Change (State S) (Unit {0})
+table_run accesses steps bytes = do
   ts ← table_terms bytes
-  in_frame (replicate 7 value.Uninitialized) (with_steps steps (at_root ts))
+  in_frame (replicate 7 value.Uninitialized) (with_steps steps (at_root accesses ts))
 
 -- a table, loaded
-unfoldable pub loaded : {S : Type 0} → List ℕ → ℕ → Change (State S) (Unit {0})
-loaded bytes steps = ending (table_run steps bytes)
+unfoldable pub loaded : {S : Type 0} → Accesses S → List ℕ → ℕ → Change (State S) (Unit {0})
+loaded accesses bytes steps = ending (table_run accesses steps bytes)
 
--- what a call leaves, as a value
-abbrev pub value_of_call : Flow → Value
-value_of_call (flow.Value v) = v
-value_of_call flow.Next = value.Uninitialized
-value_of_call flow.Break = value.Uninitialized
-value_of_call flow.Continue = value.Uninitialized
-value_of_call (flow.Return v) = value.Uninitialized
-
--- the outermost call of a control method
-unfoldable pub method_value : {S : Type 0} → List Seg → BodyPlace → List Value → Run S Value
-method_value p body arguments = do
-  f ← invoked meaning 0 p body arguments
-  give (value_of_call f)
-
--- a name that is no control method is read
-abbrev pub value_of : {S : Type 0} → Invocation → List Value → Run S Value
-value_of (invocation.Value v) arguments = give v
-value_of (invocation.Method p body) arguments = method_value p body arguments
+-- a name that is no control method is read; this counts as one call
+abbrev pub value_of : {S : Type 0} → Accesses S → Invocation → List Value → Run S Value
+value_of accesses (invocation.Value v) arguments = give v
+value_of accesses (invocation.FieldUnit u) arguments = field_read accesses (meaning accesses) 1 u
+value_of accesses (invocation.Method p body) arguments = method_value (meaning accesses) 0 p body arguments
 
 -- the value of the object at a path, with these arguments
-unfoldable pub called : {S : Type 0} → List Seg → List Value → Run S Value
-called p arguments = do
+unfoldable pub called : {S : Type 0} → Accesses S → List Seg → List Value → Run S Value
+called accesses p arguments = do
   i ← lift (invocation_found [] (absolute p) (length arguments))
-  value_of i arguments
+  value_of accesses i arguments
 
 -- a value, and the steps that are left
 abbrev pub with_rest : Outcome Value → ℕ → Outcome (Value × ℕ)
@@ -101,19 +90,19 @@ with_rest r rest = seen (λ v. (v, rest)) r
 unfoldable pub counted : {S : Type 0} → ℕ → Run S Value → Change (State S) (Value × ℕ)
 counted steps m w = (with_rest (m (w, steps)).0 (m (w, steps)).1.1, (m (w, steps)).1.0)
 
-unfoldable pub evaluated : {S : Type 0} → List Seg → List Value → ℕ → Change (State S) (Value × ℕ)
-evaluated p arguments steps = counted steps (called p arguments)
+unfoldable pub evaluated : {S : Type 0} → Accesses S → List Seg → List Value → ℕ → Change (State S) (Value × ℕ)
+evaluated accesses p arguments steps = counted steps (called accesses p arguments)
 
 -- the value that is handed out, in the same steps; arguments are taken once they are as many as are wanted
-unfoldable pub handed_out : {S : Type 0} → List Seg → ℕ → List Given → Run S Given
-handed_out p count arguments = do
+unfoldable pub handed_out : {S : Type 0} → Accesses S → List Seg → ℕ → List Given → Run S Given
+handed_out accesses p count arguments = do
   i ← lift (invocation_found [] (absolute p) count)
   vs ← lift (all_taken arguments [])
-  v ← value_of i vs
-  outward v
+  v ← value_of accesses i vs
+  outward accesses v
 
-unfoldable pub answered : {S : Type 0} → List Seg → List Given → ℕ → Change (State S) Given
-answered p arguments steps = ending (with_steps steps (handed_out p (length arguments) arguments))
+unfoldable pub answered : {S : Type 0} → Accesses S → List Seg → List Given → ℕ → Change (State S) Given
+answered accesses p arguments steps = ending (with_steps steps (handed_out accesses p (length arguments) arguments))
 
 -- ---- however the evaluation ended
 

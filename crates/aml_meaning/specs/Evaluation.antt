@@ -4,6 +4,7 @@ use Rattle.std.specs.Prelude.{ℕ, List}
 use Rattle.ar_space.specs.declared.refusal.Refusal.TheVariants as refusal
 use Rattle.ar_space.specs.declared.refusal.EvaluationFault.TheVariants.{Unsupported}
 use Rattle.ar_space.specs.declared.refusal.NameFault.TheVariants.{BadName}
+use Rattle.ar_space.specs.Accesses.{Accesses}
 use Rattle.ar_space.specs.Change.{stop}
 use Rattle.aml_path.specs.declared.segment.Seg.{Seg}
 use Rattle.aml_terms.specs.declared.opcode.Opcode.{Opcode}
@@ -23,20 +24,22 @@ use Rattle.aml_meaning.specs.DataTerms.{data_rule}
 use Rattle.aml_meaning.specs.DeclarationTerms.{declaration_rule}
 use Rattle.aml_meaning.specs.OperatorTerms.{operator_rule}
 use Rattle.aml_meaning.specs.StatementTerms.{statement_rule}
-use Rattle.aml_meaning.specs.Invocations.{name_value}
+use Rattle.aml_meaning.specs.FieldTerms.{region_term_rule}
+use Rattle.aml_meaning.specs.InvocationTerms.{name_value}
 
--- ev: what a part evaluates to
-module _ {S : Type 0} (ev : Task → Run S Flow) where
+-- accesses: what the register space makes of them; ev: what a part evaluates to
+module _ {S : Type 0} (accesses : Accesses S) (ev : Task → Run S Flow) where
   abbrev pub kind_rule : TermKind → Opcode → List Seg → ℕ → Tree → Run S Flow
   kind_rule (kinds.Data k) op scope depth t = data_rule ev k scope depth t
   kind_rule (kinds.Declaration k) op scope depth t = declaration_rule ev k scope depth t
-  kind_rule (kinds.Operator k) op scope depth t = operator_rule ev k scope depth t
+  kind_rule (kinds.Region k) op scope depth t = region_term_rule ev k scope depth t
+  kind_rule (kinds.Operator k) op scope depth t = operator_rule accesses ev k scope depth t
   kind_rule (kinds.Statement k) op scope depth t = statement_rule ev k scope depth t
   kind_rule kinds.Unsupported op scope depth t = stop (refusal.Evaluation (Unsupported (opcodes.number_of op)))
 
   abbrev pub code_rule : TermCode → List Seg → ℕ → Tree → Run S Flow
   code_rule (codes.Opcode op) scope depth t = kind_rule (kind_of op) op scope depth t
-  code_rule codes.MethodInvocation scope depth t = name_value ev scope depth t
+  code_rule codes.MethodInvocation scope depth t = name_value accesses ev scope depth t
   code_rule codes.Name scope depth t = stop (refusal.Name BadName)
   code_rule codes.NamedField scope depth t = stop (refusal.Name BadName)
   code_rule codes.ReservedField scope depth t = stop (refusal.Name BadName)

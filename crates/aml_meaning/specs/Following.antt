@@ -8,6 +8,7 @@ use Rattle.ar_space.specs.Change.{Change, Does, stop, changing}
 use Rattle.aml_objects.specs.declared.value.Value.{Value}
 use Rattle.aml_objects.specs.declared.value.Reference.{Reference}
 use Rattle.aml_meaning.specs.declared.object_type.Referent.{Referent}
+use Rattle.aml_meaning.specs.declared.place.Stored.{Stored}
 use Rattle.aml_meaning.specs.State.{State}
 use Rattle.aml_meaning.specs.Places.{followed, reference_followed}
 use Rattle.aml_meaning.specs.Stores.{stored_through, store_at_reference}
@@ -36,7 +37,7 @@ through_none : {S : Type 0} (n : ℕ) (x : Reference) (v : Value) (w : State S) 
 unfolding stored_through stop
 through_none n x v w e = rw e refl
 
-pub does_through : {S : Type 0} {r : Outcome (Unit {0})} {w1 : State S} (n : ℕ) (x : Reference) (v : Value) (w : State S) → 0 < n → Does r w1 (store_at_reference (stored_through (n - 1)) x v) w → Does r w1 (stored_through n x v) w
+pub does_through : {S : Type 0} {r : Outcome Stored} {w1 : State S} (n : ℕ) (x : Reference) (v : Value) (w : State S) → 0 < n → Does r w1 (store_at_reference (stored_through (n - 1)) x v) w → Does r w1 (stored_through n x v) w
 does_through n x v w l h = record { is = λ ne. through_is n x v w l ∙ h.is ne }
 
 pub does_not_through : {S : Type 0} (n : ℕ) (x : Reference) (v : Value) {w : State S} → n ≡ 0 → Does (Err (refusal.Evaluation DeadReference)) w (stored_through n x v) w

@@ -1,4 +1,4 @@
--- Names where values stand, and calls of control methods (ACPI 6.5, 5.5.2 and 20.2.5: MethodInvocation).
+-- What names are where values stand, and calls of control methods (ACPI 6.5, 5.5.2 and 20.2.5: MethodInvocation).
 use Rattle.std.specs.Prelude.{ℕ, ◌+◌, List, [], ◌∷◌, ◌++◌, take, drop, length, map, true, false, Option, Some, None, Ok, Err, slice_get, slice_index_or, nat_lt, if◌then◌else◌}
 use Rattle.std.specs.List.{filter}
 use Rattle.std.specs.FinMap.{get, entries}
@@ -11,8 +11,7 @@ use Rattle.aml_path.specs.Paths.{Name}
 use Rattle.aml_terms.specs.declared.arities.Arity.{Arity}
 use Rattle.aml_terms.specs.Grammar.{reading}
 use Rattle.aml_terms.specs.Shape.{trees_of}
-use Rattle.aml_terms.specs.Tree.{Tree, Trees, no_trees, tree}
-use Rattle.aml_terms.specs.Apart.{operand_of, name_of}
+use Rattle.aml_terms.specs.Tree.{Trees}
 use Rattle.aml_objects.specs.declared.value.Value.{Value}
 use Rattle.aml_objects.specs.declared.value.Value.TheVariants as value
 use Rattle.aml_objects.specs.declared.value.Reference.TheVariants as reference
@@ -31,9 +30,8 @@ use Rattle.aml_meaning.specs.declared.invocation.Invocation.TheVariants as invoc
 use Rattle.aml_meaning.specs.State.{State}
 use Rattle.aml_meaning.specs.Run.{Run, lift}
 use Rattle.aml_meaning.specs.Slots.{opened, closed}
-use Rattle.aml_meaning.specs.Terms.{list_of, count_of}
 use Rattle.aml_meaning.specs.Readings.{arguments_found, as_many}
-use Rattle.aml_meaning.specs.Tasks.{Task, operand_value, in_turn}
+use Rattle.aml_meaning.specs.Tasks.{Task, in_turn}
 
 -- ---- what a name is where a value stands
 
@@ -50,11 +48,11 @@ read_as n (value.Buffer o) = value.Buffer o
 read_as n (value.Package o) = value.Package o
 read_as n (value.Reference r) = value.Reference (reference.Name n)
 
--- the value that it holds, a call of a control method, or else a reference to it; fields are not read yet
+-- the value that it holds, the bits of a field unit, a call of a control method, or else a reference to it
 abbrev pub invocation_of_object : List Seg → ℕ → NamedObject → Outcome Invocation
 invocation_of_object p n (object.Data v) = Ok (invocation.Value (read_as n v))
 invocation_of_object p n (object.Method m) = invocation_of_body p m.body
-invocation_of_object p n (object.FieldUnit u) = Err (refusal.Evaluation (Unsupported 0x5B81))
+invocation_of_object p n (object.FieldUnit u) = Ok (invocation.FieldUnit u)
 invocation_of_object p n (object.BufferField b) = Err (refusal.Evaluation (Unsupported 0x5B13))
 invocation_of_object p n object.Scope = Ok (invocation.Value (value.Reference (reference.Name n)))
 invocation_of_object p n object.Device = Ok (invocation.Value (value.Reference (reference.Name n)))
@@ -136,14 +134,15 @@ abbrev pub frame_arguments : List Value → List Value
 frame_arguments vs = slice_index_or vs 0 value.Uninitialized ∷ slice_index_or vs 1 value.Uninitialized ∷ slice_index_or vs 2 value.Uninitialized ∷ slice_index_or vs 3 value.Uninitialized
     ∷ slice_index_or vs 4 value.Uninitialized ∷ slice_index_or vs 5 value.Uninitialized ∷ slice_index_or vs 6 value.Uninitialized ∷ []
 
-module _ {S : Type 0} (ev : Task → Run S Flow) where
-  -- arguments behind those that are done
-  unfoldable pub arguments_in_turn : List Seg → ℕ → Trees → List Value → Run S (List Value)
-  arguments_in_turn scope depth no_trees done = give done
-  arguments_in_turn scope depth (tree t ts) done = do
-    v ← operand_value ev scope depth t
-    arguments_in_turn scope depth ts (done ++ v ∷ [])
+-- what a call leaves, as a value
+abbrev pub value_of_call : Flow → Value
+value_of_call (flow.Value v) = v
+value_of_call flow.Next = value.Uninitialized
+value_of_call flow.Break = value.Uninitialized
+value_of_call flow.Continue = value.Uninitialized
+value_of_call (flow.Return v) = value.Uninitialized
 
+module _ {S : Type 0} (ev : Task → Run S Flow) where
   unfoldable pub invoked : ℕ → List Seg → BodyPlace → List Value → Run S Flow
   invoked depth p body arguments = do
     few ← settle (shallow depth)
@@ -151,20 +150,8 @@ module _ {S : Type 0} (ev : Task → Run S Flow) where
     number ← lift (opened (frame_arguments arguments))
     leaving p (in_turn ev p (depth + 1) ts)
 
-  unfoldable pub call_rule : List Seg → ℕ → Trees → List Seg → BodyPlace → Run S Flow
-  call_rule scope depth ts p body = do
-    arguments ← arguments_in_turn scope depth ts []
-    invoked depth p body arguments
-
-  abbrev pub invocation_rule : List Seg → ℕ → Trees → Invocation → Run S Flow
-  invocation_rule scope depth ts (invocation.Value v) = give (flow.Value v)
-  invocation_rule scope depth ts (invocation.Method p body) = call_rule scope depth ts p body
-
-  unfoldable pub name_value : List Seg → ℕ → Tree → Run S Flow
-  name_value scope depth t = do
-    n ← settle (name_of (operand_of t 0))
-    ts ← settle (list_of (operand_of t 1))
-    wanted ← lift (arguments_found scope n)
-    many ← settle (as_many wanted (count_of ts))
-    i ← lift (named_use scope n)
-    invocation_rule scope depth ts i
+  -- the value of a call; one that gives none is uninitialized
+  unfoldable pub method_value : ℕ → List Seg → BodyPlace → List Value → Run S Value
+  method_value depth p body arguments = do
+    f ← invoked depth p body arguments
+    give (value_of_call f)

@@ -14,7 +14,7 @@ use Rattle.aml_objects.specs.declared.entry.NamedObject.{NamedObject}
 use Rattle.aml_objects.specs.declared.entry.Entry.{Entry}
 use Rattle.aml_namespace.specs.Namespace.{Map, Namespace, declared, replaced, replaced_in, with_object, without_below, above}
 use Rattle.aml_meaning.specs.declared.flow.Flow.{Flow}
-use Rattle.aml_meaning.specs.State.{State, on_objects, on_names}
+use Rattle.aml_meaning.specs.State.{State, on_objects, on_names, on_space}
 use Rattle.aml_meaning.specs.Run.{Run, lift, charge}
 use Rattle.aml_meaning.specs.Invocations.{leaving}
 use Rattle.aml_meaning.specs.Outside.{is_method, Outside, OutsideIn, Kept, kept_same, kept_twice, kept_new, kept_replaced, kept_removed}
@@ -77,6 +77,10 @@ module _ {S : Type 0} {p : List Seg} where
   pub leaves_objects : {A : Type 0} (m : Change Objects A) → Leaves {S = S} p (on_objects m)
   unfolding on_objects
   leaves_objects m = record { leaves = λ w o. kept_same _ p o }
+
+  pub leaves_space : {A : Type 0} (m : Change S A) → Leaves {S = S} p (on_space m)
+  unfolding on_space
+  leaves_space m = record { leaves = λ w o. kept_same _ p o }
 
   pub leaves_declared : (q : List Seg) (o : NamedObject) → Leaves {S = S} p (on_names (declared q o))
   unfolding on_names declared

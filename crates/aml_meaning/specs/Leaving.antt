@@ -30,7 +30,7 @@ use Rattle.aml_meaning.specs.Readings.{integer_kept, integer_in, entry_found, pa
 use Rattle.aml_meaning.specs.NewObjects.{within, new_buffer, new_package}
 use Rattle.aml_meaning.specs.Declaring.{not_in_method, new_name, kept, new_method}
 use Rattle.aml_meaning.specs.PlaceTerms.{place_named}
-use Rattle.aml_meaning.specs.Operations.{integers_operated, operated, divided_in, integer_operated, operated_on_one, integers_tested, operated_logically, integer_turned, turned, next_integer, incremented, integer_before, decremented, compared_in, joined_contents, joined, joined_items, joined_resources, to_integer_in, buffer_bytes, new_buffer_of, to_buffer_in, size_in}
+use Rattle.aml_meaning.specs.Operations.{integers_operated, operated, divided_in, integer_operated, operated_on_one, integers_tested, operated_logically, integer_turned, turned, next_integer, integer_before, compared_in, joined_contents, joined, joined_items, joined_resources, to_integer_in, buffer_bytes, new_buffer_of, to_buffer_in, size_in}
 use Rattle.aml_meaning.specs.OperatorTerms.{result_of_two, result_of_one, result_of_test, counted_by}
 use Rattle.aml_meaning.specs.Slots.{opened}
 use Rattle.aml_meaning.specs.Invocations.{body_terms, named_use, invocation_found}
@@ -148,17 +148,9 @@ module _ {S : Type 0} {p : List Seg} where
   unfolding next_integer
   leaves_next x = leaves_names _ (λ w. refl)
 
-  pub leaves_incremented : (v : Value) → Leaves {S = S} p (incremented v)
-  unfolding incremented
-  leaves_incremented v = leaves_bind _ _ (leaves_read v) (λ x. leaves_next x)
-
   pub leaves_before : (x : ℕ) → Leaves {S = S} p (integer_before x)
   unfolding integer_before
   leaves_before x = leaves_names _ (λ w. refl)
-
-  pub leaves_decremented : (v : Value) → Leaves {S = S} p (decremented v)
-  unfolding decremented
-  leaves_decremented v = leaves_bind _ _ (leaves_read v) (λ x. leaves_before x)
 
   pub leaves_compared : (c : Comparison) (v u : Value) → Leaves {S = S} p (compared_in c v u)
   unfolding compared_in
@@ -218,9 +210,9 @@ module _ {S : Type 0} {p : List Seg} where
   leaves_test (test.Logical op) v u = leaves_logically op v u
   leaves_test (test.Compare c) v u = leaves_compared c v u
 
-  pub leaves_counted : (k : Count) (v : Value) → Leaves {S = S} p (counted_by k v)
-  leaves_counted count.Up v = leaves_incremented v
-  leaves_counted count.Down v = leaves_decremented v
+  pub leaves_counted : (k : Count) (n : ℕ) → Leaves {S = S} p (counted_by k n)
+  leaves_counted count.Up n = leaves_next n
+  leaves_counted count.Down n = leaves_before n
 
   -- ---- calls
 

@@ -15,10 +15,11 @@ use Rattle.aml_meaning.specs.declared.place.Place.{Place}
 use Rattle.aml_meaning.specs.declared.place.Place.TheVariants as place
 use Rattle.aml_meaning.specs.declared.place.Holding.{Holding}
 use Rattle.aml_meaning.specs.declared.place.Holding.TheVariants as holding
+use Rattle.aml_meaning.specs.declared.place.Stored.{Stored}
 use Rattle.aml_meaning.specs.declared.object_type.Referent.{Referent}
 use Rattle.aml_meaning.specs.declared.object_type.Referent.TheVariants as referent
 use Rattle.aml_meaning.specs.State.{State}
-use Rattle.aml_meaning.specs.Places.{held_at, latest_frame, frame_found, slot_held, own_slot, slot_read, name_read, place_read, declaration, byte_followed, value_followed, referent_followed, declared_followed, slot_followed, name_followed, element_followed, held_followed, reference_followed, followed, slot_referent, declared_referent, name_referent, place_referent}
+use Rattle.aml_meaning.specs.Places.{held_at, latest_frame, frame_found, slot_held, own_slot, slot_read, name_read, held_in_slot, place_read, declaration, byte_followed, value_followed, referent_followed, declared_followed, slot_followed, name_followed, element_followed, held_followed, reference_followed, followed, slot_referent, declared_referent, name_referent, place_referent}
 use Rattle.aml_meaning.specs.Stores.{slot_put, copy_into_slot, copy_into_name, copy_into_element, copy_over, text_in, bytes_in, store_integer, store_text, store_bytes, store_package, store_over_value, store_over, byte_in, store_byte, copy_into_declared, store_over_slot, store_in_frame, store_in_frame_numbered, store_at_reference, stored_through, store_in_slot, store_in_name, stored, copy_in_name, copied_to}
 use Rattle.aml_meaning.specs.Mutexes.{mutex_count, acquired, given_back, acquired_at, given_back_at}
 use Rattle.aml_meaning.specs.Keeping.{Leaves, leaves_names, leaves_give, leaves_stop, leaves_settle, leaves_bind, leaves_objects, leaves_replaced}
@@ -55,9 +56,13 @@ module _ {S : Type 0} {p : List Seg} where
   unfolding name_read
   leaves_name_read q = leaves_bind _ _ (leaves_held q) (λ h. leaves_settle _)
 
+  pub leaves_held_in_slot : (slot : Slot) → Leaves {S = S} p (held_in_slot slot)
+  unfolding held_in_slot
+  leaves_held_in_slot slot = leaves_bind _ _ (leaves_slot_read slot) (λ v. leaves_give _)
+
   pub leaves_place_read : (at : Place) → Leaves {S = S} p (place_read at)
   leaves_place_read place.Nowhere = leaves_stop _
-  leaves_place_read (place.Slot slot) = leaves_slot_read slot
+  leaves_place_read (place.Slot slot) = leaves_held_in_slot slot
   leaves_place_read (place.Name q) = leaves_name_read q
 
   pub leaves_declaration : (n : ℕ) → Leaves {S = S} p (declaration n)
@@ -137,19 +142,19 @@ module _ {S : Type 0} {p : List Seg} where
 
   pub leaves_copy_slot : (k : ℕ) (slot : Slot) (v : Value) → Leaves {S = S} p (copy_into_slot k slot v)
   unfolding copy_into_slot
-  leaves_copy_slot k slot v = leaves_bind _ _ (leaves_objects _) (λ c. leaves_slot_put k slot c)
+  leaves_copy_slot k slot v = leaves_bind _ _ (leaves_objects _) (λ c. leaves_bind _ _ (leaves_slot_put k slot c) (λ put. leaves_give _))
 
   pub leaves_copy_name : (q : List Seg) (v : Value) → Leaves {S = S} p (copy_into_name q v)
   unfolding copy_into_name
-  leaves_copy_name q v = leaves_bind _ _ (leaves_objects _) (λ c. leaves_replaced q _ refl)
+  leaves_copy_name q v = leaves_bind _ _ (leaves_objects _) (λ c. leaves_bind _ _ (leaves_replaced q _ refl) (λ put. leaves_give _))
 
   pub leaves_copy_element : (o i : ℕ) (v : Value) → Leaves {S = S} p (copy_into_element o i v)
   unfolding copy_into_element
-  leaves_copy_element o i v = leaves_bind _ _ (leaves_objects _) (λ c. leaves_objects _)
+  leaves_copy_element o i v = leaves_bind _ _ (leaves_objects _) (λ c. leaves_bind _ _ (leaves_objects _) (λ put. leaves_give _))
 
   pub leaves_copy_over : (h : Holding) (q : List Seg) (v : Value) → Leaves {S = S} p (copy_over h q v)
   leaves_copy_over (holding.Value old) q v = leaves_copy_name q v
-  leaves_copy_over holding.FieldUnit q v = leaves_stop _
+  leaves_copy_over (holding.FieldUnit u) q v = leaves_give _
   leaves_copy_over holding.BufferField q v = leaves_stop _
   leaves_copy_over holding.Nothing q v = leaves_stop _
 
@@ -163,15 +168,15 @@ module _ {S : Type 0} {p : List Seg} where
 
   pub leaves_store_integer : (q : List Seg) (v : Value) → Leaves {S = S} p (store_integer q v)
   unfolding store_integer
-  leaves_store_integer q v = leaves_bind _ _ (leaves_read v) (λ n. leaves_replaced q _ refl)
+  leaves_store_integer q v = leaves_bind _ _ (leaves_read v) (λ n. leaves_bind _ _ (leaves_replaced q _ refl) (λ put. leaves_give _))
 
   pub leaves_store_text : (o : ℕ) (v : Value) → Leaves {S = S} p (store_text o v)
   unfolding store_text
-  leaves_store_text o v = leaves_bind _ _ (leaves_text v) (λ bytes. leaves_objects _)
+  leaves_store_text o v = leaves_bind _ _ (leaves_text v) (λ bytes. leaves_bind _ _ (leaves_objects _) (λ put. leaves_give _))
 
   pub leaves_store_bytes : (o : ℕ) (v : Value) → Leaves {S = S} p (store_bytes o v)
   unfolding store_bytes
-  leaves_store_bytes o v = leaves_bind _ _ (leaves_bytes v) (λ bytes. leaves_objects _)
+  leaves_store_bytes o v = leaves_bind _ _ (leaves_bytes v) (λ bytes. leaves_bind _ _ (leaves_objects _) (λ put. leaves_give _))
 
   pub leaves_store_package : (q : List Seg) (v : Value) → Leaves {S = S} p (store_package q v)
   leaves_store_package q (value.Package o) = leaves_copy_name q _
@@ -191,7 +196,7 @@ module _ {S : Type 0} {p : List Seg} where
 
   pub leaves_store_over : (h : Holding) (q : List Seg) (v : Value) → Leaves {S = S} p (store_over h q v)
   leaves_store_over (holding.Value old) q v = leaves_store_value old q v
-  leaves_store_over holding.FieldUnit q v = leaves_stop _
+  leaves_store_over (holding.FieldUnit u) q v = leaves_give _
   leaves_store_over holding.BufferField q v = leaves_stop _
   leaves_store_over holding.Nothing q v = leaves_stop _
 
@@ -201,13 +206,13 @@ module _ {S : Type 0} {p : List Seg} where
 
   pub leaves_store_byte : (o i : ℕ) (v : Value) → Leaves {S = S} p (store_byte o i v)
   unfolding store_byte
-  leaves_store_byte o i v = leaves_bind _ _ (leaves_byte v) (λ b. leaves_objects _)
+  leaves_store_byte o i v = leaves_bind _ _ (leaves_byte v) (λ b. leaves_bind _ _ (leaves_objects _) (λ put. leaves_give _))
 
   pub leaves_copy_declared : (n : ℕ) (v : Value) → Leaves {S = S} p (copy_into_declared n v)
   unfolding copy_into_declared
   leaves_copy_declared n v = leaves_bind _ _ (leaves_declaration n) (λ e. leaves_copy_over _ e.0 v)
 
-  module _ (through : Reference → Value → Change (State S) (Unit {0})) (goes : (r : Reference) (v : Value) → Leaves p (through r v)) where
+  module _ (through : Reference → Value → Change (State S) Stored) (goes : (r : Reference) (v : Value) → Leaves p (through r v)) where
     leaves_store_slot : (k : ℕ) (slot : Slot) (held v : Value) → Leaves {S = S} p (store_over_slot through k slot held v)
     leaves_store_slot k (Local i) held v = leaves_copy_slot k _ v
     leaves_store_slot k (Argument i) (value.Reference r) v = goes r v

@@ -8,7 +8,7 @@ use Rattle.aml_terms.specs.declared.arities.Arity.{Arity}
 use Rattle.aml_objects.specs.Objects.{Objects}
 use Rattle.aml_namespace.specs.Namespace.{Namespace}
 use Rattle.aml_meaning.specs.declared.frame.Frame.{Frame}
-use Rattle.aml_meaning.specs.State.{State, on_objects, on_names}
+use Rattle.aml_meaning.specs.State.{State, on_objects, on_names, on_space}
 
 module _ {S A : Type 0} {r : Outcome A} where
   pub objects_changed : (n : Namespace) (a : List Arity) (o o1 : Objects) (f : List Frame) (s : ℕ) (t : List (List ℕ)) (p : S) (i : List (List ℕ)) (d : IntegerWidth) (m : Change Objects A) (w : State S)
@@ -28,4 +28,10 @@ module _ {S A : Type 0} {r : Outcome A} where
   unfolding on_names
   names_changed n n1 a o f s t p i d m w e h = record { is = λ ne. rw (← e, h.is ne) refl }
 
-pub ruleset parts = (objects_changed, objects_read, names_changed)
+  pub space_changed : (n : Namespace) (a : List Arity) (o : Objects) (f : List Frame) (s : ℕ) (t : List (List ℕ)) (p p1 : S) (i : List (List ℕ)) (d : IntegerWidth) (m : Change S A) (w : State S)
+      → record { names = n; arities = a; objects = o; frames = f; started = s; tables = t; space = p; osi = i; width = d } ≡ w → Does r p1 m p
+      → Does r (record { names = n; arities = a; objects = o; frames = f; started = s; tables = t; space = p1; osi = i; width = d }) (on_space m) w
+  unfolding on_space
+  space_changed n a o f s t p p1 i d m w e h = record { is = λ ne. rw (← e, h.is ne) refl }
+
+pub ruleset parts = (objects_changed, objects_read, names_changed, space_changed)

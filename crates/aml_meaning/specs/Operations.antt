@@ -76,22 +76,12 @@ turned a = do
   x ← integer_in a
   integer_turned x
 
+-- the next integer, and the one before
 unfoldable pub next_integer : {S : Type 0} → ℕ → Change (State S) Value
 next_integer x w = (Ok (value.Integer (truncated w.width (x + 1))), w)
 
--- the next integer, and the one before
-unfoldable pub incremented : {S : Type 0} → Value → Change (State S) Value
-incremented a = do
-  x ← integer_in a
-  next_integer x
-
 unfoldable pub integer_before : {S : Type 0} → ℕ → Change (State S) Value
 integer_before x w = (as_integer (result_of Subtract w.width x 1), w)
-
-unfoldable pub decremented : {S : Type 0} → Value → Change (State S) Value
-decremented a = do
-  x ← integer_in a
-  integer_before x
 
 -- ---- integers, strings and buffers
 

@@ -1,6 +1,7 @@
 -- Terms that have a value: operators, stores, and what is asked of objects (ACPI 6.5, 19.6). Operands are evaluated first, then the
 -- value is formed, and then it is stored to the targets.
 use Rattle.std.specs.Prelude.{ℕ, List}
+use Rattle.ar_space.specs.Accesses.{Accesses}
 use Rattle.ar_space.specs.Change.{Change, give, settle, ◌>>=◌}
 use Rattle.aml_path.specs.declared.segment.Seg.{Seg}
 use Rattle.aml_terms.specs.Tree.{Tree}
@@ -23,11 +24,12 @@ use Rattle.aml_meaning.specs.declared.term_kind.Count.TheVariants as count
 use Rattle.aml_meaning.specs.State.{State}
 use Rattle.aml_meaning.specs.Run.{Run, lift}
 use Rattle.aml_meaning.specs.Places.{slot_read, place_read, place_referent}
-use Rattle.aml_meaning.specs.Stores.{stored, copied_to}
+use Rattle.aml_meaning.specs.Stores.{copied_to}
 use Rattle.aml_meaning.specs.Mutexes.{acquired_at}
-use Rattle.aml_meaning.specs.Operations.{operated, divided_in, operated_on_one, operated_logically, turned, incremented, decremented, compared_in, joined, joined_resources, to_integer_in, to_buffer_in, size_in, type_of_referent, type_number}
+use Rattle.aml_meaning.specs.Operations.{operated, divided_in, operated_on_one, operated_logically, turned, next_integer, integer_before, compared_in, joined, joined_resources, to_integer_in, to_buffer_in, size_in, type_of_referent, type_number}
 use Rattle.aml_meaning.specs.Tasks.{Task, value_at, two_values}
 use Rattle.aml_meaning.specs.PlaceTerms.{place_at, targeted}
+use Rattle.aml_meaning.specs.FieldCalls.{completed, held_integer, stored_back}
 
 -- ---- what operators give of values
 
@@ -45,12 +47,12 @@ abbrev pub result_of_test : {S : Type 0} → Test → Value → Value → Change
 result_of_test (test.Logical op) v u = operated_logically op v u
 result_of_test (test.Compare c) v u = compared_in c v u
 
-abbrev pub counted_by : {S : Type 0} → Count → Value → Change (State S) Value
-counted_by count.Up v = incremented v
-counted_by count.Down v = decremented v
+abbrev pub counted_by : {S : Type 0} → Count → ℕ → Change (State S) Value
+counted_by count.Up n = next_integer n
+counted_by count.Down n = integer_before n
 
--- ev: what a part evaluates to
-module _ {S : Type 0} (ev : Task → Run S Flow) where
+-- accesses: what the register space makes of them; ev: what a part evaluates to
+module _ {S : Type 0} (accesses : Accesses S) (ev : Task → Run S Flow) where
   unfoldable pub slot_rule : Slot → Run S Flow
   slot_rule slot = do
     v ← lift (slot_read slot)
@@ -59,34 +61,35 @@ module _ {S : Type 0} (ev : Task → Run S Flow) where
   unfoldable pub store_rule : List Seg → ℕ → Tree → Run S Flow
   store_rule scope depth t = do
     v ← value_at ev scope depth t 0
-    targeted ev scope depth t 1 v
+    targeted accesses ev scope depth t 1 v
 
   unfoldable pub copy_rule : List Seg → ℕ → Tree → Run S Flow
   copy_rule scope depth t = do
     v ← value_at ev scope depth t 0
     p ← place_at ev scope depth t 1
-    done ← lift (copied_to p v)
+    s ← lift (copied_to p v)
+    done ← completed accesses ev depth s v
     give (flow.Value v)
 
   unfoldable pub two_rule : TwoOperands → List Seg → ℕ → Tree → Run S Flow
   two_rule k scope depth t = do
     x ← two_values ev scope depth t
     r ← lift (result_of_two k x.0 x.1)
-    targeted ev scope depth t 2 r
+    targeted accesses ev scope depth t 2 r
 
   -- the remainder's target comes before the quotient's
   unfoldable pub divide_rule : List Seg → ℕ → Tree → Run S Flow
   divide_rule scope depth t = do
     x ← two_values ev scope depth t
     d ← lift (divided_in x.0 x.1)
-    done ← targeted ev scope depth t 2 (value.Integer d.remainder)
-    targeted ev scope depth t 3 (value.Integer d.quotient)
+    done ← targeted accesses ev scope depth t 2 (value.Integer d.remainder)
+    targeted accesses ev scope depth t 3 (value.Integer d.quotient)
 
   unfoldable pub one_rule : OneOperand → List Seg → ℕ → Tree → Run S Flow
   one_rule k scope depth t = do
     v ← value_at ev scope depth t 0
     r ← lift (result_of_one k v)
-    targeted ev scope depth t 1 r
+    targeted accesses ev scope depth t 1 r
 
   unfoldable pub test_rule : Test → List Seg → ℕ → Tree → Run S Flow
   test_rule k scope depth t = do
@@ -104,9 +107,10 @@ module _ {S : Type 0} (ev : Task → Run S Flow) where
   unfoldable pub count_rule : Count → List Seg → ℕ → Tree → Run S Flow
   count_rule k scope depth t = do
     p ← place_at ev scope depth t 0
-    v ← lift (place_read p)
-    r ← lift (counted_by k v)
-    done ← lift (stored p r)
+    h ← lift (place_read p)
+    n ← held_integer accesses ev depth h
+    r ← lift (counted_by k n)
+    done ← stored_back accesses ev depth h p r
     give (flow.Value r)
 
   unfoldable pub size_rule : List Seg → ℕ → Tree → Run S Flow

@@ -4,6 +4,7 @@ use Rattle.std.proofs.Common.{arith, refl, ◌∙◌, ap, sub-one, drop-cons, ad
 use Rattle.std.proofs.lemmas.List.{drop_all}
 use Rattle.ar_space.specs.declared.refusal.Refusal.TheVariants as refusal
 use Rattle.ar_space.specs.declared.refusal.EvaluationFault.TheVariants.{ObjectLimit}
+use Rattle.ar_space.specs.Accesses.{Accesses}
 use Rattle.ar_space.specs.Outcome.{Outcome}
 use Rattle.ar_space.specs.Change.{Change, Does, Same, stop, give, ◌>>=◌}
 use Rattle.aml_objects.specs.declared.object.Element.{Element}
@@ -12,30 +13,30 @@ use Rattle.aml_meaning.specs.Given.{Given}
 use Rattle.aml_meaning.specs.Run.{Run, running}
 use Rattle.aml_meaning.specs.Outward.{each_out, element_out, elements_out, package_out}
 
-out_is : {S : Type 0} (n o : ℕ) (s : State S × ℕ) → 0 < n → package_out n o s ≡ elements_out (package_out (n - 1)) o s
+out_is : {S : Type 0} (accesses : Accesses S) (n o : ℕ) (s : State S × ℕ) → 0 < n → package_out accesses n o s ≡ elements_out accesses (package_out accesses (n - 1)) o s
 unfolding package_out
-out_is zero o s l = absurd (omega arith)
-out_is (suc n) o s l = rw sub-one refl
+out_is accesses zero o s l = absurd (omega arith)
+out_is accesses (suc n) o s l = rw sub-one refl
 
-out_none : {S : Type 0} (n o : ℕ) (s : State S × ℕ) → n ≡ 0 → package_out n o s ≡ (Err (refusal.Evaluation ObjectLimit), s)
+out_none : {S : Type 0} (accesses : Accesses S) (n o : ℕ) (s : State S × ℕ) → n ≡ 0 → package_out accesses n o s ≡ (Err (refusal.Evaluation ObjectLimit), s)
 unfolding package_out stop
-out_none n o s e = rw e refl
+out_none accesses n o s e = rw e refl
 
-pub does_deeper : {S : Type 0} {r : Outcome Given} {s1 : State S × ℕ} (n o : ℕ) (s : State S × ℕ) → 0 < n → Does r s1 (elements_out (package_out (n - 1)) o) s → Does r s1 (package_out n o) s
-does_deeper n o s l i = record { is = λ ne. out_is n o s l ∙ i.is ne }
+pub does_deeper : {S : Type 0} {r : Outcome Given} {s1 : State S × ℕ} (accesses : Accesses S) (n o : ℕ) (s : State S × ℕ) → 0 < n → Does r s1 (elements_out accesses (package_out accesses (n - 1)) o) s → Does r s1 (package_out accesses n o) s
+does_deeper accesses n o s l i = record { is = λ ne. out_is accesses n o s l ∙ i.is ne }
 
-pub does_too_deep : {S : Type 0} (n o : ℕ) {s : State S × ℕ} → n ≡ 0 → Does (Err (refusal.Evaluation ObjectLimit)) s (package_out n o) s
-does_too_deep n o {s} e = record { is = λ _. out_none n o s e }
+pub does_too_deep : {S : Type 0} (accesses : Accesses S) (n o : ℕ) {s : State S × ℕ} → n ≡ 0 → Does (Err (refusal.Evaluation ObjectLimit)) s (package_out accesses n o) s
+does_too_deep accesses n o {s} e = record { is = λ _. out_none accesses n o s e }
 
-pub same_each : {S : Type 0} {s0 s : State S × ℕ} {m : Run S (List Given)} (pk : ℕ → Run S Given) (es : List Element) (done : List Given) (i : ℕ) (e : Element) → Same m s0 (each_out pk (drop i es) done) s → i < length es → e ≡ get_or es i e → Same m s0 (element_out pk e >>= (λ g. each_out pk (drop (i + 1) es) (done ++ g ∷ []))) s
+pub same_each : {S : Type 0} {s0 s : State S × ℕ} {m : Run S (List Given)} (accesses : Accesses S) (pk : ℕ → Run S Given) (es : List Element) (done : List Given) (i : ℕ) (e : Element) → Same m s0 (each_out accesses pk (drop i es) done) s → i < length es → e ≡ get_or es i e → Same m s0 (element_out accesses pk e >>= (λ g. each_out accesses pk (drop (i + 1) es) (done ++ g ∷ []))) s
 unfolding each_out
-same_each pk es done i e h l at = record { is = h.is ∙ rw (drop-cons es i e l, ← at, add-one) refl }
+same_each accesses pk es done i e h l at = record { is = h.is ∙ rw (drop-cons es i e l, ← at, add-one) refl }
 
-pub same_more : {S : Type 0} {s0 s : State S × ℕ} {m : Run S (List Given)} (pk : ℕ → Run S Given) (rest : List Element) (done more : List Given) → Same m s0 (each_out pk rest done) s → more ≡ done → Same m s0 (each_out pk rest more) s
-same_more pk rest done more h e = rw e h
+pub same_more : {S : Type 0} {s0 s : State S × ℕ} {m : Run S (List Given)} (accesses : Accesses S) (pk : ℕ → Run S Given) (rest : List Element) (done more : List Given) → Same m s0 (each_out accesses pk rest done) s → more ≡ done → Same m s0 (each_out accesses pk rest more) s
+same_more accesses pk rest done more h e = rw e h
 
-pub each_end : {S : Type 0} {s0 s : State S × ℕ} {m : Run S (List Given)} (pk : ℕ → Run S Given) (es : List Element) (done : List Given) (i : ℕ) → Same m s0 (each_out pk (drop i es) done) s → length es ≤ i → Does (Ok done) s m s0
+pub each_end : {S : Type 0} {s0 s : State S × ℕ} {m : Run S (List Given)} (accesses : Accesses S) (pk : ℕ → Run S Given) (es : List Element) (done : List Given) (i : ℕ) → Same m s0 (each_out accesses pk (drop i es) done) s → length es ≤ i → Does (Ok done) s m s0
 unfolding each_out give
-each_end pk es done i h l = record { is = λ _. h.is ∙ rw (drop_all i es l) refl }
+each_end accesses pk es done i h l = record { is = λ _. h.is ∙ rw (drop_all i es l) refl }
 
 pub ruleset outgoing = (running, does_deeper, does_too_deep)

@@ -4,6 +4,7 @@ use Rattle.ar_space.specs.declared.refusal.Refusal.{Refusal}
 use Rattle.ar_space.specs.declared.refusal.Refusal.TheVariants as refusal
 use Rattle.ar_space.specs.declared.refusal.EvaluationFault.TheVariants.{ObjectLimit, Unsupported}
 use Rattle.ar_space.specs.Outcome.{Outcome, seen}
+use Rattle.ar_space.specs.Accesses.{Accesses}
 use Rattle.ar_space.specs.Change.{Change, give, stop, settle, ◌>>=◌, ◌>>◌}
 use Rattle.aml_path.specs.declared.segment.Seg.{Seg}
 use Rattle.aml_path.specs.Paths.{Name, resolved}
@@ -14,6 +15,7 @@ use Rattle.aml_objects.specs.declared.value.Reference.TheVariants as reference
 use Rattle.aml_objects.specs.declared.object.Element.{Element}
 use Rattle.aml_objects.specs.declared.object.Element.TheVariants as element
 use Rattle.aml_objects.specs.declared.entry.Entry.{Entry}
+use Rattle.aml_objects.specs.declared.entry.FieldUnit.{FieldUnit}
 use Rattle.aml_objects.specs.declared.entry.NamedObject.{NamedObject}
 use Rattle.aml_objects.specs.declared.entry.NamedObject.TheVariants as object
 use Rattle.aml_objects.specs.Objects.{string_at, buffer_at, elements_at}
@@ -24,6 +26,9 @@ use Rattle.aml_meaning.specs.declared.name_use.NameUse.TheVariants as uses
 use Rattle.aml_meaning.specs.State.{State, on_objects}
 use Rattle.aml_meaning.specs.Run.{Run, lift, charge}
 use Rattle.aml_meaning.specs.Given as given
+use Rattle.aml_meaning.specs.Fields.{field_given}
+use Rattle.aml_meaning.specs.FieldCalls.{called_at}
+use Rattle.aml_meaning.specs.Meaning.{meaning}
 
 unfoldable pub text_out : {S : Type 0} → ℕ → Run S given.Given
 text_out o = do
@@ -61,7 +66,7 @@ value_or_path (value.Reference r) p = seen uses.Path p
 
 abbrev pub held_or_path : NamedObject → Outcome (List Seg) → Outcome NameUse
 held_or_path (object.Data v) p = value_or_path v p
-held_or_path (object.FieldUnit u) p = Err (refusal.Evaluation (Unsupported 0x5B81))
+held_or_path (object.FieldUnit u) p = Ok (uses.FieldUnit u)
 held_or_path (object.BufferField b) p = Err (refusal.Evaluation (Unsupported 0x5B13))
 held_or_path _ p = seen uses.Path p
 
@@ -72,7 +77,8 @@ use_of (Err x) found_at would_be = seen uses.Path would_be
 unfoldable pub name_use : {S : Type 0} → Name → List Seg → Change (State S) NameUse
 name_use n scope w = (use_of (seen (λ f. f.1) (found w.names.map scope n)) (seen (λ f. f.0) (found w.names.map scope n)) (resolved n scope), w)
 
-module _ {S : Type 0} (package_out : ℕ → Run S given.Given) where
+-- accesses: what the register space makes of them
+module _ {S : Type 0} (accesses : Accesses S) (package_out : ℕ → Run S given.Given) where
   unfoldable pub value_out : Value → Run S given.Given
   value_out value.Uninitialized = give given.Nothing
   value_out (value.Integer n) = give (given.Integer n)
@@ -81,8 +87,13 @@ module _ {S : Type 0} (package_out : ℕ → Run S given.Given) where
   value_out (value.Package o) = package_out o
   value_out (value.Reference r) = reference_out r
 
+  -- a field unit is read as in a call of its own
+  abbrev pub field_out : FieldUnit → Run S given.Given
+  field_out u = field_given accesses (called_at accesses (meaning accesses) 1) u
+
   unfoldable pub use_out : NameUse → Run S given.Given
   use_out (uses.Value v) = value_out v
+  use_out (uses.FieldUnit u) = field_out u
   use_out (uses.Path p) = give (given.Named p)
 
   unfoldable pub name_out : Name → List Seg → Run S given.Given
@@ -112,10 +123,10 @@ module _ {S : Type 0} (package_out : ℕ → Run S given.Given) where
     give (given.Package (given.givens gs))
 
 -- packages nest at most so deep
-unfoldable pub package_out : {S : Type 0} → ℕ → ℕ → Run S given.Given
-package_out zero o = stop (refusal.Evaluation ObjectLimit)
-package_out (suc n) o = elements_out (package_out n) o
+unfoldable pub package_out : {S : Type 0} → Accesses S → ℕ → ℕ → Run S given.Given
+package_out accesses zero o = stop (refusal.Evaluation ObjectLimit)
+package_out accesses (suc n) o = elements_out accesses (package_out accesses n) o
 
 -- a value as an answer hands it out
-unfoldable pub outward : {S : Type 0} → Value → Run S given.Given
-outward v = value_out (package_out 64) v
+unfoldable pub outward : {S : Type 0} → Accesses S → Value → Run S given.Given
+outward accesses v = value_out accesses (package_out accesses 64) v

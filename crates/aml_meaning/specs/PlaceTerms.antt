@@ -4,6 +4,7 @@ use Rattle.std.specs.Prelude.{ℕ, List, Option, Some, None}
 use Rattle.ar_space.specs.declared.refusal.Refusal.TheVariants as refusal
 use Rattle.ar_space.specs.declared.refusal.NameFault.TheVariants.{BadName}
 use Rattle.ar_space.specs.declared.refusal.ValueFault.TheVariants.{WrongType}
+use Rattle.ar_space.specs.Accesses.{Accesses}
 use Rattle.ar_space.specs.Change.{Change, give, stop, settle, ◌>>=◌}
 use Rattle.aml_path.specs.declared.segment.Seg.{Seg}
 use Rattle.aml_path.specs.Paths.{Name}
@@ -18,8 +19,8 @@ use Rattle.aml_meaning.specs.State.{State}
 use Rattle.aml_meaning.specs.Run.{Run, lift}
 use Rattle.aml_meaning.specs.Terms.{place_of_code}
 use Rattle.aml_meaning.specs.Readings.{path_found}
-use Rattle.aml_meaning.specs.Stores.{stored}
 use Rattle.aml_meaning.specs.Tasks.{Task, task}
+use Rattle.aml_meaning.specs.FieldCalls.{stored_to}
 
 -- the place that a name finds
 unfoldable pub place_named : {S : Type 0} → List Seg → Name → Change (State S) Place
@@ -56,9 +57,11 @@ module _ {S : Type 0} (ev : Task → Run S Flow) where
   abbrev pub place_at : List Seg → ℕ → Tree → ℕ → Run S Place
   place_at scope depth t i = place_by scope depth t i (operand_of t i)
 
+-- accesses: what the register space makes of them
+module _ {S : Type 0} (accesses : Accesses S) (ev : Task → Run S Flow) where
   -- a value that is stored to a target, and is the value of the term
   unfoldable pub targeted : List Seg → ℕ → Tree → ℕ → Value → Run S Flow
   targeted scope depth t i v = do
-    p ← place_at scope depth t i
-    done ← lift (stored p v)
+    p ← place_at ev scope depth t i
+    done ← stored_to accesses ev depth p v
     give (flow.Value v)

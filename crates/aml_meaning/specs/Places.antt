@@ -26,6 +26,8 @@ use Rattle.aml_meaning.specs.declared.place.Place.{Place}
 use Rattle.aml_meaning.specs.declared.place.Place.TheVariants as place
 use Rattle.aml_meaning.specs.declared.place.Holding.{Holding}
 use Rattle.aml_meaning.specs.declared.place.Holding.TheVariants as holding
+use Rattle.aml_meaning.specs.declared.place.Held.{Held}
+use Rattle.aml_meaning.specs.declared.place.Held.TheVariants as held
 use Rattle.aml_meaning.specs.declared.object_type.ObjectType.{ObjectType}
 use Rattle.aml_meaning.specs.declared.object_type.ObjectType.TheVariants as types
 use Rattle.aml_meaning.specs.declared.object_type.Referent.{Referent}
@@ -38,7 +40,7 @@ use Rattle.aml_meaning.specs.Readings.{entry_found}
 
 abbrev pub holding_of : NamedObject → Holding
 holding_of (object.Data v) = holding.Value v
-holding_of (object.FieldUnit u) = holding.FieldUnit
+holding_of (object.FieldUnit u) = holding.FieldUnit u
 holding_of (object.BufferField b) = holding.BufferField
 holding_of _ = holding.Nothing
 
@@ -91,22 +93,27 @@ slot_read slot = do
   v ← own_slot slot
   settle (initialized v)
 
--- ---- the value at a place (Increment and Decrement read there and store there)
+-- ---- what a place holds (Increment and Decrement read there and store there)
 
-abbrev pub value_held : Holding → Outcome Value
-value_held (holding.Value v) = Ok v
-value_held holding.FieldUnit = Err (refusal.Evaluation (Unsupported 0x5B81))
-value_held holding.BufferField = Err (refusal.Evaluation (Unsupported 0x5B13))
-value_held holding.Nothing = Err (refusal.Value WrongType)
+abbrev pub held_in : Holding → Outcome Held
+held_in (holding.Value v) = Ok (held.Value v)
+held_in (holding.FieldUnit u) = Ok (held.FieldUnit u)
+held_in holding.BufferField = Err (refusal.Evaluation (Unsupported 0x5B13))
+held_in holding.Nothing = Err (refusal.Value WrongType)
 
-unfoldable pub name_read : {S : Type 0} → List Seg → Change (State S) Value
+unfoldable pub name_read : {S : Type 0} → List Seg → Change (State S) Held
 name_read p = do
   h ← held_at p
-  settle (value_held h)
+  settle (held_in h)
 
-abbrev pub place_read : {S : Type 0} → Place → Change (State S) Value
+unfoldable pub held_in_slot : {S : Type 0} → Slot → Change (State S) Held
+held_in_slot slot = do
+  v ← slot_read slot
+  give (held.Value v)
+
+abbrev pub place_read : {S : Type 0} → Place → Change (State S) Held
 place_read place.Nowhere = stop (refusal.Value WrongType)
-place_read (place.Slot slot) = slot_read slot
+place_read (place.Slot slot) = held_in_slot slot
 place_read (place.Name p) = name_read p
 
 -- ---- what a reference refers to in the end (SizeOf and ObjectType)

@@ -7,6 +7,7 @@ use Rattle.ar_space.specs.declared.refusal.Refusal.{Refusal}
 use Rattle.ar_space.specs.declared.refusal.Refusal.TheVariants as refusal
 use Rattle.ar_space.specs.declared.refusal.EvaluationFault.TheVariants.{ObjectLimit}
 use Rattle.ar_space.specs.declared.refusal.NamespaceFault.TheVariants.{Exists, NotFound}
+use Rattle.ar_space.specs.Accesses.{Accesses}
 use Rattle.ar_space.specs.Outcome.{Outcome}
 use Rattle.ar_space.specs.Change.{Change, give, settle, go_on, ◌>>=◌, ◌>>◌}
 use Rattle.aml_path.specs.declared.segment.Seg.{Seg}
@@ -26,6 +27,9 @@ use Rattle.aml_meaning.specs.declared.term_kind.TermKind.{TermKind}
 use Rattle.aml_meaning.specs.declared.term_kind.TermKind.TheVariants as kinds
 use Rattle.aml_meaning.specs.declared.term_kind.DeclarationKind.{DeclarationKind}
 use Rattle.aml_meaning.specs.declared.term_kind.DeclarationKind.TheVariants as declarations
+use Rattle.aml_meaning.specs.declared.term_kind.RegionKind.{RegionKind}
+use Rattle.aml_meaning.specs.declared.term_kind.RegionKind.TheVariants as regions
+use Rattle.aml_meaning.specs.FieldTerms.{region_rule, region_term_rule}
 use Rattle.aml_meaning.specs.State.{State, on_names}
 use Rattle.aml_meaning.specs.Run.{Run, lift, charge}
 use Rattle.aml_meaning.specs.Terms.{kind_of}
@@ -36,8 +40,8 @@ use Rattle.aml_meaning.specs.Evaluation.{kind_rule, code_rule, rule}
 use Rattle.aml_meaning.specs.Meaning.{meaning, meaning_is}
 use Rattle.aml_meaning.specs.Outside.{Outside, Stands}
 use Rattle.aml_meaning.specs.Keeping.{Leaves, Keeps, keeps_give, keeps_settle, keeps_charge, keeps_lift, keeps_bind}
-use Rattle.aml_meaning.specs.Leaving.{leaves_path, leaves_new, leaves_method}
-use Rattle.aml_meaning.specs.Standing.{keeps_after, keeps_value, meaning_keeps, list_keeps}
+use Rattle.aml_meaning.specs.Leaving.{leaves_read, leaves_path, leaves_new, leaves_method}
+use Rattle.aml_meaning.specs.Standing.{keeps_after, keeps_value, keeps_value_at, meaning_keeps, list_keeps}
 
 -- which operand names what a term declares
 abbrev pub declared_place : DeclarationKind → Option ℕ
@@ -53,8 +57,15 @@ declared_place declarations.Alias = Some 1
 declared_place declarations.Scope = None
 declared_place declarations.External = None
 
+-- a list of fields declares the names of its elements, of which this doesn't speak
+abbrev pub region_place : RegionKind → Option ℕ
+region_place regions.OperationRegion = Some 0
+region_place regions.Field = None
+region_place regions.IndexField = None
+
 abbrev pub place_of_kind : TermKind → Option ℕ
 place_of_kind (kinds.Declaration k) = declared_place k
+place_of_kind (kinds.Region k) = region_place k
 place_of_kind _ = None
 
 abbrev pub place_in : TermCode → Option ℕ
@@ -148,32 +159,32 @@ sets_method module_level p arguments body = record { sets = λ s n o is. method_
 at_place : (t : Tree) (n : Name) (i j : ℕ) → ◌≡◌ {A = Option ℕ} (Some j) (Some i) → name_of (operand_of t i) ≡ Ok n → name_of (operand_of t j) ≡ Ok n
 at_place t n i j e named = subst (λ k. name_of (operand_of t k) ≡ Ok n) (sym (cc e)) named
 
-module _ {S : Type 0} (scope : List Seg) (depth : ℕ) (t : Tree) (p : List Seg) (n : Name) where
+module _ {S : Type 0} (accesses : Accesses S) (scope : List Seg) (depth : ℕ) (t : Tree) (p : List Seg) (n : Name) where
   -- a name that is declared, and what follows
   sets_declared : {A B : Type 0} (m : Change (State S) A) (k : A → Run S B) → Leaves p m → Sets (lift m) p → ((a : A) → Keeps p (k a)) → Sets (lift m >>= k) p
   sets_declared m k h set i = sets_first (lift m) k p (keeps_lift m h) set i
 
-  sets_declaring : (o : NamedObject) → name_of (operand_of t 0) ≡ Ok n → resolved n scope ≡ Ok p → Sets (declaring {S = S} meaning scope depth t o) p
+  sets_declaring : (o : NamedObject) → name_of (operand_of t 0) ≡ Ok n → resolved n scope ≡ Ok p → Sets (declaring (meaning accesses) scope depth t o) p
   unfolding declaring
   sets_declaring o named at = sets_known _ n _ p named (sets_known _ p _ p at (sets_declared _ _ (leaves_new _ p o) (sets_name _ p o) (λ number. keeps_give _)))
 
-  sets_datum : name_of (operand_of t 0) ≡ Ok n → resolved n scope ≡ Ok p → Sets (name_rule {S = S} meaning scope depth t) p
+  sets_datum : name_of (operand_of t 0) ≡ Ok n → resolved n scope ≡ Ok p → Sets (name_rule (meaning accesses) scope depth t) p
   unfolding name_rule
-  sets_datum named at = sets_then _ _ p (keeps_settle _) (λ datum. sets_then _ _ p (keeps_value meaning meaning_keeps scope depth datum) (λ v. sets_declaring _ named at))
+  sets_datum named at = sets_then _ _ p (keeps_settle _) (λ datum. sets_then _ _ p (keeps_value accesses (meaning accesses) (meaning_keeps accesses) scope depth datum) (λ v. sets_declaring _ named at))
 
-  sets_alias : name_of (operand_of t 1) ≡ Ok n → resolved n scope ≡ Ok p → Sets (alias_rule {S = S} meaning scope depth t) p
+  sets_alias : name_of (operand_of t 1) ≡ Ok n → resolved n scope ≡ Ok p → Sets (alias_rule (meaning accesses) scope depth t) p
   unfolding alias_rule
   sets_alias named at = sets_then _ _ p (keeps_settle _) (λ source. sets_then _ _ p (keeps_lift _ (leaves_path scope source)) (λ target. sets_known _ n _ p named (sets_known _ p _ p at (sets_declared _ _ (leaves_new _ p _) (sets_name _ p _) (λ number. keeps_give _)))))
 
-  sets_procedure : name_of (operand_of t 0) ≡ Ok n → resolved n scope ≡ Ok p → Sets (method_rule {S = S} meaning scope depth t) p
+  sets_procedure : name_of (operand_of t 0) ≡ Ok n → resolved n scope ≡ Ok p → Sets (method_rule (meaning accesses) scope depth t) p
   unfolding method_rule
   sets_procedure named at = sets_known _ n _ p named (sets_known _ p _ p at (sets_then _ _ p (keeps_settle _) (λ flags. sets_then _ _ p (keeps_settle _) (λ body. sets_declared _ _ (leaves_method _ p _ body) (sets_method _ p _ body) (λ number. keeps_give _)))))
 
-  sets_scope : (o : NamedObject) (place : ℕ) → name_of (operand_of t 0) ≡ Ok n → resolved n scope ≡ Ok p → Sets (new_scope {S = S} meaning o place scope depth t) p
+  sets_scope : (o : NamedObject) (place : ℕ) → name_of (operand_of t 0) ≡ Ok n → resolved n scope ≡ Ok p → Sets (new_scope (meaning accesses) o place scope depth t) p
   unfolding new_scope
-  sets_scope o place named at = sets_known _ n _ p named (sets_known _ p _ p at (sets_declared _ _ (leaves_new _ p o) (sets_name _ p o) (λ number. keeps_bind _ _ (keeps_settle _) (λ ts. list_keeps p depth ts))))
+  sets_scope o place named at = sets_known _ n _ p named (sets_known _ p _ p at (sets_declared _ _ (leaves_new _ p o) (sets_name _ p o) (λ number. keeps_bind _ _ (keeps_settle _) (λ ts. list_keeps accesses p depth ts))))
 
-  sets_declaration : (k : DeclarationKind) (i : ℕ) → declared_place k ≡ Some i → name_of (operand_of t i) ≡ Ok n → resolved n scope ≡ Ok p → Sets (declaration_rule {S = S} meaning k scope depth t) p
+  sets_declaration : (k : DeclarationKind) (i : ℕ) → declared_place k ≡ Some i → name_of (operand_of t i) ≡ Ok n → resolved n scope ≡ Ok p → Sets (declaration_rule (meaning accesses) k scope depth t) p
   sets_declaration declarations.Name i e named at = sets_datum (at_place t n i 0 e named) at
   sets_declaration declarations.Device i e named at = sets_scope _ _ (at_place t n i 0 e named) at
   sets_declaration declarations.Processor i e named at = sets_scope _ _ (at_place t n i 0 e named) at
@@ -186,14 +197,22 @@ module _ {S : Type 0} (scope : List Seg) (depth : ℕ) (t : Tree) (p : List Seg)
   sets_declaration declarations.Scope i e named at = absurd (cc e)
   sets_declaration declarations.External i e named at = absurd (cc e)
 
-  sets_kind : (k : TermKind) (op : Opcode) (i : ℕ) → place_of_kind k ≡ Some i → name_of (operand_of t i) ≡ Ok n → resolved n scope ≡ Ok p → Sets (kind_rule {S = S} meaning k op scope depth t) p
+  sets_region_term : (k : RegionKind) (i : ℕ) → region_place k ≡ Some i → name_of (operand_of t i) ≡ Ok n → resolved n scope ≡ Ok p → Sets (region_term_rule (meaning accesses) k scope depth t) p
+  unfolding region_rule
+  sets_region_term regions.OperationRegion i e named at =
+      sets_then _ _ p (keeps_settle _) (λ space. sets_then _ _ p (keeps_value_at accesses (meaning accesses) (meaning_keeps accesses) scope depth t 2) (λ offset. sets_then _ _ p (keeps_value_at accesses (meaning accesses) (meaning_keeps accesses) scope depth t 3) (λ size. sets_then _ _ p (keeps_lift _ (leaves_read offset)) (λ x. sets_then _ _ p (keeps_lift _ (leaves_read size)) (λ y. sets_declaring _ (at_place t n i 0 e named) at)))))
+  sets_region_term regions.Field i e named at = absurd (cc e)
+  sets_region_term regions.IndexField i e named at = absurd (cc e)
+
+  sets_kind : (k : TermKind) (op : Opcode) (i : ℕ) → place_of_kind k ≡ Some i → name_of (operand_of t i) ≡ Ok n → resolved n scope ≡ Ok p → Sets (kind_rule accesses (meaning accesses) k op scope depth t) p
   sets_kind (kinds.Declaration k) op i e named at = sets_declaration k i e named at
+  sets_kind (kinds.Region k) op i e named at = sets_region_term k i e named at
   sets_kind (kinds.Data k) op i e named at = absurd (cc e)
   sets_kind (kinds.Operator k) op i e named at = absurd (cc e)
   sets_kind (kinds.Statement k) op i e named at = absurd (cc e)
   sets_kind kinds.Unsupported op i e named at = absurd (cc e)
 
-  sets_code : (c : TermCode) (i : ℕ) → place_in c ≡ Some i → name_of (operand_of t i) ≡ Ok n → resolved n scope ≡ Ok p → Sets (code_rule {S = S} meaning c scope depth t) p
+  sets_code : (c : TermCode) (i : ℕ) → place_in c ≡ Some i → name_of (operand_of t i) ≡ Ok n → resolved n scope ≡ Ok p → Sets (code_rule accesses (meaning accesses) c scope depth t) p
   sets_code (codes.Opcode op) i e named at = sets_kind (kind_of op) op i e named at
   sets_code codes.MethodInvocation i e named at = absurd (cc e)
   sets_code codes.Name i e named at = absurd (cc e)
@@ -204,12 +223,12 @@ module _ {S : Type 0} (scope : List Seg) (depth : ℕ) (t : Tree) (p : List Seg)
   sets_code codes.ConnectField i e named at = absurd (cc e)
 
 -- a term that declares a path outside of control methods and is not refused leaves a name there
-declared_stands : {S : Type 0} (scope : List Seg) (depth : ℕ) (t : Tree) (p : List Seg) → Declares scope t p → Sets {S = S} (charge >> rule meaning (task scope depth t)) p
+declared_stands : {S : Type 0} (accesses : Accesses S) (scope : List Seg) (depth : ℕ) (t : Tree) (p : List Seg) → Declares scope t p → Sets {S = S} (charge >> rule accesses (meaning accesses) (task scope depth t)) p
 unfolding rule
-declared_stands scope depth t p d = sets_then _ _ p keeps_charge (λ u. sets_code scope depth t p d.name (code_of t) d.place d.declares d.named d.stands_for)
+declared_stands accesses scope depth t p d = sets_then _ _ p keeps_charge (λ u. sets_code accesses scope depth t p d.name (code_of t) d.place d.declares d.named d.stands_for)
 
-pub declares_stands : {S : Type 0} (scope : List Seg) (depth : ℕ) (t : Tree) (p : List Seg) (s : State S × ℕ) (f : Flow) → Declares scope t p → Outside s.0 p → (meaning (task scope depth t) s).0 ≡ Ok f → Stands (meaning (task scope depth t) s).1.0 p
-declares_stands scope depth t p s f d o is = subst (λ a. Stands a.1.0 p) (sym (meaning_is (task scope depth t) s)) ((declared_stands scope depth t p d).sets s f o (ap (λ a. a.0) (sym (meaning_is (task scope depth t) s)) ∙ is))
+pub declares_stands : {S : Type 0} (accesses : Accesses S) (scope : List Seg) (depth : ℕ) (t : Tree) (p : List Seg) (s : State S × ℕ) (f : Flow) → Declares scope t p → Outside s.0 p → (meaning accesses (task scope depth t) s).0 ≡ Ok f → Stands (meaning accesses (task scope depth t) s).1.0 p
+declares_stands accesses scope depth t p s f d o is = subst (λ a. Stands a.1.0 p) (sym (meaning_is accesses (task scope depth t) s)) ((declared_stands accesses scope depth t p d).sets s f o (ap (λ a. a.0) (sym (meaning_is accesses (task scope depth t) s)) ∙ is))
 
 -- ---- lists
 
@@ -238,16 +257,16 @@ unfolding go_on
 later_reaches (Ok f) s m p h o is = rest_reaches f m p h s o is
 later_reaches (Err e) s m p h o is = absurd (cc is)
 
-meaning_sets : {S : Type 0} (scope : List Seg) (depth : ℕ) (t : Tree) (p : List Seg) → Declares scope t p → Sets {S = S} (meaning (task scope depth t)) p
-meaning_sets scope depth t p d = record { sets = λ s f o is. declares_stands scope depth t p s f d o is }
+meaning_sets : {S : Type 0} (accesses : Accesses S) (scope : List Seg) (depth : ℕ) (t : Tree) (p : List Seg) → Declares scope t p → Sets {S = S} (meaning accesses (task scope depth t)) p
+meaning_sets accesses scope depth t p d = record { sets = λ s f o is. declares_stands accesses scope depth t p s f d o is }
 
-item_reaches : {S : Type 0} (scope : List Seg) (depth : ℕ) (t : Tree) (ts : Trees) (p : List Seg) → IsItem t ts → Declares scope t p → Reaches {S = S} (in_turn meaning scope depth ts) p
+item_reaches : {S : Type 0} (accesses : Accesses S) (scope : List Seg) (depth : ℕ) (t : Tree) (ts : Trees) (p : List Seg) → IsItem t ts → Declares scope t p → Reaches {S = S} (in_turn (meaning accesses) scope depth ts) p
 unfolding in_turn ◌>>=◌
-item_reaches scope depth t ts p (first us) d = set_reaches _ p (sets_first (meaning (task scope depth t)) _ p (meaning_keeps _) (meaning_sets scope depth t p d) (λ f. keeps_after meaning meaning_keeps (goes_on f) f _ (list_keeps scope depth us)))
-item_reaches scope depth t ts p (later u us i) d = record {
-  reaches = λ s o is. later_reaches (meaning (task scope depth u) s).0 (meaning (task scope depth u) s).1 (in_turn meaning scope depth us) p (item_reaches scope depth t us p i d) ((meaning_keeps (task scope depth u)).keeps s o).outside is;
+item_reaches accesses scope depth t ts p (first us) d = set_reaches _ p (sets_first (meaning accesses (task scope depth t)) _ p (meaning_keeps accesses _) (meaning_sets accesses scope depth t p d) (λ f. keeps_after accesses (meaning accesses) (meaning_keeps accesses) (goes_on f) f _ (list_keeps accesses scope depth us)))
+item_reaches accesses scope depth t ts p (later u us i) d = record {
+  reaches = λ s o is. later_reaches (meaning accesses (task scope depth u) s).0 (meaning accesses (task scope depth u) s).1 (in_turn (meaning accesses) scope depth us) p (item_reaches accesses scope depth t us p i d) ((meaning_keeps accesses (task scope depth u)).keeps s o).outside is;
 }
 
 -- a list that is evaluated to its end leaves each name that one of its terms declares outside of control methods
-pub items_stand : {S : Type 0} (scope : List Seg) (depth : ℕ) (t : Tree) (ts : Trees) (p : List Seg) (s : State S × ℕ) → IsItem t ts → Declares scope t p → Outside s.0 p → (in_turn meaning scope depth ts s).0 ≡ Ok flow.Next → Stands (in_turn meaning scope depth ts s).1.0 p
-items_stand scope depth t ts p s i d o is = (item_reaches scope depth t ts p i d).reaches s o is
+pub items_stand : {S : Type 0} (accesses : Accesses S) (scope : List Seg) (depth : ℕ) (t : Tree) (ts : Trees) (p : List Seg) (s : State S × ℕ) → IsItem t ts → Declares scope t p → Outside s.0 p → (in_turn (meaning accesses) scope depth ts s).0 ≡ Ok flow.Next → Stands (in_turn (meaning accesses) scope depth ts s).1.0 p
+items_stand accesses scope depth t ts p s i d o is = (item_reaches accesses scope depth t ts p i d).reaches s o is

@@ -1,5 +1,6 @@
 -- No evaluation removes a name that stands outside of control methods.
 use Rattle.std.specs.Prelude.{◌≡◌, ℕ, zero, suc, List, Bool, true, false, Option, Some, None, refl, if◌then◌else◌}
+use Rattle.ar_space.specs.Accesses.{Accesses}
 use Rattle.ar_space.specs.Change.{give}
 use Rattle.aml_path.specs.declared.segment.Seg.{Seg}
 use Rattle.aml_path.specs.Paths.{is_below}
@@ -32,6 +33,13 @@ use Rattle.aml_meaning.specs.declared.term_kind.StatementKind.TheVariants as sta
 use Rattle.aml_meaning.specs.declared.invocation.Invocation.{Invocation}
 use Rattle.aml_meaning.specs.declared.invocation.Invocation.TheVariants as invocations
 use Rattle.aml_meaning.specs.declared.place.Place.{Place}
+use Rattle.aml_meaning.specs.declared.place.Held.{Held}
+use Rattle.aml_meaning.specs.declared.place.Held.TheVariants as held
+use Rattle.aml_meaning.specs.declared.place.Stored.{Stored}
+use Rattle.aml_meaning.specs.declared.place.Stored.TheVariants as store
+use Rattle.aml_meaning.specs.declared.term_kind.RegionKind.{RegionKind}
+use Rattle.aml_meaning.specs.declared.term_kind.RegionKind.TheVariants as regions
+use Rattle.aml_objects.specs.declared.entry.FieldUnit.{FieldUnit}
 use Rattle.aml_meaning.specs.State.{State}
 use Rattle.aml_meaning.specs.Run.{Run}
 use Rattle.aml_meaning.specs.Terms.{kind_of}
@@ -41,17 +49,21 @@ use Rattle.aml_meaning.specs.DeclarationTerms.{declaring, name_rule, alias_rule,
 use Rattle.aml_meaning.specs.PlaceTerms.{referring, place_of_term, name_place, place_by, place_at, targeted}
 use Rattle.aml_meaning.specs.OperatorTerms.{slot_rule, store_rule, copy_rule, two_rule, divide_rule, one_rule, test_rule, not_rule, count_rule, size_rule, type_rule, acquire_rule, operator_rule}
 use Rattle.aml_meaning.specs.StatementTerms.{otherwise, branch, if_rule, else_rule, turn_of, turn, loop_end, after_turn, turns, loop, while_rule, return_rule, release_rule, notify_rule, pause_rule, fatal_rule, statement_rule}
-use Rattle.aml_meaning.specs.Invocations.{arguments_in_turn, invoked, call_rule, invocation_rule, name_value}
+use Rattle.aml_meaning.specs.Invocations.{invoked, method_value}
+use Rattle.aml_meaning.specs.InvocationTerms.{arguments_in_turn, call_rule, field_rule, invocation_rule, name_value}
+use Rattle.aml_meaning.specs.FieldCalls.{asked, method_integer, answer_over, answer_within, field_read, held_integer, completed, stored_to, stored_back}
+use Rattle.aml_meaning.specs.FieldTerms.{fields_laid, region_rule, field_list_rule, index_list_rule, region_term_rule}
+use Rattle.aml_meaning.specs.KeepingFields.{leaves_elements, leaves_region_found, leaves_field_found, keeps_field_value, keeps_field_integer, keeps_field_part, keeps_field_stored}
 use Rattle.aml_meaning.specs.Evaluation.{kind_rule, code_rule, rule}
 use Rattle.aml_meaning.specs.Meaning.{meaning, evaluated_within}
 use Rattle.aml_meaning.specs.Outside.{Outside, Stands, Kept, kept_same}
 use Rattle.aml_meaning.specs.Keeping.{Keeps, leaves_objects, keeps_give, keeps_stop, keeps_settle, keeps_lift, keeps_charge, keeps_bind, keeps_leaving, keeps_given}
-use Rattle.aml_meaning.specs.Leaving.{CalledApart, leaves_integer, leaves_read, leaves_path, leaves_scope, leaves_place_named, leaves_within, leaves_buffer, leaves_package, leaves_new, leaves_method, leaves_divided, leaves_turned, leaves_size, leaves_two, leaves_one, leaves_test, leaves_counted, leaves_terms, leaves_opened, leaves_arguments, leaves_use, use_apart}
+use Rattle.aml_meaning.specs.Leaving.{CalledApart, leaves_integer, leaves_read, leaves_path, leaves_scope, leaves_place_named, leaves_within, leaves_buffer, leaves_package, leaves_new, leaves_method, leaves_divided, leaves_turned, leaves_size, leaves_two, leaves_one, leaves_test, leaves_counted, leaves_terms, leaves_opened, leaves_arguments, leaves_use, use_apart, leaves_invocation, invocation_apart}
 use Rattle.aml_meaning.specs.LeavingPlaces.{leaves_slot_read, leaves_place_read, leaves_referent, leaves_stored, leaves_copied, leaves_acquired_at, leaves_given_back_at}
 
 -- ---- parts that keep names make rules that keep them
 
-module _ {S : Type 0} {p : List Seg} (ev : Task → Run S Flow) (parts : (t : Task) → Keeps p (ev t)) where
+module _ {S : Type 0} {p : List Seg} (accesses : Accesses S) (ev : Task → Run S Flow) (parts : (t : Task) → Keeps p (ev t)) where
   pub keeps_value : (scope : List Seg) (depth : ℕ) (t : Tree) → Keeps p (operand_value ev scope depth t)
   unfolding operand_value
   keeps_value scope depth t = keeps_bind _ _ (parts _) (λ f. keeps_settle _)
@@ -64,6 +76,51 @@ module _ {S : Type 0} {p : List Seg} (ev : Task → Run S Flow) (parts : (t : Ta
   unfolding in_turn
   keeps_turn scope depth no_trees = keeps_give _
   keeps_turn scope depth (tree t ts) = keeps_bind _ _ (parts _) (λ f. keeps_after (goes_on f) f _ (keeps_turn scope depth ts))
+
+  -- the control method is not above the path
+  keeps_invoked : (depth : ℕ) (q : List Seg) (body : BodyPlace) (arguments : List Value) → is_below q p ≡ false → Keeps p (invoked ev depth q body arguments)
+  unfolding invoked
+  keeps_invoked depth q body arguments apart = keeps_bind _ _ (keeps_settle _) (λ few. keeps_bind _ _ (keeps_lift _ (leaves_terms q body)) (λ ts. keeps_bind _ _ (keeps_lift _ (leaves_opened _)) (λ frame. keeps_leaving q _ apart (keeps_turn q _ ts))))
+
+  keeps_method_value : (depth : ℕ) (q : List Seg) (body : BodyPlace) (arguments : List Value) → is_below q p ≡ false → Keeps p (method_value ev depth q body arguments)
+  unfolding method_value
+  keeps_method_value depth q body arguments apart = keeps_bind _ _ (keeps_invoked depth q body arguments apart) (λ f. keeps_give _)
+
+  -- ---- field units
+
+  keeps_asked : (answer : Invocation → Run S ℕ) → ((i : Invocation) → CalledApart p i → Keeps p (answer i)) → (q : List Seg) → Keeps p (asked answer q)
+  unfolding asked
+  keeps_asked answer each q = keeps_given _ _ _ (leaves_invocation _ _ _) (invocation_apart _ _ _) each
+
+  keeps_over : (k : ℕ) (call : List Seg → Run S ℕ) → ((q : List Seg) → Keeps p (call q)) → (i : Invocation) → CalledApart p i → Keeps p (answer_over accesses ev k call i)
+  unfolding method_integer
+  keeps_over k call each (invocations.Value v) apart = keeps_settle _
+  keeps_over k call each (invocations.FieldUnit u) apart = keeps_field_part accesses call each u
+  keeps_over k call each (invocations.Method q body) apart = keeps_bind _ _ (keeps_method_value _ q body _ (apart q body refl)) (λ v. keeps_settle _)
+
+  keeps_answer : (k : ℕ) (i : Invocation) → CalledApart p i → Keeps p (answer_within accesses ev k i)
+  unfolding answer_within
+  keeps_answer zero i apart = keeps_stop _
+  keeps_answer (suc k) i apart = keeps_over k _ (keeps_asked _ (keeps_answer k)) i apart
+
+  keeps_read : (depth : ℕ) (u : FieldUnit) → Keeps p (field_read accesses ev depth u)
+  keeps_read depth u = keeps_field_value accesses _ (keeps_asked _ (keeps_answer _)) u
+
+  keeps_held : (depth : ℕ) (h : Held) → Keeps p (held_integer accesses ev depth h)
+  keeps_held depth (held.Value v) = keeps_lift _ (leaves_read v)
+  keeps_held depth (held.FieldUnit u) = keeps_field_integer accesses _ (keeps_asked _ (keeps_answer _)) u
+
+  keeps_completed : (depth : ℕ) (s : Stored) (v : Value) → Keeps p (completed accesses ev depth s v)
+  keeps_completed depth store.Done v = keeps_give _
+  keeps_completed depth (store.FieldUnit u) v = keeps_field_stored accesses _ (keeps_asked _ (keeps_answer _)) u v
+
+  keeps_stored_to : (depth : ℕ) (q : Place) (v : Value) → Keeps p (stored_to accesses ev depth q v)
+  unfolding stored_to
+  keeps_stored_to depth q v = keeps_bind _ _ (keeps_lift _ (leaves_stored q v)) (λ s. keeps_completed depth s v)
+
+  keeps_stored_back : (depth : ℕ) (h : Held) (q : Place) (v : Value) → Keeps p (stored_back accesses ev depth h q v)
+  keeps_stored_back depth (held.Value old) q v = keeps_stored_to depth q v
+  keeps_stored_back depth (held.FieldUnit u) q v = keeps_field_stored accesses _ (keeps_asked _ (keeps_answer _)) u v
 
   keeps_constant : (k : ℕ) → Keeps p (constant_rule ev k)
   unfolding constant_rule
@@ -168,7 +225,7 @@ module _ {S : Type 0} {p : List Seg} (ev : Task → Run S Flow) (parts : (t : Ta
 
   -- ---- places and operators
 
-  keeps_value_at : (scope : List Seg) (depth : ℕ) (t : Tree) (i : ℕ) → Keeps p (value_at ev scope depth t i)
+  pub keeps_value_at : (scope : List Seg) (depth : ℕ) (t : Tree) (i : ℕ) → Keeps p (value_at ev scope depth t i)
   unfolding value_at
   keeps_value_at scope depth t i = keeps_bind _ _ (keeps_settle _) (λ x. keeps_value scope depth x)
 
@@ -200,59 +257,59 @@ module _ {S : Type 0} {p : List Seg} (ev : Task → Run S Flow) (parts : (t : Ta
   keeps_place : (scope : List Seg) (depth : ℕ) (t : Tree) (i : ℕ) → Keeps p (place_at ev scope depth t i)
   keeps_place scope depth t i = keeps_place_by scope depth t i (operand_of t i)
 
-  keeps_targeted : (scope : List Seg) (depth : ℕ) (t : Tree) (i : ℕ) (v : Value) → Keeps p (targeted ev scope depth t i v)
+  keeps_targeted : (scope : List Seg) (depth : ℕ) (t : Tree) (i : ℕ) (v : Value) → Keeps p (targeted accesses ev scope depth t i v)
   unfolding targeted
-  keeps_targeted scope depth t i v = keeps_bind _ _ (keeps_place scope depth t i) (λ q. keeps_bind _ _ (keeps_lift _ (leaves_stored q v)) (λ done. keeps_give _))
+  keeps_targeted scope depth t i v = keeps_bind _ _ (keeps_place scope depth t i) (λ q. keeps_bind _ _ (keeps_stored_to depth q v) (λ done. keeps_give _))
 
-  keeps_slot : (slot : Slot) → Keeps p (slot_rule ev slot)
+  keeps_slot : (slot : Slot) → Keeps p (slot_rule accesses ev slot)
   unfolding slot_rule
   keeps_slot slot = keeps_bind _ _ (keeps_lift _ (leaves_slot_read slot)) (λ v. keeps_give _)
 
-  keeps_store : (scope : List Seg) (depth : ℕ) (t : Tree) → Keeps p (store_rule ev scope depth t)
+  keeps_store : (scope : List Seg) (depth : ℕ) (t : Tree) → Keeps p (store_rule accesses ev scope depth t)
   unfolding store_rule
   keeps_store scope depth t = keeps_bind _ _ (keeps_value_at scope depth t 0) (λ v. keeps_targeted scope depth t 1 v)
 
-  keeps_copy : (scope : List Seg) (depth : ℕ) (t : Tree) → Keeps p (copy_rule ev scope depth t)
+  keeps_copy : (scope : List Seg) (depth : ℕ) (t : Tree) → Keeps p (copy_rule accesses ev scope depth t)
   unfolding copy_rule
-  keeps_copy scope depth t = keeps_bind _ _ (keeps_value_at scope depth t 0) (λ v. keeps_bind _ _ (keeps_place scope depth t 1) (λ q. keeps_bind _ _ (keeps_lift _ (leaves_copied q v)) (λ done. keeps_give _)))
+  keeps_copy scope depth t = keeps_bind _ _ (keeps_value_at scope depth t 0) (λ v. keeps_bind _ _ (keeps_place scope depth t 1) (λ q. keeps_bind _ _ (keeps_lift _ (leaves_copied q v)) (λ s. keeps_bind _ _ (keeps_completed depth s v) (λ done. keeps_give _))))
 
-  keeps_two : (k : TwoOperands) (scope : List Seg) (depth : ℕ) (t : Tree) → Keeps p (two_rule ev k scope depth t)
+  keeps_two : (k : TwoOperands) (scope : List Seg) (depth : ℕ) (t : Tree) → Keeps p (two_rule accesses ev k scope depth t)
   unfolding two_rule
   keeps_two k scope depth t = keeps_bind _ _ (keeps_two_values scope depth t) (λ x. keeps_bind _ _ (keeps_lift _ (leaves_two k x.0 x.1)) (λ r. keeps_targeted scope depth t 2 r))
 
-  keeps_divide : (scope : List Seg) (depth : ℕ) (t : Tree) → Keeps p (divide_rule ev scope depth t)
+  keeps_divide : (scope : List Seg) (depth : ℕ) (t : Tree) → Keeps p (divide_rule accesses ev scope depth t)
   unfolding divide_rule
   keeps_divide scope depth t = keeps_bind _ _ (keeps_two_values scope depth t) (λ x. keeps_bind _ _ (keeps_lift _ (leaves_divided x.0 x.1)) (λ d. keeps_bind _ _ (keeps_targeted scope depth t 2 _) (λ done. keeps_targeted scope depth t 3 _)))
 
-  keeps_one : (k : OneOperand) (scope : List Seg) (depth : ℕ) (t : Tree) → Keeps p (one_rule ev k scope depth t)
+  keeps_one : (k : OneOperand) (scope : List Seg) (depth : ℕ) (t : Tree) → Keeps p (one_rule accesses ev k scope depth t)
   unfolding one_rule
   keeps_one k scope depth t = keeps_bind _ _ (keeps_value_at scope depth t 0) (λ v. keeps_bind _ _ (keeps_lift _ (leaves_one k v)) (λ r. keeps_targeted scope depth t 1 r))
 
-  keeps_test : (k : Test) (scope : List Seg) (depth : ℕ) (t : Tree) → Keeps p (test_rule ev k scope depth t)
+  keeps_test : (k : Test) (scope : List Seg) (depth : ℕ) (t : Tree) → Keeps p (test_rule accesses ev k scope depth t)
   unfolding test_rule
   keeps_test k scope depth t = keeps_bind _ _ (keeps_two_values scope depth t) (λ x. keeps_bind _ _ (keeps_lift _ (leaves_test k x.0 x.1)) (λ r. keeps_give _))
 
-  keeps_not : (scope : List Seg) (depth : ℕ) (t : Tree) → Keeps p (not_rule ev scope depth t)
+  keeps_not : (scope : List Seg) (depth : ℕ) (t : Tree) → Keeps p (not_rule accesses ev scope depth t)
   unfolding not_rule
   keeps_not scope depth t = keeps_bind _ _ (keeps_value_at scope depth t 0) (λ v. keeps_bind _ _ (keeps_lift _ (leaves_turned v)) (λ r. keeps_give _))
 
-  keeps_count : (k : Count) (scope : List Seg) (depth : ℕ) (t : Tree) → Keeps p (count_rule ev k scope depth t)
+  keeps_count : (k : Count) (scope : List Seg) (depth : ℕ) (t : Tree) → Keeps p (count_rule accesses ev k scope depth t)
   unfolding count_rule
-  keeps_count k scope depth t = keeps_bind _ _ (keeps_place scope depth t 0) (λ q. keeps_bind _ _ (keeps_lift _ (leaves_place_read q)) (λ v. keeps_bind _ _ (keeps_lift _ (leaves_counted k v)) (λ r. keeps_bind _ _ (keeps_lift _ (leaves_stored q r)) (λ done. keeps_give _))))
+  keeps_count k scope depth t = keeps_bind _ _ (keeps_place scope depth t 0) (λ q. keeps_bind _ _ (keeps_lift _ (leaves_place_read q)) (λ h. keeps_bind _ _ (keeps_held depth h) (λ x. keeps_bind _ _ (keeps_lift _ (leaves_counted k x)) (λ r. keeps_bind _ _ (keeps_stored_back depth h q r) (λ done. keeps_give _)))))
 
-  keeps_size : (scope : List Seg) (depth : ℕ) (t : Tree) → Keeps p (size_rule ev scope depth t)
+  keeps_size : (scope : List Seg) (depth : ℕ) (t : Tree) → Keeps p (size_rule accesses ev scope depth t)
   unfolding size_rule
   keeps_size scope depth t = keeps_bind _ _ (keeps_place scope depth t 0) (λ q. keeps_bind _ _ (keeps_lift _ (leaves_referent q)) (λ r. keeps_bind _ _ (keeps_lift _ (leaves_size r)) (λ v. keeps_give _)))
 
-  keeps_type : (scope : List Seg) (depth : ℕ) (t : Tree) → Keeps p (type_rule ev scope depth t)
+  keeps_type : (scope : List Seg) (depth : ℕ) (t : Tree) → Keeps p (type_rule accesses ev scope depth t)
   unfolding type_rule
   keeps_type scope depth t = keeps_bind _ _ (keeps_place scope depth t 0) (λ q. keeps_bind _ _ (keeps_lift _ (leaves_referent q)) (λ r. keeps_give _))
 
-  keeps_acquire : (scope : List Seg) (depth : ℕ) (t : Tree) → Keeps p (acquire_rule ev scope depth t)
+  keeps_acquire : (scope : List Seg) (depth : ℕ) (t : Tree) → Keeps p (acquire_rule accesses ev scope depth t)
   unfolding acquire_rule
   keeps_acquire scope depth t = keeps_bind _ _ (keeps_place scope depth t 0) (λ q. keeps_bind _ _ (keeps_lift _ (leaves_acquired_at q)) (λ done. keeps_give _))
 
-  keeps_operator : (k : OperatorKind) (scope : List Seg) (depth : ℕ) (t : Tree) → Keeps p (operator_rule ev k scope depth t)
+  keeps_operator : (k : OperatorKind) (scope : List Seg) (depth : ℕ) (t : Tree) → Keeps p (operator_rule accesses ev k scope depth t)
   keeps_operator (operators.Slot slot) scope depth t = keeps_slot slot
   keeps_operator operators.Store scope depth t = keeps_store scope depth t
   keeps_operator operators.CopyObject scope depth t = keeps_copy scope depth t
@@ -349,33 +406,46 @@ module _ {S : Type 0} {p : List Seg} (ev : Task → Run S Flow) (parts : (t : Ta
   keeps_arguments scope depth no_trees done = keeps_give _
   keeps_arguments scope depth (tree t ts) done = keeps_bind _ _ (keeps_value scope depth t) (λ v. keeps_arguments scope depth ts _)
 
-  -- the control method is not above the path
-  keeps_invoked : (depth : ℕ) (q : List Seg) (body : BodyPlace) (arguments : List Value) → is_below q p ≡ false → Keeps p (invoked ev depth q body arguments)
-  unfolding invoked
-  keeps_invoked depth q body arguments apart = keeps_bind _ _ (keeps_settle _) (λ few. keeps_bind _ _ (keeps_lift _ (leaves_terms q body)) (λ ts. keeps_bind _ _ (keeps_lift _ (leaves_opened _)) (λ frame. keeps_leaving q _ apart (keeps_turn q _ ts))))
-
   keeps_call : (scope : List Seg) (depth : ℕ) (ts : Trees) (q : List Seg) (body : BodyPlace) → is_below q p ≡ false → Keeps p (call_rule ev scope depth ts q body)
   unfolding call_rule
   keeps_call scope depth ts q body apart = keeps_bind _ _ (keeps_arguments scope depth ts _) (λ arguments. keeps_invoked depth q body arguments apart)
 
-  keeps_invocation : (scope : List Seg) (depth : ℕ) (ts : Trees) (i : Invocation) → CalledApart p i → Keeps p (invocation_rule ev scope depth ts i)
+  keeps_invocation : (scope : List Seg) (depth : ℕ) (ts : Trees) (i : Invocation) → CalledApart p i → Keeps p (invocation_rule accesses ev scope depth ts i)
+  unfolding field_rule
   keeps_invocation scope depth ts (invocations.Value v) apart = keeps_give _
+  keeps_invocation scope depth ts (invocations.FieldUnit u) apart = keeps_bind _ _ (keeps_read depth u) (λ v. keeps_give _)
   keeps_invocation scope depth ts (invocations.Method q body) apart = keeps_call scope depth ts q body (apart q body refl)
 
-  keeps_name_value : (scope : List Seg) (depth : ℕ) (t : Tree) → Keeps p (name_value ev scope depth t)
+  keeps_name_value : (scope : List Seg) (depth : ℕ) (t : Tree) → Keeps p (name_value accesses ev scope depth t)
   unfolding name_value
   keeps_name_value scope depth t = keeps_bind _ _ (keeps_settle _) (λ x. keeps_bind _ _ (keeps_settle _) (λ ts. keeps_bind _ _ (keeps_lift _ (leaves_arguments scope x)) (λ wanted. keeps_bind _ _ (keeps_settle _) (λ many. keeps_given _ _ _ (leaves_use scope x) (use_apart scope x) (λ i apart. keeps_invocation scope depth ts i apart)))))
 
+  -- ---- operation regions and fields
+
+  pub keeps_region : (scope : List Seg) (depth : ℕ) (t : Tree) → Keeps p (region_rule ev scope depth t)
+  unfolding region_rule
+  keeps_region scope depth t =
+      keeps_bind _ _ (keeps_settle _) (λ space. keeps_bind _ _ (keeps_value_at scope depth t 2) (λ offset. keeps_bind _ _ (keeps_value_at scope depth t 3) (λ size. keeps_bind _ _ (keeps_lift _ (leaves_read offset)) (λ x. keeps_bind _ _ (keeps_lift _ (leaves_read size)) (λ y. keeps_declaring scope depth t _)))))
+
+  keeps_region_term : (k : RegionKind) (scope : List Seg) (depth : ℕ) (t : Tree) → Keeps p (region_term_rule ev k scope depth t)
+  unfolding field_list_rule index_list_rule fields_laid
+  keeps_region_term regions.OperationRegion scope depth t = keeps_region scope depth t
+  keeps_region_term regions.Field scope depth t =
+      keeps_bind _ _ (keeps_settle _) (λ ts. keeps_bind _ _ (keeps_settle _) (λ plain. keeps_bind _ _ (keeps_settle _) (λ x. keeps_bind _ _ (keeps_lift _ (leaves_region_found scope x)) (λ region. keeps_bind _ _ (keeps_settle _) (λ flags. keeps_bind _ _ (keeps_lift _ (leaves_elements _ scope depth _ ts)) (λ laid. keeps_give _))))))
+  keeps_region_term regions.IndexField scope depth t =
+      keeps_bind _ _ (keeps_settle _) (λ ts. keeps_bind _ _ (keeps_settle _) (λ plain. keeps_bind _ _ (keeps_settle _) (λ x. keeps_bind _ _ (keeps_lift _ (leaves_field_found scope x)) (λ index. keeps_bind _ _ (keeps_settle _) (λ y. keeps_bind _ _ (keeps_lift _ (leaves_field_found scope y)) (λ behind. keeps_bind _ _ (keeps_settle _) (λ flags. keeps_bind _ _ (keeps_lift _ (leaves_elements _ scope depth _ ts)) (λ laid. keeps_give _))))))))
+
   -- ---- which rule
 
-  keeps_kind : (k : TermKind) (op : Opcode) (scope : List Seg) (depth : ℕ) (t : Tree) → Keeps p (kind_rule ev k op scope depth t)
+  keeps_kind : (k : TermKind) (op : Opcode) (scope : List Seg) (depth : ℕ) (t : Tree) → Keeps p (kind_rule accesses ev k op scope depth t)
   keeps_kind (kinds.Data k) op scope depth t = keeps_data k scope depth t
   keeps_kind (kinds.Declaration k) op scope depth t = keeps_declaration k scope depth t
+  keeps_kind (kinds.Region k) op scope depth t = keeps_region_term k scope depth t
   keeps_kind (kinds.Operator k) op scope depth t = keeps_operator k scope depth t
   keeps_kind (kinds.Statement k) op scope depth t = keeps_statement k scope depth t
   keeps_kind kinds.Unsupported op scope depth t = keeps_stop _
 
-  keeps_code : (c : TermCode) (scope : List Seg) (depth : ℕ) (t : Tree) → Keeps p (code_rule ev c scope depth t)
+  keeps_code : (c : TermCode) (scope : List Seg) (depth : ℕ) (t : Tree) → Keeps p (code_rule accesses ev c scope depth t)
   keeps_code (codes.Opcode op) scope depth t = keeps_kind (kind_of op) op scope depth t
   keeps_code codes.MethodInvocation scope depth t = keeps_name_value scope depth t
   keeps_code codes.Name scope depth t = keeps_stop _
@@ -385,29 +455,29 @@ module _ {S : Type 0} {p : List Seg} (ev : Task → Run S Flow) (parts : (t : Ta
   keeps_code codes.ExtendedAccessField scope depth t = keeps_stop _
   keeps_code codes.ConnectField scope depth t = keeps_stop _
 
-  keeps_rule : (t : Task) → Keeps p (rule ev t)
+  keeps_rule : (t : Task) → Keeps p (rule accesses ev t)
   unfolding rule
   keeps_rule t = keeps_code (code_of t.term) t.scope t.depth t.term
 
 -- ---- evaluations
 
-within_keeps : {S : Type 0} {p : List Seg} (n : ℕ) (t : Task) (w : State S) (b : ℕ) → Outside w p → Kept w.names.map (evaluated_within n t (w, b)).1.0.names.map p
+within_keeps : {S : Type 0} {p : List Seg} (accesses : Accesses S) (n : ℕ) (t : Task) (w : State S) (b : ℕ) → Outside w p → Kept w.names.map (evaluated_within accesses n t (w, b)).1.0.names.map p
 unfolding evaluated_within
-within_keeps zero t w b o = kept_same _ _ o
-within_keeps (suc n) t w zero o = kept_same _ _ o
-within_keeps (suc n) t w (suc b) o = (keeps_rule (evaluated_within n) (λ u. record { keeps = λ s i. within_keeps n u s.0 s.1 i }) t).keeps (w, b) o
+within_keeps accesses zero t w b o = kept_same _ _ o
+within_keeps accesses (suc n) t w zero o = kept_same _ _ o
+within_keeps accesses (suc n) t w (suc b) o = (keeps_rule accesses (evaluated_within accesses n) (λ u. record { keeps = λ s i. within_keeps accesses n u s.0 s.1 i }) t).keeps (w, b) o
 
-pub meaning_keeps : {S : Type 0} {p : List Seg} (t : Task) → Keeps {S = S} p (meaning t)
+pub meaning_keeps : {S : Type 0} {p : List Seg} (accesses : Accesses S) (t : Task) → Keeps {S = S} p (meaning accesses t)
 unfolding meaning
-meaning_keeps t = record { keeps = λ s o. within_keeps s.1 t s.0 s.1 o }
+meaning_keeps accesses t = record { keeps = λ s o. within_keeps accesses s.1 t s.0 s.1 o }
 
-pub list_keeps : {S : Type 0} {p : List Seg} (scope : List Seg) (depth : ℕ) (ts : Trees) → Keeps {S = S} p (in_turn meaning scope depth ts)
-list_keeps scope depth ts = keeps_turn meaning meaning_keeps scope depth ts
+pub list_keeps : {S : Type 0} {p : List Seg} (accesses : Accesses S) (scope : List Seg) (depth : ℕ) (ts : Trees) → Keeps {S = S} p (in_turn (meaning accesses) scope depth ts)
+list_keeps accesses scope depth ts = keeps_turn accesses (meaning accesses) (meaning_keeps accesses) scope depth ts
 
 -- a path that is outside of control methods before a term is evaluated is outside of them after it, however it ended
-pub outside_stays : {S : Type 0} (t : Task) (s : State S × ℕ) (p : List Seg) → Outside s.0 p → Outside (meaning t s).1.0 p
-outside_stays t s p o = ((meaning_keeps t).keeps s o).outside
+pub outside_stays : {S : Type 0} (accesses : Accesses S) (t : Task) (s : State S × ℕ) (p : List Seg) → Outside s.0 p → Outside (meaning accesses t s).1.0 p
+outside_stays accesses t s p o = ((meaning_keeps accesses t).keeps s o).outside
 
 -- and a name that stands there stands there still
-pub names_stay : {S : Type 0} (t : Task) (s : State S × ℕ) (p : List Seg) → Outside s.0 p → Stands s.0 p → Stands (meaning t s).1.0 p
-names_stay t s p o st = ((meaning_keeps t).keeps s o).stands st
+pub names_stay : {S : Type 0} (accesses : Accesses S) (t : Task) (s : State S × ℕ) (p : List Seg) → Outside s.0 p → Stands s.0 p → Stands (meaning accesses t s).1.0 p
+names_stay accesses t s p o st = ((meaning_keeps accesses t).keeps s o).stands st

@@ -33,9 +33,12 @@ state_code {S = S} code =
     (λ p. record { names = p.0; arities = p.1.0; objects = p.1.1.0; frames = p.1.1.1.0; started = p.1.1.1.1.0; tables = p.1.1.1.1.1.0; space = p.1.1.1.1.1.1.0; osi = p.1.1.1.1.1.1.1.0; width = p.1.1.1.1.1.1.1.1 })
     (λ _. refl)
 
--- a change of the objects alone, and of the namespace alone
+-- a change of the objects alone, of the namespace alone, and of the register space alone
 unfoldable pub on_objects : {S A : Type 0} → Change Objects A → Change (State S) A
 on_objects m w = ((m w.objects).0, record w { objects = (m w.objects).1 })
 
 unfoldable pub on_names : {S A : Type 0} → Change Namespace A → Change (State S) A
 on_names m w = ((m w.names).0, record w { names = (m w.names).1 })
+
+unfoldable pub on_space : {S A : Type 0} → Change S A → Change (State S) A
+on_space m w = ((m w.space).0, record w { space = (m w.space).1 })

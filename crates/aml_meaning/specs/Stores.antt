@@ -24,6 +24,8 @@ use Rattle.aml_meaning.specs.declared.place.Place.{Place}
 use Rattle.aml_meaning.specs.declared.place.Place.TheVariants as place
 use Rattle.aml_meaning.specs.declared.place.Holding.{Holding}
 use Rattle.aml_meaning.specs.declared.place.Holding.TheVariants as holding
+use Rattle.aml_meaning.specs.declared.place.Stored.{Stored}
+use Rattle.aml_meaning.specs.declared.place.Stored.TheVariants as store
 use Rattle.aml_meaning.specs.State.{State, on_objects, on_names}
 use Rattle.aml_meaning.specs.Slots.{with_slot}
 use Rattle.aml_meaning.specs.Readings.{integer_in}
@@ -39,25 +41,28 @@ with_frame (Some f) k slot v frames = slice_set frames k (with_slot f slot v)
 unfoldable pub slot_put : {S : Type 0} → ℕ → Slot → Value → Change (State S) (Unit {0})
 slot_put k slot v w = (Ok tt, record w { frames = with_frame (slice_get w.frames k) k slot v w.frames })
 
-unfoldable pub copy_into_slot : {S : Type 0} → ℕ → Slot → Value → Change (State S) (Unit {0})
+unfoldable pub copy_into_slot : {S : Type 0} → ℕ → Slot → Value → Change (State S) Stored
 copy_into_slot k slot v = do
   c ← on_objects (copied v)
-  slot_put k slot c
+  put ← slot_put k slot c
+  give store.Done
 
-unfoldable pub copy_into_name : {S : Type 0} → List Seg → Value → Change (State S) (Unit {0})
+unfoldable pub copy_into_name : {S : Type 0} → List Seg → Value → Change (State S) Stored
 copy_into_name p v = do
   c ← on_objects (copied v)
-  on_names (replaced p (object.Data c))
+  put ← on_names (replaced p (object.Data c))
+  give store.Done
 
-unfoldable pub copy_into_element : {S : Type 0} → ℕ → ℕ → Value → Change (State S) (Unit {0})
+unfoldable pub copy_into_element : {S : Type 0} → ℕ → ℕ → Value → Change (State S) Stored
 copy_into_element o i v = do
   c ← on_objects (copied v)
-  on_objects (write_element o i (element.Value c))
+  put ← on_objects (write_element o i (element.Value c))
+  give store.Done
 
--- a name that holds a value holds a copy of another; fields are not written yet
-abbrev pub copy_over : {S : Type 0} → Holding → List Seg → Value → Change (State S) (Unit {0})
+-- a name that holds a value holds a copy of another; a field unit is written next
+abbrev pub copy_over : {S : Type 0} → Holding → List Seg → Value → Change (State S) Stored
 copy_over (holding.Value old) p v = copy_into_name p v
-copy_over holding.FieldUnit p v = stop (refusal.Evaluation (Unsupported 0x5B81))
+copy_over (holding.FieldUnit u) p v = give (store.FieldUnit u)
 copy_over holding.BufferField p v = stop (refusal.Evaluation (Unsupported 0x5B13))
 copy_over holding.Nothing p v = stop (refusal.Value WrongType)
 
@@ -70,23 +75,26 @@ text_in v w = (to_text_of w.width (content_in w.objects v), w)
 unfoldable pub bytes_in : {S : Type 0} → Value → Change (State S) (List ℕ)
 bytes_in v w = (to_buffer_of w.width (content_in w.objects v), w)
 
-unfoldable pub store_integer : {S : Type 0} → List Seg → Value → Change (State S) (Unit {0})
+unfoldable pub store_integer : {S : Type 0} → List Seg → Value → Change (State S) Stored
 store_integer p v = do
   n ← integer_in v
-  on_names (replaced p (object.Data (value.Integer n)))
+  put ← on_names (replaced p (object.Data (value.Integer n)))
+  give store.Done
 
-unfoldable pub store_text : {S : Type 0} → ℕ → Value → Change (State S) (Unit {0})
+unfoldable pub store_text : {S : Type 0} → ℕ → Value → Change (State S) Stored
 store_text o v = do
   bytes ← text_in v
-  on_objects (write_string o bytes)
+  put ← on_objects (write_string o bytes)
+  give store.Done
 
-unfoldable pub store_bytes : {S : Type 0} → ℕ → Value → Change (State S) (Unit {0})
+unfoldable pub store_bytes : {S : Type 0} → ℕ → Value → Change (State S) Stored
 store_bytes o v = do
   bytes ← bytes_in v
-  on_objects (write_buffer o bytes)
+  put ← on_objects (write_buffer o bytes)
+  give store.Done
 
 -- a package takes a package alone
-abbrev pub store_package : {S : Type 0} → List Seg → Value → Change (State S) (Unit {0})
+abbrev pub store_package : {S : Type 0} → List Seg → Value → Change (State S) Stored
 store_package p (value.Package o) = copy_into_name p (value.Package o)
 store_package p value.Uninitialized = stop (refusal.Value WrongType)
 store_package p (value.Integer n) = stop (refusal.Value WrongType)
@@ -94,7 +102,7 @@ store_package p (value.String o) = stop (refusal.Value WrongType)
 store_package p (value.Buffer o) = stop (refusal.Value WrongType)
 store_package p (value.Reference r) = stop (refusal.Value WrongType)
 
-abbrev pub store_over_value : {S : Type 0} → Value → List Seg → Value → Change (State S) (Unit {0})
+abbrev pub store_over_value : {S : Type 0} → Value → List Seg → Value → Change (State S) Stored
 store_over_value (value.Integer n) p v = store_integer p v
 store_over_value (value.String o) p v = store_text o v
 store_over_value (value.Buffer o) p v = store_bytes o v
@@ -102,9 +110,9 @@ store_over_value (value.Package o) p v = store_package p v
 store_over_value (value.Reference r) p v = copy_into_name p v
 store_over_value value.Uninitialized p v = copy_into_name p v
 
-abbrev pub store_over : {S : Type 0} → Holding → List Seg → Value → Change (State S) (Unit {0})
+abbrev pub store_over : {S : Type 0} → Holding → List Seg → Value → Change (State S) Stored
 store_over (holding.Value old) p v = store_over_value old p v
-store_over holding.FieldUnit p v = stop (refusal.Evaluation (Unsupported 0x5B81))
+store_over (holding.FieldUnit u) p v = give (store.FieldUnit u)
 store_over holding.BufferField p v = stop (refusal.Evaluation (Unsupported 0x5B13))
 store_over holding.Nothing p v = stop (refusal.Value WrongType)
 
@@ -124,21 +132,22 @@ byte_of Other = Err (refusal.Value WrongType)
 unfoldable pub byte_in : {S : Type 0} → Value → Change (State S) ℕ
 byte_in v w = (byte_of (content_in w.objects v), w)
 
-unfoldable pub store_byte : {S : Type 0} → ℕ → ℕ → Value → Change (State S) (Unit {0})
+unfoldable pub store_byte : {S : Type 0} → ℕ → ℕ → Value → Change (State S) Stored
 store_byte o i v = do
   b ← byte_in v
-  on_objects (write_byte o i b)
+  put ← on_objects (write_byte o i b)
+  give store.Done
 
 -- a name that an argument refers to takes a copy
-unfoldable pub copy_into_declared : {S : Type 0} → ℕ → Value → Change (State S) (Unit {0})
+unfoldable pub copy_into_declared : {S : Type 0} → ℕ → Value → Change (State S) Stored
 copy_into_declared n v = do
   e ← declaration n
   copy_over (holding_of e.1.object) e.0 v
 
 -- through: how a value is stored to what a reference refers to
-module _ {S : Type 0} (through : Reference → Value → Change (State S) (Unit {0})) where
+module _ {S : Type 0} (through : Reference → Value → Change (State S) Stored) where
   -- an argument that holds a reference stands for what that refers to
-  abbrev pub store_over_slot : ℕ → Slot → Value → Value → Change (State S) (Unit {0})
+  abbrev pub store_over_slot : ℕ → Slot → Value → Value → Change (State S) Stored
   store_over_slot k (Local i) held v = copy_into_slot k (Local i) v
   store_over_slot k (Argument i) (value.Reference r) v = through r v
   store_over_slot k (Argument i) value.Uninitialized v = copy_into_slot k (Argument i) v
@@ -147,52 +156,52 @@ module _ {S : Type 0} (through : Reference → Value → Change (State S) (Unit 
   store_over_slot k (Argument i) (value.Buffer o) v = copy_into_slot k (Argument i) v
   store_over_slot k (Argument i) (value.Package o) v = copy_into_slot k (Argument i) v
 
-  unfoldable pub store_in_frame : ℕ → Slot → Value → Change (State S) (Unit {0})
+  unfoldable pub store_in_frame : ℕ → Slot → Value → Change (State S) Stored
   store_in_frame k slot v = do
     held ← slot_held k slot
     store_over_slot k slot held v
 
-  unfoldable pub store_in_frame_numbered : ℕ → Slot → Value → Change (State S) (Unit {0})
+  unfoldable pub store_in_frame_numbered : ℕ → Slot → Value → Change (State S) Stored
   store_in_frame_numbered n slot v = do
     k ← frame_found n
     store_in_frame k slot v
 
-  abbrev pub store_at_reference : Reference → Value → Change (State S) (Unit {0})
+  abbrev pub store_at_reference : Reference → Value → Change (State S) Stored
   store_at_reference (reference.Name n) v = copy_into_declared n v
   store_at_reference (reference.Slot n slot) v = store_in_frame_numbered n slot v
   store_at_reference (reference.Element o i) v = copy_into_element o i v
   store_at_reference (reference.Byte o i) v = store_byte o i v
 
 -- at most so many references one after another
-unfoldable pub stored_through : {S : Type 0} → ℕ → Reference → Value → Change (State S) (Unit {0})
+unfoldable pub stored_through : {S : Type 0} → ℕ → Reference → Value → Change (State S) Stored
 stored_through zero r v = stop (refusal.Evaluation DeadReference)
 stored_through (suc n) r v = store_at_reference (stored_through n) r v
 
 -- ---- stores to places
 
-unfoldable pub store_in_slot : {S : Type 0} → Slot → Value → Change (State S) (Unit {0})
+unfoldable pub store_in_slot : {S : Type 0} → Slot → Value → Change (State S) Stored
 store_in_slot slot v = do
   k ← latest_frame
   store_in_frame (stored_through most_references) k slot v
 
-unfoldable pub store_in_name : {S : Type 0} → List Seg → Value → Change (State S) (Unit {0})
+unfoldable pub store_in_name : {S : Type 0} → List Seg → Value → Change (State S) Stored
 store_in_name p v = do
   h ← held_at p
   store_over h p v
 
 -- Store: with conversion to what a name holds
-abbrev pub stored : {S : Type 0} → Place → Value → Change (State S) (Unit {0})
-stored place.Nowhere v = give tt
+abbrev pub stored : {S : Type 0} → Place → Value → Change (State S) Stored
+stored place.Nowhere v = give store.Done
 stored (place.Slot slot) v = store_in_slot slot v
 stored (place.Name p) v = store_in_name p v
 
 -- CopyObject: a name that holds a value takes a copy
-unfoldable pub copy_in_name : {S : Type 0} → List Seg → Value → Change (State S) (Unit {0})
+unfoldable pub copy_in_name : {S : Type 0} → List Seg → Value → Change (State S) Stored
 copy_in_name p v = do
   h ← held_at p
   copy_over h p v
 
-abbrev pub copied_to : {S : Type 0} → Place → Value → Change (State S) (Unit {0})
-copied_to place.Nowhere v = give tt
+abbrev pub copied_to : {S : Type 0} → Place → Value → Change (State S) Stored
+copied_to place.Nowhere v = give store.Done
 copied_to (place.Slot slot) v = store_in_slot slot v
 copied_to (place.Name p) v = copy_in_name p v

@@ -23,6 +23,8 @@ use Rattle.aml_meaning.specs.declared.term_kind.DataKind.{DataKind}
 use Rattle.aml_meaning.specs.declared.term_kind.DataKind.TheVariants as datas
 use Rattle.aml_meaning.specs.declared.term_kind.DeclarationKind.{DeclarationKind}
 use Rattle.aml_meaning.specs.declared.term_kind.DeclarationKind.TheVariants as declarations
+use Rattle.aml_meaning.specs.declared.term_kind.RegionKind.{RegionKind}
+use Rattle.aml_meaning.specs.declared.term_kind.RegionKind.TheVariants as regions
 use Rattle.aml_meaning.specs.declared.term_kind.StatementKind.{StatementKind}
 use Rattle.aml_meaning.specs.declared.term_kind.StatementKind.TheVariants as statements
 use Rattle.aml_meaning.specs.declared.term_kind.OperatorKind.{OperatorKind}
@@ -65,6 +67,13 @@ declaration_kind opcodes.Method = Some declarations.Method
 declaration_kind opcodes.Mutex = Some declarations.Mutex
 declaration_kind opcodes.Event = Some declarations.Event
 declaration_kind _ = None
+
+-- operation regions, and fields in them
+abbrev pub region_kind : Opcode → Option RegionKind
+region_kind opcodes.OpRegion = Some regions.OperationRegion
+region_kind opcodes.Field = Some regions.Field
+region_kind opcodes.IndexField = Some regions.IndexField
+region_kind _ = None
 
 -- statements
 abbrev pub statement_kind : Opcode → Option StatementKind
@@ -183,9 +192,13 @@ abbrev pub statement_or : Opcode → Option StatementKind → TermKind
 statement_or op (Some k) = kinds.Statement k
 statement_or op None = slot_or op (slot_kind op)
 
+abbrev pub region_or : Opcode → Option RegionKind → TermKind
+region_or op (Some k) = kinds.Region k
+region_or op None = statement_or op (statement_kind op)
+
 abbrev pub declaration_or : Opcode → Option DeclarationKind → TermKind
 declaration_or op (Some k) = kinds.Declaration k
-declaration_or op None = statement_or op (statement_kind op)
+declaration_or op None = region_or op (region_kind op)
 
 abbrev pub data_or : Opcode → Option DataKind → TermKind
 data_or op (Some k) = kinds.Data k

@@ -22,10 +22,9 @@ use std::alloc::Global;
 impl<S> World<S> {
     /// What a name is where a value stands, with so many arguments.
     ///
-    /// A name that holds a value is that value, a control method a call, and anything else a reference to it; so is a name
-    /// that holds a reference. Refused: a name
-    /// that isn't found as `NotFound`, another count than it takes as `ArityChanged`, and what is not evaluated, fields and
-    /// `_OSI`, as `Unsupported`.
+    /// A name that holds a value is that value, a field unit its bits, a control method a call, and anything else a reference
+    /// to it; so is a name that holds a reference. Refused: a name that isn't found as `NotFound`, another count than it takes
+    /// as `ArityChanged`, and what is not evaluated, buffer fields and `_OSI`, as `Unsupported`.
     #[tactic(auto, using(ar_space::specs::Change::changing), unfolding(crate::specs::Invocations::invocation_found))]
     pub fn invocation(
         &self,
@@ -121,7 +120,7 @@ fn use_of(alloc: Global, found: &(Path, Entry)) -> Result<Invocation, Refusal>
     match &found.1.object {
         NamedObject::Data(value) => Ok(Invocation::Value(read_as(found.1.number, *value))),
         NamedObject::Method(method) => call_of(alloc, &found.0, method.body),
-        NamedObject::FieldUnit(_) => Err(Refusal::Evaluation(EvaluationFault::Unsupported(0x5B81))),
+        NamedObject::FieldUnit(unit) => Ok(Invocation::FieldUnit(*unit)),
         NamedObject::BufferField(_) => {
             Err(Refusal::Evaluation(EvaluationFault::Unsupported(0x5B13)))
         }

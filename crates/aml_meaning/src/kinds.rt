@@ -1,11 +1,11 @@
 //! The rule by which a term with an opcode is evaluated.
 ghost use Rattle.std.specs.Prelude.{◌≡◌};
-ghost use Rattle.aml_meaning.specs.Terms.{data_kind, declaration_kind, statement_kind, slot_kind, integer_operator, two_operands, one_operand, test_kind, other_operator, kind_of, declaration_or, statement_or, slot_or, integers_or, two_or, one_or, test_or, other_or, slot_place, place_of_opcode, place_of_code};
+ghost use Rattle.aml_meaning.specs.Terms.{data_kind, declaration_kind, region_kind, statement_kind, slot_kind, integer_operator, two_operands, one_operand, test_kind, other_operator, kind_of, declaration_or, region_or, statement_or, slot_or, integers_or, two_or, one_or, test_or, other_or, slot_place, place_of_opcode, place_of_code};
 
 use crate::place::Place;
 use crate::term_kind::{
-    Count, DataKind, DeclarationKind, OneOperand, OperatorKind, StatementKind, TermKind, Test,
-    TwoOperands,
+    Count, DataKind, DeclarationKind, OneOperand, OperatorKind, RegionKind, StatementKind,
+    TermKind, Test, TwoOperands,
 };
 use aml_convert::{BinaryOperator, Comparison, LogicalOperator, UnaryOperator};
 use aml_objects::Slot;
@@ -47,6 +47,18 @@ fn declaration_kind(opcode: Opcode) -> Option<DeclarationKind>
         Opcode::Method => Some(DeclarationKind::Method),
         Opcode::Mutex => Some(DeclarationKind::Mutex),
         Opcode::Event => Some(DeclarationKind::Event),
+        _ => None,
+    }
+}
+
+/// Operation regions, and fields in them.
+fn region_kind(opcode: Opcode) -> Option<RegionKind>
+    ensures { result ≡ region_kind opcode }
+{
+    match opcode {
+        Opcode::OpRegion => Some(RegionKind::OperationRegion),
+        Opcode::Field => Some(RegionKind::Field),
+        Opcode::IndexField => Some(RegionKind::IndexField),
         _ => None,
     }
 }
@@ -186,6 +198,15 @@ fn declaration_or_other(opcode: Opcode) -> TermKind
 {
     match declaration_kind(opcode) {
         Some(kind) => TermKind::Declaration(kind),
+        None => region_or_other(opcode),
+    }
+}
+
+fn region_or_other(opcode: Opcode) -> TermKind
+    ensures { result ≡ region_or opcode (region_kind opcode) }
+{
+    match region_kind(opcode) {
+        Some(kind) => TermKind::Region(kind),
         None => statement_or_other(opcode),
     }
 }

@@ -3,6 +3,7 @@
 
 mod datum;
 mod declarations;
+mod field_layout;
 mod flow;
 mod frame;
 mod invocation;
@@ -15,12 +16,14 @@ mod new_objects;
 mod object_type;
 mod objects;
 mod operations;
+mod pci_functions;
 mod place;
 mod places;
 mod predefined;
 mod readings;
 mod references;
 mod referents;
+mod regions;
 mod slots;
 mod stores;
 mod tables;
@@ -31,15 +34,18 @@ mod tests;
 mod world;
 
 pub use datum::Datum;
+pub use field_layout::{FieldGroup, FieldLayout, access_width, update_rule};
 pub use flow::Flow;
 pub use frame::Frame;
 pub use invocation::Invocation;
 pub use kinds::{kind_of, place_of};
 pub use name_use::NameUse;
 pub use object_type::{ObjectType, Referent};
-pub use place::{Holding, Place};
+pub use pci_functions::{Sought, adr, base_bus, segment_group};
+pub use place::{Held, Holding, Place, Stored};
+pub use regions::{RegionField, RegionSpace, integer_only, pci_space, space_numbered};
 pub use term_kind::{
-    Count, DataKind, DeclarationKind, OneOperand, OperatorKind, StatementKind, TermKind, Test,
-    TwoOperands,
+    Count, DataKind, DeclarationKind, OneOperand, OperatorKind, RegionKind, StatementKind,
+    TermKind, Test, TwoOperands,
 };
 pub use world::World;

@@ -11,7 +11,7 @@ ghost use Rattle.aml_meaning.specs.declared.name_use.NameUse.TheVariants as uses
 
 use crate::datum::Datum;
 use crate::world::World;
-use aml_objects::{NamedObject, Value};
+use aml_objects::{FieldUnit, NamedObject, Value};
 use aml_path::{NameString, Path};
 use ar_space::{EvaluationFault, Refusal};
 use std::alloc::Global;
@@ -21,6 +21,8 @@ use std::alloc::Global;
 pub enum NameUse {
     /// The value that the name holds.
     Value(Value),
+    /// The bits of a field unit.
+    FieldUnit(FieldUnit),
     /// The path of what holds no value, or the path that the name would have where nothing is found.
     Path(Path),
 }
@@ -53,9 +55,7 @@ impl<S> World<S> {
     {
         match object {
             NamedObject::Data(value) => self.value_or_path(alloc, *value, name, scope),
-            NamedObject::FieldUnit(_) => Err(Refusal::Evaluation(EvaluationFault::Unsupported(
-                0x5B81,
-            ))),
+            NamedObject::FieldUnit(unit) => Ok(NameUse::FieldUnit(*unit)),
             NamedObject::BufferField(_) => {
                 Err(Refusal::Evaluation(EvaluationFault::Unsupported(0x5B13)))
             }

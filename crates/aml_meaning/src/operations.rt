@@ -5,7 +5,7 @@ ghost use Rattle.ar_space.specs.Outcome.{Answers, seen};
 ghost use Rattle.aml_convert.specs.Joined.{joined_content};
 ghost use Rattle.aml_objects.specs.Contents as held;
 ghost use Rattle.aml_meaning.specs.State.{on_objects};
-ghost use Rattle.aml_meaning.specs.Operations.{operated, integers_operated, divided_in, operated_on_one, integer_operated, operated_logically, integers_tested, turned, integer_turned, incremented, next_integer, decremented, integer_before, compared_in, truth_of, joined_contents, joined, made_of, joined_items, joined_resources, to_integer_in, buffer_bytes, new_buffer_of, to_buffer_in, size_in, size_of_referent, size_of_value, size_of_object, as_integer};
+ghost use Rattle.aml_meaning.specs.Operations.{operated, integers_operated, divided_in, operated_on_one, integer_operated, operated_logically, integers_tested, turned, integer_turned, next_integer, integer_before, compared_in, truth_of, joined_contents, joined, made_of, joined_items, joined_resources, to_integer_in, buffer_bytes, new_buffer_of, to_buffer_in, size_in, size_of_referent, size_of_value, size_of_object, as_integer};
 ghost use Rattle.aml_meaning.specs.OperatorTerms.{result_of_two, result_of_one, result_of_test, counted_by};
 
 use crate::object_type::Referent;
@@ -94,12 +94,12 @@ impl<S> World<S> {
 
     /// The next integer, or the one before.
     #[tactic(auto, using(ar_space::specs::Change::changing))]
-    pub fn count(&self, count: Count, value: Value) -> Result<Value, Refusal>
-        ensures { Does result self.now (counted_by count value) self.now }
+    pub fn count(&self, count: Count, number: u64) -> Result<Value, Refusal>
+        ensures { Does result self.now (counted_by count number) self.now }
     {
         match count {
-            Count::Up => self.increment(value),
-            Count::Down => self.decrement(value),
+            Count::Up => self.next_integer(number),
+            Count::Down => self.integer_before(number),
         }
     }
 
@@ -179,27 +179,11 @@ impl<S> World<S> {
         Ok(Value::Integer(logical_not(self.width, x)))
     }
 
-    #[tactic(auto, using(ar_space::specs::Change::changing), unfolding(crate::specs::Operations::incremented))]
-    fn increment(&self, value: Value) -> Result<Value, Refusal>
-        ensures { Does result self.now (incremented value) self.now }
-    {
-        let x = self.integer_in(value)?;
-        self.next_integer(x)
-    }
-
     #[tactic(auto, unfolding(crate::specs::Operations::next_integer))]
     fn next_integer(&self, x: u64) -> Result<Value, Refusal>
         ensures { Does result self.now (next_integer x) self.now }
     {
         Ok(Value::Integer(truncate(self.width, u128::from(x) + 1)))
-    }
-
-    #[tactic(auto, using(ar_space::specs::Change::changing), unfolding(crate::specs::Operations::decremented))]
-    fn decrement(&self, value: Value) -> Result<Value, Refusal>
-        ensures { Does result self.now (decremented value) self.now }
-    {
-        let x = self.integer_in(value)?;
-        self.integer_before(x)
     }
 
     #[tactic(auto, unfolding(crate::specs::Operations::integer_before))]

@@ -1,6 +1,6 @@
 //! Where values are stored.
 
-use aml_objects::{Slot, Value};
+use aml_objects::{FieldUnit, Slot, Value};
 use aml_path::Path;
 
 /// Where a value is read or stored to: the operand of Store, a target, and what Increment counts.
@@ -18,8 +18,22 @@ pub enum Place {
 #[derive(Clone, Copy, Debug, PartialEq, Eq)]
 pub enum Holding {
     Value(Value),
-    FieldUnit,
+    FieldUnit(FieldUnit),
     BufferField,
     /// Nothing that is stored to: a device, a control method, a mutex.
     Nothing,
+}
+
+/// What a place holds that is read: a value, or a field unit, whose bits are read next.
+#[derive(Clone, Copy, Debug, PartialEq, Eq)]
+pub enum Held {
+    Value(Value),
+    FieldUnit(FieldUnit),
+}
+
+/// What a store came to: it is done, or it leads to a field unit, which is written next.
+#[derive(Clone, Copy, Debug, PartialEq, Eq)]
+pub enum Stored {
+    Done,
+    FieldUnit(FieldUnit),
 }

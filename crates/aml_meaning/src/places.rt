@@ -2,10 +2,10 @@
 ghost use Rattle.std.specs.Prelude.{◌≡◌, ◌<◌, IfOk, length};
 ghost use Rattle.ar_space.specs.Change.{Does};
 ghost use Rattle.ar_space.specs.Outcome.{Answers, seen};
-ghost use Rattle.aml_meaning.specs.Places.{holding_of, held_at, latest_frame, frame_found, slot_held, own_slot, initialized, slot_read, value_held, name_read, place_read, declaration};
+ghost use Rattle.aml_meaning.specs.Places.{holding_of, held_at, latest_frame, frame_found, slot_held, own_slot, initialized, slot_read, held_in, held_in_slot, name_read, place_read, declaration};
 ghost use Rattle.aml_meaning.specs.PlaceTerms.{place_named};
 
-use crate::place::{Holding, Place};
+use crate::place::{Held, Holding, Place};
 use crate::slots::place_of;
 use crate::world::World;
 use aml_objects::{Entry, NamedObject, Slot, Value};
@@ -90,25 +90,33 @@ impl<S> World<S> {
         initialized(value)
     }
 
-    /// The value at a place, for what is stored there next. A place that holds no value is refused as `WrongType`, a field
-    /// as `Unsupported`, and an uninitialized slot as `NoValue`.
+    /// What a place holds, for what is stored there next. A place that holds no value is refused as `WrongType`, a buffer
+    /// field as `Unsupported`, and an uninitialized slot as `NoValue`.
     #[tactic(auto, using(ar_space::specs::Change::changing))]
-    pub fn place_read(&self, place: &Place) -> Result<Value, Refusal>
+    pub fn place_read(&self, place: &Place) -> Result<Held, Refusal>
         ensures { Does result self.now (place_read place.now) self.now }
     {
         match place {
             Place::Nowhere => Err(Refusal::Value(ValueFault::WrongType)),
-            Place::Slot(slot) => self.slot_read(*slot),
+            Place::Slot(slot) => self.held_in_slot(*slot),
             Place::Name(path) => self.name_read(path),
         }
     }
 
+    #[tactic(auto, using(ar_space::specs::Change::changing), unfolding(crate::specs::Places::held_in_slot))]
+    fn held_in_slot(&self, slot: Slot) -> Result<Held, Refusal>
+        ensures { Does result self.now (held_in_slot slot) self.now }
+    {
+        let value = self.slot_read(slot)?;
+        Ok(Held::Value(value))
+    }
+
     #[tactic(auto, using(ar_space::specs::Change::changing), unfolding(crate::specs::Places::name_read))]
-    fn name_read(&self, path: &Path) -> Result<Value, Refusal>
+    fn name_read(&self, path: &Path) -> Result<Held, Refusal>
         ensures { Does result self.now (name_read path.now) self.now }
     {
         let held = self.held_at(path)?;
-        value_held(held)
+        held_in(held)
     }
 
     /// The declaration with a number and its path; one that was removed is refused as `DeadReference`.
@@ -129,7 +137,7 @@ pub(crate) fn holding_of(object: &NamedObject) -> Holding
 {
     match object {
         NamedObject::Data(value) => Holding::Value(*value),
-        NamedObject::FieldUnit(_) => Holding::FieldUnit,
+        NamedObject::FieldUnit(unit) => Holding::FieldUnit(*unit),
         NamedObject::BufferField(_) => Holding::BufferField,
         _ => Holding::Nothing,
     }
@@ -148,12 +156,12 @@ fn initialized(value: Value) -> Result<Value, Refusal>
     }
 }
 
-fn value_held(held: Holding) -> Result<Value, Refusal>
-    ensures { Answers result (value_held held) }
+fn held_in(held: Holding) -> Result<Held, Refusal>
+    ensures { Answers result (held_in held) }
 {
     match held {
-        Holding::Value(value) => Ok(value),
-        Holding::FieldUnit => Err(Refusal::Evaluation(EvaluationFault::Unsupported(0x5B81))),
+        Holding::Value(value) => Ok(Held::Value(value)),
+        Holding::FieldUnit(unit) => Ok(Held::FieldUnit(unit)),
         Holding::BufferField => Err(Refusal::Evaluation(EvaluationFault::Unsupported(0x5B13))),
         Holding::Nothing => Err(Refusal::Value(ValueFault::WrongType)),
     }

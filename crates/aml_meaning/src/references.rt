@@ -5,6 +5,7 @@ ghost use Rattle.ar_space.specs.Outcome.{Answers};
 ghost use Rattle.aml_objects.specs.Contents.{content_of};
 ghost use Rattle.aml_meaning.specs.Stores.{first_byte, byte_of, byte_in, store_byte, copy_into_element, copy_into_declared, store_over_slot, store_in_frame, store_in_frame_numbered, store_at_reference, stored_through};
 
+use crate::place::Stored;
 use crate::places::holding_of;
 use crate::world::World;
 use aml_objects::{Content, Element, Reference, Slot, Value};
@@ -21,7 +22,7 @@ pub(crate) fn store_in_frame<S>(
     place: usize,
     slot: Slot,
     value: Value,
-) -> Result<(), Refusal>
+) -> Result<Stored, Refusal>
     ensures { Does result world.new (store_in_frame (stored_through levels) place slot value) world.old }
 {
     let held = world.slot_held(place, slot)?;
@@ -38,7 +39,7 @@ fn store_over_slot<S>(
     slot: Slot,
     held: Value,
     value: Value,
-) -> Result<(), Refusal>
+) -> Result<Stored, Refusal>
     ensures { Does result world.new (store_over_slot (stored_through levels) place slot held value) world.old }
 {
     match (slot, held) {
@@ -61,7 +62,7 @@ fn store_through<S>(
     levels: usize,
     reference: Reference,
     value: Value,
-) -> Result<(), Refusal>
+) -> Result<Stored, Refusal>
     ensures { Does result world.new (stored_through levels reference value) world.old }
 {
     if levels == 0 {
@@ -78,7 +79,7 @@ fn store_at_reference<S>(
     levels: usize,
     reference: Reference,
     value: Value,
-) -> Result<(), Refusal>
+) -> Result<Stored, Refusal>
     ensures { Does result world.new (store_at_reference (stored_through levels) reference value) world.old }
 {
     match reference {
@@ -100,7 +101,7 @@ fn store_in_frame_numbered<S>(
     number: u64,
     slot: Slot,
     value: Value,
-) -> Result<(), Refusal>
+) -> Result<Stored, Refusal>
     ensures { Does result world.new (store_in_frame_numbered (stored_through levels) number slot value) world.old }
 {
     let place = world.frame_found(number)?;
@@ -115,7 +116,7 @@ impl<S> World<S> {
         alloc: Global,
         number: u64,
         value: Value,
-    ) -> Result<(), Refusal>
+    ) -> Result<Stored, Refusal>
         ensures { Does result self.new (copy_into_declared number value) self.old }
     {
         let found = self.declaration(number)?;
@@ -131,19 +132,21 @@ impl<S> World<S> {
         object: usize,
         index: usize,
         value: Value,
-    ) -> Result<(), Refusal>
+    ) -> Result<Stored, Refusal>
         ensures { Does result self.new (copy_into_element object index value) self.old }
     {
         let copy = self.copy(alloc, value)?;
-        self.write_element(object, index, Element::Value(copy))
+        self.write_element(object, index, Element::Value(copy))?;
+        Ok(Stored::Done)
     }
 
     #[tactic(auto, using(ar_space::specs::Change::changing), unfolding(crate::specs::Stores::store_byte))]
-    fn store_byte(&mut self, object: usize, index: usize, value: Value) -> Result<(), Refusal>
+    fn store_byte(&mut self, object: usize, index: usize, value: Value) -> Result<Stored, Refusal>
         ensures { Does result self.new (store_byte object index value) self.old }
     {
         let byte = self.byte_in(value)?;
-        self.write_byte(object, index, byte)
+        self.write_byte(object, index, byte)?;
+        Ok(Stored::Done)
     }
 
     /// What a byte of a string or a buffer takes of a value.

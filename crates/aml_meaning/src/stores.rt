@@ -7,7 +7,7 @@ ghost use Rattle.aml_namespace.specs.Namespace.{replaced};
 ghost use Rattle.aml_meaning.specs.State.{on_names};
 ghost use Rattle.aml_meaning.specs.Stores.{slot_put, copy_into_slot, copy_into_name, copy_over, text_in, bytes_in, store_integer, store_text, store_bytes, store_package, store_over_value, store_over, store_in_slot, store_in_name, stored, copy_in_name, copied_to};
 
-use crate::place::{Holding, Place};
+use crate::place::{Holding, Place, Stored};
 use crate::references::store_in_frame;
 use crate::referents::MOST_REFERENCES;
 use crate::world::World;
@@ -23,13 +23,14 @@ impl<S> World<S> {
     /// A local takes a copy. So does an argument; where it holds a reference, that is followed, at most 64 times
     /// (`DeadReference`). A name that holds an integer, a string or a buffer takes the value converted, as conversions are
     /// refused; one that holds a package takes a copy of a package alone, and one that holds a reference a copy of anything.
-    /// Other names are refused as `WrongType`, and fields as `Unsupported`. A refused store changes nothing.
+    /// Where the place is a field unit, nothing is stored yet: the caller writes it next. Other names are refused as
+    /// `WrongType`, and buffer fields as `Unsupported`. A refused store changes nothing.
     #[tactic(auto, using(ar_space::specs::Change::changing))]
-    pub fn store(&mut self, alloc: Global, place: &Place, value: Value) -> Result<(), Refusal>
+    pub fn store(&mut self, alloc: Global, place: &Place, value: Value) -> Result<Stored, Refusal>
         ensures { Does result self.new (stored place.now value) self.old }
     {
         match place {
-            Place::Nowhere => Ok(()),
+            Place::Nowhere => Ok(Stored::Done),
             Place::Slot(slot) => self.store_in_slot(alloc, *slot, value),
             Place::Name(path) => self.store_in_name(alloc, path, value),
         }
@@ -38,18 +39,18 @@ impl<S> World<S> {
     /// Stores a copy of a value to a place, without conversion: a name that holds a value holds the copy after it. Anything
     /// else is as `store` has it.
     #[tactic(auto, using(ar_space::specs::Change::changing))]
-    pub fn copy_to(&mut self, alloc: Global, place: &Place, value: Value) -> Result<(), Refusal>
+    pub fn copy_to(&mut self, alloc: Global, place: &Place, value: Value) -> Result<Stored, Refusal>
         ensures { Does result self.new (copied_to place.now value) self.old }
     {
         match place {
-            Place::Nowhere => Ok(()),
+            Place::Nowhere => Ok(Stored::Done),
             Place::Slot(slot) => self.store_in_slot(alloc, *slot, value),
             Place::Name(path) => self.copy_in_name(alloc, path, value),
         }
     }
 
     #[tactic(auto, using(ar_space::specs::Change::changing), unfolding(crate::specs::Stores::store_in_slot))]
-    fn store_in_slot(&mut self, alloc: Global, slot: Slot, value: Value) -> Result<(), Refusal>
+    fn store_in_slot(&mut self, alloc: Global, slot: Slot, value: Value) -> Result<Stored, Refusal>
         ensures { Does result self.new (store_in_slot slot value) self.old }
     {
         let place = self.latest_frame()?;
@@ -57,7 +58,7 @@ impl<S> World<S> {
     }
 
     #[tactic(auto, using(ar_space::specs::Change::changing), unfolding(crate::specs::Stores::store_in_name))]
-    fn store_in_name(&mut self, alloc: Global, path: &Path, value: Value) -> Result<(), Refusal>
+    fn store_in_name(&mut self, alloc: Global, path: &Path, value: Value) -> Result<Stored, Refusal>
         ensures { Does result self.new (store_in_name path.now value) self.old }
     {
         let held = self.held_at(path)?;
@@ -65,7 +66,7 @@ impl<S> World<S> {
     }
 
     #[tactic(auto, using(ar_space::specs::Change::changing), unfolding(crate::specs::Stores::copy_in_name))]
-    fn copy_in_name(&mut self, alloc: Global, path: &Path, value: Value) -> Result<(), Refusal>
+    fn copy_in_name(&mut self, alloc: Global, path: &Path, value: Value) -> Result<Stored, Refusal>
         ensures { Does result self.new (copy_in_name path.now value) self.old }
     {
         let held = self.held_at(path)?;
@@ -79,12 +80,12 @@ impl<S> World<S> {
         held: Holding,
         path: &Path,
         value: Value,
-    ) -> Result<(), Refusal>
+    ) -> Result<Stored, Refusal>
         ensures { Does result self.new (store_over held path.now value) self.old }
     {
         match held {
             Holding::Value(old) => self.store_over_value(alloc, old, path, value),
-            Holding::FieldUnit => Err(Refusal::Evaluation(EvaluationFault::Unsupported(0x5B81))),
+            Holding::FieldUnit(unit) => Ok(Stored::FieldUnit(unit)),
             Holding::BufferField => Err(Refusal::Evaluation(EvaluationFault::Unsupported(0x5B13))),
             Holding::Nothing => Err(Refusal::Value(ValueFault::WrongType)),
         }
@@ -97,7 +98,7 @@ impl<S> World<S> {
         old: Value,
         path: &Path,
         value: Value,
-    ) -> Result<(), Refusal>
+    ) -> Result<Stored, Refusal>
         ensures { Does result self.new (store_over_value old path.now value) self.old }
     {
         match old {
@@ -111,31 +112,34 @@ impl<S> World<S> {
     }
 
     #[tactic(auto, using(ar_space::specs::Change::changing), unfolding(crate::specs::Stores::store_integer))]
-    fn store_integer(&mut self, path: &Path, value: Value) -> Result<(), Refusal>
+    fn store_integer(&mut self, path: &Path, value: Value) -> Result<Stored, Refusal>
         ensures { Does result self.new (store_integer path.now value) self.old }
     {
         let number = self.integer_in(value)?;
-        self.put_data(path, Value::Integer(number))
+        self.put_data(path, Value::Integer(number))?;
+        Ok(Stored::Done)
     }
 
     #[tactic(auto, using(ar_space::specs::Change::changing), unfolding(crate::specs::Stores::store_text))]
-    fn store_text(&mut self, alloc: Global, object: usize, value: Value) -> Result<(), Refusal>
+    fn store_text(&mut self, alloc: Global, object: usize, value: Value) -> Result<Stored, Refusal>
         ensures { Does result self.new (store_text object value) self.old }
     {
         let bytes = self.text_in(alloc, value)?;
-        self.write_string(object, bytes)
+        self.write_string(object, bytes)?;
+        Ok(Stored::Done)
     }
 
     #[tactic(auto, using(ar_space::specs::Change::changing), unfolding(crate::specs::Stores::store_bytes))]
-    fn store_bytes(&mut self, alloc: Global, object: usize, value: Value) -> Result<(), Refusal>
+    fn store_bytes(&mut self, alloc: Global, object: usize, value: Value) -> Result<Stored, Refusal>
         ensures { Does result self.new (store_bytes object value) self.old }
     {
         let bytes = self.bytes_in(alloc, value)?;
-        self.write_buffer(object, bytes)
+        self.write_buffer(object, bytes)?;
+        Ok(Stored::Done)
     }
 
     #[tactic(auto, using(ar_space::specs::Change::changing))]
-    fn store_package(&mut self, alloc: Global, path: &Path, value: Value) -> Result<(), Refusal>
+    fn store_package(&mut self, alloc: Global, path: &Path, value: Value) -> Result<Stored, Refusal>
         ensures { Does result self.new (store_package path.now value) self.old }
     {
         match value {
@@ -156,23 +160,29 @@ impl<S> World<S> {
         held: Holding,
         path: &Path,
         value: Value,
-    ) -> Result<(), Refusal>
+    ) -> Result<Stored, Refusal>
         ensures { Does result self.new (copy_over held path.now value) self.old }
     {
         match held {
             Holding::Value(_) => self.copy_into_name(alloc, path, value),
-            Holding::FieldUnit => Err(Refusal::Evaluation(EvaluationFault::Unsupported(0x5B81))),
+            Holding::FieldUnit(unit) => Ok(Stored::FieldUnit(unit)),
             Holding::BufferField => Err(Refusal::Evaluation(EvaluationFault::Unsupported(0x5B13))),
             Holding::Nothing => Err(Refusal::Value(ValueFault::WrongType)),
         }
     }
 
     #[tactic(auto, using(ar_space::specs::Change::changing), unfolding(crate::specs::Stores::copy_into_name))]
-    fn copy_into_name(&mut self, alloc: Global, path: &Path, value: Value) -> Result<(), Refusal>
+    fn copy_into_name(
+        &mut self,
+        alloc: Global,
+        path: &Path,
+        value: Value,
+    ) -> Result<Stored, Refusal>
         ensures { Does result self.new (copy_into_name path.now value) self.old }
     {
         let copy = self.copy(alloc, value)?;
-        self.put_data(path, copy)
+        self.put_data(path, copy)?;
+        Ok(Stored::Done)
     }
 
     /// The name at a path holds a value from now on.
@@ -190,11 +200,12 @@ impl<S> World<S> {
         place: usize,
         slot: Slot,
         value: Value,
-    ) -> Result<(), Refusal>
+    ) -> Result<Stored, Refusal>
         ensures { Does result self.new (copy_into_slot place slot value) self.old }
     {
         let copy = self.copy(alloc, value)?;
-        self.slot_put(place, slot, copy)
+        self.slot_put(place, slot, copy)?;
+        Ok(Stored::Done)
     }
 
     /// A slot of the frame at a place holds a value from now on.
@@ -217,9 +228,9 @@ impl<S> World<S> {
         to_text(alloc, self.width, self.heap.content(value))
     }
 
-    /// A value as a buffer.
+    /// A value as a buffer, converted to one; it is refused as conversions are.
     #[tactic(auto, unfolding(crate::specs::Stores::bytes_in))]
-    fn bytes_in(&self, alloc: Global, value: Value) -> Result<Octets, Refusal>
+    pub fn bytes_in(&self, alloc: Global, value: Value) -> Result<Octets, Refusal>
         ensures { Does result self.now (bytes_in value) self.now }
     {
         to_buffer(alloc, self.width, self.heap.content(value))

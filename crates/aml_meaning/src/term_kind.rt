@@ -8,6 +8,7 @@ use aml_objects::Slot;
 pub enum TermKind {
     Data(DataKind),
     Declaration(DeclarationKind),
+    Region(RegionKind),
     Operator(OperatorKind),
     Statement(StatementKind),
     /// A term that is not evaluated.
@@ -41,6 +42,14 @@ pub enum DeclarationKind {
     Method,
     Mutex,
     Event,
+}
+
+/// What declares an operation region, or fields in one.
+#[derive(Clone, Copy, Debug, PartialEq, Eq)]
+pub enum RegionKind {
+    OperationRegion,
+    Field,
+    IndexField,
 }
 
 /// A term that has a value.

@@ -110,11 +110,7 @@ fn refused_tables(rt: HostRuntime) -> Result<(), Fail> {
 }
 
 /// Tables with a term that is not evaluated, and its opcode.
-const UNSUPPORTED: &[(&[u8], u16)] = &[
-    (aml::REGION, 0x5B80),
-    (aml::REFERENCE, 0x71),
-    (aml::TIMER, 0x5B33),
-];
+const UNSUPPORTED: &[(&[u8], u16)] = &[(aml::REFERENCE, 0x71), (aml::TIMER, 0x5B33)];
 
 #[test]
 fn terms_that_are_not_evaluated(rt: HostRuntime) -> Result<(), Fail> {

@@ -8,7 +8,7 @@ use ar_space::{IntegerWidth, Refusal, Sparse};
 use std::alloc::Global;
 
 /// The table of a control method `M000` that takes as many arguments as its flags say.
-fn table(alloc: Global, flags: u8, body: &[u8]) -> Result<Vec<u8>, Refusal> {
+pub(super) fn table(alloc: Global, flags: u8, body: &[u8]) -> Result<Vec<u8>, Refusal> {
     let length = body.len() + 7;
     let mut bytes = Vec::new(alloc);
     bytes.push(0x14)?;

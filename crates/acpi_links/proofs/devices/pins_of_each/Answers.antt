@@ -6,12 +6,12 @@ use Rattle.acpi_links.proofs.devices.pins_of_each.Goals as goal
 
 pub loop-device-preserved : goal.loop-device-preserved
 loop-device-preserved g c =
-    same_added _ _ _ _ _ (same_ok _ _ (same_turn ◌++◌ pins_of_device c.args.devices.now c.loop-device.list.items c.loop-device.device-index _ c.loop-device.invariant (omega arith) c.device-item.is) c.in_ok-pins.ensures) c.in_ok-append.ensures.items
+    same_added _ _ _ _ _ (same_ok _ _ (same_turn ◌++◌ (pins_of_device g.S.Space.accesses) c.args.devices.now c.loop-device.list.items c.loop-device.device-index _ c.loop-device.invariant (omega arith) c.device-item.is) c.in_ok-pins.ensures) c.in_ok-append.ensures.items
 
 pub returns-in_err-pins : goal.returns-in_err-pins
 returns-in_err-pins g c =
-    does_same (same_turn ◌++◌ pins_of_device c.args.devices.now c.loop-device.list.items c.loop-device.device-index _ c.loop-device.invariant (omega arith) c.device-item.is)
+    does_same (same_turn ◌++◌ (pins_of_device g.S.Space.accesses) c.args.devices.now c.loop-device.list.items c.loop-device.device-index _ c.loop-device.invariant (omega arith) c.device-item.is)
     (does_seen_err _ _ _ _ c.in_err-pins.ensures c.from_residual.ensures)
 
 pub returns : goal.returns
-returns g c = fold_end ◌++◌ pins_of_device c.args.devices.now c.loop-device.list.items c.loop-device.device-index c.loop-device.invariant (omega arith) refl
+returns g c = fold_end ◌++◌ (pins_of_device g.S.Space.accesses) c.args.devices.now c.loop-device.list.items c.loop-device.device-index c.loop-device.invariant (omega arith) refl

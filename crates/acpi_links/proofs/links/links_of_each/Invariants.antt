@@ -8,6 +8,6 @@ use Rattle.acpi_links.proofs.links.links_of_each.Given as goal
 
 abbrev pub invariant-loop-link : goal.invariant-loop-link
 invariant-loop-link g l =
-    Same (links_of_each l.links) l.fn.machine (folded with_link link_asked (drop l.link-index l.links) l.list.items) l.machine
+    Same (links_of_each g.S.Space.accesses l.links) l.fn.machine (folded with_link (link_asked g.S.Space.accesses) (drop l.link-index l.links) l.list.items) l.machine
     × (length l.list.items ≤ l.link-index)
     × (IsStrictlySortedBy path_cmp l.links → IsStrictlySortedBy path_cmp (map (λ link. link.0) l.list.items ++ drop l.link-index l.links))

@@ -5,4 +5,4 @@ use Rattle.acpi_prt.specs.RoutingTables.{pins_from}
 use Rattle.acpi_prt.proofs.routing_table.pins_from.Given as goal
 
 abbrev pub invariant-loop-entry : goal.invariant-loop-entry
-invariant-loop-entry g l = Same (pins_from (map given_of l.entries) []) l.fn.machine (pins_from (map given_of (drop l.entry-index l.entries)) l.pins.items) l.machine
+invariant-loop-entry g l = Same (pins_from g.S.Space.accesses (map given_of l.entries) []) l.fn.machine (pins_from g.S.Space.accesses (map given_of (drop l.entry-index l.entries)) l.pins.items) l.machine

@@ -7,10 +7,10 @@ use Rattle.aml_meaning.specs.Outward.{package_out}
 use Rattle.aml_interp.proofs.outward.+outward.Goals as goal
 
 pub each_out-loop-element-preserved : goal.each_out-loop-element-preserved
-each_out-loop-element-preserved g t c = same_more _ _ _ _ (same_ok _ _ (same_each (package_out c.args.levels) c.args.elements.now (map given_of c.loop-element.done.items) c.loop-element.element-index _ c.loop-element.invariant (omega arith) c.element-item.is) c.in_ok-datum.ensures) (ap (map given_of) c.in_ok-push.ensures.items ∙ map-append given_of _ _)
+each_out-loop-element-preserved g t c = same_more _ _ _ _ _ (same_ok _ _ (same_each g.S.Space.accesses (package_out g.S.Space.accesses c.args.levels) c.args.elements.now (map given_of c.loop-element.done.items) c.loop-element.element-index _ c.loop-element.invariant (omega arith) c.element-item.is) c.in_ok-datum.ensures) (ap (map given_of) c.in_ok-push.ensures.items ∙ map-append given_of _ _)
 
 pub each_out-returns : goal.each_out-returns
-each_out-returns g t c = each_end (package_out c.args.levels) c.args.elements.now (map given_of c.loop-element.done.items) c.loop-element.element-index c.loop-element.invariant (omega arith)
+each_out-returns g t c = each_end g.S.Space.accesses (package_out g.S.Space.accesses c.args.levels) c.args.elements.now (map given_of c.loop-element.done.items) c.loop-element.element-index c.loop-element.invariant (omega arith)
 
 pub each_out-returns-in_err-datum : goal.each_out-returns-in_err-datum
-each_out-returns-in_err-datum g t c = does_same (same_each (package_out c.args.levels) c.args.elements.now (map given_of c.loop-element.done.items) c.loop-element.element-index _ c.loop-element.invariant (omega arith) c.element-item.is) (does_seen_err c.from_residual.result (λ v. map given_of v.items) _ _ c.in_err-datum.ensures c.from_residual.ensures)
+each_out-returns-in_err-datum g t c = does_same (same_each g.S.Space.accesses (package_out g.S.Space.accesses c.args.levels) c.args.elements.now (map given_of c.loop-element.done.items) c.loop-element.element-index _ c.loop-element.invariant (omega arith) c.element-item.is) (does_seen_err c.from_residual.result (λ v. map given_of v.items) _ _ c.in_err-datum.ensures c.from_residual.ensures)

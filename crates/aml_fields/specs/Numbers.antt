@@ -10,7 +10,7 @@ use Rattle.std.proofs.lemmas.Nat.Bits.{bit_at-lt, bit_at-zero}
 use Rattle.byteorder.specs.Endian.{little_from, little_number, little_bytes}
 use Rattle.byteorder.specs.Numbers.{little_from-bytes, length-bytes_low_first}
 use Rattle.aml_fields.specs.Bits.{bit, bits_from, number_of, bits_of, bytes_within, byte_count, packed, put}
-use Rattle.aml_fields.proofs.BitLists.{length_from, length_of}
+use Rattle.aml_fields.specs.BitLists.{length_from, length_of}
 
 as_number : (x : ℕ) → x < 2 → (if x == 1 then 1 else 0) ≡ x
 as_number zero l = refl

@@ -1,0 +1,215 @@
+//! Field units where terms read them and store to them, and the calls that their addresses take (ACPI 6.5, 5.5.2.4).
+ghost use Rattle.std.specs.Prelude.{◌≡◌, ◌≤◌, ◌+◌, ◌<◌, ◌^◌, ◌-◌};
+ghost use Rattle.ar_space.specs.Change.{Does};
+ghost use Rattle.ar_space.specs.Outcome.{seen};
+ghost use Rattle.aml_meaning.specs.Given.{given_of};
+ghost use Rattle.aml_meaning.specs.Fields.{field_given};
+ghost use Rattle.aml_meaning.specs.Meaning.{meaning};
+ghost use Rattle.aml_meaning.specs.FieldCalls.{asked, method_integer, answer_over, answer_within, field_read, held_integer, called_at, completed, stored_to, stored_back};
+
+use crate::answers::invocation;
+use crate::fields::{
+    eval_field_integer, eval_field_part, eval_field_stored, eval_field_value, field_given,
+};
+use crate::invocations::{MAX_DEPTH, eval_method_value};
+use aml_meaning::{Datum, Held, Invocation, Place, Stored, World, integer_only};
+use aml_objects::{BodyPlace, FieldUnit, Value};
+use aml_path::Path;
+use ar_space::{EvaluationFault, Refusal, Space};
+use std::alloc::Global;
+
+/// How many calls may still be made, one inside another, where so many control methods are being called.
+fn calls_left(depth: usize) -> usize
+    ensures { result ≡ 32 - depth }
+{
+    MAX_DEPTH.saturating_sub(depth)
+}
+
+/// The value of a field unit, where so many control methods are being called.
+#[cycle(evaluation)]
+#[tactic(auto, using(crate::specs::Steps::evaluating))]
+pub(crate) fn eval_field_read<S: Space>(
+    alloc: Global,
+    world: &mut World<S>,
+    budget: &mut u64,
+    depth: usize,
+    unit: FieldUnit,
+) -> Result<Value, Refusal>
+    ensures spent { budget.new ≤ budget.old }
+    ensures means { Does result (world.new, budget.new) (field_read S.accesses (meaning S.accesses) depth unit) (world.old, budget.old) }
+{
+    eval_field_value(alloc, world, budget, calls_left(depth), unit)
+}
+
+/// What a place holds, as an integer.
+#[cycle(evaluation)]
+#[tactic(auto, using(crate::specs::Steps::evaluating))]
+pub(crate) fn eval_held<S: Space>(
+    alloc: Global,
+    world: &mut World<S>,
+    budget: &mut u64,
+    depth: usize,
+    held: Held,
+) -> Result<u64, Refusal>
+    ensures spent { budget.new ≤ budget.old }
+    ensures means { Does result (world.new, budget.new) (held_integer S.accesses (meaning S.accesses) depth held) (world.old, budget.old) }
+{
+    match held {
+        Held::Value(value) => world.integer_in(value),
+        Held::FieldUnit(unit) => {
+            eval_field_integer(alloc, world, budget, calls_left(depth), unit)
+        }
+    }
+}
+
+/// Stores a value to a place.
+#[cycle(evaluation)]
+#[tactic(auto, using(crate::specs::Steps::evaluating), unfolding(aml_meaning::specs::FieldCalls::stored_to))]
+pub(crate) fn eval_stored_to<S: Space>(
+    alloc: Global,
+    world: &mut World<S>,
+    budget: &mut u64,
+    depth: usize,
+    place: &Place,
+    value: Value,
+) -> Result<(), Refusal>
+    ensures spent { budget.new ≤ budget.old }
+    ensures means { Does result (world.new, budget.new) (stored_to S.accesses (meaning S.accesses) depth place.now value) (world.old, budget.old) }
+{
+    let stored = world.store(alloc, place, value)?;
+    eval_completed(alloc, world, budget, depth, stored, value)
+}
+
+/// Stores a value to a place whose value was read before: a field unit that was read is the one that is written.
+#[cycle(evaluation)]
+#[tactic(auto, using(crate::specs::Steps::evaluating))]
+pub(crate) fn eval_stored_back<S: Space>(
+    alloc: Global,
+    world: &mut World<S>,
+    budget: &mut u64,
+    depth: usize,
+    held: Held,
+    place: &Place,
+    value: Value,
+) -> Result<(), Refusal>
+    ensures spent { budget.new ≤ budget.old }
+    ensures means { Does result (world.new, budget.new) (stored_back S.accesses (meaning S.accesses) depth held place.now value) (world.old, budget.old) }
+{
+    match held {
+        Held::Value(_) => eval_stored_to(alloc, world, budget, depth, place, value),
+        Held::FieldUnit(unit) => {
+            eval_field_stored(alloc, world, budget, calls_left(depth), unit, value)
+        }
+    }
+}
+
+/// A store is done, or a field unit is written next.
+#[cycle(evaluation)]
+#[tactic(auto, using(crate::specs::Steps::evaluating))]
+pub(crate) fn eval_completed<S: Space>(
+    alloc: Global,
+    world: &mut World<S>,
+    budget: &mut u64,
+    depth: usize,
+    stored: Stored,
+    value: Value,
+) -> Result<(), Refusal>
+    ensures spent { budget.new ≤ budget.old }
+    ensures means { Does result (world.new, budget.new) (completed S.accesses (meaning S.accesses) depth stored value) (world.old, budget.old) }
+{
+    match stored {
+        Stored::Done => Ok(()),
+        Stored::FieldUnit(unit) => {
+            eval_field_stored(alloc, world, budget, calls_left(depth), unit, value)
+        }
+    }
+}
+
+/// The integer that the object at a path answers, without arguments, where so many calls may still be made.
+#[cycle(evaluation)]
+#[tactic(auto, using(crate::specs::Steps::evaluating), unfolding(aml_meaning::specs::FieldCalls::asked))]
+pub(crate) fn eval_asked<S: Space>(
+    alloc: Global,
+    world: &mut World<S>,
+    budget: &mut u64,
+    calls: usize,
+    path: &Path,
+) -> Result<u64, Refusal>
+    ensures spent { budget.new ≤ budget.old }
+    ensures means { Does result (world.new, budget.new) (asked (answer_within S.accesses (meaning S.accesses) calls) path.now) (world.old, budget.old) }
+{
+    let found = invocation(alloc, world, path, 0)?;
+    eval_answer(alloc, world, budget, calls, found)
+}
+
+#[cycle(evaluation)]
+#[tactic(auto, using(crate::specs::Steps::evaluating))]
+fn eval_answer<S: Space>(
+    alloc: Global,
+    world: &mut World<S>,
+    budget: &mut u64,
+    calls: usize,
+    found: Invocation,
+) -> Result<u64, Refusal>
+    ensures spent { budget.new ≤ budget.old }
+    ensures means { Does result (world.new, budget.new) (answer_within S.accesses (meaning S.accesses) calls found) (world.old, budget.old) }
+{
+    if calls == 0 {
+        return Err(Refusal::Evaluation(EvaluationFault::CallDepth));
+    }
+    eval_answer_over(alloc, world, budget, calls - 1, found)
+}
+
+/// What is found, answered, where so many calls may still be made inside this one.
+#[cycle(evaluation)]
+#[tactic(auto, using(crate::specs::Steps::evaluating))]
+fn eval_answer_over<S: Space>(
+    alloc: Global,
+    world: &mut World<S>,
+    budget: &mut u64,
+    calls: usize,
+    found: Invocation,
+) -> Result<u64, Refusal>
+    ensures spent { budget.new ≤ budget.old }
+    ensures means { Does result (world.new, budget.new) (answer_over S.accesses (meaning S.accesses) calls (asked (answer_within S.accesses (meaning S.accesses) calls)) found) (world.old, budget.old) }
+{
+    match found {
+        Invocation::Value(value) => integer_only(value),
+        Invocation::FieldUnit(unit) => eval_field_part(alloc, world, budget, calls, unit),
+        Invocation::Method(path, body) => {
+            let depth = (MAX_DEPTH - 1).saturating_sub(calls);
+            eval_method_integer(alloc, world, budget, depth, &path, body)
+        }
+    }
+}
+
+/// The integer that a control method gives, called without arguments.
+#[cycle(evaluation)]
+#[tactic(auto, using(crate::specs::Steps::evaluating), unfolding(aml_meaning::specs::FieldCalls::method_integer))]
+fn eval_method_integer<S: Space>(
+    alloc: Global,
+    world: &mut World<S>,
+    budget: &mut u64,
+    depth: usize,
+    path: &Path,
+    body: BodyPlace,
+) -> Result<u64, Refusal>
+    ensures spent { budget.new ≤ budget.old }
+    ensures means { Does result (world.new, budget.new) (method_integer S.accesses (meaning S.accesses) depth path.now body) (world.old, budget.old) }
+{
+    let value = eval_method_value(alloc, world, budget, depth, path, body, &[])?;
+    integer_only(value)
+}
+
+/// A field unit as it is handed out, read as in a call of its own.
+#[tactic(auto, using(crate::specs::Steps::evaluating))]
+pub(crate) fn field_out<S: Space>(
+    alloc: Global,
+    world: &mut World<S>,
+    budget: &mut u64,
+    unit: FieldUnit,
+) -> Result<Datum, Refusal>
+    ensures { Does (seen given_of result) (world.new, budget.new) (field_given S.accesses (called_at S.accesses (meaning S.accesses) 1) unit) (world.old, budget.old) }
+{
+    field_given(alloc, world, budget, calls_left(1), unit)
+}

@@ -1,0 +1,315 @@
+//! Field units, read and written (ACPI 6.5, 5.5.2.4 and 19.6: OperationRegion, Field).
+ghost use Rattle.std.specs.Prelude.{◌≡◌, ◌≤◌, ◌+◌, ◌<◌, ◌^◌, ◌-◌, ◌++◌, ◌∷◌, []};
+ghost use Rattle.ar_space.specs.Change.{Does};
+ghost use Rattle.ar_space.specs.Outcome.{seen};
+ghost use Rattle.aml_meaning.specs.Meaning.{meaning};
+ghost use Rattle.aml_meaning.specs.FieldCalls.{asked, answer_within};
+ghost use Rattle.aml_meaning.specs.Fields.{part_in, inherited, pci_address, space_at, located, region_bits, region_written, bits_in, written_in, field_value, field_integer, field_part, field_given, field_stored};
+ghost use Rattle.aml_meaning.specs.Given.{given_of};
+
+use crate::field_calls::eval_asked;
+use crate::index_fields::{eval_index_bits, eval_index_written};
+use aml_fields::{AddressSpace, Region};
+use aml_meaning::{
+    Datum, RegionField, RegionSpace, Sought, World, adr, base_bus, pci_space, segment_group,
+    space_numbered,
+};
+use aml_objects::{FieldSource, FieldUnit, Octets, Value};
+use aml_path::{Path, Seg};
+use ar_space::{EvaluationFault, Refusal, Space};
+use std::alloc::Global;
+
+/// The bits of a field unit, as a value.
+#[cycle(evaluation)]
+#[tactic(auto, using(crate::specs::Steps::evaluating), unfolding(aml_meaning::specs::Fields::field_value))]
+pub(crate) fn eval_field_value<S: Space>(
+    alloc: Global,
+    world: &mut World<S>,
+    budget: &mut u64,
+    calls: usize,
+    unit: FieldUnit,
+) -> Result<Value, Refusal>
+    ensures spent { budget.new ≤ budget.old }
+    ensures means { Does result (world.new, budget.new) (field_value S.accesses (asked (answer_within S.accesses (meaning S.accesses) calls)) unit) (world.old, budget.old) }
+{
+    let bytes = eval_bits_in(alloc, world, budget, calls, unit.source, unit)?;
+    world.value_of_bits(unit.bits, Octets::from_vec(bytes))
+}
+
+/// The bits of a field unit, as an integer.
+#[cycle(evaluation)]
+#[tactic(auto, using(crate::specs::Steps::evaluating), unfolding(aml_meaning::specs::Fields::field_integer))]
+pub(crate) fn eval_field_integer<S: Space>(
+    alloc: Global,
+    world: &mut World<S>,
+    budget: &mut u64,
+    calls: usize,
+    unit: FieldUnit,
+) -> Result<u64, Refusal>
+    ensures spent { budget.new ≤ budget.old }
+    ensures means { Does result (world.new, budget.new) (field_integer S.accesses (asked (answer_within S.accesses (meaning S.accesses) calls)) unit) (world.old, budget.old) }
+{
+    let bytes = eval_bits_in(alloc, world, budget, calls, unit.source, unit)?;
+    world.integer_of_bits(&bytes)
+}
+
+/// The bits of a field unit, as a part of an address.
+#[cycle(evaluation)]
+#[tactic(auto, using(crate::specs::Steps::evaluating), unfolding(aml_meaning::specs::Fields::field_part))]
+pub(crate) fn eval_field_part<S: Space>(
+    alloc: Global,
+    world: &mut World<S>,
+    budget: &mut u64,
+    calls: usize,
+    unit: FieldUnit,
+) -> Result<u64, Refusal>
+    ensures spent { budget.new ≤ budget.old }
+    ensures means { Does result (world.new, budget.new) (field_part S.accesses (asked (answer_within S.accesses (meaning S.accesses) calls)) unit) (world.old, budget.old) }
+{
+    let bytes = eval_bits_in(alloc, world, budget, calls, unit.source, unit)?;
+    world.integer_alone(unit.bits, &bytes)
+}
+
+/// The bits of a field unit, as they are handed out.
+#[tactic(auto, using(crate::specs::Steps::evaluating), unfolding(aml_meaning::specs::Fields::field_given))]
+pub(crate) fn field_given<S: Space>(
+    alloc: Global,
+    world: &mut World<S>,
+    budget: &mut u64,
+    calls: usize,
+    unit: FieldUnit,
+) -> Result<Datum, Refusal>
+    ensures { Does (seen given_of result) (world.new, budget.new) (field_given S.accesses (asked (answer_within S.accesses (meaning S.accesses) calls)) unit) (world.old, budget.old) }
+{
+    let bytes = eval_bits_in(alloc, world, budget, calls, unit.source, unit)?;
+    world.datum_of_bits(unit.bits, Octets::from_vec(bytes))
+}
+
+/// Stores a value to a field unit: its bits, cut or with zeros behind them.
+#[cycle(evaluation)]
+#[tactic(auto, using(crate::specs::Steps::evaluating), unfolding(aml_meaning::specs::Fields::field_stored))]
+pub(crate) fn eval_field_stored<S: Space>(
+    alloc: Global,
+    world: &mut World<S>,
+    budget: &mut u64,
+    calls: usize,
+    unit: FieldUnit,
+    value: Value,
+) -> Result<(), Refusal>
+    ensures spent { budget.new ≤ budget.old }
+    ensures means { Does result (world.new, budget.new) (field_stored S.accesses (asked (answer_within S.accesses (meaning S.accesses) calls)) unit value) (world.old, budget.old) }
+{
+    let bytes = world.bytes_in(alloc, value)?;
+    eval_written_in(
+        alloc,
+        world,
+        budget,
+        calls,
+        unit.source,
+        unit,
+        bytes.as_slice(),
+    )
+}
+
+#[cycle(evaluation)]
+#[tactic(auto, using(crate::specs::Steps::evaluating))]
+fn eval_bits_in<S: Space>(
+    alloc: Global,
+    world: &mut World<S>,
+    budget: &mut u64,
+    calls: usize,
+    source: FieldSource,
+    unit: FieldUnit,
+) -> Result<Vec<u8>, Refusal>
+    ensures spent { budget.new ≤ budget.old }
+    ensures means { Does (seen (λ v. v.items) result) (world.new, budget.new) (bits_in S.accesses (asked (answer_within S.accesses (meaning S.accesses) calls)) source unit) (world.old, budget.old) }
+{
+    match source {
+        FieldSource::Region(region) => {
+            eval_region_bits(alloc, world, budget, calls, RegionField { region, unit })
+        }
+        FieldSource::Index(index, behind) => {
+            eval_index_bits(alloc, world, budget, calls, index, behind, unit)
+        }
+    }
+}
+
+#[cycle(evaluation)]
+#[tactic(auto, using(crate::specs::Steps::evaluating))]
+fn eval_written_in<S: Space>(
+    alloc: Global,
+    world: &mut World<S>,
+    budget: &mut u64,
+    calls: usize,
+    source: FieldSource,
+    unit: FieldUnit,
+    bytes: &[u8],
+) -> Result<(), Refusal>
+    ensures spent { budget.new ≤ budget.old }
+    ensures means { Does result (world.new, budget.new) (written_in S.accesses (asked (answer_within S.accesses (meaning S.accesses) calls)) source unit bytes.now) (world.old, budget.old) }
+{
+    match source {
+        FieldSource::Region(region) => {
+            let field = RegionField { region, unit };
+            eval_region_written(alloc, world, budget, calls, field, bytes)
+        }
+        FieldSource::Index(index, behind) => {
+            eval_index_written(alloc, world, budget, calls, index, behind, unit, bytes)
+        }
+    }
+}
+
+/// The bits of a field of a region.
+#[cycle(evaluation)]
+#[tactic(auto, using(crate::specs::Steps::evaluating), unfolding(aml_meaning::specs::Fields::region_bits))]
+pub(crate) fn eval_region_bits<S: Space>(
+    alloc: Global,
+    world: &mut World<S>,
+    budget: &mut u64,
+    calls: usize,
+    field: RegionField,
+) -> Result<Vec<u8>, Refusal>
+    ensures spent { budget.new ≤ budget.old }
+    ensures means { Does (seen (λ v. v.items) result) (world.new, budget.new) (region_bits S.accesses (asked (answer_within S.accesses (meaning S.accesses) calls)) field) (world.old, budget.old) }
+{
+    let region = eval_located(alloc, world, budget, calls, field.region)?;
+    world.read_field(alloc, region, field.unit)
+}
+
+/// Writes a field of a region.
+#[cycle(evaluation)]
+#[tactic(auto, using(crate::specs::Steps::evaluating), unfolding(aml_meaning::specs::Fields::region_written))]
+pub(crate) fn eval_region_written<S: Space>(
+    alloc: Global,
+    world: &mut World<S>,
+    budget: &mut u64,
+    calls: usize,
+    field: RegionField,
+    bytes: &[u8],
+) -> Result<(), Refusal>
+    ensures spent { budget.new ≤ budget.old }
+    ensures means { Does result (world.new, budget.new) (region_written S.accesses (asked (answer_within S.accesses (meaning S.accesses) calls)) field bytes.now) (world.old, budget.old) }
+{
+    let region = eval_located(alloc, world, budget, calls, field.region)?;
+    world.write_field(region, field.unit, bytes)
+}
+
+/// Where the region with the number of a declaration is; its address is asked for.
+#[cycle(evaluation)]
+#[tactic(auto, using(crate::specs::Steps::evaluating), unfolding(aml_meaning::specs::Fields::located))]
+fn eval_located<S: Space>(
+    alloc: Global,
+    world: &mut World<S>,
+    budget: &mut u64,
+    calls: usize,
+    number: u64,
+) -> Result<Region, Refusal>
+    ensures spent { budget.new ≤ budget.old }
+    ensures means { Does result (world.new, budget.new) (located S.accesses (asked (answer_within S.accesses (meaning S.accesses) calls)) number) (world.old, budget.old) }
+{
+    let (scope, region) = world.region_declared(alloc, number)?;
+    let kind = space_numbered(region.space);
+    let space = eval_space_at(alloc, world, budget, calls, kind, &scope)?;
+    Ok(Region {
+        space,
+        offset: region.offset,
+        length: region.length,
+    })
+}
+
+#[cycle(evaluation)]
+#[tactic(auto, using(crate::specs::Steps::evaluating))]
+fn eval_space_at<S: Space>(
+    alloc: Global,
+    world: &mut World<S>,
+    budget: &mut u64,
+    calls: usize,
+    kind: RegionSpace,
+    scope: &Path,
+) -> Result<AddressSpace, Refusal>
+    ensures spent { budget.new ≤ budget.old }
+    ensures means { Does result (world.new, budget.new) (space_at S.accesses (asked (answer_within S.accesses (meaning S.accesses) calls)) kind scope.now) (world.old, budget.old) }
+{
+    match kind {
+        RegionSpace::SystemMemory => Ok(AddressSpace::Memory),
+        RegionSpace::SystemIo => Ok(AddressSpace::Io),
+        RegionSpace::PciConfig => eval_pci_address(alloc, world, budget, calls, scope),
+        RegionSpace::Other => Err(Refusal::Evaluation(EvaluationFault::SpaceKind)),
+    }
+}
+
+/// The registers of the PCI function that a scope belongs to: its segment group, its bus and its address are asked for, in this
+/// order.
+#[cycle(evaluation)]
+#[tactic(auto, using(crate::specs::Steps::evaluating), unfolding(aml_meaning::specs::Fields::pci_address))]
+fn eval_pci_address<S: Space>(
+    alloc: Global,
+    world: &mut World<S>,
+    budget: &mut u64,
+    calls: usize,
+    scope: &Path,
+) -> Result<AddressSpace, Refusal>
+    ensures spent { budget.new ≤ budget.old }
+    ensures means { Does result (world.new, budget.new) (pci_address S.accesses (asked (answer_within S.accesses (meaning S.accesses) calls)) scope.now) (world.old, budget.old) }
+{
+    let device = world.pci_function(alloc, scope)?;
+    let segment = eval_inherited(alloc, world, budget, calls, segment_group(), &device)?;
+    let bus = eval_inherited(alloc, world, budget, calls, base_bus(), &device)?;
+    let object = device.child(alloc, adr())?;
+    let address = eval_asked(alloc, world, budget, calls, &object)?;
+    pci_space(segment, bus, address)
+}
+
+/// What the nearest object of a name answers, from a device on upward; 0 where there is none.
+#[cycle(evaluation)]
+#[tactic(auto, using(crate::specs::Steps::evaluating), unfolding(aml_meaning::specs::Fields::inherited))]
+fn eval_inherited<S: Space>(
+    alloc: Global,
+    world: &mut World<S>,
+    budget: &mut u64,
+    calls: usize,
+    name: Seg,
+    device: &Path,
+) -> Result<u64, Refusal>
+    ensures spent { budget.new ≤ budget.old }
+    ensures means { Does result (world.new, budget.new) (inherited S.accesses (asked (answer_within S.accesses (meaning S.accesses) calls)) name device.now) (world.old, budget.old) }
+{
+    let near = world.nearest(alloc, Sought::Parent(name), device)?;
+    eval_part_in(alloc, world, budget, calls, name, near)
+}
+
+#[cycle(evaluation)]
+#[tactic(auto, using(crate::specs::Steps::evaluating))]
+fn eval_part_in<S: Space>(
+    alloc: Global,
+    world: &mut World<S>,
+    budget: &mut u64,
+    calls: usize,
+    name: Seg,
+    scope: Option<Path>,
+) -> Result<u64, Refusal>
+    ensures spent { budget.new ≤ budget.old }
+    ensures means { Does result (world.new, budget.new) (part_in S.accesses (asked (answer_within S.accesses (meaning S.accesses) calls)) name scope) (world.old, budget.old) }
+{
+    match scope {
+        None => Ok(0),
+        Some(scope) => eval_part_below(alloc, world, budget, calls, name, &scope),
+    }
+}
+
+#[cycle(evaluation)]
+#[tactic(auto, using(crate::specs::Steps::evaluating))]
+fn eval_part_below<S: Space>(
+    alloc: Global,
+    world: &mut World<S>,
+    budget: &mut u64,
+    calls: usize,
+    name: Seg,
+    scope: &Path,
+) -> Result<u64, Refusal>
+    ensures spent { budget.new ≤ budget.old }
+    ensures means { Does result (world.new, budget.new) (asked (answer_within S.accesses (meaning S.accesses) calls) (scope.now ++ name ∷ [])) (world.old, budget.old) }
+{
+    let object = scope.child(alloc, name)?;
+    eval_asked(alloc, world, budget, calls, &object)
+}

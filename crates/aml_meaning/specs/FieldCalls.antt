@@ -1,0 +1,80 @@
+-- Field units where terms read them and store to them. The objects of an address (`_SEG`, `_BBN`, `_ADR`) are called, one call deeper.
+use Rattle.std.specs.Prelude.{ℕ, zero, suc, ◌-◌, List, []}
+use Rattle.ar_space.specs.declared.refusal.Refusal.TheVariants as refusal
+use Rattle.ar_space.specs.declared.refusal.EvaluationFault.TheVariants.{CallDepth}
+use Rattle.ar_space.specs.Accesses.{Accesses}
+use Rattle.ar_space.specs.Change.{give, stop, settle, ◌>>=◌}
+use Rattle.aml_path.specs.declared.segment.Seg.{Seg}
+use Rattle.aml_objects.specs.declared.value.Value.{Value}
+use Rattle.aml_objects.specs.declared.entry.FieldUnit.{FieldUnit}
+use Rattle.aml_objects.specs.declared.entry.BodyPlace.{BodyPlace}
+use Rattle.aml_meaning.specs.declared.flow.Flow.{Flow}
+use Rattle.aml_meaning.specs.declared.invocation.Invocation.{Invocation}
+use Rattle.aml_meaning.specs.declared.invocation.Invocation.TheVariants as invocation
+use Rattle.aml_meaning.specs.declared.place.Place.{Place}
+use Rattle.aml_meaning.specs.declared.place.Held.{Held}
+use Rattle.aml_meaning.specs.declared.place.Held.TheVariants as held
+use Rattle.aml_meaning.specs.declared.place.Stored.{Stored}
+use Rattle.aml_meaning.specs.declared.place.Stored.TheVariants as store
+use Rattle.aml_meaning.specs.State.{State}
+use Rattle.aml_meaning.specs.Run.{Run, lift}
+use Rattle.aml_meaning.specs.Readings.{absolute, integer_in}
+use Rattle.aml_meaning.specs.Stores.{stored}
+use Rattle.aml_meaning.specs.Regions.{integer_only}
+use Rattle.aml_meaning.specs.Tasks.{Task}
+use Rattle.aml_meaning.specs.Invocations.{invocation_found, method_value}
+use Rattle.aml_meaning.specs.Fields.{field_value, field_integer, field_part, field_stored}
+
+-- the integer that the object at a path answers, without arguments; answer: what it is, answered
+unfoldable pub asked : {S : Type 0} → (Invocation → Run S ℕ) → List Seg → Run S ℕ
+asked answer p = do
+  i ← lift (invocation_found [] (absolute p) 0)
+  answer i
+
+module _ {S : Type 0} (accesses : Accesses S) (ev : Task → Run S Flow) where
+  unfoldable pub method_integer : ℕ → List Seg → BodyPlace → Run S ℕ
+  method_integer depth p body = do
+    v ← method_value ev depth p body []
+    settle (integer_only v)
+
+  -- n: how many calls may still be made one inside another, this one aside
+  abbrev pub answer_over : ℕ → (List Seg → Run S ℕ) → Invocation → Run S ℕ
+  answer_over n call (invocation.Value v) = settle (integer_only v)
+  answer_over n call (invocation.FieldUnit u) = field_part accesses call u
+  answer_over n call (invocation.Method p body) = method_integer (31 - n) p body
+
+  unfoldable pub answer_within : ℕ → Invocation → Run S ℕ
+  answer_within zero i = stop (refusal.Evaluation CallDepth)
+  answer_within (suc n) i = answer_over n (asked (answer_within n)) i
+
+  -- what is called where so many control methods are being called
+  abbrev pub called_at : ℕ → List Seg → Run S ℕ
+  called_at depth = asked (answer_within (32 - depth))
+
+  -- ---- a field unit, read and stored to
+
+  abbrev pub field_read : ℕ → FieldUnit → Run S Value
+  field_read depth u = field_value accesses (called_at depth) u
+
+  abbrev pub field_written : ℕ → FieldUnit → Value → Run S (Unit {0})
+  field_written depth u v = field_stored accesses (called_at depth) u v
+
+  -- what a place holds, as an integer
+  abbrev pub held_integer : ℕ → Held → Run S ℕ
+  held_integer depth (held.Value v) = lift (integer_in v)
+  held_integer depth (held.FieldUnit u) = field_integer accesses (called_at depth) u
+
+  -- a store is done, or a field unit is written next
+  abbrev pub completed : ℕ → Stored → Value → Run S (Unit {0})
+  completed depth store.Done v = give tt
+  completed depth (store.FieldUnit u) v = field_written depth u v
+
+  unfoldable pub stored_to : ℕ → Place → Value → Run S (Unit {0})
+  stored_to depth p v = do
+    s ← lift (stored p v)
+    completed depth s v
+
+  -- a store to a place whose value was read before; a field unit that was read is the one that is written
+  abbrev pub stored_back : ℕ → Held → Place → Value → Run S (Unit {0})
+  stored_back depth (held.Value old) p v = stored_to depth p v
+  stored_back depth (held.FieldUnit u) p v = field_written depth u v

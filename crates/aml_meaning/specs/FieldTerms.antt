@@ -1,0 +1,185 @@
+-- Declarations of operation regions and of fields (ACPI 6.5, 19.6: OperationRegion, Field, IndexField; 20.2.5.2: FieldList).
+use Rattle.std.specs.Prelude.{ℕ, ◌+◌, ◌^◌, ◌/◌, ◌%◌, ◌==◌, ◌||◌, nat_lt, List, Bool, true, false, Ok, Err, if◌then◌else◌}
+use Rattle.ar_space.specs.declared.space.Width.{Width}
+use Rattle.ar_space.specs.declared.space.Width.TheVariants.{W8, W16, W32, W64}
+use Rattle.ar_space.specs.declared.refusal.Refusal.TheVariants as refusal
+use Rattle.ar_space.specs.declared.refusal.EvaluationFault.TheVariants.{Unsupported}
+use Rattle.ar_space.specs.declared.refusal.FieldFault.TheVariants.{FieldLimit}
+use Rattle.ar_space.specs.declared.refusal.NameFault.TheVariants.{BadName}
+use Rattle.ar_space.specs.declared.refusal.ValueFault.TheVariants.{WrongType}
+use Rattle.ar_space.specs.Outcome.{Outcome}
+use Rattle.ar_space.specs.Change.{Change, give, stop, settle, ◌>>=◌}
+use Rattle.aml_path.specs.declared.segment.Seg.{Seg}
+use Rattle.aml_path.specs.Paths.{Name, resolved}
+use Rattle.aml_terms.specs.declared.opcode.Opcode.{Opcode}
+use Rattle.aml_terms.specs.declared.opcode.Opcode.TheVariants as opcodes
+use Rattle.aml_terms.specs.declared.opcode.TermCode.{TermCode}
+use Rattle.aml_terms.specs.declared.opcode.TermCode.TheVariants as codes
+use Rattle.aml_terms.specs.Opcodes as opcode
+use Rattle.aml_terms.specs.Tree.{Tree, Trees, no_trees, tree}
+use Rattle.aml_terms.specs.Apart.{code_of, operand_of, name_of}
+use Rattle.aml_objects.specs.declared.entry.NamedObject.{NamedObject}
+use Rattle.aml_objects.specs.declared.entry.NamedObject.TheVariants as object
+use Rattle.aml_objects.specs.declared.entry.Entry.{Entry}
+use Rattle.aml_objects.specs.declared.entry.FieldSource.{FieldSource}
+use Rattle.aml_objects.specs.declared.entry.FieldSource.TheVariants as sources
+use Rattle.aml_objects.specs.declared.entry.UpdateRule.{UpdateRule}
+use Rattle.aml_objects.specs.declared.entry.UpdateRule.TheVariants.{Preserve, WriteAsOnes, WriteAsZeros}
+use Rattle.aml_meaning.specs.declared.field_layout.FieldLayout.{FieldLayout}
+use Rattle.aml_meaning.specs.declared.field_layout.FieldGroup.{FieldGroup}
+use Rattle.aml_meaning.specs.declared.flow.Flow.{Flow}
+use Rattle.aml_meaning.specs.declared.flow.Flow.TheVariants as flow
+use Rattle.aml_meaning.specs.declared.term_kind.RegionKind.{RegionKind}
+use Rattle.aml_meaning.specs.declared.term_kind.RegionKind.TheVariants as kinds
+use Rattle.aml_meaning.specs.State.{State}
+use Rattle.aml_meaning.specs.Run.{Run, lift}
+use Rattle.aml_meaning.specs.Terms.{number_of, list_of}
+use Rattle.aml_meaning.specs.Readings.{integer_in, entry_found}
+use Rattle.aml_meaning.specs.Declaring.{new_name}
+use Rattle.aml_meaning.specs.Tasks.{Task, module_level, value_at}
+use Rattle.aml_meaning.specs.DeclarationTerms.{declaring}
+
+-- ---- field flags
+
+-- how wide accesses are: the lowest four bits; any other number stands for byte accesses
+abbrev pub width_numbered : ℕ → Width
+width_numbered n = if n == 2 then W16 else (if n == 3 then W32 else (if n == 4 then W64 else W8))
+
+abbrev pub access_width : ℕ → Width
+access_width flags = width_numbered (flags % 16)
+
+-- what a write does with the other bits of a unit: bits 5 and 6
+abbrev pub rule_numbered : ℕ → UpdateRule
+rule_numbered n = if n == 1 then WriteAsOnes else (if n == 2 then WriteAsZeros else Preserve)
+
+abbrev pub update_rule : ℕ → UpdateRule
+update_rule flags = rule_numbered (flags / 32 % 4)
+
+-- ---- elements of a list of fields
+
+-- a named field has 1 to 8,388,608 bits
+abbrev pub sized : ℕ → Outcome ℕ
+sized count = if count == 0 || nat_lt 8388608 count then Err (refusal.Field FieldLimit) else Ok count
+
+-- so many bits further on; offsets are below 2^64, which no list of a table reaches
+abbrev pub further : FieldLayout → ℕ → Outcome FieldLayout
+further at count = if nat_lt (at.bit_offset + count) (2 ^ 64) then Ok (record at { bit_offset = at.bit_offset + count }) else Err (refusal.Field FieldLimit)
+
+-- a new field unit
+unfoldable pub new_field : {S : Type 0} → FieldGroup → Bool → List Seg → FieldLayout → ℕ → Change (State S) FieldLayout
+new_field group module_level p at count = do
+  bits ← settle (sized count)
+  number ← new_name module_level p (object.FieldUnit (record { source = group.source; bit_offset = at.bit_offset; bits = bits; access = at.access; update = group.update }))
+  settle (further at count)
+
+module _ {S : Type 0} (group : FieldGroup) (scope : List Seg) (depth : ℕ) where
+  unfoldable pub named_field : FieldLayout → Tree → Change (State S) FieldLayout
+  named_field at t = do
+    n ← settle (name_of (operand_of t 0))
+    p ← settle (resolved n scope)
+    count ← settle (number_of (operand_of t 1))
+    new_field group (module_level depth) p at count
+
+  unfoldable pub reserved_field : FieldLayout → Tree → Change (State S) FieldLayout
+  reserved_field at t = do
+    count ← settle (number_of (operand_of t 0))
+    settle (further at count)
+
+  unfoldable pub access_field : FieldLayout → Tree → Change (State S) FieldLayout
+  access_field at t = do
+    flags ← settle (number_of (operand_of t 0))
+    give (record at { access = access_width flags })
+
+  abbrev pub element_laid : TermCode → FieldLayout → Tree → Change (State S) FieldLayout
+  element_laid codes.NamedField at t = named_field at t
+  element_laid codes.ReservedField at t = reserved_field at t
+  element_laid codes.AccessField at t = access_field at t
+  element_laid codes.ExtendedAccessField at t = access_field at t
+  element_laid codes.ConnectField at t = stop (refusal.Name BadName)
+  element_laid codes.Name at t = stop (refusal.Name BadName)
+  element_laid codes.MethodInvocation at t = stop (refusal.Name BadName)
+  element_laid (codes.Opcode op) at t = stop (refusal.Name BadName)
+
+  unfoldable pub elements_laid : FieldLayout → Trees → Change (State S) (Unit {0})
+  elements_laid at no_trees = give tt
+  elements_laid at (tree t ts) = do
+    next ← element_laid (code_of t) at t
+    elements_laid next ts
+
+-- a list in which a Connection stands is not evaluated
+abbrev pub is_connection : TermCode → Bool
+is_connection codes.ConnectField = true
+is_connection _ = false
+
+unfoldable pub has_connection : Trees → Bool
+has_connection no_trees = false
+has_connection (tree t ts) = is_connection (code_of t) || has_connection ts
+
+abbrev pub unconnected : Opcode → Trees → Outcome (Unit {0})
+unconnected op ts = if has_connection ts then Err (refusal.Evaluation (Unsupported (opcode.number_of op))) else Ok tt
+
+-- ---- what lists of fields lie in
+
+abbrev pub region_number : ℕ → NamedObject → Outcome ℕ
+region_number n (object.OperationRegion r) = Ok n
+region_number n _ = Err (refusal.Value WrongType)
+
+unfoldable pub region_found : {S : Type 0} → List Seg → Name → Change (State S) ℕ
+region_found scope n = do
+  e ← entry_found scope n
+  settle (region_number e.number e.object)
+
+abbrev pub in_region : ℕ → FieldSource → Outcome ℕ
+in_region n (sources.Region r) = Ok n
+in_region n (sources.Index i d) = Err (refusal.Value WrongType)
+
+abbrev pub field_number : ℕ → NamedObject → Outcome ℕ
+field_number n (object.FieldUnit u) = in_region n u.source
+field_number n _ = Err (refusal.Value WrongType)
+
+unfoldable pub field_found : {S : Type 0} → List Seg → Name → Change (State S) ℕ
+field_found scope n = do
+  e ← entry_found scope n
+  settle (field_number e.number e.object)
+
+-- the fields of a list, with these flags
+unfoldable pub fields_laid : {S : Type 0} → List Seg → ℕ → FieldSource → ℕ → Trees → Run S Flow
+fields_laid scope depth source flags ts = do
+  laid ← lift (elements_laid (record { source = source; update = update_rule flags }) scope depth (record { bit_offset = 0; access = access_width flags }) ts)
+  give flow.Next
+
+module _ {S : Type 0} (ev : Task → Run S Flow) where
+  -- the offset and the length are evaluated here
+  unfoldable pub region_rule : List Seg → ℕ → Tree → Run S Flow
+  region_rule scope depth t = do
+    space ← settle (number_of (operand_of t 1))
+    offset ← value_at ev scope depth t 2
+    size ← value_at ev scope depth t 3
+    x ← lift (integer_in offset)
+    y ← lift (integer_in size)
+    declaring ev scope depth t (object.OperationRegion (record { space = space % 256; offset = x; length = y }))
+
+  unfoldable pub field_list_rule : List Seg → ℕ → Tree → Run S Flow
+  field_list_rule scope depth t = do
+    ts ← settle (list_of (operand_of t 2))
+    plain ← settle (unconnected opcodes.Field ts)
+    n ← settle (name_of (operand_of t 0))
+    region ← lift (region_found scope n)
+    flags ← settle (number_of (operand_of t 1))
+    fields_laid scope depth (sources.Region region) flags ts
+
+  unfoldable pub index_list_rule : List Seg → ℕ → Tree → Run S Flow
+  index_list_rule scope depth t = do
+    ts ← settle (list_of (operand_of t 3))
+    plain ← settle (unconnected opcodes.IndexField ts)
+    m ← settle (name_of (operand_of t 0))
+    index ← lift (field_found scope m)
+    n ← settle (name_of (operand_of t 1))
+    behind ← lift (field_found scope n)
+    flags ← settle (number_of (operand_of t 2))
+    fields_laid scope depth (sources.Index index behind) flags ts
+
+  abbrev pub region_term_rule : RegionKind → List Seg → ℕ → Tree → Run S Flow
+  region_term_rule kinds.OperationRegion scope depth t = region_rule scope depth t
+  region_term_rule kinds.Field scope depth t = field_list_rule scope depth t
+  region_term_rule kinds.IndexField scope depth t = index_list_rule scope depth t

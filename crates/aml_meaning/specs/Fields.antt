@@ -1,0 +1,147 @@
+-- Field units, read and written (ACPI 6.5, 5.5.2.4 and 19.6: OperationRegion, Field, IndexField). An access of a field of a region asks
+-- for the region's address once; the source of a write is converted before that.
+use Rattle.std.specs.Prelude.{ℕ, List, [], ◌∷◌, ◌++◌, Option, Some, None}
+use Rattle.ar_space.specs.declared.space.Width.{Width}
+use Rattle.ar_space.specs.declared.refusal.Refusal.TheVariants as refusal
+use Rattle.ar_space.specs.declared.refusal.EvaluationFault.TheVariants.{SpaceKind}
+use Rattle.ar_space.specs.Accesses.{Accesses, bit_count}
+use Rattle.ar_space.specs.Change.{give, stop, settle, ◌>>=◌}
+use Rattle.aml_path.specs.declared.segment.Seg.{Seg}
+use Rattle.aml_objects.specs.declared.value.Value.{Value}
+use Rattle.aml_objects.specs.declared.entry.FieldUnit.{FieldUnit}
+use Rattle.aml_objects.specs.declared.entry.FieldSource.{FieldSource}
+use Rattle.aml_objects.specs.declared.entry.FieldSource.TheVariants as sources
+use Rattle.aml_objects.specs.declared.entry.UpdateRule.TheVariants.{WriteAsZeros}
+use Rattle.aml_fields.specs.declared.region.AddressSpace.{AddressSpace}
+use Rattle.aml_fields.specs.declared.region.AddressSpace.TheVariants as spaces
+use Rattle.aml_fields.specs.declared.region.Region.{Region}
+use Rattle.aml_fields.specs.declared.field_units.Unit.{Unit as Access}
+use Rattle.aml_fields.specs.Bits.{bits_from, bytes_within, field_bits, merged, rest_of_unit}
+use Rattle.aml_fields.specs.Units.{units_of}
+use Rattle.aml_fields.specs.UnitByUnit.{bits_read, kept, write_units}
+use Rattle.aml_fields.specs.Regions.{read_field, write_field}
+use Rattle.aml_meaning.specs.declared.pci_functions.Sought.TheVariants as sought
+use Rattle.aml_meaning.specs.declared.regions.RegionSpace.{RegionSpace}
+use Rattle.aml_meaning.specs.declared.regions.RegionSpace.TheVariants as kinds
+use Rattle.aml_meaning.specs.declared.regions.RegionField.{RegionField}
+use Rattle.aml_meaning.specs.Given as given
+use Rattle.aml_meaning.specs.State.{State, on_space}
+use Rattle.aml_meaning.specs.Run.{Run, lift}
+use Rattle.aml_meaning.specs.Stores.{bytes_in}
+use Rattle.aml_meaning.specs.PciFunctions.{adr, segment_group, base_bus, nearest, pci_function}
+use Rattle.aml_meaning.specs.Regions.{space_numbered, pci_space, region_declared, field_declared, integer_of_bits, value_of_bits, integer_alone, given_of_bits}
+
+-- a number as the bytes of a unit, and the unit that bits make, cut or with zeros behind them
+abbrev pub unit_bytes : ℕ → List ℕ
+unit_bytes n = bytes_within 8 (bits_from n 0 64)
+
+abbrev pub unit_of : Width → List ℕ → ℕ
+unit_of w bytes = merged (rest_of_unit WriteAsZeros w 0) 0 (field_bits bytes 0 (bit_count w))
+
+-- accesses: what the register space makes of them; call: the integer that the object at a path answers
+module _ {S : Type 0} (accesses : Accesses S) (call : List Seg → Run S ℕ) where
+  -- ---- where a region is
+
+  abbrev pub part_in : Seg → Option (List Seg) → Run S ℕ
+  part_in s None = give 0
+  part_in s (Some p) = call (p ++ s ∷ [])
+
+  -- what the nearest object of a name answers, from a scope on upward; 0 where there is none
+  unfoldable pub inherited : Seg → List Seg → Run S ℕ
+  inherited s p = do
+    near ← lift (nearest (sought.Parent s) p)
+    part_in s near
+
+  unfoldable pub pci_address : List Seg → Run S AddressSpace
+  pci_address scope = do
+    p ← lift (pci_function scope)
+    seg ← inherited segment_group p
+    bus ← inherited base_bus p
+    address ← call (p ++ adr ∷ [])
+    settle (pci_space seg bus address)
+
+  abbrev pub space_at : RegionSpace → List Seg → Run S AddressSpace
+  space_at kinds.SystemMemory scope = give spaces.Memory
+  space_at kinds.SystemIo scope = give spaces.Io
+  space_at kinds.PciConfig scope = pci_address scope
+  space_at kinds.Other scope = stop (refusal.Evaluation SpaceKind)
+
+  unfoldable pub located : ℕ → Run S Region
+  located n = do
+    d ← lift (region_declared n)
+    space ← space_at (space_numbered d.1.space) d.0
+    give (record { space = space; offset = d.1.offset; length = d.1.length })
+
+  -- ---- fields of a region
+
+  unfoldable pub region_bits : RegionField → Run S (List ℕ)
+  region_bits f = do
+    r ← located f.region
+    lift (on_space (read_field accesses r f.unit))
+
+  unfoldable pub region_written : RegionField → List ℕ → Run S (Unit {0})
+  region_written f bytes = do
+    r ← located f.region
+    lift (on_space (write_field accesses r f.unit bytes))
+
+  -- ---- fields behind an index field and a data field: each unit's offset is written to the index field first
+
+  unfoldable pub index_unit : RegionField → RegionField → Width → Access → Run S ℕ
+  index_unit index behind w u = do
+    chosen ← region_written index (unit_bytes u.offset)
+    bytes ← region_bits behind
+    give (unit_of w bytes)
+
+  unfoldable pub index_unit_written : RegionField → RegionField → FieldUnit → List ℕ → Access → Run S (Unit {0})
+  index_unit_written index behind f bytes u = do
+    old ← kept f u (index_unit index behind f.access u)
+    chosen ← region_written index (unit_bytes u.offset)
+    region_written behind (unit_bytes (merged (rest_of_unit f.update f.access old) u.first (field_bits bytes u.position u.count)))
+
+  unfoldable pub index_bits : ℕ → ℕ → FieldUnit → Run S (List ℕ)
+  index_bits i d f = do
+    index ← lift (field_declared i)
+    behind ← lift (field_declared d)
+    bits_read (index_unit index behind f.access) f
+
+  unfoldable pub index_written : ℕ → ℕ → FieldUnit → List ℕ → Run S (Unit {0})
+  index_written i d f bytes = do
+    index ← lift (field_declared i)
+    behind ← lift (field_declared d)
+    write_units (index_unit_written index behind f bytes) (units_of f.bit_offset f.bits f.access)
+
+  -- ---- any field unit
+
+  abbrev pub bits_in : FieldSource → FieldUnit → Run S (List ℕ)
+  bits_in (sources.Region n) f = region_bits (record { region = n; unit = f })
+  bits_in (sources.Index i d) f = index_bits i d f
+
+  abbrev pub written_in : FieldSource → FieldUnit → List ℕ → Run S (Unit {0})
+  written_in (sources.Region n) f bytes = region_written (record { region = n; unit = f }) bytes
+  written_in (sources.Index i d) f bytes = index_written i d f bytes
+
+  unfoldable pub field_value : FieldUnit → Run S Value
+  field_value f = do
+    bytes ← bits_in f.source f
+    lift (value_of_bits f.bits bytes)
+
+  -- the same as an integer, where one is counted, as a part of an address, and as it is handed out: no object is made
+  unfoldable pub field_integer : FieldUnit → Run S ℕ
+  field_integer f = do
+    bytes ← bits_in f.source f
+    lift (integer_of_bits bytes)
+
+  unfoldable pub field_part : FieldUnit → Run S ℕ
+  field_part f = do
+    bytes ← bits_in f.source f
+    lift (integer_alone f.bits bytes)
+
+  unfoldable pub field_given : FieldUnit → Run S given.Given
+  field_given f = do
+    bytes ← bits_in f.source f
+    lift (given_of_bits f.bits bytes)
+
+  unfoldable pub field_stored : FieldUnit → Value → Run S (Unit {0})
+  field_stored f v = do
+    bytes ← lift (bytes_in v)
+    written_in f.source f bytes

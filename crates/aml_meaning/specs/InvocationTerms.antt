@@ -1,0 +1,54 @@
+-- Names where values stand, and the arguments of calls (ACPI 6.5, 5.5.2 and 20.2.5: MethodInvocation).
+use Rattle.std.specs.Prelude.{ℕ, List, [], ◌∷◌, ◌++◌}
+use Rattle.ar_space.specs.Accesses.{Accesses}
+use Rattle.ar_space.specs.Change.{give, settle, ◌>>=◌}
+use Rattle.aml_path.specs.declared.segment.Seg.{Seg}
+use Rattle.aml_terms.specs.Tree.{Tree, Trees, no_trees, tree}
+use Rattle.aml_terms.specs.Apart.{operand_of, name_of}
+use Rattle.aml_objects.specs.declared.value.Value.{Value}
+use Rattle.aml_objects.specs.declared.entry.BodyPlace.{BodyPlace}
+use Rattle.aml_objects.specs.declared.entry.FieldUnit.{FieldUnit}
+use Rattle.aml_meaning.specs.declared.flow.Flow.{Flow}
+use Rattle.aml_meaning.specs.declared.flow.Flow.TheVariants as flow
+use Rattle.aml_meaning.specs.declared.invocation.Invocation.{Invocation}
+use Rattle.aml_meaning.specs.declared.invocation.Invocation.TheVariants as invocation
+use Rattle.aml_meaning.specs.State.{State}
+use Rattle.aml_meaning.specs.Run.{Run, lift}
+use Rattle.aml_meaning.specs.Terms.{list_of, count_of}
+use Rattle.aml_meaning.specs.Readings.{arguments_found, as_many}
+use Rattle.aml_meaning.specs.Tasks.{Task, operand_value}
+use Rattle.aml_meaning.specs.Invocations.{named_use, invoked}
+use Rattle.aml_meaning.specs.FieldCalls.{field_read}
+
+module _ {S : Type 0} (ev : Task → Run S Flow) where
+  -- arguments behind those that are done
+  unfoldable pub arguments_in_turn : List Seg → ℕ → Trees → List Value → Run S (List Value)
+  arguments_in_turn scope depth no_trees done = give done
+  arguments_in_turn scope depth (tree t ts) done = do
+    v ← operand_value ev scope depth t
+    arguments_in_turn scope depth ts (done ++ v ∷ [])
+
+  unfoldable pub call_rule : List Seg → ℕ → Trees → List Seg → BodyPlace → Run S Flow
+  call_rule scope depth ts p body = do
+    arguments ← arguments_in_turn scope depth ts []
+    invoked ev depth p body arguments
+
+module _ {S : Type 0} (accesses : Accesses S) (ev : Task → Run S Flow) where
+  unfoldable pub field_rule : ℕ → FieldUnit → Run S Flow
+  field_rule depth u = do
+    v ← field_read accesses ev depth u
+    give (flow.Value v)
+
+  abbrev pub invocation_rule : List Seg → ℕ → Trees → Invocation → Run S Flow
+  invocation_rule scope depth ts (invocation.Value v) = give (flow.Value v)
+  invocation_rule scope depth ts (invocation.FieldUnit u) = field_rule depth u
+  invocation_rule scope depth ts (invocation.Method p body) = call_rule ev scope depth ts p body
+
+  unfoldable pub name_value : List Seg → ℕ → Tree → Run S Flow
+  name_value scope depth t = do
+    n ← settle (name_of (operand_of t 0))
+    ts ← settle (list_of (operand_of t 1))
+    wanted ← lift (arguments_found scope n)
+    many ← settle (as_many wanted (count_of ts))
+    i ← lift (named_use scope n)
+    invocation_rule scope depth ts i

@@ -1,0 +1,171 @@
+//! Declarations of fields (ACPI 6.5, 19.6: Field, IndexField; 20.2.5.2: FieldFlags, FieldList).
+ghost use Rattle.std.specs.Prelude.{◌≡◌};
+ghost use Rattle.ar_space.specs.Change.{Does};
+ghost use Rattle.ar_space.specs.Outcome.{Answers};
+ghost use Rattle.aml_meaning.specs.FieldTerms.{width_numbered, access_width, rule_numbered, update_rule, sized, further, new_field, region_number, region_found, in_region, field_number, field_found};
+
+use crate::world::World;
+use aml_objects::{FieldSource, FieldUnit, NamedObject, UpdateRule};
+use aml_path::{NameString, Path};
+use ar_space::{FieldFault, Refusal, ValueFault, Width};
+use std::alloc::Global;
+
+/// How many bits a field may have.
+const MAX_BITS: u64 = 8_388_608;
+
+/// What the fields of a list have in common: what they lie in, and what a write does with the other bits of a unit.
+#[derive(Clone, Copy, Debug, PartialEq, Eq)]
+pub struct FieldGroup {
+    pub source: FieldSource,
+    pub update: UpdateRule,
+}
+
+/// Where the next field of a list begins, and how wide its accesses are.
+#[derive(Clone, Copy, Debug, PartialEq, Eq)]
+pub struct FieldLayout {
+    pub bit_offset: u64,
+    pub access: Width,
+}
+
+impl FieldLayout {
+    /// So many bits further on; an offset of 2^64 and more is refused as `FieldLimit`.
+    pub fn further(self, count: u64) -> Result<FieldLayout, Refusal>
+        ensures { Answers result (further self count) }
+    {
+        match self.bit_offset.checked_add(count) {
+            Some(bit_offset) => Ok(FieldLayout {
+                bit_offset,
+                access: self.access,
+            }),
+            None => Err(Refusal::Field(FieldFault::FieldLimit)),
+        }
+    }
+
+    /// The same place, with other accesses.
+    pub fn with_access(self, flags: u64) -> FieldLayout
+        ensures { result ≡ record self { access = access_width flags } }
+    {
+        FieldLayout {
+            bit_offset: self.bit_offset,
+            access: access_width(flags),
+        }
+    }
+}
+
+/// How wide the accesses are that field flags or an access type ask for: their lowest four bits. Any other than word, double
+/// word and quad word access is byte access.
+pub fn access_width(flags: u64) -> Width
+    ensures { result ≡ access_width flags }
+{
+    let access = flags % 16;
+    if access == 2 {
+        Width::W16
+    } else if access == 3 {
+        Width::W32
+    } else if access == 4 {
+        Width::W64
+    } else {
+        Width::W8
+    }
+}
+
+/// The update rule of field flags: their bits 5 and 6. The number 3, which has no meaning, is taken as 0.
+pub fn update_rule(flags: u64) -> UpdateRule
+    ensures { result ≡ update_rule flags }
+{
+    let update = flags / 32 % 4;
+    if update == 1 {
+        UpdateRule::WriteAsOnes
+    } else if update == 2 {
+        UpdateRule::WriteAsZeros
+    } else {
+        UpdateRule::Preserve
+    }
+}
+
+impl<S> World<S> {
+    /// Declares a field unit of so many bits where a list of fields has come to, and gives where it goes on.
+    ///
+    /// A field of no bits, or of more than 8,388,608, is refused as `FieldLimit`, and its name as `new_name` refuses it.
+    #[tactic(auto, using(ar_space::specs::Change::changing), unfolding(crate::specs::FieldTerms::new_field))]
+    pub fn new_field(
+        &mut self,
+        alloc: Global,
+        group: FieldGroup,
+        module_level: bool,
+        path: Path,
+        at: FieldLayout,
+        count: u64,
+    ) -> Result<FieldLayout, Refusal>
+        ensures { Does result self.new (new_field group module_level path at count) self.old }
+    {
+        let bits = sized(count)?;
+        let unit = FieldUnit {
+            source: group.source,
+            bit_offset: at.bit_offset,
+            bits,
+            access: at.access,
+            update: group.update,
+        };
+        self.new_name(alloc, module_level, path, NamedObject::FieldUnit(unit))?;
+        at.further(count)
+    }
+
+    /// The number of the declaration of the operation region that a name finds; anything else is refused as `WrongType`, and
+    /// a name that isn't found as `Names::lookup` refuses it.
+    #[tactic(auto, using(ar_space::specs::Change::changing), unfolding(crate::specs::FieldTerms::region_found))]
+    pub fn region_found(&self, scope: &Path, name: &NameString) -> Result<u64, Refusal>
+        ensures { Does result self.now (region_found scope.now name.now) self.now }
+    {
+        let entry = self.entry(scope, name)?;
+        region_number(entry.number, &entry.object)
+    }
+
+    /// The number of the declaration of the field that a name finds, which lies in an operation region; anything else is
+    /// refused as `WrongType`, and a name that isn't found as `Names::lookup` refuses it.
+    #[tactic(auto, using(ar_space::specs::Change::changing), unfolding(crate::specs::FieldTerms::field_found))]
+    pub fn field_found(&self, scope: &Path, name: &NameString) -> Result<u64, Refusal>
+        ensures { Does result self.now (field_found scope.now name.now) self.now }
+    {
+        let entry = self.entry(scope, name)?;
+        field_number(entry.number, &entry.object)
+    }
+}
+
+/// How many bits a named field has.
+fn sized(count: u64) -> Result<u32, Refusal>
+    ensures { Answers result (sized count) }
+{
+    if count == 0 || MAX_BITS < count {
+        Err(Refusal::Field(FieldFault::FieldLimit))
+    } else {
+        Ok(count as u32)
+    }
+}
+
+fn region_number(number: u64, object: &NamedObject) -> Result<u64, Refusal>
+    ensures { Answers result (region_number number object.now) }
+{
+    match object {
+        NamedObject::OperationRegion(_) => Ok(number),
+        _ => Err(Refusal::Value(ValueFault::WrongType)),
+    }
+}
+
+fn field_number(number: u64, object: &NamedObject) -> Result<u64, Refusal>
+    ensures { Answers result (field_number number object.now) }
+{
+    match object {
+        NamedObject::FieldUnit(unit) => in_region(number, unit.source),
+        _ => Err(Refusal::Value(ValueFault::WrongType)),
+    }
+}
+
+fn in_region(number: u64, source: FieldSource) -> Result<u64, Refusal>
+    ensures { Answers result (in_region number source) }
+{
+    match source {
+        FieldSource::Region(_) => Ok(number),
+        FieldSource::Index(_, _) => Err(Refusal::Value(ValueFault::WrongType)),
+    }
+}

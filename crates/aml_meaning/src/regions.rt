@@ -1,0 +1,239 @@
+//! Operation regions and the field units in them, as they were declared, and accesses of their registers (ACPI 6.5, 5.5.2.4).
+ghost use Rattle.std.specs.Prelude.{◌≡◌, nat_lt};
+ghost use Rattle.ar_space.specs.Change.{Does};
+ghost use Rattle.ar_space.specs.Outcome.{Answers, seen};
+ghost use Rattle.aml_convert.specs.Integers.{bits_of};
+ghost use Rattle.aml_fields.specs.Regions.{read_field, write_field};
+ghost use Rattle.aml_meaning.specs.State.{on_space};
+ghost use Rattle.aml_meaning.specs.Regions.{space_numbered, integer_only, pci_space, region_of_object, region_declared, region_field, field_of_object, field_declared, integer_of_bits, integer_value, value_of_bits, integer_alone, given_of_bits};
+ghost use Rattle.aml_meaning.specs.Given.{given_of};
+
+use crate::datum::Datum;
+use crate::world::World;
+use aml_convert::to_integer;
+use aml_fields::{AddressSpace, Region, read_field, write_field};
+use aml_objects::{Content, FieldSource, FieldUnit, NamedObject, Octets, OperationRegion, Value};
+use aml_path::Path;
+use ar_space::{EvaluationFault, FieldFault, IntegerWidth, Refusal, Space, ValueFault};
+use std::alloc::Global;
+
+/// The address space of an operation region.
+#[derive(Clone, Copy, Debug, PartialEq, Eq)]
+pub enum RegionSpace {
+    SystemMemory,
+    SystemIo,
+    PciConfig,
+    /// Any other, whose registers are not accessed.
+    Other,
+}
+
+/// A field unit that lies in an operation region, which the number of its declaration gives.
+#[derive(Clone, Copy, Debug, PartialEq, Eq)]
+pub struct RegionField {
+    pub region: u64,
+    pub unit: FieldUnit,
+}
+
+/// The address space with a number.
+pub fn space_numbered(number: u8) -> RegionSpace
+    ensures { result ≡ space_numbered number }
+{
+    if number == 0 {
+        RegionSpace::SystemMemory
+    } else if number == 1 {
+        RegionSpace::SystemIo
+    } else if number == 2 {
+        RegionSpace::PciConfig
+    } else {
+        RegionSpace::Other
+    }
+}
+
+/// What an object answers that is a part of an address: an integer. Nothing is refused as `NoValue`, anything else as
+/// `WrongType`; no value is converted.
+pub fn integer_only(value: Value) -> Result<u64, Refusal>
+    ensures { Answers result (integer_only value) }
+{
+    match value {
+        Value::Uninitialized => Err(Refusal::Evaluation(EvaluationFault::NoValue)),
+        Value::Integer(number) => Ok(number),
+        Value::String(_) => Err(Refusal::Value(ValueFault::WrongType)),
+        Value::Buffer(_) => Err(Refusal::Value(ValueFault::WrongType)),
+        Value::Package(_) => Err(Refusal::Value(ValueFault::WrongType)),
+        Value::Reference(_) => Err(Refusal::Value(ValueFault::WrongType)),
+    }
+}
+
+/// The registers of a PCI function, by its segment group, its bus, and its address (device in the high word, function in the
+/// low one). A number that is out of range is refused as `RegionLimit`.
+pub fn pci_space(segment: u64, bus: u64, address: u64) -> Result<AddressSpace, Refusal>
+    ensures { Answers result (pci_space segment bus address) }
+{
+    let device = address / 65536;
+    let function = address % 65536;
+    if segment < 65536 && (bus < 256 && (device < 32 && function < 8)) {
+        Ok(AddressSpace::Pci {
+            seg: segment as u16,
+            bus: bus as u8,
+            dev: device as u8,
+            func: function as u8,
+        })
+    } else {
+        Err(Refusal::Field(FieldFault::RegionLimit))
+    }
+}
+
+impl<S> World<S> {
+    /// The operation region with the number of a declaration, and the scope that it was declared in; one that is gone is
+    /// refused as `DeadReference`.
+    #[tactic(auto, using(ar_space::specs::Change::changing), unfolding(crate::specs::Regions::region_declared))]
+    pub fn region_declared(
+        &self,
+        alloc: Global,
+        number: u64,
+    ) -> Result<(Path, OperationRegion), Refusal>
+        ensures { Does result self.now (region_declared number) self.now }
+    {
+        let found = self.declaration(number)?;
+        let region = region_of_object(&found.1.object)?;
+        let scope = found.0.prefix(alloc, found.0.depth().saturating_sub(1))?;
+        Ok((scope, region))
+    }
+
+    /// The field unit of a region with the number of a declaration; one that is gone is refused as `DeadReference`.
+    #[tactic(auto, using(ar_space::specs::Change::changing), unfolding(crate::specs::Regions::field_declared))]
+    pub fn field_declared(&self, number: u64) -> Result<RegionField, Refusal>
+        ensures { Does result self.now (field_declared number) self.now }
+    {
+        let found = self.declaration(number)?;
+        field_of_object(&found.1.object)
+    }
+
+    /// The bits of a field as a value: an integer where they are no more than an integer has, else a new buffer.
+    #[tactic(auto, unfolding(crate::specs::Regions::value_of_bits))]
+    pub fn value_of_bits(&mut self, count: u32, bytes: Octets) -> Result<Value, Refusal>
+        ensures { Does result self.new (value_of_bits count bytes) self.old }
+    {
+        if is_wide(self.width, count) {
+            self.make_buffer(bytes)
+        } else {
+            self.integer_value(bytes.as_slice())
+        }
+    }
+
+    /// The bits of a field as an integer, converted as a buffer is.
+    #[tactic(auto, unfolding(crate::specs::Regions::integer_of_bits))]
+    pub fn integer_of_bits(&self, bytes: &[u8]) -> Result<u64, Refusal>
+        ensures { Does result self.now (integer_of_bits bytes.now) self.now }
+    {
+        to_integer(self.width, Content::Buffer(bytes))
+    }
+
+    /// The bits of a field as a part of an address; more than an integer has are refused as `WrongType`.
+    #[tactic(auto, unfolding(crate::specs::Regions::integer_alone))]
+    pub fn integer_alone(&self, count: u32, bytes: &[u8]) -> Result<u64, Refusal>
+        ensures { Does result self.now (integer_alone count bytes.now) self.now }
+    {
+        if is_wide(self.width, count) {
+            Err(Refusal::Value(ValueFault::WrongType))
+        } else {
+            self.integer_of_bits(bytes)
+        }
+    }
+
+    /// The bits of a field as they are handed out: an integer where they are no more than an integer has, else bytes. No object
+    /// is made.
+    #[tactic(auto, unfolding(crate::specs::Regions::given_of_bits))]
+    pub fn datum_of_bits(&self, count: u32, bytes: Octets) -> Result<Datum, Refusal>
+        ensures { Does (seen given_of result) self.now (given_of_bits count bytes) self.now }
+    {
+        if is_wide(self.width, count) {
+            return Ok(Datum::Bytes(bytes));
+        }
+        match to_integer(self.width, Content::Buffer(bytes.as_slice())) {
+            Ok(number) => Ok(Datum::Integer(number)),
+            Err(refusal) => Err(refusal),
+        }
+    }
+
+    #[tactic(auto, using(ar_space::specs::Change::changing), unfolding(crate::specs::Regions::integer_value))]
+    fn integer_value(&self, bytes: &[u8]) -> Result<Value, Refusal>
+        ensures { Does result self.now (integer_value bytes.now) self.now }
+    {
+        let number = self.integer_of_bits(bytes)?;
+        Ok(Value::Integer(number))
+    }
+}
+
+impl<S: Space> World<S> {
+    /// A read of a field of a region that is located: its bits, lowest first, as bytes. Refused as `aml_fields::read_field`
+    /// refuses it.
+    #[tactic(auto, using(crate::specs::Lifted::parts))]
+    pub fn read_field(
+        &mut self,
+        alloc: Global,
+        region: Region,
+        field: FieldUnit,
+    ) -> Result<Vec<u8>, Refusal>
+        ensures { Does (seen (λ v. v.items) result) self.new (on_space (read_field S.accesses region field)) self.old }
+    {
+        read_field(alloc, &mut self.space, region, field)
+    }
+
+    /// A write of a field of a region that is located. Refused as `aml_fields::write_field` refuses it.
+    #[tactic(auto, using(crate::specs::Lifted::parts))]
+    pub fn write_field(
+        &mut self,
+        region: Region,
+        field: FieldUnit,
+        bytes: &[u8],
+    ) -> Result<(), Refusal>
+        ensures { Does result self.new (on_space (write_field S.accesses region field bytes.now)) self.old }
+    {
+        write_field(&mut self.space, region, field, bytes)
+    }
+}
+
+/// Whether so many bits are more than an integer has.
+fn is_wide(width: IntegerWidth, count: u32) -> bool
+    ensures { result ≡ nat_lt (bits_of width) count }
+{
+    u32::from(integer_bits(width)) < count
+}
+
+/// How many bits integers have.
+fn integer_bits(width: IntegerWidth) -> u8
+    ensures { result ≡ bits_of width }
+{
+    match width {
+        IntegerWidth::Bits32 => 32,
+        IntegerWidth::Bits64 => 64,
+    }
+}
+
+fn region_of_object(object: &NamedObject) -> Result<OperationRegion, Refusal>
+    ensures { Answers result (region_of_object object.now) }
+{
+    match object {
+        NamedObject::OperationRegion(region) => Ok(*region),
+        _ => Err(Refusal::Evaluation(EvaluationFault::DeadReference)),
+    }
+}
+
+fn field_of_object(object: &NamedObject) -> Result<RegionField, Refusal>
+    ensures { Answers result (field_of_object object.now) }
+{
+    match object {
+        NamedObject::FieldUnit(unit) => region_field(unit.source, *unit),
+        _ => Err(Refusal::Evaluation(EvaluationFault::DeadReference)),
+    }
+}
+
+fn region_field(source: FieldSource, unit: FieldUnit) -> Result<RegionField, Refusal>
+    ensures { Answers result (region_field source unit) }
+{
+    match source {
+        FieldSource::Region(region) => Ok(RegionField { region, unit }),
+        FieldSource::Index(_, _) => Err(Refusal::Evaluation(EvaluationFault::DeadReference)),
+    }
+}
