@@ -232,7 +232,7 @@ fn bad_value(alloc: Global) -> Result<Error, AllocError>
 }
 
 /// What the words ask for, or the text for the user: a fault of the words, a wish for help, or that memory ran out.
-pub(crate) fn parse<'a>(alloc: Global, words: &'a [&'a str]) -> Result<Request, Error>
+pub fn parse<'a>(alloc: Global, words: &'a [&'a str]) -> Result<Request, Error>
     ensures faults { FailsBy (faults_of (map (λ s. s.now) words.entry.now)) result }
     ensures request { IfOk result (λ q. request_of (map (λ s. s.now) words.entry.now) ≡ Some q) }
 {

@@ -22,10 +22,10 @@ mod route_command;
 mod value_text;
 mod values;
 
+pub use command_line::parse;
 pub use delivery::Delivery;
+pub use error_line::tell;
 pub use integers::Integers;
 pub use program::{run, run_telling};
 pub use request::Request;
-
-#[cfg(test)]
-mod tests;
+pub use value_text::value_line;

@@ -89,7 +89,7 @@ fn put_elements(alloc: Global, text: &mut Vec<u8>, elements: &[Datum]) -> Result
 }
 
 /// A value on a line of its own.
-pub(crate) fn value_line(alloc: Global, value: &Datum) -> Result<Vec<u8>, AllocError>
+pub fn value_line(alloc: Global, value: &Datum) -> Result<Vec<u8>, AllocError>
     ensures { IfOk result (λ text. text.items ≡ value_text (given.given_of value.now) ++ codes "\n") }
 {
     let mut text = Vec::new(alloc);

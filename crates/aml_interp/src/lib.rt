@@ -16,8 +16,6 @@ mod places;
 mod regions;
 mod statements;
 mod terms;
-#[cfg(test)]
-mod tests;
 
 pub use answers::{answer, eval};
 pub use loading::load;

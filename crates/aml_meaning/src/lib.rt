@@ -29,8 +29,6 @@ mod stores;
 mod tables;
 mod taking;
 mod term_kind;
-#[cfg(test)]
-mod tests;
 mod world;
 
 pub use datum::Datum;

@@ -1,7 +1,7 @@
 //! Regions of PCI_Config: when a device is asked which function it is.
-use crate::load;
 use crate::tests::traces::{Case, Machine, Wanted, asked, called, judge, judge_answer, set_up};
 use crate::tests::worlds::STEPS;
+use aml_interp::load;
 use aml_meaning::{Datum, World};
 use ar_space::IntegerWidth::Bits64;
 use ar_space::Place::{Memory, Pci};

@@ -1,7 +1,7 @@
 //! What tables declare, and how they are refused.
 use super::aml;
 use super::worlds::{STEPS, fresh, loaded, stands};
-use crate::load;
+use aml_interp::load;
 use aml_objects::NamedObject;
 use aml_path::Path;
 use ar_space::{EvaluationFault, IntegerWidth, NamespaceFault, Refusal, TermFault};

@@ -7,4 +7,5 @@ mod methods;
 mod operators;
 mod statements;
 mod traces;
+mod world;
 mod worlds;

@@ -1,6 +1,6 @@
 //! Readers and writers that fail, and inputs that are too long.
 use super::ran::{BACK, CHOSEN, FRONT};
-use crate::{Delivery, run_telling};
+use acpiroute_lib::{Delivery, run_telling};
 use std::alloc::Global;
 use std::io;
 use std::io::{Read, Write};

@@ -1,7 +1,7 @@
 //! Machines over a register space that keeps the list of its accesses.
 use super::methods::table;
 use super::worlds::STEPS;
-use crate::{answer, load};
+use aml_interp::{answer, load};
 use aml_meaning::{Datum, World};
 use aml_path::Path;
 use ar_space::{IntegerWidth, Place, Refusal, Sparse};

@@ -1,8 +1,8 @@
 //! Which fields are declared, and which are refused.
 use super::TWO_PORTS;
-use crate::load;
 use crate::tests::traces::{Case, Machine, Wanted, asked, judge, judge_answer, set_up};
 use crate::tests::worlds::STEPS;
+use aml_interp::load;
 use aml_meaning::{Datum, World};
 use aml_path::Path;
 use ar_space::EvaluationFault::{OutOfSteps, Unsupported};

@@ -1,5 +1,5 @@
 //! Runs over memory.
-use crate::run;
+use acpiroute_lib::run;
 use std::alloc::Global;
 
 /// The report of a small machine: two links on one host bridge, of which one offers interrupt 5 alone, and a pin that is

@@ -1,5 +1,5 @@
 //! Worlds for tests.
-use crate::load;
+use aml_interp::load;
 use aml_meaning::{Datum, World};
 use aml_path::Path;
 use ar_space::{IntegerWidth, Refusal, Sparse};

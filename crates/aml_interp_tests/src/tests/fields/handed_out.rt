@@ -2,7 +2,7 @@
 use super::values::{PORTS, READ};
 use crate::tests::traces::{Case, Machine, Wanted, asked, called, judge_answer, set_up};
 use crate::tests::worlds::STEPS;
-use crate::{eval, load};
+use aml_interp::{eval, load};
 use aml_meaning::{Datum, World};
 use aml_objects::Value;
 use aml_path::Path;

@@ -1,7 +1,6 @@
 //! The words of the command line.
 use super::ran::ran;
-use crate::command_line::parse;
-use crate::{Integers, Request};
+use acpiroute_lib::{Integers, Request, parse};
 use ar_space::PathText;
 use route_report::Mode;
 use std::alloc::{AllocError, Global};
@@ -78,7 +77,7 @@ fn a_faulty_command_line_reads_nothing(rt: HostRuntime) -> Result<(), Fail> {
     let mut reader: &[u8] = b"left";
     let mut output = Vec::new(alloc);
     let mut errors = Vec::new(alloc);
-    let status = crate::run(alloc, &["acpiroute"], &mut reader, &mut output, &mut errors);
+    let status = acpiroute_lib::run(alloc, &["acpiroute"], &mut reader, &mut output, &mut errors);
     assert_eq!(rt; status, 2);
     let mut left = Vec::new(alloc);
     reader.read_to_end(&mut left)?;

@@ -1,5 +1,5 @@
 //! A new world, its names, objects and frames.
-use crate::World;
+use aml_meaning::World;
 use aml_objects::{
     Content, Element, Elements, Method, MethodBody, NamedObject, Octets, Slot, Value,
 };

@@ -1,5 +1,5 @@
 //! The line of one refusal of each form.
-use crate::error_line::tell;
+use acpiroute_lib::tell;
 use ar_space::{
     EvaluationFault, InputFault, PathText, Refusal, ReportFault, ResourceFault, RoutingFault,
     TableFault, TermFault,

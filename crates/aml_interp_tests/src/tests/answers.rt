@@ -1,7 +1,7 @@
 //! What names answer.
 use super::aml;
 use super::worlds::{STEPS, answer_of, fresh, loaded};
-use crate::{eval, load};
+use aml_interp::{eval, load};
 use aml_meaning::{Datum, World};
 use aml_objects::Value;
 use aml_path::Path;

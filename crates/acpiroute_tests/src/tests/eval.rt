@@ -1,7 +1,7 @@
 //! `eval` over machine texts, and the texts of values.
 use super::machine_texts::{FADT, LIST, ROOT};
 use super::ran::{Leavings, ran};
-use crate::value_text::value_line;
+use acpiroute_lib::value_line;
 use aml_meaning::Datum;
 use std::alloc::{AllocError, Global};
 use std::test::Fail;

@@ -1,6 +1,6 @@
 //! Control methods whose bodies are given as bytes.
 use super::worlds::{STEPS, fresh};
-use crate::{answer, load};
+use aml_interp::{answer, load};
 use aml_meaning::{Datum, World};
 use aml_objects::Octets;
 use aml_path::Path;
