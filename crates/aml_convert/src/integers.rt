@@ -38,7 +38,8 @@ pub(crate) fn integer(width: IntegerWidth, content: Content<'_>) -> Result<u64, 
 /// A value as an integer, as ToInteger gives it (ACPI 6.5, 19.6.141).
 ///
 /// It differs from `to_integer` at strings: the decimal digits count that the string begins with, or after `0x` or `0X`
-/// the hexadecimal ones. The number is taken modulo 2^32 or 2^64.
+/// the hexadecimal ones. The number is taken modulo 2^32 or 2^64. Refused are an empty string or buffer as `EmptyValue`, and as
+/// `WrongType` anything that is no integer, string or buffer.
 pub fn explicit_integer(width: IntegerWidth, content: Content<'_>) -> Result<u64, Refusal>
     ensures { result ≡ explicit_integer_of width (content_of content.entry) }
 {

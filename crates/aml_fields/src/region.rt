@@ -25,7 +25,9 @@ pub enum AddressSpace {
 #[derive(Clone, Copy, Debug, PartialEq, Eq)]
 pub struct Region {
     pub space: AddressSpace,
+    /// The address, port or register of its first byte.
     pub offset: u64,
+    /// In bytes.
     pub length: u64,
 }
 

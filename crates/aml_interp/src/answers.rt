@@ -19,8 +19,9 @@ use std::alloc::Global;
 /// The value of the object at a path, and how many of the steps are left.
 ///
 /// A control method is called. A name that holds a value has that value, a field unit its bits, any other is a reference to
-/// it; reading one costs no step, but what the address of a field calls does. An alias at the path stands for its target. Refused: `NotFound` where nothing stands at the
-/// path, `ArityChanged` where it takes another number of arguments, and as its evaluation is.
+/// it; reading one costs no step, but what the address of a field calls does. An alias at the path stands for its target.
+/// Refused: `NotFound` where nothing stands at the path, `ArityChanged` where it takes another number of arguments, and as its
+/// evaluation is.
 #[tactic(auto, using(aml_meaning::specs::Calling::calling), unfolding(aml_meaning::specs::Calling::evaluated))]
 pub fn eval<S: Space>(
     alloc: Global,

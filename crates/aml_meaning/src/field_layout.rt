@@ -23,6 +23,7 @@ pub struct FieldGroup {
 /// Where the next field of a list begins, and how wide its accesses are.
 #[derive(Clone, Copy, Debug, PartialEq, Eq)]
 pub struct FieldLayout {
+    /// In bits, from the front of the region or of what lies behind the index field.
     pub bit_offset: u64,
     pub access: Width,
 }

@@ -37,8 +37,9 @@ pub fn names_stay<S>()
 {}
 
 /// A term that declares a name outside of control methods by one of its operands, and is not refused, leaves it at the path that
-/// the operand stands for in its scope (the fields of a list, whose names its elements declare, aren't meant); and a list that is evaluated to its end leaves there the names of all its terms whose paths were outside of
-/// control methods when it began. The list of a device or another scope is evaluated so in the path of that scope.
+/// the operand stands for in its scope (the fields of a list, whose names its elements declare, aren't meant); and a list that is
+/// evaluated to its end leaves there the names of all its terms whose paths were outside of control methods when it began. The
+/// list of a device or another scope is evaluated so in the path of that scope.
 #[tactic(auto, using(crate::specs::Placing::declares_stands, crate::specs::Placing::items_stand))]
 pub fn declared_names_stand<S>()
     ensures term { (accesses : Accesses S) (scope : List Seg) (depth : ℕ) (t : Tree) (path : List Seg) (s : State S × ℕ) (f : Flow) →

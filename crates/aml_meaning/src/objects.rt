@@ -77,7 +77,8 @@ impl<S> World<S> {
         self.heap.elements(alloc, object)
     }
 
-    /// Stores bytes into a buffer, cut or zero-filled to its length; an empty one takes them whole.
+    /// Stores bytes into a buffer, cut or zero-filled to its length; an empty one takes them whole. Refused as
+    /// `Heap::write_buffer` refuses it.
     #[tactic(auto, using(crate::specs::Lifted::parts))]
     pub fn write_buffer(&mut self, object: usize, bytes: Octets) -> Result<(), Refusal>
         ensures { Does result self.new (on_objects (write_buffer object bytes)) self.old }
@@ -85,7 +86,7 @@ impl<S> World<S> {
         self.heap.write_buffer(object, bytes)
     }
 
-    /// Stores bytes into a string, which takes their length.
+    /// Stores bytes into a string, which takes their length. Refused as `Heap::write_string` refuses it.
     #[tactic(auto, using(crate::specs::Lifted::parts))]
     pub fn write_string(&mut self, object: usize, bytes: Octets) -> Result<(), Refusal>
         ensures { Does result self.new (on_objects (write_string object bytes)) self.old }

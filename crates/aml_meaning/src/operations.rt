@@ -39,7 +39,7 @@ impl<S> World<S> {
         }
     }
 
-    /// What an operator gives of a value, converted first.
+    /// What an operator gives of a value, converted first and refused as that is.
     #[tactic(auto, using(ar_space::specs::Change::changing))]
     pub fn operate_on_one(
         &mut self,
@@ -56,7 +56,8 @@ impl<S> World<S> {
         }
     }
 
-    /// Whether a test holds of two values: True or False.
+    /// Whether a test holds of two values: True or False. Both are converted first, the second to the type of the first where
+    /// they are compared, and refused as that is.
     #[tactic(auto, using(ar_space::specs::Change::changing))]
     pub fn test(
         &self,
@@ -83,7 +84,7 @@ impl<S> World<S> {
         divide(x, y)
     }
 
-    /// True where a value is 0.
+    /// True where a value is 0, converted to an integer first and refused as that is.
     #[tactic(auto, using(ar_space::specs::Change::changing), unfolding(crate::specs::Operations::turned))]
     pub fn logical_not(&self, value: Value) -> Result<Value, Refusal>
         ensures { Does result self.now (turned value) self.now }

@@ -109,7 +109,8 @@ impl<S> World<S> {
         field_of_object(&found.1.object)
     }
 
-    /// The bits of a field as a value: an integer where they are no more than an integer has, else a new buffer.
+    /// The bits of a field as a value: an integer where they are no more than an integer has, else a new buffer, refused as
+    /// `make_buffer` refuses it.
     #[tactic(auto, unfolding(crate::specs::Regions::value_of_bits))]
     pub fn value_of_bits(&mut self, count: u32, bytes: Octets) -> Result<Value, Refusal>
         ensures { Does result self.new (value_of_bits count bytes) self.old }

@@ -38,7 +38,8 @@ impl<S> World<S> {
         }
     }
 
-    /// Values that are handed in, one after another.
+    /// Values that are handed in, one after another, each refused as `take` refuses it; the objects of those before a refused one
+    /// stay.
     pub fn take_all(&mut self, alloc: Global, arguments: &[Datum]) -> Result<Vec<Value>, Refusal>
         ensures { Does (seen (λ list. list.items) result) self.new (all_taken (map given_of arguments.now) []) self.old }
     {

@@ -12,8 +12,8 @@ use std::alloc::Global;
 use std::marker::Model;
 
 /// What evaluation changes, the register space among it: the namespace, how many arguments its names take, the objects, the
-/// frames of the calls in progress with the number of the next one, the AML of the tables that were loaded, the texts that
-/// `_OSI` knows, and how wide integers are.
+/// frames of the calls in progress with the number of the next one, the AML of control methods' bodies, the texts that `_OSI`
+/// knows, and how wide integers are.
 #[derive(Drop)]
 pub struct World<S> {
     pub(crate) names: Names,

@@ -45,12 +45,12 @@ pub struct Method {
 pub enum MethodBody {
     /// The predefined `_OSI`.
     Osi,
-    /// Bytes of a table.
+    /// AML.
     Aml(BodyPlace),
 }
 
-/// Where the body of a control method stands: which of the loaded tables, counted from 0, the offset of the body's
-/// first byte in that table's AML, and how many bytes it has.
+/// Where the body of a control method stands: in which of the strings of AML that the world keeps, counted from 0, at which
+/// offset its first byte, and how many bytes it has.
 #[derive(Clone, Copy, Debug, PartialEq, Eq)]
 pub struct BodyPlace {
     pub table: usize,

@@ -184,7 +184,7 @@ impl Heap {
         }
     }
 
-    /// Writes one byte of a string or a buffer.
+    /// Writes one byte of a string or a buffer. Past its end, and of another object, this is refused as `DeadReference`.
     #[tactic(auto, unfolding(crate::specs::Objects::write_byte))]
     pub fn write_byte(&mut self, object: usize, index: usize, byte: u8) -> Result<(), Refusal>
         ensures { Does result self.new (write_byte object index byte) self.old }
@@ -195,7 +195,7 @@ impl Heap {
         write_into(&mut self.objects[object], index, byte)
     }
 
-    /// One element of a package.
+    /// One element of a package. Past its end, and of another object, this is refused as `DeadReference`.
     #[tactic(auto, unfolding(crate::specs::Objects::element_at))]
     pub fn element(&self, alloc: Global, object: usize, index: usize) -> Result<Element, Refusal>
         ensures { Does result self.now (element_at object index) self.now }
@@ -210,7 +210,7 @@ impl Heap {
         }
     }
 
-    /// One byte of a string or a buffer.
+    /// One byte of a string or a buffer. Past its end, and of another object, this is refused as `DeadReference`.
     #[tactic(auto, unfolding(crate::specs::Objects::byte_at))]
     pub fn byte(&self, object: usize, index: usize) -> Result<u8, Refusal>
         ensures { Does result self.now (byte_at object index) self.now }
@@ -225,7 +225,7 @@ impl Heap {
         }
     }
 
-    /// Replaces one element of a package.
+    /// Replaces one element of a package. Past its end, and of another object, this is refused as `DeadReference`.
     #[tactic(auto, unfolding(crate::specs::Objects::write_element))]
     pub fn write_element(
         &mut self,

@@ -192,7 +192,7 @@ fn names_that_answer_nothing(rt: HostRuntime) -> Result<(), Fail> {
     let mut arguments = Vec::new(alloc);
     arguments.push(Datum::Integer(1))?;
     let path = Path::from_text(alloc, b"\\MTH_")?;
-    match crate::answer(alloc, &mut world, &path, arguments, 0)? {
+    match aml_interp::answer(alloc, &mut world, &path, arguments, 0)? {
         Datum::Nothing => {}
         _ => assert!(rt; false),
     }

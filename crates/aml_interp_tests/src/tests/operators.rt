@@ -50,6 +50,9 @@ const INTEGERS: &[(&[u8], u64)] = &[
     (b"\x08STR_\x0DABC\x00\xA4\x87STR_", 3),
     (b"\x70\x11\x03\x0A\x07\x60\xA4\x87\x60", 7),
     (b"\x70\x12\x02\x04\x60\xA4\x87\x60", 4),
+    // a package of as many elements as a local says, and as a string does
+    (b"\x70\x0A\x02\x60\x70\x13\x03\x60\x01\x61\xA4\x87\x61", 2),
+    (b"\x70\x13\x05\x0D3\x00\x01\x61\xA4\x87\x61", 3),
     // ObjectType of slots, names and Debug
     (b"\xA4\x8E\x60", 0),
     (b"\x70\x0A\x05\x60\xA4\x8E\x60", 1),
@@ -103,8 +106,10 @@ fn integers_of_32_bits(rt: HostRuntime) -> Result<(), Fail> {
 
 /// Bodies, and the buffers or strings that they answer.
 const BYTES: &[(&[u8], &[u8])] = &[
-    // ToBuffer of an integer
+    // ToBuffer of an integer, of a string, and of a buffer
     (b"\xA4\x96\x0B\x01\x02\x00", b"\x01\x02\0\0\0\0\0\0"),
+    (b"\xA4\x96\x0DAB\x00\x00", b"AB\0"),
+    (b"\xA4\x96\x11\x05\x0A\x02\x01\x02\x00", b"\x01\x02"),
     // Concat of strings, of buffers, of integers
     (b"\xA4\x73\x0DA\x00\x0DB\x00\x00", b"AB"),
     (

@@ -124,6 +124,33 @@ fn arguments_are_passed(rt: HostRuntime) -> Result<(), Fail> {
     Ok(())
 }
 
+/// An argument that is a package within a package, so many of them.
+fn nested(alloc: Global, count: u8) -> Result<Vec<Datum>, Refusal> {
+    let mut value = Datum::Integer(1);
+    for _ in 0..count {
+        let mut elements = Vec::new(alloc);
+        elements.push(value)?;
+        value = Datum::Package(elements);
+    }
+    let mut arguments = Vec::new(alloc);
+    arguments.push(value)?;
+    Ok(arguments)
+}
+
+#[test]
+fn packages_of_arguments_nest_64_deep(rt: HostRuntime) -> Result<(), Fail> {
+    let alloc = rt.alloc();
+    // a local takes a copy of the argument
+    let mut world = with_method(alloc, WIDE, 1, b"\x70\x68\x60\xA4\x87\x60")?;
+    assert_eq!(rt; integer(alloc, &mut world, nested(alloc, 64)?)?, 1);
+    let refused = called(alloc, &mut world, nested(alloc, 65)?, STEPS).err();
+    assert_eq!(rt;
+        refused,
+        Some(Refusal::Evaluation(EvaluationFault::ObjectLimit))
+    );
+    Ok(())
+}
+
 #[test]
 fn a_name_that_holds_a_reference_is_read_as_itself(rt: HostRuntime) -> Result<(), Fail> {
     let alloc = rt.alloc();

@@ -31,7 +31,7 @@ pub(super) fn answer_of(
     steps: u64,
 ) -> Result<Datum, Refusal> {
     let path = Path::from_text(alloc, path)?;
-    crate::answer(alloc, world, &path, Vec::new(alloc), steps)
+    aml_interp::answer(alloc, world, &path, Vec::new(alloc), steps)
 }
 
 /// Whether a name stands at a path.
