@@ -6,7 +6,19 @@ use aml_path::Path;
 use ar_space::{EvaluationFault, Place, Refusal, Sparse, ValueFault};
 use ar_tables::{Image, Tables, find_tables};
 use std::alloc::Global;
+use std::fmt::Debug;
+use std::process::Abort;
 use std::test::Fail;
+
+/// A test fails where something isn't so. It is asserted here alone, since a prover looks for a proof of each assertion.
+fn is_so(rt: &impl Abort, so: bool) {
+    assert!(rt; so);
+}
+
+/// A test fails where a value is another one than is wanted.
+fn same<A: Debug + PartialEq>(rt: &impl Abort, found: &A, wanted: &A) {
+    assert_eq!(rt; found, wanted);
+}
 
 const RSDP: &[u8] = b"RSD PTR \xDF\0\0\0\0\0\0\x02\0\0\0\0\x24\0\0\0\0\x11\0\0\0\0\0\0\xCB\0\0\0";
 /// An XSDT that lists the FADT and the SSDT.
@@ -162,7 +174,7 @@ fn at(machine: &Machine<Sparse>, alloc: Global, text: &[u8]) -> Result<String, R
 #[test]
 fn names_and_kinds(rt: HostRuntime) -> Result<(), Fail> {
     let machine = machine_by(rt.alloc(), XSDT_WITH_SSDT)?;
-    assert_eq!(rt; names(&machine, rt.alloc())?.as_str(), NAMES);
+    same(&rt, &names(&machine, rt.alloc())?.as_str(), &NAMES);
     Ok(())
 }
 
@@ -177,7 +189,11 @@ fn some_nodes(machine: &Machine<Sparse>, alloc: Global) -> Result<String, Refusa
 #[test]
 fn nodes_by_path(rt: HostRuntime) -> Result<(), Fail> {
     let machine = machine_by(rt.alloc(), XSDT_WITH_SSDT)?;
-    assert_eq!(rt; some_nodes(&machine, rt.alloc())?.as_str(), "Scope\\FOO_");
+    same(
+        &rt,
+        &some_nodes(&machine, rt.alloc())?.as_str(),
+        &"Scope\\FOO_",
+    );
     Ok(())
 }
 
@@ -194,7 +210,7 @@ fn tables_by_signature(rt: HostRuntime) -> Result<(), Fail> {
     let single = has(&machine, *b"DSDT", 1, DSDT) && has(&machine, *b"FACP", 1, FADT);
     let ssdt = has(&machine, *b"SSDT", 1, SSDT) && machine.get_table(*b"SSDT", 2).is_none();
     let no_madt = machine.madt().is_none() && machine.get_table(*b"APIC", 1).is_none();
-    assert!(rt; single && ssdt && no_madt);
+    is_so(&rt, single && ssdt && no_madt);
     Ok(())
 }
 
@@ -209,7 +225,7 @@ fn has_madt(machine: &Machine<Sparse>) -> bool {
 fn the_madt_and_the_space(rt: HostRuntime) -> Result<(), Fail> {
     let machine = machine_by(rt.alloc(), XSDT_WITH_MADT)?;
     let byte = machine.space().byte(Place::Io(0x60));
-    assert!(rt; has_madt(&machine) && byte == Some(7));
+    is_so(&rt, has_madt(&machine) && byte == Some(7));
     Ok(())
 }
 
@@ -227,7 +243,10 @@ fn initialized(
 fn nothing_is_called_before(rt: HostRuntime) -> Result<(), Fail> {
     let mut machine = machine_by(rt.alloc(), XSDT_WITH_SSDT)?;
     let mode = machine.mode();
-    assert!(rt; written(&mut machine, rt.alloc())? == (0, 0) && mode == Mode::Apic);
+    is_so(
+        &rt,
+        written(&mut machine, rt.alloc())? == (0, 0) && mode == Mode::Apic,
+    );
     Ok(())
 }
 
@@ -245,7 +264,10 @@ fn initialized_twice(
 #[test]
 fn control_methods_are_called_to_initialize(rt: HostRuntime) -> Result<(), Fail> {
     let mut machine = machine_by(rt.alloc(), XSDT_WITH_SSDT)?;
-    assert!(rt; initialized_twice(&mut machine, rt.alloc())? == ((1, 1), (1, 0)));
+    is_so(
+        &rt,
+        initialized_twice(&mut machine, rt.alloc())? == ((1, 1), (1, 0)),
+    );
     Ok(())
 }
 
@@ -253,7 +275,7 @@ fn control_methods_are_called_to_initialize(rt: HostRuntime) -> Result<(), Fail>
 fn a_machine_without_initial_names(rt: HostRuntime) -> Result<(), Fail> {
     let mut machine = machine_by(rt.alloc(), XSDT_WITH_MADT)?;
     let (refusal, mode) = initialized(&mut machine, rt.alloc(), Mode::Pic);
-    assert!(rt; refusal.is_none() && mode == Mode::Pic);
+    is_so(&rt, refusal.is_none() && mode == Mode::Pic);
     Ok(())
 }
 
@@ -266,7 +288,10 @@ fn evaluated(machine: &mut Machine<Sparse>, alloc: Global) -> Result<(u64, u64),
 #[test]
 fn objects_are_evaluated(rt: HostRuntime) -> Result<(), Fail> {
     let mut machine = machine_by(rt.alloc(), XSDT_WITH_SSDT)?;
-    assert!(rt; evaluated(&mut machine, rt.alloc())? == (0x0F0C_D041, 1));
+    is_so(
+        &rt,
+        evaluated(&mut machine, rt.alloc())? == (0x0F0C_D041, 1),
+    );
     Ok(())
 }
 
@@ -282,7 +307,10 @@ fn wrong_count(machine: &mut Machine<Sparse>, alloc: Global) -> bool {
 fn a_machine_goes_on_after_a_refusal(rt: HostRuntime) -> Result<(), Fail> {
     let mut machine = machine_by(rt.alloc(), XSDT_WITH_SSDT)?;
     let refused = wrong_count(&mut machine, rt.alloc());
-    assert!(rt; refused && integer(&mut machine, rt.alloc(), b"\\FOO_")? == 1);
+    is_so(
+        &rt,
+        refused && integer(&mut machine, rt.alloc(), b"\\FOO_")? == 1,
+    );
     Ok(())
 }
 
@@ -298,7 +326,7 @@ fn too_many(machine: &mut Machine<Sparse>, alloc: Global) -> Result<bool, Refusa
 #[test]
 fn few_texts_are_kept(rt: HostRuntime) -> Result<(), Fail> {
     let mut machine = machine_by(rt.alloc(), XSDT_WITH_SSDT)?;
-    assert!(rt; too_many(&mut machine, rt.alloc())?);
+    is_so(&rt, too_many(&mut machine, rt.alloc())?);
     Ok(())
 }
 
@@ -316,7 +344,11 @@ fn refused(alloc: Global) -> Result<(Refusal, Option<u8>), Refusal> {
 #[test]
 fn too_many_texts(rt: HostRuntime) -> Result<(), Fail> {
     let (refusal, byte) = refused(rt.alloc())?;
-    assert_eq!(rt; refusal, Refusal::Evaluation(EvaluationFault::ObjectLimit));
-    assert_eq!(rt; byte, Some(7));
+    same(
+        &rt,
+        &refusal,
+        &Refusal::Evaluation(EvaluationFault::ObjectLimit),
+    );
+    same(&rt, &byte, &Some(7));
     Ok(())
 }

@@ -4,7 +4,19 @@ use crate::pin::{Pin, Route, take};
 use aml_meaning::Datum;
 use ar_space::{Refusal, RoutingTableFault};
 use std::alloc::Global;
+use std::fmt::Debug;
+use std::process::Abort;
 use std::test::Fail;
+
+/// A test fails where something isn't so. It is asserted here alone, since a prover looks for a proof of each assertion.
+fn is_so(rt: &impl Abort, so: bool) {
+    assert!(rt; so);
+}
+
+/// A test fails where a value is another one than is wanted.
+fn same<A: Debug + PartialEq>(rt: &impl Abort, found: &A, wanted: &A) {
+    assert_eq!(rt; found, wanted);
+}
 
 fn fault<A: Drop>(outcome: Result<A, Refusal>) -> Option<RoutingTableFault> {
     match outcome {
@@ -15,19 +27,29 @@ fn fault<A: Drop>(outcome: Result<A, Refusal>) -> Option<RoutingTableFault> {
 
 #[test]
 fn parts_of_an_entry(rt: HostRuntime) -> Result<(), Fail> {
-    assert_eq!(rt; device_number(0x0001_FFFF), 1);
-    assert_eq!(rt; word_of(&Datum::Integer(0xFFFF_FFFF)), Ok(0xFFFF_FFFF));
-    assert_eq!(rt;
-        fault(word_of(&Datum::Integer(0x1_0000_0000))),
-        Some(RoutingTableFault::BadEntry)
+    same(&rt, &device_number(0x0001_FFFF), &1);
+    same(
+        &rt,
+        &word_of(&Datum::Integer(0xFFFF_FFFF)),
+        &Ok(0xFFFF_FFFF),
     );
-    assert_eq!(rt; letter_of(3), Ok(3));
-    assert_eq!(rt; fault(letter_of(4)), Some(RoutingTableFault::BadPin));
-    assert_eq!(rt;
-        fault(source_tested(&Datum::Integer(1))),
-        Some(RoutingTableFault::BadEntry)
+    same(
+        &rt,
+        &fault(word_of(&Datum::Integer(0x1_0000_0000))),
+        &Some(RoutingTableFault::BadEntry),
     );
-    assert_eq!(rt; fault(no_index(1)), Some(RoutingTableFault::SourceIndex));
+    same(&rt, &letter_of(3), &Ok(3));
+    same(&rt, &fault(letter_of(4)), &Some(RoutingTableFault::BadPin));
+    same(
+        &rt,
+        &fault(source_tested(&Datum::Integer(1))),
+        &Some(RoutingTableFault::BadEntry),
+    );
+    same(
+        &rt,
+        &fault(no_index(1)),
+        &Some(RoutingTableFault::SourceIndex),
+    );
     Ok(())
 }
 
@@ -38,7 +60,7 @@ fn no_package_is_no_routing_table(rt: HostRuntime) -> Result<(), Fail> {
         Ok(_) => None,
         Err(refusal) => fault::<()>(Err(refusal)),
     };
-    assert_eq!(rt; refused, Some(RoutingTableFault::NotPackage));
+    same(&rt, &refused, &Some(RoutingTableFault::NotPackage));
     Ok(())
 }
 
@@ -60,11 +82,12 @@ fn pins(alloc: Global) -> Result<Vec<Pin>, Refusal> {
 fn the_first_entry_of_a_pin_counts(rt: HostRuntime) -> Result<(), Fail> {
     let pins = pins(rt.alloc())?;
     let mut first = pins.iter();
-    assert_eq!(rt;
-        first.next().map(|pin| pin.route == Route::Wired(16)),
-        Some(true)
+    same(
+        &rt,
+        &first.next().map(|pin| pin.route == Route::Wired(16)),
+        &Some(true),
     );
-    assert_eq!(rt; first.next().map(|pin| pin.pin), Some(1));
-    assert!(rt; first.next().is_none());
+    same(&rt, &first.next().map(|pin| pin.pin), &Some(1));
+    is_so(&rt, first.next().is_none());
     Ok(())
 }

@@ -6,7 +6,19 @@ use aml_path::{NameString, Path, Prefix};
 use ar_space::{NameFault, NamespaceFault, Refusal};
 use std::alloc::Global;
 use std::collections::{BTreeMap, VecDeque};
+use std::fmt::Debug;
+use std::process::Abort;
 use std::test::Fail;
+
+/// A test fails where something isn't so. It is asserted here alone, since a prover looks for a proof of each assertion.
+fn is_so(rt: &impl Abort, so: bool) {
+    assert!(rt; so);
+}
+
+/// A test fails where a value is another one than is wanted.
+fn same<A: Debug + PartialEq>(rt: &impl Abort, found: &A, wanted: &A) {
+    assert_eq!(rt; found, wanted);
+}
 
 const EXISTS: Refusal = Refusal::Namespace(NamespaceFault::Exists);
 
@@ -47,20 +59,23 @@ fn declarations_are_numbered(rt: HostRuntime) -> Result<(), Fail> {
         assert_eq!(rt; names.insert(path(alloc, text)?, object), number, "{text}");
     }
     names.remove_below(&path(alloc, "\\A")?);
-    assert!(rt; names.get(&path(alloc, "\\A")?).is_some());
-    assert!(rt; names.get(&path(alloc, "\\A.B")?).is_none());
-    assert!(rt; names.numbered(2).is_none());
-    assert_eq!(rt;
-        names.insert(path(alloc, "\\A.B")?, NamedObject::Event),
-        Ok(4)
+    is_so(&rt, names.get(&path(alloc, "\\A")?).is_some());
+    is_so(&rt, names.get(&path(alloc, "\\A.B")?).is_none());
+    is_so(&rt, names.numbered(2).is_none());
+    same(
+        &rt,
+        &names.insert(path(alloc, "\\A.B")?, NamedObject::Event),
+        &Ok(4),
     );
-    assert_eq!(rt;
-        names.numbered(4).map(|found| &found.0),
-        Some(&path(alloc, "\\A.B")?)
+    same(
+        &rt,
+        &names.numbered(4).map(|found| &found.0),
+        &Some(&path(alloc, "\\A.B")?),
     );
-    assert_eq!(rt;
-        names.numbered(0).map(|found| &found.0),
-        Some(&Path::root(alloc))
+    same(
+        &rt,
+        &names.numbered(0).map(|found| &found.0),
+        &Some(&Path::root(alloc)),
     );
     Ok(())
 }
@@ -71,10 +86,11 @@ fn an_object_is_replaced_under_its_number(rt: HostRuntime) -> Result<(), Fail> {
     let mut names = Names::new(alloc)?;
     declare(alloc, &mut names, &["\\A", "\\B", "\\C"])?;
     let seven = NamedObject::Data(Value::Integer(7));
-    assert_eq!(rt; names.replace(&path(alloc, "\\B")?, seven), Ok(()));
-    assert_eq!(rt;
-        names.replace(&path(alloc, "\\A.B")?, NamedObject::Event),
-        Err(NOT_FOUND)
+    same(&rt, &names.replace(&path(alloc, "\\B")?, seven), &Ok(()));
+    same(
+        &rt,
+        &names.replace(&path(alloc, "\\A.B")?, NamedObject::Event),
+        &Err(NOT_FOUND),
     );
     for (text, number, object) in [
         ("\\A", 1, NamedObject::Device),
@@ -84,9 +100,10 @@ fn an_object_is_replaced_under_its_number(rt: HostRuntime) -> Result<(), Fail> {
         let entry = Entry { number, object };
         assert_eq!(rt; names.get(&path(alloc, text)?), Some(&entry), "{text}");
     }
-    assert_eq!(rt;
-        names.insert(path(alloc, "\\D")?, NamedObject::Event),
-        Ok(4)
+    same(
+        &rt,
+        &names.insert(path(alloc, "\\D")?, NamedObject::Event),
+        &Ok(4),
     );
     Ok(())
 }
@@ -169,19 +186,21 @@ fn aliases_lead_one_step(rt: HostRuntime) -> Result<(), Fail> {
     }
     let root = Path::root(alloc);
     let one = names.lookup(&root, &name(alloc, Prefix::Parents(0), "\\ONE")?)?;
-    assert_eq!(rt; one.object, NamedObject::Data(Value::Integer(7)));
-    assert_eq!(rt; one.number, 1);
-    assert_eq!(rt;
-        found(alloc, &names, "\\", &name(alloc, Prefix::Root, "\\ONE")?)?.as_str(),
-        "\\DATA"
+    same(&rt, &one.object, &NamedObject::Data(Value::Integer(7)));
+    same(&rt, &one.number, &1);
+    same(
+        &rt,
+        &found(alloc, &names, "\\", &name(alloc, Prefix::Root, "\\ONE")?)?.as_str(),
+        &"\\DATA",
     );
     for alias in ["\\TWO", "\\GONE"] {
-        assert_eq!(rt;
-            names.lookup(&root, &name(alloc, Prefix::Root, alias)?),
-            Err(NOT_FOUND)
+        same(
+            &rt,
+            &names.lookup(&root, &name(alloc, Prefix::Root, alias)?),
+            &Err(NOT_FOUND),
         );
     }
-    assert!(rt; names.get(&path(alloc, "\\TWO")?).is_some());
+    is_so(&rt, names.get(&path(alloc, "\\TWO")?).is_some());
     Ok(())
 }
 
@@ -203,14 +222,14 @@ fn names_are_walked_in_path_order(rt: HostRuntime) -> Result<(), Fail> {
         "\\A___.Z___",
         "\\B___",
     ];
-    assert_eq!(rt; walked.len(), order.len());
+    same(&rt, &walked.len(), &order.len());
     for (one, text) in walked.iter().zip(order.iter()) {
-        assert_eq!(rt; one.text(alloc)?.as_str(), *text);
+        same(&rt, &one.text(alloc)?.as_str(), &*text);
     }
     let children = names.children(alloc, &path(alloc, "\\A")?)?;
-    assert_eq!(rt; children.as_slice(), path(alloc, "\\C.Z")?.segments());
-    assert_eq!(rt; names.children(alloc, &Path::root(alloc))?.len(), 3);
-    assert!(rt; names.children(alloc, &path(alloc, "\\B")?)?.is_empty());
+    same(&rt, &children.as_slice(), &path(alloc, "\\C.Z")?.segments());
+    same(&rt, &names.children(alloc, &Path::root(alloc))?.len(), &3);
+    is_so(&rt, names.children(alloc, &path(alloc, "\\B")?)?.is_empty());
     Ok(())
 }
 
@@ -234,7 +253,7 @@ fn calls_are_answered_in_order(rt: HostRuntime) -> Result<(), Fail> {
         Reply::Removed,
         Reply::Found(Err(NOT_FOUND)),
     ];
-    assert_eq!(rt; replies.as_slice(), wanted.as_slice());
+    same(&rt, &replies.as_slice(), &wanted.as_slice());
     Ok(())
 }
 
@@ -339,10 +358,10 @@ fn ten_thousand_calls_agree_with_an_ordered_map(rt: HostRuntime) -> Result<(), F
         let path = random_path(alloc, &mut state)?;
         match next(&mut state, 8) {
             0 => remove(&mut names, &mut map, &path),
-            1..=3 => assert!(rt; find_alike(alloc, &names, &map, &path, &mut state)?),
-            _ => assert!(rt; declare_alike(alloc, &mut names, &mut map, path)?),
+            1..=3 => is_so(&rt, find_alike(alloc, &names, &map, &path, &mut state)?),
+            _ => is_so(&rt, declare_alike(alloc, &mut names, &mut map, path)?),
         }
     }
-    assert!(rt; walk_alike(alloc, &names, &map)?);
+    is_so(&rt, walk_alike(alloc, &names, &map)?);
     Ok(())
 }

@@ -2,7 +2,19 @@ use crate::{Element, Elements, Heap, Octets, Reference, Slot, Value};
 use aml_path::{NameString, Path, Prefix};
 use ar_space::{EvaluationFault, Refusal, ValueFault};
 use std::alloc::Global;
+use std::fmt::Debug;
+use std::process::Abort;
 use std::test::Fail;
+
+/// A test fails where something isn't so. It is asserted here alone, since a prover looks for a proof of each assertion.
+fn is_so(rt: &impl Abort, so: bool) {
+    assert!(rt; so);
+}
+
+/// A test fails where a value is another one than is wanted.
+fn same<A: Debug + PartialEq>(rt: &impl Abort, found: &A, wanted: &A) {
+    assert_eq!(rt; found, wanted);
+}
 
 const OBJECT_LIMIT: Refusal = Refusal::Evaluation(EvaluationFault::ObjectLimit);
 
@@ -18,23 +30,32 @@ fn octets(alloc: Global, bytes: &[u8]) -> Result<Octets, Refusal> {
 fn objects_keep_their_numbers(rt: HostRuntime) -> Result<(), Fail> {
     let alloc = rt.alloc();
     let mut heap = Heap::new(alloc);
-    assert!(rt; heap.is_empty());
-    assert_eq!(rt; heap.make_string(octets(alloc, b"ABC")?)?, Value::String(0));
-    assert_eq!(rt;
-        heap.make_buffer(octets(alloc, &[1, 2, 3])?)?,
-        Value::Buffer(1)
+    is_so(&rt, heap.is_empty());
+    same(
+        &rt,
+        &heap.make_string(octets(alloc, b"ABC")?)?,
+        &Value::String(0),
+    );
+    same(
+        &rt,
+        &heap.make_buffer(octets(alloc, &[1, 2, 3])?)?,
+        &Value::Buffer(1),
     );
     let mut elements = Elements::new(alloc);
     elements.push(Element::Value(Value::String(0)))?;
-    assert_eq!(rt; heap.make_package(elements)?, Value::Package(2));
-    assert_eq!(rt; heap.len(), 3);
-    assert_eq!(rt; heap.string(alloc, 0)?.as_slice(), b"ABC".as_slice());
-    assert_eq!(rt; heap.buffer(alloc, 1)?.as_slice(), [1, 2, 3].as_slice());
-    assert_eq!(rt; heap.elements(alloc, 2)?.as_slice().len(), 1);
-    assert_eq!(rt; heap.string(alloc, 1).err(), Some(WRONG_TYPE));
-    assert_eq!(rt; heap.buffer(alloc, 2).err(), Some(WRONG_TYPE));
-    assert_eq!(rt; heap.elements(alloc, 0).err(), Some(WRONG_TYPE));
-    assert_eq!(rt; heap.elements(alloc, 3).err(), Some(WRONG_TYPE));
+    same(&rt, &heap.make_package(elements)?, &Value::Package(2));
+    same(&rt, &heap.len(), &3);
+    same(&rt, &heap.string(alloc, 0)?.as_slice(), &b"ABC".as_slice());
+    same(
+        &rt,
+        &heap.buffer(alloc, 1)?.as_slice(),
+        &[1, 2, 3].as_slice(),
+    );
+    same(&rt, &heap.elements(alloc, 2)?.as_slice().len(), &1);
+    same(&rt, &heap.string(alloc, 1).err(), &Some(WRONG_TYPE));
+    same(&rt, &heap.buffer(alloc, 2).err(), &Some(WRONG_TYPE));
+    same(&rt, &heap.elements(alloc, 0).err(), &Some(WRONG_TYPE));
+    same(&rt, &heap.elements(alloc, 3).err(), &Some(WRONG_TYPE));
     Ok(())
 }
 
@@ -46,19 +67,39 @@ fn stores_write_into_objects(rt: HostRuntime) -> Result<(), Fail> {
     heap.make_buffer(octets(alloc, &[])?)?;
     heap.make_string(octets(alloc, b"ABC")?)?;
     heap.write_buffer(0, octets(alloc, &[9])?)?;
-    assert_eq!(rt; heap.buffer(alloc, 0)?.as_slice(), [9, 0, 0].as_slice());
+    same(
+        &rt,
+        &heap.buffer(alloc, 0)?.as_slice(),
+        &[9, 0, 0].as_slice(),
+    );
     heap.write_buffer(0, octets(alloc, &[4, 5, 6, 7])?)?;
-    assert_eq!(rt; heap.buffer(alloc, 0)?.as_slice(), [4, 5, 6].as_slice());
+    same(
+        &rt,
+        &heap.buffer(alloc, 0)?.as_slice(),
+        &[4, 5, 6].as_slice(),
+    );
     heap.write_buffer(1, octets(alloc, &[4, 5, 6, 7])?)?;
-    assert_eq!(rt; heap.buffer(alloc, 1)?.as_slice(), [4, 5, 6, 7].as_slice());
+    same(
+        &rt,
+        &heap.buffer(alloc, 1)?.as_slice(),
+        &[4, 5, 6, 7].as_slice(),
+    );
     heap.write_string(2, octets(alloc, b"X")?)?;
-    assert_eq!(rt; heap.byte(2, 0), Ok(b'X'));
-    assert_eq!(rt; heap.byte(2, 1), Err(DEAD));
+    same(&rt, &heap.byte(2, 0), &Ok(b'X'));
+    same(&rt, &heap.byte(2, 1), &Err(DEAD));
     heap.write_byte(0, 2, 0xFF)?;
-    assert_eq!(rt; heap.byte(0, 2), Ok(0xFF));
-    assert_eq!(rt; heap.write_byte(0, 3, 0), Err(DEAD));
-    assert_eq!(rt; heap.write_buffer(2, octets(alloc, &[])?), Err(WRONG_TYPE));
-    assert_eq!(rt; heap.write_string(0, octets(alloc, &[])?), Err(WRONG_TYPE));
+    same(&rt, &heap.byte(0, 2), &Ok(0xFF));
+    same(&rt, &heap.write_byte(0, 3, 0), &Err(DEAD));
+    same(
+        &rt,
+        &heap.write_buffer(2, octets(alloc, &[])?),
+        &Err(WRONG_TYPE),
+    );
+    same(
+        &rt,
+        &heap.write_string(0, octets(alloc, &[])?),
+        &Err(WRONG_TYPE),
+    );
     Ok(())
 }
 
@@ -76,17 +117,22 @@ fn elements_are_read_and_replaced(rt: HostRuntime) -> Result<(), Fail> {
     heap.make_package(elements)?;
     let local = Value::Reference(Reference::Slot(3, Slot::Local(0)));
     heap.write_element(0, 0, Element::Value(local))?;
-    assert!(rt;
+    is_so(
+        &rt,
         matches!(
             heap.element(alloc, 0, 0)?,
             Element::Value(Value::Reference(_))
-        )
+        ),
     );
-    assert!(rt; matches!(heap.element(alloc, 0, 1)?, Element::Name(_, _)));
-    assert_eq!(rt; heap.element(alloc, 0, 2).err(), Some(DEAD));
-    assert_eq!(rt;
-        heap.write_element(0, 2, Element::Value(Value::Uninitialized)),
-        Err(DEAD)
+    is_so(
+        &rt,
+        matches!(heap.element(alloc, 0, 1)?, Element::Name(_, _)),
+    );
+    same(&rt, &heap.element(alloc, 0, 2).err(), &Some(DEAD));
+    same(
+        &rt,
+        &heap.write_element(0, 2, Element::Value(Value::Uninitialized)),
+        &Err(DEAD),
     );
     Ok(())
 }
@@ -107,14 +153,18 @@ fn copies_are_deep_and_whole(rt: HostRuntime) -> Result<(), Fail> {
     let alloc = rt.alloc();
     let mut heap = Heap::new(alloc);
     let package = nested(alloc, &mut heap, 64)?;
-    assert_eq!(rt; heap.copy(alloc, package)?, Value::Package(127));
-    assert_eq!(rt; heap.len(), 128);
+    same(&rt, &heap.copy(alloc, package)?, &Value::Package(127));
+    same(&rt, &heap.len(), &128);
     let deeper = nested(alloc, &mut heap, 65)?;
-    assert_eq!(rt; heap.copy(alloc, deeper), Err(OBJECT_LIMIT));
-    assert_eq!(rt; heap.len(), 193);
-    assert_eq!(rt; heap.copy(alloc, Value::Integer(5))?, Value::Integer(5));
+    same(&rt, &heap.copy(alloc, deeper), &Err(OBJECT_LIMIT));
+    same(&rt, &heap.len(), &193);
+    same(
+        &rt,
+        &heap.copy(alloc, Value::Integer(5))?,
+        &Value::Integer(5),
+    );
     let string = heap.make_string(octets(alloc, b"A")?)?;
-    assert_eq!(rt; heap.copy(alloc, string)?, Value::String(194));
+    same(&rt, &heap.copy(alloc, string)?, &Value::String(194));
     Ok(())
 }
 
@@ -126,23 +176,29 @@ fn objects_have_limits(rt: HostRuntime) -> Result<(), Fail> {
     bytes.resize(1_048_576, 0)?;
     heap.make_buffer(octets(alloc, bytes.as_slice())?)?;
     bytes.push(0)?;
-    assert_eq!(rt;
-        heap.make_buffer(octets(alloc, bytes.as_slice())?),
-        Err(OBJECT_LIMIT)
+    same(
+        &rt,
+        &heap.make_buffer(octets(alloc, bytes.as_slice())?),
+        &Err(OBJECT_LIMIT),
     );
-    assert_eq!(rt;
-        heap.make_string(octets(alloc, bytes.as_slice())?),
-        Err(OBJECT_LIMIT)
+    same(
+        &rt,
+        &heap.make_string(octets(alloc, bytes.as_slice())?),
+        &Err(OBJECT_LIMIT),
     );
     let mut elements = Elements::new(alloc);
     for _ in 0..65_536u32 {
         elements.push(Element::Value(Value::Uninitialized))?;
     }
-    assert_eq!(rt; heap.make_package(elements), Err(OBJECT_LIMIT));
+    same(&rt, &heap.make_package(elements), &Err(OBJECT_LIMIT));
     for _ in 0..262_143u32 {
         heap.make_string(octets(alloc, &[])?)?;
     }
-    assert_eq!(rt; heap.make_string(octets(alloc, &[])?), Err(OBJECT_LIMIT));
-    assert_eq!(rt; heap.len(), 262_144);
+    same(
+        &rt,
+        &heap.make_string(octets(alloc, &[])?),
+        &Err(OBJECT_LIMIT),
+    );
+    same(&rt, &heap.len(), &262_144);
     Ok(())
 }

@@ -1,5 +1,6 @@
 //! `check` over reports.
 use super::ran::{BACK, CHOSEN, FRONT, ran};
+use crate::tests::{is_so, same};
 use std::test::Fail;
 
 #[test]
@@ -28,9 +29,9 @@ fn claims_of_a_report(rt: HostRuntime) -> Result<(), Fail> {
     for (chosen, output, status) in &cases {
         let text = format!(in alloc; "{FRONT}{chosen}{BACK}")?;
         let ran = ran(alloc, &["acpiroute", "check"], text.as_bytes());
-        assert_eq!(rt; ran.output.as_slice(), *output);
-        assert_eq!(rt; ran.status, *status);
-        assert!(rt; ran.errors.is_empty());
+        same(&rt, &ran.output.as_slice(), &*output);
+        same(&rt, &ran.status, &*status);
+        is_so(&rt, ran.errors.is_empty());
     }
     Ok(())
 }
@@ -47,8 +48,8 @@ fn reports_that_are_refused(rt: HostRuntime) {
     ];
     for (text, line) in &cases {
         let ran = ran(rt.alloc(), &["acpiroute", "check"], text);
-        assert_eq!(rt; ran.errors.as_slice(), *line);
-        assert_eq!(rt; ran.status, 1);
-        assert!(rt; ran.output.is_empty());
+        same(&rt, &ran.errors.as_slice(), &*line);
+        same(&rt, &ran.status, &1);
+        is_so(&rt, ran.output.is_empty());
     }
 }

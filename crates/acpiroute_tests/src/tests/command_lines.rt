@@ -1,5 +1,6 @@
 //! The words of the command line.
 use super::ran::ran;
+use crate::tests::{is_so, same};
 use acpiroute_lib::{Integers, Request, parse};
 use ar_space::PathText;
 use route_report::Mode;
@@ -51,8 +52,8 @@ fn faulty_words(rt: HostRuntime) {
     for words in &cases {
         let ran = ran(rt.alloc(), words, b"acpiroute 1\nbusiest 0\nbound none\n");
         assert_eq!(rt; ran.status, 2, "{words:?}");
-        assert!(rt; ran.output.is_empty());
-        assert!(rt; !ran.errors.is_empty());
+        is_so(&rt, ran.output.is_empty());
+        is_so(&rt, !ran.errors.is_empty());
     }
 }
 
@@ -65,9 +66,9 @@ fn help_goes_to_the_output(rt: HostRuntime) {
     ];
     for words in &cases {
         let ran = ran(rt.alloc(), words, b"");
-        assert_eq!(rt; ran.status, 0);
-        assert!(rt; ran.errors.is_empty());
-        assert!(rt; !ran.output.is_empty());
+        same(&rt, &ran.status, &0);
+        is_so(&rt, ran.errors.is_empty());
+        is_so(&rt, !ran.output.is_empty());
     }
 }
 
@@ -78,10 +79,10 @@ fn a_faulty_command_line_reads_nothing(rt: HostRuntime) -> Result<(), Fail> {
     let mut output = Vec::new(alloc);
     let mut errors = Vec::new(alloc);
     let status = acpiroute_lib::run(alloc, &["acpiroute"], &mut reader, &mut output, &mut errors);
-    assert_eq!(rt; status, 2);
+    same(&rt, &status, &2);
     let mut left = Vec::new(alloc);
     reader.read_to_end(&mut left)?;
-    assert_eq!(rt; left.as_slice(), b"left".as_slice());
+    same(&rt, &left.as_slice(), &b"left".as_slice());
     Ok(())
 }
 
@@ -127,7 +128,7 @@ fn what_words_ask_for(rt: HostRuntime) -> Result<(), Fail> {
     ];
     for (words, request) in &cases {
         let asked = parse(rt.alloc(), words);
-        assert!(rt; asked.is_ok_and(|asked| asked == *request));
+        is_so(&rt, asked.is_ok_and(|asked| asked == *request));
     }
     Ok(())
 }
@@ -183,7 +184,7 @@ fn what_the_words_of_eval_ask_for(rt: HostRuntime) -> Result<(), Fail> {
 #[test]
 fn links_are_not_set_yet(rt: HostRuntime) {
     let ran = ran(rt.alloc(), &["acpiroute", "route"], b"rsdp 1000\n");
-    assert_eq!(rt; ran.status, 2);
-    assert_eq!(rt; ran.errors.as_slice(), b"only --dry\n".as_slice());
-    assert!(rt; ran.output.is_empty());
+    same(&rt, &ran.status, &2);
+    same(&rt, &ran.errors.as_slice(), &b"only --dry\n".as_slice());
+    is_so(&rt, ran.output.is_empty());
 }

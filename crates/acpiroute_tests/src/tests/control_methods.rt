@@ -1,6 +1,7 @@
 //! Machines whose objects are control methods.
 use super::machine_texts::{FADT, LIST, ROOT};
 use super::ran::{Leavings, ran};
+use crate::tests::same;
 use std::alloc::{AllocError, Global};
 use std::test::Fail;
 
@@ -126,8 +127,8 @@ fn values_of_control_methods(rt: HostRuntime) -> Result<(), Fail> {
     ];
     for (dsdt, words, line) in &cases {
         let ran = over(rt.alloc(), dsdt, words)?;
-        assert_eq!(rt; ran.output.as_slice(), *line);
-        assert_eq!(rt; ran.status, 0);
+        same(&rt, &ran.output.as_slice(), &*line);
+        same(&rt, &ran.status, &0);
     }
     Ok(())
 }
@@ -154,8 +155,8 @@ fn control_methods_that_are_refused(rt: HostRuntime) -> Result<(), Fail> {
     ];
     for (dsdt, words, line) in &cases {
         let ran = over(rt.alloc(), dsdt, words)?;
-        assert_eq!(rt; ran.errors.as_slice(), *line);
-        assert_eq!(rt; ran.status, 1);
+        same(&rt, &ran.errors.as_slice(), &*line);
+        same(&rt, &ran.status, &1);
     }
     Ok(())
 }
@@ -174,8 +175,8 @@ fn a_routing_table_by_mode(rt: HostRuntime) -> Result<(), Fail> {
     ];
     for (words, report) in &cases {
         let ran = over(rt.alloc(), BY_MODE, words)?;
-        assert_eq!(rt; ran.output.as_slice(), *report);
-        assert_eq!(rt; ran.status, 0);
+        same(&rt, &ran.output.as_slice(), &*report);
+        same(&rt, &ran.status, &0);
     }
     Ok(())
 }

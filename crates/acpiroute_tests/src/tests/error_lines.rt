@@ -1,4 +1,5 @@
 //! The line of one refusal of each form.
+use crate::tests::same;
 use acpiroute_lib::tell;
 use ar_space::{
     EvaluationFault, InputFault, PathText, Refusal, ReportFault, ResourceFault, RoutingFault,
@@ -60,7 +61,7 @@ fn lines_of_refusals(rt: HostRuntime) -> Result<(), Fail> {
     for (refusal, line) in &cases {
         let mut errors = Vec::new(alloc);
         tell(&mut errors, refusal)?;
-        assert_eq!(rt; errors.as_slice(), *line);
+        same(&rt, &errors.as_slice(), &*line);
     }
     Ok(())
 }

@@ -1,6 +1,7 @@
 //! `eval` over machine texts, and the texts of values.
 use super::machine_texts::{FADT, LIST, ROOT};
 use super::ran::{Leavings, ran};
+use crate::tests::{is_so, same};
 use acpiroute_lib::value_line;
 use aml_meaning::Datum;
 use std::alloc::{AllocError, Global};
@@ -58,9 +59,9 @@ fn values_of_names(rt: HostRuntime) -> Result<(), Fail> {
     ];
     for (path, line) in &cases {
         let ran = evaluated(rt.alloc(), VALUES, &["acpiroute", "eval", path])?;
-        assert_eq!(rt; ran.output.as_slice(), *line);
-        assert_eq!(rt; ran.status, 0);
-        assert!(rt; ran.errors.is_empty());
+        same(&rt, &ran.output.as_slice(), &*line);
+        same(&rt, &ran.status, &0);
+        is_so(&rt, ran.errors.is_empty());
     }
     Ok(())
 }
@@ -91,8 +92,8 @@ fn evaluations_that_are_refused(rt: HostRuntime) -> Result<(), Fail> {
     for (words, line) in &cases {
         let ran = evaluated(rt.alloc(), VALUES, words)?;
         assert_eq!(rt; ran.errors.as_slice(), *line, "{words:?}");
-        assert_eq!(rt; ran.status, 1);
-        assert!(rt; ran.output.is_empty());
+        same(&rt, &ran.status, &1);
+        is_so(&rt, ran.output.is_empty());
     }
     Ok(())
 }
@@ -102,11 +103,15 @@ fn the_path_is_looked_at_once_the_machine_is_initialized(rt: HostRuntime) -> Res
     let alloc = rt.alloc();
     let words = ["acpiroute", "eval", "\\int_"];
     let ini = evaluated(alloc, BAD_INI, &words)?;
-    assert_eq!(rt; ini.errors.as_slice(), b"refused 72\n".as_slice());
-    assert_eq!(rt; ini.status, 1);
+    same(&rt, &ini.errors.as_slice(), &b"refused 72\n".as_slice());
+    same(&rt, &ini.status, &1);
     let text = ran(alloc, &words, b"");
-    assert_eq!(rt; text.errors.as_slice(), b"refused 140 line 0\n".as_slice());
-    assert_eq!(rt; text.status, 1);
+    same(
+        &rt,
+        &text.errors.as_slice(),
+        &b"refused 140 line 0\n".as_slice(),
+    );
+    same(&rt, &text.status, &1);
     Ok(())
 }
 
@@ -127,7 +132,7 @@ fn values_that_no_name_holds(rt: HostRuntime) -> Result<(), Fail> {
     ];
     for (value, line) in &cases {
         let text = value_line(alloc, value)?;
-        assert_eq!(rt; text.as_slice(), *line);
+        same(&rt, &text.as_slice(), &*line);
     }
     Ok(())
 }

@@ -3,6 +3,7 @@ use super::machine_texts::{
     BODY, FADT, HEADER, LIST, LIST_WITH_SSDT, LIST_WITH_SSDT_TWICE, ROOT, SSDT,
 };
 use super::ran::ran;
+use crate::tests::{is_so, same};
 use std::test::Fail;
 
 /// The names of two link devices and a host bridge, among the predefined ones.
@@ -30,9 +31,9 @@ fn names_of_a_small_machine(rt: HostRuntime) -> Result<(), Fail> {
     let alloc = rt.alloc();
     let text = format!(in alloc; "{ROOT}{LIST}{FADT}{HEADER}{BODY}")?;
     let ran = ran(alloc, &["acpiroute", "names"], text.as_bytes());
-    assert_eq!(rt; ran.output.as_slice(), NAMES.as_bytes());
-    assert_eq!(rt; ran.status, 0);
-    assert!(rt; ran.errors.is_empty());
+    same(&rt, &ran.output.as_slice(), &NAMES.as_bytes());
+    same(&rt, &ran.status, &0);
+    is_so(&rt, ran.errors.is_empty());
     Ok(())
 }
 
@@ -42,8 +43,8 @@ fn names_of_a_second_table(rt: HostRuntime) -> Result<(), Fail> {
     let text = format!(in alloc; "{ROOT}{LIST_WITH_SSDT}{FADT}{HEADER}{BODY}{SSDT}")?;
     let names = format!(in alloc; "\\FOO_ Integer\n{NAMES}")?;
     let ran = ran(alloc, &["acpiroute", "names"], text.as_bytes());
-    assert_eq!(rt; ran.output.as_slice(), names.as_bytes());
-    assert_eq!(rt; ran.status, 0);
+    same(&rt, &ran.output.as_slice(), &names.as_bytes());
+    same(&rt, &ran.status, &0);
     Ok(())
 }
 
@@ -52,9 +53,9 @@ fn a_name_declared_twice(rt: HostRuntime) -> Result<(), Fail> {
     let alloc = rt.alloc();
     let text = format!(in alloc; "{ROOT}{LIST_WITH_SSDT_TWICE}{FADT}{HEADER}{BODY}{SSDT}")?;
     let ran = ran(alloc, &["acpiroute", "names"], text.as_bytes());
-    assert_eq!(rt; ran.errors.as_slice(), b"refused 60\n".as_slice());
-    assert_eq!(rt; ran.status, 1);
-    assert!(rt; ran.output.is_empty());
+    same(&rt, &ran.errors.as_slice(), &b"refused 60\n".as_slice());
+    same(&rt, &ran.status, &1);
+    is_so(&rt, ran.output.is_empty());
     Ok(())
 }
 
@@ -99,7 +100,7 @@ fn names_of_other_kinds(rt: HostRuntime) -> Result<(), Fail> {
     let alloc = rt.alloc();
     let text = format!(in alloc; "{ROOT}{LIST}{FADT}{KINDS}")?;
     let ran = ran(alloc, &["acpiroute", "names"], text.as_bytes());
-    assert_eq!(rt; ran.output.as_slice(), NAMES_OF_KINDS.as_bytes());
-    assert_eq!(rt; ran.status, 0);
+    same(&rt, &ran.output.as_slice(), &NAMES_OF_KINDS.as_bytes());
+    same(&rt, &ran.status, &0);
     Ok(())
 }

@@ -3,6 +3,7 @@ use super::machine_texts::{
     BODY, FADT, HEADER, LIST, LIST_WITH_MADT, MADT, OLD_LIST, OLD_ROOT, ROOT,
 };
 use super::ran::{CHOSEN, FRONT, Leavings, ran};
+use crate::tests::{is_so, same};
 use std::alloc::{AllocError, Global};
 use std::test::Fail;
 
@@ -18,9 +19,9 @@ fn two_links_and_a_wired_pin(rt: HostRuntime) -> Result<(), Fail> {
     let dsdt = format!(in alloc; "{HEADER}{BODY}")?;
     let report = format!(in alloc; "{FRONT}{CHOSEN}")?;
     let ran = routed(alloc, dsdt.as_str())?;
-    assert_eq!(rt; ran.output.as_slice(), report.as_bytes());
-    assert_eq!(rt; ran.status, 0);
-    assert!(rt; ran.errors.is_empty());
+    same(&rt, &ran.output.as_slice(), &report.as_bytes());
+    same(&rt, &ran.status, &0);
+    is_so(&rt, ran.errors.is_empty());
     Ok(())
 }
 
@@ -30,7 +31,7 @@ fn tables_by_an_rsdt(rt: HostRuntime) -> Result<(), Fail> {
     let text = format!(in alloc; "{OLD_ROOT}{OLD_LIST}{FADT}{HEADER}{BODY}")?;
     let report = format!(in alloc; "{FRONT}{CHOSEN}")?;
     let ran = ran(alloc, &["acpiroute", "route", "--dry"], text.as_bytes());
-    assert_eq!(rt; ran.output.as_slice(), report.as_bytes());
+    same(&rt, &ran.output.as_slice(), &report.as_bytes());
     Ok(())
 }
 
@@ -56,7 +57,7 @@ fn lines_of_a_madt(rt: HostRuntime) -> Result<(), Fail> {
     let alloc = rt.alloc();
     let text = format!(in alloc; "{ROOT}{LIST_WITH_MADT}{FADT}{HEADER}{BODY}{MADT}")?;
     let ran = ran(alloc, &["acpiroute", "route", "--dry"], text.as_bytes());
-    assert_eq!(rt; ran.output.as_slice(), WITH_MADT.as_bytes());
+    same(&rt, &ran.output.as_slice(), &WITH_MADT.as_bytes());
     Ok(())
 }
 
@@ -190,8 +191,8 @@ bound - over 10
     ];
     for (dsdt, report) in &cases {
         let ran = routed(rt.alloc(), dsdt)?;
-        assert_eq!(rt; ran.output.as_slice(), report.as_bytes());
-        assert_eq!(rt; ran.status, 0);
+        same(&rt, &ran.output.as_slice(), &report.as_bytes());
+        same(&rt, &ran.status, &0);
     }
     Ok(())
 }
@@ -230,9 +231,9 @@ fn machines_that_are_refused(rt: HostRuntime) -> Result<(), Fail> {
     ];
     for (dsdt, line) in &cases {
         let ran = routed(alloc, dsdt)?;
-        assert_eq!(rt; ran.errors.as_slice(), *line);
-        assert_eq!(rt; ran.status, 1);
-        assert!(rt; ran.output.is_empty());
+        same(&rt, &ran.errors.as_slice(), &*line);
+        same(&rt, &ran.status, &1);
+        is_so(&rt, ran.output.is_empty());
     }
     Ok(())
 }
@@ -240,9 +241,13 @@ fn machines_that_are_refused(rt: HostRuntime) -> Result<(), Fail> {
 #[test]
 fn no_machine_at_all(rt: HostRuntime) {
     let ran = ran(rt.alloc(), &["acpiroute", "route", "--dry"], b"");
-    assert_eq!(rt; ran.errors.as_slice(), b"refused 140 line 0\n".as_slice());
-    assert_eq!(rt; ran.status, 1);
-    assert!(rt; ran.output.is_empty());
+    same(
+        &rt,
+        &ran.errors.as_slice(),
+        &b"refused 140 line 0\n".as_slice(),
+    );
+    same(&rt, &ran.status, &1);
+    is_so(&rt, ran.output.is_empty());
 }
 
 #[test]
@@ -251,9 +256,10 @@ fn the_other_mode(rt: HostRuntime) -> Result<(), Fail> {
     let text = format!(in alloc; "{ROOT}{LIST}{FADT}{NOTHING}")?;
     let words = ["acpiroute", "route", "--dry", "--mode", "pic"];
     let ran = ran(alloc, &words, text.as_bytes());
-    assert_eq!(rt;
-        ran.output.as_slice(),
-        b"acpiroute 1\nmode pic\nbusiest 0\nbound none\n".as_slice()
+    same(
+        &rt,
+        &ran.output.as_slice(),
+        &b"acpiroute 1\nmode pic\nbusiest 0\nbound none\n".as_slice(),
     );
     Ok(())
 }

@@ -1,5 +1,6 @@
 //! Readers and writers that fail, and inputs that are too long.
 use super::ran::{BACK, CHOSEN, FRONT};
+use crate::tests::{is_so, same};
 use acpiroute_lib::{Delivery, run_telling};
 use std::alloc::Global;
 use std::io;
@@ -92,15 +93,16 @@ fn readers_that_fail(rt: HostRuntime) -> Result<(), Fail> {
             let mut output = Vec::new(alloc);
             let mut errors = Vec::new(alloc);
             let ran = run_telling(alloc, &WORDS, &mut reader, &mut output, &mut errors);
-            assert_eq!(rt;
-                ran,
-                Delivery {
+            same(
+                &rt,
+                &ran,
+                &(Delivery {
                     status: 1,
-                    is_told: true
-                }
+                    is_told: true,
+                }),
             );
-            assert_eq!(rt; errors.as_slice(), b"refused 141\n".as_slice());
-            assert!(rt; output.is_empty());
+            same(&rt, &errors.as_slice(), &b"refused 141\n".as_slice());
+            is_so(&rt, output.is_empty());
         }
     }
     Ok(())
@@ -116,23 +118,24 @@ fn outputs_that_fail(rt: HostRuntime) -> Result<(), Fail> {
             let mut output = failing(alloc, writes, kind);
             let mut errors = Vec::new(alloc);
             let ran = run_telling(alloc, &WORDS, &mut reader, &mut output, &mut errors);
-            assert_eq!(rt;
-                ran,
-                Delivery {
+            same(
+                &rt,
+                &ran,
+                &(Delivery {
                     status: 1,
-                    is_told: true
-                }
+                    is_told: true,
+                }),
             );
-            assert_eq!(rt; errors.as_slice(), b"refused 142\n".as_slice());
-            assert_eq!(rt; output.got.as_slice(), got);
+            same(&rt, &errors.as_slice(), &b"refused 142\n".as_slice());
+            same(&rt, &output.got.as_slice(), &got);
         }
     }
     let mut reader = text.as_bytes();
     let mut output = failing(alloc, 3, io::ErrorKind::Other);
     let mut errors = Vec::new(alloc);
     let ran = run_telling(alloc, &WORDS, &mut reader, &mut output, &mut errors);
-    assert_eq!(rt; ran.status, 4);
-    assert_eq!(rt; output.got.as_slice(), b"no 4\n".as_slice());
+    same(&rt, &ran.status, &4);
+    same(&rt, &output.got.as_slice(), &b"no 4\n".as_slice());
     Ok(())
 }
 
@@ -144,14 +147,15 @@ fn errors_that_fail(rt: HostRuntime) -> Result<(), Fail> {
         let mut output = Vec::new(alloc);
         let mut errors = failing(alloc, 4, io::ErrorKind::Other);
         let ran = run_telling(alloc, words, &mut reader, &mut output, &mut errors);
-        assert_eq!(rt;
-            ran,
-            Delivery {
+        same(
+            &rt,
+            &ran,
+            &(Delivery {
                 status,
-                is_told: false
-            }
+                is_told: false,
+            }),
         );
-        assert!(rt; output.is_empty());
+        is_so(&rt, output.is_empty());
     }
     Ok(())
 }
@@ -167,7 +171,7 @@ fn inputs_at_the_limit(rt: HostRuntime) {
         let mut output = Vec::new(alloc);
         let mut errors = Vec::new(alloc);
         let ran = run_telling(alloc, &WORDS, &mut reader, &mut output, &mut errors);
-        assert_eq!(rt; ran.status, 1);
-        assert_eq!(rt; errors.as_slice(), line);
+        same(&rt, &ran.status, &1);
+        same(&rt, &errors.as_slice(), &line);
     }
 }

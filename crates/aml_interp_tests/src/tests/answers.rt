@@ -1,6 +1,7 @@
 //! What names answer.
 use super::aml;
 use super::worlds::{STEPS, answer_of, fresh, loaded};
+use crate::tests::{is_so, same};
 use aml_interp::{eval, load};
 use aml_meaning::{Datum, World};
 use aml_objects::Value;
@@ -16,20 +17,20 @@ fn integers_strings_and_buffers(rt: HostRuntime) -> Result<(), Fail> {
     let alloc = rt.alloc();
     let mut world = loaded(alloc, aml::KINDS)?;
     match answer_of(alloc, &mut world, b"\\CPU0.INT_", 0)? {
-        Datum::Integer(number) => assert_eq!(rt; number, 0x1122_3344_5566_7788),
-        _ => assert!(rt; false),
+        Datum::Integer(number) => same(&rt, &number, &0x1122_3344_5566_7788),
+        _ => is_so(&rt, false),
     }
     match answer_of(alloc, &mut world, b"\\ALS_", 0)? {
-        Datum::Text(text) => assert_eq!(rt; text.as_slice(), b"AB".as_slice()),
-        _ => assert!(rt; false),
+        Datum::Text(text) => same(&rt, &text.as_slice(), &b"AB".as_slice()),
+        _ => is_so(&rt, false),
     }
     match answer_of(alloc, &mut world, b"\\DEV_.BUF_", 0)? {
-        Datum::Bytes(bytes) => assert_eq!(rt; bytes.as_slice(), [1, 2, 0, 0].as_slice()),
-        _ => assert!(rt; false),
+        Datum::Bytes(bytes) => same(&rt, &bytes.as_slice(), &[1, 2, 0, 0].as_slice()),
+        _ => is_so(&rt, false),
     }
     match answer_of(alloc, &mut world, b"\\DEV_", 0)? {
-        Datum::Named(path) => assert_eq!(rt; path, Path::from_text(alloc, b"\\DEV_")?),
-        _ => assert!(rt; false),
+        Datum::Named(path) => same(&rt, &path, &Path::from_text(alloc, b"\\DEV_")?),
+        _ => is_so(&rt, false),
     }
     Ok(())
 }
@@ -40,12 +41,12 @@ fn integers_are_as_wide_as_the_tables_say(rt: HostRuntime) -> Result<(), Fail> {
     let mut world = fresh(alloc, IntegerWidth::Bits32)?;
     load(alloc, &mut world, aml::KINDS, STEPS)?;
     match answer_of(alloc, &mut world, b"\\CPU0.INT_", 0)? {
-        Datum::Integer(number) => assert_eq!(rt; number, 0x5566_7788),
-        _ => assert!(rt; false),
+        Datum::Integer(number) => same(&rt, &number, &0x5566_7788),
+        _ => is_so(&rt, false),
     }
     match answer_of(alloc, &mut world, b"\\PWR_.ONE_", 0)? {
-        Datum::Integer(number) => assert_eq!(rt; number, 0xFFFF_FFFF),
-        _ => assert!(rt; false),
+        Datum::Integer(number) => same(&rt, &number, &0xFFFF_FFFF),
+        _ => is_so(&rt, false),
     }
     Ok(())
 }
@@ -57,16 +58,16 @@ fn elements_of_packages(rt: HostRuntime) -> Result<(), Fail> {
     match answer_of(alloc, &mut world, b"\\DEV_.PKG_", 3)? {
         Datum::Package(elements) => match elements.as_slice() {
             [Datum::Integer(number), Datum::Text(text), Datum::Nothing] => {
-                assert_eq!(rt; *number, 1);
-                assert_eq!(rt; text.as_slice(), b"AB".as_slice());
+                same(&rt, &*number, &1);
+                same(&rt, &text.as_slice(), &b"AB".as_slice());
             }
-            _ => assert!(rt; false),
+            _ => is_so(&rt, false),
         },
-        _ => assert!(rt; false),
+        _ => is_so(&rt, false),
     }
     match answer_of(alloc, &mut world, b"\\VAR_", STEPS)? {
-        Datum::Package(elements) => assert_eq!(rt; elements.len(), 2),
-        _ => assert!(rt; false),
+        Datum::Package(elements) => same(&rt, &elements.len(), &2),
+        _ => is_so(&rt, false),
     }
     Ok(())
 }
@@ -77,17 +78,17 @@ fn an_element_that_is_handed_out_costs_a_step(rt: HostRuntime) -> Result<(), Fai
     let mut world = loaded(alloc, aml::EXAMPLE)?;
     for steps in 0..15 {
         let refused = answer_of(alloc, &mut world, b"\\_SB_.PCI0._PRT", steps).err();
-        assert_eq!(rt; refused, Some(OUT_OF_STEPS));
+        same(&rt, &refused, &Some(OUT_OF_STEPS));
     }
     match answer_of(alloc, &mut world, b"\\_SB_.PCI0._PRT", 15)? {
         Datum::Package(entries) => match entries.as_slice() {
             [Datum::Package(first), _, Datum::Package(last)] => {
-                assert!(rt; names_link(alloc, first)?);
-                assert!(rt; is_wired_to_ten(last));
+                is_so(&rt, names_link(alloc, first)?);
+                is_so(&rt, is_wired_to_ten(last));
             }
-            _ => assert!(rt; false),
+            _ => is_so(&rt, false),
         },
-        _ => assert!(rt; false),
+        _ => is_so(&rt, false),
     }
     Ok(())
 }
@@ -130,8 +131,8 @@ fn an_alias_of_an_alias(rt: HostRuntime) -> Result<(), Fail> {
         b"\\AL2_".as_slice(),
     ] {
         match answer_of(alloc, &mut world, path, 0)? {
-            Datum::Integer(number) => assert_eq!(rt; number, 1),
-            _ => assert!(rt; false),
+            Datum::Integer(number) => same(&rt, &number, &1),
+            _ => is_so(&rt, false),
         }
     }
     Ok(())
@@ -141,7 +142,11 @@ fn an_alias_of_an_alias(rt: HostRuntime) -> Result<(), Fail> {
 fn excess_elements_are_not_evaluated(rt: HostRuntime) -> Result<(), Fail> {
     let alloc = rt.alloc();
     let mut world = fresh(alloc, IntegerWidth::Bits64)?;
-    assert_eq!(rt; load(alloc, &mut world, aml::EXCESS_ELEMENT, 3), Ok(()));
+    same(
+        &rt,
+        &load(alloc, &mut world, aml::EXCESS_ELEMENT, 3),
+        &Ok(()),
+    );
     Ok(())
 }
 
@@ -150,13 +155,13 @@ fn a_size_is_converted(rt: HostRuntime) -> Result<(), Fail> {
     let alloc = rt.alloc();
     let mut world = loaded(alloc, aml::SIZE_BY_NAME)?;
     match answer_of(alloc, &mut world, b"\\BUF_", 0)? {
-        Datum::Bytes(bytes) => assert_eq!(rt; bytes.as_slice(), [7, 0, 0].as_slice()),
-        _ => assert!(rt; false),
+        Datum::Bytes(bytes) => same(&rt, &bytes.as_slice(), &[7, 0, 0].as_slice()),
+        _ => is_so(&rt, false),
     }
     let mut world = loaded(alloc, aml::LONGEST_BUFFER)?;
     match answer_of(alloc, &mut world, b"\\BUF_", 0)? {
-        Datum::Bytes(bytes) => assert_eq!(rt; bytes.as_slice().len(), 1_048_576),
-        _ => assert!(rt; false),
+        Datum::Bytes(bytes) => same(&rt, &bytes.as_slice().len(), &1_048_576),
+        _ => is_so(&rt, false),
     }
     Ok(())
 }
@@ -167,13 +172,14 @@ fn values_and_what_is_left_of_the_steps(rt: HostRuntime) -> Result<(), Fail> {
     let mut world = loaded(alloc, aml::KINDS)?;
     let path = Path::from_text(alloc, b"\\_REV")?;
     let value = eval(alloc, &mut world, &path, Vec::new(alloc), 7)?;
-    assert_eq!(rt; value, (Value::Integer(2), 7));
+    same(&rt, &value, &(Value::Integer(2), 7));
     let mut arguments = Vec::new(alloc);
     arguments.push(Value::Integer(1))?;
     let refused = eval(alloc, &mut world, &path, arguments, 7);
-    assert_eq!(rt;
-        refused.err(),
-        Some(Refusal::Evaluation(EvaluationFault::ArityChanged))
+    same(
+        &rt,
+        &refused.err(),
+        &Some(Refusal::Evaluation(EvaluationFault::ArityChanged)),
     );
     Ok(())
 }
@@ -183,18 +189,23 @@ fn names_that_answer_nothing(rt: HostRuntime) -> Result<(), Fail> {
     let alloc = rt.alloc();
     let mut world = loaded(alloc, aml::CALL_LATER)?;
     let missing = answer_of(alloc, &mut world, b"\\NONE", 9).err();
-    assert_eq!(rt; missing, Some(Refusal::Namespace(NamespaceFault::NotFound)));
+    same(
+        &rt,
+        &missing,
+        &Some(Refusal::Namespace(NamespaceFault::NotFound)),
+    );
     let few = answer_of(alloc, &mut world, b"\\MTH_", 9).err();
-    assert_eq!(rt;
-        few,
-        Some(Refusal::Evaluation(EvaluationFault::ArityChanged))
+    same(
+        &rt,
+        &few,
+        &Some(Refusal::Evaluation(EvaluationFault::ArityChanged)),
     );
     let mut arguments = Vec::new(alloc);
     arguments.push(Datum::Integer(1))?;
     let path = Path::from_text(alloc, b"\\MTH_")?;
     match aml_interp::answer(alloc, &mut world, &path, arguments, 0)? {
         Datum::Nothing => {}
-        _ => assert!(rt; false),
+        _ => is_so(&rt, false),
     }
     Ok(())
 }
@@ -221,11 +232,12 @@ fn link(place: u8) -> [u8; 4] {
 fn packages_nest_64_deep(rt: HostRuntime) -> Result<(), Fail> {
     let alloc = rt.alloc();
     let mut world = chain(alloc, 65)?;
-    assert!(rt; answer_of(alloc, &mut world, b"\\P63_", STEPS).is_ok());
+    is_so(&rt, answer_of(alloc, &mut world, b"\\P63_", STEPS).is_ok());
     let refused = answer_of(alloc, &mut world, b"\\P64_", STEPS).err();
-    assert_eq!(rt;
-        refused,
-        Some(Refusal::Evaluation(EvaluationFault::ObjectLimit))
+    same(
+        &rt,
+        &refused,
+        &Some(Refusal::Evaluation(EvaluationFault::ObjectLimit)),
     );
     Ok(())
 }

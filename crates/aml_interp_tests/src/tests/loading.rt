@@ -1,6 +1,7 @@
 //! What tables declare, and how they are refused.
 use super::aml;
 use super::worlds::{STEPS, fresh, loaded, stands};
+use crate::tests::{is_so, same};
 use aml_interp::load;
 use aml_objects::NamedObject;
 use aml_path::Path;
@@ -37,9 +38,9 @@ fn names_of_the_example(rt: HostRuntime) -> Result<(), Fail> {
     let alloc = rt.alloc();
     let world = loaded(alloc, aml::EXAMPLE)?;
     let walked = world.names().walk(alloc)?;
-    assert_eq!(rt; walked.len(), EXAMPLE_NAMES.len());
+    same(&rt, &walked.len(), &EXAMPLE_NAMES.len());
     for (path, text) in walked.iter().zip(EXAMPLE_NAMES.iter()) {
-        assert_eq!(rt; *path, Path::from_text(alloc, text)?);
+        same(&rt, &*path, &Path::from_text(alloc, text)?);
     }
     Ok(())
 }
@@ -50,15 +51,17 @@ fn each_term_costs_a_step(rt: HostRuntime) -> Result<(), Fail> {
     for steps in 0..EXAMPLE_STEPS {
         let mut world = fresh(alloc, IntegerWidth::Bits64)?;
         let outcome = load(alloc, &mut world, aml::EXAMPLE, steps);
-        assert_eq!(rt;
-            outcome,
-            Err(Refusal::Evaluation(EvaluationFault::OutOfSteps))
+        same(
+            &rt,
+            &outcome,
+            &Err(Refusal::Evaluation(EvaluationFault::OutOfSteps)),
         );
     }
     let mut world = fresh(alloc, IntegerWidth::Bits64)?;
-    assert_eq!(rt;
-        load(alloc, &mut world, aml::EXAMPLE, EXAMPLE_STEPS),
-        Ok(())
+    same(
+        &rt,
+        &load(alloc, &mut world, aml::EXAMPLE, EXAMPLE_STEPS),
+        &Ok(()),
     );
     Ok(())
 }
@@ -68,9 +71,13 @@ fn what_was_declared_before_a_refusal_stays(rt: HostRuntime) -> Result<(), Fail>
     let alloc = rt.alloc();
     let mut world = fresh(alloc, IntegerWidth::Bits64)?;
     let outcome = load(alloc, &mut world, aml::REFUSED_IN_ITS_MIDDLE, STEPS);
-    assert_eq!(rt; outcome, Err(Refusal::Namespace(NamespaceFault::Exists)));
-    assert!(rt; stands(alloc, &world, b"\\FST_")?);
-    assert!(rt; !stands(alloc, &world, b"\\LST_")?);
+    same(
+        &rt,
+        &outcome,
+        &Err(Refusal::Namespace(NamespaceFault::Exists)),
+    );
+    is_so(&rt, stands(alloc, &world, b"\\FST_")?);
+    is_so(&rt, !stands(alloc, &world, b"\\LST_")?);
     Ok(())
 }
 
@@ -80,8 +87,12 @@ fn a_table_that_cannot_be_read_declares_nothing(rt: HostRuntime) -> Result<(), F
     let mut world = fresh(alloc, IntegerWidth::Bits64)?;
     let end = aml::EXAMPLE.len() - 1;
     let outcome = load(alloc, &mut world, &aml::EXAMPLE[..end], STEPS);
-    assert_eq!(rt; outcome, Err(Refusal::Term(TermFault::BadPkgLength, 1)));
-    assert_eq!(rt; world.names().walk(alloc)?.len(), 9);
+    same(
+        &rt,
+        &outcome,
+        &Err(Refusal::Term(TermFault::BadPkgLength, 1)),
+    );
+    same(&rt, &world.names().walk(alloc)?.len(), &9);
     Ok(())
 }
 
@@ -102,8 +113,8 @@ fn refused_tables(rt: HostRuntime) -> Result<(), Fail> {
     for (table, number) in REFUSED {
         let mut world = fresh(alloc, IntegerWidth::Bits64)?;
         match load(alloc, &mut world, table, STEPS) {
-            Ok(()) => assert!(rt; false),
-            Err(refusal) => assert_eq!(rt; refusal.number(), *number),
+            Ok(()) => is_so(&rt, false),
+            Err(refusal) => same(&rt, &refusal.number(), &*number),
         }
     }
     Ok(())
@@ -119,7 +130,7 @@ fn terms_that_are_not_evaluated(rt: HostRuntime) -> Result<(), Fail> {
         let mut world = fresh(alloc, IntegerWidth::Bits64)?;
         let refused = load(alloc, &mut world, table, STEPS);
         let unsupported = Refusal::Evaluation(EvaluationFault::Unsupported(*opcode));
-        assert_eq!(rt; refused, Err(unsupported));
+        same(&rt, &refused, &Err(unsupported));
     }
     Ok(())
 }
@@ -143,13 +154,13 @@ fn one_declaration_of_each_kind(rt: HostRuntime) -> Result<(), Fail> {
     for (path, object) in kinds.iter() {
         let path = Path::from_text(alloc, path)?;
         let entry = world.names().get(&path);
-        assert_eq!(rt; entry.map(|entry| &entry.object), Some(object));
+        same(&rt, &entry.map(|entry| &entry.object), &Some(object));
     }
-    assert!(rt; !stands(alloc, &world, b"\\OUT_")?);
+    is_so(&rt, !stands(alloc, &world, b"\\OUT_")?);
     let method = world.names().get(&Path::from_text(alloc, b"\\MTH_")?);
     match method.map(|entry| &entry.object) {
-        Some(NamedObject::Method(method)) => assert_eq!(rt; method.arguments, 2),
-        _ => assert!(rt; false),
+        Some(NamedObject::Method(method)) => same(&rt, &method.arguments, &2),
+        _ => is_so(&rt, false),
     }
     Ok(())
 }
@@ -159,9 +170,13 @@ fn a_second_table_stands_on_the_first(rt: HostRuntime) -> Result<(), Fail> {
     let alloc = rt.alloc();
     let mut world = loaded(alloc, aml::EXAMPLE)?;
     let second = b"\x10\x0D\\_SB_\x08TWO_\x0A\x02".as_slice();
-    assert_eq!(rt; load(alloc, &mut world, second, STEPS), Ok(()));
-    assert!(rt; stands(alloc, &world, b"\\_SB_.TWO_")?);
+    same(&rt, &load(alloc, &mut world, second, STEPS), &Ok(()));
+    is_so(&rt, stands(alloc, &world, b"\\_SB_.TWO_")?);
     let again = load(alloc, &mut world, second, STEPS);
-    assert_eq!(rt; again, Err(Refusal::Namespace(NamespaceFault::Exists)));
+    same(
+        &rt,
+        &again,
+        &Err(Refusal::Namespace(NamespaceFault::Exists)),
+    );
     Ok(())
 }

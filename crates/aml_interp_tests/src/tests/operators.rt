@@ -1,5 +1,6 @@
 //! Operators and stores, as the values that control methods answer.
 use super::methods::{bytes_of, integer_of, refusal_of};
+use crate::tests::same;
 use ar_space::IntegerWidth;
 use std::test::Fail;
 
@@ -82,7 +83,11 @@ const INTEGERS: &[(&[u8], u64)] = &[
 fn integers(rt: HostRuntime) -> Result<(), Fail> {
     let alloc = rt.alloc();
     for (body, wanted) in INTEGERS {
-        assert_eq!(rt; integer_of(alloc, IntegerWidth::Bits64, body)?, *wanted);
+        same(
+            &rt,
+            &integer_of(alloc, IntegerWidth::Bits64, body)?,
+            &*wanted,
+        );
     }
     Ok(())
 }
@@ -99,7 +104,11 @@ const NARROW: &[(&[u8], u64)] = &[
 fn integers_of_32_bits(rt: HostRuntime) -> Result<(), Fail> {
     let alloc = rt.alloc();
     for (body, wanted) in NARROW {
-        assert_eq!(rt; integer_of(alloc, IntegerWidth::Bits32, body)?, *wanted);
+        same(
+            &rt,
+            &integer_of(alloc, IntegerWidth::Bits32, body)?,
+            &*wanted,
+        );
     }
     Ok(())
 }
@@ -137,7 +146,7 @@ const BYTES: &[(&[u8], &[u8])] = &[
 fn strings_and_buffers(rt: HostRuntime) -> Result<(), Fail> {
     let alloc = rt.alloc();
     for (body, wanted) in BYTES {
-        assert_eq!(rt; bytes_of(alloc, body)?.as_slice(), *wanted);
+        same(&rt, &bytes_of(alloc, body)?.as_slice(), &*wanted);
     }
     Ok(())
 }
@@ -176,7 +185,7 @@ const REFUSED: &[(&[u8], u16)] = &[
 fn refused_operators(rt: HostRuntime) -> Result<(), Fail> {
     let alloc = rt.alloc();
     for (body, wanted) in REFUSED {
-        assert_eq!(rt; refusal_of(alloc, body), *wanted);
+        same(&rt, &refusal_of(alloc, body), &*wanted);
     }
     Ok(())
 }

@@ -1,6 +1,7 @@
 //! Statements and calls, as the values that control methods answer.
 use super::methods::{answer_to, called, integer_of, refusal_of, with_method};
 use super::worlds::{STEPS, stands};
+use crate::tests::{is_so, same};
 use aml_meaning::{Datum, World};
 use ar_space::{EvaluationFault, IntegerWidth, Refusal, Sparse};
 use std::alloc::Global;
@@ -43,7 +44,7 @@ const INTEGERS: &[(&[u8], u64)] = &[
 fn statements(rt: HostRuntime) -> Result<(), Fail> {
     let alloc = rt.alloc();
     for (body, wanted) in INTEGERS {
-        assert_eq!(rt; integer_of(alloc, WIDE, body)?, *wanted);
+        same(&rt, &integer_of(alloc, WIDE, body)?, &*wanted);
     }
     Ok(())
 }
@@ -62,7 +63,7 @@ const REFUSED: &[(&[u8], u16)] = &[
 fn refused_statements(rt: HostRuntime) -> Result<(), Fail> {
     let alloc = rt.alloc();
     for (body, wanted) in REFUSED {
-        assert_eq!(rt; refusal_of(alloc, body), *wanted);
+        same(&rt, &refusal_of(alloc, body), &*wanted);
     }
     Ok(())
 }
@@ -71,17 +72,18 @@ fn refused_statements(rt: HostRuntime) -> Result<(), Fail> {
 fn steps_of_a_return(rt: HostRuntime) -> Result<(), Fail> {
     let alloc = rt.alloc();
     let refused = answer_to(alloc, WIDE, b"\xA4\x01", 1).err();
-    assert_eq!(rt;
-        refused,
-        Some(Refusal::Evaluation(EvaluationFault::OutOfSteps))
+    same(
+        &rt,
+        &refused,
+        &Some(Refusal::Evaluation(EvaluationFault::OutOfSteps)),
     );
     match answer_to(alloc, WIDE, b"\xA4\x01", 2)? {
-        Datum::Integer(number) => assert_eq!(rt; number, 1),
-        _ => assert!(rt; false),
+        Datum::Integer(number) => same(&rt, &number, &1),
+        _ => is_so(&rt, false),
     }
     match answer_to(alloc, WIDE, b"\xA3", 1)? {
         Datum::Nothing => {}
-        _ => assert!(rt; false),
+        _ => is_so(&rt, false),
     }
     Ok(())
 }
@@ -102,9 +104,9 @@ fn integer(
 fn names_of_a_call_end_with_it(rt: HostRuntime) -> Result<(), Fail> {
     let alloc = rt.alloc();
     let mut world = with_method(alloc, WIDE, 0, b"\x08NUM_\x0A\x07\xA4NUM_")?;
-    assert_eq!(rt; integer(alloc, &mut world, Vec::new(alloc))?, 7);
-    assert_eq!(rt; integer(alloc, &mut world, Vec::new(alloc))?, 7);
-    assert!(rt; !stands(alloc, &world, b"\\M000.NUM_")?);
+    same(&rt, &integer(alloc, &mut world, Vec::new(alloc))?, &7);
+    same(&rt, &integer(alloc, &mut world, Vec::new(alloc))?, &7);
+    is_so(&rt, !stands(alloc, &world, b"\\M000.NUM_")?);
     Ok(())
 }
 
@@ -120,7 +122,7 @@ fn arguments_are_passed(rt: HostRuntime) -> Result<(), Fail> {
     let alloc = rt.alloc();
     let mut world = with_method(alloc, WIDE, 2, b"\xA4\x74\x68\x69\x00")?;
     let arguments = two(alloc, Datum::Integer(9), Datum::Integer(4))?;
-    assert_eq!(rt; integer(alloc, &mut world, arguments)?, 5);
+    same(&rt, &integer(alloc, &mut world, arguments)?, &5);
     Ok(())
 }
 
@@ -142,11 +144,12 @@ fn packages_of_arguments_nest_64_deep(rt: HostRuntime) -> Result<(), Fail> {
     let alloc = rt.alloc();
     // a local takes a copy of the argument
     let mut world = with_method(alloc, WIDE, 1, b"\x70\x68\x60\xA4\x87\x60")?;
-    assert_eq!(rt; integer(alloc, &mut world, nested(alloc, 64)?)?, 1);
+    same(&rt, &integer(alloc, &mut world, nested(alloc, 64)?)?, &1);
     let refused = called(alloc, &mut world, nested(alloc, 65)?, STEPS).err();
-    assert_eq!(rt;
-        refused,
-        Some(Refusal::Evaluation(EvaluationFault::ObjectLimit))
+    same(
+        &rt,
+        &refused,
+        &Some(Refusal::Evaluation(EvaluationFault::ObjectLimit)),
     );
     Ok(())
 }
@@ -158,7 +161,7 @@ fn a_name_that_holds_a_reference_is_read_as_itself(rt: HostRuntime) -> Result<()
     match answer_to(alloc, WIDE, body, STEPS)? {
         // the name that is given goes with the call
         Datum::Reference => {}
-        _ => assert!(rt; false),
+        _ => is_so(&rt, false),
     }
     Ok(())
 }

@@ -1,4 +1,5 @@
 //! A new world, its names, objects and frames.
+use crate::tests::{is_so, same};
 use aml_meaning::World;
 use aml_objects::{
     Content, Element, Elements, Method, MethodBody, NamedObject, Octets, Slot, Value,
@@ -58,21 +59,21 @@ fn predefined_names(rt: HostRuntime) -> Result<(), Fail> {
         b"_GL_", b"_GPE", b"_OSI", b"_OS_", b"_PR_", b"_REV", b"_SB_", b"_SI_", b"_TZ_",
     ];
     let walked = world.names().walk(alloc)?;
-    assert_eq!(rt; walked.len(), names.len());
+    same(&rt, &walked.len(), &names.len());
     for (path, characters) in walked.iter().zip(names.iter()) {
-        assert_eq!(rt; path.segments().len(), 1);
+        same(&rt, &path.segments().len(), &1);
         for segment in path.segments() {
-            assert_eq!(rt; segment.bytes(), **characters);
+            same(&rt, &segment.bytes(), &**characters);
         }
-        assert!(rt; object(&world, alloc, **characters)?);
+        is_so(&rt, object(&world, alloc, **characters)?);
     }
-    assert_eq!(rt; world.width(), IntegerWidth::Bits64);
+    same(&rt, &world.width(), &IntegerWidth::Bits64);
     match world.content(Value::String(0)) {
-        Content::String(text) => assert_eq!(rt; text, b"Microsoft Windows NT".as_slice()),
-        _ => assert!(rt; false),
+        Content::String(text) => same(&rt, &text, &b"Microsoft Windows NT".as_slice()),
+        _ => is_so(&rt, false),
     }
-    assert_eq!(rt; world.space().byte(Place::Io(0x60)), Some(7));
-    assert_eq!(rt; world.into_space().byte(Place::Io(0x60)), Some(7));
+    same(&rt, &world.space().byte(Place::Io(0x60)), &Some(7));
+    same(&rt, &world.into_space().byte(Place::Io(0x60)), &Some(7));
     Ok(())
 }
 
@@ -81,17 +82,26 @@ fn names_come_and_go(rt: HostRuntime) -> Result<(), Fail> {
     let alloc = rt.alloc();
     let mut world = new_world(alloc)?;
     let device = Path::from_text(alloc, b"\\_SB_.PCI0")?;
-    assert_eq!(rt;
-        world.declare(device.copy(alloc)?, NamedObject::Device)?,
-        10
+    same(
+        &rt,
+        &world.declare(device.copy(alloc)?, NamedObject::Device)?,
+        &10,
     );
     let again = world.declare(device, NamedObject::Device);
-    assert_eq!(rt; again, Err(Refusal::Namespace(NamespaceFault::Exists)));
+    same(
+        &rt,
+        &again,
+        &Err(Refusal::Namespace(NamespaceFault::Exists)),
+    );
     let orphan = Path::from_text(alloc, b"\\_SB_.PCI1.ISA_")?;
     let refused = world.declare(orphan, NamedObject::Device);
-    assert_eq!(rt; refused, Err(Refusal::Namespace(NamespaceFault::NotFound)));
+    same(
+        &rt,
+        &refused,
+        &Err(Refusal::Namespace(NamespaceFault::NotFound)),
+    );
     world.remove_below(&Path::from_text(alloc, b"\\_SB_")?);
-    assert_eq!(rt; world.names().walk(alloc)?.len(), 9);
+    same(&rt, &world.names().walk(alloc)?.len(), &9);
     Ok(())
 }
 
@@ -99,16 +109,25 @@ fn names_come_and_go(rt: HostRuntime) -> Result<(), Fail> {
 fn objects_of_the_world(rt: HostRuntime) -> Result<(), Fail> {
     let alloc = rt.alloc();
     let mut world = new_world(alloc)?;
-    assert_eq!(rt; world.make_string(octets(alloc, b"A")?)?, Value::String(1));
-    assert_eq!(rt;
-        world.make_buffer(octets(alloc, &[1, 2])?)?,
-        Value::Buffer(2)
+    same(
+        &rt,
+        &world.make_string(octets(alloc, b"A")?)?,
+        &Value::String(1),
+    );
+    same(
+        &rt,
+        &world.make_buffer(octets(alloc, &[1, 2])?)?,
+        &Value::Buffer(2),
     );
     let mut elements = Elements::new(alloc);
     elements.push(Element::Value(Value::Integer(3)))?;
-    assert_eq!(rt; world.make_package(elements)?, Value::Package(3));
-    assert_eq!(rt; world.copy(alloc, Value::Package(3))?, Value::Package(4));
-    assert_eq!(rt; world.elements(alloc, 4)?.as_slice().len(), 1);
+    same(&rt, &world.make_package(elements)?, &Value::Package(3));
+    same(
+        &rt,
+        &world.copy(alloc, Value::Package(3))?,
+        &Value::Package(4),
+    );
+    same(&rt, &world.elements(alloc, 4)?.as_slice().len(), &1);
     world.write_buffer(2, octets(alloc, &[9])?)?;
     world.write_string(1, octets(alloc, b"BC")?)?;
     match (
@@ -116,10 +135,10 @@ fn objects_of_the_world(rt: HostRuntime) -> Result<(), Fail> {
         world.content(Value::String(1)),
     ) {
         (Content::Buffer(bytes), Content::String(text)) => {
-            assert_eq!(rt; bytes, [9, 0].as_slice());
-            assert_eq!(rt; text, b"BC".as_slice());
+            same(&rt, &bytes, &[9, 0].as_slice());
+            same(&rt, &text, &b"BC".as_slice());
         }
-        _ => assert!(rt; false),
+        _ => is_so(&rt, false),
     }
     Ok(())
 }
@@ -132,12 +151,24 @@ fn frames_end(rt: HostRuntime) -> Result<(), Fail> {
     arguments[1] = Value::Integer(5);
     let first = world.open_frame(arguments)?;
     let second = world.open_frame([Value::Uninitialized; 7])?;
-    assert_eq!(rt; world.slot(first, Slot::Argument(1))?, Value::Integer(5));
-    assert_eq!(rt; world.slot(first, Slot::Argument(0))?, Value::Uninitialized);
-    assert_eq!(rt; world.slot(second, Slot::Local(7))?, Value::Uninitialized);
+    same(
+        &rt,
+        &world.slot(first, Slot::Argument(1))?,
+        &Value::Integer(5),
+    );
+    same(
+        &rt,
+        &world.slot(first, Slot::Argument(0))?,
+        &Value::Uninitialized,
+    );
+    same(
+        &rt,
+        &world.slot(second, Slot::Local(7))?,
+        &Value::Uninitialized,
+    );
     world.close_frame();
-    assert_eq!(rt; world.slot(second, Slot::Local(7)).err(), Some(DEAD));
+    same(&rt, &world.slot(second, Slot::Local(7)).err(), &Some(DEAD));
     let third = world.open_frame([Value::Uninitialized; 7])?;
-    assert!(rt; third != second);
+    is_so(&rt, third != second);
     Ok(())
 }

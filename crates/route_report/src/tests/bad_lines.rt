@@ -1,5 +1,6 @@
 //! Texts that are no report, and their first bad line.
 use crate::read;
+use crate::tests::same;
 use ar_space::{Refusal, ReportFault};
 use std::alloc::Global;
 use std::test::Fail;
@@ -33,7 +34,7 @@ fn bad_texts(rt: HostRuntime) {
         (b"acpiroute 1\nbusiest 0\nbound none\nacpiroute 1\n", 4),
     ];
     for (text, line) in &texts {
-        assert_eq!(rt; bad_line(rt.alloc(), text), Some(*line));
+        same(&rt, &bad_line(rt.alloc(), text), &Some(*line));
     }
 }
 
@@ -88,7 +89,7 @@ fn bad_lines(rt: HostRuntime) -> Result<(), Fail> {
     let alloc = rt.alloc();
     for line in &lines {
         let text = format!(in alloc; "acpiroute 1\nmode apic\n{line}\nbusiest 0\nbound none\n")?;
-        assert_eq!(rt; bad_line(alloc, text.as_bytes()), Some(3));
+        same(&rt, &bad_line(alloc, text.as_bytes()), &Some(3));
     }
     Ok(())
 }
@@ -100,8 +101,8 @@ fn as_many_wired_interrupts_as_may_be(rt: HostRuntime) -> Result<(), Fail> {
     for _ in 0..4096u32 {
         write!(text, "wired 5 0\n")?;
     }
-    assert_eq!(rt; read(alloc, text.as_bytes())?.wired.len(), 4096);
+    same(&rt, &read(alloc, text.as_bytes())?.wired.len(), &4096);
     write!(text, "wired 5 0\n")?;
-    assert_eq!(rt; bad_line(alloc, text.as_bytes()), Some(4100));
+    same(&rt, &bad_line(alloc, text.as_bytes()), &Some(4100));
     Ok(())
 }

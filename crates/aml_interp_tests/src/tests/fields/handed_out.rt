@@ -1,5 +1,6 @@
 //! Fields that are handed in and out: as arguments, as answers, and as elements of packages.
 use super::values::{PORTS, READ};
+use crate::tests::same;
 use crate::tests::traces::{Case, Machine, Wanted, asked, called, judge_answer, set_up};
 use crate::tests::worlds::STEPS;
 use aml_interp::{eval, load};
@@ -162,7 +163,7 @@ fn the_name_of_a_field_answers_its_bits(rt: HostRuntime) -> Result<(), Fail> {
     let mut world = set_up(alloc, &PORTS)?;
     let answer = asked(alloc, &mut world, b"\\FL12", Vec::new(alloc), 0);
     judge_answer(&rt, alloc, "a field", &answer, Wanted::Integer(970))?;
-    assert_eq!(rt; world.space().accesses(), READ);
+    same(&rt, &world.space().accesses(), &READ);
     Ok(())
 }
 
@@ -172,8 +173,8 @@ fn the_value_of_a_field_costs_no_step(rt: HostRuntime) -> Result<(), Fail> {
     let mut world = set_up(alloc, &PORTS)?;
     let path = Path::from_text(alloc, b"\\FL12")?;
     let value = eval(alloc, &mut world, &path, Vec::new(alloc), 7)?;
-    assert_eq!(rt; value, (Value::Integer(970), 7));
-    assert_eq!(rt; world.space().accesses(), READ);
+    same(&rt, &value, &(Value::Integer(970), 7));
+    same(&rt, &world.space().accesses(), &READ);
     Ok(())
 }
 
@@ -194,9 +195,10 @@ fn fields_of_a_package_are_read_as_it_is_handed_out(rt: HostRuntime) -> Result<(
     let mut world = set_up(alloc, &PORTS)?;
     let answer = asked(alloc, &mut world, b"\\PKG_", Vec::new(alloc), 2)?;
     assert!(rt; is_of_both(&answer), "{answer:?}");
-    assert_eq!(rt;
-        world.space().accesses(),
-        [Read(Io(0x60), W8), Read(Io(0x61), W8), Read(Io(0x60), W8),].as_slice()
+    same(
+        &rt,
+        &world.space().accesses(),
+        &[Read(Io(0x60), W8), Read(Io(0x61), W8), Read(Io(0x60), W8)].as_slice(),
     );
     Ok(())
 }
@@ -207,7 +209,7 @@ fn an_element_costs_its_step_before_it_is_read(rt: HostRuntime) -> Result<(), Fa
     let mut world = set_up(alloc, &PORTS)?;
     let answer = asked(alloc, &mut world, b"\\PKG_", Vec::new(alloc), 1);
     judge_answer(&rt, alloc, "a package", &answer, Wanted::Refused(70))?;
-    assert_eq!(rt; world.space().accesses(), READ);
+    same(&rt, &world.space().accesses(), &READ);
     Ok(())
 }
 
@@ -225,9 +227,10 @@ fn a_fault_of_the_space_is_the_answer_of_a_name(rt: HostRuntime) -> Result<(), F
     let mut world = set_up(alloc, &WIDE)?;
     let answer = asked(alloc, &mut world, b"\\WIDE", Vec::new(alloc), 0);
     judge_answer(&rt, alloc, "a field", &answer, Wanted::Refused(1))?;
-    assert_eq!(rt;
-        world.space().accesses(),
-        [Read(Memory(0), W8), Read(Memory(1), W8)].as_slice()
+    same(
+        &rt,
+        &world.space().accesses(),
+        &[Read(Memory(0), W8), Read(Memory(1), W8)].as_slice(),
     );
     Ok(())
 }
@@ -260,6 +263,10 @@ fn fields_of_a_package_that_is_returned(rt: HostRuntime) -> Result<(), Fail> {
     let mut world = set_up(alloc, &PORTS)?;
     let answer = returned(alloc, &mut world)?;
     assert!(rt; is_of_one(alloc, &answer)?, "{answer:?}");
-    assert_eq!(rt; world.space().accesses(), [Read(Io(0x60), W8)].as_slice());
+    same(
+        &rt,
+        &world.space().accesses(),
+        &[Read(Io(0x60), W8)].as_slice(),
+    );
     Ok(())
 }
