@@ -2,19 +2,8 @@
 use crate::{Form, Offer, Polarity, current, possible, setting};
 use ar_space::{Refusal, ResourceFault};
 use std::alloc::{AllocError, Global};
-use std::fmt::Debug;
 use std::process::Abort;
 use std::test::Fail;
-
-/// A test fails where something isn't so. It is asserted here alone, since a prover looks for a proof of each assertion.
-fn is_so(rt: &impl Abort, so: bool) {
-    assert!(rt; so);
-}
-
-/// A test fails where a value is another one than is wanted.
-fn same<A: Debug + PartialEq>(rt: &impl Abort, found: &A, wanted: &A) {
-    assert_eq!(rt; found, wanted);
-}
 
 /// An offer, as the calls that read it answer.
 #[derive(Debug, PartialEq, Drop)]
@@ -50,7 +39,7 @@ fn setting_at(
     place: usize,
 ) -> Result<Vec<u8>, Refusal> {
     let numbers = offer.numbers();
-    is_so(rt, place < numbers.len());
+    assert!(rt; place < numbers.len());
     setting(alloc, offer, numbers[place])
 }
 
@@ -65,20 +54,18 @@ fn offers_of_extended_interrupts(rt: HostRuntime) -> Result<(), Fail> {
         polarity: Polarity::High,
         flags: 0x09,
     };
-    same(&rt, &read_offer(alloc, &offer)?, &want);
-    is_so(&rt, offer.contains(11));
-    is_so(&rt, !offer.contains(6));
+    assert_eq!(rt; read_offer(alloc, &offer)?, want);
+    assert!(rt; offer.contains(11));
+    assert!(rt; !offer.contains(6));
     let set = setting_at(&rt, alloc, &offer, 0)?;
-    same(
-        &rt,
-        &set.as_slice(),
-        &b"\x89\x06\x00\x09\x01\x05\0\0\0\x79\0".as_slice(),
+    assert_eq!(rt;
+        set.as_slice(),
+        b"\x89\x06\x00\x09\x01\x05\0\0\0\x79\0".as_slice()
     );
     let set = setting_at(&rt, alloc, &offer, 2)?;
-    same(
-        &rt,
-        &set.as_slice(),
-        &b"\x89\x06\x00\x09\x01\x0B\0\0\0\x79\0".as_slice(),
+    assert_eq!(rt;
+        set.as_slice(),
+        b"\x89\x06\x00\x09\x01\x0B\0\0\0\x79\0".as_slice()
     );
     Ok(())
 }
@@ -93,13 +80,9 @@ fn offers_of_irqs(rt: HostRuntime) -> Result<(), Fail> {
         polarity: Polarity::Low,
         flags: 0x18,
     };
-    same(&rt, &read_offer(alloc, &offer)?, &want);
+    assert_eq!(rt; read_offer(alloc, &offer)?, want);
     let set = setting_at(&rt, alloc, &offer, 1)?;
-    same(
-        &rt,
-        &set.as_slice(),
-        &b"\x23\x00\x04\x18\x79\x00".as_slice(),
-    );
+    assert_eq!(rt; set.as_slice(), b"\x23\x00\x04\x18\x79\x00".as_slice());
     Ok(())
 }
 
@@ -114,21 +97,13 @@ fn both_ends_of_a_mask_and_all_flags(rt: HostRuntime) -> Result<(), Fail> {
         polarity: Polarity::High,
         flags: 0xF6,
     };
-    same(&rt, &read_offer(alloc, &offer)?, &want);
+    assert_eq!(rt; read_offer(alloc, &offer)?, want);
     let set = setting_at(&rt, alloc, &offer, 0)?;
-    same(
-        &rt,
-        &set.as_slice(),
-        &b"\x23\x01\x00\xF6\x79\x00".as_slice(),
-    );
+    assert_eq!(rt; set.as_slice(), b"\x23\x01\x00\xF6\x79\x00".as_slice());
     let set = setting_at(&rt, alloc, &offer, 1)?;
-    same(
-        &rt,
-        &set.as_slice(),
-        &b"\x23\x00\x80\xF6\x79\x00".as_slice(),
-    );
+    assert_eq!(rt; set.as_slice(), b"\x23\x00\x80\xF6\x79\x00".as_slice());
     let read = possible(alloc, &set)?;
-    same(&rt, &read.numbers(), &[15].as_slice());
+    assert_eq!(rt; read.numbers(), [15].as_slice());
     Ok(())
 }
 
@@ -136,8 +111,8 @@ fn both_ends_of_a_mask_and_all_flags(rt: HostRuntime) -> Result<(), Fail> {
 fn a_number_listed_twice_is_offered_once(rt: HostRuntime) -> Result<(), Fail> {
     let bytes = b"\x89\x0E\x00\x0C\x03\x07\0\0\x01\x05\0\0\0\x07\0\0\x01\x79\0";
     let offer = possible(rt.alloc(), bytes)?;
-    same(&rt, &offer.numbers(), &[5, 0x0100_0007].as_slice());
-    same(&rt, &offer.polarity(), &Polarity::Low);
+    assert_eq!(rt; offer.numbers(), [5, 0x0100_0007].as_slice());
+    assert_eq!(rt; offer.polarity(), Polarity::Low);
     Ok(())
 }
 
@@ -152,12 +127,11 @@ fn an_extended_interrupt_of_255_numbers(rt: HostRuntime) -> Result<(), Fail> {
     }
     bytes.extend_from_slice(&[0x79, 0])?;
     let offer = possible(alloc, &bytes)?;
-    same(&rt, &offer.numbers(), &want.as_slice());
+    assert_eq!(rt; offer.numbers(), want.as_slice());
     let set = setting_at(&rt, alloc, &offer, 254)?;
-    same(
-        &rt,
-        &set.as_slice(),
-        &b"\x89\x06\x00\x08\x01\xFE\x12\0\0\x79\0".as_slice(),
+    assert_eq!(rt;
+        set.as_slice(),
+        b"\x89\x06\x00\x08\x01\xFE\x12\0\0\x79\0".as_slice()
     );
     Ok(())
 }
@@ -215,11 +189,7 @@ fn refused_offers(rt: HostRuntime) -> Result<(), Fail> {
     let Err(refusal) = port else {
         return Err(Fail::from("an I/O port is no offer"));
     };
-    same(
-        &rt,
-        &refusal,
-        &Refusal::Resource(ResourceFault::Descriptor(71)),
-    );
+    assert_eq!(rt; refusal, Refusal::Resource(ResourceFault::Descriptor(71)));
     Ok(())
 }
 
@@ -299,12 +269,12 @@ fn current_settings(rt: HostRuntime) -> Result<(), Fail> {
     let bytes =
         b"\x22\x00\x84\x31\x00\x23\x20\x00\x00\x47\x01\x60\x00\x60\x00\x01\x01\x89\x0B\x00\x02\x02\x07\0\0\0\x05\0\0\0\x00\x79\x00";
     let set = current(alloc, bytes)?;
-    same(&rt, &set.len(), &4);
-    is_so(&rt, !set.is_empty());
-    same(&rt, &set.as_slice(), &[5, 7, 10, 15].as_slice());
-    same(&rt, &set.into_vec().as_slice(), &[5, 7, 10, 15].as_slice());
+    assert_eq!(rt; set.len(), 4);
+    assert!(rt; !set.is_empty());
+    assert_eq!(rt; set.as_slice(), [5, 7, 10, 15].as_slice());
+    assert_eq!(rt; set.into_vec().as_slice(), [5, 7, 10, 15].as_slice());
     let none = current(alloc, b"\x79\x00")?;
-    same(&rt, &none.as_slice(), &[].as_slice());
+    assert_eq!(rt; none.as_slice(), [].as_slice());
     Ok(())
 }
 

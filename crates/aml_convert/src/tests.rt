@@ -2,16 +2,3 @@
 mod conversions;
 mod joined;
 mod operators;
-
-use std::fmt::Debug;
-use std::process::Abort;
-
-/// A test fails where something isn't so. It is asserted here alone, since a prover looks for a proof of each assertion.
-pub(crate) fn is_so(rt: &impl Abort, so: bool) {
-    assert!(rt; so);
-}
-
-/// A test fails where a value is another one than is wanted.
-pub(crate) fn same<A: Debug + PartialEq>(rt: &impl Abort, found: &A, wanted: &A) {
-    assert_eq!(rt; found, wanted);
-}

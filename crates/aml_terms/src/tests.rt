@@ -12,19 +12,8 @@ use aml_path::Path;
 use ar_space::Refusal;
 use show::show_list;
 use std::alloc::Global;
-use std::fmt::Debug;
 use std::process::Abort;
 use std::test::*;
-
-/// A test fails where something isn't so. It is asserted here alone, since a prover looks for a proof of each assertion.
-pub(crate) fn is_so(rt: &impl Abort, so: bool) {
-    assert!(rt; so);
-}
-
-/// A test fails where a value is another one than is wanted.
-pub(crate) fn same<A: Debug + PartialEq>(rt: &impl Abort, found: &A, wanted: &A) {
-    assert_eq!(rt; found, wanted);
-}
 
 /// The arities that hold before each list: `\ONE_`, `\TWO_`, `\_OSI` and `\_SB_.INN_` are declared, `\EXT1` is named by an
 /// External.
@@ -104,24 +93,24 @@ fn check(rt: &impl Abort, alloc: Global, cases: &str) -> Result<usize, Fail> {
 
 #[test]
 fn each_row_is_read(rt: HostRuntime) -> Result<(), Fail> {
-    same(&rt, &check(&rt, rt.alloc(), accepted::ACCEPTED)?, &112);
+    assert_eq!(rt; check(&rt, rt.alloc(), accepted::ACCEPTED)?, 112);
     Ok(())
 }
 
 #[test]
 fn each_row_is_refused(rt: HostRuntime) -> Result<(), Fail> {
-    same(&rt, &check(&rt, rt.alloc(), refused::REFUSED)?, &112);
+    assert_eq!(rt; check(&rt, rt.alloc(), refused::REFUSED)?, 112);
     Ok(())
 }
 
 #[test]
 fn rules_of_the_grammar(rt: HostRuntime) -> Result<(), Fail> {
-    is_so(&rt, check(&rt, rt.alloc(), grammar_cases::GRAMMAR)? > 100);
+    assert!(rt; check(&rt, rt.alloc(), grammar_cases::GRAMMAR)? > 100);
     Ok(())
 }
 
 #[test]
 fn worked_bodies(rt: HostRuntime) -> Result<(), Fail> {
-    is_so(&rt, check(&rt, rt.alloc(), worked::WORKED)? > 30);
+    assert!(rt; check(&rt, rt.alloc(), worked::WORKED)? > 30);
     Ok(())
 }

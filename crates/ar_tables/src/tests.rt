@@ -1,19 +1,7 @@
 //! The tables of small machines, byte for byte.
 use crate::{Image, IntegerWidth, MadtEntry, Ssdts, Table, find_tables, madt_entries};
 use ar_space::Refusal;
-use std::fmt::Debug;
-use std::process::Abort;
 use std::test::Fail;
-
-/// A test fails where something isn't so. It is asserted here alone, since a prover looks for a proof of each assertion.
-fn is_so(rt: &impl Abort, so: bool) {
-    assert!(rt; so);
-}
-
-/// A test fails where a value is another one than is wanted.
-fn same<A: Debug + PartialEq>(rt: &impl Abort, found: &A, wanted: &A) {
-    assert_eq!(rt; found, wanted);
-}
 
 /// An RSDP of revision 2, to an XSDT at 1100.
 const RSDP_TO_XSDT: &[u8] =
@@ -58,18 +46,18 @@ fn tables_by_the_xsdt(rt: HostRuntime) -> Result<(), Fail> {
     put(&mut image, 0x1400, MADT)?;
     put(&mut image, 0x1500, SSDT)?;
     let tables = find_tables(rt.alloc(), &image, 0x1000)?;
-    same(&rt, &tables.dsdt.as_slice(), &DSDT);
-    same(&rt, &tables.fadt.as_slice(), &FADT);
-    same(&rt, &tables.fadt.dsdt_address(), &0x1300);
-    same(&rt, &tables.fadt.sci_interrupt(), &9);
-    same(&rt, &tables.width, &IntegerWidth::Bits64);
+    assert_eq!(rt; tables.dsdt.as_slice(), DSDT);
+    assert_eq!(rt; tables.fadt.as_slice(), FADT);
+    assert_eq!(rt; tables.fadt.dsdt_address(), 0x1300);
+    assert_eq!(rt; tables.fadt.sci_interrupt(), 9);
+    assert_eq!(rt; tables.width, IntegerWidth::Bits64);
     let madt = tables.madt.ok_or("no MADT")?;
-    same(&rt, &madt.as_slice(), &MADT);
+    assert_eq!(rt; madt.as_slice(), MADT);
     let ssdts = tables.ssdts.as_slice();
-    same(&rt, &ssdts.len(), &2);
+    assert_eq!(rt; ssdts.len(), 2);
     for ssdt in ssdts {
-        same(&rt, &ssdt.as_slice(), &SSDT);
-        same(&rt, &ssdt.body(), &b"\x08\x5CFOO_\x01".as_slice());
+        assert_eq!(rt; ssdt.as_slice(), SSDT);
+        assert_eq!(rt; ssdt.body(), b"\x08\x5CFOO_\x01".as_slice());
     }
     Ok(())
 }
@@ -82,11 +70,11 @@ fn tables_by_the_rsdt(rt: HostRuntime) -> Result<(), Fail> {
     put(&mut image, 0x1200, FADT)?;
     put(&mut image, 0x1300, OLD_DSDT)?;
     let tables = find_tables(rt.alloc(), &image, 0x1000)?;
-    same(&rt, &tables.dsdt.as_slice(), &OLD_DSDT);
-    same(&rt, &tables.dsdt.body(), &b"\x01".as_slice());
-    same(&rt, &tables.width, &IntegerWidth::Bits32);
-    is_so(&rt, tables.madt.is_none());
-    is_so(&rt, tables.ssdts.into_vec().is_empty());
+    assert_eq!(rt; tables.dsdt.as_slice(), OLD_DSDT);
+    assert_eq!(rt; tables.dsdt.body(), b"\x01".as_slice());
+    assert_eq!(rt; tables.width, IntegerWidth::Bits32);
+    assert!(rt; tables.madt.is_none());
+    assert!(rt; tables.ssdts.into_vec().is_empty());
     Ok(())
 }
 
@@ -113,21 +101,21 @@ fn structures_of_other_types_are_passed_over(rt: HostRuntime) -> Result<(), Fail
         gsi: 20,
         flags: 0x000D,
     };
-    same(&rt, &entries.next(), &Some(io_apic));
-    same(&rt, &entries.next(), &Some(source_override));
-    same(&rt, &entries.next(), &None);
-    same(&rt, &entries.next(), &None);
+    assert_eq!(rt; entries.next(), Some(io_apic));
+    assert_eq!(rt; entries.next(), Some(source_override));
+    assert_eq!(rt; entries.next(), None);
+    assert_eq!(rt; entries.next(), None);
     Ok(())
 }
 
 #[test]
 fn tables_of_bytes_give_them_back(rt: HostRuntime) -> Result<(), Fail> {
     let bytes = Vec::from_slice(rt.alloc(), SSDT)?;
-    is_so(&rt, bytes.len() >= 36);
+    assert!(rt; bytes.len() >= 36);
     let table = Table::from_vec(bytes);
     let ssdts = Ssdts::from_vec(vec![in rt.alloc(); table]?);
     for table in ssdts.into_vec() {
-        same(&rt, &table.into_vec().as_slice(), &SSDT);
+        assert_eq!(rt; table.into_vec().as_slice(), SSDT);
     }
     Ok(())
 }

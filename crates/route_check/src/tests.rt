@@ -4,14 +4,7 @@ use aml_path::Path;
 use ar_space::Refusal;
 use route_model::Link;
 use std::alloc::Global;
-use std::fmt::Debug;
-use std::process::Abort;
 use std::test::Fail;
-
-/// A test fails where a value is another one than is wanted.
-fn same<A: Debug + PartialEq>(rt: &impl Abort, found: &A, wanted: &A) {
-    assert_eq!(rt; found, wanted);
-}
 
 fn path(alloc: Global, name: &str) -> Result<Path, Refusal> {
     Path::from_text(alloc, name.as_bytes())
@@ -74,9 +67,9 @@ fn two_links(alloc: Global) -> Result<Claim, Refusal> {
 fn claims_that_hold(rt: HostRuntime) -> Result<(), Fail> {
     let alloc = rt.alloc();
     let mut whole = two_links(alloc)?;
-    same(&rt, &check(&whole), &Ok(()));
+    assert_eq!(rt; check(&whole), Ok(()));
     whole.bound = bound(alloc, &["\\_SB.LNKB", "\\_SB.LNKA"], &[10, 5])?;
-    same(&rt, &check(&whole), &Ok(()));
+    assert_eq!(rt; check(&whole), Ok(()));
     let mut fewer_offers = claim(
         alloc,
         &[("\\_SB.LNKA", &[5]), ("\\_SB.LNKB", &[5])],
@@ -85,14 +78,14 @@ fn claims_that_hold(rt: HostRuntime) -> Result<(), Fail> {
         2,
     )?;
     fewer_offers.bound = bound(alloc, &["\\_SB.LNKA", "\\_SB.LNKB"], &[5, 10])?;
-    same(&rt, &check(&fewer_offers), &Ok(()));
-    same(&rt, &check(&claim(alloc, &[], &[], &[], 0)?), &Ok(()));
+    assert_eq!(rt; check(&fewer_offers), Ok(()));
+    assert_eq!(rt; check(&claim(alloc, &[], &[], &[], 0)?), Ok(()));
     let mut one = claim(alloc, &[("\\A", &[17])], &[(16, 2)], &[("\\A", 17)], 2)?;
     one.bound = bound(alloc, &[], &[16])?;
-    same(&rt, &check(&one), &Ok(()));
+    assert_eq!(rt; check(&one), Ok(()));
     let mut busy = claim(alloc, &[], &[(7, u32::MAX)], &[], u32::MAX)?;
     busy.bound = bound(alloc, &[], &[7])?;
-    same(&rt, &check(&busy), &Ok(()));
+    assert_eq!(rt; check(&busy), Ok(()));
     Ok(())
 }
 
@@ -101,22 +94,22 @@ fn sets_that_prove_nothing(rt: HostRuntime) -> Result<(), Fail> {
     let alloc = rt.alloc();
     let mut whole = two_links(alloc)?;
     whole.bound = bound(alloc, &["\\_SB.LNKB", "\\_SB.LNKB"], &[5, 10])?;
-    same(&rt, &check(&whole), &Err(Flaw::Repeated));
+    assert_eq!(rt; check(&whole), Err(Flaw::Repeated));
     whole.bound = bound(alloc, &["\\_SB.LNKB"], &[5])?;
-    same(&rt, &check(&whole), &Err(Flaw::CountTooSmall));
+    assert_eq!(rt; check(&whole), Err(Flaw::CountTooSmall));
     whole.bound = bound(alloc, &["\\_SB.LNKA", "\\_SB.LNKB"], &[5])?;
-    same(&rt, &check(&whole), &Err(Flaw::OfferOutsideSet));
+    assert_eq!(rt; check(&whole), Err(Flaw::OfferOutsideSet));
     whole.bound = bound(alloc, &["\\_SB.LNKC"], &[5])?;
-    same(&rt, &check(&whole), &Err(Flaw::LinkMissing));
+    assert_eq!(rt; check(&whole), Err(Flaw::LinkMissing));
     whole.bound = bound(alloc, &[], &[])?;
-    same(&rt, &check(&whole), &Err(Flaw::SetEmpty));
+    assert_eq!(rt; check(&whole), Err(Flaw::SetEmpty));
     whole.bound = None;
-    same(&rt, &check(&whole), &Err(Flaw::SetEmpty));
+    assert_eq!(rt; check(&whole), Err(Flaw::SetEmpty));
     whole.busiest = 1;
-    same(&rt, &check(&whole), &Err(Flaw::BusiestWrong));
+    assert_eq!(rt; check(&whole), Err(Flaw::BusiestWrong));
     let mut over = two_links(alloc)?;
     over.bound = bound(alloc, &["\\_SB.LNKA", "\\_SB.LNKB"], &[5, 10, 5])?;
-    same(&rt, &check(&over), &Err(Flaw::Repeated));
+    assert_eq!(rt; check(&over), Err(Flaw::Repeated));
     Ok(())
 }
 
@@ -130,11 +123,11 @@ fn names_that_stand_twice_or_not_at_all(rt: HostRuntime) -> Result<(), Fail> {
         &[("\\A", 5)],
         2,
     )?;
-    same(&rt, &check(&twice), &Err(Flaw::Repeated));
+    assert_eq!(rt; check(&twice), Err(Flaw::Repeated));
     let given_twice = claim(alloc, &[("\\A", &[5])], &[], &[("\\A", 5), ("\\A", 5)], 1)?;
-    same(&rt, &check(&given_twice), &Err(Flaw::Repeated));
+    assert_eq!(rt; check(&given_twice), Err(Flaw::Repeated));
     let wired_twice = claim(alloc, &[], &[(5, 1), (5, 1)], &[], 2)?;
-    same(&rt, &check(&wired_twice), &Err(Flaw::Repeated));
+    assert_eq!(rt; check(&wired_twice), Err(Flaw::Repeated));
     let not_given = claim(
         alloc,
         &[("\\A", &[5]), ("\\B", &[5])],
@@ -142,11 +135,11 @@ fn names_that_stand_twice_or_not_at_all(rt: HostRuntime) -> Result<(), Fail> {
         &[("\\A", 5)],
         1,
     )?;
-    same(&rt, &check(&not_given), &Err(Flaw::LinkMissing));
+    assert_eq!(rt; check(&not_given), Err(Flaw::LinkMissing));
     let no_link = claim(alloc, &[("\\A", &[5])], &[], &[("\\A", 5), ("\\B", 5)], 1)?;
-    same(&rt, &check(&no_link), &Err(Flaw::LinkMissing));
+    assert_eq!(rt; check(&no_link), Err(Flaw::LinkMissing));
     let not_offered = claim(alloc, &[("\\A", &[5])], &[], &[("\\A", 6)], 2)?;
-    same(&rt, &check(&not_offered), &Err(Flaw::NotOffered));
+    assert_eq!(rt; check(&not_offered), Err(Flaw::NotOffered));
     Ok(())
 }
 
@@ -155,7 +148,7 @@ fn names_that_stand_twice_or_not_at_all(rt: HostRuntime) -> Result<(), Fail> {
 fn flaws_in_order(rt: HostRuntime) -> Result<(), Fail> {
     let alloc = rt.alloc();
     let repeated = claim(alloc, &[("\\A", &[5]), ("\\A", &[5])], &[], &[], 2)?;
-    same(&rt, &check(&repeated), &Err(Flaw::Repeated));
+    assert_eq!(rt; check(&repeated), Err(Flaw::Repeated));
     let missing = claim(
         alloc,
         &[("\\A", &[5]), ("\\B", &[5])],
@@ -163,14 +156,14 @@ fn flaws_in_order(rt: HostRuntime) -> Result<(), Fail> {
         &[("\\A", 6)],
         1,
     )?;
-    same(&rt, &check(&missing), &Err(Flaw::LinkMissing));
+    assert_eq!(rt; check(&missing), Err(Flaw::LinkMissing));
     let unoffered = claim(alloc, &[("\\A", &[5])], &[], &[("\\A", 6)], 9)?;
-    same(&rt, &check(&unoffered), &Err(Flaw::NotOffered));
+    assert_eq!(rt; check(&unoffered), Err(Flaw::NotOffered));
     let wrong = claim(alloc, &[("\\A", &[5])], &[], &[("\\A", 5)], 9)?;
-    same(&rt, &check(&wrong), &Err(Flaw::BusiestWrong));
+    assert_eq!(rt; check(&wrong), Err(Flaw::BusiestWrong));
     let mut outside = two_links(alloc)?;
     outside.bound = bound(alloc, &["\\_SB.LNKA"], &[7])?;
-    same(&rt, &check(&outside), &Err(Flaw::OfferOutsideSet));
+    assert_eq!(rt; check(&outside), Err(Flaw::OfferOutsideSet));
     Ok(())
 }
 
@@ -185,7 +178,7 @@ fn numbers_of_flaws(rt: HostRuntime) -> Result<(), Fail> {
         (Flaw::CountTooSmall, 6),
         (Flaw::SetEmpty, 7),
     ] {
-        same(&rt, &flaw.number(), &number);
+        assert_eq!(rt; flaw.number(), number);
     }
     Ok(())
 }

@@ -4,19 +4,8 @@ use aml_path::{Path, Seg};
 use ar_space::Refusal;
 use route_model::Link;
 use std::alloc::Global;
-use std::fmt::Debug;
 use std::process::Abort;
 use std::test::Fail;
-
-/// A test fails where something isn't so. It is asserted here alone, since a prover looks for a proof of each assertion.
-fn is_so(rt: &impl Abort, so: bool) {
-    assert!(rt; so);
-}
-
-/// A test fails where a value is another one than is wanted.
-fn same<A: Debug + PartialEq>(rt: &impl Abort, found: &A, wanted: &A) {
-    assert_eq!(rt; found, wanted);
-}
 
 /// The path of the link at a place: `\L000`, `\L001` and so on, which are in path order.
 fn path(alloc: Global, place: usize) -> Result<Path, Refusal> {
@@ -54,16 +43,15 @@ fn solved(
     wired: &[(u32, u32)],
 ) -> Result<Answer, Refusal> {
     let problem = problem(alloc, offers, wired)?;
-    is_so(rt, fits(&problem));
+    assert!(rt; fits(&problem));
     let answer = solve(alloc, &problem)?;
     let searched = Solver::new(alloc, &problem)?.search();
-    same(rt, &answer.choice.as_slice(), &searched.choice.as_slice());
-    same(rt, &answer.busiest, &searched.busiest);
-    same(rt, &answer.links.as_slice(), &searched.links.as_slice());
-    same(
-        rt,
-        &answer.interrupts.as_slice(),
-        &searched.interrupts.as_slice(),
+    assert_eq!(rt; answer.choice.as_slice(), searched.choice.as_slice());
+    assert_eq!(rt; answer.busiest, searched.busiest);
+    assert_eq!(rt; answer.links.as_slice(), searched.links.as_slice());
+    assert_eq!(rt;
+        answer.interrupts.as_slice(),
+        searched.interrupts.as_slice()
     );
     Ok(answer)
 }
@@ -86,17 +74,17 @@ fn is_answer(
 fn small_problems(rt: HostRuntime) -> Result<(), Fail> {
     let alloc = rt.alloc();
     let none = solved(&rt, alloc, &[], &[])?;
-    is_so(&rt, is_answer(&none, &[], 0, &[], &[]));
+    assert!(rt; is_answer(&none, &[], 0, &[], &[]));
     let shared = solved(&rt, alloc, &[&[5, 10], &[5]], &[(10, 1)])?;
-    is_so(&rt, is_answer(&shared, &[5, 5], 2, &[0, 1], &[5, 10]));
+    assert!(rt; is_answer(&shared, &[5, 5], 2, &[0, 1], &[5, 10]));
     let moved = solved(&rt, alloc, &[&[5, 10], &[5]], &[])?;
-    is_so(&rt, is_answer(&moved, &[10, 5], 1, &[0], &[5, 10]));
+    assert!(rt; is_answer(&moved, &[10, 5], 1, &[0], &[5, 10]));
     let first_of_two = solved(&rt, alloc, &[&[5, 10], &[5, 10]], &[])?;
-    is_so(&rt, is_answer(&first_of_two, &[5, 10], 1, &[0], &[5, 10]));
+    assert!(rt; is_answer(&first_of_two, &[5, 10], 1, &[0], &[5, 10]));
     let wired = solved(&rt, alloc, &[&[17]], &[(16, 2)])?;
-    is_so(&rt, is_answer(&wired, &[17], 2, &[], &[16]));
+    assert!(rt; is_answer(&wired, &[17], 2, &[], &[16]));
     let one_link = solved(&rt, alloc, &[&[5]], &[(10, 1)])?;
-    is_so(&rt, is_answer(&one_link, &[5], 1, &[], &[10]));
+    assert!(rt; is_answer(&one_link, &[5], 1, &[], &[10]));
     Ok(())
 }
 
@@ -104,14 +92,11 @@ fn small_problems(rt: HostRuntime) -> Result<(), Fail> {
 fn sets_with_fewer_links_than_the_problem(rt: HostRuntime) -> Result<(), Fail> {
     let alloc = rt.alloc();
     let crowded = solved(&rt, alloc, &[&[11], &[5, 10], &[5, 10], &[5, 10]], &[])?;
-    is_so(
-        &rt,
-        is_answer(&crowded, &[11, 5, 5, 10], 2, &[1, 2, 3], &[5, 10]),
-    );
+    assert!(rt; is_answer(&crowded, &[11, 5, 5, 10], 2, &[1, 2, 3], &[5, 10]));
     let chain = solved(&rt, alloc, &[&[5, 10, 11], &[5], &[10]], &[])?;
-    is_so(&rt, is_answer(&chain, &[11, 5, 10], 1, &[0], &[5, 10, 11]));
+    assert!(rt; is_answer(&chain, &[11, 5, 10], 1, &[0], &[5, 10, 11]));
     let apart = solved(&rt, alloc, &[&[5], &[5], &[10, 11, 12]], &[])?;
-    is_so(&rt, is_answer(&apart, &[5, 5, 10], 2, &[0, 1], &[5]));
+    assert!(rt; is_answer(&apart, &[5, 5, 10], 2, &[0, 1], &[5]));
     Ok(())
 }
 
@@ -127,33 +112,33 @@ fn the_largest_problem(rt: HostRuntime) -> Result<(), Fail> {
         links,
         wired: Vec::new(alloc),
     };
-    is_so(&rt, fits(&problem));
+    assert!(rt; fits(&problem));
     let answer = solve(alloc, &problem)?;
-    same(&rt, &answer.busiest, &2);
+    assert_eq!(rt; answer.busiest, 2);
     for (place, n) in answer.choice.iter().enumerate() {
-        same(&rt, &(*n as usize), &(place / 2 + 1));
+        assert_eq!(rt; *n as usize, place / 2 + 1);
     }
-    same(&rt, &answer.choice.len(), &256);
+    assert_eq!(rt; answer.choice.len(), 256);
     for (place, l) in answer.links.iter().enumerate() {
-        same(&rt, &*l, &place);
+        assert_eq!(rt; *l, place);
     }
-    same(&rt, &answer.links.len(), &256);
-    same(&rt, &answer.interrupts.as_slice(), &interrupts.as_slice());
+    assert_eq!(rt; answer.links.len(), 256);
+    assert_eq!(rt; answer.interrupts.as_slice(), interrupts.as_slice());
     Ok(())
 }
 
 #[test]
 fn problems_that_fit(rt: HostRuntime) -> Result<(), Fail> {
     let alloc = rt.alloc();
-    is_so(&rt, fits(&problem(alloc, &[], &[(0, 4096)])?));
-    is_so(&rt, !fits(&problem(alloc, &[], &[(0, 4096), (1, 1)])?));
-    is_so(&rt, !fits(&problem(alloc, &[], &[(0, u32::MAX), (1, 1)])?));
-    is_so(&rt, !fits(&problem(alloc, &[], &[(5, 1), (5, 1)])?));
-    is_so(&rt, !fits(&problem(alloc, &[], &[(6, 1), (5, 1)])?));
-    is_so(&rt, fits(&problem(alloc, &[&[5], &[5]], &[(5, 0)])?));
-    is_so(&rt, !fits(&problem(alloc, &[&[5], &[]], &[])?));
-    is_so(&rt, !fits(&problem(alloc, &[&[5, 5]], &[])?));
-    is_so(&rt, !fits(&problem(alloc, &[&[6, 5]], &[])?));
+    assert!(rt; fits(&problem(alloc, &[], &[(0, 4096)])?));
+    assert!(rt; !fits(&problem(alloc, &[], &[(0, 4096), (1, 1)])?));
+    assert!(rt; !fits(&problem(alloc, &[], &[(0, u32::MAX), (1, 1)])?));
+    assert!(rt; !fits(&problem(alloc, &[], &[(5, 1), (5, 1)])?));
+    assert!(rt; !fits(&problem(alloc, &[], &[(6, 1), (5, 1)])?));
+    assert!(rt; fits(&problem(alloc, &[&[5], &[5]], &[(5, 0)])?));
+    assert!(rt; !fits(&problem(alloc, &[&[5], &[]], &[])?));
+    assert!(rt; !fits(&problem(alloc, &[&[5, 5]], &[])?));
+    assert!(rt; !fits(&problem(alloc, &[&[6, 5]], &[])?));
     let mut swapped = problem(alloc, &[], &[])?;
     swapped
         .links
@@ -161,12 +146,12 @@ fn problems_that_fit(rt: HostRuntime) -> Result<(), Fail> {
     swapped
         .links
         .push(Link::new(path(alloc, 0)?, vec![in alloc; 5]?))?;
-    is_so(&rt, !fits(&swapped));
+    assert!(rt; !fits(&swapped));
     let mut twice = problem(alloc, &[&[5]], &[])?;
     twice
         .links
         .push(Link::new(path(alloc, 0)?, vec![in alloc; 5]?))?;
-    is_so(&rt, !fits(&twice));
+    assert!(rt; !fits(&twice));
     Ok(())
 }
 
@@ -181,10 +166,10 @@ fn problems_that_are_too_large(rt: HostRuntime) -> Result<(), Fail> {
         links,
         wired: Vec::new(alloc),
     };
-    is_so(&rt, !fits(&many));
+    assert!(rt; !fits(&many));
     let most = numbers(alloc, 255)?;
-    is_so(&rt, fits(&problem(alloc, &[most.as_slice()], &[])?));
+    assert!(rt; fits(&problem(alloc, &[most.as_slice()], &[])?));
     let too_many = numbers(alloc, 256)?;
-    is_so(&rt, !fits(&problem(alloc, &[too_many.as_slice()], &[])?));
+    assert!(rt; !fits(&problem(alloc, &[too_many.as_slice()], &[])?));
     Ok(())
 }

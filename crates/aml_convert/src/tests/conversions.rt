@@ -1,5 +1,4 @@
 //! Conversions between integers, strings and buffers.
-use crate::tests::{is_so, same};
 use crate::{
     Comparison, compare, explicit_integer, holds, to_buffer, to_integer, to_text, truncate,
     truncate_integer,
@@ -31,42 +30,31 @@ fn strings_as_integers(rt: HostRuntime) -> Result<(), Fail> {
         (b" 12", 0, 0),
     ];
     for (text, in_32_bits, in_64_bits) in &cases {
-        same(
-            &rt,
-            &to_integer(BITS32, Content::String(text)),
-            &Ok(*in_32_bits),
-        );
-        same(
-            &rt,
-            &to_integer(BITS64, Content::String(text)),
-            &Ok(*in_64_bits),
-        );
+        assert_eq!(rt; to_integer(BITS32, Content::String(text)), Ok(*in_32_bits));
+        assert_eq!(rt; to_integer(BITS64, Content::String(text)), Ok(*in_64_bits));
     }
-    same(&rt, &to_integer(BITS64, Content::String(b"")), &Err(EMPTY));
+    assert_eq!(rt; to_integer(BITS64, Content::String(b"")), Err(EMPTY));
     Ok(())
 }
 
 #[test]
 fn other_values_as_integers(rt: HostRuntime) -> Result<(), Fail> {
     let bytes = [1, 2, 3, 4, 5, 6, 7, 8, 9];
-    same(
-        &rt,
-        &to_integer(BITS32, Content::Buffer(&bytes)),
-        &Ok(0x0403_0201),
+    assert_eq!(rt;
+        to_integer(BITS32, Content::Buffer(&bytes)),
+        Ok(0x0403_0201)
     );
-    same(
-        &rt,
-        &to_integer(BITS64, Content::Buffer(&bytes)),
-        &Ok(0x0807_0605_0403_0201),
+    assert_eq!(rt;
+        to_integer(BITS64, Content::Buffer(&bytes)),
+        Ok(0x0807_0605_0403_0201)
     );
-    same(
-        &rt,
-        &to_integer(BITS64, Content::Buffer(&[0x34, 0x12])),
-        &Ok(0x1234),
+    assert_eq!(rt;
+        to_integer(BITS64, Content::Buffer(&[0x34, 0x12])),
+        Ok(0x1234)
     );
-    same(&rt, &to_integer(BITS32, Content::Buffer(&[])), &Err(EMPTY));
-    same(&rt, &to_integer(BITS32, Content::Integer(7)), &Ok(7));
-    same(&rt, &to_integer(BITS32, Content::Other), &Err(WRONG_TYPE));
+    assert_eq!(rt; to_integer(BITS32, Content::Buffer(&[])), Err(EMPTY));
+    assert_eq!(rt; to_integer(BITS32, Content::Integer(7)), Ok(7));
+    assert_eq!(rt; to_integer(BITS32, Content::Other), Err(WRONG_TYPE));
     Ok(())
 }
 
@@ -83,33 +71,16 @@ fn numerals(rt: HostRuntime) -> Result<(), Fail> {
         (b"0x10000000000000002", 2),
     ];
     for (text, want) in &cases {
-        same(
-            &rt,
-            &explicit_integer(BITS64, Content::String(text)),
-            &Ok(*want),
-        );
+        assert_eq!(rt; explicit_integer(BITS64, Content::String(text)), Ok(*want));
     }
-    same(
-        &rt,
-        &explicit_integer(BITS32, Content::String(b"4294967298")),
-        &Ok(2),
+    assert_eq!(rt;
+        explicit_integer(BITS32, Content::String(b"4294967298")),
+        Ok(2)
     );
-    same(
-        &rt,
-        &explicit_integer(BITS32, Content::String(b"")),
-        &Err(EMPTY),
-    );
-    same(
-        &rt,
-        &explicit_integer(BITS32, Content::Buffer(&[5])),
-        &Ok(5),
-    );
-    same(&rt, &explicit_integer(BITS32, Content::Integer(6)), &Ok(6));
-    same(
-        &rt,
-        &explicit_integer(BITS32, Content::Other),
-        &Err(WRONG_TYPE),
-    );
+    assert_eq!(rt; explicit_integer(BITS32, Content::String(b"")), Err(EMPTY));
+    assert_eq!(rt; explicit_integer(BITS32, Content::Buffer(&[5])), Ok(5));
+    assert_eq!(rt; explicit_integer(BITS32, Content::Integer(6)), Ok(6));
+    assert_eq!(rt; explicit_integer(BITS32, Content::Other), Err(WRONG_TYPE));
     Ok(())
 }
 
@@ -130,12 +101,11 @@ fn values_as_strings(rt: HostRuntime) -> Result<(), Fail> {
         (BITS64, Content::Buffer(&[]), b""),
     ];
     for (width, content, want) in &cases {
-        same(&rt, &to_text(alloc, *width, *content)?.as_slice(), &*want);
+        assert_eq!(rt; to_text(alloc, *width, *content)?.as_slice(), *want);
     }
-    same(
-        &rt,
-        &to_text(alloc, BITS64, Content::Other).err(),
-        &Some(WRONG_TYPE),
+    assert_eq!(rt;
+        to_text(alloc, BITS64, Content::Other).err(),
+        Some(WRONG_TYPE)
     );
     Ok(())
 }
@@ -152,12 +122,11 @@ fn values_as_buffers(rt: HostRuntime) -> Result<(), Fail> {
         (BITS32, Content::Buffer(&[]), &[]),
     ];
     for (width, content, want) in &cases {
-        same(&rt, &to_buffer(alloc, *width, *content)?.as_slice(), &*want);
+        assert_eq!(rt; to_buffer(alloc, *width, *content)?.as_slice(), *want);
     }
-    same(
-        &rt,
-        &to_buffer(alloc, BITS64, Content::Other).err(),
-        &Some(WRONG_TYPE),
+    assert_eq!(rt;
+        to_buffer(alloc, BITS64, Content::Other).err(),
+        Some(WRONG_TYPE)
     );
     Ok(())
 }
@@ -200,33 +169,30 @@ fn orders(rt: HostRuntime) -> Result<(), Fail> {
         (Content::Buffer(&[]), Content::String(b""), Ordering::Equal),
     ];
     for (first, second, want) in &cases {
-        same(&rt, &compare(alloc, BITS64, *first, *second)?, &*want);
+        assert_eq!(rt; compare(alloc, BITS64, *first, *second)?, *want);
     }
-    same(
-        &rt,
-        &compare(alloc, BITS64, Content::Other, Content::Integer(1)).err(),
-        &Some(WRONG_TYPE),
+    assert_eq!(rt;
+        compare(alloc, BITS64, Content::Other, Content::Integer(1)).err(),
+        Some(WRONG_TYPE)
     );
-    same(
-        &rt,
-        &compare(alloc, BITS64, Content::Integer(1), Content::String(b"")).err(),
-        &Some(EMPTY),
+    assert_eq!(rt;
+        compare(alloc, BITS64, Content::Integer(1), Content::String(b"")).err(),
+        Some(EMPTY)
     );
-    is_so(&rt, holds(Comparison::Equal, Ordering::Equal));
-    is_so(&rt, holds(Comparison::Greater, Ordering::Greater));
-    is_so(&rt, holds(Comparison::Less, Ordering::Less));
-    is_so(&rt, !holds(Comparison::Less, Ordering::Equal));
+    assert!(rt; holds(Comparison::Equal, Ordering::Equal));
+    assert!(rt; holds(Comparison::Greater, Ordering::Greater));
+    assert!(rt; holds(Comparison::Less, Ordering::Less));
+    assert!(rt; !holds(Comparison::Less, Ordering::Equal));
     Ok(())
 }
 
 #[test]
 fn integers_keep_their_lowest_bits(rt: HostRuntime) {
-    same(&rt, &truncate(BITS32, 0x1_0000_0001), &1);
-    same(&rt, &truncate(BITS64, 0x1_0000_0000_0000_0002), &2);
-    same(&rt, &truncate_integer(BITS32, 0xFFFF_FFFF_0000_0003), &3);
-    same(
-        &rt,
-        &truncate_integer(BITS64, 0xFFFF_FFFF_0000_0003),
-        &0xFFFF_FFFF_0000_0003,
+    assert_eq!(rt; truncate(BITS32, 0x1_0000_0001), 1);
+    assert_eq!(rt; truncate(BITS64, 0x1_0000_0000_0000_0002), 2);
+    assert_eq!(rt; truncate_integer(BITS32, 0xFFFF_FFFF_0000_0003), 3);
+    assert_eq!(rt;
+        truncate_integer(BITS64, 0xFFFF_FFFF_0000_0003),
+        0xFFFF_FFFF_0000_0003
     );
 }

@@ -1,5 +1,4 @@
 //! Values joined.
-use crate::tests::{is_so, same};
 use crate::{Joined, concat, concat_resources};
 use aml_objects::Content;
 use ar_space::{IntegerWidth, Refusal, ResourceFault, ValueFault};
@@ -20,22 +19,20 @@ fn strings_joined(rt: HostRuntime) -> Result<(), Fail> {
     let alloc = rt.alloc();
     let first = Content::String(b"A");
     match concat(alloc, BITS32, first, Content::Integer(0xFF))? {
-        Joined::String(text) => same(&rt, &text.as_slice(), &b"A000000FF".as_slice()),
-        Joined::Buffer(_) => is_so(&rt, false),
+        Joined::String(text) => assert_eq!(rt; text.as_slice(), b"A000000FF".as_slice()),
+        Joined::Buffer(_) => assert!(rt; false),
     }
     match concat(alloc, BITS64, first, Content::Buffer(&[1, 2]))? {
-        Joined::String(text) => same(&rt, &text.as_slice(), &b"A01 02".as_slice()),
-        Joined::Buffer(_) => is_so(&rt, false),
+        Joined::String(text) => assert_eq!(rt; text.as_slice(), b"A01 02".as_slice()),
+        Joined::Buffer(_) => assert!(rt; false),
     }
-    same(
-        &rt,
-        &concat(alloc, BITS64, first, Content::Other).err(),
-        &Some(WRONG_TYPE),
+    assert_eq!(rt;
+        concat(alloc, BITS64, first, Content::Other).err(),
+        Some(WRONG_TYPE)
     );
-    same(
-        &rt,
-        &concat(alloc, BITS64, Content::Other, first).err(),
-        &Some(WRONG_TYPE),
+    assert_eq!(rt;
+        concat(alloc, BITS64, Content::Other, first).err(),
+        Some(WRONG_TYPE)
     );
     Ok(())
 }
@@ -44,22 +41,20 @@ fn strings_joined(rt: HostRuntime) -> Result<(), Fail> {
 fn buffers_joined(rt: HostRuntime) -> Result<(), Fail> {
     let alloc = rt.alloc();
     match concat(alloc, BITS32, Content::Integer(1), Content::String(b"10"))? {
-        Joined::Buffer(bytes) => same(
-            &rt,
-            &bytes.as_slice(),
-            &[1, 0, 0, 0, 16, 0, 0, 0].as_slice(),
+        Joined::Buffer(bytes) => assert_eq!(rt;
+            bytes.as_slice(),
+            [1, 0, 0, 0, 16, 0, 0, 0].as_slice()
         ),
-        Joined::String(_) => is_so(&rt, false),
+        Joined::String(_) => assert!(rt; false),
     }
     match concat(alloc, BITS64, Content::Buffer(&[9]), Content::String(b"A"))? {
-        Joined::Buffer(bytes) => same(&rt, &bytes.as_slice(), &[9, 65, 0].as_slice()),
-        Joined::String(_) => is_so(&rt, false),
+        Joined::Buffer(bytes) => assert_eq!(rt; bytes.as_slice(), [9, 65, 0].as_slice()),
+        Joined::String(_) => assert!(rt; false),
     }
     let empty = Content::String(b"");
-    same(
-        &rt,
-        &concat(alloc, BITS64, Content::Integer(1), empty).err(),
-        &Some(EMPTY),
+    assert_eq!(rt;
+        concat(alloc, BITS64, Content::Integer(1), empty).err(),
+        Some(EMPTY)
     );
     Ok(())
 }
@@ -77,11 +72,7 @@ fn resource_items_joined(rt: HostRuntime) -> Result<(), Fail> {
         (empty, empty, b"\x79\x00"),
     ];
     for (first, second, want) in &cases {
-        same(
-            &rt,
-            &concat_resources(alloc, *first, *second)?.as_slice(),
-            &*want,
-        );
+        assert_eq!(rt; concat_resources(alloc, *first, *second)?.as_slice(), *want);
     }
     let no_end: [&[u8]; 4] = [
         b"\x79",
@@ -91,14 +82,10 @@ fn resource_items_joined(rt: HostRuntime) -> Result<(), Fail> {
     ];
     for bytes in &no_end {
         let cut = Content::Buffer(bytes);
-        same(&rt, &concat_resources(alloc, cut, irq).err(), &Some(NO_END));
-        same(&rt, &concat_resources(alloc, irq, cut).err(), &Some(NO_END));
+        assert_eq!(rt; concat_resources(alloc, cut, irq).err(), Some(NO_END));
+        assert_eq!(rt; concat_resources(alloc, irq, cut).err(), Some(NO_END));
         let text = Content::String(b"\x79\x00");
-        same(
-            &rt,
-            &concat_resources(alloc, cut, text).err(),
-            &Some(WRONG_TYPE),
-        );
+        assert_eq!(rt; concat_resources(alloc, cut, text).err(), Some(WRONG_TYPE));
     }
     Ok(())
 }

@@ -1,5 +1,4 @@
 //! Operators on integers.
-use crate::tests::{is_so, same};
 use crate::{
     BinaryOperator, Division, LogicalOperator, UnaryOperator, divide, is_true, logical_not,
     operate, operate_logically, operate_on_one, truth,
@@ -38,23 +37,20 @@ fn two_integers(rt: HostRuntime) -> Result<(), Fail> {
         (BinaryOperator::ShiftRight, 1, ONES, 0, 0),
     ];
     for (operator, x, y, in_32_bits, in_64_bits) in &cases {
-        same(&rt, &operate(*operator, BITS32, *x, *y), &Ok(*in_32_bits));
-        same(&rt, &operate(*operator, BITS64, *x, *y), &Ok(*in_64_bits));
+        assert_eq!(rt; operate(*operator, BITS32, *x, *y), Ok(*in_32_bits));
+        assert_eq!(rt; operate(*operator, BITS64, *x, *y), Ok(*in_64_bits));
     }
-    same(
-        &rt,
-        &operate(BinaryOperator::ShiftRight, BITS64, ONES, 32),
-        &Ok(0xFFFF_FFFF),
+    assert_eq!(rt;
+        operate(BinaryOperator::ShiftRight, BITS64, ONES, 32),
+        Ok(0xFFFF_FFFF)
     );
-    same(
-        &rt,
-        &operate(BinaryOperator::Multiply, BITS64, ONES, ONES),
-        &Ok(1),
+    assert_eq!(rt;
+        operate(BinaryOperator::Multiply, BITS64, ONES, ONES),
+        Ok(1)
     );
-    same(
-        &rt,
-        &operate(BinaryOperator::Mod, BITS64, 7, 0),
-        &Err(DIVIDE_BY_ZERO),
+    assert_eq!(rt;
+        operate(BinaryOperator::Mod, BITS64, 7, 0),
+        Err(DIVIDE_BY_ZERO)
     );
     Ok(())
 }
@@ -65,8 +61,8 @@ fn divisions(rt: HostRuntime) {
         quotient: 3,
         remainder: 1,
     };
-    same(&rt, &divide(7, 2), &Ok(want));
-    same(&rt, &divide(7, 0), &Err(DIVIDE_BY_ZERO));
+    assert_eq!(rt; divide(7, 2), Ok(want));
+    assert_eq!(rt; divide(7, 0), Err(DIVIDE_BY_ZERO));
 }
 
 #[test]
@@ -82,48 +78,30 @@ fn one_integer(rt: HostRuntime) {
         (UnaryOperator::FindSetRightBit, 0x8000_0000, 32, 32),
     ];
     for (operator, x, in_32_bits, in_64_bits) in &cases {
-        same(&rt, &operate_on_one(*operator, BITS32, *x), &*in_32_bits);
-        same(&rt, &operate_on_one(*operator, BITS64, *x), &*in_64_bits);
+        assert_eq!(rt; operate_on_one(*operator, BITS32, *x), *in_32_bits);
+        assert_eq!(rt; operate_on_one(*operator, BITS64, *x), *in_64_bits);
     }
-    same(
-        &rt,
-        &operate_on_one(UnaryOperator::FindSetLeftBit, BITS64, ONES),
-        &64,
+    assert_eq!(rt;
+        operate_on_one(UnaryOperator::FindSetLeftBit, BITS64, ONES),
+        64
     );
-    same(
-        &rt,
-        &operate_on_one(UnaryOperator::FindSetRightBit, BITS64, 1 << 63),
-        &64,
+    assert_eq!(rt;
+        operate_on_one(UnaryOperator::FindSetRightBit, BITS64, 1 << 63),
+        64
     );
 }
 
 #[test]
 fn truth_values(rt: HostRuntime) {
-    same(&rt, &truth(BITS32, true), &0xFFFF_FFFF);
-    same(&rt, &truth(BITS64, true), &ONES);
-    same(&rt, &truth(BITS64, false), &0);
-    is_so(&rt, is_true(2));
-    is_so(&rt, !is_true(0));
-    same(
-        &rt,
-        &operate_logically(LogicalOperator::And, BITS64, 1, 2),
-        &ONES,
-    );
-    same(
-        &rt,
-        &operate_logically(LogicalOperator::And, BITS64, 1, 0),
-        &0,
-    );
-    same(
-        &rt,
-        &operate_logically(LogicalOperator::Or, BITS64, 0, 2),
-        &ONES,
-    );
-    same(
-        &rt,
-        &operate_logically(LogicalOperator::Or, BITS32, 0, 0),
-        &0,
-    );
-    same(&rt, &logical_not(BITS32, 0), &0xFFFF_FFFF);
-    same(&rt, &logical_not(BITS32, 5), &0);
+    assert_eq!(rt; truth(BITS32, true), 0xFFFF_FFFF);
+    assert_eq!(rt; truth(BITS64, true), ONES);
+    assert_eq!(rt; truth(BITS64, false), 0);
+    assert!(rt; is_true(2));
+    assert!(rt; !is_true(0));
+    assert_eq!(rt; operate_logically(LogicalOperator::And, BITS64, 1, 2), ONES);
+    assert_eq!(rt; operate_logically(LogicalOperator::And, BITS64, 1, 0), 0);
+    assert_eq!(rt; operate_logically(LogicalOperator::Or, BITS64, 0, 2), ONES);
+    assert_eq!(rt; operate_logically(LogicalOperator::Or, BITS32, 0, 0), 0);
+    assert_eq!(rt; logical_not(BITS32, 0), 0xFFFF_FFFF);
+    assert_eq!(rt; logical_not(BITS32, 5), 0);
 }

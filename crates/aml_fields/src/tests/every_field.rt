@@ -1,5 +1,4 @@
 //! Every field of up to 70 bits at each of the first 70 bits of a region, against a plain list of bits.
-use crate::tests::is_so;
 use crate::{AddressSpace, Region, read_field, write_field};
 use aml_objects::{FieldSource, FieldUnit, UpdateRule};
 use ar_space::{Place, Refusal, Sparse, Width};
@@ -73,7 +72,7 @@ fn try_field(
             .byte(Place::Memory(0x1000 + place as u64))
             .unwrap_or(0);
         for n in 0..8 {
-            is_so(rt, is_set(byte, n) == is_set_after(field, place * 8 + n));
+            assert!(rt; is_set(byte, n) == is_set_after(field, place * 8 + n));
         }
     }
     let read = read_field(alloc, space, REGION, field)?;
@@ -81,7 +80,7 @@ fn try_field(
         for n in 0..8 {
             let bit = place.saturating_mul(8).saturating_add(n);
             let want = bit < field.bits as usize && is_written(bit);
-            is_so(rt, is_set(*byte, n) == want);
+            assert!(rt; is_set(*byte, n) == want);
         }
     }
     Ok(())

@@ -1,5 +1,4 @@
 //! Worked examples of fields.
-use crate::tests::same;
 use crate::{AddressSpace, Region, read_field, write_field};
 use aml_objects::{FieldSource, FieldUnit, UpdateRule};
 use ar_space::{FieldFault, Place, Refusal, SpaceFault, Sparse, Width};
@@ -46,14 +45,13 @@ fn four_bits_of_a_port(rt: HostRuntime) -> Result<(), Fail> {
     for (update, want) in &cases {
         let mut space = ports(alloc, 0xA5, 0)?;
         let four = field(2, 4, Width::W8, *update);
-        same(
-            &rt,
-            &read_field(alloc, &mut space, PORTS, four)?.as_slice(),
-            &[9].as_slice(),
+        assert_eq!(rt;
+            read_field(alloc, &mut space, PORTS, four)?.as_slice(),
+            [9].as_slice()
         );
         write_field(&mut space, PORTS, four, &[3])?;
-        same(&rt, &space.byte(Place::Io(0x60)), &Some(*want));
-        same(&rt, &space.byte(Place::Io(0x61)), &Some(0));
+        assert_eq!(rt; space.byte(Place::Io(0x60)), Some(*want));
+        assert_eq!(rt; space.byte(Place::Io(0x61)), Some(0));
     }
     Ok(())
 }
@@ -65,14 +63,13 @@ fn twelve_bits_of_two_ports(rt: HostRuntime) -> Result<(), Fail> {
         let mut space = ports(alloc, 0xA5, 0x3C)?;
         let twelve = field(4, 12, *width, UpdateRule::Preserve);
         // 970
-        same(
-            &rt,
-            &read_field(alloc, &mut space, PORTS, twelve)?.as_slice(),
-            &[0xCA, 3].as_slice(),
+        assert_eq!(rt;
+            read_field(alloc, &mut space, PORTS, twelve)?.as_slice(),
+            [0xCA, 3].as_slice()
         );
         write_field(&mut space, PORTS, twelve, &[5])?;
-        same(&rt, &space.byte(Place::Io(0x60)), &Some(0x55));
-        same(&rt, &space.byte(Place::Io(0x61)), &Some(0));
+        assert_eq!(rt; space.byte(Place::Io(0x60)), Some(0x55));
+        assert_eq!(rt; space.byte(Place::Io(0x61)), Some(0));
     }
     Ok(())
 }
@@ -82,18 +79,16 @@ fn a_field_past_its_region(rt: HostRuntime) -> Result<(), Fail> {
     let alloc = rt.alloc();
     let mut space = ports(alloc, 0xA5, 0x3C)?;
     let long = field(0, 24, Width::W8, UpdateRule::Preserve);
-    same(
-        &rt,
-        &read_field(alloc, &mut space, PORTS, long).err(),
-        &Some(RANGE),
+    assert_eq!(rt;
+        read_field(alloc, &mut space, PORTS, long).err(),
+        Some(RANGE)
     );
-    same(
-        &rt,
-        &write_field(&mut space, PORTS, long, &[1, 2, 3]),
-        &Err(RANGE),
+    assert_eq!(rt;
+        write_field(&mut space, PORTS, long, &[1, 2, 3]),
+        Err(RANGE)
     );
-    same(&rt, &space.byte(Place::Io(0x60)), &Some(1));
-    same(&rt, &space.byte(Place::Io(0x61)), &Some(2));
+    assert_eq!(rt; space.byte(Place::Io(0x60)), Some(1));
+    assert_eq!(rt; space.byte(Place::Io(0x61)), Some(2));
     Ok(())
 }
 
@@ -133,10 +128,9 @@ fn places_that_there_are_not(rt: HostRuntime) -> Result<(), Fail> {
             offset,
             length: 1,
         };
-        same(
-            &rt,
-            &read_field(alloc, &mut space, region, byte).err(),
-            &Some(want),
+        assert_eq!(rt;
+            read_field(alloc, &mut space, region, byte).err(),
+            Some(want)
         );
     }
     let top = Region {
@@ -145,10 +139,6 @@ fn places_that_there_are_not(rt: HostRuntime) -> Result<(), Fail> {
         length: 2,
     };
     let second = field(8, 8, Width::W8, UpdateRule::Preserve);
-    same(
-        &rt,
-        &write_field(&mut space, top, second, &[1]),
-        &Err(RANGE),
-    );
+    assert_eq!(rt; write_field(&mut space, top, second, &[1]), Err(RANGE));
     Ok(())
 }

@@ -1,6 +1,5 @@
 //! A term in memory, read part by part.
 
-use crate::tests::{is_so, same};
 use crate::{
     Arities, Item, Opcode, OperandView, TermCode, TermPart, TermReader, parse_list, parse_table,
 };
@@ -24,24 +23,20 @@ fn parts_of_a_term(rt: HostRuntime) -> Result<(), Fail> {
     )?;
     let list = TermPart::List(&terms);
     let Item { first, rest } = list.next().ok_or("an Add")?;
-    same(&rt, &first.code(), &TermCode::Opcode(Opcode::Add));
+    assert_eq!(rt; first.code(), TermCode::Opcode(Opcode::Add));
     if let OperandView::Term(five) = first.operand(0) {
-        same(&rt, &five.code(), &TermCode::Opcode(Opcode::BytePrefix));
-        is_so(&rt, matches!(five.operand(0), OperandView::Number(5)));
+        assert_eq!(rt; five.code(), TermCode::Opcode(Opcode::BytePrefix));
+        assert!(rt; matches!(five.operand(0), OperandView::Number(5)));
     } else {
         assert!(rt; false, "the first operand is a term");
     }
-    is_so(&rt, matches!(first.operand(2), OperandView::Name));
-    is_so(&rt, matches!(first.operand(3), OperandView::Absent));
-    same(&rt, &first.name(alloc, 2)?.segments().len(), &1);
+    assert!(rt; matches!(first.operand(2), OperandView::Name));
+    assert!(rt; matches!(first.operand(3), OperandView::Absent));
+    assert_eq!(rt; first.name(alloc, 2)?.segments().len(), 1);
     let Item { first, rest } = rest.next().ok_or("a Buffer")?;
-    is_so(&rt, matches!(first.operand(1), OperandView::Bytes));
-    same(
-        &rt,
-        &first.bytes(alloc, 1)?.as_slice(),
-        &[0xAB, 0xCD].as_slice(),
-    );
-    is_so(&rt, rest.next().is_none());
+    assert!(rt; matches!(first.operand(1), OperandView::Bytes));
+    assert_eq!(rt; first.bytes(alloc, 1)?.as_slice(), [0xAB, 0xCD].as_slice());
+    assert!(rt; rest.next().is_none());
     Ok(())
 }
 
@@ -55,26 +50,16 @@ fn arities_after_a_table(rt: HostRuntime) -> Result<(), Fail> {
     let mut before = Arities::new(alloc);
     before.add(Path::from_text(alloc, b"\\_OSI")?, 1, false)?;
     let (terms, after) = parse_table(alloc, &bytes, &before)?;
-    same(&rt, &terms.len(), &2);
-    same(
-        &rt,
-        &after.arity_at(&Path::from_text(alloc, b"\\_OSI")?),
-        &Some(1),
+    assert_eq!(rt; terms.len(), 2);
+    assert_eq!(rt;
+        after.arity_at(&Path::from_text(alloc, b"\\_OSI")?),
+        Some(1)
     );
-    same(
-        &rt,
-        &after.arity_at(&Path::from_text(alloc, b"\\MTHD")?),
-        &Some(2),
+    assert_eq!(rt;
+        after.arity_at(&Path::from_text(alloc, b"\\MTHD")?),
+        Some(2)
     );
-    same(
-        &rt,
-        &after.arity_at(&Path::from_text(alloc, b"\\NONE")?),
-        &None,
-    );
-    same(
-        &rt,
-        &Arities::from_vec(after.into_vec()).entries().len(),
-        &3,
-    );
+    assert_eq!(rt; after.arity_at(&Path::from_text(alloc, b"\\NONE")?), None);
+    assert_eq!(rt; Arities::from_vec(after.into_vec()).entries().len(), 3);
     Ok(())
 }

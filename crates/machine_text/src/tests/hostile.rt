@@ -2,7 +2,6 @@
 use super::built_tables::{
     RSDP, RSDP_TO_XSDT, XSDT, fadt, number_of, put, table, table_of_length, xsdt,
 };
-use crate::tests::{is_so, same};
 use ar_space::Refusal;
 use ar_tables::{Image, find_tables};
 use std::alloc::Global;
@@ -86,8 +85,8 @@ fn number_with(alloc: Global, address: u64, bytes: &[u8]) -> Result<u8, Refusal>
 fn a_machine_with_one_table_of_each_kind(rt: HostRuntime) -> Result<(), Fail> {
     let image = image(rt.alloc(), parts(rt.alloc())?.as_slice())?;
     let tables = find_tables(rt.alloc(), &image, RSDP)?;
-    same(&rt, &tables.ssdts.as_slice().len(), &1);
-    is_so(&rt, tables.madt.is_some());
+    assert_eq!(rt; tables.ssdts.as_slice().len(), 1);
+    assert!(rt; tables.madt.is_some());
     Ok(())
 }
 
@@ -115,9 +114,9 @@ fn no_structure_wraps_round_the_last_address(rt: HostRuntime) -> Result<(), Fail
         table(rt.alloc(), b"DSDT", 2, b"")?.as_slice(),
     )?;
     put(&mut image, u64::MAX - 35, RSDP_TO_XSDT)?;
-    same(&rt, &number_of(rt.alloc(), &image, u64::MAX - 35), &0);
+    assert_eq!(rt; number_of(rt.alloc(), &image, u64::MAX - 35), 0);
     put(&mut image, u64::MAX - 9, RSDP_TO_XSDT)?;
-    same(&rt, &number_of(rt.alloc(), &image, u64::MAX - 9), &13);
+    assert_eq!(rt; number_of(rt.alloc(), &image, u64::MAX - 9), 13);
     Ok(())
 }
 
@@ -132,8 +131,8 @@ fn a_table_inside_another(rt: HostRuntime) -> Result<(), Fail> {
     let mut image = image(alloc, parts(alloc)?.as_slice())?;
     put(&mut image, FADT, fadt.as_slice())?;
     let tables = find_tables(alloc, &image, RSDP)?;
-    same(&rt, &tables.dsdt.as_slice(), &dsdt.as_slice());
-    same(&rt, &tables.fadt.as_slice(), &fadt.as_slice());
+    assert_eq!(rt; tables.dsdt.as_slice(), dsdt.as_slice());
+    assert_eq!(rt; tables.fadt.as_slice(), fadt.as_slice());
     Ok(())
 }
 
@@ -141,13 +140,13 @@ fn a_table_inside_another(rt: HostRuntime) -> Result<(), Fail> {
 fn lengths(rt: HostRuntime) -> Result<(), Fail> {
     let alloc = rt.alloc();
     let list = table(alloc, b"XSDT", 1, b"\0\0\0\0\0\0\0\0\0")?;
-    same(&rt, &number_with(alloc, XSDT, list.as_slice())?, &12);
+    assert_eq!(rt; number_with(alloc, XSDT, list.as_slice())?, 12);
     let long = table_of_length(alloc, b"DSDT", 1, b"", 1_048_577)?;
-    same(&rt, &number_with(alloc, DSDT, long.as_slice())?, &12);
+    assert_eq!(rt; number_with(alloc, DSDT, long.as_slice())?, 12);
     let short = table(alloc, b"FACP", 1, b"\0\0\0\0\0\0\0")?;
-    same(&rt, &number_with(alloc, FADT, short.as_slice())?, &12);
+    assert_eq!(rt; number_with(alloc, FADT, short.as_slice())?, 12);
     let short = table(alloc, b"APIC", 1, b"\0\0\0\0\0\0\0")?;
-    same(&rt, &number_with(alloc, MADT, short.as_slice())?, &12);
+    assert_eq!(rt; number_with(alloc, MADT, short.as_slice())?, 12);
     Ok(())
 }
 
@@ -190,10 +189,10 @@ fn at_most_256_ssdts(rt: HostRuntime) -> Result<(), Fail> {
         addresses.push(SSDT)?;
     }
     let list = xsdt(alloc, addresses.as_slice())?;
-    same(&rt, &number_with(alloc, XSDT, list.as_slice())?, &0);
+    assert_eq!(rt; number_with(alloc, XSDT, list.as_slice())?, 0);
     addresses.push(SSDT)?;
     let list = xsdt(alloc, addresses.as_slice())?;
-    same(&rt, &number_with(alloc, XSDT, list.as_slice())?, &12);
+    assert_eq!(rt; number_with(alloc, XSDT, list.as_slice())?, 12);
     Ok(())
 }
 
@@ -201,11 +200,11 @@ fn at_most_256_ssdts(rt: HostRuntime) -> Result<(), Fail> {
 fn tables_that_are_missing(rt: HostRuntime) -> Result<(), Fail> {
     let alloc = rt.alloc();
     let list = xsdt(alloc, &[SSDT, MADT])?;
-    same(&rt, &number_with(alloc, XSDT, list.as_slice())?, &14);
+    assert_eq!(rt; number_with(alloc, XSDT, list.as_slice())?, 14);
     let no_dsdt = fadt(alloc, 0)?;
-    same(&rt, &number_with(alloc, FADT, no_dsdt.as_slice())?, &15);
+    assert_eq!(rt; number_with(alloc, FADT, no_dsdt.as_slice())?, 15);
     let unread = xsdt(alloc, &[FADT, 0x9000])?;
-    same(&rt, &number_with(alloc, XSDT, unread.as_slice())?, &13);
+    assert_eq!(rt; number_with(alloc, XSDT, unread.as_slice())?, 13);
     Ok(())
 }
 
@@ -217,9 +216,9 @@ fn x_dsdt_where_the_fadt_has_it(rt: HostRuntime) -> Result<(), Fail> {
     body.extend_from_slice(&[0; 96])?;
     body.extend_from_slice(b"\0\x30\0\0\0\0\0\0")?;
     let whole = table(alloc, b"FACP", 1, body.as_slice())?;
-    same(&rt, &number_with(alloc, FADT, whole.as_slice())?, &0);
+    assert_eq!(rt; number_with(alloc, FADT, whole.as_slice())?, 0);
     body.truncate(111);
     let short = table(alloc, b"FACP", 1, body.as_slice())?;
-    same(&rt, &number_with(alloc, FADT, short.as_slice())?, &13);
+    assert_eq!(rt; number_with(alloc, FADT, short.as_slice())?, 13);
     Ok(())
 }

@@ -1,5 +1,4 @@
 //! A small machine, from its text to its tables, and each way to spoil it.
-use crate::tests::{is_so, same};
 use crate::{MachineText, read_machine};
 use ar_space::{InputFault, Place, Refusal};
 use ar_tables::{IntegerWidth, MadtEntry, find_tables, madt_entries};
@@ -67,17 +66,17 @@ fn number(alloc: Global, text: &[u8]) -> u8 {
 fn a_machine_by_its_xsdt(rt: HostRuntime) -> Result<(), Fail> {
     let text = text(rt.alloc(), &[], &[])?;
     let machine = read_machine(rt.alloc(), text.as_slice())?;
-    same(&rt, &machine.rsdp, &0x1000);
-    is_so(&rt, machine.osi.is_empty());
-    same(&rt, &machine.space.byte(Place::Memory(0x13A3)), &Some(0x0A));
-    same(&rt, &machine.space.byte(Place::Memory(0x13A4)), &None);
+    assert_eq!(rt; machine.rsdp, 0x1000);
+    assert!(rt; machine.osi.is_empty());
+    assert_eq!(rt; machine.space.byte(Place::Memory(0x13A3)), Some(0x0A));
+    assert_eq!(rt; machine.space.byte(Place::Memory(0x13A4)), None);
     let tables = find_tables(rt.alloc(), machine.space.memory(), machine.rsdp)?;
-    same(&rt, &tables.dsdt.as_slice().len(), &164);
-    is_so(&rt, tables.dsdt.body().starts_with(b"\x10\x4F\x07\x5C_SB_"));
-    same(&rt, &tables.width, &IntegerWidth::Bits64);
-    same(&rt, &tables.fadt.sci_interrupt(), &9);
-    is_so(&rt, tables.madt.is_none());
-    is_so(&rt, tables.ssdts.as_slice().is_empty());
+    assert_eq!(rt; tables.dsdt.as_slice().len(), 164);
+    assert!(rt; tables.dsdt.body().starts_with(b"\x10\x4F\x07\x5C_SB_"));
+    assert_eq!(rt; tables.width, IntegerWidth::Bits64);
+    assert_eq!(rt; tables.fadt.sci_interrupt(), 9);
+    assert!(rt; tables.madt.is_none());
+    assert!(rt; tables.ssdts.as_slice().is_empty());
     Ok(())
 }
 
@@ -97,7 +96,7 @@ fn a_machine_by_its_rsdt(rt: HostRuntime) -> Result<(), Fail> {
     )?;
     let machine = read_machine(rt.alloc(), text.as_slice())?;
     let tables = find_tables(rt.alloc(), machine.space.memory(), machine.rsdp)?;
-    same(&rt, &tables.dsdt.as_slice().len(), &164);
+    assert_eq!(rt; tables.dsdt.as_slice().len(), 164);
     Ok(())
 }
 
@@ -132,9 +131,9 @@ fn a_machine_with_a_madt(rt: HostRuntime) -> Result<(), Fail> {
         gsi: 2,
         flags: 0,
     };
-    same(&rt, &entries.next(), &Some(io_apic));
-    same(&rt, &entries.next(), &Some(source_override));
-    same(&rt, &entries.next(), &None);
+    assert_eq!(rt; entries.next(), Some(io_apic));
+    assert_eq!(rt; entries.next(), Some(source_override));
+    assert_eq!(rt; entries.next(), None);
     Ok(())
 }
 
@@ -159,9 +158,9 @@ fn every_ssdt_counts(rt: HostRuntime) -> Result<(), Fail> {
     )?;
     let machine = read_machine(rt.alloc(), text.as_slice())?;
     let tables = find_tables(rt.alloc(), machine.space.memory(), machine.rsdp)?;
-    same(&rt, &tables.ssdts.as_slice().len(), &2);
+    assert_eq!(rt; tables.ssdts.as_slice().len(), 2);
     for ssdt in tables.ssdts.as_slice() {
-        same(&rt, &ssdt.body(), &b"\x08\x5CFOO_\x01".as_slice());
+        assert_eq!(rt; ssdt.body(), b"\x08\x5CFOO_\x01".as_slice());
     }
     Ok(())
 }
@@ -170,20 +169,18 @@ fn every_ssdt_counts(rt: HostRuntime) -> Result<(), Fail> {
 fn spoiled_tables(rt: HostRuntime) -> Result<(), Fail> {
     let alloc = rt.alloc();
     let last_byte_gone = text(alloc, &[(13, "mem 1397 120C04 0CFFFF0100 0A02 00 0A")], &[])?;
-    same(&rt, &number(alloc, last_byte_gone.as_slice()), &13);
+    assert_eq!(rt; number(alloc, last_byte_gone.as_slice()), 13);
     let length =
         "mem 1300 44534454 23000000 02 80 000000000000 0000000000000000 00000000 00000000 00000000";
-    same(
-        &rt,
-        &number(alloc, text(alloc, &[(6, length)], &[])?.as_slice()),
-        &12,
+    assert_eq!(rt;
+        number(alloc, text(alloc, &[(6, length)], &[])?.as_slice()),
+        12
     );
     let checksum =
         "mem 1300 44534454 A4000000 02 81 000000000000 0000000000000000 00000000 00000000 00000000";
-    same(
-        &rt,
-        &number(alloc, text(alloc, &[(6, checksum)], &[])?.as_slice()),
-        &11,
+    assert_eq!(rt;
+        number(alloc, text(alloc, &[(6, checksum)], &[])?.as_slice()),
+        11
     );
     Ok(())
 }
@@ -191,11 +188,7 @@ fn spoiled_tables(rt: HostRuntime) -> Result<(), Fail> {
 #[test]
 fn an_empty_text(rt: HostRuntime) {
     let refusal = read_machine(rt.alloc(), b"").err();
-    same(
-        &rt,
-        &refusal,
-        &Some(Refusal::Input(InputFault::MachineLine(0))),
-    );
+    assert_eq!(rt; refusal, Some(Refusal::Input(InputFault::MachineLine(0))));
 }
 
 #[test]
@@ -203,13 +196,13 @@ fn a_text_cut_after_each_byte(rt: HostRuntime) -> Result<(), Fail> {
     let alloc = rt.alloc();
     let text = text(alloc, &[], &[])?;
     let bytes = text.as_slice();
-    is_so(&rt, !bytes.is_empty());
+    assert!(rt; !bytes.is_empty());
     let last = bytes.len() - 1;
     for count in 1..last {
         let number = number(alloc, &bytes[..count]);
         assert!(rt; number == 13 || number == 140, "{count} bytes: {number}");
     }
-    same(&rt, &number(alloc, &bytes[..last]), &0);
+    assert_eq!(rt; number(alloc, &bytes[..last]), 0);
     Ok(())
 }
 
@@ -230,7 +223,7 @@ fn each_byte_of_the_dsdt_raised_by_one(rt: HostRuntime) -> Result<(), Fail> {
         assert_eq!(rt; tables_number(alloc, &machine), want, "byte {n}");
         machine.space.put(place, byte)?;
     }
-    same(&rt, &tables_number(alloc, &machine), &0);
+    assert_eq!(rt; tables_number(alloc, &machine), 0);
     Ok(())
 }
 
@@ -240,7 +233,7 @@ fn lists_and_tables_that_name_themselves(rt: HostRuntime) -> Result<(), Fail> {
     let header =
         "mem 1100 58534454 2C000000 01 7F 000000000000 0000000000000000 00000000 00000000 00000000";
     let list = text(alloc, &[(2, header), (3, "mem 1124 0011000000000000")], &[])?;
-    same(&rt, &number(alloc, list.as_slice()), &14);
+    assert_eq!(rt; number(alloc, list.as_slice()), 14);
     let header =
         "mem 1200 46414350 30000000 01 9A 000000000000 0000000000000000 00000000 00000000 00000000";
     let fadt = text(
@@ -248,6 +241,6 @@ fn lists_and_tables_that_name_themselves(rt: HostRuntime) -> Result<(), Fail> {
         &[(4, header), (5, "mem 1224 00000000 00120000 0000 0900")],
         &[],
     )?;
-    same(&rt, &number(alloc, fadt.as_slice()), &10);
+    assert_eq!(rt; number(alloc, fadt.as_slice()), 10);
     Ok(())
 }

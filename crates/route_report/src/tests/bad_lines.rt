@@ -1,6 +1,5 @@
 //! Texts that are no report, and their first bad line.
 use crate::read;
-use crate::tests::same;
 use ar_space::{Refusal, ReportFault};
 use std::alloc::Global;
 use std::test::Fail;
@@ -34,7 +33,7 @@ fn bad_texts(rt: HostRuntime) {
         (b"acpiroute 1\nbusiest 0\nbound none\nacpiroute 1\n", 4),
     ];
     for (text, line) in &texts {
-        same(&rt, &bad_line(rt.alloc(), text), &Some(*line));
+        assert_eq!(rt; bad_line(rt.alloc(), text), Some(*line));
     }
 }
 
@@ -89,7 +88,7 @@ fn bad_lines(rt: HostRuntime) -> Result<(), Fail> {
     let alloc = rt.alloc();
     for line in &lines {
         let text = format!(in alloc; "acpiroute 1\nmode apic\n{line}\nbusiest 0\nbound none\n")?;
-        same(&rt, &bad_line(alloc, text.as_bytes()), &Some(3));
+        assert_eq!(rt; bad_line(alloc, text.as_bytes()), Some(3));
     }
     Ok(())
 }
@@ -101,8 +100,8 @@ fn as_many_wired_interrupts_as_may_be(rt: HostRuntime) -> Result<(), Fail> {
     for _ in 0..4096u32 {
         write!(text, "wired 5 0\n")?;
     }
-    same(&rt, &read(alloc, text.as_bytes())?.wired.len(), &4096);
+    assert_eq!(rt; read(alloc, text.as_bytes())?.wired.len(), 4096);
     write!(text, "wired 5 0\n")?;
-    same(&rt, &bad_line(alloc, text.as_bytes()), &Some(4100));
+    assert_eq!(rt; bad_line(alloc, text.as_bytes()), Some(4100));
     Ok(())
 }

@@ -1,6 +1,5 @@
 //! Texts that are read, and what the claims in them are worth.
 use crate::read;
-use crate::tests::same;
 use crate::tests::texts::{BACK, FRONT};
 use ar_space::{Refusal, ReportFault};
 use route_check::{Claim, check};
@@ -44,7 +43,7 @@ fn altered_reports(rt: HostRuntime) -> Result<(), Fail> {
         ("busiest 2", "bound \\ over 5 10", Some(2)),
     ];
     for (busiest, bound, wanted) in &cases {
-        same(&rt, &altered(alloc, busiest, bound)?, &*wanted);
+        assert_eq!(rt; altered(alloc, busiest, bound)?, *wanted);
     }
     Ok(())
 }
@@ -59,7 +58,7 @@ fn other_machines(rt: HostRuntime) -> Result<(), Fail> {
         b"acpiroute 1\nmode apic\nlink \\_SB_.LNKA extended high offers 17 now 17\nwired 16 2\npin \\_SB_.PCI0 1 A 16 wired\ngive \\_SB_.LNKA 17\nbusiest 2\nbound - over 16\n",
     ];
     for text in &texts {
-        same(&rt, &flaw(alloc, text)?, &None);
+        assert_eq!(rt; flaw(alloc, text)?, None);
     }
     Ok(())
 }
@@ -69,17 +68,13 @@ fn lines_in_any_order_and_words_that_are_passed_over(rt: HostRuntime) -> Result<
     let text =
         b"acpiroute 1\nbound - over 16 4294967295\nafter\nset  x\nwired 16 0\nbusiest 4294967295\npin \xFF\ngive \\ 0\nmode\nlink \\A___.B123 extended high offers 0 1 now\nioapic\noverride here it is\nwired 16 7";
     let claim = read(rt.alloc(), text)?;
-    same(&rt, &claim.links.len(), &1);
-    same(&rt, &claim.links[0].offers(), &[0u32, 1].as_slice());
-    same(&rt, &claim.links[0].path().depth(), &2);
-    same(
-        &rt,
-        &claim.wired.as_slice(),
-        &[(16u32, 0u32), (16, 7)].as_slice(),
-    );
-    same(&rt, &claim.gives.len(), &1);
-    same(&rt, &claim.gives[0].0.depth(), &0);
-    same(&rt, &claim.busiest, &u32::MAX);
+    assert_eq!(rt; claim.links.len(), 1);
+    assert_eq!(rt; claim.links[0].offers(), [0u32, 1].as_slice());
+    assert_eq!(rt; claim.links[0].path().depth(), 2);
+    assert_eq!(rt; claim.wired.as_slice(), [(16u32, 0u32), (16, 7)].as_slice());
+    assert_eq!(rt; claim.gives.len(), 1);
+    assert_eq!(rt; claim.gives[0].0.depth(), 0);
+    assert_eq!(rt; claim.busiest, u32::MAX);
     Ok(())
 }
 
@@ -120,16 +115,15 @@ fn claim_of_many(alloc: Global, links: u32) -> Result<Claim, Refusal> {
 #[test]
 fn as_many_links_as_may_be(rt: HostRuntime) -> Result<(), Fail> {
     let claim = claim_of_many(rt.alloc(), 256)?;
-    same(&rt, &check(&claim), &Ok(()));
+    assert_eq!(rt; check(&claim), Ok(()));
     Ok(())
 }
 
 #[test]
 fn a_link_too_many(rt: HostRuntime) {
     let claim = claim_of_many(rt.alloc(), 257);
-    same(
-        &rt,
-        &claim.err(),
-        &Some(Refusal::Report(ReportFault::BadLine(258))),
+    assert_eq!(rt;
+        claim.err(),
+        Some(Refusal::Report(ReportFault::BadLine(258)))
     );
 }

@@ -1,5 +1,4 @@
 //! Reports that are printed.
-use crate::tests::same;
 use crate::tests::texts::{BACK, FRONT};
 use crate::{
     After, AfterLine, Form, IoApicLine, LinkLine, Mode, OverrideLine, PinLine, PinName, PinRoute,
@@ -91,8 +90,8 @@ fn a_small_machine(rt: HostRuntime) -> Result<(), Fail> {
     let text = print(alloc, &small(alloc)?)?;
     let bound = "bound \\_SB_.LNKA \\_SB_.LNKB over 5 10";
     let wanted = format!(in alloc; "{FRONT}busiest 2\n{bound}\n{BACK}")?;
-    same(&rt, &text.as_slice(), &wanted.as_bytes());
-    same(&rt, &check(&read(alloc, text.as_slice())?), &Ok(()));
+    assert_eq!(rt; text.as_slice(), wanted.as_bytes());
+    assert_eq!(rt; check(&read(alloc, text.as_slice())?), Ok(()));
     Ok(())
 }
 
@@ -100,12 +99,11 @@ fn a_small_machine(rt: HostRuntime) -> Result<(), Fail> {
 fn an_empty_machine(rt: HostRuntime) -> Result<(), Fail> {
     let alloc = rt.alloc();
     let text = print(alloc, &empty(alloc))?;
-    same(
-        &rt,
-        &text.as_slice(),
-        &b"acpiroute 1\nmode apic\nbusiest 0\nbound none\n".as_slice(),
+    assert_eq!(rt;
+        text.as_slice(),
+        b"acpiroute 1\nmode apic\nbusiest 0\nbound none\n".as_slice()
     );
-    same(&rt, &check(&read(alloc, text.as_slice())?), &Ok(()));
+    assert_eq!(rt; check(&read(alloc, text.as_slice())?), Ok(()));
     Ok(())
 }
 
@@ -158,9 +156,9 @@ fn every_kind_of_line(rt: HostRuntime) -> Result<(), Fail> {
     let text = print(alloc, &report)?;
     let wanted =
         b"acpiroute 1\nmode pic\nioapic 255 at FEC000AB base 24\noverride 9 to 20 flags 000D\nlink \\L___ extended high offers 16 4294967295 now 4 16\nlink \\M___ small low offers 0 now -\npin \\ 65535 D absent \\N___\nbusiest 0\nbound - over 16\nset \\L___ ok\nset \\L___ refused 42\nafter \\L___ 4\nafter \\M___ refused 73\n";
-    same(&rt, &text.as_slice(), &wanted.as_slice());
+    assert_eq!(rt; text.as_slice(), wanted.as_slice());
     let claim = read(alloc, text.as_slice())?;
-    same(&rt, &claim.links.len(), &2);
-    same(&rt, &claim.links[0].offers(), &[16u32, u32::MAX].as_slice());
+    assert_eq!(rt; claim.links.len(), 2);
+    assert_eq!(rt; claim.links[0].offers(), [16u32, u32::MAX].as_slice());
     Ok(())
 }
