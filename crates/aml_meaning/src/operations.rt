@@ -56,8 +56,8 @@ impl<S> World<S> {
         }
     }
 
-    /// Whether a test holds of two values: True or False. Both are converted first, the second to the type of the first where
-    /// they are compared, and refused as that is.
+    /// Whether a test holds of two values: True or False. Both are converted to integers first, or, where they are compared, the
+    /// second to the type of the first, and refused as that is.
     #[tactic(auto, using(ar_space::specs::Change::changing))]
     pub fn test(
         &self,
