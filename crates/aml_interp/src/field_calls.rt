@@ -5,14 +5,14 @@ ghost use Rattle.ar_space.specs.Outcome.{seen};
 ghost use Rattle.aml_meaning.specs.Given.{given_of};
 ghost use Rattle.aml_meaning.specs.Fields.{field_given};
 ghost use Rattle.aml_meaning.specs.Meaning.{meaning};
-ghost use Rattle.aml_meaning.specs.FieldCalls.{asked, method_integer, answer_over, answer_within, field_read, held_integer, called_at, completed, stored_to, stored_back};
+ghost use Rattle.aml_meaning.specs.FieldCalls.{asked, method_integer, answer_over, answer_within, field_read, held_integer, field_referent, referent_read, called_at, completed, stored_to, stored_back};
 
 use crate::answers::invocation;
 use crate::fields::{
     eval_field_integer, eval_field_part, eval_field_stored, eval_field_value, field_given,
 };
 use crate::invocations::{MAX_DEPTH, eval_method_value};
-use aml_meaning::{Datum, Held, Invocation, Place, Stored, World, integer_only};
+use aml_meaning::{Datum, Held, Invocation, Place, Referent, Stored, World, integer_only};
 use aml_objects::{BodyPlace, FieldUnit, Value};
 use aml_path::Path;
 use ar_space::{EvaluationFault, Refusal, Space};
@@ -60,6 +60,42 @@ pub(crate) fn eval_held<S: Space>(
             eval_field_integer(alloc, world, budget, calls_left(depth), unit)
         }
     }
+}
+
+/// What a reference refers to, where an element of a package that is the name of a field stands for the field's value.
+#[cycle(evaluation)]
+#[tactic(auto, using(crate::specs::Steps::evaluating))]
+pub(crate) fn eval_referent<S: Space>(
+    alloc: Global,
+    world: &mut World<S>,
+    budget: &mut u64,
+    depth: usize,
+    referent: Referent,
+) -> Result<Referent, Refusal>
+    ensures spent { budget.new ≤ budget.old }
+    ensures means { Does result (world.new, budget.new) (referent_read S.accesses (meaning S.accesses) depth referent) (world.old, budget.old) }
+{
+    match referent {
+        Referent::Value(value) => Ok(Referent::Value(value)),
+        Referent::Object(object_type) => Ok(Referent::Object(object_type)),
+        Referent::FieldUnit(unit) => eval_field_referent(alloc, world, budget, depth, unit),
+    }
+}
+
+#[cycle(evaluation)]
+#[tactic(auto, using(crate::specs::Steps::evaluating), unfolding(aml_meaning::specs::FieldCalls::field_referent))]
+fn eval_field_referent<S: Space>(
+    alloc: Global,
+    world: &mut World<S>,
+    budget: &mut u64,
+    depth: usize,
+    unit: FieldUnit,
+) -> Result<Referent, Refusal>
+    ensures spent { budget.new ≤ budget.old }
+    ensures means { Does result (world.new, budget.new) (field_referent S.accesses (meaning S.accesses) depth unit) (world.old, budget.old) }
+{
+    let value = eval_field_read(alloc, world, budget, depth, unit)?;
+    Ok(Referent::Value(value))
 }
 
 /// Stores a value to a place.

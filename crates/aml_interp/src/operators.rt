@@ -5,7 +5,7 @@ ghost use Rattle.aml_terms.specs.PartTree.{part_tree};
 ghost use Rattle.aml_meaning.specs.Meaning.{meaning};
 ghost use Rattle.aml_meaning.specs.OperatorTerms.{operator_rule, slot_rule, store_rule, copy_rule, two_rule, divide_rule, one_rule, test_rule, not_rule, count_rule, size_rule, type_rule, acquire_rule};
 
-use crate::field_calls::{eval_completed, eval_held, eval_stored_back};
+use crate::field_calls::{eval_completed, eval_held, eval_referent, eval_stored_back};
 use crate::operands::Reader;
 use crate::places::{eval_place, eval_targeted};
 use crate::terms::{eval_two_values, eval_value_at};
@@ -245,6 +245,7 @@ fn eval_size<S: Space>(
 {
     let place = eval_place(alloc, world, budget, scope, depth, term, 0)?;
     let referent = world.place_referent(alloc, &place)?;
+    let referent = eval_referent(alloc, world, budget, depth, referent)?;
     let size = world.size(referent)?;
     Ok(Flow::Value(size))
 }
@@ -264,6 +265,7 @@ fn eval_type<S: Space>(
 {
     let place = eval_place(alloc, world, budget, scope, depth, term, 0)?;
     let referent = world.place_referent(alloc, &place)?;
+    let referent = eval_referent(alloc, world, budget, depth, referent)?;
     Ok(Flow::Value(Value::Integer(referent.object_type().number())))
 }
 

@@ -11,6 +11,8 @@ use Rattle.aml_objects.specs.declared.entry.BodyPlace.{BodyPlace}
 use Rattle.aml_meaning.specs.declared.flow.Flow.{Flow}
 use Rattle.aml_meaning.specs.declared.invocation.Invocation.{Invocation}
 use Rattle.aml_meaning.specs.declared.invocation.Invocation.TheVariants as invocation
+use Rattle.aml_meaning.specs.declared.object_type.Referent.{Referent}
+use Rattle.aml_meaning.specs.declared.object_type.Referent.TheVariants as referent
 use Rattle.aml_meaning.specs.declared.place.Place.{Place}
 use Rattle.aml_meaning.specs.declared.place.Held.{Held}
 use Rattle.aml_meaning.specs.declared.place.Held.TheVariants as held
@@ -63,6 +65,17 @@ module _ {S : Type 0} (accesses : Accesses S) (ev : Task → Run S Flow) where
   abbrev pub held_integer : ℕ → Held → Run S ℕ
   held_integer depth (held.Value v) = lift (integer_in v)
   held_integer depth (held.FieldUnit u) = field_integer accesses (called_at depth) u
+
+  -- what a reference refers to, where an element of a package that is the name of a field stands for the field's value
+  unfoldable pub field_referent : ℕ → FieldUnit → Run S Referent
+  field_referent depth u = do
+    v ← field_read depth u
+    give (referent.Value v)
+
+  abbrev pub referent_read : ℕ → Referent → Run S Referent
+  referent_read depth (referent.Value v) = give (referent.Value v)
+  referent_read depth (referent.Object t) = give (referent.Object t)
+  referent_read depth (referent.FieldUnit u) = field_referent depth u
 
   -- a store is done, or a field unit is written next
   abbrev pub completed : ℕ → Stored → Value → Run S (Unit {0})

@@ -85,6 +85,7 @@ module _ {S : Type 0} {p : List Seg} where
     leaves_referent_followed : (r : Referent) → Leaves {S = S} p (referent_followed follow r)
     leaves_referent_followed (referent.Value v) = leaves_value_followed v
     leaves_referent_followed (referent.Object t) = leaves_give _
+    leaves_referent_followed (referent.FieldUnit u) = leaves_give _
 
     leaves_declared_followed : (n : ℕ) → Leaves {S = S} p (declared_followed follow n)
     unfolding declared_followed

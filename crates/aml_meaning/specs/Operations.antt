@@ -155,6 +155,7 @@ size_of_value objects (value.Reference r) = Err (refusal.Value WrongType)
 abbrev pub size_of_referent : List Object → Referent → Outcome ℕ
 size_of_referent objects (referent.Value v) = size_of_value objects v
 size_of_referent objects (referent.Object t) = Err (refusal.Value WrongType)
+size_of_referent objects (referent.FieldUnit u) = Err (refusal.Value WrongType)
 
 unfoldable pub size_in : {S : Type 0} → Referent → Change (State S) Value
 size_in r w = (as_integer (size_of_referent w.objects r), w)
@@ -188,3 +189,4 @@ type_of_value (value.Reference r) = types.Uninitialized
 abbrev pub type_of_referent : Referent → ObjectType
 type_of_referent (referent.Value v) = type_of_value v
 type_of_referent (referent.Object t) = t
+type_of_referent (referent.FieldUnit u) = types.FieldUnit

@@ -29,7 +29,7 @@ use Rattle.aml_meaning.specs.Mutexes.{acquired_at}
 use Rattle.aml_meaning.specs.Operations.{operated, divided_in, operated_on_one, operated_logically, turned, next_integer, integer_before, compared_in, joined, joined_resources, to_integer_in, to_buffer_in, size_in, type_of_referent, type_number}
 use Rattle.aml_meaning.specs.Tasks.{Task, value_at, two_values}
 use Rattle.aml_meaning.specs.PlaceTerms.{place_at, targeted}
-use Rattle.aml_meaning.specs.FieldCalls.{completed, held_integer, stored_back}
+use Rattle.aml_meaning.specs.FieldCalls.{completed, held_integer, referent_read, stored_back}
 
 -- ---- what operators give of values
 
@@ -117,14 +117,16 @@ module _ {S : Type 0} (accesses : Accesses S) (ev : Task → Run S Flow) where
   size_rule scope depth t = do
     p ← place_at ev scope depth t 0
     r ← lift (place_referent p)
-    v ← lift (size_in r)
+    s ← referent_read accesses ev depth r
+    v ← lift (size_in s)
     give (flow.Value v)
 
   unfoldable pub type_rule : List Seg → ℕ → Tree → Run S Flow
   type_rule scope depth t = do
     p ← place_at ev scope depth t 0
     r ← lift (place_referent p)
-    give (flow.Value (value.Integer (type_number (type_of_referent r))))
+    s ← referent_read accesses ev depth r
+    give (flow.Value (value.Integer (type_number (type_of_referent s))))
 
   -- a mutex is always free for who asks: Acquire gives False
   unfoldable pub acquire_rule : List Seg → ℕ → Tree → Run S Flow

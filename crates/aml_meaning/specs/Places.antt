@@ -134,6 +134,11 @@ referent_of (object.Mutex n) = referent.Object types.Mutex
 referent_of object.Event = referent.Object types.Event
 referent_of (object.Alias p) = referent.Object types.Uninitialized
 
+-- an element of a package that is the name of a field stands for the field's value, which is read next
+abbrev pub element_referent : NamedObject → Referent
+element_referent (object.FieldUnit u) = referent.FieldUnit u
+element_referent o = referent_of o
+
 -- the declaration with a number, while it stands
 abbrev pub or_gone : Option (List Seg × Entry) → Outcome (List Seg × Entry)
 or_gone None = Err (refusal.Evaluation DeadReference)
@@ -161,6 +166,7 @@ module _ {S : Type 0} (follow : Reference → Change (State S) Referent) where
   abbrev pub referent_followed : Referent → Change (State S) Referent
   referent_followed (referent.Value v) = value_followed v
   referent_followed (referent.Object t) = give (referent.Object t)
+  referent_followed (referent.FieldUnit u) = give (referent.FieldUnit u)
 
   unfoldable pub declared_followed : ℕ → Change (State S) Referent
   declared_followed n = do
@@ -177,7 +183,7 @@ module _ {S : Type 0} (follow : Reference → Change (State S) Referent) where
   unfoldable pub name_followed : Name → List Seg → Change (State S) Referent
   name_followed n scope = do
     e ← entry_found scope n
-    referent_followed (referent_of e.object)
+    referent_followed (element_referent e.object)
 
   abbrev pub element_followed : Element → Change (State S) Referent
   element_followed (element.Value v) = value_followed v

@@ -34,6 +34,8 @@ use Rattle.aml_meaning.specs.declared.invocation.Invocation.{Invocation}
 use Rattle.aml_meaning.specs.declared.invocation.Invocation.TheVariants as invocations
 use Rattle.aml_meaning.specs.declared.place.Place.{Place}
 use Rattle.aml_meaning.specs.declared.place.Held.{Held}
+use Rattle.aml_meaning.specs.declared.object_type.Referent.{Referent}
+use Rattle.aml_meaning.specs.declared.object_type.Referent.TheVariants as referent
 use Rattle.aml_meaning.specs.declared.place.Held.TheVariants as held
 use Rattle.aml_meaning.specs.declared.place.Stored.{Stored}
 use Rattle.aml_meaning.specs.declared.place.Stored.TheVariants as store
@@ -51,7 +53,7 @@ use Rattle.aml_meaning.specs.OperatorTerms.{slot_rule, store_rule, copy_rule, tw
 use Rattle.aml_meaning.specs.StatementTerms.{otherwise, branch, if_rule, else_rule, turn_of, turn, loop_end, after_turn, turns, loop, while_rule, return_rule, release_rule, notify_rule, pause_rule, fatal_rule, statement_rule}
 use Rattle.aml_meaning.specs.Invocations.{invoked, method_value}
 use Rattle.aml_meaning.specs.InvocationTerms.{arguments_in_turn, call_rule, field_rule, invocation_rule, name_value}
-use Rattle.aml_meaning.specs.FieldCalls.{asked, method_integer, answer_over, answer_within, field_read, held_integer, completed, stored_to, stored_back}
+use Rattle.aml_meaning.specs.FieldCalls.{asked, method_integer, answer_over, answer_within, field_read, held_integer, field_referent, referent_read, completed, stored_to, stored_back}
 use Rattle.aml_meaning.specs.FieldTerms.{fields_laid, region_rule, field_list_rule, index_list_rule, region_term_rule}
 use Rattle.aml_meaning.specs.KeepingFields.{leaves_elements, leaves_region_found, leaves_field_found, keeps_field_value, keeps_field_integer, keeps_field_part, keeps_field_stored}
 use Rattle.aml_meaning.specs.Evaluation.{kind_rule, code_rule, rule}
@@ -109,6 +111,15 @@ module _ {S : Type 0} {p : List Seg} (accesses : Accesses S) (ev : Task → Run 
   keeps_held : (depth : ℕ) (h : Held) → Keeps p (held_integer accesses ev depth h)
   keeps_held depth (held.Value v) = keeps_lift _ (leaves_read v)
   keeps_held depth (held.FieldUnit u) = keeps_field_integer accesses _ (keeps_asked _ (keeps_answer _)) u
+
+  keeps_field_referent : (depth : ℕ) (u : FieldUnit) → Keeps p (field_referent accesses ev depth u)
+  unfolding field_referent
+  keeps_field_referent depth u = keeps_bind _ _ (keeps_read depth u) (λ v. keeps_give _)
+
+  keeps_referent_read : (depth : ℕ) (r : Referent) → Keeps p (referent_read accesses ev depth r)
+  keeps_referent_read depth (referent.Value v) = keeps_give _
+  keeps_referent_read depth (referent.Object t) = keeps_give _
+  keeps_referent_read depth (referent.FieldUnit u) = keeps_field_referent depth u
 
   keeps_completed : (depth : ℕ) (s : Stored) (v : Value) → Keeps p (completed accesses ev depth s v)
   keeps_completed depth store.Done v = keeps_give _
@@ -299,11 +310,11 @@ module _ {S : Type 0} {p : List Seg} (accesses : Accesses S) (ev : Task → Run 
 
   keeps_size : (scope : List Seg) (depth : ℕ) (t : Tree) → Keeps p (size_rule accesses ev scope depth t)
   unfolding size_rule
-  keeps_size scope depth t = keeps_bind _ _ (keeps_place scope depth t 0) (λ q. keeps_bind _ _ (keeps_lift _ (leaves_referent q)) (λ r. keeps_bind _ _ (keeps_lift _ (leaves_size r)) (λ v. keeps_give _)))
+  keeps_size scope depth t = keeps_bind _ _ (keeps_place scope depth t 0) (λ q. keeps_bind _ _ (keeps_lift _ (leaves_referent q)) (λ r. keeps_bind _ _ (keeps_referent_read depth r) (λ s. keeps_bind _ _ (keeps_lift _ (leaves_size s)) (λ v. keeps_give _))))
 
   keeps_type : (scope : List Seg) (depth : ℕ) (t : Tree) → Keeps p (type_rule accesses ev scope depth t)
   unfolding type_rule
-  keeps_type scope depth t = keeps_bind _ _ (keeps_place scope depth t 0) (λ q. keeps_bind _ _ (keeps_lift _ (leaves_referent q)) (λ r. keeps_give _))
+  keeps_type scope depth t = keeps_bind _ _ (keeps_place scope depth t 0) (λ q. keeps_bind _ _ (keeps_lift _ (leaves_referent q)) (λ r. keeps_bind _ _ (keeps_referent_read depth r) (λ s. keeps_give _)))
 
   keeps_acquire : (scope : List Seg) (depth : ℕ) (t : Tree) → Keeps p (acquire_rule accesses ev scope depth t)
   unfolding acquire_rule

@@ -2,7 +2,7 @@
 ghost use Rattle.std.specs.Prelude.{◌≡◌};
 ghost use Rattle.aml_meaning.specs.Operations.{type_number, type_of_value, type_of_referent};
 
-use aml_objects::Value;
+use aml_objects::{FieldUnit, Value};
 
 /// The type of an object.
 #[derive(Clone, Copy, Debug, PartialEq, Eq)]
@@ -34,6 +34,8 @@ pub enum Referent {
     Value(Value),
     /// An object that is no value.
     Object(ObjectType),
+    /// A field unit that an element of a package names: the element stands for the field's value, which is read next.
+    FieldUnit(FieldUnit),
 }
 
 impl ObjectType {
@@ -63,13 +65,14 @@ impl ObjectType {
 }
 
 impl Referent {
-    /// Its type.
+    /// Its type. A field unit that isn't read is one.
     pub fn object_type(self) -> ObjectType
         ensures { result ≡ type_of_referent self }
     {
         match self {
             Referent::Value(value) => type_of(value),
             Referent::Object(object_type) => object_type,
+            Referent::FieldUnit(_) => ObjectType::FieldUnit,
         }
     }
 }

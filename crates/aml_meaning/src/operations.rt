@@ -104,8 +104,8 @@ impl<S> World<S> {
         }
     }
 
-    /// How many bytes a string or a buffer has, or elements a package. Anything else is refused as `WrongType`, and what is
-    /// uninitialized as `NoValue`.
+    /// How many bytes a string or a buffer has, or elements a package. Anything else, a field unit that isn't read among it, is
+    /// refused as `WrongType`, and what is uninitialized as `NoValue`.
     #[tactic(auto, unfolding(crate::specs::Operations::size_in))]
     pub fn size(&self, referent: Referent) -> Result<Value, Refusal>
         ensures { Does result self.now (size_in referent) self.now }
@@ -306,6 +306,7 @@ impl<S> World<S> {
         match referent {
             Referent::Value(value) => self.size_of_value(value),
             Referent::Object(_) => Err(Refusal::Value(ValueFault::WrongType)),
+            Referent::FieldUnit(_) => Err(Refusal::Value(ValueFault::WrongType)),
         }
     }
 

@@ -1,7 +1,7 @@
 //! What references refer to in the end (ACPI 6.5, 19.6: SizeOf, ObjectType).
 ghost use Rattle.std.specs.Prelude.{◌≡◌};
 ghost use Rattle.ar_space.specs.Change.{Does};
-ghost use Rattle.aml_meaning.specs.Places.{referent_of, value_followed, referent_followed, declared_followed, slot_followed, name_followed, element_followed, held_followed, byte_followed, reference_followed, followed, most_references, slot_referent, declared_referent, name_referent, place_referent};
+ghost use Rattle.aml_meaning.specs.Places.{referent_of, element_referent, value_followed, referent_followed, declared_followed, slot_followed, name_followed, element_followed, held_followed, byte_followed, reference_followed, followed, most_references, slot_referent, declared_referent, name_referent, place_referent};
 
 use crate::object_type::{ObjectType, Referent};
 use crate::place::Place;
@@ -15,8 +15,9 @@ use std::alloc::Global;
 pub(crate) const MOST_REFERENCES: usize = 64;
 
 impl<S> World<S> {
-    /// What a place holds when references are followed, at most 64 of them. A reference to what is gone, and a longer chain,
-    /// are refused as `DeadReference`.
+    /// What a place holds when references are followed, at most 64 of them. A field unit that an element of a package names
+    /// is handed back, for its value to be read. A reference to what is gone, and a longer chain, are refused as
+    /// `DeadReference`.
     #[tactic(auto, using(ar_space::specs::Change::changing))]
     pub fn place_referent(&self, alloc: Global, place: &Place) -> Result<Referent, Refusal>
         ensures { Does result self.now (place_referent place.now) self.now }
@@ -75,6 +76,16 @@ fn referent_of(object: &NamedObject) -> Referent
     }
 }
 
+/// What the name in an element of a package stands for: a field's value, and else what a name does.
+fn element_referent(object: &NamedObject) -> Referent
+    ensures { result ≡ element_referent object.now }
+{
+    match object {
+        NamedObject::FieldUnit(unit) => Referent::FieldUnit(*unit),
+        other => referent_of(other),
+    }
+}
+
 #[cycle(following)]
 #[tactic(auto, using(ar_space::specs::Change::changing))]
 fn value_followed<S>(
@@ -108,6 +119,7 @@ fn referent_followed<S>(
     match referent {
         Referent::Value(value) => value_followed(alloc, world, levels, value),
         Referent::Object(object_type) => Ok(Referent::Object(object_type)),
+        Referent::FieldUnit(unit) => Ok(Referent::FieldUnit(unit)),
     }
 }
 
@@ -219,7 +231,7 @@ fn name_followed<S>(
     ensures { Does result world.now (name_followed (followed levels) name.now scope.now) world.now }
 {
     let entry = world.entry(scope, name)?;
-    referent_followed(alloc, world, levels, referent_of(&entry.object))
+    referent_followed(alloc, world, levels, element_referent(&entry.object))
 }
 
 #[tactic(auto, using(ar_space::specs::Change::changing), unfolding(crate::specs::Places::byte_followed))]

@@ -102,10 +102,10 @@ abbrev pub decreases-operators::eval_count : goal.decreases-operators::eval_coun
 decreases-operators::eval_count g l = 40 * (l.budget.now + (32 - l.depth)) + 27
 
 abbrev pub decreases-operators::eval_size : goal.decreases-operators::eval_size
-decreases-operators::eval_size g l = 40 * (l.budget.now + (32 - l.depth)) + 5
+decreases-operators::eval_size g l = 40 * (l.budget.now + (32 - l.depth)) + 26
 
 abbrev pub decreases-operators::eval_type : goal.decreases-operators::eval_type
-decreases-operators::eval_type g l = 40 * (l.budget.now + (32 - l.depth)) + 5
+decreases-operators::eval_type g l = 40 * (l.budget.now + (32 - l.depth)) + 26
 
 abbrev pub decreases-operators::eval_acquire : goal.decreases-operators::eval_acquire
 decreases-operators::eval_acquire g l = 40 * (l.budget.now + (32 - l.depth)) + 5
@@ -250,6 +250,12 @@ decreases-field_calls::eval_field_read g l = 40 * (l.budget.now + (32 - l.depth)
 
 abbrev pub decreases-field_calls::eval_held : goal.decreases-field_calls::eval_held
 decreases-field_calls::eval_held g l = 40 * (l.budget.now + (32 - l.depth)) + 24
+
+abbrev pub decreases-field_calls::eval_field_referent : goal.decreases-field_calls::eval_field_referent
+decreases-field_calls::eval_field_referent g l = 40 * (l.budget.now + (32 - l.depth)) + 24
+
+abbrev pub decreases-field_calls::eval_referent : goal.decreases-field_calls::eval_referent
+decreases-field_calls::eval_referent g l = 40 * (l.budget.now + (32 - l.depth)) + 25
 
 abbrev pub decreases-field_calls::eval_completed : goal.decreases-field_calls::eval_completed
 decreases-field_calls::eval_completed g l = 40 * (l.budget.now + (32 - l.depth)) + 24

@@ -1,5 +1,6 @@
 //! Operation regions and fields, access for access.
 mod declarations;
+mod elements;
 mod handed_out;
 mod index_fields;
 mod pci;
