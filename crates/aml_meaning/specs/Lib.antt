@@ -1,6 +1,7 @@
 pub mod Agree
 pub mod AgreeFields
 pub mod AgreeTerms
+pub mod Belonging
 pub mod Callees
 pub mod Calling
 pub mod DataTerms

@@ -1,6 +1,7 @@
 //! What AML means: the world that evaluation changes, and what changes it (ACPI 6.5, 5.3, 5.5 and 19.3.5).
 #![tactic(auto)]
 
+mod belonging;
 mod datum;
 mod declarations;
 mod field_layout;

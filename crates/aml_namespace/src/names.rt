@@ -1,5 +1,5 @@
 //! The names that are declared, by whole paths in path order.
-ghost use Rattle.std.specs.Prelude.{◌≡◌, ◌++◌, ◌+◌, ◌<◌, ◌≤◌, ◌^◌, List, Ok, Err, None, OnOk, IsOkUnless, MatchOption, length, option_map};
+ghost use Rattle.std.specs.Prelude.{◌≡◌, ◌++◌, ◌+◌, ◌<◌, ◌≤◌, ◌^◌, nat_lt, List, Ok, Err, None, OnOk, IsOkUnless, MatchOption, length, option_map};
 ghost use Rattle.std.specs.Prelude as list;
 ghost use Rattle.std.specs.FinMap as map;
 ghost use Rattle.std.specs.Prelude.{T};
@@ -87,6 +87,13 @@ impl Names {
         ensures { option_map (λ found. found.now) result ≡ numbered number self.now.map }
     {
         with_number(&self.entries, number)
+    }
+
+    /// Whether a number was given to a declaration, which may be gone by now. It takes no memory.
+    pub fn was_given(&self, number: u64) -> bool
+        ensures { result ≡ nat_lt number self.now.next }
+    {
+        number < self.next
     }
 
     /// Declares a name, and gives the number of the declaration.

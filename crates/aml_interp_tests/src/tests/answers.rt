@@ -1,74 +1,167 @@
 //! What names answer.
 use super::aml;
-use super::worlds::{STEPS, answer_of, fresh, loaded};
+use super::traces::{Wanted, judge_answer};
+use super::worlds::{STEPS, answer_of, fresh, loaded, path_of};
 use crate::tests::{is_so, same};
 use aml_interp::{eval, load};
 use aml_meaning::{Datum, World};
 use aml_objects::Value;
 use aml_path::Path;
-use ar_space::{EvaluationFault, IntegerWidth, NamespaceFault, Refusal, Sparse};
+use ar_space::IntegerWidth::{Bits32, Bits64};
+use ar_space::{EvaluationFault, IntegerWidth, Refusal, Sparse};
 use std::alloc::Global;
 use std::test::Fail;
 
 const OUT_OF_STEPS: Refusal = Refusal::Evaluation(EvaluationFault::OutOfSteps);
 
+/// A table, how wide its integers are, and what one of its names answers where no step is left.
+struct Case<'a> {
+    says: &'a str,
+    table: &'a [u8],
+    width: IntegerWidth,
+    path: &'a [u8],
+    answer: Wanted<'a>,
+}
+
+const CASES: &[Case] = &[
+    Case {
+        says: "an integer",
+        table: aml::KINDS,
+        width: Bits64,
+        path: b"\\CPU0.INT_",
+        answer: Wanted::Integer(0x1122_3344_5566_7788),
+    },
+    Case {
+        says: "the low bits of an integer",
+        table: aml::KINDS,
+        width: Bits32,
+        path: b"\\CPU0.INT_",
+        answer: Wanted::Integer(0x5566_7788),
+    },
+    Case {
+        says: "Ones of 32 bits",
+        table: aml::KINDS,
+        width: Bits32,
+        path: b"\\PWR_.ONE_",
+        answer: Wanted::Integer(0xFFFF_FFFF),
+    },
+    Case {
+        says: "a string, by an alias",
+        table: aml::KINDS,
+        width: Bits64,
+        path: b"\\ALS_",
+        answer: Wanted::Text(b"AB"),
+    },
+    Case {
+        says: "a buffer with fewer bytes than its size",
+        table: aml::KINDS,
+        width: Bits64,
+        path: b"\\DEV_.BUF_",
+        answer: Wanted::Bytes(&[1, 2, 0, 0]),
+    },
+    Case {
+        says: "a device",
+        table: aml::KINDS,
+        width: Bits64,
+        path: b"\\DEV_",
+        answer: Wanted::Named(b"\\DEV_"),
+    },
+    Case {
+        says: "an integer with two aliases",
+        table: aml::ALIAS_TO_ALIAS,
+        width: Bits64,
+        path: b"\\INT_",
+        answer: Wanted::Integer(1),
+    },
+    Case {
+        says: "an alias",
+        table: aml::ALIAS_TO_ALIAS,
+        width: Bits64,
+        path: b"\\AL1_",
+        answer: Wanted::Integer(1),
+    },
+    Case {
+        says: "an alias of an alias",
+        table: aml::ALIAS_TO_ALIAS,
+        width: Bits64,
+        path: b"\\AL2_",
+        answer: Wanted::Integer(1),
+    },
+    Case {
+        says: "a buffer whose size is a string",
+        table: aml::SIZE_BY_NAME,
+        width: Bits64,
+        path: b"\\BUF_",
+        answer: Wanted::Bytes(&[7, 0, 0]),
+    },
+    Case {
+        says: "nothing stands there",
+        table: aml::CALL_LATER,
+        width: Bits64,
+        path: b"\\NONE",
+        answer: Wanted::Refused(61),
+    },
+    Case {
+        says: "a method without its argument",
+        table: aml::CALL_LATER,
+        width: Bits64,
+        path: b"\\MTH_",
+        answer: Wanted::Refused(72),
+    },
+];
+
+fn case_answer(alloc: Global, case: &Case) -> Result<Datum, Refusal> {
+    let mut world = fresh(alloc, case.width)?;
+    load(alloc, &mut world, case.table, STEPS)?;
+    answer_of(alloc, &mut world, case.path, 0)
+}
+
 #[test]
-fn integers_strings_and_buffers(rt: HostRuntime) -> Result<(), Fail> {
+fn names_answer_what_they_hold(rt: HostRuntime) -> Result<(), Fail> {
     let alloc = rt.alloc();
-    let mut world = loaded(alloc, aml::KINDS)?;
-    match answer_of(alloc, &mut world, b"\\CPU0.INT_", 0)? {
-        Datum::Integer(number) => same(&rt, &number, &0x1122_3344_5566_7788),
-        _ => is_so(&rt, false),
-    }
-    match answer_of(alloc, &mut world, b"\\ALS_", 0)? {
-        Datum::Text(text) => same(&rt, &text.as_slice(), &b"AB".as_slice()),
-        _ => is_so(&rt, false),
-    }
-    match answer_of(alloc, &mut world, b"\\DEV_.BUF_", 0)? {
-        Datum::Bytes(bytes) => same(&rt, &bytes.as_slice(), &[1, 2, 0, 0].as_slice()),
-        _ => is_so(&rt, false),
-    }
-    match answer_of(alloc, &mut world, b"\\DEV_", 0)? {
-        Datum::Named(path) => same(&rt, &path, &Path::from_text(alloc, b"\\DEV_")?),
-        _ => is_so(&rt, false),
+    for case in CASES {
+        let answer = case_answer(alloc, case);
+        judge_answer(&rt, alloc, case.says, &answer, case.answer)?;
     }
     Ok(())
 }
 
-#[test]
-fn integers_are_as_wide_as_the_tables_say(rt: HostRuntime) -> Result<(), Fail> {
-    let alloc = rt.alloc();
-    let mut world = fresh(alloc, IntegerWidth::Bits32)?;
-    load(alloc, &mut world, aml::KINDS, STEPS)?;
-    match answer_of(alloc, &mut world, b"\\CPU0.INT_", 0)? {
-        Datum::Integer(number) => same(&rt, &number, &0x5566_7788),
-        _ => is_so(&rt, false),
+/// Whether these are the integer 1, a string, and an element that was left out.
+fn are_three(elements: &Vec<Datum>) -> bool {
+    match elements.as_slice() {
+        [Datum::Integer(number), Datum::Text(text), Datum::Nothing] => {
+            *number == 1 && text.as_slice() == b"AB".as_slice()
+        }
+        _ => false,
     }
-    match answer_of(alloc, &mut world, b"\\PWR_.ONE_", 0)? {
-        Datum::Integer(number) => same(&rt, &number, &0xFFFF_FFFF),
-        _ => is_so(&rt, false),
+}
+
+/// The elements that the name at a path answers, in so many steps.
+fn elements_of(
+    alloc: Global,
+    world: &mut World<Sparse>,
+    path: &[u8],
+    steps: u64,
+) -> Result<Vec<Datum>, Refusal> {
+    match answer_of(alloc, world, path, steps)? {
+        Datum::Package(elements) => Ok(elements),
+        _ => Ok(Vec::new(alloc)),
     }
-    Ok(())
 }
 
 #[test]
 fn elements_of_packages(rt: HostRuntime) -> Result<(), Fail> {
     let alloc = rt.alloc();
     let mut world = loaded(alloc, aml::KINDS)?;
-    match answer_of(alloc, &mut world, b"\\DEV_.PKG_", 3)? {
-        Datum::Package(elements) => match elements.as_slice() {
-            [Datum::Integer(number), Datum::Text(text), Datum::Nothing] => {
-                same(&rt, &*number, &1);
-                same(&rt, &text.as_slice(), &b"AB".as_slice());
-            }
-            _ => is_so(&rt, false),
-        },
-        _ => is_so(&rt, false),
-    }
-    match answer_of(alloc, &mut world, b"\\VAR_", STEPS)? {
-        Datum::Package(elements) => same(&rt, &elements.len(), &2),
-        _ => is_so(&rt, false),
-    }
+    is_so(
+        &rt,
+        are_three(&elements_of(alloc, &mut world, b"\\DEV_.PKG_", 3)?),
+    );
+    same(
+        &rt,
+        &elements_of(alloc, &mut world, b"\\VAR_", STEPS)?.len(),
+        &2,
+    );
     Ok(())
 }
 
@@ -80,32 +173,34 @@ fn an_element_that_is_handed_out_costs_a_step(rt: HostRuntime) -> Result<(), Fai
         let refused = answer_of(alloc, &mut world, b"\\_SB_.PCI0._PRT", steps).err();
         same(&rt, &refused, &Some(OUT_OF_STEPS));
     }
-    match answer_of(alloc, &mut world, b"\\_SB_.PCI0._PRT", 15)? {
-        Datum::Package(entries) => match entries.as_slice() {
-            [Datum::Package(first), _, Datum::Package(last)] => {
-                is_so(&rt, names_link(alloc, first)?);
-                is_so(&rt, is_wired_to_ten(last));
-            }
-            _ => is_so(&rt, false),
-        },
-        _ => is_so(&rt, false),
-    }
+    let entries = elements_of(alloc, &mut world, b"\\_SB_.PCI0._PRT", 15)?;
+    is_so(&rt, is_routing_table(alloc, &entries)?);
     Ok(())
+}
+
+/// Whether these are three entries, the first one of a link device, the last one of an interrupt.
+fn is_routing_table(alloc: Global, entries: &Vec<Datum>) -> Result<bool, Refusal> {
+    let link = path_of(alloc, b"\\_SB_.LNKA")?;
+    Ok(match entries.as_slice() {
+        [Datum::Package(first), _, Datum::Package(last)] => {
+            names_link(first, &link) && is_wired_to_ten(last)
+        }
+        _ => false,
+    })
 }
 
 /// The address of an entry: device 1, every function.
 const DEVICE_ONE: u64 = 0x1FFFF;
 
-fn names_link(alloc: Global, entry: &Vec<Datum>) -> Result<bool, Refusal> {
-    let link = Path::from_text(alloc, b"\\_SB_.LNKA")?;
+fn names_link(entry: &Vec<Datum>, link: &Path) -> bool {
     match entry.as_slice() {
         [
             Datum::Integer(address),
             Datum::Integer(pin),
             Datum::Named(path),
             Datum::Integer(index),
-        ] => { Ok(*address == DEVICE_ONE && *pin == 0 && *path == link && *index == 0) }
-        _ => Ok(false),
+        ] => { *address == DEVICE_ONE && *pin == 0 && *path == *link && *index == 0 }
+        _ => false,
     }
 }
 
@@ -122,23 +217,6 @@ fn is_wired_to_ten(entry: &Vec<Datum>) -> bool {
 }
 
 #[test]
-fn an_alias_of_an_alias(rt: HostRuntime) -> Result<(), Fail> {
-    let alloc = rt.alloc();
-    let mut world = loaded(alloc, aml::ALIAS_TO_ALIAS)?;
-    for path in [
-        b"\\INT_".as_slice(),
-        b"\\AL1_".as_slice(),
-        b"\\AL2_".as_slice(),
-    ] {
-        match answer_of(alloc, &mut world, path, 0)? {
-            Datum::Integer(number) => same(&rt, &number, &1),
-            _ => is_so(&rt, false),
-        }
-    }
-    Ok(())
-}
-
-#[test]
 fn excess_elements_are_not_evaluated(rt: HostRuntime) -> Result<(), Fail> {
     let alloc = rt.alloc();
     let mut world = fresh(alloc, IntegerWidth::Bits64)?;
@@ -151,63 +229,64 @@ fn excess_elements_are_not_evaluated(rt: HostRuntime) -> Result<(), Fail> {
 }
 
 #[test]
-fn a_size_is_converted(rt: HostRuntime) -> Result<(), Fail> {
+fn the_longest_buffer(rt: HostRuntime) -> Result<(), Fail> {
     let alloc = rt.alloc();
-    let mut world = loaded(alloc, aml::SIZE_BY_NAME)?;
-    match answer_of(alloc, &mut world, b"\\BUF_", 0)? {
-        Datum::Bytes(bytes) => same(&rt, &bytes.as_slice(), &[7, 0, 0].as_slice()),
-        _ => is_so(&rt, false),
-    }
     let mut world = loaded(alloc, aml::LONGEST_BUFFER)?;
-    match answer_of(alloc, &mut world, b"\\BUF_", 0)? {
-        Datum::Bytes(bytes) => same(&rt, &bytes.as_slice().len(), &1_048_576),
-        _ => is_so(&rt, false),
-    }
+    let length = match answer_of(alloc, &mut world, b"\\BUF_", 0)? {
+        Datum::Bytes(bytes) => bytes.as_slice().len(),
+        _ => 0,
+    };
+    same(&rt, &length, &1_048_576);
     Ok(())
 }
 
+/// The value of `_REV`, called with these arguments and 7 steps.
+fn revision(
+    alloc: Global,
+    world: &mut World<Sparse>,
+    arguments: Vec<Value>,
+) -> Result<(Value, u64), Refusal> {
+    eval(alloc, world, &path_of(alloc, b"\\_REV")?, arguments, 7)
+}
+
 #[test]
-fn values_and_what_is_left_of_the_steps(rt: HostRuntime) -> Result<(), Fail> {
+fn a_value_and_what_is_left_of_the_steps(rt: HostRuntime) -> Result<(), Fail> {
     let alloc = rt.alloc();
     let mut world = loaded(alloc, aml::KINDS)?;
-    let path = Path::from_text(alloc, b"\\_REV")?;
-    let value = eval(alloc, &mut world, &path, Vec::new(alloc), 7)?;
-    same(&rt, &value, &(Value::Integer(2), 7));
-    let mut arguments = Vec::new(alloc);
-    arguments.push(Value::Integer(1))?;
-    let refused = eval(alloc, &mut world, &path, arguments, 7);
-    same(
-        &rt,
-        &refused.err(),
-        &Some(Refusal::Evaluation(EvaluationFault::ArityChanged)),
-    );
+    let value = revision(alloc, &mut world, Vec::new(alloc));
+    same(&rt, &value, &Ok((Value::Integer(2), 7)));
     Ok(())
 }
 
 #[test]
-fn names_that_answer_nothing(rt: HostRuntime) -> Result<(), Fail> {
+fn an_integer_takes_no_arguments(rt: HostRuntime) -> Result<(), Fail> {
     let alloc = rt.alloc();
+    let mut world = loaded(alloc, aml::KINDS)?;
+    let mut arguments = Vec::new(alloc);
+    arguments.push(Value::Integer(1))?;
+    let refused = revision(alloc, &mut world, arguments);
+    same(
+        &rt,
+        &refused,
+        &Err(Refusal::Evaluation(EvaluationFault::ArityChanged)),
+    );
+    Ok(())
+}
+
+/// What a method of an argument answers that has no terms.
+fn answer_of_nothing(alloc: Global) -> Result<Datum, Refusal> {
     let mut world = loaded(alloc, aml::CALL_LATER)?;
-    let missing = answer_of(alloc, &mut world, b"\\NONE", 9).err();
-    same(
-        &rt,
-        &missing,
-        &Some(Refusal::Namespace(NamespaceFault::NotFound)),
-    );
-    let few = answer_of(alloc, &mut world, b"\\MTH_", 9).err();
-    same(
-        &rt,
-        &few,
-        &Some(Refusal::Evaluation(EvaluationFault::ArityChanged)),
-    );
     let mut arguments = Vec::new(alloc);
     arguments.push(Datum::Integer(1))?;
-    let path = Path::from_text(alloc, b"\\MTH_")?;
-    match aml_interp::answer(alloc, &mut world, &path, arguments, 0)? {
-        Datum::Nothing => {}
-        _ => is_so(&rt, false),
-    }
-    Ok(())
+    let path = path_of(alloc, b"\\MTH_")?;
+    aml_interp::answer(alloc, &mut world, &path, arguments, 0)
+}
+
+#[test]
+fn a_method_without_return_answers_nothing(rt: HostRuntime) -> Result<(), Fail> {
+    let alloc = rt.alloc();
+    let answer = answer_of_nothing(alloc);
+    judge_answer(&rt, alloc, "no terms", &answer, Wanted::Nothing)
 }
 
 /// A package that holds the name of the one before it, as often as said: `P00_` holds nothing.

@@ -1,11 +1,13 @@
 //! What tables declare, and how they are refused.
 use super::aml;
-use super::worlds::{STEPS, fresh, loaded, stands};
+use super::worlds::{STEPS, fresh, loaded, path_of, stands};
 use crate::tests::{is_so, same};
 use aml_interp::load;
+use aml_meaning::World;
 use aml_objects::NamedObject;
 use aml_path::Path;
-use ar_space::{EvaluationFault, IntegerWidth, NamespaceFault, Refusal, TermFault};
+use ar_space::{EvaluationFault, IntegerWidth, NamespaceFault, Refusal, Sparse, TermFault};
+use std::alloc::Global;
 use std::test::Fail;
 
 /// The names of the example machine in path order: those that are predefined, and those of its table.
@@ -33,14 +35,25 @@ const EXAMPLE_NAMES: &[&[u8]] = &[
 /// five for each of its three entries.
 const EXAMPLE_STEPS: u64 = 31;
 
+/// All names of a world but the root, in path order.
+fn names_of(alloc: Global, world: &World<Sparse>) -> Result<Vec<Path>, Refusal> {
+    world.names().walk(alloc)
+}
+
+/// What loading the table of the example machine comes to in so many steps.
+fn example_in(alloc: Global, steps: u64) -> Result<(), Refusal> {
+    let mut world = fresh(alloc, IntegerWidth::Bits64)?;
+    load(alloc, &mut world, aml::EXAMPLE, steps)
+}
+
 #[test]
 fn names_of_the_example(rt: HostRuntime) -> Result<(), Fail> {
     let alloc = rt.alloc();
     let world = loaded(alloc, aml::EXAMPLE)?;
-    let walked = world.names().walk(alloc)?;
-    same(&rt, &walked.len(), &EXAMPLE_NAMES.len());
-    for (path, text) in walked.iter().zip(EXAMPLE_NAMES.iter()) {
-        same(&rt, &*path, &Path::from_text(alloc, text)?);
+    let names = names_of(alloc, &world)?;
+    same(&rt, &names.len(), &EXAMPLE_NAMES.len());
+    for (path, text) in names.iter().zip(EXAMPLE_NAMES.iter()) {
+        same(&rt, &*path, &path_of(alloc, text)?);
     }
     Ok(())
 }
@@ -49,20 +62,13 @@ fn names_of_the_example(rt: HostRuntime) -> Result<(), Fail> {
 fn each_term_costs_a_step(rt: HostRuntime) -> Result<(), Fail> {
     let alloc = rt.alloc();
     for steps in 0..EXAMPLE_STEPS {
-        let mut world = fresh(alloc, IntegerWidth::Bits64)?;
-        let outcome = load(alloc, &mut world, aml::EXAMPLE, steps);
         same(
             &rt,
-            &outcome,
+            &example_in(alloc, steps),
             &Err(Refusal::Evaluation(EvaluationFault::OutOfSteps)),
         );
     }
-    let mut world = fresh(alloc, IntegerWidth::Bits64)?;
-    same(
-        &rt,
-        &load(alloc, &mut world, aml::EXAMPLE, EXAMPLE_STEPS),
-        &Ok(()),
-    );
+    same(&rt, &example_in(alloc, EXAMPLE_STEPS), &Ok(()));
     Ok(())
 }
 
@@ -135,32 +141,48 @@ fn terms_that_are_not_evaluated(rt: HostRuntime) -> Result<(), Fail> {
     Ok(())
 }
 
+/// Names of a table with one declaration of each kind, and what they are.
+const DECLARED: &[(&[u8], &str)] = &[
+    (b"\\DEV_", "Device"),
+    (b"\\CPU0", "Processor"),
+    (b"\\PWR_", "PowerResource"),
+    (b"\\THM_", "ThermalZone"),
+    (b"\\MTX_", "Mutex"),
+    (b"\\EVT_", "Event"),
+    (b"\\ALS_", "Alias"),
+    (b"\\MTH_", "Method of 2 arguments"),
+    (b"\\OUT_", "nothing"),
+];
+
+/// What stands at a path, in a word.
+fn kind_at(alloc: Global, world: &World<Sparse>, path: &[u8]) -> Result<&'static str, Refusal> {
+    let path = path_of(alloc, path)?;
+    Ok(match world.names().get(&path) {
+        None => "nothing",
+        Some(entry) => kind_of(&entry.object),
+    })
+}
+
+fn kind_of(object: &NamedObject) -> &'static str {
+    match object {
+        NamedObject::Device => "Device",
+        NamedObject::Processor => "Processor",
+        NamedObject::PowerResource => "PowerResource",
+        NamedObject::ThermalZone => "ThermalZone",
+        NamedObject::Mutex(0) => "Mutex",
+        NamedObject::Event => "Event",
+        NamedObject::Alias(_) => "Alias",
+        NamedObject::Method(method) if method.arguments == 2 => "Method of 2 arguments",
+        _ => "another object",
+    }
+}
+
 #[test]
 fn one_declaration_of_each_kind(rt: HostRuntime) -> Result<(), Fail> {
     let alloc = rt.alloc();
     let world = loaded(alloc, aml::KINDS)?;
-    let kinds = [
-        (b"\\DEV_".as_slice(), NamedObject::Device),
-        (b"\\CPU0".as_slice(), NamedObject::Processor),
-        (b"\\PWR_".as_slice(), NamedObject::PowerResource),
-        (b"\\THM_".as_slice(), NamedObject::ThermalZone),
-        (b"\\MTX_".as_slice(), NamedObject::Mutex(0)),
-        (b"\\EVT_".as_slice(), NamedObject::Event),
-        (
-            b"\\ALS_".as_slice(),
-            NamedObject::Alias(Path::from_text(alloc, b"\\DEV_.STR_")?),
-        ),
-    ];
-    for (path, object) in kinds.iter() {
-        let path = Path::from_text(alloc, path)?;
-        let entry = world.names().get(&path);
-        same(&rt, &entry.map(|entry| &entry.object), &Some(object));
-    }
-    is_so(&rt, !stands(alloc, &world, b"\\OUT_")?);
-    let method = world.names().get(&Path::from_text(alloc, b"\\MTH_")?);
-    match method.map(|entry| &entry.object) {
-        Some(NamedObject::Method(method)) => same(&rt, &method.arguments, &2),
-        _ => is_so(&rt, false),
+    for (path, kind) in DECLARED {
+        same(&rt, &kind_at(alloc, &world, path)?, kind);
     }
     Ok(())
 }

@@ -1,8 +1,9 @@
 //! A new world, its names, objects and frames.
+use super::worlds::path_of;
 use crate::tests::{is_so, same};
 use aml_meaning::World;
 use aml_objects::{
-    Content, Element, Elements, Method, MethodBody, NamedObject, Octets, Slot, Value,
+    Content, Element, Elements, Method, MethodBody, NamedObject, Octets, Reference, Slot, Value,
 };
 use aml_path::{NameString, Path, Prefix, Seg};
 use ar_space::{EvaluationFault, IntegerWidth, NamespaceFault, Place, Refusal, Sparse};
@@ -51,57 +52,156 @@ fn object(world: &World<Sparse>, alloc: Global, characters: [u8; 4]) -> Result<b
     })
 }
 
+/// The predefined names in path order, each below the root.
+const PREDEFINED: &[&[u8; 4]] = &[
+    b"_GL_", b"_GPE", b"_OSI", b"_OS_", b"_PR_", b"_REV", b"_SB_", b"_SI_", b"_TZ_",
+];
+
+/// The first segments of all names but the root, in path order.
+fn first_segments(alloc: Global, world: &World<Sparse>) -> Result<Vec<[u8; 4]>, Refusal> {
+    let mut segments = Vec::new(alloc);
+    for path in world.names().walk(alloc)?.iter() {
+        if let Some(segment) = path.segments().first() {
+            segments.push(segment.bytes())?;
+        }
+    }
+    Ok(segments)
+}
+
 #[test]
 fn predefined_names(rt: HostRuntime) -> Result<(), Fail> {
     let alloc = rt.alloc();
     let world = new_world(alloc)?;
-    let names = [
-        b"_GL_", b"_GPE", b"_OSI", b"_OS_", b"_PR_", b"_REV", b"_SB_", b"_SI_", b"_TZ_",
-    ];
-    let walked = world.names().walk(alloc)?;
-    same(&rt, &walked.len(), &names.len());
-    for (path, characters) in walked.iter().zip(names.iter()) {
-        same(&rt, &path.segments().len(), &1);
-        for segment in path.segments() {
-            same(&rt, &segment.bytes(), &**characters);
-        }
+    let segments = first_segments(alloc, &world)?;
+    same(&rt, &segments.len(), &PREDEFINED.len());
+    for (segment, characters) in segments.iter().zip(PREDEFINED.iter()) {
+        same(&rt, segment, &**characters);
         is_so(&rt, object(&world, alloc, **characters)?);
     }
-    same(&rt, &world.width(), &IntegerWidth::Bits64);
-    match world.content(Value::String(0)) {
-        Content::String(text) => same(&rt, &text, &b"Microsoft Windows NT".as_slice()),
-        _ => is_so(&rt, false),
+    Ok(())
+}
+
+/// What a string holds; of anything else nothing.
+fn text_of<'a>(world: &'a World<Sparse>, value: Value) -> &'a [u8] {
+    match world.content(value) {
+        Content::String(text) => text,
+        _ => &[],
     }
+}
+
+/// What a buffer holds; of anything else nothing.
+fn bytes_of<'a>(world: &'a World<Sparse>, value: Value) -> &'a [u8] {
+    match world.content(value) {
+        Content::Buffer(bytes) => bytes,
+        _ => &[],
+    }
+}
+
+#[test]
+fn parts_of_a_world(rt: HostRuntime) -> Result<(), Fail> {
+    let alloc = rt.alloc();
+    let world = new_world(alloc)?;
+    same(&rt, &world.width(), &IntegerWidth::Bits64);
+    same(
+        &rt,
+        &text_of(&world, Value::String(0)),
+        &b"Microsoft Windows NT".as_slice(),
+    );
     same(&rt, &world.space().byte(Place::Io(0x60)), &Some(7));
     same(&rt, &world.into_space().byte(Place::Io(0x60)), &Some(7));
     Ok(())
+}
+
+/// The number of the declaration of a device.
+fn device(alloc: Global, world: &mut World<Sparse>, path: &[u8]) -> Result<u64, Refusal> {
+    world.declare(path_of(alloc, path)?, NamedObject::Device)
+}
+
+fn remove_below(alloc: Global, world: &mut World<Sparse>, path: &[u8]) -> Result<(), Refusal> {
+    world.remove_below(&path_of(alloc, path)?);
+    Ok(())
+}
+
+fn string(alloc: Global, world: &mut World<Sparse>, bytes: &[u8]) -> Result<Value, Refusal> {
+    world.make_string(octets(alloc, bytes)?)
+}
+
+fn buffer(alloc: Global, world: &mut World<Sparse>, bytes: &[u8]) -> Result<Value, Refusal> {
+    world.make_buffer(octets(alloc, bytes)?)
+}
+
+/// A package of one element.
+fn package(alloc: Global, world: &mut World<Sparse>, element: Value) -> Result<Value, Refusal> {
+    let mut elements = Elements::new(alloc);
+    elements.push(Element::Value(element))?;
+    world.make_package(elements)
+}
+
+/// The number of a frame in which Arg1 has a value.
+fn frame(world: &mut World<Sparse>, value: Value) -> Result<u64, Refusal> {
+    let mut arguments = [Value::Uninitialized; 7];
+    arguments[1] = value;
+    world.open_frame(arguments)
+}
+
+fn slot(world: &World<Sparse>, frame: u64, slot: Slot) -> Result<Value, Refusal> {
+    world.slot(frame, slot)
 }
 
 #[test]
 fn names_come_and_go(rt: HostRuntime) -> Result<(), Fail> {
     let alloc = rt.alloc();
     let mut world = new_world(alloc)?;
-    let device = Path::from_text(alloc, b"\\_SB_.PCI0")?;
-    same(
-        &rt,
-        &world.declare(device.copy(alloc)?, NamedObject::Device)?,
-        &10,
-    );
-    let again = world.declare(device, NamedObject::Device);
+    let first = device(alloc, &mut world, b"\\_SB_.PCI0");
+    same(&rt, &first, &Ok(10));
+    let again = device(alloc, &mut world, b"\\_SB_.PCI0");
     same(
         &rt,
         &again,
         &Err(Refusal::Namespace(NamespaceFault::Exists)),
     );
-    let orphan = Path::from_text(alloc, b"\\_SB_.PCI1.ISA_")?;
-    let refused = world.declare(orphan, NamedObject::Device);
+    let orphan = device(alloc, &mut world, b"\\_SB_.PCI1.ISA_");
     same(
         &rt,
-        &refused,
+        &orphan,
         &Err(Refusal::Namespace(NamespaceFault::NotFound)),
     );
-    world.remove_below(&Path::from_text(alloc, b"\\_SB_")?);
-    same(&rt, &world.names().walk(alloc)?.len(), &9);
+    remove_below(alloc, &mut world, b"\\_SB_")?;
+    let left = first_segments(alloc, &world)?.len();
+    same(&rt, &left, &PREDEFINED.len());
+    Ok(())
+}
+
+/// Values, and whether a new world to which one name, one string and one frame came holds them.
+const HELD: &[(Value, bool)] = &[
+    (Value::Uninitialized, true),
+    (Value::Integer(7), true),
+    (Value::String(1), true),
+    (Value::String(2), false),
+    (Value::Buffer(2), false),
+    (Value::Package(2), false),
+    (Value::Reference(Reference::Name(10)), true),
+    (Value::Reference(Reference::Name(11)), false),
+    (Value::Reference(Reference::Slot(0, Slot::Local(0))), true),
+    (Value::Reference(Reference::Slot(1, Slot::Local(0))), false),
+    (Value::Reference(Reference::Element(1, 7)), true),
+    (Value::Reference(Reference::Element(2, 0)), false),
+    (Value::Reference(Reference::Byte(1, 0)), true),
+    (Value::Reference(Reference::Byte(2, 0)), false),
+];
+
+#[test]
+fn a_world_holds_what_it_gave(rt: HostRuntime) -> Result<(), Fail> {
+    let alloc = rt.alloc();
+    let mut world = new_world(alloc)?;
+    device(alloc, &mut world, b"\\_SB_.PCI0")?;
+    string(alloc, &mut world, b"A")?;
+    frame(&mut world, Value::Uninitialized)?;
+    remove_below(alloc, &mut world, b"\\_SB_")?;
+    world.close_frame();
+    for (value, held) in HELD {
+        same(&rt, &world.holds(value), held);
+    }
     Ok(())
 }
 
@@ -109,37 +209,49 @@ fn names_come_and_go(rt: HostRuntime) -> Result<(), Fail> {
 fn objects_of_the_world(rt: HostRuntime) -> Result<(), Fail> {
     let alloc = rt.alloc();
     let mut world = new_world(alloc)?;
-    same(
-        &rt,
-        &world.make_string(octets(alloc, b"A")?)?,
-        &Value::String(1),
-    );
-    same(
-        &rt,
-        &world.make_buffer(octets(alloc, &[1, 2])?)?,
-        &Value::Buffer(2),
-    );
-    let mut elements = Elements::new(alloc);
-    elements.push(Element::Value(Value::Integer(3)))?;
-    same(&rt, &world.make_package(elements)?, &Value::Package(3));
-    same(
-        &rt,
-        &world.copy(alloc, Value::Package(3))?,
-        &Value::Package(4),
-    );
-    same(&rt, &world.elements(alloc, 4)?.as_slice().len(), &1);
-    world.write_buffer(2, octets(alloc, &[9])?)?;
-    world.write_string(1, octets(alloc, b"BC")?)?;
-    match (
-        world.content(Value::Buffer(2)),
-        world.content(Value::String(1)),
-    ) {
-        (Content::Buffer(bytes), Content::String(text)) => {
-            same(&rt, &bytes, &[9, 0].as_slice());
-            same(&rt, &text, &b"BC".as_slice());
-        }
-        _ => is_so(&rt, false),
+    let text = string(alloc, &mut world, b"A");
+    same(&rt, &text, &Ok(Value::String(1)));
+    let bytes = buffer(alloc, &mut world, &[1, 2]);
+    same(&rt, &bytes, &Ok(Value::Buffer(2)));
+    let one = package(alloc, &mut world, Value::Integer(3));
+    same(&rt, &one, &Ok(Value::Package(3)));
+    Ok(())
+}
+
+/// How many elements the copy of a package of one element has.
+fn elements_of_a_copy(alloc: Global, world: &mut World<Sparse>) -> Result<usize, Refusal> {
+    let one = package(alloc, world, Value::Integer(3))?;
+    match world.copy(alloc, one)? {
+        Value::Package(object) => Ok(world.elements(alloc, object)?.as_slice().len()),
+        _ => Ok(0),
     }
+}
+
+#[test]
+fn a_copy_of_a_package(rt: HostRuntime) -> Result<(), Fail> {
+    let alloc = rt.alloc();
+    let mut world = new_world(alloc)?;
+    same(&rt, &elements_of_a_copy(alloc, &mut world), &Ok(1));
+    Ok(())
+}
+
+/// A string and a buffer that are written to.
+fn written(alloc: Global, world: &mut World<Sparse>) -> Result<(), Refusal> {
+    string(alloc, world, b"A")?;
+    buffer(alloc, world, &[1, 2])?;
+    world.write_string(1, octets(alloc, b"BC")?)?;
+    world.write_buffer(2, octets(alloc, &[9])?)
+}
+
+#[test]
+fn objects_that_are_written_to(rt: HostRuntime) -> Result<(), Fail> {
+    let alloc = rt.alloc();
+    let mut world = new_world(alloc)?;
+    same(&rt, &written(alloc, &mut world), &Ok(()));
+    let text = text_of(&world, Value::String(1));
+    same(&rt, &text, &b"BC".as_slice());
+    let bytes = bytes_of(&world, Value::Buffer(2));
+    same(&rt, &bytes, &[9, 0].as_slice());
     Ok(())
 }
 
@@ -147,28 +259,18 @@ fn objects_of_the_world(rt: HostRuntime) -> Result<(), Fail> {
 fn frames_end(rt: HostRuntime) -> Result<(), Fail> {
     let alloc = rt.alloc();
     let mut world = new_world(alloc)?;
-    let mut arguments = [Value::Uninitialized; 7];
-    arguments[1] = Value::Integer(5);
-    let first = world.open_frame(arguments)?;
-    let second = world.open_frame([Value::Uninitialized; 7])?;
-    same(
-        &rt,
-        &world.slot(first, Slot::Argument(1))?,
-        &Value::Integer(5),
-    );
-    same(
-        &rt,
-        &world.slot(first, Slot::Argument(0))?,
-        &Value::Uninitialized,
-    );
-    same(
-        &rt,
-        &world.slot(second, Slot::Local(7))?,
-        &Value::Uninitialized,
-    );
+    let first = frame(&mut world, Value::Integer(5))?;
+    let second = frame(&mut world, Value::Uninitialized)?;
+    let given = slot(&world, first, Slot::Argument(1));
+    same(&rt, &given, &Ok(Value::Integer(5)));
+    let other = slot(&world, first, Slot::Argument(0));
+    same(&rt, &other, &Ok(Value::Uninitialized));
+    let local = slot(&world, second, Slot::Local(7));
+    same(&rt, &local, &Ok(Value::Uninitialized));
     world.close_frame();
-    same(&rt, &world.slot(second, Slot::Local(7)).err(), &Some(DEAD));
-    let third = world.open_frame([Value::Uninitialized; 7])?;
+    let ended = slot(&world, second, Slot::Local(7));
+    same(&rt, &ended, &Err(DEAD));
+    let third = frame(&mut world, Value::Uninitialized)?;
     is_so(&rt, third != second);
     Ok(())
 }

@@ -39,3 +39,8 @@ pub(super) fn stands(alloc: Global, world: &World<Sparse>, path: &[u8]) -> Resul
     let path = Path::from_text(alloc, path)?;
     Ok(world.names().get(&path).is_some())
 }
+
+/// The path of a text.
+pub(super) fn path_of(alloc: Global, text: &[u8]) -> Result<Path, Refusal> {
+    Path::from_text(alloc, text)
+}
