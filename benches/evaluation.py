@@ -7,8 +7,9 @@ The program is run as `eval` on machines of one control method, and the seconds 
 the steps that were taken and the steps a second. Loading and starting are in these seconds; the first line says how long
 they take by themselves. With no program named, it is acpiroute: build it first by `rt run -- --help` in crates/acpiroute.
 
-The bodies: a loop that adds and stores; calls of a small control method; strings that are joined; buffers that are formed; a
-deep recursion, each call of which ends in a term that nests as deep as terms may.
+The bodies: a loop of a million turns that adds and stores; a loop of ten million steps that only counts; calls of a small
+control method; strings that are joined; buffers that are formed; a deep recursion, each call of which ends in a term that
+nests as deep as terms may.
 """
 import pathlib
 import subprocess
@@ -70,10 +71,12 @@ def counting(turns, body):
 
 # each: name, the terms of the DSDT, the steps that the call of M000 takes
 def cases():
-    turns = 200_000
+    turns = 1_000_000
     # a turn: LLess and its operands 3, the body, Increment 1
     loop = counting(turns, b"\x72\x60\x01\x60\x70\x60\x61")
     yield "Add and Store", method(b"M000", 0, b"\x70\x00\x60" + loop), 2 + 2 + 1 + turns * (3 + 3 + 2 + 1) + 3
+    empty = 2_500_000
+    yield "While", method(b"M000", 0, counting(empty, b"")), 2 + 1 + empty * (3 + 1) + 3
     calls = 20_000
     # a call: the call and its argument 2, Return and its Add 1 + 3
     called = method(b"ADD1", 1, b"\xa4\x72\x68\x01\x00")

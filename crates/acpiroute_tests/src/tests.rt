@@ -4,6 +4,7 @@ mod command_lines;
 mod control_methods;
 mod error_lines;
 mod eval;
+mod fields;
 mod machine_texts;
 mod names;
 mod ran;

@@ -5,11 +5,12 @@ ghost use Rattle.ar_space.specs.Outcome.{seen};
 ghost use Rattle.aml_meaning.specs.Given.{given_of};
 ghost use Rattle.aml_meaning.specs.Fields.{field_given};
 ghost use Rattle.aml_meaning.specs.Meaning.{meaning};
-ghost use Rattle.aml_meaning.specs.FieldCalls.{asked, method_integer, answer_over, answer_within, field_read, held_integer, field_referent, referent_read, called_at, completed, stored_to, stored_back};
+ghost use Rattle.aml_meaning.specs.FieldCalls.{asked, method_integer, answer_over, answer_within, field_read, held_integer, referent_read, called_at, completed, stored_to, stored_back};
 
 use crate::answers::invocation;
 use crate::fields::{
-    eval_field_integer, eval_field_part, eval_field_stored, eval_field_value, field_given,
+    eval_field_integer, eval_field_part, eval_field_referent, eval_field_stored, eval_field_value,
+    field_given,
 };
 use crate::invocations::{MAX_DEPTH, eval_method_value};
 use aml_meaning::{Datum, Held, Invocation, Place, Referent, Stored, World, integer_only};
@@ -78,24 +79,11 @@ pub(crate) fn eval_referent<S: Space>(
     match referent {
         Referent::Value(value) => Ok(Referent::Value(value)),
         Referent::Object(object_type) => Ok(Referent::Object(object_type)),
-        Referent::FieldUnit(unit) => eval_field_referent(alloc, world, budget, depth, unit),
+        Referent::FieldUnit(unit) => {
+            eval_field_referent(alloc, world, budget, calls_left(depth), unit)
+        }
+        Referent::Bytes(count) => Ok(Referent::Bytes(count)),
     }
-}
-
-#[cycle(evaluation)]
-#[tactic(auto, using(crate::specs::Steps::evaluating), unfolding(aml_meaning::specs::FieldCalls::field_referent))]
-fn eval_field_referent<S: Space>(
-    alloc: Global,
-    world: &mut World<S>,
-    budget: &mut u64,
-    depth: usize,
-    unit: FieldUnit,
-) -> Result<Referent, Refusal>
-    ensures spent { budget.new ≤ budget.old }
-    ensures means { Does result (world.new, budget.new) (field_referent S.accesses (meaning S.accesses) depth unit) (world.old, budget.old) }
-{
-    let value = eval_field_read(alloc, world, budget, depth, unit)?;
-    Ok(Referent::Value(value))
 }
 
 /// Stores a value to a place.

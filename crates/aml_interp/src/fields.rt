@@ -4,15 +4,15 @@ ghost use Rattle.ar_space.specs.Change.{Does};
 ghost use Rattle.ar_space.specs.Outcome.{seen};
 ghost use Rattle.aml_meaning.specs.Meaning.{meaning};
 ghost use Rattle.aml_meaning.specs.FieldCalls.{asked, answer_within};
-ghost use Rattle.aml_meaning.specs.Fields.{part_in, inherited, pci_address, space_at, located, region_bits, region_written, bits_in, written_in, field_value, field_integer, field_part, field_given, field_stored};
+ghost use Rattle.aml_meaning.specs.Fields.{part_in, inherited, pci_address, space_at, located, region_bits, region_written, bits_in, written_in, field_value, field_integer, field_part, field_referent, field_given, field_stored};
 ghost use Rattle.aml_meaning.specs.Given.{given_of};
 
 use crate::field_calls::eval_asked;
 use crate::index_fields::{eval_index_bits, eval_index_written};
 use aml_fields::{AddressSpace, Region};
 use aml_meaning::{
-    Datum, RegionField, RegionSpace, Sought, World, adr, base_bus, pci_space, segment_group,
-    space_numbered,
+    Datum, Referent, RegionField, RegionSpace, Sought, World, adr, base_bus, pci_space,
+    segment_group, space_numbered,
 };
 use aml_objects::{FieldSource, FieldUnit, Octets, Value};
 use aml_path::{Path, Seg};
@@ -68,6 +68,23 @@ pub(crate) fn eval_field_part<S: Space>(
 {
     let bytes = eval_bits_in(alloc, world, budget, calls, unit.source, unit)?;
     world.integer_alone(unit.bits, &bytes)
+}
+
+/// The bits of a field unit, as what SizeOf and ObjectType speak of.
+#[cycle(evaluation)]
+#[tactic(auto, using(crate::specs::Steps::evaluating), unfolding(aml_meaning::specs::Fields::field_referent))]
+pub(crate) fn eval_field_referent<S: Space>(
+    alloc: Global,
+    world: &mut World<S>,
+    budget: &mut u64,
+    calls: usize,
+    unit: FieldUnit,
+) -> Result<Referent, Refusal>
+    ensures spent { budget.new ≤ budget.old }
+    ensures means { Does result (world.new, budget.new) (field_referent S.accesses (asked (answer_within S.accesses (meaning S.accesses) calls)) unit) (world.old, budget.old) }
+{
+    let bytes = eval_bits_in(alloc, world, budget, calls, unit.source, unit)?;
+    world.referent_of_bits(unit.bits, &bytes)
 }
 
 /// The bits of a field unit, as they are handed out.

@@ -19,7 +19,7 @@ use Rattle.aml_meaning.specs.declared.regions.RegionField.{RegionField}
 use Rattle.aml_meaning.specs.State.{State}
 use Rattle.aml_meaning.specs.Run.{Run}
 use Rattle.aml_meaning.specs.Agree.{Agree, agree_give, agree_stop, agree_settle, agree_lift, agree_bind}
-use Rattle.aml_meaning.specs.Fields.{part_in, inherited, pci_address, space_at, located, region_bits, region_written, index_unit, index_unit_written, index_bits, index_written, bits_in, written_in, field_value, field_integer, field_part, field_stored}
+use Rattle.aml_meaning.specs.Fields.{part_in, inherited, pci_address, space_at, located, region_bits, region_written, index_unit, index_unit_written, index_bits, index_written, bits_in, written_in, field_value, field_integer, field_part, field_referent, field_stored}
 
 -- ---- unit by unit
 
@@ -112,6 +112,10 @@ module _ {S : Type 0} {n : ℕ} (accesses : Accesses S) (call other : List Seg �
   pub agree_field_integer : (f : FieldUnit) → Agree n (field_integer accesses call f) (field_integer accesses other f)
   unfolding field_integer
   agree_field_integer f = agree_bind _ _ _ _ (agree_bits_in f.source f) (λ bytes. agree_lift _)
+
+  pub agree_field_referent : (f : FieldUnit) → Agree n (field_referent accesses call f) (field_referent accesses other f)
+  unfolding field_referent
+  agree_field_referent f = agree_bind _ _ _ _ (agree_bits_in f.source f) (λ bytes. agree_lift _)
 
   pub agree_field_part : (f : FieldUnit) → Agree n (field_part accesses call f) (field_part accesses other f)
   unfolding field_part

@@ -52,9 +52,9 @@ use Rattle.aml_meaning.specs.OperatorTerms.{slot_rule, store_rule, copy_rule, tw
 use Rattle.aml_meaning.specs.StatementTerms.{otherwise, branch, if_rule, else_rule, turn_of, turn, loop_end, after_turn, turns, loop, while_rule, return_rule, release_rule, notify_rule, pause_rule, fatal_rule, statement_rule}
 use Rattle.aml_meaning.specs.Invocations.{leaving, invoked, method_value}
 use Rattle.aml_meaning.specs.InvocationTerms.{arguments_in_turn, call_rule, field_rule, invocation_rule, name_value}
-use Rattle.aml_meaning.specs.FieldCalls.{asked, method_integer, answer_over, answer_within, field_read, held_integer, field_referent, referent_read, completed, stored_to, stored_back}
+use Rattle.aml_meaning.specs.FieldCalls.{asked, method_integer, answer_over, answer_within, field_read, held_integer, referent_read, completed, stored_to, stored_back}
 use Rattle.aml_meaning.specs.FieldTerms.{fields_laid, region_rule, field_list_rule, index_list_rule, region_term_rule}
-use Rattle.aml_meaning.specs.AgreeFields.{agree_field_value, agree_field_integer, agree_field_part, agree_field_stored}
+use Rattle.aml_meaning.specs.AgreeFields.{agree_field_value, agree_field_integer, agree_field_part, agree_field_referent, agree_field_stored}
 use Rattle.aml_meaning.specs.Evaluation.{kind_rule, code_rule, rule}
 
 module _ {S : Type 0} {n : ℕ} (accesses : Accesses S) (ev ew : Task → Run S Flow) (parts : (t : Task) → Agree n (ev t) (ew t)) where
@@ -107,14 +107,11 @@ module _ {S : Type 0} {n : ℕ} (accesses : Accesses S) (ev ew : Task → Run S 
   agree_held depth (held.Value v) = agree_lift _
   agree_held depth (held.FieldUnit u) = agree_field_integer accesses _ _ (agree_asked _ _ (agree_answer (32 - depth))) u
 
-  agree_field_referent : (depth : ℕ) (u : FieldUnit) → Agree n (field_referent accesses ev depth u) (field_referent accesses ew depth u)
-  unfolding field_referent
-  agree_field_referent depth u = agree_bind _ _ _ _ (agree_read depth u) (λ v. agree_give _)
-
   agree_referent_read : (depth : ℕ) (r : Referent) → Agree n (referent_read accesses ev depth r) (referent_read accesses ew depth r)
   agree_referent_read depth (referent.Value v) = agree_give _
   agree_referent_read depth (referent.Object t) = agree_give _
-  agree_referent_read depth (referent.FieldUnit u) = agree_field_referent depth u
+  agree_referent_read depth (referent.FieldUnit u) = agree_field_referent accesses _ _ (agree_asked _ _ (agree_answer (32 - depth))) u
+  agree_referent_read depth (referent.Bytes n) = agree_give _
 
   agree_completed : (depth : ℕ) (s : Stored) (v : Value) → Agree n (completed accesses ev depth s v) (completed accesses ew depth s v)
   agree_completed depth store.Done v = agree_give _

@@ -25,7 +25,7 @@ use Rattle.aml_meaning.specs.Stores.{stored}
 use Rattle.aml_meaning.specs.Regions.{integer_only}
 use Rattle.aml_meaning.specs.Tasks.{Task}
 use Rattle.aml_meaning.specs.Invocations.{invocation_found, method_value}
-use Rattle.aml_meaning.specs.Fields.{field_value, field_integer, field_part, field_stored}
+use Rattle.aml_meaning.specs.Fields.{field_value, field_integer, field_part, field_referent, field_stored}
 
 -- the integer that the object at a path answers, without arguments; answer: what it is, answered
 unfoldable pub asked : {S : Type 0} → (Invocation → Run S ℕ) → List Seg → Run S ℕ
@@ -67,15 +67,11 @@ module _ {S : Type 0} (accesses : Accesses S) (ev : Task → Run S Flow) where
   held_integer depth (held.FieldUnit u) = field_integer accesses (called_at depth) u
 
   -- what a reference refers to, where an element of a package that is the name of a field stands for the field's value
-  unfoldable pub field_referent : ℕ → FieldUnit → Run S Referent
-  field_referent depth u = do
-    v ← field_read depth u
-    give (referent.Value v)
-
   abbrev pub referent_read : ℕ → Referent → Run S Referent
   referent_read depth (referent.Value v) = give (referent.Value v)
   referent_read depth (referent.Object t) = give (referent.Object t)
-  referent_read depth (referent.FieldUnit u) = field_referent depth u
+  referent_read depth (referent.FieldUnit u) = field_referent accesses (called_at depth) u
+  referent_read depth (referent.Bytes n) = give (referent.Bytes n)
 
   -- a store is done, or a field unit is written next
   abbrev pub completed : ℕ → Stored → Value → Run S (Unit {0})

@@ -24,12 +24,13 @@ use Rattle.aml_meaning.specs.declared.pci_functions.Sought.TheVariants as sought
 use Rattle.aml_meaning.specs.declared.regions.RegionSpace.{RegionSpace}
 use Rattle.aml_meaning.specs.declared.regions.RegionSpace.TheVariants as kinds
 use Rattle.aml_meaning.specs.declared.regions.RegionField.{RegionField}
+use Rattle.aml_meaning.specs.declared.object_type.Referent.{Referent}
 use Rattle.aml_meaning.specs.Given as given
 use Rattle.aml_meaning.specs.State.{State, on_space}
 use Rattle.aml_meaning.specs.Run.{Run, lift}
 use Rattle.aml_meaning.specs.Stores.{bytes_in}
 use Rattle.aml_meaning.specs.PciFunctions.{adr, segment_group, base_bus, nearest, pci_function}
-use Rattle.aml_meaning.specs.Regions.{space_numbered, pci_space, region_declared, field_declared, integer_of_bits, value_of_bits, integer_alone, given_of_bits}
+use Rattle.aml_meaning.specs.Regions.{space_numbered, pci_space, region_declared, field_declared, integer_of_bits, value_of_bits, integer_alone, given_of_bits, referent_of_bits}
 
 -- a number as the bytes of a unit, and the unit that bits make, cut or with zeros behind them
 abbrev pub unit_bytes : ℕ → List ℕ
@@ -125,7 +126,8 @@ module _ {S : Type 0} (accesses : Accesses S) (call : List Seg → Run S ℕ) wh
     bytes ← bits_in f.source f
     lift (value_of_bits f.bits bytes)
 
-  -- the same as an integer, where one is counted, as a part of an address, and as it is handed out: no object is made
+  -- the same as an integer, where one is counted, as a part of an address, as it is handed out, and as what SizeOf and ObjectType
+  -- speak of: no object is made
   unfoldable pub field_integer : FieldUnit → Run S ℕ
   field_integer f = do
     bytes ← bits_in f.source f
@@ -140,6 +142,11 @@ module _ {S : Type 0} (accesses : Accesses S) (call : List Seg → Run S ℕ) wh
   field_given f = do
     bytes ← bits_in f.source f
     lift (given_of_bits f.bits bytes)
+
+  unfoldable pub field_referent : FieldUnit → Run S Referent
+  field_referent f = do
+    bytes ← bits_in f.source f
+    lift (referent_of_bits f.bits bytes)
 
   unfoldable pub field_stored : FieldUnit → Value → Run S (Unit {0})
   field_stored f v = do

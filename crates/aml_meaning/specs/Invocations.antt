@@ -30,7 +30,7 @@ use Rattle.aml_meaning.specs.declared.invocation.Invocation.TheVariants as invoc
 use Rattle.aml_meaning.specs.State.{State}
 use Rattle.aml_meaning.specs.Run.{Run, lift}
 use Rattle.aml_meaning.specs.Slots.{opened, closed}
-use Rattle.aml_meaning.specs.Readings.{arguments_found, as_many}
+use Rattle.aml_meaning.specs.Readings.{arguments_found, as_many, read_as}
 use Rattle.aml_meaning.specs.Tasks.{Task, in_turn}
 
 -- ---- what a name is where a value stands
@@ -38,15 +38,6 @@ use Rattle.aml_meaning.specs.Tasks.{Task, in_turn}
 abbrev pub invocation_of_body : List Seg → MethodBody → Outcome Invocation
 invocation_of_body p Osi = Err (refusal.Evaluation (Unsupported 0x14))
 invocation_of_body p (Aml body) = Ok (invocation.Method p body)
-
--- a name is read as the value that it holds; where that is a reference, as a reference to the name
-abbrev pub read_as : ℕ → Value → Value
-read_as n value.Uninitialized = value.Uninitialized
-read_as n (value.Integer x) = value.Integer x
-read_as n (value.String o) = value.String o
-read_as n (value.Buffer o) = value.Buffer o
-read_as n (value.Package o) = value.Package o
-read_as n (value.Reference r) = value.Reference (reference.Name n)
 
 -- the value that it holds, the bits of a field unit, a call of a control method, or else a reference to it
 abbrev pub invocation_of_object : List Seg → ℕ → NamedObject → Outcome Invocation

@@ -1,9 +1,9 @@
 -- Reading and writing field units, and declaring them, leaves names outside of control methods where they are.
-use Rattle.std.specs.Prelude.{◌≡◌, ℕ, nat_lt, ◌==◌, List, [], ◌∷◌, Bool, true, false, Option, Some, None, Ok, Err, refl, if◌then◌else◌}
+use Rattle.std.specs.Prelude.{◌≡◌, ℕ, nat_lt, ◌==◌, List, length, [], ◌∷◌, Bool, true, false, Option, Some, None, Ok, Err, refl, if◌then◌else◌}
 use Rattle.ar_space.specs.Accesses.{Accesses, bit_count}
 use Rattle.ar_space.specs.declared.refusal.Refusal.TheVariants as refusal
 use Rattle.ar_space.specs.declared.refusal.ValueFault.TheVariants.{WrongType}
-use Rattle.ar_space.specs.Outcome.{Outcome}
+use Rattle.ar_space.specs.Outcome.{Outcome, seen}
 use Rattle.ar_space.specs.Change.{Change, give}
 use Rattle.ar_space.specs.declared.space.Width.{Width}
 use Rattle.aml_path.specs.declared.segment.Seg.{Seg}
@@ -12,6 +12,7 @@ use Rattle.aml_terms.specs.declared.opcode.TermCode.{TermCode}
 use Rattle.aml_terms.specs.declared.opcode.TermCode.TheVariants as codes
 use Rattle.aml_terms.specs.Tree.{Tree, Trees, no_trees, tree}
 use Rattle.aml_terms.specs.Apart.{code_of}
+use Rattle.aml_objects.specs.Contents.{Buffer}
 use Rattle.aml_objects.specs.Objects.{make_buffer}
 use Rattle.aml_objects.specs.declared.value.Value.{Value}
 use Rattle.aml_objects.specs.declared.entry.FieldUnit.{FieldUnit}
@@ -19,6 +20,7 @@ use Rattle.aml_objects.specs.declared.entry.FieldSource.{FieldSource}
 use Rattle.aml_objects.specs.declared.entry.FieldSource.TheVariants as sources
 use Rattle.aml_objects.specs.declared.entry.UpdateRule.{UpdateRule}
 use Rattle.aml_objects.specs.declared.entry.UpdateRule.TheVariants.{Preserve, WriteAsOnes, WriteAsZeros}
+use Rattle.aml_convert.specs.Conversions.{to_integer_of}
 use Rattle.aml_convert.specs.Integers.{bits_of}
 use Rattle.aml_fields.specs.declared.field_units.Unit.{Unit as Access}
 use Rattle.aml_fields.specs.Units.{units_of}
@@ -26,6 +28,8 @@ use Rattle.aml_fields.specs.UnitByUnit.{read_units, bits_read, write_units, kept
 use Rattle.aml_meaning.specs.declared.field_layout.FieldLayout.{FieldLayout}
 use Rattle.aml_meaning.specs.declared.field_layout.FieldGroup.{FieldGroup}
 use Rattle.aml_meaning.specs.declared.pci_functions.Sought.{Sought}
+use Rattle.aml_meaning.specs.declared.object_type.Referent.{Referent}
+use Rattle.aml_meaning.specs.declared.object_type.Referent.TheVariants as referent
 use Rattle.aml_meaning.specs.declared.regions.RegionSpace.{RegionSpace}
 use Rattle.aml_meaning.specs.declared.regions.RegionSpace.TheVariants as kinds
 use Rattle.aml_meaning.specs.declared.regions.RegionField.{RegionField}
@@ -33,8 +37,8 @@ use Rattle.aml_meaning.specs.State.{State, on_objects}
 use Rattle.aml_meaning.specs.Run.{Run}
 use Rattle.aml_meaning.specs.Outside.{Outside, Kept, kept_same}
 use Rattle.aml_meaning.specs.PciFunctions.{nearest, pci_function}
-use Rattle.aml_meaning.specs.Regions.{region_declared, field_declared, integer_of_bits, integer_value, value_of_bits, integer_alone}
-use Rattle.aml_meaning.specs.Fields.{part_in, inherited, pci_address, space_at, located, region_bits, region_written, index_unit, index_unit_written, index_bits, index_written, bits_in, written_in, field_value, field_integer, field_part, field_stored}
+use Rattle.aml_meaning.specs.Regions.{region_declared, field_declared, integer_of_bits, integer_value, value_of_bits, integer_alone, integer_referent, referent_of_bits}
+use Rattle.aml_meaning.specs.Fields.{part_in, inherited, pci_address, space_at, located, region_bits, region_written, index_unit, index_unit_written, index_bits, index_written, bits_in, written_in, field_value, field_integer, field_part, field_referent, field_stored}
 use Rattle.aml_meaning.specs.FieldTerms.{new_field, named_field, reserved_field, access_field, element_laid, elements_laid, region_found, field_found}
 use Rattle.aml_meaning.specs.Keeping.{Leaves, Keeps, leaves_names, leaves_give, leaves_stop, leaves_settle, leaves_bind, leaves_objects, leaves_space, keeps_give, keeps_stop, keeps_settle, keeps_lift, keeps_bind}
 use Rattle.aml_meaning.specs.Leaving.{leaves_entry, leaves_new}
@@ -74,6 +78,10 @@ module _ {S : Type 0} {p : List Seg} where
   leaves_integer_alone : (count : ℕ) (bytes : List ℕ) → Leaves {S = S} p (integer_alone count bytes)
   unfolding integer_alone
   leaves_integer_alone count bytes = record { leaves = λ w o. by_size {A = ℕ} (nat_lt (bits_of w.width) count) (λ v. (Err (refusal.Value WrongType), v)) (integer_of_bits bytes) w (kept_same _ p o) ((leaves_integer_of_bits bytes).leaves w o) }
+
+  leaves_referent_of_bits : (count : ℕ) (bytes : List ℕ) → Leaves {S = S} p (referent_of_bits count bytes)
+  unfolding referent_of_bits
+  leaves_referent_of_bits count bytes = record { leaves = λ w o. by_size {A = Referent} (nat_lt (bits_of w.width) count) (λ v. (Ok (referent.Bytes (length bytes)), v)) (λ v. (seen integer_referent (to_integer_of v.width (Buffer bytes)), v)) w (kept_same _ p o) (kept_same _ p o) }
 
   leaves_value_of_bits : (count : ℕ) (bytes : List ℕ) → Leaves {S = S} p (value_of_bits count bytes)
   unfolding value_of_bits
@@ -209,6 +217,10 @@ module _ {S : Type 0} {p : List Seg} (accesses : Accesses S) (call : List Seg �
   pub keeps_field_integer : (f : FieldUnit) → Keeps p (field_integer accesses call f)
   unfolding field_integer
   keeps_field_integer f = keeps_bind _ _ (keeps_bits_in f.source f) (λ bytes. keeps_lift _ (leaves_integer_of_bits bytes))
+
+  pub keeps_field_referent : (f : FieldUnit) → Keeps p (field_referent accesses call f)
+  unfolding field_referent
+  keeps_field_referent f = keeps_bind _ _ (keeps_bits_in f.source f) (λ bytes. keeps_lift _ (leaves_referent_of_bits _ bytes))
 
   pub keeps_field_part : (f : FieldUnit) → Keeps p (field_part accesses call f)
   unfolding field_part

@@ -11,6 +11,8 @@ use Rattle.aml_objects.specs.declared.value.Reference.{Reference}
 use Rattle.aml_objects.specs.declared.value.Reference.TheVariants as reference
 use Rattle.aml_objects.specs.declared.object.Element.{Element}
 use Rattle.aml_objects.specs.declared.object.Element.TheVariants as element
+use Rattle.aml_objects.specs.declared.entry.NamedObject.{NamedObject}
+use Rattle.aml_objects.specs.declared.entry.NamedObject.TheVariants as object
 use Rattle.aml_meaning.specs.declared.place.Place.{Place}
 use Rattle.aml_meaning.specs.declared.place.Place.TheVariants as place
 use Rattle.aml_meaning.specs.declared.place.Holding.{Holding}
@@ -19,7 +21,8 @@ use Rattle.aml_meaning.specs.declared.place.Stored.{Stored}
 use Rattle.aml_meaning.specs.declared.object_type.Referent.{Referent}
 use Rattle.aml_meaning.specs.declared.object_type.Referent.TheVariants as referent
 use Rattle.aml_meaning.specs.State.{State}
-use Rattle.aml_meaning.specs.Places.{held_at, latest_frame, frame_found, slot_held, own_slot, slot_read, name_read, held_in_slot, place_read, declaration, byte_followed, value_followed, referent_followed, declared_followed, slot_followed, name_followed, element_followed, held_followed, reference_followed, followed, slot_referent, declared_referent, name_referent, place_referent}
+use Rattle.aml_meaning.specs.Readings.{read_as}
+use Rattle.aml_meaning.specs.Places.{held_at, latest_frame, frame_found, slot_held, own_slot, slot_read, name_read, held_in_slot, place_read, declaration, byte_followed, value_followed, referent_followed, declared_followed, slot_followed, element_named, name_followed, element_followed, held_followed, reference_followed, followed, slot_referent, declared_referent, name_referent, place_referent}
 use Rattle.aml_meaning.specs.Stores.{slot_put, copy_into_slot, copy_into_name, copy_into_element, copy_over, text_in, bytes_in, store_integer, store_text, store_bytes, store_package, store_over_value, store_over, byte_in, store_byte, copy_into_declared, store_over_slot, store_in_frame, store_in_frame_numbered, store_at_reference, stored_through, store_in_slot, store_in_name, stored, copy_in_name, copied_to}
 use Rattle.aml_meaning.specs.Mutexes.{mutex_count, acquired, given_back, acquired_at, given_back_at}
 use Rattle.aml_meaning.specs.Keeping.{Leaves, leaves_names, leaves_give, leaves_stop, leaves_settle, leaves_bind, leaves_objects, leaves_replaced}
@@ -86,6 +89,7 @@ module _ {S : Type 0} {p : List Seg} where
     leaves_referent_followed (referent.Value v) = leaves_value_followed v
     leaves_referent_followed (referent.Object t) = leaves_give _
     leaves_referent_followed (referent.FieldUnit u) = leaves_give _
+    leaves_referent_followed (referent.Bytes n) = leaves_give _
 
     leaves_declared_followed : (n : ℕ) → Leaves {S = S} p (declared_followed follow n)
     unfolding declared_followed
@@ -95,9 +99,24 @@ module _ {S : Type 0} {p : List Seg} where
     unfolding slot_followed
     leaves_slot_followed n slot = leaves_bind _ _ (leaves_frame n) (λ k. leaves_bind _ _ (leaves_slot k slot) (λ v. leaves_value_followed v))
 
+    leaves_element_named : (n : ℕ) (o : NamedObject) → Leaves {S = S} p (element_named follow n o)
+    leaves_element_named n (object.Data v) = leaves_value_followed (read_as n v)
+    leaves_element_named n (object.FieldUnit u) = leaves_give _
+    leaves_element_named n object.Scope = follows (reference.Name n)
+    leaves_element_named n object.Device = follows (reference.Name n)
+    leaves_element_named n object.Processor = follows (reference.Name n)
+    leaves_element_named n object.PowerResource = follows (reference.Name n)
+    leaves_element_named n object.ThermalZone = follows (reference.Name n)
+    leaves_element_named n (object.Method m) = follows (reference.Name n)
+    leaves_element_named n (object.OperationRegion r) = follows (reference.Name n)
+    leaves_element_named n (object.BufferField b) = follows (reference.Name n)
+    leaves_element_named n (object.Mutex c) = follows (reference.Name n)
+    leaves_element_named n object.Event = follows (reference.Name n)
+    leaves_element_named n (object.Alias q) = follows (reference.Name n)
+
     leaves_name_followed : (n : Name) (scope : List Seg) → Leaves {S = S} p (name_followed follow n scope)
     unfolding name_followed
-    leaves_name_followed n scope = leaves_bind _ _ (leaves_entry scope n) (λ e. leaves_referent_followed _)
+    leaves_name_followed n scope = leaves_bind _ _ (leaves_entry scope n) (λ e. leaves_element_named e.number e.object)
 
     leaves_element_followed : (e : Element) → Leaves {S = S} p (element_followed follow e)
     leaves_element_followed (element.Value v) = leaves_value_followed v

@@ -156,6 +156,7 @@ abbrev pub size_of_referent : List Object → Referent → Outcome ℕ
 size_of_referent objects (referent.Value v) = size_of_value objects v
 size_of_referent objects (referent.Object t) = Err (refusal.Value WrongType)
 size_of_referent objects (referent.FieldUnit u) = Err (refusal.Value WrongType)
+size_of_referent objects (referent.Bytes n) = Ok n
 
 unfoldable pub size_in : {S : Type 0} → Referent → Change (State S) Value
 size_in r w = (as_integer (size_of_referent w.objects r), w)
@@ -190,3 +191,4 @@ abbrev pub type_of_referent : Referent → ObjectType
 type_of_referent (referent.Value v) = type_of_value v
 type_of_referent (referent.Object t) = t
 type_of_referent (referent.FieldUnit u) = types.FieldUnit
+type_of_referent (referent.Bytes n) = types.Buffer

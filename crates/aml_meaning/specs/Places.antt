@@ -34,7 +34,7 @@ use Rattle.aml_meaning.specs.declared.object_type.Referent.{Referent}
 use Rattle.aml_meaning.specs.declared.object_type.Referent.TheVariants as referent
 use Rattle.aml_meaning.specs.State.{State, on_objects}
 use Rattle.aml_meaning.specs.Slots.{frame_place, slot_at}
-use Rattle.aml_meaning.specs.Readings.{entry_found}
+use Rattle.aml_meaning.specs.Readings.{entry_found, read_as}
 
 -- ---- what a name holds
 
@@ -134,11 +134,6 @@ referent_of (object.Mutex n) = referent.Object types.Mutex
 referent_of object.Event = referent.Object types.Event
 referent_of (object.Alias p) = referent.Object types.Uninitialized
 
--- an element of a package that is the name of a field stands for the field's value, which is read next
-abbrev pub element_referent : NamedObject → Referent
-element_referent (object.FieldUnit u) = referent.FieldUnit u
-element_referent o = referent_of o
-
 -- the declaration with a number, while it stands
 abbrev pub or_gone : Option (List Seg × Entry) → Outcome (List Seg × Entry)
 or_gone None = Err (refusal.Evaluation DeadReference)
@@ -167,6 +162,7 @@ module _ {S : Type 0} (follow : Reference → Change (State S) Referent) where
   referent_followed (referent.Value v) = value_followed v
   referent_followed (referent.Object t) = give (referent.Object t)
   referent_followed (referent.FieldUnit u) = give (referent.FieldUnit u)
+  referent_followed (referent.Bytes n) = give (referent.Bytes n)
 
   unfoldable pub declared_followed : ℕ → Change (State S) Referent
   declared_followed n = do
@@ -179,11 +175,17 @@ module _ {S : Type 0} (follow : Reference → Change (State S) Referent) where
     v ← slot_held k slot
     value_followed v
 
-  -- a name in a package is searched for at each use
+  -- a name in a package stands for the value of its data or of its field, which is read next, and else for a reference to the name
+  abbrev pub element_named : ℕ → NamedObject → Change (State S) Referent
+  element_named n (object.Data v) = value_followed (read_as n v)
+  element_named n (object.FieldUnit u) = give (referent.FieldUnit u)
+  element_named n _ = follow (reference.Name n)
+
+  -- it is searched for at each use
   unfoldable pub name_followed : Name → List Seg → Change (State S) Referent
   name_followed n scope = do
     e ← entry_found scope n
-    referent_followed (element_referent e.object)
+    element_named e.number e.object
 
   abbrev pub element_followed : Element → Change (State S) Referent
   element_followed (element.Value v) = value_followed v

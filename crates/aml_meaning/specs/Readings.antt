@@ -32,6 +32,15 @@ integer_kept n w = (Ok (value.Integer (truncated w.width n)), w)
 unfoldable pub integer_in : {S : Type 0} → Value → Change (State S) ℕ
 integer_in v w = (to_integer_of w.width (content_in w.objects v), w)
 
+-- a name is read as the value that it holds; where that is a reference, as a reference to the name
+abbrev pub read_as : ℕ → Value → Value
+read_as n value.Uninitialized = value.Uninitialized
+read_as n (value.Integer x) = value.Integer x
+read_as n (value.String o) = value.String o
+read_as n (value.Buffer o) = value.Buffer o
+read_as n (value.Package o) = value.Package o
+read_as n (value.Reference r) = value.Reference (reference.Name n)
+
 -- the value of a term, where one is wanted
 abbrev pub value_in : Flow → Outcome Value
 value_in (flow.Value v) = Ok v

@@ -1,5 +1,5 @@
 -- Operation regions and the field units in them, as they were declared (ACPI 6.5, 5.5.2.4 and 19.6: OperationRegion, Field, IndexField).
-use Rattle.std.specs.Prelude.{ℕ, ◌/◌, ◌%◌, ◌==◌, nat_lt, ◌&&◌, List, Ok, Err, if◌then◌else◌}
+use Rattle.std.specs.Prelude.{ℕ, ◌/◌, ◌%◌, ◌==◌, nat_lt, ◌&&◌, List, length, Ok, Err, if◌then◌else◌}
 use Rattle.ar_space.specs.declared.refusal.Refusal.TheVariants as refusal
 use Rattle.ar_space.specs.declared.refusal.EvaluationFault.TheVariants.{DeadReference, NoValue}
 use Rattle.ar_space.specs.declared.refusal.FieldFault.TheVariants.{RegionLimit}
@@ -22,6 +22,8 @@ use Rattle.aml_convert.specs.Integers.{bits_of}
 use Rattle.aml_fields.specs.declared.region.AddressSpace.{AddressSpace}
 use Rattle.aml_fields.specs.declared.region.AddressSpace.TheVariants.{Pci}
 use Rattle.aml_namespace.specs.Namespace.{above}
+use Rattle.aml_meaning.specs.declared.object_type.Referent.{Referent}
+use Rattle.aml_meaning.specs.declared.object_type.Referent.TheVariants as referent
 use Rattle.aml_meaning.specs.declared.regions.RegionSpace.{RegionSpace}
 use Rattle.aml_meaning.specs.declared.regions.RegionSpace.TheVariants as spaces
 use Rattle.aml_meaning.specs.declared.regions.RegionField.{RegionField}
@@ -93,3 +95,10 @@ integer_alone count bytes w = if nat_lt (bits_of w.width) count then (Err (refus
 -- bits as they are handed out, which makes no object
 unfoldable pub given_of_bits : {S : Type 0} → ℕ → List ℕ → Change (State S) given.Given
 given_of_bits count bytes w = if nat_lt (bits_of w.width) count then (Ok (given.Bytes bytes), w) else (seen given.Integer (to_integer_of w.width (Buffer bytes)), w)
+
+-- bits as what SizeOf and ObjectType speak of, which makes no object
+abbrev pub integer_referent : ℕ → Referent
+integer_referent n = referent.Value (value.Integer n)
+
+unfoldable pub referent_of_bits : {S : Type 0} → ℕ → List ℕ → Change (State S) Referent
+referent_of_bits count bytes w = if nat_lt (bits_of w.width) count then (Ok (referent.Bytes (length bytes)), w) else (seen integer_referent (to_integer_of w.width (Buffer bytes)), w)

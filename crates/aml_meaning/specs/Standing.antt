@@ -53,9 +53,9 @@ use Rattle.aml_meaning.specs.OperatorTerms.{slot_rule, store_rule, copy_rule, tw
 use Rattle.aml_meaning.specs.StatementTerms.{otherwise, branch, if_rule, else_rule, turn_of, turn, loop_end, after_turn, turns, loop, while_rule, return_rule, release_rule, notify_rule, pause_rule, fatal_rule, statement_rule}
 use Rattle.aml_meaning.specs.Invocations.{invoked, method_value}
 use Rattle.aml_meaning.specs.InvocationTerms.{arguments_in_turn, call_rule, field_rule, invocation_rule, name_value}
-use Rattle.aml_meaning.specs.FieldCalls.{asked, method_integer, answer_over, answer_within, field_read, held_integer, field_referent, referent_read, completed, stored_to, stored_back}
+use Rattle.aml_meaning.specs.FieldCalls.{asked, method_integer, answer_over, answer_within, field_read, held_integer, referent_read, completed, stored_to, stored_back}
 use Rattle.aml_meaning.specs.FieldTerms.{fields_laid, region_rule, field_list_rule, index_list_rule, region_term_rule}
-use Rattle.aml_meaning.specs.KeepingFields.{leaves_elements, leaves_region_found, leaves_field_found, keeps_field_value, keeps_field_integer, keeps_field_part, keeps_field_stored}
+use Rattle.aml_meaning.specs.KeepingFields.{leaves_elements, leaves_region_found, leaves_field_found, keeps_field_value, keeps_field_integer, keeps_field_part, keeps_field_referent, keeps_field_stored}
 use Rattle.aml_meaning.specs.Evaluation.{kind_rule, code_rule, rule}
 use Rattle.aml_meaning.specs.Meaning.{meaning, evaluated_within}
 use Rattle.aml_meaning.specs.Outside.{Outside, Stands, Kept, kept_same}
@@ -112,14 +112,11 @@ module _ {S : Type 0} {p : List Seg} (accesses : Accesses S) (ev : Task → Run 
   keeps_held depth (held.Value v) = keeps_lift _ (leaves_read v)
   keeps_held depth (held.FieldUnit u) = keeps_field_integer accesses _ (keeps_asked _ (keeps_answer _)) u
 
-  keeps_field_referent : (depth : ℕ) (u : FieldUnit) → Keeps p (field_referent accesses ev depth u)
-  unfolding field_referent
-  keeps_field_referent depth u = keeps_bind _ _ (keeps_read depth u) (λ v. keeps_give _)
-
   keeps_referent_read : (depth : ℕ) (r : Referent) → Keeps p (referent_read accesses ev depth r)
   keeps_referent_read depth (referent.Value v) = keeps_give _
   keeps_referent_read depth (referent.Object t) = keeps_give _
-  keeps_referent_read depth (referent.FieldUnit u) = keeps_field_referent depth u
+  keeps_referent_read depth (referent.FieldUnit u) = keeps_field_referent accesses _ (keeps_asked _ (keeps_answer _)) u
+  keeps_referent_read depth (referent.Bytes n) = keeps_give _
 
   keeps_completed : (depth : ℕ) (s : Stored) (v : Value) → Keeps p (completed accesses ev depth s v)
   keeps_completed depth store.Done v = keeps_give _

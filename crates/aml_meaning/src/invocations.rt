@@ -7,10 +7,10 @@ ghost use Rattle.ar_space.specs.Outcome.{Answers, seen};
 ghost use Rattle.aml_terms.specs.Shape.{trees_of};
 ghost use Rattle.aml_terms.specs.View.{tree_view};
 ghost use Rattle.aml_namespace.specs.Search.{found};
-ghost use Rattle.aml_meaning.specs.Invocations.{read_as, invocation_of_body, invocation_of_object, invocation_of, named_use, invocation_found, count_of_object, count_of_entry, count_through, arity_of_entry, body_arities, body_in, body_terms, left};
+ghost use Rattle.aml_meaning.specs.Invocations.{invocation_of_body, invocation_of_object, invocation_of, named_use, invocation_found, count_of_object, count_of_entry, count_through, arity_of_entry, body_arities, body_in, body_terms, left};
 
 use crate::invocation::Invocation;
-use crate::readings::as_many;
+use crate::readings::{as_many, read_as};
 use crate::world::World;
 use aml_namespace::Names;
 use aml_objects::{BodyPlace, Entry, Method, MethodBody, NamedObject, Octets, Reference, Value};
@@ -125,20 +125,6 @@ fn use_of(alloc: Global, found: &(Path, Entry)) -> Result<Invocation, Refusal>
             Err(Refusal::Evaluation(EvaluationFault::Unsupported(0x5B13)))
         }
         _ => Ok(Invocation::Value(Value::Reference(Reference::Name(found.1.number)))),
-    }
-}
-
-/// What a name is read as that holds a value: the value, or a reference to the name where that is a reference.
-fn read_as(number: u64, value: Value) -> Value
-    ensures { result ≡ read_as number value }
-{
-    match value {
-        Value::Uninitialized => Value::Uninitialized,
-        Value::Integer(number) => Value::Integer(number),
-        Value::String(object) => Value::String(object),
-        Value::Buffer(object) => Value::Buffer(object),
-        Value::Package(object) => Value::Package(object),
-        Value::Reference(_) => Value::Reference(Reference::Name(number)),
     }
 }
 

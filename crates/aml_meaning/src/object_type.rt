@@ -36,6 +36,8 @@ pub enum Referent {
     Object(ObjectType),
     /// A field unit that an element of a package names: the element stands for the field's value, which is read next.
     FieldUnit(FieldUnit),
+    /// So many bytes that no object holds: the value of a field that is wider than integers are.
+    Bytes(usize),
 }
 
 impl ObjectType {
@@ -73,6 +75,7 @@ impl Referent {
             Referent::Value(value) => type_of(value),
             Referent::Object(object_type) => object_type,
             Referent::FieldUnit(_) => ObjectType::FieldUnit,
+            Referent::Bytes(_) => ObjectType::Buffer,
         }
     }
 }

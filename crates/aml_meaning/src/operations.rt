@@ -307,6 +307,7 @@ impl<S> World<S> {
             Referent::Value(value) => self.size_of_value(value),
             Referent::Object(_) => Err(Refusal::Value(ValueFault::WrongType)),
             Referent::FieldUnit(_) => Err(Refusal::Value(ValueFault::WrongType)),
+            Referent::Bytes(count) => Ok(count as u64),
         }
     }
 

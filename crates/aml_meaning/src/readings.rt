@@ -2,11 +2,11 @@
 ghost use Rattle.std.specs.Prelude.{◌≡◌};
 ghost use Rattle.ar_space.specs.Change.{Does};
 ghost use Rattle.ar_space.specs.Outcome.{Answers, seen};
-ghost use Rattle.aml_meaning.specs.Readings.{integer_kept, integer_in, entry_found, path_found, is_scope, scope_or_not, scope_found, arguments_of, arguments_found, as_many};
+ghost use Rattle.aml_meaning.specs.Readings.{integer_kept, integer_in, entry_found, path_found, is_scope, scope_or_not, scope_found, arguments_of, arguments_found, as_many, read_as};
 
 use crate::world::World;
 use aml_convert::{to_integer, truncate_integer};
-use aml_objects::{Entry, NamedObject, Value};
+use aml_objects::{Entry, NamedObject, Reference, Value};
 use aml_path::{NameString, Path};
 use ar_space::{EvaluationFault, Refusal, ValueFault};
 use std::alloc::Global;
@@ -115,5 +115,19 @@ fn arguments_of(object: &NamedObject) -> u8
     match object {
         NamedObject::Method(method) => method.arguments,
         _ => 0,
+    }
+}
+
+/// What a name is read as that holds a value: the value, or a reference to the name where that is a reference.
+pub(crate) fn read_as(number: u64, value: Value) -> Value
+    ensures { result ≡ read_as number value }
+{
+    match value {
+        Value::Uninitialized => Value::Uninitialized,
+        Value::Integer(number) => Value::Integer(number),
+        Value::String(object) => Value::String(object),
+        Value::Buffer(object) => Value::Buffer(object),
+        Value::Package(object) => Value::Package(object),
+        Value::Reference(_) => Value::Reference(Reference::Name(number)),
     }
 }

@@ -1,10 +1,11 @@
 //! What references refer to in the end (ACPI 6.5, 19.6: SizeOf, ObjectType).
 ghost use Rattle.std.specs.Prelude.{◌≡◌};
 ghost use Rattle.ar_space.specs.Change.{Does};
-ghost use Rattle.aml_meaning.specs.Places.{referent_of, element_referent, value_followed, referent_followed, declared_followed, slot_followed, name_followed, element_followed, held_followed, byte_followed, reference_followed, followed, most_references, slot_referent, declared_referent, name_referent, place_referent};
+ghost use Rattle.aml_meaning.specs.Places.{referent_of, element_named, value_followed, referent_followed, declared_followed, slot_followed, name_followed, element_followed, held_followed, byte_followed, reference_followed, followed, most_references, slot_referent, declared_referent, name_referent, place_referent};
 
 use crate::object_type::{ObjectType, Referent};
 use crate::place::Place;
+use crate::readings::read_as;
 use crate::world::World;
 use aml_objects::{Element, NamedObject, Reference, Slot, Value};
 use aml_path::{NameString, Path};
@@ -76,16 +77,6 @@ fn referent_of(object: &NamedObject) -> Referent
     }
 }
 
-/// What the name in an element of a package stands for: a field's value, and else what a name does.
-fn element_referent(object: &NamedObject) -> Referent
-    ensures { result ≡ element_referent object.now }
-{
-    match object {
-        NamedObject::FieldUnit(unit) => Referent::FieldUnit(*unit),
-        other => referent_of(other),
-    }
-}
-
 #[cycle(following)]
 #[tactic(auto, using(ar_space::specs::Change::changing))]
 fn value_followed<S>(
@@ -120,6 +111,7 @@ fn referent_followed<S>(
         Referent::Value(value) => value_followed(alloc, world, levels, value),
         Referent::Object(object_type) => Ok(Referent::Object(object_type)),
         Referent::FieldUnit(unit) => Ok(Referent::FieldUnit(unit)),
+        Referent::Bytes(count) => Ok(Referent::Bytes(count)),
     }
 }
 
@@ -231,7 +223,26 @@ fn name_followed<S>(
     ensures { Does result world.now (name_followed (followed levels) name.now scope.now) world.now }
 {
     let entry = world.entry(scope, name)?;
-    referent_followed(alloc, world, levels, element_referent(&entry.object))
+    element_named(alloc, world, levels, entry.number, &entry.object)
+}
+
+/// What the name in an element of a package stands for: the value of its data or of its field, and else a reference to it.
+#[cycle(following)]
+#[tactic(auto, using(ar_space::specs::Change::changing))]
+fn element_named<S>(
+    alloc: Global,
+    world: &World<S>,
+    levels: usize,
+    number: u64,
+    object: &NamedObject,
+) -> Result<Referent, Refusal>
+    ensures { Does result world.now (element_named (followed levels) number object.now) world.now }
+{
+    match object {
+        NamedObject::Data(value) => value_followed(alloc, world, levels, read_as(number, *value)),
+        NamedObject::FieldUnit(unit) => Ok(Referent::FieldUnit(*unit)),
+        _ => follow(alloc, world, levels, Reference::Name(number)),
+    }
 }
 
 #[tactic(auto, using(ar_space::specs::Change::changing), unfolding(crate::specs::Places::byte_followed))]

@@ -5,10 +5,11 @@ ghost use Rattle.ar_space.specs.Outcome.{Answers, seen};
 ghost use Rattle.aml_convert.specs.Integers.{bits_of};
 ghost use Rattle.aml_fields.specs.Regions.{read_field, write_field};
 ghost use Rattle.aml_meaning.specs.State.{on_space};
-ghost use Rattle.aml_meaning.specs.Regions.{space_numbered, integer_only, pci_space, region_of_object, region_declared, region_field, field_of_object, field_declared, integer_of_bits, integer_value, value_of_bits, integer_alone, given_of_bits};
+ghost use Rattle.aml_meaning.specs.Regions.{space_numbered, integer_only, pci_space, region_of_object, region_declared, region_field, field_of_object, field_declared, integer_of_bits, integer_value, value_of_bits, integer_alone, given_of_bits, referent_of_bits};
 ghost use Rattle.aml_meaning.specs.Given.{given_of};
 
 use crate::datum::Datum;
+use crate::object_type::Referent;
 use crate::world::World;
 use aml_convert::to_integer;
 use aml_fields::{AddressSpace, Region, read_field, write_field};
@@ -153,6 +154,21 @@ impl<S> World<S> {
         }
         match to_integer(self.width, Content::Buffer(bytes.as_slice())) {
             Ok(number) => Ok(Datum::Integer(number)),
+            Err(refusal) => Err(refusal),
+        }
+    }
+
+    /// The bits of a field as what SizeOf and ObjectType speak of: an integer where they are no more than an integer has, else
+    /// so many bytes. No object is made.
+    #[tactic(auto, unfolding(crate::specs::Regions::referent_of_bits))]
+    pub fn referent_of_bits(&self, count: u32, bytes: &[u8]) -> Result<Referent, Refusal>
+        ensures { Does result self.now (referent_of_bits count bytes.now) self.now }
+    {
+        if is_wide(self.width, count) {
+            return Ok(Referent::Bytes(bytes.len()));
+        }
+        match to_integer(self.width, Content::Buffer(bytes)) {
+            Ok(number) => Ok(Referent::Value(Value::Integer(number))),
             Err(refusal) => Err(refusal),
         }
     }

@@ -57,6 +57,56 @@ fn faulty_words(rt: HostRuntime) {
     }
 }
 
+/// Words with a fault, and clap's text of it.
+const TEXTS: &[(&[&str], &str)] = &[
+    (
+        &["acpiroute"],
+        "error: 'acpiroute' requires a subcommand but one was not provided
+  [subcommands: route, names, eval, check]
+
+Usage: acpiroute <COMMAND>
+
+For more information, try '--help'.
+",
+    ),
+    (
+        &["acpiroute", "frob"],
+        "error: unrecognized subcommand 'frob'
+
+Usage: acpiroute <COMMAND>
+
+For more information, try '--help'.
+",
+    ),
+    (
+        &["acpiroute", "route", "--wet"],
+        "error: unexpected argument '--wet' found
+
+Usage: acpiroute route [OPTIONS]
+
+For more information, try '--help'.
+",
+    ),
+    (
+        &["acpiroute", "eval"],
+        "error: the following required arguments were not provided:
+  <PATH>
+
+Usage: acpiroute eval <PATH> [N]...
+
+For more information, try '--help'.
+",
+    ),
+];
+
+#[test]
+fn texts_of_faults(rt: HostRuntime) {
+    for (words, text) in TEXTS {
+        let ran = ran(rt.alloc(), words, b"");
+        same(&rt, &ran.errors.as_slice(), &text.as_bytes());
+    }
+}
+
 #[test]
 fn help_goes_to_the_output(rt: HostRuntime) {
     let cases: [&[&str]; 3] = [

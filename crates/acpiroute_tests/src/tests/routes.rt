@@ -32,6 +32,7 @@ fn tables_by_an_rsdt(rt: HostRuntime) -> Result<(), Fail> {
     let report = format!(in alloc; "{FRONT}{CHOSEN}")?;
     let ran = ran(alloc, &["acpiroute", "route", "--dry"], text.as_bytes());
     same(&rt, &ran.output.as_slice(), &report.as_bytes());
+    same(&rt, &ran.status, &0);
     Ok(())
 }
 
@@ -58,6 +59,7 @@ fn lines_of_a_madt(rt: HostRuntime) -> Result<(), Fail> {
     let text = format!(in alloc; "{ROOT}{LIST_WITH_MADT}{FADT}{HEADER}{BODY}{MADT}")?;
     let ran = ran(alloc, &["acpiroute", "route", "--dry"], text.as_bytes());
     same(&rt, &ran.output.as_slice(), &WITH_MADT.as_bytes());
+    same(&rt, &ran.status, &0);
     Ok(())
 }
 
@@ -261,5 +263,6 @@ fn the_other_mode(rt: HostRuntime) -> Result<(), Fail> {
         &ran.output.as_slice(),
         &b"acpiroute 1\nmode pic\nbusiest 0\nbound none\n".as_slice(),
     );
+    same(&rt, &ran.status, &0);
     Ok(())
 }

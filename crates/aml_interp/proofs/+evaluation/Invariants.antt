@@ -251,8 +251,8 @@ decreases-field_calls::eval_field_read g l = 40 * (l.budget.now + (32 - l.depth)
 abbrev pub decreases-field_calls::eval_held : goal.decreases-field_calls::eval_held
 decreases-field_calls::eval_held g l = 40 * (l.budget.now + (32 - l.depth)) + 24
 
-abbrev pub decreases-field_calls::eval_field_referent : goal.decreases-field_calls::eval_field_referent
-decreases-field_calls::eval_field_referent g l = 40 * (l.budget.now + (32 - l.depth)) + 24
+abbrev pub decreases-fields::eval_field_referent : goal.decreases-fields::eval_field_referent
+decreases-fields::eval_field_referent g l = 40 * (l.budget.now + l.calls) + 22
 
 abbrev pub decreases-field_calls::eval_referent : goal.decreases-field_calls::eval_referent
 decreases-field_calls::eval_referent g l = 40 * (l.budget.now + (32 - l.depth)) + 25

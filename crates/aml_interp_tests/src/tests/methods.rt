@@ -59,12 +59,35 @@ pub(super) fn answer_to(
     called(alloc, &mut world, Vec::new(alloc), steps)
 }
 
-/// The integer that a body answers; what is none is told as 2^64 - 2.
-pub(super) fn integer_of(alloc: Global, width: IntegerWidth, body: &[u8]) -> Result<u64, Refusal> {
-    match answer_to(alloc, width, body, STEPS)? {
+/// The integer that the method answers to these arguments; what is none is told as 2^64 - 2.
+pub(super) fn integer_to(
+    alloc: Global,
+    world: &mut World<Sparse>,
+    arguments: Vec<Datum>,
+) -> Result<u64, Refusal> {
+    match called(alloc, world, arguments, STEPS)? {
         Datum::Integer(number) => Ok(number),
         _ => Ok(u64::MAX - 1),
     }
+}
+
+/// The integer that the method answers without arguments.
+pub(super) fn integer_in(alloc: Global, world: &mut World<Sparse>) -> Result<u64, Refusal> {
+    integer_to(alloc, world, Vec::new(alloc))
+}
+
+/// The number by which the method is refused without arguments, 0 where it isn't.
+pub(super) fn refusal_in(alloc: Global, world: &mut World<Sparse>) -> u16 {
+    match integer_in(alloc, world) {
+        Ok(_) => 0,
+        Err(refusal) => u16::from(refusal.number()),
+    }
+}
+
+/// The integer that a body answers.
+pub(super) fn integer_of(alloc: Global, width: IntegerWidth, body: &[u8]) -> Result<u64, Refusal> {
+    let mut world = with_method(alloc, width, 0, body)?;
+    integer_in(alloc, &mut world)
 }
 
 /// The number by which a body is refused, 0 where it isn't.

@@ -1,5 +1,5 @@
 //! Statements and calls, as the values that control methods answer.
-use super::methods::{answer_to, called, integer_of, refusal_of, with_method};
+use super::methods::{answer_to, called, integer_of, integer_to, refusal_of, with_method};
 use super::worlds::{STEPS, stands};
 use crate::tests::{is_so, same};
 use aml_meaning::{Datum, World};
@@ -36,6 +36,10 @@ const INTEGERS: &[(&[u8], u64)] = &[
     (b"\xA2\x05\x01\xA4\x0A\x07\xA4\x0A\x08", 7),
     // Noop, BreakPoint, Notify, Stall and Sleep do nothing
     (b"\xA3\xCC\x86\\_SB_\x00\x5B\x21\x01\x5B\x22\x01\xA4\x01", 1),
+    // but the operands of Notify, Stall and Sleep are evaluated
+    (b"\x70\x0A\x05\x60\x86\\_SB_\x75\x60\xA4\x60", 6),
+    (b"\x70\x0A\x05\x60\x5B\x21\x75\x60\xA4\x60", 6),
+    (b"\x70\x0A\x05\x60\x5B\x22\x75\x60\xA4\x60", 6),
     // a call without Return is no fault as an item
     (b"\x08CNT_\x01\xA4CNT_", 1),
 ];
@@ -52,6 +56,8 @@ fn statements(rt: HostRuntime) -> Result<(), Fail> {
 /// Bodies, and the numbers by which they are refused.
 const REFUSED: &[(&[u8], u16)] = &[
     (b"\x5B\x32\x01\x00\x00\x00\x00\x00", 77),
+    // the operand of Fatal is evaluated
+    (b"\x5B\x32\x01\x00\x00\x00\x00NONE", 61),
     (b"\x86NONE\x00", 61),
     (b"\xA4M000", 71),
     (b"\xA2\x02\x01", 70),
@@ -65,6 +71,69 @@ fn refused_statements(rt: HostRuntime) -> Result<(), Fail> {
     for (body, wanted) in REFUSED {
         same(&rt, &refusal_of(alloc, body), &*wanted);
     }
+    Ok(())
+}
+
+/// The arguments of a call with one integer.
+fn one(alloc: Global, number: u64) -> Result<Vec<Datum>, Refusal> {
+    let mut arguments = Vec::new(alloc);
+    arguments.push(Datum::Integer(number))?;
+    Ok(arguments)
+}
+
+/// What a call with one integer answers, or the number of its refusal.
+fn answer_to_one(alloc: Global, world: &mut World<Sparse>, number: u64) -> Result<u64, u16> {
+    let arguments = one(alloc, number).map_err(|refusal| u16::from(refusal.number()))?;
+    integer_to(alloc, world, arguments).map_err(|refusal| u16::from(refusal.number()))
+}
+
+#[test]
+fn calls_are_32_deep(rt: HostRuntime) -> Result<(), Fail> {
+    let alloc = rt.alloc();
+    // If(Arg0) { Return(M000(Subtract(Arg0, One))) } Return(7)
+    let body = b"\xA0\x0B\x68\xA4M000\x74\x68\x01\x00\xA4\x0A\x07";
+    let mut world = with_method(alloc, WIDE, 1, body)?;
+    same(&rt, &answer_to_one(alloc, &mut world, 31), &Ok(7));
+    same(&rt, &answer_to_one(alloc, &mut world, 32), &Err(71));
+    Ok(())
+}
+
+#[test]
+fn a_call_without_steps_leaves_the_world_as_it_can_be_called(rt: HostRuntime) -> Result<(), Fail> {
+    let alloc = rt.alloc();
+    // While(Arg0) { } Return(7)
+    let mut world = with_method(alloc, WIDE, 1, b"\xA2\x02\x68\xA4\x0A\x07")?;
+    same(&rt, &answer_to_one(alloc, &mut world, 1), &Err(70));
+    same(&rt, &answer_to_one(alloc, &mut world, 0), &Ok(7));
+    Ok(())
+}
+
+#[test]
+fn a_serialized_method(rt: HostRuntime) -> Result<(), Fail> {
+    let alloc = rt.alloc();
+    let mut world = with_method(alloc, WIDE, 0x09, b"\xA4\x68")?;
+    same(&rt, &answer_to_one(alloc, &mut world, 7), &Ok(7));
+    Ok(())
+}
+
+/// The body of a method that returns 1 through so many Not, one inside another.
+fn nots(alloc: Global, count: usize) -> Result<Vec<u8>, Refusal> {
+    let mut body = Vec::from_slice(alloc, b"\xA4")?;
+    for _ in 0..count {
+        body.push(0x80)?;
+    }
+    body.push(0x01)?;
+    for _ in 0..count {
+        body.push(0x00)?;
+    }
+    Ok(body)
+}
+
+#[test]
+fn terms_are_64_deep(rt: HostRuntime) -> Result<(), Fail> {
+    let alloc = rt.alloc();
+    same(&rt, &integer_of(alloc, WIDE, &nots(alloc, 62)?)?, &1);
+    same(&rt, &refusal_of(alloc, &nots(alloc, 63)?), &33);
     Ok(())
 }
 
@@ -88,24 +157,12 @@ fn steps_of_a_return(rt: HostRuntime) -> Result<(), Fail> {
     Ok(())
 }
 
-/// The integer that a call with these arguments answers.
-fn integer(
-    alloc: Global,
-    world: &mut World<Sparse>,
-    arguments: Vec<Datum>,
-) -> Result<u64, Refusal> {
-    match called(alloc, world, arguments, STEPS)? {
-        Datum::Integer(number) => Ok(number),
-        _ => Ok(u64::MAX - 1),
-    }
-}
-
 #[test]
 fn names_of_a_call_end_with_it(rt: HostRuntime) -> Result<(), Fail> {
     let alloc = rt.alloc();
     let mut world = with_method(alloc, WIDE, 0, b"\x08NUM_\x0A\x07\xA4NUM_")?;
-    same(&rt, &integer(alloc, &mut world, Vec::new(alloc))?, &7);
-    same(&rt, &integer(alloc, &mut world, Vec::new(alloc))?, &7);
+    same(&rt, &integer_to(alloc, &mut world, Vec::new(alloc))?, &7);
+    same(&rt, &integer_to(alloc, &mut world, Vec::new(alloc))?, &7);
     is_so(&rt, !stands(alloc, &world, b"\\M000.NUM_")?);
     Ok(())
 }
@@ -122,7 +179,7 @@ fn arguments_are_passed(rt: HostRuntime) -> Result<(), Fail> {
     let alloc = rt.alloc();
     let mut world = with_method(alloc, WIDE, 2, b"\xA4\x74\x68\x69\x00")?;
     let arguments = two(alloc, Datum::Integer(9), Datum::Integer(4))?;
-    same(&rt, &integer(alloc, &mut world, arguments)?, &5);
+    same(&rt, &integer_to(alloc, &mut world, arguments)?, &5);
     Ok(())
 }
 
@@ -144,7 +201,7 @@ fn packages_of_arguments_nest_64_deep(rt: HostRuntime) -> Result<(), Fail> {
     let alloc = rt.alloc();
     // a local takes a copy of the argument
     let mut world = with_method(alloc, WIDE, 1, b"\x70\x68\x60\xA4\x87\x60")?;
-    same(&rt, &integer(alloc, &mut world, nested(alloc, 64)?)?, &1);
+    same(&rt, &integer_to(alloc, &mut world, nested(alloc, 64)?)?, &1);
     let refused = called(alloc, &mut world, nested(alloc, 65)?, STEPS).err();
     same(
         &rt,

@@ -10,6 +10,9 @@ decreases-value_followed g l = 7 * l.levels + 1
 abbrev pub decreases-referent_followed : goal.decreases-referent_followed
 decreases-referent_followed g l = 7 * l.levels + 2
 
+abbrev pub decreases-element_named : goal.decreases-element_named
+decreases-element_named g l = 7 * l.levels + 2
+
 abbrev pub decreases-name_followed : goal.decreases-name_followed
 decreases-name_followed g l = 7 * l.levels + 3
 
