@@ -5,3 +5,4 @@ pub mod Loads
 pub mod Assignments
 pub mod Bounds
 pub mod ByPlace
+pub mod Offers

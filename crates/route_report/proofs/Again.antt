@@ -9,8 +9,7 @@ use Rattle.std.proofs.lemmas.Fmt.{decimal_is_IsNumeral}
 use Rattle.std.proofs.lemmas.List.Elements.{All-head, All-tail}
 use Rattle.ar_space.specs.Outcome.{Outcome, ◌>>=◌}
 use Rattle.aml_path.specs.declared.segment.Seg.{Seg}
-use Rattle.aml_path.specs.Text.{text_of}
-use Rattle.aml_path.proofs.Reading.{read_back}
+use Rattle.aml_path.specs.Text.{text_of, path_of_text}
 use Rattle.route_check.specs.Claims.{BoundingSet, interrupts_of_bound}
 use Rattle.route_report.specs.Reading.{Said, ascends, here, number_here, path_here, named, numbered, one_of, expected, offered, offers, with_offer, until, link, link_line, with_link, wired, wired_line, with_wired, give, give_line, with_give, busiest, busiest_line, with_busiest, with_path, set_links, with_number, numbers_after, set, bound, bound_line, with_bound, keyed, line}
 use Rattle.route_report.specs.declared.report.Form.{Form}
@@ -22,6 +21,10 @@ use Rattle.route_report.specs.Printing.{Words, form_word, polarity_word, now_wor
 use Rattle.route_report.specs.Readable.{link_of, IsReadableOffer}
 use Rattle.route_report.proofs.Decimals.{same_bytes, equal_bytes, number_of_decimal}
 
+-- the law of paths that a report's law rests on
+abbrev pub PathsAreReadBack : Type 0
+PathsAreReadBack = (p : List Seg) → path_of_text (text_of p) ≡ Ok p
+
 then_ok : {A B : Type 0} (m : Outcome A) (k : A → Outcome B) (a : A) → m ≡ Ok a → (m >>= k) ≡ k a
 unfolding ◌>>=◌
 then_ok m k a is = ap (λ x. x >>= k) is
@@ -29,13 +32,13 @@ then_ok m k a is = ap (λ x. x >>= k) is
 number_again : (n k : ℕ) → k < 2 ^ 32 → number_here n (decimal k) ≡ Ok k
 number_again n k small = ap (here n) (number_of_decimal k small)
 
-path_again : (n : ℕ) (p : List Seg) → path_here n (text_of p) ≡ Ok p
+path_again : (back : PathsAreReadBack) (n : ℕ) (p : List Seg) → path_here n (text_of p) ≡ Ok p
 unfolding path_here ◌>>=◌
-path_again n p = rw (read_back p, same_bytes (text_of p)) refl
+path_again back n p = rw (back p, same_bytes (text_of p)) refl
 
-named_again : (n : ℕ) (p : List Seg) (ws : Words) → named n (text_of p ∷ ws) ≡ Ok (p, ws)
+named_again : (back : PathsAreReadBack) (n : ℕ) (p : List Seg) (ws : Words) → named n (text_of p ∷ ws) ≡ Ok (p, ws)
 unfolding named ◌>>=◌
-named_again n p ws = rw (path_again n p) refl
+named_again back n p ws = rw (path_again back n p) refl
 
 numbered_again : (n k : ℕ) (ws : Words) → k < 2 ^ 32 → numbered n (decimal k ∷ ws) ≡ Ok (k, ws)
 unfolding numbered ◌>>=◌
@@ -92,34 +95,34 @@ offer_words : (n : ℕ) (os : List ℕ) (rest : Words) → IsReadableOffer os �
 offer_words n [] rest readable small = let some = readable.some in absurd (omega arith)
 offer_words n (k ∷ ks) rest readable small = offers_again n k ks rest readable.ascending small
 
-pub link_again : (n : ℕ) (l : LinkLine) (d : Said) → length d.links < 256 → IsReadableOffer l.offers.items → All (λ m. m < 2 ^ 32) l.offers.items
+pub link_again : (back : PathsAreReadBack) (n : ℕ) (l : LinkLine) (d : Said) → length d.links < 256 → IsReadableOffer l.offers.items → All (λ m. m < 2 ^ 32) l.offers.items
     → line n (link_words l) d ≡ Ok (record d { links = d.links ++ link_of l ∷ [] })
 unfolding line keyed link_line link with_link ◌>>=◌
-link_again n l d room readable small =
+link_again back n l d room readable small =
     let rest = now_words (option_map (λ v. v.items) l.now) in
     let tail = map decimal l.offers.items ++ codes "now" ∷ rest in
-    rw (named_again n l.path (form_word l.form ∷ polarity_word l.polarity ∷ codes "offers" ∷ tail), offered_again n l.form l.polarity tail, offer_words n l.offers.items rest readable small, lt-ltb (length d.links) 256 room) refl
+    rw (named_again back n l.path (form_word l.form ∷ polarity_word l.polarity ∷ codes "offers" ∷ tail), offered_again n l.form l.polarity tail, offer_words n l.offers.items rest readable small, lt-ltb (length d.links) 256 room) refl
 
 pub wired_again : (n : ℕ) (w : ℕ × ℕ) (d : Said) → length d.wired < 4096 → (w.0 < 2 ^ 32) × (w.1 < 2 ^ 32) → line n (wired_words w) d ≡ Ok (record d { wired = d.wired ++ w ∷ [] })
 unfolding line keyed wired_line wired with_wired ◌>>=◌
 wired_again n w d room small = rw (numbered_again n w.0 (decimal w.1 ∷ []) small.0, numbered_again n w.1 [] small.1, lt-ltb (length d.wired) 4096 room) refl
 
-pub give_again : (n : ℕ) (g : List Seg × ℕ) (d : Said) → g.1 < 2 ^ 32 → line n (give_words g) d ≡ Ok (record d { gives = d.gives ++ g ∷ [] })
+pub give_again : (back : PathsAreReadBack) (n : ℕ) (g : List Seg × ℕ) (d : Said) → g.1 < 2 ^ 32 → line n (give_words g) d ≡ Ok (record d { gives = d.gives ++ g ∷ [] })
 unfolding line keyed give_line give with_give ◌>>=◌
-give_again n g d small = rw (named_again n g.0 (decimal g.1 ∷ []), numbered_again n g.1 [] small) refl
+give_again back n g d small = rw (named_again back n g.0 (decimal g.1 ∷ []), numbered_again n g.1 [] small) refl
 
 pub busiest_again : (n k : ℕ) (d : Said) → d.busiest ≡ None → k < 2 ^ 32 → line n (busiest_words k) d ≡ Ok (record d { busiest = Some k })
 unfolding line keyed busiest_line busiest with_busiest ◌>>=◌
 busiest_again n k d none small = rw (numbered_again n k [] small, none) refl
 
-path_more : (n : ℕ) (ps : List (List Seg)) (q : List Seg) → with_path n ps (text_of q) ≡ Ok (ps ++ q ∷ [])
+path_more : (back : PathsAreReadBack) (n : ℕ) (ps : List (List Seg)) (q : List Seg) → with_path n ps (text_of q) ≡ Ok (ps ++ q ∷ [])
 unfolding with_path ◌>>=◌
-path_more n ps q = rw (path_again n q) refl
+path_more back n ps q = rw (path_again back n q) refl
 
-until_over : (n : ℕ) (ps qs : List (List Seg)) (rest : Words) → until n (codes "over") (with_path n) ps (map text_of qs ++ codes "over" ∷ rest) ≡ Ok (ps ++ qs, rest)
+until_over : (back : PathsAreReadBack) (n : ℕ) (ps qs : List (List Seg)) (rest : Words) → until n (codes "over") (with_path n) ps (map text_of qs ++ codes "over" ∷ rest) ≡ Ok (ps ++ qs, rest)
 unfolding until ◌>>=◌
-until_over n ps [] rest = rw (append-nil ps) refl
-until_over n ps (q ∷ qs) rest = rw (path_more n ps q) (until_over n (ps ++ q ∷ []) qs rest ∙ ap (λ xs. Ok (xs, rest)) (append_assoc ps (q ∷ []) qs))
+until_over back n ps [] rest = rw (append-nil ps) refl
+until_over back n ps (q ∷ qs) rest = rw (path_more back n ps q) (until_over back n (ps ++ q ∷ []) qs rest ∙ ap (λ xs. Ok (xs, rest)) (append_assoc ps (q ∷ []) qs))
 
 number_more : (n : ℕ) (is : List ℕ) (k : ℕ) → k < 2 ^ 32 → with_number n is (decimal k) ≡ Ok (is ++ k ∷ [])
 unfolding with_number ◌>>=◌
@@ -131,19 +134,19 @@ numbers_again n is [] small = rw (append-nil is) refl
 numbers_again n is (k ∷ ks) small =
     rw (number_more n is k (All-head (λ x. x < 2 ^ 32) k ks small)) (numbers_again n (is ++ k ∷ []) ks (All-tail (λ x. x < 2 ^ 32) k ks small) ∙ ap Ok (append_assoc is (k ∷ []) ks))
 
-bound_by : (n : ℕ) (ps : List (List Seg)) (is : List ℕ) → All (λ m. m < 2 ^ 32) is → bound n (path_words ps ++ codes "over" ∷ map decimal is) ≡ Ok (Some (record { links = ps; interrupts = is }))
+bound_by : (back : PathsAreReadBack) (n : ℕ) (ps : List (List Seg)) (is : List ℕ) → All (λ m. m < 2 ^ 32) is → bound n (path_words ps ++ codes "over" ∷ map decimal is) ≡ Ok (Some (record { links = ps; interrupts = is }))
 unfolding bound set set_links expected ◌>>=◌
-bound_by n [] is small = rw (numbers_again n [] is small) refl
-bound_by n (p ∷ ps) is small = rw (path_more n [] p, until_over n (p ∷ []) ps (map decimal is), numbers_again n [] is small) refl
+bound_by back n [] is small = rw (numbers_again n [] is small) refl
+bound_by back n (p ∷ ps) is small = rw (path_more back n [] p, until_over back n (p ∷ []) ps (map decimal is), numbers_again n [] is small) refl
 
 none_again : (n : ℕ) → bound n (codes "none" ∷ []) ≡ Ok None
 unfolding bound ◌>>=◌
 none_again n = refl
 
-set_again : (n : ℕ) (b : Option BoundingSet) → All (λ m. m < 2 ^ 32) (interrupts_of_bound b) → bound n (set_of_bound b) ≡ Ok b
-set_again n None small = none_again n
-set_again n (Some b) small = bound_by n b.links b.interrupts small
+set_again : (back : PathsAreReadBack) (n : ℕ) (b : Option BoundingSet) → All (λ m. m < 2 ^ 32) (interrupts_of_bound b) → bound n (set_of_bound b) ≡ Ok b
+set_again back n None small = none_again n
+set_again back n (Some b) small = bound_by back n b.links b.interrupts small
 
-pub bound_again : (n : ℕ) (b : Option BoundingSet) (d : Said) → d.bound ≡ None → All (λ m. m < 2 ^ 32) (interrupts_of_bound b) → line n (bound_words b) d ≡ Ok (record d { bound = Some b })
+pub bound_again : (back : PathsAreReadBack) (n : ℕ) (b : Option BoundingSet) (d : Said) → d.bound ≡ None → All (λ m. m < 2 ^ 32) (interrupts_of_bound b) → line n (bound_words b) d ≡ Ok (record d { bound = Some b })
 unfolding line keyed bound_line with_bound ◌>>=◌
-bound_again n b d none small = rw (set_again n b small, none) refl
+bound_again back n b d none small = rw (set_again back n b small, none) refl

@@ -34,7 +34,7 @@ use Rattle.route_report.specs.declared.report.Report.{Report}
 use Rattle.route_report.specs.Printing.{Words, mode_word, form_word, polarity_word, pin_word, number_words, path_words, now_words, heading_words, mode_words, io_apic_words, override_words, link_words, wired_words, route_words, pin_words, give_words, busiest_words, set_of_bound, bound_words, outcome_words, set_words, state_words, after_words, found_lines, chosen_lines, text_of_report}
 use Rattle.route_report.specs.Readable.{link_of, claim_of_report, IsReadableOffer, IsReadable, IsSmall}
 use Rattle.route_report.proofs.Plain.{Plain, PlainWords, literal, decimal_plain, upper_plain, path_plain, words_again, lines_again}
-use Rattle.route_report.proofs.Again.{link_again, wired_again, give_again, busiest_again, bound_again}
+use Rattle.route_report.proofs.Again.{PathsAreReadBack, link_again, wired_again, give_again, busiest_again, bound_again}
 
 -- the words of each line are plain
 key : (k : List ℕ) (ws : Words) → All Plain k → PlainWords ws → PlainWords (k ∷ ws)
@@ -239,16 +239,16 @@ unfolding line keyed ◌>>=◌
 after_passed n a d = refl
 
 -- lines that add to what is claimed
-all_links : (n : ℕ) (ls : List LinkLine) (rest : List Words) (d : Said) → length d.links + length ls ≤ 256 → All (λ l. IsReadableOffer l.offers.items) ls → All (λ l. All (λ m. m < 2 ^ 32) l.offers.items) ls
+all_links : (back : PathsAreReadBack) (n : ℕ) (ls : List LinkLine) (rest : List Words) (d : Said) → length d.links + length ls ≤ 256 → All (λ l. IsReadableOffer l.offers.items) ls → All (λ l. All (λ m. m < 2 ^ 32) l.offers.items) ls
     → Reaches n (map link_words ls ++ rest) d rest (record d { links = d.links ++ map link_of ls })
-all_links n [] rest d room readable small = (n, ap (λ ls. reads n rest (record d { links = ls })) (sym (append-nil d.links)))
-all_links n (l ∷ ls) rest d room readable small =
+all_links back n [] rest d room readable small = (n, ap (λ ls. reads n rest (record d { links = ls })) (sym (append-nil d.links)))
+all_links back n (l ∷ ls) rest d room readable small =
     let e : Said = record d { links = d.links ++ link_of l ∷ [] } in
     let long = length-append d.links (link_of l ∷ []) in
     let tail = text_of l.path ∷ form_word l.form ∷ polarity_word l.polarity ∷ codes "offers" ∷ (map decimal l.offers.items ++ codes "now" ∷ now_words (option_map (λ v. v.items) l.now)) in
-    let r = all_links (n + 1) ls rest e (omega arith) (All-tail (λ x. IsReadableOffer x.offers.items) l ls readable) (All-tail (λ x. All (λ m. m < 2 ^ 32) x.offers.items) l ls small) in
+    let r = all_links back (n + 1) ls rest e (omega arith) (All-tail (λ x. IsReadableOffer x.offers.items) l ls readable) (All-tail (λ x. All (λ m. m < 2 ^ 32) x.offers.items) l ls small) in
     let s = reach n (codes "link") tail (map link_words ls ++ rest) d e rest (record e { links = e.links ++ map link_of ls }) (link_plain l)
-    (link_again n l d (omega arith) (All-head (λ x. IsReadableOffer x.offers.items) l ls readable) (All-head (λ x. All (λ m. m < 2 ^ 32) x.offers.items) l ls small)) r in
+    (link_again back n l d (omega arith) (All-head (λ x. IsReadableOffer x.offers.items) l ls readable) (All-head (λ x. All (λ m. m < 2 ^ 32) x.offers.items) l ls small)) r in
     (s.0, s.1 ∙ ap (λ xs. reads s.0 rest (record d { links = xs })) (append_assoc d.links (link_of l ∷ []) (map link_of ls)))
 
 all_wired : (n : ℕ) (ws : List (ℕ × ℕ)) (rest : List Words) (d : Said) → length d.wired + length ws ≤ 4096 → All (λ w. (w.0 < 2 ^ 32) × (w.1 < 2 ^ 32)) ws
@@ -262,12 +262,12 @@ all_wired n (w ∷ ws) rest d room small =
     (wired_again n w d (omega arith) (All-head (λ x. (x.0 < 2 ^ 32) × (x.1 < 2 ^ 32)) w ws small)) r in
     (s.0, s.1 ∙ ap (λ xs. reads s.0 rest (record d { wired = xs })) (append_assoc d.wired (w ∷ []) ws))
 
-all_gives : (n : ℕ) (gs : List (List Seg × ℕ)) (rest : List Words) (d : Said) → All (λ g. g.1 < 2 ^ 32) gs → Reaches n (map give_words gs ++ rest) d rest (record d { gives = d.gives ++ gs })
-all_gives n [] rest d small = (n, ap (λ gs. reads n rest (record d { gives = gs })) (sym (append-nil d.gives)))
-all_gives n (g ∷ gs) rest d small =
+all_gives : (back : PathsAreReadBack) (n : ℕ) (gs : List (List Seg × ℕ)) (rest : List Words) (d : Said) → All (λ g. g.1 < 2 ^ 32) gs → Reaches n (map give_words gs ++ rest) d rest (record d { gives = d.gives ++ gs })
+all_gives back n [] rest d small = (n, ap (λ gs. reads n rest (record d { gives = gs })) (sym (append-nil d.gives)))
+all_gives back n (g ∷ gs) rest d small =
     let e : Said = record d { gives = d.gives ++ g ∷ [] } in
-    let r = all_gives (n + 1) gs rest e (All-tail (λ x. x.1 < 2 ^ 32) g gs small) in
-    let s = reach n (codes "give") (text_of g.0 ∷ decimal g.1 ∷ []) (map give_words gs ++ rest) d e rest (record e { gives = e.gives ++ gs }) (give_plain g) (give_again n g d (All-head (λ x. x.1 < 2 ^ 32) g gs small)) r in
+    let r = all_gives back (n + 1) gs rest e (All-tail (λ x. x.1 < 2 ^ 32) g gs small) in
+    let s = reach n (codes "give") (text_of g.0 ∷ decimal g.1 ∷ []) (map give_words gs ++ rest) d e rest (record e { gives = e.gives ++ gs }) (give_plain g) (give_again back n g d (All-head (λ x. x.1 < 2 ^ 32) g gs small)) r in
     (s.0, s.1 ∙ ap (λ xs. reads s.0 rest (record d { gives = xs })) (append_assoc d.gives (g ∷ []) gs))
 
 -- one section after another
@@ -308,15 +308,15 @@ read_last r d n =
     next n (last_lines r) d afters d [] d (over (codes "set") (λ (s : SetLine). text_of s.path ∷ outcome_words s.outcome) set_plain set_passed n r.sets.items afters d)
     (λ m. over (codes "after") (λ (a : AfterLine). text_of a.path ∷ state_words a.state) after_plain after_passed m r.afters.items [] d)
 
-read_chosen : (r : Report) → IsSmall r → (n : ℕ) → Reaches n (map give_words r.gives.items ++ chosen_rest r) (with_wires r) [] (all_said r)
-read_chosen r small n =
-    next n (map give_words r.gives.items ++ chosen_rest r) (with_wires r) (chosen_rest r) (given r) [] (all_said r) (all_gives n r.gives.items (chosen_rest r) (with_wires r) small.gives)
+read_chosen : (back : PathsAreReadBack) (r : Report) → IsSmall r → (n : ℕ) → Reaches n (map give_words r.gives.items ++ chosen_rest r) (with_wires r) [] (all_said r)
+read_chosen back r small n =
+    next n (map give_words r.gives.items ++ chosen_rest r) (with_wires r) (chosen_rest r) (given r) [] (all_said r) (all_gives back n r.gives.items (chosen_rest r) (with_wires r) small.gives)
     (λ m. reach m (codes "busiest") (decimal r.busiest ∷ []) (bound_words r.bound ∷ last_lines r) (given r) (busy r) [] (all_said r) (busiest_plain r.busiest) (busiest_again m r.busiest (given r) refl small.busiest)
-    (reach (m + 1) (codes "bound") (set_of_bound r.bound) (last_lines r) (busy r) (all_said r) [] (all_said r) (bound_plain r.bound) (bound_again (m + 1) r.bound (busy r) refl small.interrupts)
+    (reach (m + 1) (codes "bound") (set_of_bound r.bound) (last_lines r) (busy r) (all_said r) [] (all_said r) (bound_plain r.bound) (bound_again back (m + 1) r.bound (busy r) refl small.interrupts)
     (read_last r (all_said r) (m + 1 + 1))))
 
-read_all : (r : Report) → IsReadable r → IsSmall r → (n : ℕ) → Reaches n (all_lines r) nothing_said [] (all_said r)
-read_all r readable small n =
+read_all : (back : PathsAreReadBack) (r : Report) → IsReadable r → IsSmall r → (n : ℕ) → Reaches n (all_lines r) nothing_said [] (all_said r)
+read_all back r readable small n =
     let gives = map give_words r.gives.items ++ chosen_rest r in
     let pins = map pin_words r.pins.items ++ gives in
     let wireds = map wired_words r.wired.items ++ pins in
@@ -330,10 +330,10 @@ read_all r readable small n =
     reach n (codes "mode") (mode_word r.mode ∷ []) io_apics d d [] e (mode_plain r.mode) (mode_passed n r.mode d)
     (next (n + 1) io_apics d overrides d [] e (over (codes "ioapic") (λ (a : IoApicLine). decimal a.id ∷ codes "at" ∷ encode_upper (to_be_bytes w32 a.address) ∷ codes "base" ∷ decimal a.gsi_base ∷ []) io_apic_plain io_apic_passed (n + 1) r.io_apics.items overrides d)
     (λ m. next m overrides d links d [] e (over (codes "override") (λ (o : OverrideLine). decimal o.source ∷ codes "to" ∷ decimal o.gsi ∷ codes "flags" ∷ encode_upper (to_be_bytes w16 o.flags) ∷ []) override_plain override_passed m r.overrides.items links d)
-    (λ m. next m links d wireds (linked r) [] e (all_links m r.links.items wireds d (omega arith) readable.offers small.offers)
+    (λ m. next m links d wireds (linked r) [] e (all_links back m r.links.items wireds d (omega arith) readable.offers small.offers)
     (λ m. next m wireds (linked r) pins (with_wires r) [] e (all_wired m r.wired.items pins (linked r) (omega arith) small.wired)
     (λ m. next m pins (with_wires r) gives (with_wires r) [] e (over (codes "pin") (λ (p : PinLine). text_of p.device ∷ decimal p.number ∷ pin_word p.pin ∷ route_words p.route) pin_plain pin_passed m r.pins.items gives (with_wires r))
-    (λ m. read_chosen r small m))))))
+    (λ m. read_chosen back r small m))))))
 
 ended : (r : Report) (n : ℕ) → reads n [] (all_said r) ≡ Ok (claim_of_report r)
 unfolding lines_read claimed ◌>>=◌
@@ -343,9 +343,9 @@ headed : (ls : List Words) → all_read (map joined (heading_words ∷ ls)) ≡ 
 unfolding all_read heading expected ◌>>=◌
 headed ls = refl
 
-pub read_back : (r : Report) → IsReadable r → IsSmall r → claim_of_text (text_of_report r) ≡ Ok (claim_of_report r)
+pub read_back : (back : PathsAreReadBack) (r : Report) → IsReadable r → IsSmall r → claim_of_text (text_of_report r) ≡ Ok (claim_of_report r)
 unfolding claim_of_text text_of_report
-read_back r readable small =
-    let all = read_all r readable small 2 in
+read_back back r readable small =
+    let all = read_all back r readable small 2 in
     ap all_read (lines_again (found_lines r ++ chosen_lines r) (All-append PlainWords (found_lines r) (chosen_lines r) (found_plain r) (chosen_plain r)) ∙ ap (map joined) (flat r))
     ∙ (headed (all_lines r) ∙ (all.1 ∙ ended r all.0))

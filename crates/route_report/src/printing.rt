@@ -9,6 +9,7 @@ ghost use Rattle.route_report.specs.Readable.{IsReadable, claim_of_report};
 
 use crate::lines::{put_all, put_bound, put_busiest, put_heading, put_mode};
 use crate::report::Report;
+use aml_path::laws::text_is_read_back;
 use ar_space::Refusal;
 use std::alloc::{AllocError, Global};
 
@@ -71,5 +72,7 @@ pub fn print(alloc: Global, report: &Report) -> Result<Vec<u8>, Refusal>
     let mut text = Vec::new(alloc);
     put_found(alloc, &mut text, report)?;
     put_chosen(alloc, &mut text, report)?;
+    // the law that reading the paths of this text rests on
+    text_is_read_back();
     Ok(text)
 }

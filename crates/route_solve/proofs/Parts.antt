@@ -1,6 +1,6 @@
 use Rattle.std.proofs.Common.{◌≡◌, ℕ, ◌+◌, ◌-◌, ◌<◌, ◌≤◌, Bool, false, cond, List, [], ◌++◌, length, sym, ◌∙◌, ap, subst, arith, Option, Some, None, get_or, take, drop, inl, inr, min}
 use Rattle.std.specs.Prelude.{◌⊎◌, Contains}
-use Rattle.std.proofs.lemmas.List.{length-take, length-append, get_or-take, get_or_append_left, get_or-append_right, get_or_past, take-map, drop-map, length-map, get_or-map}
+use Rattle.std.proofs.lemmas.List.{length-take, length-append, get_or-take, get_or_append_left, get_or-append_right, get_or_past, take-map, drop-map}
 use Rattle.std.proofs.lemmas.List.Sums.{sum_by-append, sum_by-take-le}
 use Rattle.std.proofs.lemmas.Bool.{cases_lt}
 use Rattle.route_model.specs.Placement.{is_at, place_of, is_reached, Offers, taken, IsPlacement, IsStuck}
@@ -12,12 +12,6 @@ offers_take m links = sym (take-map (λ (l : OfferingLink). l.offers) m links)
 
 pub offers_drop : (m : ℕ) (links : List OfferingLink) → offers_of (drop m links) ≡ drop m (offers_of links)
 offers_drop m links = sym (drop-map (λ (l : OfferingLink). l.offers) m links)
-
-pub offers_length : (links : List OfferingLink) → length (offers_of links) ≡ length links
-offers_length links = length-map links (λ (l : OfferingLink). l.offers)
-
-pub offers_at : (links : List OfferingLink) (k : ℕ) (x : OfferingLink) → k < length links → x ≡ get_or links k x → get_or (offers_of links) k [] ≡ x.offers
-offers_at links k x b is = get_or-map (λ (l : OfferingLink). l.offers) links k x [] b ∙ ap (λ (l : OfferingLink). l.offers) (sym is)
 
 no_some : {A : Type 0} → {n : ℕ} (o : Option ℕ) → o ≡ None → o ≡ Some n → A
 no_some o e f = cc

@@ -9,7 +9,7 @@ use Rattle.std.proofs.lemmas.Map.Keys.{IsStrictlyIncreasing-dedup}
 use Rattle.route_model.proofs.Loads.{wired_somewhere}
 use Rattle.route_model.specs.Links.{offers_of}
 use Rattle.route_solve.specs.Marks.{has}
-use Rattle.route_solve.proofs.Parts.{offers_at, offers_length}
+use Rattle.route_model.proofs.Offers.{offers_at, offers_length}
 use Rattle.route_solve.proofs.Filtered.{offered_more, offers_within, contains_any}
 use Rattle.route_solve.proofs.buffers.all_interrupts.Goals as goal
 

@@ -1,7 +1,7 @@
 use Rattle.std.proofs.Common.{sym, ◌∙◌, get_or, [], below_more, subst}
 use Rattle.route_model.specs.Links.{offers_of}
 use Rattle.route_solve.specs.Fits.{IsOffer}
-use Rattle.route_solve.proofs.Parts.{offers_at}
+use Rattle.route_model.proofs.Offers.{offers_at}
 use Rattle.route_solve.proofs.Ascending.{no, shown, refuted}
 use Rattle.route_solve.proofs.conditions.are_offers.Goals as goal
 

@@ -6,7 +6,8 @@ use Rattle.route_model.specs.Placement.{place_of, is_reached, Offers}
 use Rattle.route_model.specs.Links.{offers_of}
 use Rattle.route_solve.specs.Search.{room_of}
 use Rattle.route_solve.specs.Certificate.{IsSpread}
-use Rattle.route_solve.proofs.Parts.{placement_take, offers_take, offers_length, offers_at, reached_front}
+use Rattle.route_model.proofs.Offers.{offers_length, offers_at}
+use Rattle.route_solve.proofs.Parts.{placement_take, offers_take, reached_front}
 use Rattle.std.proofs.lemmas.List.Elements.{Contains-get_or}
 use Rattle.route_solve.proofs.Exchange.{place_cases, place_other}
 use Rattle.route_solve.proofs.Spreads.{spread_none, spread_on, spread_raised}

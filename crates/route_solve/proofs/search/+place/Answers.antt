@@ -6,7 +6,7 @@ use Rattle.std.proofs.lemmas.List.Elements.{Contains-get_or}
 use Rattle.route_model.specs.Placement.{is_reached, place_of, Offers}
 use Rattle.route_model.specs.Links.{offers_of}
 use Rattle.route_solve.specs.Search.{room_of, Moved, IsHandled, Explores, Fails}
-use Rattle.route_solve.proofs.Parts.{offers_at}
+use Rattle.route_model.proofs.Offers.{offers_at}
 use Rattle.route_solve.proofs.Exchange.{moved_directly, moved_after, spares_step, explores_more, fewer_left, handled_grown, IsGrown, same_option, other_option}
 use Rattle.route_solve.proofs.search.+place.Goals as goal
 use Rattle.route_solve.proofs.search.+place.Goals.{else-not-reached-j-via-then-not-reached-j+then-eq+else-place, else-not-reached-j-via-then-not-reached-j+else-eq, else-not-reached-j-via-else-not-reached-j}

@@ -2,7 +2,7 @@ use Rattle.std.proofs.Common.{arith, ap, sym, ◌∙◌, ◌≡◌, ◌+◌, ◌
 use Rattle.std.specs.Prelude.{◌==◌, ◌&&◌, ◌||◌}
 use Rattle.std.specs.List.{list_any}
 use Rattle.std.proofs.lemmas.List.{length-map}
-use Rattle.route_solve.proofs.Parts.{offers_at}
+use Rattle.route_model.proofs.Offers.{offers_at}
 use Rattle.route_model.specs.Placement.{is_reached}
 use Rattle.route_model.specs.Links.{offers_of}
 use Rattle.route_solve.specs.Marks.{is_offered_by}

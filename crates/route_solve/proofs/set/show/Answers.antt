@@ -11,7 +11,7 @@ use Rattle.route_solve.specs.Shown.{Shown}
 use Rattle.route_model.specs.Bound.{IsLowerBound}
 use Rattle.route_solve.specs.Marks.{is_offered_by}
 use Rattle.route_solve.specs.Shown.Shown.{Idle}
-use Rattle.route_solve.proofs.Parts.{offers_length}
+use Rattle.route_model.proofs.Offers.{offers_length}
 use Rattle.route_solve.proofs.Showing.{wired_set, crowded_set}
 use Rattle.route_solve.proofs.set.show.Goals as goal
 

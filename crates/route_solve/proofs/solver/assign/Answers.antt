@@ -1,6 +1,6 @@
 use Rattle.std.proofs.Common.{arith}
 use Rattle.route_model.specs.Links.{offers_of}
-use Rattle.route_solve.proofs.Parts.{offers_length}
+use Rattle.route_model.proofs.Offers.{offers_length}
 use Rattle.route_solve.proofs.Least.{first_least}
 use Rattle.route_solve.proofs.solver.assign.Goals as goal
 

@@ -5,7 +5,7 @@ use Rattle.std.proofs.lemmas.List.{length-map, get_or-set_same, take-set-le, len
 use Rattle.std.specs.List.Sorted.{IsStrictlyIncreasing}
 use Rattle.route_model.specs.Links.{offers_of}
 use Rattle.route_try.specs.Tries.{NoneWithin, IsFirstWithin}
-use Rattle.route_solve.proofs.Parts.{offers_at}
+use Rattle.route_model.proofs.Offers.{offers_at}
 use Rattle.route_try.proofs.Firsts.{found_whole, none_whole, none_all, closed_more, found_next, kept_front, kept_at}
 use Rattle.route_try.proofs.trial.+first.Goals as goal
 

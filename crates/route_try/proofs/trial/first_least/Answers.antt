@@ -1,7 +1,7 @@
 use Rattle.std.proofs.Common.{arith}
 use Rattle.route_model.specs.Links.{offers_of}
 use Rattle.route_model.proofs.Assignments.{length_assignment}
-use Rattle.route_solve.proofs.Parts.{offers_length}
+use Rattle.route_model.proofs.Offers.{offers_length}
 use Rattle.route_try.proofs.trial.first_least.Goals as goal
 
 pub choose-requires-clause-choices : goal.choose-requires-clause-choices

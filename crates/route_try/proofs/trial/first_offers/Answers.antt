@@ -5,7 +5,7 @@ use Rattle.std.proofs.lemmas.List.Elements.{Contains-get_or}
 use Rattle.route_model.specs.Links.{offers_of}
 use Rattle.route_model.specs.Placement.{Offers}
 use Rattle.route_model.proofs.Assignments.{all_zip_from}
-use Rattle.route_solve.proofs.Parts.{offers_at, offers_length}
+use Rattle.route_model.proofs.Offers.{offers_at, offers_length}
 use Rattle.route_try.proofs.Pushed.{offered_pushed}
 use Rattle.route_try.proofs.trial.first_offers.Goals as goal
 
