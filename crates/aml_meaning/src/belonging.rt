@@ -7,7 +7,8 @@ use aml_objects::{Reference, Value};
 
 impl<S> World<S> {
     /// Whether a value is one of this world: each object, declaration and frame that it names was given its number by this
-    /// world, though a declaration or a frame may have ended since. It takes no memory.
+    /// world, though a declaration or a frame may have ended since. Neither the elements of a package are looked at, nor whether
+    /// an object is of the value's kind. It takes no memory.
     pub fn holds(&self, value: &Value) -> bool
         ensures { result ≡ value_belongs self.now value.now }
     {

@@ -157,13 +157,15 @@ const DECLARED: &[(&[u8], &str)] = &[
 /// What stands at a path, in a word.
 fn kind_at(alloc: Global, world: &World<Sparse>, path: &[u8]) -> Result<&'static str, Refusal> {
     let path = path_of(alloc, path)?;
+    let target = path_of(alloc, b"\\DEV_.STR_")?;
     Ok(match world.names().get(&path) {
         None => "nothing",
-        Some(entry) => kind_of(&entry.object),
+        Some(entry) => kind_of(&entry.object, &target),
     })
 }
 
-fn kind_of(object: &NamedObject) -> &'static str {
+/// An object in a word, where an alias has this target.
+fn kind_of(object: &NamedObject, target: &Path) -> &'static str {
     match object {
         NamedObject::Device => "Device",
         NamedObject::Processor => "Processor",
@@ -171,7 +173,7 @@ fn kind_of(object: &NamedObject) -> &'static str {
         NamedObject::ThermalZone => "ThermalZone",
         NamedObject::Mutex(0) => "Mutex",
         NamedObject::Event => "Event",
-        NamedObject::Alias(_) => "Alias",
+        NamedObject::Alias(path) if *path == *target => "Alias",
         NamedObject::Method(method) if method.arguments == 2 => "Method of 2 arguments",
         _ => "another object",
     }

@@ -188,11 +188,11 @@ const REFUSED: &[(&[u8], u16)] = &[
     // a divisor of 0 is refused before any target
     (b"\xA4\x78\x0A\x07\x00\x60\x00", 42),
     (b"\xA4\x85\x0A\x07\x00\x00", 42),
-    // a device where an integer is wanted, and an empty string
+    // a scope where an integer is wanted, and an empty string
     (b"\xA4\x72\\_SB_\x01\x00", 40),
     (b"\xA4\x72\x0D\x00\x01\x00", 41),
     (b"\xA4\x99\x0D\x00\x00", 41),
-    // a device that is compared or joined, and strings that are joined as resources
+    // a scope that is compared or joined, and strings that are joined as resources
     (b"\xA4\x93\\_SB_\x01", 40),
     (b"\xA4\x73\\_SB_\x01\x00", 40),
     (b"\xA4\x84\x0DA\x00\x0DB\x00\x00", 40),

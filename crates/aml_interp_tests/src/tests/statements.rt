@@ -1,5 +1,7 @@
 //! Statements and calls, as the values that control methods answer.
-use super::methods::{answer_to, called, integer_of, integer_to, refusal_of, with_method};
+use super::methods::{
+    answer_to, called, integer_in, integer_of, integer_to, refusal_of, with_method,
+};
 use super::worlds::{STEPS, stands};
 use crate::tests::{is_so, same};
 use aml_meaning::{Datum, World};
@@ -99,7 +101,7 @@ fn calls_are_32_deep(rt: HostRuntime) -> Result<(), Fail> {
 }
 
 #[test]
-fn a_call_without_steps_leaves_the_world_as_it_can_be_called(rt: HostRuntime) -> Result<(), Fail> {
+fn a_call_answers_after_one_that_ran_out_of_steps(rt: HostRuntime) -> Result<(), Fail> {
     let alloc = rt.alloc();
     // While(Arg0) { } Return(7)
     let mut world = with_method(alloc, WIDE, 1, b"\xA2\x02\x68\xA4\x0A\x07")?;
@@ -161,8 +163,8 @@ fn steps_of_a_return(rt: HostRuntime) -> Result<(), Fail> {
 fn names_of_a_call_end_with_it(rt: HostRuntime) -> Result<(), Fail> {
     let alloc = rt.alloc();
     let mut world = with_method(alloc, WIDE, 0, b"\x08NUM_\x0A\x07\xA4NUM_")?;
-    same(&rt, &integer_to(alloc, &mut world, Vec::new(alloc))?, &7);
-    same(&rt, &integer_to(alloc, &mut world, Vec::new(alloc))?, &7);
+    same(&rt, &integer_in(alloc, &mut world)?, &7);
+    same(&rt, &integer_in(alloc, &mut world)?, &7);
     is_so(&rt, !stands(alloc, &world, b"\\M000.NUM_")?);
     Ok(())
 }

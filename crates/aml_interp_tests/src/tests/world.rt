@@ -57,12 +57,14 @@ const PREDEFINED: &[&[u8; 4]] = &[
     b"_GL_", b"_GPE", b"_OSI", b"_OS_", b"_PR_", b"_REV", b"_SB_", b"_SI_", b"_TZ_",
 ];
 
-/// The first segments of all names but the root, in path order.
-fn first_segments(alloc: Global, world: &World<Sparse>) -> Result<Vec<[u8; 4]>, Refusal> {
+/// The segments of all names but the root, in path order, which have one each.
+fn segments_of(alloc: Global, world: &World<Sparse>) -> Result<Vec<[u8; 4]>, Refusal> {
     let mut segments = Vec::new(alloc);
     for path in world.names().walk(alloc)?.iter() {
-        if let Some(segment) = path.segments().first() {
-            segments.push(segment.bytes())?;
+        match path.segments() {
+            [segment] => segments.push(segment.bytes())?,
+            // no name of one segment
+            _ => segments.push(*b"....")?,
         }
     }
     Ok(segments)
@@ -72,7 +74,7 @@ fn first_segments(alloc: Global, world: &World<Sparse>) -> Result<Vec<[u8; 4]>, 
 fn predefined_names(rt: HostRuntime) -> Result<(), Fail> {
     let alloc = rt.alloc();
     let world = new_world(alloc)?;
-    let segments = first_segments(alloc, &world)?;
+    let segments = segments_of(alloc, &world)?;
     same(&rt, &segments.len(), &PREDEFINED.len());
     for (segment, characters) in segments.iter().zip(PREDEFINED.iter()) {
         same(&rt, segment, &**characters);
@@ -167,7 +169,7 @@ fn names_come_and_go(rt: HostRuntime) -> Result<(), Fail> {
         &Err(Refusal::Namespace(NamespaceFault::NotFound)),
     );
     remove_below(alloc, &mut world, b"\\_SB_")?;
-    let left = first_segments(alloc, &world)?.len();
+    let left = segments_of(alloc, &world)?.len();
     same(&rt, &left, &PREDEFINED.len());
     Ok(())
 }
@@ -218,20 +220,22 @@ fn objects_of_the_world(rt: HostRuntime) -> Result<(), Fail> {
     Ok(())
 }
 
-/// How many elements the copy of a package of one element has.
-fn elements_of_a_copy(alloc: Global, world: &mut World<Sparse>) -> Result<usize, Refusal> {
+/// The copy of a package of one element.
+fn copy_of_one(alloc: Global, world: &mut World<Sparse>) -> Result<Value, Refusal> {
     let one = package(alloc, world, Value::Integer(3))?;
-    match world.copy(alloc, one)? {
-        Value::Package(object) => Ok(world.elements(alloc, object)?.as_slice().len()),
-        _ => Ok(0),
-    }
+    world.copy(alloc, one)
+}
+
+fn count_of(alloc: Global, world: &World<Sparse>, object: usize) -> Result<usize, Refusal> {
+    Ok(world.elements(alloc, object)?.as_slice().len())
 }
 
 #[test]
 fn a_copy_of_a_package(rt: HostRuntime) -> Result<(), Fail> {
     let alloc = rt.alloc();
     let mut world = new_world(alloc)?;
-    same(&rt, &elements_of_a_copy(alloc, &mut world), &Ok(1));
+    same(&rt, &copy_of_one(alloc, &mut world), &Ok(Value::Package(2)));
+    same(&rt, &count_of(alloc, &world, 2), &Ok(1));
     Ok(())
 }
 

@@ -1,6 +1,7 @@
-//! References to elements of packages that are names of fields: such an element stands for the value of its field.
+//! References to elements of packages that are names: such an element stands for the value of its data or of its field, and else
+//! for a reference to the name.
 use crate::tests::same;
-use crate::tests::traces::{Machine, Wanted, set_up};
+use crate::tests::traces::{Machine, set_up};
 use crate::tests::worlds::STEPS;
 use aml_interp::eval;
 use aml_meaning::World;
@@ -16,7 +17,8 @@ use std::alloc::Global;
 use std::process::Abort;
 use std::test::Fail;
 
-/// A package of a field of 8 bits and of one of 72, and methods that tell the size and the type of their argument.
+/// A package of a field of 8 bits and of one of 72, of a buffer, a device, a method and nothing, and methods that tell the size and
+/// the type of their argument.
 const BOTH: Machine = Machine {
     width: Bits64,
     bytes: &[
@@ -31,9 +33,10 @@ const BOTH: Machine = Machine {
         (Memory(8), 9),
     ],
     // OperationRegion(REG1, SystemMemory, Zero, 9) Field(REG1, ByteAcc, NoLock, Preserve) { WIDE, 72 }
-    // Field(REG1, ByteAcc, NoLock, Preserve) { BYTE, 8 } Name(PKG_, Package() { BYTE, WIDE })
+    // Field(REG1, ByteAcc, NoLock, Preserve) { BYTE, 8 } Name(BUF_, Buffer(3) { }) Device(DEV_) { }
+    // Name(PKG_, Package() { BYTE, WIDE, BUF_, DEV_, SIZE, NONE })
     // Method(SIZE, 1) { Return(SizeOf(Arg0)) } Method(TYPE, 1) { Return(ObjectType(Arg0)) }
-    table: b"\x5B\x80REG1\x00\x00\x0A\x09\x5B\x81\x0CREG1\x01WIDE\x48\x04\x5B\x81\x0BREG1\x01BYTE\x08\x08PKG_\x12\x0A\x02BYTEWIDE\x14\x09SIZE\x01\xA4\x87\x68\x14\x09TYPE\x01\xA4\x8E\x68",
+    table: b"\x5B\x80REG1\x00\x00\x0A\x09\x5B\x81\x0CREG1\x01WIDE\x48\x04\x5B\x81\x0BREG1\x01BYTE\x08\x08BUF_\x11\x03\x0A\x03\x5B\x82\x05DEV_\x08PKG_\x12\x1A\x06BYTEWIDEBUF_DEV_SIZENONE\x14\x09SIZE\x01\xA4\x87\x68\x14\x09TYPE\x01\xA4\x8E\x68",
 };
 
 /// The accesses of a read of `WIDE`.
@@ -54,7 +57,7 @@ const ALL_BYTES: &[Access] = &[
 struct Case<'a> {
     method: &'a [u8],
     index: usize,
-    answer: Wanted<'a>,
+    answer: Result<u64, u8>,
     accesses: &'a [Access],
 }
 
@@ -62,26 +65,62 @@ const CASES: &[Case] = &[
     Case {
         method: b"\\TYPE",
         index: 0,
-        answer: Wanted::Integer(1),
+        answer: Ok(1),
         accesses: &[Read(Memory(0), W8)],
     },
     Case {
         method: b"\\TYPE",
         index: 1,
-        answer: Wanted::Integer(3),
+        answer: Ok(3),
         accesses: ALL_BYTES,
     },
     Case {
         method: b"\\SIZE",
         index: 0,
-        answer: Wanted::Refused(40),
+        answer: Err(40),
         accesses: &[Read(Memory(0), W8)],
     },
     Case {
         method: b"\\SIZE",
         index: 1,
-        answer: Wanted::Integer(9),
+        answer: Ok(9),
         accesses: ALL_BYTES,
+    },
+    Case {
+        method: b"\\TYPE",
+        index: 2,
+        answer: Ok(3),
+        accesses: &[],
+    },
+    Case {
+        method: b"\\SIZE",
+        index: 2,
+        answer: Ok(3),
+        accesses: &[],
+    },
+    Case {
+        method: b"\\TYPE",
+        index: 3,
+        answer: Ok(6),
+        accesses: &[],
+    },
+    Case {
+        method: b"\\SIZE",
+        index: 3,
+        answer: Err(40),
+        accesses: &[],
+    },
+    Case {
+        method: b"\\TYPE",
+        index: 4,
+        answer: Ok(8),
+        accesses: &[],
+    },
+    Case {
+        method: b"\\TYPE",
+        index: 5,
+        answer: Err(61),
+        accesses: &[],
     },
 ];
 
@@ -114,25 +153,25 @@ fn case_value(
     evaluated(alloc, world, case.method, arguments)
 }
 
-/// A value as far as these tests tell values apart.
-fn told<'a>(value: &Result<Value, Refusal>) -> Wanted<'a> {
+/// The integer that a case answers, or the number of its refusal; what is no integer is told as 2^64 - 1.
+fn told(value: Result<Value, Refusal>) -> Result<u64, u8> {
     match value {
-        Ok(Value::Integer(number)) => Wanted::Integer(*number),
-        Ok(_) => Wanted::Nothing,
-        Err(refusal) => Wanted::Refused(refusal.number()),
+        Ok(Value::Integer(number)) => Ok(number),
+        Ok(_) => Ok(u64::MAX),
+        Err(refusal) => Err(refusal.number()),
     }
 }
 
 fn judge(rt: &impl Abort, alloc: Global, case: &Case) -> Result<(), Fail> {
     let mut world = set_up(alloc, &BOTH)?;
     let value = case_value(alloc, &mut world, case);
-    same(rt, &told(&value), &case.answer);
+    same(rt, &told(value), &case.answer);
     same(rt, &world.space().accesses(), &case.accesses);
     Ok(())
 }
 
 #[test]
-fn an_element_that_names_a_field_is_its_value(rt: HostRuntime) -> Result<(), Fail> {
+fn elements_that_are_names(rt: HostRuntime) -> Result<(), Fail> {
     let alloc = rt.alloc();
     for case in CASES {
         judge(&rt, alloc, case)?;
