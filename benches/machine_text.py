@@ -4,8 +4,8 @@
     benches/machine_text.py [PROGRAM [WORD..]]
 
 The program is run on a machine text of 16,777,216 bytes, the longest that acpiroute takes, and the bytes per second of
-the fastest of three runs are printed. With no program named, it is machine_text_time, which reads the text and does
-nothing else: build it first by `rt run` in crates/machine_text_time. The text is the same at each
+the fastest of three runs are printed. With no program named, it is `timing machine-text`, which reads the text and does
+nothing else: build it first by `rt run` in crates/timing. The text is the same at each
 call: an RSDP's address, and lines of 32 bytes of memory each, from low addresses upwards in the first half and in a
 mixed order in the second.
 """
@@ -16,7 +16,7 @@ import time
 
 SIZE = 16_777_216
 LINE_BYTES = 32
-PROGRAM = pathlib.Path(__file__).parent.parent / "crates/machine_text_time/out/machine_text_time"
+PROGRAM = [pathlib.Path(__file__).parent.parent / "crates/timing/out/timing", "machine-text"]
 
 
 def machine_text():
@@ -42,7 +42,7 @@ def machine_text():
 
 
 def main():
-    command = sys.argv[1:] or [PROGRAM]
+    command = sys.argv[1:] or PROGRAM
     text = machine_text()
     assert len(text) == SIZE
     fastest = None

@@ -4,8 +4,8 @@
     benches/route_solve.py [PROGRAM [WORD..]]
 
 The program is run on texts of one line a link, with the interrupts that it offers, and the seconds of the fastest of three
-runs are printed for each. With no program named, it is route_solve_time: build it first by `rt run` in
-crates/route_solve_time. The texts are the same at each call: links that all offer 1 to 255, and links that each offer some
+runs are printed for each. With no program named, it is `timing solver`: build it first by `rt run` in
+crates/timing. The texts are the same at each call: links that all offer 1 to 255, and links that each offer some
 of 255 or of 24 interrupts at random, one in four of them.
 """
 import pathlib
@@ -14,7 +14,7 @@ import subprocess
 import sys
 import time
 
-PROGRAM = pathlib.Path(__file__).parent.parent / "crates/route_solve_time/out/route_solve_time"
+PROGRAM = [pathlib.Path(__file__).parent.parent / "crates/timing/out/timing", "solver"]
 
 
 def all_offered(links, interrupts):
@@ -37,7 +37,7 @@ def fastest(command, offers):
 
 
 def main():
-    command = sys.argv[1:] or [PROGRAM]
+    command = sys.argv[1:] or PROGRAM
     for name, offers, interrupts in [
         ("all of 255", all_offered, 255),
         ("some of 255", some_offered, 255),

@@ -8,8 +8,6 @@ mod machine;
 mod mode;
 mod named_tables;
 mod nodes;
-#[cfg(test)]
-mod tests;
 
 pub use kind::Kind;
 pub use loading::load_tables;

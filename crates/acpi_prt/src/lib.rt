@@ -5,8 +5,6 @@ mod entry;
 mod link;
 mod pin;
 mod routing_table;
-#[cfg(test)]
-mod tests;
 
 pub use pin::{Pin, Route};
 pub use routing_table::get_irq_routing_table;

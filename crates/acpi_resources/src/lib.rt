@@ -23,6 +23,3 @@ pub use laws::{a_set_has_the_numbers_of_its_list, an_item_is_read_as_it_is_writt
 pub use offer::Offer;
 pub use possible_resources::possible;
 pub use setting_bytes::setting;
-
-#[cfg(test)]
-mod tests;

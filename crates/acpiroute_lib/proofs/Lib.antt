@@ -1,14 +1,6 @@
-pub mod Added
-pub mod Checks
 pub mod Deliveries
-pub mod ErrorLines
 pub mod Evaluated
-pub mod Faults
-pub mod Getters
-pub mod Inputs
 pub mod Machines
 pub mod NameLines
-pub mod Numbers
-pub mod Outputs
 pub mod Packages
 pub mod Routes

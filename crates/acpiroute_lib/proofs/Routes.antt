@@ -13,7 +13,7 @@ use Rattle.route_report.specs.declared.report.Mode.{Mode}
 use Rattle.route_report.specs.declared.report.Report.{Report}
 use Rattle.acpiroute_lib.specs.Machines.{machine_of_text_in}
 use Rattle.acpiroute_lib.specs.RouteCommand.{printed, IsRouted, IsRouteAnswer}
-use Rattle.acpiroute_lib.specs.Written.{Written}
+use Rattle.acpiroute_words.specs.Written.{Written}
 
 pub reported : {m after : MachineState Bytes} (report : Report) (r : Outcome Written) → IsDryReport byte_accesses m after (rows report) → Answers r (Ok (printed report)) → NotMemory r → IsRouted m r
 reported {after = after} report (Ok w) is h ne = record { report = report; after = after; is_report = is; is_text = sym (cc (h.is ne)) }

@@ -8,10 +8,10 @@ use Rattle.aml_meaning.specs.Given as given
 use Rattle.acpi_machine.specs.Calls.{evaluated_object}
 use Rattle.acpi_machine.specs.MachineStates.{MachineState}
 use Rattle.route_report.specs.declared.report.Mode.{Mode}
-use Rattle.acpiroute_lib.specs.declared.completion.Completion.TheVariants.{Done}
+use Rattle.acpiroute_words.specs.declared.completion.Completion.TheVariants.{Done}
 use Rattle.acpiroute_lib.specs.Machines.{machine_of_text_in}
 use Rattle.acpiroute_lib.specs.ValueText.{value_text}
-use Rattle.acpiroute_lib.specs.Written.{Written}
+use Rattle.acpiroute_words.specs.Written.{Written}
 
 -- what the object at a path of a machine answers to arguments
 unfoldable pub value_at : MachineState Bytes → List Seg → List given.Given → Outcome given.Given

@@ -1,10 +1,3 @@
-pub mod Values
-pub mod CommandLine
-pub mod Decided
-pub mod Input
-pub mod ErrorLines
-pub mod Written
-pub mod CheckCommand
 pub mod Machines
 pub mod NameLines
 pub mod NamesCommand

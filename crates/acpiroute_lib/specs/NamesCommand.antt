@@ -4,10 +4,10 @@ use Rattle.ar_space.specs.Outcome.{Outcome, ◌>>=◌}
 use Rattle.ar_space.specs.Bytes.{Bytes}
 use Rattle.acpi_machine.specs.Kinds.{kinds_walked}
 use Rattle.acpi_machine.specs.MachineStates.{MachineState}
-use Rattle.acpiroute_lib.specs.declared.completion.Completion.TheVariants.{Done}
+use Rattle.acpiroute_words.specs.declared.completion.Completion.TheVariants.{Done}
 use Rattle.acpiroute_lib.specs.Machines.{machine_of_text}
 use Rattle.acpiroute_lib.specs.NameLines.{name_lines}
-use Rattle.acpiroute_lib.specs.Written.{Written}
+use Rattle.acpiroute_words.specs.Written.{Written}
 
 -- all names of a machine but the root, in path order
 abbrev pub names_of_machine : MachineState Bytes → Written

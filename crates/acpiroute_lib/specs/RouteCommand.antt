@@ -9,9 +9,9 @@ use Rattle.acpi_configure.specs.Configured.{IsDryReport}
 use Rattle.route_report.specs.declared.report.Mode.{Mode}
 use Rattle.route_report.specs.declared.report.Report.{Report}
 use Rattle.route_report.specs.Printing.{text_of_report}
-use Rattle.acpiroute_lib.specs.declared.completion.Completion.TheVariants.{Done}
+use Rattle.acpiroute_words.specs.declared.completion.Completion.TheVariants.{Done}
 use Rattle.acpiroute_lib.specs.Machines.{machine_of_text_in}
-use Rattle.acpiroute_lib.specs.Written.{Written}
+use Rattle.acpiroute_words.specs.Written.{Written}
 
 -- a report as text
 abbrev pub printed : Report → Written

@@ -1,20 +1,16 @@
 -- What a run comes to, and what it leaves in its writers.
-use Rattle.std.specs.Prelude.{◌≡◌, ◌⊎◌, ℕ, Bool, true, false, List, [], ◌∷◌, take, Option, Some, Ok, Err, codes}
-use Rattle.std.specs.Io.KnownBytes.{Appends, Keeps}
+use Rattle.std.specs.Prelude.{◌≡◌, ◌⊎◌, ℕ, Bool, true, false, List, [], ◌∷◌, Some, Ok, Err, codes}
 use Rattle.clap.specs.Kinds.{IsAmong}
 use Rattle.clap.specs.declared.error.kind.ErrorKind.{ErrorKind}
 use Rattle.clap.specs.declared.error.kind.ErrorKind.TheVariants as kind
 use Rattle.ar_space.specs.Outcome.{Outcome}
-use Rattle.ar_space.specs.declared.refusal.Refusal.{Refusal}
-use Rattle.ar_space.specs.declared.refusal.Refusal.TheVariants.{Input}
-use Rattle.ar_space.specs.declared.refusal.InputFault.TheVariants.{WriteFault}
-use Rattle.acpiroute_lib.specs.declared.request.Request.{Request}
-use Rattle.acpiroute_lib.specs.CommandLine.{request_of, faults_of, is_supported}
-use Rattle.acpiroute_lib.specs.Decided.{Settles}
-use Rattle.acpiroute_lib.specs.Input.{input_of}
-use Rattle.acpiroute_lib.specs.ErrorLines.{error_line}
+use Rattle.acpiroute_words.specs.declared.request.Request.{Request}
+use Rattle.acpiroute_words.specs.CommandLine.{request_of, faults_of, is_supported}
+use Rattle.acpiroute_words.specs.Decided.{Settles}
+use Rattle.acpiroute_words.specs.Deliveries.{Stream, Unchanged, Gains, Delivers}
+use Rattle.acpiroute_words.specs.Input.{input_of}
+use Rattle.acpiroute_words.specs.Written.{Written}
 use Rattle.acpiroute_lib.specs.Commands.{IsAnswer}
-use Rattle.acpiroute_lib.specs.Written.{Written, status_of}
 
 -- the answer over an input that is short enough, and else its refusal
 abbrev pub IsAnswerOver : Request → Outcome (List ℕ) → Outcome Written → Type 0
@@ -24,47 +20,6 @@ IsAnswerOver q (Err e) r = r ≡ Err e
 -- what a request comes to over all that a reader has left
 abbrev pub ComesTo : Request → List ℕ → Outcome Written → Type 0
 ComesTo q bytes r = IsAnswerOver q (input_of bytes) r
-
--- what the output or the errors held before a run, and what they hold after it, where that is known
-pub record Stream : Type 0 where
-  pub before : Option (List ℕ)
-  pub after : Option (List ℕ)
-
-abbrev pub Unchanged : Stream → Type 0
-Unchanged s = Keeps s.before s.after
-
-abbrev pub Gains : Stream → List ℕ → Type 0
-Gains s text = Appends s.before s.after text
-
--- a front part of the text went out
-abbrev pub GainsPart : Stream → List ℕ → Type 0
-GainsPart s text = (n : ℕ) × Gains s (take n text)
-
--- the line of a refusal went out, if the errors took it
-abbrev pub Tells : Bool → Stream → Refusal → Type 0
-Tells is_told errors r = is_told ≡ true → Gains errors (error_line r)
-
--- an answer went out whole, with its own status
-pub record WroteWhole (answer : Written) (status : ℕ) (output errors : Stream) : Type 0 where
-  pub status_is : status ≡ status_of answer.completion
-  pub text : Gains output answer.text
-  pub no_line : Unchanged errors
-
--- the output's writer failed: what had gone out stays
-pub record WroteNotAll (answer : Written) (status : ℕ) (is_told : Bool) (output errors : Stream) : Type 0 where
-  pub status_is : status ≡ 1
-  pub text : GainsPart output answer.text
-  pub line : Tells is_told errors (Input WriteFault)
-
--- a refusal writes its line alone
-pub record WroteRefusal (r : Refusal) (status : ℕ) (is_told : Bool) (output errors : Stream) : Type 0 where
-  pub status_is : status ≡ 1
-  pub no_text : Unchanged output
-  pub line : Tells is_told errors r
-
-abbrev pub Delivers : Outcome Written → ℕ → Bool → Stream → Stream → Type 0
-Delivers (Ok answer) status is_told output errors = WroteWhole answer status output errors ⊎ WroteNotAll answer status is_told output errors
-Delivers (Err r) status is_told output errors = WroteRefusal r status is_told output errors
 
 -- what a faulty command line leaves: help goes to the output with status 0, all else to the errors with 2
 abbrev pub Shows : ErrorKind → ℕ → Stream → Type 0

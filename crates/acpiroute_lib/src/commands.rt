@@ -2,12 +2,10 @@
 ghost use Rattle.ar_space.specs.Outcome.{NotMemory};
 ghost use Rattle.acpiroute_lib.specs.Commands.{IsAnswer};
 
-use crate::answer::Answer;
-use crate::check_command::check_answer;
 use crate::eval_command::eval_answer;
 use crate::names_command::names_answer;
-use crate::request::Request;
 use crate::route_command::route_answer;
+use acpiroute_words::{Answer, Request, check_answer};
 use ar_space::Refusal;
 use std::alloc::Global;
 

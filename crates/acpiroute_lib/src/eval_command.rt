@@ -4,12 +4,10 @@ ghost use Rattle.ar_space.specs.Outcome.{Answers, seen};
 ghost use Rattle.aml_meaning.specs.Given as given;
 ghost use Rattle.acpiroute_lib.specs.EvalCommand.{value_at, value_written, evaluated_text, eval_answer};
 
-use crate::answer::Answer;
-use crate::completion::Completion;
-use crate::integers::Integers;
 use crate::machine::machine_of_text_in;
 use crate::value_text::value_line;
 use acpi_machine::Machine;
+use acpiroute_words::{Answer, Completion, Integers};
 use aml_meaning::Datum;
 use aml_path::Path;
 use ar_space::{PathText, Refusal, Sparse};

@@ -4,8 +4,8 @@ ghost use Rattle.aml_path.specs.Text.{text_of};
 ghost use Rattle.acpi_machine.specs.Kinds.{kind_seen};
 ghost use Rattle.acpiroute_lib.specs.NameLines.{kind_text, name_line, name_lines};
 
-use crate::put::{put_number, put_path};
 use acpi_machine::Kind;
+use acpiroute_words::{put_number, put_path};
 use aml_path::Path;
 use std::alloc::{AllocError, Global};
 

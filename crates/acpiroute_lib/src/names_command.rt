@@ -3,11 +3,10 @@ ghost use Rattle.std.specs.Prelude.{◌≡◌, Ok};
 ghost use Rattle.ar_space.specs.Outcome.{Answers};
 ghost use Rattle.acpiroute_lib.specs.NamesCommand.{names_answer, names_of_machine};
 
-use crate::answer::Answer;
-use crate::completion::Completion;
 use crate::machine::machine_of_text;
 use crate::name_lines::name_lines;
 use acpi_machine::Machine;
+use acpiroute_words::{Answer, Completion};
 use ar_space::{Refusal, Sparse};
 use std::alloc::Global;
 

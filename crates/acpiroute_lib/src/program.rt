@@ -1,15 +1,12 @@
 //! The program, from its words and its input to its output, its error line and its status.
 ghost use Rattle.std.specs.Prelude.{◌≡◌, ◌⊎◌, IfSome, map, codes, true, Bool};
 ghost use Rattle.clap.specs.Words.{kind_of};
-ghost use Rattle.acpiroute_lib.specs.Decided.{Settles};
-ghost use Rattle.acpiroute_lib.specs.Runs.{ComesTo, Gains, Ran, Shows};
+ghost use Rattle.acpiroute_words.specs.Decided.{Settles};
+ghost use Rattle.acpiroute_words.specs.Deliveries.{Gains};
+ghost use Rattle.acpiroute_lib.specs.Runs.{ComesTo, Ran, Shows};
 
-use crate::answer::Answer;
-use crate::command_line::parse;
 use crate::commands::answer_to;
-use crate::delivery::{Delivery, deliver, refuse};
-use crate::input::read_input;
-use crate::request::Request;
+use acpiroute_words::{Answer, Delivery, Request, deliver, parse, read_input, refuse};
 use ar_space::{InputFault, Refusal};
 use clap::Error;
 use std::alloc::Global;

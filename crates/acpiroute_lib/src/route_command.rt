@@ -3,11 +3,10 @@ ghost use Rattle.std.specs.Prelude.{◌≡◌, Ok};
 ghost use Rattle.ar_space.specs.Outcome.{Answers, NotMemory};
 ghost use Rattle.acpiroute_lib.specs.RouteCommand.{printed, IsRouted, IsRouteAnswer};
 
-use crate::answer::Answer;
-use crate::completion::Completion;
 use crate::machine::machine_of_text_in;
 use acpi_configure::configure_dry;
 use acpi_machine::Machine;
+use acpiroute_words::{Answer, Completion};
 use ar_space::{Refusal, Sparse};
 use route_report::{Mode, Report, print};
 use std::alloc::Global;

@@ -3,7 +3,7 @@ ghost use Rattle.std.specs.Prelude.{◌≡◌, ◌++◌, IfOk, OnOk, codes, leng
 ghost use Rattle.aml_meaning.specs.Given as given;
 ghost use Rattle.acpiroute_lib.specs.ValueText.{bytes_text, package_text, value_text, elements_text};
 
-use crate::put::{put_number, put_path};
+use acpiroute_words::{put_number, put_path};
 use aml_meaning::Datum;
 use aml_path::Path;
 use std::alloc::{AllocError, Global};

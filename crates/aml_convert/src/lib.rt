@@ -10,8 +10,6 @@ mod integers;
 pub mod laws;
 mod logic;
 mod operators;
-#[cfg(test)]
-mod tests;
 mod texts;
 mod widths;
 

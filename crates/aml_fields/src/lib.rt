@@ -6,8 +6,6 @@ mod bits;
 mod field_units;
 pub mod laws;
 mod region;
-#[cfg(test)]
-mod tests;
 mod unit;
 
 pub use accesses::{read_field, write_field};

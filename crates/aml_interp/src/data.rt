@@ -2,18 +2,18 @@
 ghost use Rattle.std.specs.Prelude.{◌≡◌, ◌≤◌, ◌<◌, [], OnOk, Ok};
 ghost use Rattle.ar_space.specs.Outcome.{Answers};
 ghost use Rattle.ar_space.specs.Change.{Does};
-ghost use Rattle.aml_terms.specs.PartTree.{part_tree, part_list};
-ghost use Rattle.aml_terms.specs.Apart.{code_of};
+ghost use Rattle.aml_grammar.specs.PartTree.{part_tree, part_list};
+ghost use Rattle.aml_grammar.specs.Apart.{code_of};
 ghost use Rattle.aml_objects.specs.declared.object.Element.TheVariants as elements;
 ghost use Rattle.aml_meaning.specs.Meaning.{meaning};
 ghost use Rattle.aml_meaning.specs.DataTerms.{data_rule, constant_rule, integer_rule, string_rule, buffer_rule, named_element, valued_element, element_by, elements_in_turn, package_of, package_rule, var_package_rule};
 
 use crate::operands::{Reader, bytes, inner, list, number};
 use crate::terms::{charge, eval_operand_integer, eval_value};
+use aml_grammar::{TermCode, TermReader};
 use aml_meaning::{DataKind, Flow, World};
 use aml_objects::{Element, Elements};
 use aml_path::{NameString, Path};
-use aml_terms::{TermCode, TermReader};
 use ar_space::{Refusal, Space};
 use std::alloc::Global;
 

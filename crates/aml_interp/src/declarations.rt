@@ -1,7 +1,7 @@
 //! Declarations, and the scopes that they stand in (ACPI 6.5, 19.6).
 ghost use Rattle.std.specs.Prelude.{◌≡◌, ◌≤◌, ◌<◌};
 ghost use Rattle.ar_space.specs.Change.{Does};
-ghost use Rattle.aml_terms.specs.PartTree.{part_tree, part_list};
+ghost use Rattle.aml_grammar.specs.PartTree.{part_tree, part_list};
 ghost use Rattle.aml_meaning.specs.Meaning.{meaning};
 ghost use Rattle.aml_meaning.specs.Tasks.{module_level};
 ghost use Rattle.aml_meaning.specs.DeclarationTerms.{declaration_rule, declaring, name_rule, alias_rule, method_rule, scope_rule, new_scope};
@@ -9,10 +9,10 @@ ghost use Rattle.aml_meaning.specs.Declaring.{new_name};
 
 use crate::operands::{Reader, bytes, inner, list, number};
 use crate::terms::{eval_list, eval_value};
+use aml_grammar::TermReader;
 use aml_meaning::{DeclarationKind, Flow, World};
 use aml_objects::NamedObject;
 use aml_path::Path;
-use aml_terms::TermReader;
 use ar_space::{Refusal, Space};
 use std::alloc::Global;
 

@@ -2,9 +2,9 @@
 ghost use Rattle.std.specs.Prelude.{◌≡◌, ◌≤◌, ◌<◌, OnOk, [], map, slice_index_or};
 ghost use Rattle.ar_space.specs.Change.{Does};
 ghost use Rattle.ar_space.specs.Outcome.{Answers, seen};
-ghost use Rattle.aml_terms.specs.PartTree.{part_tree, part_list};
-ghost use Rattle.aml_terms.specs.Shape.{trees_of};
-ghost use Rattle.aml_terms.specs.View.{tree_view};
+ghost use Rattle.aml_grammar.specs.PartTree.{part_tree, part_list};
+ghost use Rattle.aml_grammar.specs.Shape.{trees_of};
+ghost use Rattle.aml_grammar.specs.View.{tree_view};
 ghost use Rattle.aml_objects.specs.declared.value.Value.TheVariants.{Uninitialized};
 ghost use Rattle.aml_meaning.specs.Meaning.{meaning};
 ghost use Rattle.aml_meaning.specs.Tasks.{in_turn};
@@ -13,11 +13,12 @@ ghost use Rattle.aml_meaning.specs.InvocationTerms.{arguments_in_turn, call_rule
 
 use crate::field_calls::eval_field_read;
 use crate::operands::{Reader, as_many, list};
+use crate::readings::read_body;
 use crate::terms::{eval_list, eval_value};
+use aml_grammar::{Term, TermReader};
 use aml_meaning::{Flow, Invocation, World};
 use aml_objects::{BodyPlace, FieldUnit, Value};
 use aml_path::Path;
-use aml_terms::{Term, TermReader};
 use ar_space::{EvaluationFault, Refusal, Space};
 use std::alloc::Global;
 
@@ -149,7 +150,7 @@ fn eval_invoked<S: Space>(
     ensures means { Does result (world.new, budget.new) (invoked (meaning S.accesses) depth path.now body arguments.now) (world.old, budget.old) }
 {
     shallow(depth)?;
-    let terms = world.read_body(alloc, path, body)?;
+    let terms = read_body(alloc, world, path, body)?;
     world.open_frame(frame_arguments(arguments))?;
     eval_body(alloc, world, budget, depth + 1, path, &terms)
 }

@@ -13,6 +13,7 @@ mod operands;
 mod operators;
 mod outward;
 mod places;
+mod readings;
 mod regions;
 mod statements;
 mod terms;

@@ -1,17 +1,18 @@
 //! Loads a table (ACPI 6.5, 5.4).
 ghost use Rattle.std.specs.Prelude.{◌≡◌, map, replicate};
 ghost use Rattle.ar_space.specs.Change.{Does};
-ghost use Rattle.aml_terms.specs.Shape.{trees_of};
-ghost use Rattle.aml_terms.specs.View.{tree_view};
+ghost use Rattle.aml_grammar.specs.Shape.{trees_of};
+ghost use Rattle.aml_grammar.specs.View.{tree_view};
 ghost use Rattle.aml_objects.specs.declared.value.Value.TheVariants.{Uninitialized};
 ghost use Rattle.aml_meaning.specs.Calling.{loaded, table_run, in_frame, framed, with_steps, at_root};
 
 use crate::operands::Reader;
+use crate::readings::read_table;
 use crate::terms::eval_list;
+use aml_grammar::Term;
 use aml_meaning::World;
 use aml_objects::Value;
 use aml_path::Path;
-use aml_terms::Term;
 use ar_space::{Refusal, Space};
 use std::alloc::Global;
 
@@ -44,7 +45,7 @@ fn table_run<S: Space>(
 ) -> Result<(), Refusal>
     ensures { Does result world.new (table_run S.accesses steps table.now) world.old }
 {
-    let terms = world.read_table(alloc, table)?;
+    let terms = read_table(alloc, world, table)?;
     in_frame(alloc, world, &terms, steps)
 }
 

@@ -1,13 +1,13 @@
 //! Operands of terms, by the kind that the grammar gives them.
 ghost use Rattle.std.specs.Prelude.{◌≡◌, ◌==◌, option_map};
 ghost use Rattle.ar_space.specs.Outcome.{Answers, seen};
-ghost use Rattle.aml_terms.specs.PartTree.{part_tree, part_list};
-ghost use Rattle.aml_terms.specs.Apart.{operand_of, bytes_of};
+ghost use Rattle.aml_grammar.specs.PartTree.{part_tree, part_list};
+ghost use Rattle.aml_grammar.specs.Apart.{operand_of, bytes_of};
 ghost use Rattle.aml_meaning.specs.Readings.{as_many};
 ghost use Rattle.aml_meaning.specs.Terms.{number_of, inner_of, list_of, else_of, count_of};
 
+use aml_grammar::{OperandView, TermPart, TermReader};
 use aml_objects::Octets;
-use aml_terms::{OperandView, TermPart, TermReader};
 use ar_space::{EvaluationFault, NameFault, Refusal};
 use std::alloc::Global;
 

@@ -1,8 +1,8 @@
 //! Operands that name a place to read or to store to (ACPI 6.5, 20.2.2).
 ghost use Rattle.std.specs.Prelude.{◌≡◌, ◌≤◌, ◌<◌};
 ghost use Rattle.ar_space.specs.Change.{Does};
-ghost use Rattle.aml_terms.specs.PartTree.{part_tree};
-ghost use Rattle.aml_terms.specs.Apart.{code_of};
+ghost use Rattle.aml_grammar.specs.PartTree.{part_tree};
+ghost use Rattle.aml_grammar.specs.Apart.{code_of};
 ghost use Rattle.aml_meaning.specs.Meaning.{meaning};
 ghost use Rattle.aml_meaning.specs.Terms.{place_of_code};
 ghost use Rattle.aml_meaning.specs.PlaceTerms.{referring, place_of_term, name_place, place_at, targeted};
@@ -10,10 +10,10 @@ ghost use Rattle.aml_meaning.specs.PlaceTerms.{referring, place_of_term, name_pl
 use crate::field_calls::eval_stored_to;
 use crate::operands::Reader;
 use crate::terms::eval_term;
+use aml_grammar::{OperandView, TermReader};
 use aml_meaning::{Flow, Place, World, place_of};
 use aml_objects::Value;
 use aml_path::Path;
-use aml_terms::{OperandView, TermReader};
 use ar_space::{NameFault, Refusal, Space, ValueFault};
 use std::alloc::Global;
 

@@ -2,18 +2,18 @@
 ghost use Rattle.std.specs.Prelude.{◌≡◌, ◌≤◌};
 ghost use Rattle.ar_space.specs.Change.{Does};
 ghost use Rattle.ar_space.specs.Outcome.{Answers};
-ghost use Rattle.aml_terms.specs.Apart.{code_of};
-ghost use Rattle.aml_terms.specs.PartTree.{part_tree, part_list};
+ghost use Rattle.aml_grammar.specs.Apart.{code_of};
+ghost use Rattle.aml_grammar.specs.PartTree.{part_tree, part_list};
 ghost use Rattle.aml_meaning.specs.Meaning.{meaning};
 ghost use Rattle.aml_meaning.specs.FieldTerms.{region_rule, field_list_rule, index_list_rule, region_term_rule, fields_laid, elements_laid, element_laid, named_field, reserved_field, access_field, is_connection, has_connection, unconnected};
 
 use crate::declarations::eval_declaring;
 use crate::operands::{Reader, list, number};
 use crate::terms::{eval_value_at, unsupported};
+use aml_grammar::{Opcode, TermCode, TermReader};
 use aml_meaning::{FieldGroup, FieldLayout, Flow, RegionKind, World, access_width, update_rule};
 use aml_objects::{FieldSource, NamedObject, OperationRegion};
 use aml_path::Path;
-use aml_terms::{Opcode, TermCode, TermReader};
 use ar_space::{NameFault, Refusal, Space};
 use std::alloc::Global;
 

@@ -1,8 +1,8 @@
 //! Statements (ACPI 6.5, 19.6 and 20.2.5.3).
 ghost use Rattle.std.specs.Prelude.{◌≡◌, ◌≤◌, ◌<◌, OnOk, option_map};
 ghost use Rattle.ar_space.specs.Change.{Does};
-ghost use Rattle.aml_terms.specs.PartTree.{part_tree, part_list};
-ghost use Rattle.aml_terms.specs.Apart.{operand_of};
+ghost use Rattle.aml_grammar.specs.PartTree.{part_tree, part_list};
+ghost use Rattle.aml_grammar.specs.Apart.{operand_of};
 ghost use Rattle.aml_convert.specs.Operators.{is_true};
 ghost use Rattle.aml_meaning.specs.Meaning.{meaning};
 ghost use Rattle.aml_meaning.specs.Terms.{else_of};

@@ -1,11 +1,11 @@
 //! Terms and lists of them, each evaluated by its rule.
 ghost use Rattle.std.specs.Prelude.{◌≡◌, ◌≤◌, ◌<◌, OnOk};
 ghost use Rattle.ar_space.specs.Change.{Does};
-ghost use Rattle.aml_terms.specs.PartTree.{part_tree, part_list};
-ghost use Rattle.aml_terms.specs.Apart.{code_of};
+ghost use Rattle.aml_grammar.specs.PartTree.{part_tree, part_list};
+ghost use Rattle.aml_grammar.specs.Apart.{code_of};
 ghost use Rattle.ar_space.specs.declared.refusal.Refusal.TheVariants.{Evaluation};
 ghost use Rattle.ar_space.specs.declared.refusal.EvaluationFault.TheVariants.{Unsupported};
-ghost use Rattle.aml_terms.specs.Opcodes.{number_of};
+ghost use Rattle.aml_grammar.specs.Opcodes.{number_of};
 ghost use Rattle.aml_meaning.specs.Run.{charge};
 ghost use Rattle.aml_meaning.specs.Meaning.{meaning};
 ghost use Rattle.aml_meaning.specs.Tasks.{task, operand_value, value_at, two_values, operand_integer, in_turn};
@@ -19,10 +19,10 @@ use crate::operands::{Reader, inner};
 use crate::operators::eval_operator;
 use crate::regions::eval_region_term;
 use crate::statements::eval_statement;
+use aml_grammar::{Opcode, TermCode, TermReader};
 use aml_meaning::{Flow, TermKind, World, kind_of};
 use aml_objects::Value;
 use aml_path::Path;
-use aml_terms::{Opcode, TermCode, TermReader};
 use ar_space::{EvaluationFault, NameFault, Refusal, Space};
 use std::alloc::Global;
 

@@ -4,10 +4,10 @@ use Rattle.ar_space.specs.Accesses.{Accesses}
 use Rattle.ar_space.specs.Outcome.{Outcome, NotMemory, seen}
 use Rattle.ar_space.specs.Change.{Change, Does, give, settle, ◌>>=◌, ◌>>◌}
 use Rattle.aml_path.specs.declared.segment.Seg.{Seg}
-use Rattle.aml_terms.specs.declared.arities.Arity.{Arity}
-use Rattle.aml_terms.specs.Tree.{Tree, Trees}
-use Rattle.aml_terms.specs.Shape.{trees_of}
-use Rattle.aml_terms.specs.Grammar.{table_reading}
+use Rattle.aml_grammar.specs.declared.arities.Arity.{Arity}
+use Rattle.aml_grammar.specs.Tree.{Tree, Trees}
+use Rattle.aml_grammar.specs.Shape.{trees_of}
+use Rattle.aml_grammar.specs.Grammar.{table_reading}
 use Rattle.aml_objects.specs.declared.value.Value.{Value}
 use Rattle.aml_objects.specs.declared.value.Value.TheVariants as value
 use Rattle.aml_namespace.specs.Namespace.{mutexes_released}

@@ -2,10 +2,10 @@
 use Rattle.std.specs.Prelude.{ℕ, zero, suc, List, [], ◌∷◌, ◌++◌}
 use Rattle.ar_space.specs.Change.{give, settle, ◌>>=◌}
 use Rattle.aml_path.specs.declared.segment.Seg.{Seg}
-use Rattle.aml_terms.specs.declared.opcode.TermCode.{TermCode}
-use Rattle.aml_terms.specs.declared.opcode.TermCode.TheVariants as codes
-use Rattle.aml_terms.specs.Tree.{Tree, Trees, no_trees, tree}
-use Rattle.aml_terms.specs.Apart.{code_of, operand_of, name_of, bytes_of}
+use Rattle.aml_grammar.specs.declared.opcode.TermCode.{TermCode}
+use Rattle.aml_grammar.specs.declared.opcode.TermCode.TheVariants as codes
+use Rattle.aml_grammar.specs.Tree.{Tree, Trees, no_trees, tree}
+use Rattle.aml_grammar.specs.Apart.{code_of, operand_of, name_of, bytes_of}
 use Rattle.aml_objects.specs.declared.value.Value.{Value}
 use Rattle.aml_objects.specs.declared.object.Element.{Element}
 use Rattle.aml_objects.specs.declared.object.Element.TheVariants as element

@@ -3,8 +3,8 @@ use Rattle.std.specs.Prelude.{ℕ, ◌%◌, List}
 use Rattle.ar_space.specs.Change.{give, settle, ◌>>=◌}
 use Rattle.aml_path.specs.declared.segment.Seg.{Seg}
 use Rattle.aml_path.specs.Paths.{resolved}
-use Rattle.aml_terms.specs.Tree.{Tree}
-use Rattle.aml_terms.specs.Apart.{operand_of, name_of, bytes_of}
+use Rattle.aml_grammar.specs.Tree.{Tree}
+use Rattle.aml_grammar.specs.Apart.{operand_of, name_of, bytes_of}
 use Rattle.aml_objects.specs.declared.entry.NamedObject.{NamedObject}
 use Rattle.aml_objects.specs.declared.entry.NamedObject.TheVariants as object
 use Rattle.aml_meaning.specs.declared.flow.Flow.{Flow}

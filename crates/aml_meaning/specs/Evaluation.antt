@@ -7,12 +7,12 @@ use Rattle.ar_space.specs.declared.refusal.NameFault.TheVariants.{BadName}
 use Rattle.ar_space.specs.Accesses.{Accesses}
 use Rattle.ar_space.specs.Change.{stop}
 use Rattle.aml_path.specs.declared.segment.Seg.{Seg}
-use Rattle.aml_terms.specs.declared.opcode.Opcode.{Opcode}
-use Rattle.aml_terms.specs.declared.opcode.TermCode.{TermCode}
-use Rattle.aml_terms.specs.declared.opcode.TermCode.TheVariants as codes
-use Rattle.aml_terms.specs.Opcodes as opcodes
-use Rattle.aml_terms.specs.Tree.{Tree}
-use Rattle.aml_terms.specs.Apart.{code_of}
+use Rattle.aml_grammar.specs.declared.opcode.Opcode.{Opcode}
+use Rattle.aml_grammar.specs.declared.opcode.TermCode.{TermCode}
+use Rattle.aml_grammar.specs.declared.opcode.TermCode.TheVariants as codes
+use Rattle.aml_grammar.specs.Opcodes as opcodes
+use Rattle.aml_grammar.specs.Tree.{Tree}
+use Rattle.aml_grammar.specs.Apart.{code_of}
 use Rattle.aml_meaning.specs.declared.flow.Flow.{Flow}
 use Rattle.aml_meaning.specs.declared.term_kind.TermKind.{TermKind}
 use Rattle.aml_meaning.specs.declared.term_kind.TermKind.TheVariants as kinds

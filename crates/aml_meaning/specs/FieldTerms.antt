@@ -11,13 +11,13 @@ use Rattle.ar_space.specs.Outcome.{Outcome}
 use Rattle.ar_space.specs.Change.{Change, give, stop, settle, ◌>>=◌}
 use Rattle.aml_path.specs.declared.segment.Seg.{Seg}
 use Rattle.aml_path.specs.Paths.{Name, resolved}
-use Rattle.aml_terms.specs.declared.opcode.Opcode.{Opcode}
-use Rattle.aml_terms.specs.declared.opcode.Opcode.TheVariants as opcodes
-use Rattle.aml_terms.specs.declared.opcode.TermCode.{TermCode}
-use Rattle.aml_terms.specs.declared.opcode.TermCode.TheVariants as codes
-use Rattle.aml_terms.specs.Opcodes as opcode
-use Rattle.aml_terms.specs.Tree.{Tree, Trees, no_trees, tree}
-use Rattle.aml_terms.specs.Apart.{code_of, operand_of, name_of}
+use Rattle.aml_grammar.specs.declared.opcode.Opcode.{Opcode}
+use Rattle.aml_grammar.specs.declared.opcode.Opcode.TheVariants as opcodes
+use Rattle.aml_grammar.specs.declared.opcode.TermCode.{TermCode}
+use Rattle.aml_grammar.specs.declared.opcode.TermCode.TheVariants as codes
+use Rattle.aml_grammar.specs.Opcodes as opcode
+use Rattle.aml_grammar.specs.Tree.{Tree, Trees, no_trees, tree}
+use Rattle.aml_grammar.specs.Apart.{code_of, operand_of, name_of}
 use Rattle.aml_objects.specs.declared.entry.NamedObject.{NamedObject}
 use Rattle.aml_objects.specs.declared.entry.NamedObject.TheVariants as object
 use Rattle.aml_objects.specs.declared.entry.Entry.{Entry}

@@ -8,10 +8,10 @@ use Rattle.ar_space.specs.Change.{Change, give}
 use Rattle.ar_space.specs.declared.space.Width.{Width}
 use Rattle.aml_path.specs.declared.segment.Seg.{Seg}
 use Rattle.aml_path.specs.Paths.{Name}
-use Rattle.aml_terms.specs.declared.opcode.TermCode.{TermCode}
-use Rattle.aml_terms.specs.declared.opcode.TermCode.TheVariants as codes
-use Rattle.aml_terms.specs.Tree.{Tree, Trees, no_trees, tree}
-use Rattle.aml_terms.specs.Apart.{code_of}
+use Rattle.aml_grammar.specs.declared.opcode.TermCode.{TermCode}
+use Rattle.aml_grammar.specs.declared.opcode.TermCode.TheVariants as codes
+use Rattle.aml_grammar.specs.Tree.{Tree, Trees, no_trees, tree}
+use Rattle.aml_grammar.specs.Apart.{code_of}
 use Rattle.aml_objects.specs.Contents.{Buffer}
 use Rattle.aml_objects.specs.Objects.{make_buffer}
 use Rattle.aml_objects.specs.declared.value.Value.{Value}

@@ -8,8 +8,8 @@ use Rattle.ar_space.specs.Accesses.{Accesses}
 use Rattle.ar_space.specs.Change.{Change, give, stop, settle, ◌>>=◌}
 use Rattle.aml_path.specs.declared.segment.Seg.{Seg}
 use Rattle.aml_path.specs.Paths.{Name}
-use Rattle.aml_terms.specs.Tree.{Tree, Part, null, name, number, bytes, inner, list}
-use Rattle.aml_terms.specs.Apart.{code_of, operand_of, name_of}
+use Rattle.aml_grammar.specs.Tree.{Tree, Part, null, name, number, bytes, inner, list}
+use Rattle.aml_grammar.specs.Apart.{code_of, operand_of, name_of}
 use Rattle.aml_objects.specs.declared.value.Value.{Value}
 use Rattle.aml_meaning.specs.declared.flow.Flow.{Flow}
 use Rattle.aml_meaning.specs.declared.flow.Flow.TheVariants as flow

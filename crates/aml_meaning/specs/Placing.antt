@@ -12,11 +12,11 @@ use Rattle.ar_space.specs.Outcome.{Outcome}
 use Rattle.ar_space.specs.Change.{Change, give, settle, go_on, ◌>>=◌, ◌>>◌}
 use Rattle.aml_path.specs.declared.segment.Seg.{Seg}
 use Rattle.aml_path.specs.Paths.{Name, resolved}
-use Rattle.aml_terms.specs.declared.opcode.Opcode.{Opcode}
-use Rattle.aml_terms.specs.declared.opcode.TermCode.{TermCode}
-use Rattle.aml_terms.specs.declared.opcode.TermCode.TheVariants as codes
-use Rattle.aml_terms.specs.Tree.{Tree, Trees, tree}
-use Rattle.aml_terms.specs.Apart.{code_of, operand_of, name_of}
+use Rattle.aml_grammar.specs.declared.opcode.Opcode.{Opcode}
+use Rattle.aml_grammar.specs.declared.opcode.TermCode.{TermCode}
+use Rattle.aml_grammar.specs.declared.opcode.TermCode.TheVariants as codes
+use Rattle.aml_grammar.specs.Tree.{Tree, Trees, tree}
+use Rattle.aml_grammar.specs.Apart.{code_of, operand_of, name_of}
 use Rattle.aml_objects.specs.declared.entry.NamedObject.{NamedObject}
 use Rattle.aml_objects.specs.declared.entry.Entry.{Entry}
 use Rattle.aml_namespace.specs.Kept.{path_total}

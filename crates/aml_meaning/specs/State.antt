@@ -4,8 +4,8 @@ use Rattle.std.specs.Coded.{Coded, code_by, coded×, coded_list, coded_ℕ}
 use Rattle.ar_space.specs.declared.integer_width.IntegerWidth.{IntegerWidth}
 use Rattle.ar_space.specs.contracts.integer_width.IntegerWidth as width_type
 use Rattle.ar_space.specs.Change.{Change}
-use Rattle.aml_terms.specs.declared.arities.Arity.{Arity}
-use Rattle.aml_terms.specs.contracts.arities.Arity as arity_type
+use Rattle.aml_grammar.specs.declared.arities.Arity.{Arity}
+use Rattle.aml_grammar.specs.contracts.arities.Arity as arity_type
 use Rattle.aml_objects.specs.declared.object.Object.{Object}
 use Rattle.aml_objects.specs.contracts.object.Object as object_type
 use Rattle.aml_objects.specs.Objects.{Objects}

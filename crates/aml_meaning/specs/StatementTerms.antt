@@ -4,8 +4,8 @@ use Rattle.ar_space.specs.declared.refusal.Refusal.TheVariants as refusal
 use Rattle.ar_space.specs.declared.refusal.EvaluationFault.TheVariants.{OutOfSteps, Fatal}
 use Rattle.ar_space.specs.Change.{give, stop, settle, ◌>>=◌}
 use Rattle.aml_path.specs.declared.segment.Seg.{Seg}
-use Rattle.aml_terms.specs.Tree.{Tree, Part, inner, Trees}
-use Rattle.aml_terms.specs.Apart.{operand_of}
+use Rattle.aml_grammar.specs.Tree.{Tree, Part, inner, Trees}
+use Rattle.aml_grammar.specs.Apart.{operand_of}
 use Rattle.aml_convert.specs.Operators.{is_true}
 use Rattle.aml_meaning.specs.declared.flow.Flow.{Flow}
 use Rattle.aml_meaning.specs.declared.flow.Flow.TheVariants as flow

@@ -2,8 +2,8 @@
 use Rattle.std.specs.Prelude.{ℕ, ◌==◌, List, Bool, true, false, Ok, Err, if◌then◌else◌}
 use Rattle.ar_space.specs.Change.{give, settle, ◌>>=◌}
 use Rattle.aml_path.specs.declared.segment.Seg.{Seg}
-use Rattle.aml_terms.specs.Tree.{Tree, Trees, no_trees, tree}
-use Rattle.aml_terms.specs.Apart.{operand_of}
+use Rattle.aml_grammar.specs.Tree.{Tree, Trees, no_trees, tree}
+use Rattle.aml_grammar.specs.Apart.{operand_of}
 use Rattle.aml_objects.specs.declared.value.Value.{Value}
 use Rattle.aml_meaning.specs.declared.flow.Flow.{Flow}
 use Rattle.aml_meaning.specs.declared.flow.Flow.TheVariants as flow

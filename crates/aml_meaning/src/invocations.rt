@@ -4,18 +4,16 @@ ghost use Rattle.std.specs.Prelude as list;
 ghost use Rattle.std.specs.List.{filter};
 ghost use Rattle.ar_space.specs.Change.{Does};
 ghost use Rattle.ar_space.specs.Outcome.{Answers, seen};
-ghost use Rattle.aml_terms.specs.Shape.{trees_of};
-ghost use Rattle.aml_terms.specs.View.{tree_view};
 ghost use Rattle.aml_namespace.specs.Search.{found};
-ghost use Rattle.aml_meaning.specs.Invocations.{invocation_of_body, invocation_of_object, invocation_of, named_use, invocation_found, count_of_object, count_of_entry, count_through, arity_of_entry, body_arities, body_in, body_terms, left};
+ghost use Rattle.aml_meaning.specs.Invocations.{invocation_of_body, invocation_of_object, invocation_of, named_use, invocation_found, count_of_object, count_of_entry, count_through, arity_of_entry, body_arities, body_in, left};
 
 use crate::invocation::Invocation;
 use crate::readings::{as_many, read_as};
 use crate::world::World;
+use aml_grammar::{Arities, Arity};
 use aml_namespace::Names;
 use aml_objects::{BodyPlace, Entry, Method, MethodBody, NamedObject, Octets, Reference, Value};
 use aml_path::{NameString, Path};
-use aml_terms::{Arities, Arity, Term, parse_list};
 use ar_space::{EvaluationFault, Refusal};
 use std::alloc::Global;
 
@@ -56,25 +54,8 @@ impl<S> World<S> {
         }
     }
 
-    /// The terms of the body of the control method at a path, with the arguments that names take now; refused as
-    /// `parse_list` refuses them.
-    #[tactic(auto, unfolding(crate::specs::Invocations::body_terms))]
-    pub fn read_body(
-        &self,
-        alloc: Global,
-        path: &Path,
-        body: BodyPlace,
-    ) -> Result<Vec<Term>, Refusal>
-        ensures { Does (seen (λ v. trees_of (map tree_view v.items)) result) self.now (body_terms path.now body) self.now }
-    {
-        match self.body_arities(alloc) {
-            Ok(arities) => parse_list(alloc, self.body(body), path, true, &arities),
-            Err(refusal) => Err(refusal),
-        }
-    }
-
     /// The AML of a body.
-    fn body(&self, body: BodyPlace) -> &[u8]
+    pub fn body(&self, body: BodyPlace) -> &[u8]
         ensures { result.now ≡ body_in body (list.slice_get self.now.tables body.table) }
     {
         match self.tables.get(body.table) {
@@ -84,7 +65,7 @@ impl<S> World<S> {
     }
 
     /// How many arguments the names take that stand, and those of which an External told.
-    fn body_arities(&self, alloc: Global) -> Result<Arities, Refusal>
+    pub fn body_arities(&self, alloc: Global) -> Result<Arities, Refusal>
         ensures { Answers result (Ok (body_arities self.now)) }
     {
         let mut arities = arities_of(alloc, &self.names, self.names.entries())?;

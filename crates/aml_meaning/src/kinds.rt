@@ -8,8 +8,8 @@ use crate::term_kind::{
     TermKind, Test, TwoOperands,
 };
 use aml_convert::{BinaryOperator, Comparison, LogicalOperator, UnaryOperator};
+use aml_grammar::{Opcode, TermCode};
 use aml_objects::Slot;
-use aml_terms::{Opcode, TermCode};
 
 /// Data.
 fn data_kind(opcode: Opcode) -> Option<DataKind>

@@ -4,9 +4,9 @@ ghost use Rattle.ar_space.specs.declared.refusal.Refusal.TheVariants.{OutOfMemor
 ghost use Rattle.aml_meaning.specs.Predefined.{fresh, predefined};
 
 use crate::frame::Frame;
+use aml_grammar::Arities;
 use aml_namespace::Names;
 use aml_objects::{Heap, Octets};
-use aml_terms::Arities;
 use ar_space::{IntegerWidth, Refusal};
 use std::alloc::Global;
 use std::marker::Model;

@@ -6,8 +6,6 @@ mod compare;
 pub mod laws;
 mod names;
 mod search;
-#[cfg(test)]
-mod tests;
 mod walk;
 
 pub use calls::{Call, Reply};

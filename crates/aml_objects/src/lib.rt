@@ -8,8 +8,6 @@ mod entry;
 mod heap;
 pub mod laws;
 mod object;
-#[cfg(test)]
-mod tests;
 mod value;
 
 pub use content::Content;

@@ -8,4 +8,3 @@ pub mod SpelledRowTerms
 pub mod SpelledRows
 pub mod SpelledTerms
 pub mod Takes
-pub mod TermOperands

@@ -13,8 +13,8 @@ use Rattle.aml_path.specs.declared.name.Prefix.TheVariants.{Root, Parents}
 use Rattle.aml_path.specs.Paths.{Name, is_null}
 use Rattle.aml_path.specs.Segments.{seg_of, tested}
 use Rattle.aml_path.specs.Characters.{is_segment}
-use Rattle.aml_terms.specs.State.{State, Step, byte, times}
-use Rattle.aml_terms.specs.Names.{only, lead_name_char, name_char, segment, segments, segments_at, counted_segments, multiple_segments, skipping, parents, carets as caret_count, rooted_name, relative_name, name_at, name_string}
+use Rattle.aml_grammar.specs.State.{State, Step, byte, times}
+use Rattle.aml_grammar.specs.Names.{only, lead_name_char, name_char, segment, segments, segments_at, counted_segments, multiple_segments, skipping, parents, carets as caret_count, rooted_name, relative_name, name_at, name_string}
 use Rattle.aml_terms.specs.Spelling.{parent_prefixes, Leads, characters, IsNamePath, IsNameString}
 use Rattle.aml_terms.proofs.Takes.{Takes, Relation, same_value, same_state, takes_then, takes_more, takes_known, takes_map, takes_give, takes_stop, takes_settled, takes_if, takes_byte, takes_peek, takes_seen, Each, takes_times, IsByte}
 

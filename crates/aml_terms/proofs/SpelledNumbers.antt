@@ -8,8 +8,8 @@ use Rattle.std.proofs.lemmas.Bool.{ltb-false, ltb-true}
 use Rattle.ar_space.specs.declared.refusal.Refusal.TheVariants as refusals
 use Rattle.ar_space.specs.declared.refusal.TermFault.TheVariants.{BadPkgLength}
 use Rattle.ar_space.specs.Change.{◌>>=◌}
-use Rattle.aml_terms.specs.State.{State, Step, integer, little_endian, length_of, bit_count, size_after, package_size, enter, narrow, leave, text, text_length}
-use Rattle.aml_terms.specs.Grammar.{packed}
+use Rattle.aml_grammar.specs.State.{State, Step, integer, little_endian, length_of, bit_count, size_after, package_size, enter, narrow, leave, text, text_length}
+use Rattle.aml_grammar.specs.Grammar.{packed}
 use Rattle.aml_terms.specs.Spelling.{StandFor, IsInteger, IsLength, IsPackage, IsContent}
 use Rattle.aml_terms.proofs.Takes.{Takes, Gave, same_value, same_state, refused, both, takes_then, takes_more, takes_known, takes_map, takes_look, takes_byte, takes_bytes}
 

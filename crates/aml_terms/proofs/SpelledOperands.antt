@@ -4,13 +4,13 @@ use Rattle.std.specs.Prelude.{if◌then◌else◌}
 use Rattle.std.proofs.lemmas.List.{append-nil}
 use Rattle.aml_path.specs.declared.segment.Seg.{Seg}
 use Rattle.aml_path.specs.Paths.{Name}
-use Rattle.aml_terms.specs.declared.kinds.OperandKind.{OperandKind}
-use Rattle.aml_terms.specs.declared.kinds.OperandKind.TheVariants as kinds
-use Rattle.aml_terms.specs.declared.context.Context.{Context}
-use Rattle.aml_terms.specs.declared.context.Earlier.{Earlier}
-use Rattle.aml_terms.specs.State.{State, adding}
-use Rattle.aml_terms.specs.Operands.{Read, declare, declare_earlier, name_operand, scope_name, alias_source, external_name, declared_name, integer_operand, method_flags, object_type, argument_count, text_operand, bytes_operand, reserved_field, access_field, extended_access_field, named_field}
-use Rattle.aml_terms.specs.Tree.{Tree, name, number, bytes}
+use Rattle.aml_grammar.specs.declared.kinds.OperandKind.{OperandKind}
+use Rattle.aml_grammar.specs.declared.kinds.OperandKind.TheVariants as kinds
+use Rattle.aml_grammar.specs.declared.context.Context.{Context}
+use Rattle.aml_grammar.specs.declared.context.Earlier.{Earlier}
+use Rattle.aml_grammar.specs.State.{State, adding}
+use Rattle.aml_grammar.specs.Operands.{Read, declare, declare_earlier, name_operand, scope_name, alias_source, external_name, declared_name, integer_operand, method_flags, object_type, argument_count, text_operand, bytes_operand, reserved_field, access_field, extended_access_field, named_field}
+use Rattle.aml_grammar.specs.Tree.{Tree, name, number, bytes}
 use Rattle.aml_terms.specs.Spelling.{Around, field_element, IsInteger, IsNameString, Spells, SpellsOperand}
 use Rattle.aml_terms.proofs.Takes.{Takes, Relation, same_state, takes_then, takes_map, takes_give, takes_look, takes_settle, takes_byte, takes_seen, takes_all}
 use Rattle.aml_terms.proofs.SpelledNumbers.{takes_integer, takes_bit_count, takes_text}

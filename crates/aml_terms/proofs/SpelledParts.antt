@@ -7,15 +7,15 @@ use Rattle.ar_space.specs.declared.refusal.NameFault.TheVariants.{BadName}
 use Rattle.ar_space.specs.declared.refusal.TermFault.TheVariants.{BadOpcode}
 use Rattle.aml_path.specs.declared.segment.Seg.{Seg}
 use Rattle.aml_path.specs.Paths.{Name}
-use Rattle.aml_terms.specs.declared.kinds.OperandKind.TheVariants as kinds
-use Rattle.aml_terms.specs.declared.context.Position.{Position}
-use Rattle.aml_terms.specs.declared.context.Position.TheVariants as positions
-use Rattle.aml_terms.specs.declared.context.Context.{Context}
-use Rattle.aml_terms.specs.Names.{starts_name}
-use Rattle.aml_terms.specs.State.{State}
-use Rattle.aml_terms.specs.Tree.{Tree, Part, null, name, inner, list, Trees}
-use Rattle.aml_terms.specs.Shape.{trees_of}
-use Rattle.aml_terms.specs.Grammar.{Inner, is_slot, items, term_operand, list_operand, super_name_at, super_name as super_name_step, target_at, target, simple_name_at, simple_name, connection_at, connection, connect_field, field_at, field, fields, fields_operand}
+use Rattle.aml_grammar.specs.declared.kinds.OperandKind.TheVariants as kinds
+use Rattle.aml_grammar.specs.declared.context.Position.{Position}
+use Rattle.aml_grammar.specs.declared.context.Position.TheVariants as positions
+use Rattle.aml_grammar.specs.declared.context.Context.{Context}
+use Rattle.aml_grammar.specs.Names.{starts_name}
+use Rattle.aml_grammar.specs.State.{State}
+use Rattle.aml_grammar.specs.Tree.{Tree, Part, null, name, inner, list, Trees}
+use Rattle.aml_grammar.specs.Shape.{trees_of}
+use Rattle.aml_grammar.specs.Grammar.{Inner, is_slot, items, term_operand, list_operand, super_name_at, super_name as super_name_step, target_at, target, simple_name_at, simple_name, connection_at, connection, connect_field, field_at, field, fields, fields_operand}
 use Rattle.aml_terms.specs.Spelling.{Around, Place, super_name, field_element, Begins, IsNameString, Spells, SpellsAll, SpellsConnection, SpellsOperand}
 use Rattle.aml_terms.proofs.Takes.{Takes, Relation, takes_as, takes_then, takes_more, takes_known, takes_map, takes_give, takes_stop, takes_look, takes_if, takes_peek, takes_peeked, takes_seen, Each, takes_until}
 use Rattle.aml_terms.proofs.SpelledNames.{takes_skipping}

@@ -5,21 +5,21 @@ use Rattle.std.proofs.lemmas.List.{append-nil}
 use Rattle.std.proofs.lemmas.Bool.{eqb-true}
 use Rattle.ar_space.specs.Change.{give}
 use Rattle.aml_path.specs.declared.segment.Seg.{Seg}
-use Rattle.aml_terms.specs.declared.opcode.Opcode.TheVariants as opcodes
-use Rattle.aml_terms.specs.declared.opcode.TermCode.TheVariants as codes
-use Rattle.aml_terms.specs.declared.kinds.Class.TheVariants as classes
-use Rattle.aml_terms.specs.declared.kinds.OperandKind.{OperandKind}
-use Rattle.aml_terms.specs.declared.kinds.OperandKind.TheVariants as kinds
-use Rattle.aml_terms.specs.declared.kinds.Row.{Row}
-use Rattle.aml_terms.specs.declared.context.Position.TheVariants as positions
-use Rattle.aml_terms.specs.declared.context.Context.{Context}
-use Rattle.aml_terms.specs.declared.context.Earlier.{Earlier}
-use Rattle.aml_terms.specs.Table.{row_of, packaged}
-use Rattle.aml_terms.specs.Operands.{Read}
-use Rattle.aml_terms.specs.State.{State, Step, is_next}
-use Rattle.aml_terms.specs.Tree.{Tree, term, Part, null, inner, list, Parts, Trees}
-use Rattle.aml_terms.specs.Shape.{parts_of}
-use Rattle.aml_terms.specs.Grammar.{Inner, is_nothing, is_if, kinds_of, scope_of, in_loop, at_else, nothing_earlier, keeping, operand, operands, row_operands, plain_term, else_term, else_operand, else_part, if_term, row_term}
+use Rattle.aml_grammar.specs.declared.opcode.Opcode.TheVariants as opcodes
+use Rattle.aml_grammar.specs.declared.opcode.TermCode.TheVariants as codes
+use Rattle.aml_grammar.specs.declared.kinds.Class.TheVariants as classes
+use Rattle.aml_grammar.specs.declared.kinds.OperandKind.{OperandKind}
+use Rattle.aml_grammar.specs.declared.kinds.OperandKind.TheVariants as kinds
+use Rattle.aml_grammar.specs.declared.kinds.Row.{Row}
+use Rattle.aml_grammar.specs.declared.context.Position.TheVariants as positions
+use Rattle.aml_grammar.specs.declared.context.Context.{Context}
+use Rattle.aml_grammar.specs.declared.context.Earlier.{Earlier}
+use Rattle.aml_grammar.specs.Table.{row_of, packaged}
+use Rattle.aml_grammar.specs.Operands.{Read}
+use Rattle.aml_grammar.specs.State.{State, Step, is_next}
+use Rattle.aml_grammar.specs.Tree.{Tree, term, Part, null, inner, list, Parts, Trees}
+use Rattle.aml_grammar.specs.Shape.{parts_of}
+use Rattle.aml_grammar.specs.Grammar.{Inner, is_nothing, is_if, kinds_of, scope_of, in_loop, at_else, nothing_earlier, keeping, operand, operands, row_operands, plain_term, else_term, else_operand, else_part, if_term, row_term}
 use Rattle.aml_terms.specs.Spelling.{Around, list_item, after_if, may_have_else, IsContent, up_to_nothing, operand_kinds, Spells, SpellsAll, SpellsOperands, SpellsElse, SpellsOperand}
 use Rattle.aml_terms.proofs.Takes.{Takes, Relation, takes_as, takes_then, takes_more, takes_known, takes_map, takes_give, takes_if, takes_seen}
 use Rattle.aml_terms.proofs.SpelledNumbers.{takes_content}

@@ -3,19 +3,19 @@ use Rattle.std.proofs.Common.{◌≡◌, ℕ, List, [], ◌∷◌, Bool, true, f
 use Rattle.std.specs.Prelude.{◌==◌, ◌&&◌, ◌||◌, not, if◌then◌else◌}
 use Rattle.std.specs.List.{find, list_all}
 use Rattle.std.proofs.lemmas.Bool.{eqb-true}
-use Rattle.aml_terms.specs.declared.opcode.Opcode.{Opcode}
-use Rattle.aml_terms.specs.declared.opcode.Opcode.TheVariants as opcodes
-use Rattle.aml_terms.specs.declared.kinds.Class.{Class}
-use Rattle.aml_terms.specs.declared.kinds.Class.TheVariants as classes
-use Rattle.aml_terms.specs.declared.kinds.OperandKind.{OperandKind}
-use Rattle.aml_terms.specs.declared.kinds.OperandKind.TheVariants as kinds
-use Rattle.aml_terms.specs.declared.kinds.Row.{Row}
-use Rattle.aml_terms.specs.declared.context.Position.{Position}
-use Rattle.aml_terms.specs.declared.context.Position.TheVariants as positions
-use Rattle.aml_terms.specs.declared.context.Context.{Context}
-use Rattle.aml_terms.specs.Opcodes.{number_of}
-use Rattle.aml_terms.specs.Table.{table, row_of, packaged}
-use Rattle.aml_terms.specs.Grammar.{is_module_level, stands, costs_no_level, is_if, is_nothing, kinds_of}
+use Rattle.aml_grammar.specs.declared.opcode.Opcode.{Opcode}
+use Rattle.aml_grammar.specs.declared.opcode.Opcode.TheVariants as opcodes
+use Rattle.aml_grammar.specs.declared.kinds.Class.{Class}
+use Rattle.aml_grammar.specs.declared.kinds.Class.TheVariants as classes
+use Rattle.aml_grammar.specs.declared.kinds.OperandKind.{OperandKind}
+use Rattle.aml_grammar.specs.declared.kinds.OperandKind.TheVariants as kinds
+use Rattle.aml_grammar.specs.declared.kinds.Row.{Row}
+use Rattle.aml_grammar.specs.declared.context.Position.{Position}
+use Rattle.aml_grammar.specs.declared.context.Position.TheVariants as positions
+use Rattle.aml_grammar.specs.declared.context.Context.{Context}
+use Rattle.aml_grammar.specs.Opcodes.{number_of}
+use Rattle.aml_grammar.specs.Table.{table, row_of, packaged}
+use Rattle.aml_grammar.specs.Grammar.{is_module_level, stands, costs_no_level, is_if, is_nothing, kinds_of}
 use Rattle.aml_terms.specs.Spelling.{Around, Place, list_item, term_arg, data_object, package_element, super_name, may_stand, may_have_else, up_to_nothing}
 
 -- ---- places

@@ -8,18 +8,18 @@ use Rattle.ar_space.specs.declared.refusal.Refusal.TheVariants as refusals
 use Rattle.ar_space.specs.declared.refusal.TermFault.TheVariants.{BadOpcode, TooDeep, NotInBody}
 use Rattle.aml_path.specs.declared.segment.Seg.{Seg}
 use Rattle.aml_path.specs.Paths.{Name}
-use Rattle.aml_terms.specs.declared.opcode.TermCode.TheVariants as codes
-use Rattle.aml_terms.specs.declared.kinds.Row.{Row}
-use Rattle.aml_terms.specs.declared.arities.Arity.{Arity}
-use Rattle.aml_terms.specs.declared.context.Position.{Position}
-use Rattle.aml_terms.specs.declared.context.Position.TheVariants as positions
-use Rattle.aml_terms.specs.declared.context.Context.{Context}
-use Rattle.aml_terms.specs.Opcodes.{number_of}
-use Rattle.aml_terms.specs.Table.{row_of}
-use Rattle.aml_terms.specs.Names.{starts_name}
-use Rattle.aml_terms.specs.State.{State, Step, marking}
-use Rattle.aml_terms.specs.Tree.{Tree, term, no_parts}
-use Rattle.aml_terms.specs.Grammar.{Inner, Counting, Reads, is_nothing, is_if, is_module_level, at_item, item_of, stands, costs_no_level, takes_name as may_be_name, opcode, admitted_row, row_at, deeper, leveled, coded_term, element_name, argument_number, invocation, named_term, named, begun, term_in, below, term_at, by_arities, max_depth, outermost, beginning, term_list, with_arities, table_reading}
+use Rattle.aml_grammar.specs.declared.opcode.TermCode.TheVariants as codes
+use Rattle.aml_grammar.specs.declared.kinds.Row.{Row}
+use Rattle.aml_grammar.specs.declared.arities.Arity.{Arity}
+use Rattle.aml_grammar.specs.declared.context.Position.{Position}
+use Rattle.aml_grammar.specs.declared.context.Position.TheVariants as positions
+use Rattle.aml_grammar.specs.declared.context.Context.{Context}
+use Rattle.aml_grammar.specs.Opcodes.{number_of}
+use Rattle.aml_grammar.specs.Table.{row_of}
+use Rattle.aml_grammar.specs.Names.{starts_name}
+use Rattle.aml_grammar.specs.State.{State, Step, marking}
+use Rattle.aml_grammar.specs.Tree.{Tree, term, no_parts}
+use Rattle.aml_grammar.specs.Grammar.{Inner, Counting, Reads, is_nothing, is_if, is_module_level, at_item, item_of, stands, costs_no_level, takes_name as may_be_name, opcode, admitted_row, row_at, deeper, leveled, coded_term, element_name, argument_number, invocation, named_term, named, begun, term_in, below, term_at, by_arities, max_depth, outermost, beginning, term_list, with_arities, table_reading}
 use Rattle.aml_terms.specs.Spelling.{Around, Place, may_stand, may_call, IsOpcode, Spells, IsSpelled}
 use Rattle.aml_terms.proofs.Takes.{Takes, Relation, takes_as, takes_then, takes_more, takes_map, takes_give, takes_stop, takes_look, takes_settle, takes_if, takes_byte, takes_peek, takes_times, same_state}
 use Rattle.aml_terms.proofs.SpelledNames.{takes_name, name_some}

@@ -8,7 +8,7 @@ use Rattle.ar_space.specs.declared.refusal.Refusal.TheVariants as refusals
 use Rattle.ar_space.specs.declared.refusal.TermFault.TheVariants.{Truncated}
 use Rattle.ar_space.specs.Outcome.{Outcome}
 use Rattle.ar_space.specs.Change.{give, stop, settle, go_on, ◌>>=◌}
-use Rattle.aml_terms.specs.State.{State, Step, look, byte, byte_of, peek, peek_of, next_bytes, all_bytes, past, times, until_of, until_end}
+use Rattle.aml_grammar.specs.State.{State, Step, look, byte, byte_of, peek, peek_of, next_bytes, all_bytes, past, times, until_of, until_end}
 
 -- Where the step gives a value, R says what it has to do with the bytes that were taken and with those that are left.
 pub record Takes {A : Type 0} (m : Step A) (s : State) (R : A → List ℕ → List ℕ → Type 0) : Type 0 where

@@ -8,13 +8,13 @@ use Rattle.ar_space.specs.declared.refusal.TermFault.TheVariants.{TooDeep}
 use Rattle.ar_space.specs.Outcome.{Outcome, seen}
 use Rattle.ar_space.specs.Change.{Does, Same, give, stop, go_on, ◌>>=◌}
 use Rattle.aml_path.specs.declared.segment.Seg.{Seg}
-use Rattle.aml_terms.specs.declared.kinds.OperandKind.{OperandKind}
-use Rattle.aml_terms.specs.declared.context.Context.{Context}
-use Rattle.aml_terms.specs.declared.context.Earlier.{Earlier}
-use Rattle.aml_terms.specs.State.{State, Step}
-use Rattle.aml_terms.specs.Operands.{Read}
-use Rattle.aml_terms.specs.Tree.{Part}
-use Rattle.aml_terms.specs.Grammar.{Inner, Counting, keeping, deeper, below, term_at, operand, operands, is_nothing}
+use Rattle.aml_grammar.specs.declared.kinds.OperandKind.{OperandKind}
+use Rattle.aml_grammar.specs.declared.context.Context.{Context}
+use Rattle.aml_grammar.specs.declared.context.Earlier.{Earlier}
+use Rattle.aml_grammar.specs.State.{State, Step}
+use Rattle.aml_grammar.specs.Operands.{Read}
+use Rattle.aml_grammar.specs.Tree.{Part}
+use Rattle.aml_grammar.specs.Grammar.{Inner, Counting, keeping, deeper, below, term_at, operand, operands, is_nothing}
 use Rattle.aml_terms.specs.Loops.{with_front, before, front_init, front_turn, front_err, front_done}
 use Rattle.aml_terms.specs.Viewed.{viewing}
 

@@ -5,7 +5,7 @@ use Rattle.std.proofs.lemmas.List.{append-nil}
 use Rattle.ar_space.specs.declared.refusal.Refusal.{Refusal}
 use Rattle.ar_space.specs.Outcome.{Outcome, seen}
 use Rattle.ar_space.specs.Change.{Does, Same, give, go_on, ◌>>=◌}
-use Rattle.aml_terms.specs.State.{State, Step, times, until_of, until_end}
+use Rattle.aml_grammar.specs.State.{State, Step, times, until_of, until_end}
 
 -- what was read before, and then the rest
 unfoldable pub with_front : {A : Type 0} → List A → Step (List A) → Step (List A)

@@ -6,19 +6,19 @@ use Rattle.aml_path.specs.declared.segment.Seg.{Seg}
 use Rattle.aml_path.specs.declared.name.Prefix.{Prefix}
 use Rattle.aml_path.specs.declared.name.Prefix.TheVariants.{Root, Parents}
 use Rattle.aml_path.specs.Paths.{Name, is_null}
-use Rattle.aml_terms.specs.declared.opcode.Opcode.{Opcode}
-use Rattle.aml_terms.specs.declared.opcode.Opcode.TheVariants as opcodes
-use Rattle.aml_terms.specs.declared.opcode.TermCode.TheVariants as codes
-use Rattle.aml_terms.specs.declared.kinds.Class.{Class}
-use Rattle.aml_terms.specs.declared.kinds.Class.TheVariants as classes
-use Rattle.aml_terms.specs.declared.kinds.OperandKind.{OperandKind}
-use Rattle.aml_terms.specs.declared.kinds.OperandKind.TheVariants as kinds
-use Rattle.aml_terms.specs.declared.kinds.OperandKinds.{OperandKinds}
-use Rattle.aml_terms.specs.declared.kinds.Row.{Row}
-use Rattle.aml_terms.specs.Opcodes.{number_of}
-use Rattle.aml_terms.specs.Table.{row_of}
-use Rattle.aml_terms.specs.Tree.{Tree, term, Part, null, name, number, bytes, inner, list, Parts, no_parts, part, Trees, no_trees, tree}
-use Rattle.aml_terms.specs.Shape.{trees_of}
+use Rattle.aml_grammar.specs.declared.opcode.Opcode.{Opcode}
+use Rattle.aml_grammar.specs.declared.opcode.Opcode.TheVariants as opcodes
+use Rattle.aml_grammar.specs.declared.opcode.TermCode.TheVariants as codes
+use Rattle.aml_grammar.specs.declared.kinds.Class.{Class}
+use Rattle.aml_grammar.specs.declared.kinds.Class.TheVariants as classes
+use Rattle.aml_grammar.specs.declared.kinds.OperandKind.{OperandKind}
+use Rattle.aml_grammar.specs.declared.kinds.OperandKind.TheVariants as kinds
+use Rattle.aml_grammar.specs.declared.kinds.OperandKinds.{OperandKinds}
+use Rattle.aml_grammar.specs.declared.kinds.Row.{Row}
+use Rattle.aml_grammar.specs.Opcodes.{number_of}
+use Rattle.aml_grammar.specs.Table.{row_of}
+use Rattle.aml_grammar.specs.Tree.{Tree, term, Part, null, name, number, bytes, inner, list, Parts, no_parts, part, Trees, no_trees, tree}
+use Rattle.aml_grammar.specs.Shape.{trees_of}
 
 -- ---- numbers
 

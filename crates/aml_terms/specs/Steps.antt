@@ -4,7 +4,7 @@ use Rattle.std.proofs.Common.{◌∙◌, sym, ap}
 use Rattle.ar_space.specs.declared.refusal.Refusal.{Refusal}
 use Rattle.ar_space.specs.Outcome.{Outcome, Answers, seen}
 use Rattle.ar_space.specs.Change.{Change, Does, Same, give, settle, go_on, ◌>>=◌, changing}
-use Rattle.aml_terms.specs.State.{State, Step, look}
+use Rattle.aml_grammar.specs.State.{State, Step, look}
 
 -- what is known of the state is known without a step
 pub does_look : {A B : Type 0} {r : Outcome B} {s after : State} (f : State → A) (k : A → Step B) → Does r after (k (f s)) s → Does r after (look f >>= k) s

@@ -4,11 +4,11 @@ use Rattle.std.proofs.Common.{◌∙◌, sym, ap}
 use Rattle.ar_space.specs.declared.refusal.Refusal.{Refusal}
 use Rattle.ar_space.specs.Outcome.{Outcome, Answers, seen}
 use Rattle.ar_space.specs.Change.{Does}
-use Rattle.aml_terms.specs.declared.arities.Arity.{Arity}
-use Rattle.aml_terms.specs.State.{State, Step}
-use Rattle.aml_terms.specs.Tree.{Tree}
+use Rattle.aml_grammar.specs.declared.arities.Arity.{Arity}
+use Rattle.aml_grammar.specs.State.{State, Step}
+use Rattle.aml_grammar.specs.Tree.{Tree}
 use Rattle.aml_terms.specs.Steps.{memory_answers}
-use Rattle.aml_terms.specs.Grammar.{with_arities}
+use Rattle.aml_grammar.specs.Grammar.{with_arities}
 
 pub arities_ok : {ts : List Tree} {a : List Arity} {s after : State} (m : Step (List Tree)) → Does (Ok ts) after m s → Answers (Ok a) (Ok after.arities) → Answers (Ok (ts, a)) (with_arities (m s))
 arities_ok {ts = ts} {a = a} {after = after} m h i =

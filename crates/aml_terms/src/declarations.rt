@@ -1,10 +1,10 @@
 //! The arities that hold while a list is read.
 ghost use Rattle.std.specs.Prelude.{List, ◌≡◌, ◌≤◌, ◌++◌, ◌∷◌, [], Ok, OnOk, length};
 ghost use Rattle.ar_space.specs.Outcome.{Answers};
-ghost use Rattle.aml_terms.specs.declared.arities.Arity.{Arity};
-ghost use Rattle.aml_terms.specs.Arities.{latest, arity_at, known, search_up, found, arity_of, or_path};
+ghost use Rattle.aml_grammar.specs.declared.arities.Arity.{Arity};
+ghost use Rattle.aml_grammar.specs.Arities.{latest, arity_at, known, search_up, found, arity_of, or_path};
 
-use crate::arities::{Arities, Arity, latest};
+use aml_grammar::{Arities, Arity, latest};
 use aml_path::{NameString, Path, Seg};
 use ar_space::Refusal;
 use std::alloc::{AllocError, Global};
@@ -19,7 +19,7 @@ pub(crate) struct Declarations<'a> {
 
 impl<'a> Model for Declarations<'a> {
     ghost use Rattle.std.specs.Prelude.{List, ◌++◌};
-    ghost use Rattle.aml_terms.specs.declared.arities.Arity.{Arity};
+    ghost use Rattle.aml_grammar.specs.declared.arities.Arity.{Arity};
 
     ghost Value = { List Arity };
 
@@ -63,7 +63,7 @@ impl<'a> Declarations<'a> {
         }
     }
 
-    #[tactic(auto, unfolding(crate::specs::Arities::arity_at))]
+    #[tactic(auto, unfolding(aml_grammar::specs::Arities::arity_at))]
     fn arity_at(&self, path: &Path) -> Option<u8>
         ensures { result ≡ arity_at self.now path.now }
     {
@@ -74,7 +74,7 @@ impl<'a> Declarations<'a> {
     }
 
     /// How many arguments a name takes that stands, without a search, for a path: none where it isn't found.
-    #[tactic(auto, using(ar_space::specs::Outcome::answering), unfolding(crate::specs::Arities::arity_of))]
+    #[tactic(auto, using(ar_space::specs::Outcome::answering), unfolding(aml_grammar::specs::Arities::arity_of))]
     pub(crate) fn arity_of(
         &self,
         alloc: Global,
@@ -107,7 +107,7 @@ impl<'a> Declarations<'a> {
         }
     }
 
-    #[tactic(auto, using(ar_space::specs::Outcome::answering), unfolding(crate::specs::Arities::found))]
+    #[tactic(auto, using(ar_space::specs::Outcome::answering), unfolding(aml_grammar::specs::Arities::found))]
     fn find(
         &self,
         alloc: Global,
@@ -134,7 +134,7 @@ impl<'a> Declarations<'a> {
     }
 
     /// Tries below the first `depth` segments of the scope, and then below fewer.
-    #[tactic(auto, using(ar_space::specs::Outcome::answering), unfolding(crate::specs::Arities::search_up))]
+    #[tactic(auto, using(ar_space::specs::Outcome::answering), unfolding(aml_grammar::specs::Arities::search_up))]
     fn search_up(
         &self,
         alloc: Global,

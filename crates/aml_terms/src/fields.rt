@@ -2,21 +2,19 @@
 ghost use Rattle.std.specs.Prelude.{◌≡◌, ◌<◌, ◌≤◌, ◌∷◌, ◌++◌, [], length, OnOk};
 ghost use Rattle.ar_space.specs.Outcome.{seen};
 ghost use Rattle.ar_space.specs.Change.{Does};
-ghost use Rattle.aml_terms.specs.Operands.{reserved_field, access_field, extended_access_field, named_field};
-ghost use Rattle.aml_terms.specs.View.{tree_view};
+ghost use Rattle.aml_grammar.specs.Operands.{reserved_field, access_field, extended_access_field, named_field};
+ghost use Rattle.aml_grammar.specs.View.{tree_view};
 
-use crate::context::Context;
 use crate::names::segment;
-use crate::opcode::TermCode;
 use crate::operands::declare;
 use crate::reader::Reader;
-use crate::term::{Operand, Term};
+use aml_grammar::{Context, Operand, Term, TermCode};
 use aml_path::{NameString, Path, Prefix};
 use ar_space::Refusal;
 use std::alloc::Global;
 
 /// Bits that are passed over.
-#[tactic(auto, using(crate::specs::Viewed::viewing), unfolding(crate::specs::Operands::reserved_field))]
+#[tactic(auto, using(crate::specs::Viewed::viewing), unfolding(aml_grammar::specs::Operands::reserved_field))]
 pub(crate) fn reserved_field(alloc: Global, reader: &mut Reader<'_>) -> Result<Term, Refusal>
     ensures reads { Does (seen tree_view result) reader.new reserved_field reader.old }
     ensures shorter { OnOk result (length reader.new.rest < length reader.old.rest) }
@@ -32,7 +30,7 @@ pub(crate) fn reserved_field(alloc: Global, reader: &mut Reader<'_>) -> Result<T
 }
 
 /// The access and its attribute for the elements after it.
-#[tactic(auto, using(crate::specs::Viewed::viewing), unfolding(crate::specs::Operands::access_field))]
+#[tactic(auto, using(crate::specs::Viewed::viewing), unfolding(aml_grammar::specs::Operands::access_field))]
 pub(crate) fn access_field(alloc: Global, reader: &mut Reader<'_>) -> Result<Term, Refusal>
     ensures reads { Does (seen tree_view result) reader.new access_field reader.old }
     ensures shorter { OnOk result (length reader.new.rest < length reader.old.rest) }
@@ -50,7 +48,7 @@ pub(crate) fn access_field(alloc: Global, reader: &mut Reader<'_>) -> Result<Ter
 }
 
 /// The access, its attribute and its length for the elements after it.
-#[tactic(auto, using(crate::specs::Viewed::viewing), unfolding(crate::specs::Operands::extended_access_field))]
+#[tactic(auto, using(crate::specs::Viewed::viewing), unfolding(aml_grammar::specs::Operands::extended_access_field))]
 pub(crate) fn extended_access_field(alloc: Global, reader: &mut Reader<'_>) -> Result<Term, Refusal>
     ensures reads { Does (seen tree_view result) reader.new extended_access_field reader.old }
     ensures shorter { OnOk result (length reader.new.rest < length reader.old.rest) }
@@ -70,7 +68,7 @@ pub(crate) fn extended_access_field(alloc: Global, reader: &mut Reader<'_>) -> R
 }
 
 /// A segment and a count of bits: it is declared in the scope where the Field stands.
-#[tactic(auto, using(crate::specs::Viewed::viewing), unfolding(crate::specs::Operands::named_field))]
+#[tactic(auto, using(crate::specs::Viewed::viewing), unfolding(aml_grammar::specs::Operands::named_field))]
 pub(crate) fn named_field(
     alloc: Global,
     reader: &mut Reader<'_>,

@@ -2,24 +2,21 @@
 ghost use Rattle.std.specs.Prelude.{◌≡◌, ◌<◌, ◌≤◌, ◌∷◌, ◌++◌, [], List, length, map, OnOk, true};
 ghost use Rattle.ar_space.specs.Outcome.{seen};
 ghost use Rattle.ar_space.specs.Change.{Does};
-ghost use Rattle.aml_terms.specs.Grammar.{if_term, else_part, else_operand, else_term, packed, list_operand, by_arities, term_at};
-ghost use Rattle.aml_terms.specs.View.{part_view, tree_view};
-ghost use Rattle.aml_terms.specs.declared.context.Position.TheVariants as positions;
+ghost use Rattle.aml_grammar.specs.Grammar.{if_term, else_part, else_operand, else_term, packed, list_operand, by_arities, term_at};
+ghost use Rattle.aml_grammar.specs.View.{part_view, tree_view};
+ghost use Rattle.aml_grammar.specs.declared.context.Position.TheVariants as positions;
 
-use crate::context::{Context, Position};
-use crate::kinds::Row;
-use crate::opcode::{Opcode, TermCode};
 use crate::positions::{at_else, with_else};
 use crate::reader::Reader;
-use crate::term::{Operand, Term};
 use crate::terms::{list_operand, row_operands};
+use aml_grammar::{Context, Opcode, Operand, Position, Row, Term, TermCode};
 use aml_path::Path;
 use ar_space::Refusal;
 use std::alloc::Global;
 
 /// An If, with the Else that may follow it (DefIfElse).
 #[cycle(parse)]
-#[tactic(auto, using(crate::specs::Levels::leveling), unfolding(crate::specs::Grammar::if_term))]
+#[tactic(auto, using(crate::specs::Levels::leveling), unfolding(aml_grammar::specs::Grammar::if_term))]
 pub(crate) fn if_term(
     alloc: Global,
     reader: &mut Reader<'_>,
@@ -40,7 +37,7 @@ pub(crate) fn if_term(
 const ELSE: u8 = 0xA1;
 
 #[cycle(parse)]
-#[tactic(auto, using(crate::specs::Levels::leveling), unfolding(crate::specs::Grammar::else_part))]
+#[tactic(auto, using(crate::specs::Levels::leveling), unfolding(aml_grammar::specs::Grammar::else_part))]
 fn else_part(
     alloc: Global,
     reader: &mut Reader<'_>,
@@ -61,7 +58,7 @@ fn else_part(
 }
 
 #[cycle(parse)]
-#[tactic(auto, using(crate::specs::Levels::leveling), unfolding(crate::specs::Grammar::else_operand))]
+#[tactic(auto, using(crate::specs::Levels::leveling), unfolding(aml_grammar::specs::Grammar::else_operand))]
 fn else_operand(
     alloc: Global,
     reader: &mut Reader<'_>,
@@ -76,7 +73,7 @@ fn else_operand(
 }
 
 #[cycle(parse)]
-#[tactic(auto, using(crate::specs::Levels::leveling), unfolding(crate::specs::Grammar::else_term))]
+#[tactic(auto, using(crate::specs::Levels::leveling), unfolding(aml_grammar::specs::Grammar::else_term))]
 fn else_term(
     alloc: Global,
     reader: &mut Reader<'_>,

@@ -3,17 +3,15 @@ ghost use Rattle.std.specs.Prelude.{◌≡◌, List, Bool, false, ℕ, Ok, map, 
 ghost use Rattle.ar_space.specs.declared.refusal.Refusal.{Refusal};
 ghost use Rattle.ar_space.specs.Outcome.{Answers, seen};
 ghost use Rattle.aml_path.specs.declared.segment.Seg.{Seg};
-ghost use Rattle.aml_terms.specs.declared.arities.Arity.{Arity};
-ghost use Rattle.aml_terms.specs.Tree.{Tree};
-ghost use Rattle.aml_terms.specs.View.{tree_view};
-ghost use Rattle.aml_terms.specs.Grammar.{reading, table_reading, Reads, Fails};
+ghost use Rattle.aml_grammar.specs.declared.arities.Arity.{Arity};
+ghost use Rattle.aml_grammar.specs.Tree.{Tree};
+ghost use Rattle.aml_grammar.specs.View.{tree_view};
+ghost use Rattle.aml_grammar.specs.Grammar.{reading, table_reading, Reads, Fails};
 ghost use Rattle.aml_terms.specs.Spelling.{IsSpelled};
 
-use crate::arities::Arities;
-use crate::context::{Context, Position};
 use crate::reader::Reader;
-use crate::term::Term;
 use crate::terms::items;
+use aml_grammar::{Arities, Context, Position, Term};
 use aml_path::Path;
 use ar_space::Refusal;
 use std::alloc::Global;
@@ -30,7 +28,7 @@ const MAX_DEPTH: usize = 64;
 /// - `BadName`: bytes that are no name where one must stand, or a declaration of a name without a segment;
 /// - `AboveRoot`: a name with more `^` than its scope has parents, where reading resolves it;
 /// - `BadOpcode`, `BadPkgLength`, `Truncated`, `TooDeep` or `NotInBody`, with the offset of the fault in `bytes`.
-#[tactic(auto, unfolding(crate::specs::Grammar::term_list))]
+#[tactic(auto, unfolding(aml_grammar::specs::Grammar::term_list))]
 pub fn parse_list(
     alloc: Global,
     bytes: &[u8],
@@ -58,7 +56,7 @@ pub fn parse_list(
 
 /// The terms of a table after its header, whose names stand at the root, and the arities that hold after it: those from
 /// before, and then those that the table declares. The faults are those of `parse_list`.
-#[tactic(auto, using(crate::specs::Tables::tabling), unfolding(crate::specs::Grammar::term_list))]
+#[tactic(auto, using(crate::specs::Tables::tabling), unfolding(aml_grammar::specs::Grammar::term_list))]
 pub fn parse_table(
     alloc: Global,
     bytes: &[u8],

@@ -2,24 +2,22 @@
 ghost use Rattle.std.specs.Prelude.{◌≡◌, ◌<◌, ◌≤◌, ◌∷◌, ◌++◌, [], List, length, map, OnOk};
 ghost use Rattle.ar_space.specs.Outcome.{seen};
 ghost use Rattle.ar_space.specs.Change.{Does};
-ghost use Rattle.aml_terms.specs.Grammar.{super_name, target, simple_name, connection, connect_field, field, fields, fields_operand, by_arities, term_at, is_slot};
-ghost use Rattle.aml_terms.specs.View.{part_view, tree_view};
+ghost use Rattle.aml_grammar.specs.Grammar.{super_name, target, simple_name, connection, connect_field, field, fields, fields_operand, by_arities, term_at, is_slot};
+ghost use Rattle.aml_grammar.specs.View.{part_view, tree_view};
 
-use crate::context::{Context, Position};
 use crate::fields::{access_field, extended_access_field, named_field, reserved_field};
 use crate::names::starts_name;
-use crate::opcode::TermCode;
 use crate::operands::name_operand;
 use crate::reader::Reader;
-use crate::term::{Operand, Term};
 use crate::terms::term_operand;
+use aml_grammar::{Context, Operand, Position, Term, TermCode};
 use aml_path::Path;
 use ar_space::{NameFault, Refusal, TermFault};
 use std::alloc::Global;
 
 /// A place that is read or written: a name, a local, an argument, Debug, or a term that gives a reference.
 #[cycle(parse)]
-#[tactic(auto, using(crate::specs::Levels::leveling), unfolding(crate::specs::Grammar::super_name))]
+#[tactic(auto, using(crate::specs::Levels::leveling), unfolding(aml_grammar::specs::Grammar::super_name))]
 pub(crate) fn super_name(
     alloc: Global,
     reader: &mut Reader<'_>,
@@ -42,7 +40,7 @@ pub(crate) fn super_name(
 
 /// A place that a result is stored to, or none.
 #[cycle(parse)]
-#[tactic(auto, using(crate::specs::Levels::leveling), unfolding(crate::specs::Grammar::target))]
+#[tactic(auto, using(crate::specs::Levels::leveling), unfolding(aml_grammar::specs::Grammar::target))]
 pub(crate) fn target(
     alloc: Global,
     reader: &mut Reader<'_>,
@@ -62,7 +60,7 @@ pub(crate) fn target(
     }
 }
 
-#[tactic(auto, unfolding(crate::specs::Grammar::is_slot))]
+#[tactic(auto, unfolding(aml_grammar::specs::Grammar::is_slot))]
 fn is_slot(byte: u8) -> bool
     ensures { result ≡ is_slot byte }
 {
@@ -71,7 +69,7 @@ fn is_slot(byte: u8) -> bool
 
 /// A name, a local or an argument.
 #[cycle(parse)]
-#[tactic(auto, using(crate::specs::Levels::leveling), unfolding(crate::specs::Grammar::simple_name))]
+#[tactic(auto, using(crate::specs::Levels::leveling), unfolding(aml_grammar::specs::Grammar::simple_name))]
 pub(crate) fn simple_name(
     alloc: Global,
     reader: &mut Reader<'_>,
@@ -95,7 +93,7 @@ const BUFFER: u8 = 0x11;
 
 /// What the elements after it are connected to: a name or a Buffer.
 #[cycle(parse)]
-#[tactic(auto, using(crate::specs::Levels::leveling), unfolding(crate::specs::Grammar::connection))]
+#[tactic(auto, using(crate::specs::Levels::leveling), unfolding(aml_grammar::specs::Grammar::connection))]
 fn connection(
     alloc: Global,
     reader: &mut Reader<'_>,
@@ -117,7 +115,7 @@ fn connection(
 }
 
 #[cycle(parse)]
-#[tactic(auto, using(crate::specs::Levels::leveling), unfolding(crate::specs::Grammar::connect_field))]
+#[tactic(auto, using(crate::specs::Levels::leveling), unfolding(aml_grammar::specs::Grammar::connect_field))]
 fn connect_field(
     alloc: Global,
     reader: &mut Reader<'_>,
@@ -139,7 +137,7 @@ fn connect_field(
 }
 
 #[cycle(parse)]
-#[tactic(auto, using(crate::specs::Levels::leveling), unfolding(crate::specs::Grammar::field))]
+#[tactic(auto, using(crate::specs::Levels::leveling), unfolding(aml_grammar::specs::Grammar::field))]
 fn field(
     alloc: Global,
     reader: &mut Reader<'_>,
@@ -186,7 +184,7 @@ fn fields(
 
 /// The rest of a package as field elements.
 #[cycle(parse)]
-#[tactic(auto, using(crate::specs::Levels::leveling), unfolding(crate::specs::Grammar::fields_operand))]
+#[tactic(auto, using(crate::specs::Levels::leveling), unfolding(aml_grammar::specs::Grammar::fields_operand))]
 pub(crate) fn fields_operand(
     alloc: Global,
     reader: &mut Reader<'_>,

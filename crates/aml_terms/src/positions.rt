@@ -2,19 +2,16 @@
 ghost use Rattle.std.specs.Prelude.{◌≡◌, ◌<◌, ◌≤◌, ◌∷◌, ◌++◌, [], length, map, Ok, OnOk};
 ghost use Rattle.ar_space.specs.Outcome.{Answers, seen};
 ghost use Rattle.ar_space.specs.Change.{Does};
-ghost use Rattle.aml_terms.specs.Grammar.{stands, takes_name, costs_no_level, is_module_level, is_if, is_nothing, item_of, at_item, item_of_else, at_else, in_loop, opcode, admitted_row, admitted, row_at, element_name, argument_number, by_arities};
-ghost use Rattle.aml_terms.specs.View.{part_view, tree_view};
-ghost use Rattle.aml_terms.specs.Tree.{term};
-ghost use Rattle.aml_terms.specs.Shape.{parts_of};
-ghost use Rattle.aml_terms.specs.declared.opcode.TermCode.TheVariants as codes;
+ghost use Rattle.aml_grammar.specs.Grammar.{stands, takes_name, costs_no_level, is_module_level, is_if, is_nothing, item_of, at_item, item_of_else, at_else, in_loop, opcode, admitted_row, admitted, row_at, element_name, argument_number, by_arities};
+ghost use Rattle.aml_grammar.specs.View.{part_view, tree_view};
+ghost use Rattle.aml_grammar.specs.Tree.{term};
+ghost use Rattle.aml_grammar.specs.Shape.{parts_of};
+ghost use Rattle.aml_grammar.specs.declared.opcode.TermCode.TheVariants as codes;
 
-use crate::context::{Context, Position};
-use crate::kinds::{Class, OperandKind, Row};
 use crate::names::name_string;
-use crate::opcode::{Opcode, TermCode};
 use crate::reader::Reader;
 use crate::table::row_of;
-use crate::term::{Operand, Term};
+use aml_grammar::{Class, Context, Opcode, Operand, OperandKind, Position, Row, Term, TermCode};
 use aml_path::{NameString, Path};
 use ar_space::{Refusal, TermFault};
 use std::alloc::Global;
@@ -124,7 +121,7 @@ pub(crate) fn in_loop(context: Context) -> Context
 const EXT_OP_PREFIX: u8 = 0x5B;
 
 /// The number of an opcode: one byte, or two after ExtOpPrefix.
-#[tactic(auto, using(crate::specs::Steps::reading), unfolding(crate::specs::Grammar::opcode))]
+#[tactic(auto, using(crate::specs::Steps::reading), unfolding(aml_grammar::specs::Grammar::opcode))]
 fn opcode(reader: &mut Reader<'_>) -> Result<u16, Refusal>
     ensures reads { Does result reader.new opcode reader.old }
     ensures shorter { OnOk result (length reader.new.rest < length reader.old.rest) }
@@ -139,7 +136,7 @@ fn opcode(reader: &mut Reader<'_>) -> Result<u16, Refusal>
 }
 
 /// The row of the next opcode, which may stand in this position.
-#[tactic(auto, using(crate::specs::Steps::reading), unfolding(crate::specs::Grammar::row_at))]
+#[tactic(auto, using(crate::specs::Steps::reading), unfolding(aml_grammar::specs::Grammar::row_at))]
 pub(crate) fn row_at(
     reader: &mut Reader<'_>,
     position: Position,
@@ -165,7 +162,7 @@ pub(crate) fn row_at(
 }
 
 /// An element of a package that is a name.
-#[tactic(auto, using(crate::specs::Viewed::viewing), unfolding(crate::specs::Grammar::element_name))]
+#[tactic(auto, using(crate::specs::Viewed::viewing), unfolding(aml_grammar::specs::Grammar::element_name))]
 pub(crate) fn element_name(alloc: Global, reader: &mut Reader<'_>) -> Result<Term, Refusal>
     ensures reads { Does (seen tree_view result) reader.new element_name reader.old }
     ensures shorter { OnOk result (length reader.new.rest < length reader.old.rest) }
@@ -180,7 +177,7 @@ pub(crate) fn element_name(alloc: Global, reader: &mut Reader<'_>) -> Result<Ter
 }
 
 /// How many arguments a name takes; a call with arguments is marked.
-#[tactic(auto, using(crate::specs::Steps::reading), unfolding(crate::specs::Grammar::argument_number, crate::specs::Grammar::by_arities))]
+#[tactic(auto, using(crate::specs::Steps::reading), unfolding(aml_grammar::specs::Grammar::argument_number, aml_grammar::specs::Grammar::by_arities))]
 pub(crate) fn argument_number(
     alloc: Global,
     reader: &mut Reader<'_>,

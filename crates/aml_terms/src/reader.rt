@@ -2,13 +2,12 @@
 ghost use Rattle.std.specs.Prelude.{◌≡◌, ◌+◌, ◌*◌, ◌^◌, ◌-◌, ◌/◌, ◌<◌, ◌≤◌, ◌==◌, ◌++◌, ◌∷◌, ℕ, List, [], length, take, drop, IfOk, OnOk, Ok, if◌then◌else◌};
 ghost use Rattle.ar_space.specs.Outcome.{Answers, seen};
 ghost use Rattle.ar_space.specs.Change.{Does};
-ghost use Rattle.aml_terms.specs.State.{State, look, byte, peek, is_next, next_bytes, all_bytes, text, text_length, integer, little_endian, bit_count, size_after, package_size, length_of, enter, past, adding, marking};
-ghost use Rattle.aml_terms.specs.Names.{carets, parents};
-ghost use Rattle.aml_terms.specs.Arities.{found, or_path, arity_of};
+ghost use Rattle.aml_grammar.specs.State.{State, look, byte, peek, is_next, next_bytes, all_bytes, text, text_length, integer, little_endian, bit_count, size_after, package_size, length_of, enter, past, adding, marking};
+ghost use Rattle.aml_grammar.specs.Names.{carets, parents};
+ghost use Rattle.aml_grammar.specs.Arities.{found, or_path, arity_of};
 
-use crate::arities::Arities;
 use crate::declarations::Declarations;
-use crate::marks::Mark;
+use aml_grammar::{Arities, Mark};
 use aml_path::{NameString, Path};
 use ar_space::{Refusal, TermFault};
 use std::alloc::{AllocError, Global};
@@ -25,7 +24,7 @@ pub(crate) struct Reader<'a> {
 
 impl<'a> Model for Reader<'a> {
     ghost use Rattle.std.specs.Prelude.{◌+◌, ◌^◌, ◌<◌, length};
-    ghost use Rattle.aml_terms.specs.State.{State};
+    ghost use Rattle.aml_grammar.specs.State.{State};
 
     ghost Value = { State };
 
@@ -68,7 +67,7 @@ impl<'a> Reader<'a> {
     }
 
     /// The next byte, which stays.
-    #[tactic(auto, unfolding(crate::specs::State::peek))]
+    #[tactic(auto, unfolding(aml_grammar::specs::State::peek))]
     pub(crate) fn peek(&self) -> Result<u8, Refusal>
         ensures { Does result self.now peek self.now }
     {
@@ -88,7 +87,7 @@ impl<'a> Reader<'a> {
         }
     }
 
-    #[tactic(auto, unfolding(crate::specs::State::byte))]
+    #[tactic(auto, unfolding(aml_grammar::specs::State::byte))]
     pub(crate) fn byte(&mut self) -> Result<u8, Refusal>
         ensures reads { Does result self.new byte self.old }
         ensures shorter { OnOk result (length self.new.rest < length self.old.rest) }
@@ -103,7 +102,7 @@ impl<'a> Reader<'a> {
         }
     }
 
-    #[tactic(auto, unfolding(crate::specs::State::next_bytes))]
+    #[tactic(auto, unfolding(aml_grammar::specs::State::next_bytes))]
     fn next_bytes(&mut self, count: usize) -> Result<&'a [u8], Refusal>
         ensures reads { Does (seen (λ x. x.now) result) self.new (next_bytes count) self.old }
         ensures kept { OnOk result (length self.new.rest ≤ length self.old.rest) }
@@ -128,7 +127,7 @@ impl<'a> Reader<'a> {
     }
 
     /// All bytes that are left.
-    #[tactic(auto, using(crate::specs::Steps::reading), unfolding(crate::specs::State::all_bytes))]
+    #[tactic(auto, using(crate::specs::Steps::reading), unfolding(aml_grammar::specs::State::all_bytes))]
     pub(crate) fn all_bytes(&mut self, alloc: Global) -> Result<Vec<u8>, Refusal>
         ensures reads { Does (seen (λ v. v.items) result) self.new all_bytes self.old }
         ensures kept { OnOk result (length self.new.rest ≤ length self.old.rest) }
@@ -139,7 +138,7 @@ impl<'a> Reader<'a> {
     }
 
     /// Bytes up to a zero, and goes past it.
-    #[tactic(auto, using(crate::specs::Steps::reading), unfolding(crate::specs::State::text))]
+    #[tactic(auto, using(crate::specs::Steps::reading), unfolding(aml_grammar::specs::State::text))]
     pub(crate) fn text(&mut self, alloc: Global) -> Result<Vec<u8>, Refusal>
         ensures reads { Does (seen (λ v. v.items) result) self.new text self.old }
         ensures kept { OnOk result (length self.new.rest ≤ length self.old.rest) }
@@ -150,7 +149,7 @@ impl<'a> Reader<'a> {
     }
 
     /// The integer of the next bytes, the lowest first.
-    #[tactic(auto, using(crate::specs::Steps::reading), unfolding(crate::specs::State::integer))]
+    #[tactic(auto, using(crate::specs::Steps::reading), unfolding(aml_grammar::specs::State::integer))]
     pub(crate) fn integer(&mut self, count: usize) -> Result<u64, Refusal>
         requires { count ≤ 8 }
         ensures reads { Does result self.new (integer count) self.old }
@@ -162,7 +161,7 @@ impl<'a> Reader<'a> {
     }
 
     /// A count of bits, which is spelled as the length of a package.
-    #[tactic(auto, using(crate::specs::Steps::reading), unfolding(crate::specs::State::bit_count))]
+    #[tactic(auto, using(crate::specs::Steps::reading), unfolding(aml_grammar::specs::State::bit_count))]
     pub(crate) fn bit_count(&mut self) -> Result<u64, Refusal>
         ensures reads { Does result self.new bit_count self.old }
         ensures kept { OnOk result (length self.new.rest ≤ length self.old.rest) }
@@ -172,7 +171,7 @@ impl<'a> Reader<'a> {
         Ok(length_of(lead, more))
     }
 
-    #[tactic(auto, using(crate::specs::Steps::reading), unfolding(crate::specs::State::package_size))]
+    #[tactic(auto, using(crate::specs::Steps::reading), unfolding(aml_grammar::specs::State::package_size))]
     fn package_size(&mut self) -> Result<usize, Refusal>
         ensures reads { Does result self.new package_size self.old }
         ensures kept { OnOk result (length self.new.rest ≤ length self.old.rest) }
@@ -185,7 +184,7 @@ impl<'a> Reader<'a> {
         self.size_after(start, spent, length_of(lead, more))
     }
 
-    #[tactic(auto, unfolding(crate::specs::State::size_after))]
+    #[tactic(auto, unfolding(aml_grammar::specs::State::size_after))]
     fn size_after(&self, start: usize, spent: u64, total: u64) -> Result<usize, Refusal>
         ensures reads { Does result self.now (size_after start spent total) self.now }
         ensures room { IfOk result (λ n. n ≤ length self.now.rest) }
@@ -197,7 +196,7 @@ impl<'a> Reader<'a> {
     }
 
     /// Reads the length of a package, and leaves its bytes alone.
-    #[tactic(auto, using(crate::specs::Steps::reading), unfolding(crate::specs::State::enter))]
+    #[tactic(auto, using(crate::specs::Steps::reading), unfolding(aml_grammar::specs::State::enter))]
     pub(crate) fn enter(&mut self) -> Result<Outer<'a>, Refusal>
         ensures reads { Does (seen (λ o. (o.at, o.rest.now)) result) self.new enter self.old }
         ensures kept { OnOk result (length self.new.rest ≤ length self.old.rest) }
@@ -221,7 +220,7 @@ impl<'a> Reader<'a> {
     }
 
     /// Goes past the `^` that stand next, and counts them.
-    #[tactic(auto, unfolding(crate::specs::Names::parents))]
+    #[tactic(auto, unfolding(aml_grammar::specs::Names::parents))]
     pub(crate) fn parents(&mut self) -> usize
         ensures reads { Does (Ok result) self.new parents self.old }
         ensures kept { length self.new.rest ≤ length self.old.rest }

@@ -1,14 +1,13 @@
 //! The table of terms (ACPI 6.5, 20.2): where each may stand, and its operands.
 ghost use Rattle.std.specs.Prelude.{◌≡◌, ◌==◌};
 ghost use Rattle.std.specs.List.{find};
-ghost use Rattle.aml_terms.specs.Opcodes.{number_of};
-ghost use Rattle.aml_terms.specs.Table.{row_of};
+ghost use Rattle.aml_grammar.specs.Opcodes.{number_of};
+ghost use Rattle.aml_grammar.specs.Table.{row_of};
 
-use crate::kinds::Class::{
+use aml_grammar::Class::{
     AfterIf, Data, DebugObject, Expression, InBody, InLoop, ModuleLevel, Reference, Slot, Statement,
 };
-use crate::kinds::{OperandKind as Kind, OperandKinds, Row};
-use crate::opcode::Opcode as Op;
+use aml_grammar::{Opcode as Op, OperandKind as Kind, OperandKinds, Row};
 
 const N: Kind = Kind::Nothing;
 
@@ -352,7 +351,7 @@ static TABLE: [Row; 112] = [
 ];
 
 /// The row of an opcode, where the table has one.
-#[tactic(auto, unfolding(crate::specs::Table::row_of))]
+#[tactic(auto, unfolding(aml_grammar::specs::Table::row_of))]
 pub(crate) fn row_of(number: u16) -> Option<Row>
     ensures { result ≡ row_of number }
 {

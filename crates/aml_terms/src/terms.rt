@@ -2,16 +2,13 @@
 ghost use Rattle.std.specs.Prelude.{◌≡◌, ◌<◌, ◌≤◌, ◌∷◌, ◌++◌, [], List, length, map, drop, OnOk, Some, None, true};
 ghost use Rattle.ar_space.specs.Outcome.{seen};
 ghost use Rattle.ar_space.specs.Change.{Does};
-ghost use Rattle.aml_terms.specs.State.{times, until_end};
-ghost use Rattle.aml_terms.specs.Grammar.{takes_name, named, named_term, invocation, coded_term, row_term, plain_term, row_operands, packed, operands, operand, term_operand, list_operand, items, by_arities, term_at, below, kinds_of, nothing_earlier, scope_of, in_loop};
-ghost use Rattle.aml_terms.specs.View.{part_view, tree_view};
-ghost use Rattle.aml_terms.specs.declared.context.Position.TheVariants as positions;
+ghost use Rattle.aml_grammar.specs.State.{times, until_end};
+ghost use Rattle.aml_grammar.specs.Grammar.{takes_name, named, named_term, invocation, coded_term, row_term, plain_term, row_operands, packed, operands, operand, term_operand, list_operand, items, by_arities, term_at, below, kinds_of, nothing_earlier, scope_of, in_loop};
+ghost use Rattle.aml_grammar.specs.View.{part_view, tree_view};
+ghost use Rattle.aml_grammar.specs.declared.context.Position.TheVariants as positions;
 
-use crate::context::{Context, Earlier, Position};
 use crate::if_else::if_term;
-use crate::kinds::{OperandKind, Row};
 use crate::names::{name_string, starts_name};
-use crate::opcode::TermCode;
 use crate::operands as leaf;
 use crate::places::{fields_operand, simple_name, super_name, target};
 use crate::positions::{
@@ -19,14 +16,14 @@ use crate::positions::{
     row_at, takes_name,
 };
 use crate::reader::Reader;
-use crate::term::{Operand, Term};
+use aml_grammar::{Context, Earlier, Operand, OperandKind, Position, Row, Term, TermCode};
 use aml_path::Path;
 use ar_space::{Refusal, TermFault};
 use std::alloc::Global;
 
 /// A term, with at most this many levels below it.
 #[cycle(parse)]
-#[tactic(auto, using(crate::specs::Levels::leveling), unfolding(crate::specs::Grammar::term_at, crate::specs::Grammar::term_in))]
+#[tactic(auto, using(crate::specs::Levels::leveling), unfolding(aml_grammar::specs::Grammar::term_at, aml_grammar::specs::Grammar::term_in))]
 pub(crate) fn term(
     alloc: Global,
     reader: &mut Reader<'_>,
@@ -50,7 +47,7 @@ pub(crate) fn term(
 
 /// A term that begins with a name.
 #[cycle(parse)]
-#[tactic(auto, using(crate::specs::Levels::leveling), unfolding(crate::specs::Grammar::named))]
+#[tactic(auto, using(crate::specs::Levels::leveling), unfolding(aml_grammar::specs::Grammar::named))]
 fn named(
     alloc: Global,
     reader: &mut Reader<'_>,
@@ -94,7 +91,7 @@ fn named_term(
 
 /// A name and as many terms as it takes arguments.
 #[cycle(parse)]
-#[tactic(auto, using(crate::specs::Levels::leveling), unfolding(crate::specs::Grammar::invocation))]
+#[tactic(auto, using(crate::specs::Levels::leveling), unfolding(aml_grammar::specs::Grammar::invocation))]
 fn invocation(
     alloc: Global,
     reader: &mut Reader<'_>,
@@ -141,7 +138,7 @@ fn arguments(
 
 /// A term that begins with an opcode.
 #[cycle(parse)]
-#[tactic(auto, using(crate::specs::Levels::leveling), unfolding(crate::specs::Grammar::coded_term))]
+#[tactic(auto, using(crate::specs::Levels::leveling), unfolding(aml_grammar::specs::Grammar::coded_term))]
 fn coded_term(
     alloc: Global,
     reader: &mut Reader<'_>,
@@ -168,7 +165,7 @@ fn coded_term(
 }
 
 #[cycle(parse)]
-#[tactic(auto, using(crate::specs::Levels::leveling), unfolding(crate::specs::Grammar::row_term))]
+#[tactic(auto, using(crate::specs::Levels::leveling), unfolding(aml_grammar::specs::Grammar::row_term))]
 fn row_term(
     alloc: Global,
     reader: &mut Reader<'_>,
@@ -189,7 +186,7 @@ fn row_term(
 }
 
 #[cycle(parse)]
-#[tactic(auto, using(crate::specs::Levels::leveling), unfolding(crate::specs::Grammar::plain_term))]
+#[tactic(auto, using(crate::specs::Levels::leveling), unfolding(aml_grammar::specs::Grammar::plain_term))]
 fn plain_term(
     alloc: Global,
     reader: &mut Reader<'_>,
@@ -291,7 +288,7 @@ fn operands(
 }
 
 #[cycle(parse)]
-#[tactic(auto, using(crate::specs::Levels::leveling), unfolding(crate::specs::Grammar::operand))]
+#[tactic(auto, using(crate::specs::Levels::leveling), unfolding(aml_grammar::specs::Grammar::operand))]
 fn operand(
     alloc: Global,
     reader: &mut Reader<'_>,
@@ -329,7 +326,7 @@ fn operand(
 }
 
 #[cycle(parse)]
-#[tactic(auto, using(crate::specs::Levels::leveling), unfolding(crate::specs::Grammar::term_operand))]
+#[tactic(auto, using(crate::specs::Levels::leveling), unfolding(aml_grammar::specs::Grammar::term_operand))]
 pub(crate) fn term_operand(
     alloc: Global,
     reader: &mut Reader<'_>,
@@ -416,7 +413,7 @@ fn list_under(
 }
 
 #[cycle(parse)]
-#[tactic(auto, using(crate::specs::Levels::leveling), unfolding(crate::specs::Grammar::list_operand))]
+#[tactic(auto, using(crate::specs::Levels::leveling), unfolding(aml_grammar::specs::Grammar::list_operand))]
 pub(crate) fn list_operand(
     alloc: Global,
     reader: &mut Reader<'_>,

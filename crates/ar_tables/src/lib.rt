@@ -14,6 +14,3 @@ pub use fadt::Fadt;
 pub use madt::{Madt, MadtEntries, MadtEntry, madt_entries};
 pub use table::Table;
 pub use tables::{Ssdts, Tables, find_tables};
-
-#[cfg(test)]
-mod tests;

@@ -11,6 +11,3 @@ mod words;
 
 pub use machine_lines::{MachineText, read_machine};
 pub use osi_texts::OsiTexts;
-
-#[cfg(test)]
-mod tests;

@@ -12,8 +12,6 @@ mod loads;
 mod offered;
 mod paths;
 mod repeated;
-#[cfg(test)]
-mod tests;
 
 pub use checked::check;
 pub use claim::{Bound, Claim};

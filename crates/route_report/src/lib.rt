@@ -19,6 +19,3 @@ pub use report::{
     After, AfterLine, Form, IoApicLine, LinkLine, Mode, OverrideLine, PinLine, PinName, PinRoute,
     Polarity, Report, SetLine, SetOutcome,
 };
-
-#[cfg(test)]
-mod tests;

@@ -17,8 +17,6 @@ mod rooms;
 mod search;
 mod set;
 mod solver;
-#[cfg(test)]
-mod tests;
 
 pub use answer::Answer;
 pub use conditions::fits;

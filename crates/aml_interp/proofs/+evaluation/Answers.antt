@@ -7,9 +7,9 @@ use Rattle.aml_meaning.specs.Fields.{index_unit, index_unit_written}
 use Rattle.aml_meaning.specs.FieldCalls.{asked, answer_within}
 use Rattle.ar_space.specs.Outcome.{Outcome}
 use Rattle.ar_space.specs.Change.{Does, Same, does_same, does_err, does_seen_err, does_give, same_ok}
-use Rattle.aml_terms.specs.declared.opcode.TermCode.{TermCode}
-use Rattle.aml_terms.specs.Apart.{first_of, code_of}
-use Rattle.aml_terms.specs.PartTree.{part_tree, part_list}
+use Rattle.aml_grammar.specs.declared.opcode.TermCode.{TermCode}
+use Rattle.aml_grammar.specs.Apart.{first_of, code_of}
+use Rattle.aml_grammar.specs.PartTree.{part_tree, part_list}
 use Rattle.aml_objects.specs.declared.object.Element.{Element}
 use Rattle.aml_meaning.specs.Meaning.{meaning}
 use Rattle.aml_meaning.specs.DataTerms.{element_by, elements_in_turn}

@@ -1,6 +1,6 @@
 use Rattle.std.proofs.Common.{◌≡◌, ℕ, ◌≤◌, ◌+◌, ◌*◌, ◌-◌, ◌<◌, [], List}
 use Rattle.ar_space.specs.Change.{Same}
-use Rattle.aml_terms.specs.PartTree.{part_tree, part_list}
+use Rattle.aml_grammar.specs.PartTree.{part_tree, part_list}
 use Rattle.aml_meaning.specs.Meaning.{meaning}
 use Rattle.aml_meaning.specs.Tasks.{in_turn}
 use Rattle.aml_meaning.specs.DataTerms.{elements_in_turn}

@@ -1,10 +1,10 @@
 use Rattle.std.proofs.Common.{◌+◌, ◌-◌, ◌*◌, ◌≤◌, length, map, drop}
 use Rattle.ar_space.specs.Change.{Same}
-use Rattle.aml_terms.specs.declared.context.Position.TheVariants as positions
-use Rattle.aml_terms.specs.State.{times, until_end}
-use Rattle.aml_terms.specs.Grammar.{by_arities, term_at, field, operands, nothing_earlier}
+use Rattle.aml_grammar.specs.declared.context.Position.TheVariants as positions
+use Rattle.aml_grammar.specs.State.{times, until_end}
+use Rattle.aml_grammar.specs.Grammar.{by_arities, term_at, field, operands, nothing_earlier}
 use Rattle.aml_terms.specs.Loops.{with_front}
-use Rattle.aml_terms.specs.View.{part_view, tree_view}
+use Rattle.aml_grammar.specs.View.{part_view, tree_view}
 use Rattle.aml_terms.proofs.+parse.Given as goal
 
 -- A call that goes one level down may go anywhere; else it goes to a lower rank.

@@ -1,6 +1,6 @@
 use Rattle.std.proofs.Common.{◌≡◌, ap, sym, ◌∙◌}
-use Rattle.aml_terms.specs.Apart.{first_of}
-use Rattle.aml_terms.specs.PartTree.{part_tree, part_list}
+use Rattle.aml_grammar.specs.Apart.{first_of}
+use Rattle.aml_grammar.specs.PartTree.{part_tree, part_list}
 use Rattle.aml_interp.specs.Steps.{connected, unconnected_end, or_true, or_false}
 use Rattle.aml_interp.proofs.regions.has_connection.Goals as goal
 

@@ -1,6 +1,6 @@
 use Rattle.std.proofs.Common.{◌≡◌, ℕ}
 use Rattle.ar_space.specs.Change.{Same}
-use Rattle.aml_terms.specs.PartTree.{part_list}
+use Rattle.aml_grammar.specs.PartTree.{part_list}
 use Rattle.aml_meaning.specs.Terms.{count_of}
 use Rattle.aml_meaning.specs.FieldTerms.{elements_laid}
 use Rattle.aml_interp.proofs.regions.lay_elements.Given as goal

@@ -1,8 +1,8 @@
 use Rattle.std.proofs.Common.{◌≡◌, List, Ok, Err, refl, ◌⊎◌, inl, inr}
 use Rattle.ar_space.specs.declared.refusal.Refusal.{Refusal}
 use Rattle.ar_space.specs.Outcome.{Outcome}
-use Rattle.aml_terms.specs.Tree.{Tree}
-use Rattle.aml_terms.specs.Grammar.{reading}
+use Rattle.aml_grammar.specs.Tree.{Tree}
+use Rattle.aml_grammar.specs.Grammar.{reading}
 use Rattle.aml_terms.proofs.parse.one_reading.Goals as goal
 
 either : (r s : Outcome (List Tree)) → r ≡ s → ((ts : List Tree) × (r ≡ Ok ts)) ⊎ ((f : Refusal) × (r ≡ Err f))

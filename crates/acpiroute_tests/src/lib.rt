@@ -1,6 +1,0 @@
-//! Tests of the program over its public calls alone, in a crate of their own: so the program is proved once, and not once more with
-//! its tests.
-#![tactic(auto)]
-
-#[cfg(test)]
-mod tests;

@@ -1,0 +1,9 @@
+pub mod Added
+pub mod Checks
+pub mod Deliveries
+pub mod ErrorLines
+pub mod Faults
+pub mod Getters
+pub mod Inputs
+pub mod Numbers
+pub mod Outputs

@@ -1,0 +1,34 @@
+-- Numbers that are read one after another.
+use Rattle.std.proofs.Common.{◌≡◌, ◌∙◌, ap, sym, refl, ℕ, ◌+◌, ◌<◌, ◌≤◌, List, [], ◌∷◌, ◌++◌, length, drop, drop-cons, add-one, map, get_or, append_assoc, append-nil, Option, Some, None}
+use Rattle.std.specs.Prelude.{option_map, option_and_then}
+use Rattle.std.proofs.lemmas.List.{drop_all}
+use Rattle.clap.specs.Words.{Text}
+use Rattle.acpiroute_words.specs.Values.{number, numbers}
+
+one_first : (done : List ℕ) (n : ℕ) (o : Option (List ℕ)) → option_map (λ ns. done ++ ns) (option_and_then (λ ns. Some (n ∷ ns)) o) ≡ option_map (λ ns. (done ++ n ∷ []) ++ ns) o
+one_first done n None = refl
+one_first done n (Some ns) = ap Some (sym (append_assoc done (n ∷ []) ns))
+
+begins : (word : Text) (words : List Text) (o : Option ℕ) → number word ≡ o → numbers (word ∷ words) ≡ option_and_then (λ n. option_and_then (λ ns. Some (n ∷ ns)) (numbers words)) o
+unfolding numbers
+begins word words o is = ap (λ o. option_and_then (λ n. option_and_then (λ ns. Some (n ∷ ns)) (numbers words)) o) is
+
+module _ {X : Type 0} (view : X → Text) (all : Option (List ℕ)) where
+  -- the words from place i on
+  from_here : (xs : List X) (i : ℕ) (d : X) (done : List ℕ) → i < length xs → all ≡ option_map (λ ns. done ++ ns) (numbers (map view (drop i xs)))
+      → all ≡ option_map (λ ns. done ++ ns) (numbers (view (get_or xs i d) ∷ map view (drop (i + 1) xs)))
+  from_here xs i d done within h = h ∙ rw (drop-cons xs i d within, add-one) refl
+
+  pub one_read : (xs : List X) (i : ℕ) (d : X) (n : ℕ) (done after : List ℕ) → i < length xs → number (view (get_or xs i d)) ≡ Some n → after ≡ done ++ n ∷ []
+      → all ≡ option_map (λ ns. done ++ ns) (numbers (map view (drop i xs))) → all ≡ option_map (λ ns. after ++ ns) (numbers (map view (drop (i + 1) xs)))
+  one_read xs i d n done after within is put h =
+      from_here xs i d done within h ∙ (ap (λ o. option_map (λ ns. done ++ ns) o) (begins (view (get_or xs i d)) (map view (drop (i + 1) xs)) (Some n) is)
+      ∙ (one_first done n (numbers (map view (drop (i + 1) xs))) ∙ ap (λ list. option_map (λ ns. list ++ ns) (numbers (map view (drop (i + 1) xs)))) (sym put)))
+
+  pub one_refused : (xs : List X) (i : ℕ) (d : X) (done : List ℕ) → i < length xs → number (view (get_or xs i d)) ≡ None → all ≡ option_map (λ ns. done ++ ns) (numbers (map view (drop i xs))) → None ≡ all
+  one_refused xs i d done within is h =
+      sym (from_here xs i d done within h ∙ ap (λ o. option_map (λ ns. done ++ ns) o) (begins (view (get_or xs i d)) (map view (drop (i + 1) xs)) None is))
+
+  pub all_read : (xs : List X) (i : ℕ) (done : List ℕ) → length xs ≤ i → all ≡ option_map (λ ns. done ++ ns) (numbers (map view (drop i xs))) → Some done ≡ all
+  unfolding numbers
+  all_read xs i done past h = sym (h ∙ rw (drop_all i xs past) (ap Some (append-nil done)))

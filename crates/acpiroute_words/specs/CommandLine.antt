@@ -1,0 +1,132 @@
+-- What the words of the command line ask for, and what is wrong with them.
+use Rattle.std.specs.Prelude.{ℕ, Bool, true, List, [], ◌∷◌, Option, Some, None, codes, if◌then◌else◌}
+use Rattle.std.specs.Str.{bytes_eq}
+use Rattle.clap.specs.Kinds.{or_else}
+use Rattle.clap.specs.Words.{App, Kinds, Row, Rule, Text, all_of, fault_of, first_of, new_app, new_rule, subcommand_of, with_rule, with_subcommand}
+use Rattle.clap.specs.declared.builder.action.ArgAction.TheVariants.{SetTrue}
+use Rattle.clap.specs.declared.error.kind.ErrorKind.TheVariants as kind
+use Rattle.route_report.specs.declared.report.Mode.{Mode}
+use Rattle.acpiroute_words.specs.Values.{◌>>=◌, mode_named, numbers_named, steps_named, is_true}
+use Rattle.acpiroute_words.specs.declared.request.Request.{Request}
+use Rattle.acpiroute_words.specs.declared.request.Request.TheVariants as request
+
+-- ---- the commands and options
+
+-- an option with a value, which help calls by one name
+abbrev pub value_rule : Text → Rule
+value_rule name = record (new_rule name) { long = Some name; value_names = 1 }
+
+abbrev pub mode_rule : Rule
+mode_rule = value_rule (codes "mode")
+
+abbrev pub steps_rule : Rule
+steps_rule = value_rule (codes "steps")
+
+abbrev pub dry_rule : Rule
+dry_rule = record (new_rule (codes "dry")) { long = Some (codes "dry"); action = Some SetTrue }
+
+abbrev pub route_app : App
+route_app = with_rule (with_rule (with_rule (new_app (codes "route")) mode_rule) steps_rule) dry_rule
+
+abbrev pub names_app : App
+names_app = with_rule (new_app (codes "names")) steps_rule
+
+-- a path, and then at most seven numbers
+abbrev pub path_rule : Rule
+path_rule = record (new_rule (codes "path")) { value_names = 1; required = true }
+
+abbrev pub arguments_rule : Rule
+arguments_rule = record (new_rule (codes "arguments")) { value_names = 1; range = Some (record { start_inclusive = 1; end_inclusive = 7 }) }
+
+abbrev pub eval_app : App
+eval_app = with_rule (with_rule (with_rule (with_rule (new_app (codes "eval")) mode_rule) steps_rule) path_rule) arguments_rule
+
+abbrev pub check_app : App
+check_app = new_app (codes "check")
+
+-- `acpiroute`, which wants a command
+abbrev pub bare_app : App
+bare_app = record { top = record ((new_app (codes "acpiroute")).top) { disable_help_subcommand = true; subcommand_required = true }; subs = [] }
+
+abbrev pub app : App
+app = with_subcommand (with_subcommand (with_subcommand (with_subcommand bare_app route_app.top) names_app.top) eval_app.top) check_app.top
+
+-- ---- what they say
+
+abbrev pub mode_of : List Row → Option Mode
+mode_of rows = mode_named (first_of (codes "mode") rows)
+
+abbrev pub steps_of : List Row → Option ℕ
+steps_of rows = steps_named (first_of (codes "steps") rows)
+
+abbrev pub path_of : List Row → Option Text
+path_of rows = first_of (codes "path") rows
+
+abbrev pub arguments_of : List Row → Option (List ℕ)
+arguments_of rows = numbers_named (all_of (codes "arguments") rows)
+
+abbrev pub is_dry : List Row → Bool
+is_dry rows = is_true (first_of (codes "dry") rows)
+
+unfoldable pub route_of : List Row → Option Request
+route_of rows = do
+  mode ← mode_of rows
+  steps ← steps_of rows
+  Some (request.Route mode steps (is_dry rows))
+
+unfoldable pub names_of : List Row → Option Request
+names_of rows = do
+  steps ← steps_of rows
+  Some (request.Names steps)
+
+-- all of it must be said
+unfoldable pub eval_with : Option Mode → Option ℕ → Option Text → Option (List ℕ) → Option Request
+eval_with maybe_mode maybe_steps maybe_path maybe_arguments = do
+  mode ← maybe_mode
+  steps ← maybe_steps
+  path ← maybe_path
+  arguments ← maybe_arguments
+  Some (request.Eval mode steps path arguments)
+
+unfoldable pub eval_of : List Row → Option Request
+eval_of rows = eval_with (mode_of rows) (steps_of rows) (path_of rows) (arguments_of rows)
+
+-- the command of this name, with its options
+unfoldable pub asked : Text → List Row → Option Request
+asked name rows =
+    if bytes_eq name (codes "route") then route_of rows
+    else if bytes_eq name (codes "names") then names_of rows
+    else if bytes_eq name (codes "eval") then eval_of rows
+    else if bytes_eq name (codes "check") then Some request.Check
+    else None
+
+abbrev pub asked_by : Option (Text × List Row) → Option Request
+asked_by None = None
+asked_by (Some s) = asked s.0 s.1
+
+-- the command that the words name, and its options
+unfoldable pub command_of : List Text → Option (Text × List Row)
+command_of words = subcommand_of app words
+
+-- what the words ask for; none where no command is named, or the value of an option is none of its values
+unfoldable pub request_of : List Text → Option Request
+request_of words = asked_by (command_of words)
+
+-- what clap finds wrong with the words
+unfoldable pub clap_faults : List Text → Kinds
+clap_faults words = fault_of app words
+
+abbrev pub value_faults : Option Request → Kinds
+value_faults None = kind.ValueValidation ∷ []
+value_faults (Some q) = []
+
+-- what is wrong with the words, a wish for help among it: one of these is told, and nothing else is done
+unfoldable pub faults_of : List Text → Kinds
+faults_of words = or_else (clap_faults words) (value_faults (request_of words))
+
+-- Links aren't set yet: `route` is done with `--dry` alone.
+abbrev pub is_supported : Request → Bool
+is_supported (request.Route mode steps dry) = dry
+is_supported (request.Names steps) = true
+is_supported (request.Eval mode steps path arguments) = true
+is_supported request.Check = true

@@ -1,0 +1,19 @@
+//! What a command answers.
+
+use crate::completion::Completion;
+use std::marker::Model;
+
+/// The text that a command writes, made whole before the first byte of it goes out, and how it came out.
+#[derive(Debug, Drop)]
+pub struct Answer {
+    pub text: Vec<u8>,
+    pub completion: Completion,
+}
+
+impl Model for Answer {
+    ghost use Rattle.acpiroute_words.specs.Written.{Written};
+
+    ghost Value = { Written };
+
+    ghost view = { λ a. record { text = a.text.items; completion = a.completion } };
+}

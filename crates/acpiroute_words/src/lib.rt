@@ -1,0 +1,26 @@
+//! What the program does without a machine: what its words ask for, the whole input, `check`, and an answer or the one line
+//! that tells of a refusal on its way out. `acpiroute_lib` does the rest over it.
+#![tactic(auto)]
+
+mod answer;
+mod check_command;
+mod command_line;
+mod completion;
+mod delivery;
+mod error_line;
+mod input;
+mod integers;
+mod put;
+mod request;
+mod values;
+
+pub use answer::Answer;
+pub use check_command::check_answer;
+pub use command_line::parse;
+pub use completion::Completion;
+pub use delivery::{Delivery, deliver, refuse};
+pub use error_line::tell;
+pub use input::read_input;
+pub use integers::Integers;
+pub use put::{put_number, put_path};
+pub use request::Request;

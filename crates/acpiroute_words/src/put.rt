@@ -1,0 +1,32 @@
+//! Paths and numbers, put behind a text.
+ghost use Rattle.std.specs.Prelude.{◌≡◌, ◌++◌, IfOk, OnOk, decimal, string_bytes};
+ghost use Rattle.aml_path.specs.Text.{text_of};
+
+use aml_path::Path;
+use std::alloc::{AllocError, Global};
+
+/// The text of a path, which is refused only where memory runs out.
+fn path_text(alloc: Global, path: &Path) -> Result<String, AllocError>
+    ensures { IfOk result (λ t. string_bytes t ≡ text_of path.now) }
+{
+    match path.text(alloc) {
+        Ok(text) => Ok(text),
+        Err(_) => Err(AllocError),
+    }
+}
+
+/// A path, put behind a text.
+pub fn put_path(alloc: Global, text: &mut Vec<u8>, path: &Path) -> Result<(), AllocError>
+    ensures { OnOk result (text.new.items ≡ text.old.items ++ text_of path.now) }
+{
+    let path = path_text(alloc, path)?;
+    text.extend_from_slice(path.as_bytes())
+}
+
+/// A number in decimal digits, put behind a text.
+pub fn put_number(text: &mut Vec<u8>, number: u64) -> Result<(), AllocError>
+    ensures { OnOk result (text.new.items ≡ text.old.items ++ decimal number) }
+{
+    let mut buffer = itoa::Buffer::new();
+    text.extend_from_slice(buffer.format(number).as_bytes())
+}

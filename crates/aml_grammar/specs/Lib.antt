@@ -1,0 +1,13 @@
+pub mod Apart
+pub mod Arities
+pub mod DeclaredNames
+pub mod Grammar
+pub mod Names
+pub mod Opcodes
+pub mod Operands
+pub mod PartTree
+pub mod Shape
+pub mod State
+pub mod Table
+pub mod Tree
+pub mod View

@@ -1,4 +1,0 @@
-mod built_tables;
-mod hostile;
-mod lines;
-mod small_machine;

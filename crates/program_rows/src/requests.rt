@@ -1,0 +1,75 @@
+//! What the words of the command line ask for, as text.
+use acpiroute_lib::{Integers, Request, parse};
+use ar_space::PathText;
+use route_report::Mode;
+use std::alloc::{AllocError, Global};
+
+/// The word of a mode.
+fn mode_word(mode: Mode) -> &'static str {
+    match mode {
+        Mode::Apic => "apic",
+        Mode::Pic => "pic",
+    }
+}
+
+/// Integers, each behind a blank.
+fn integers_text(alloc: Global, integers: &Integers) -> Result<String, AllocError> {
+    let mut text = String::new(alloc);
+    for integer in integers.as_slice() {
+        let next = format!(in alloc; " {integer}")?;
+        text.push_str(next.as_str())?;
+    }
+    Ok(text)
+}
+
+/// A request of `eval` as text.
+fn eval_text(
+    alloc: Global,
+    mode: Mode,
+    steps: u64,
+    path: &PathText,
+    arguments: &Integers,
+) -> Result<String, AllocError> {
+    let mode = mode_word(mode);
+    let path = path.as_str();
+    let arguments = integers_text(alloc, arguments)?;
+    format!(in alloc; "eval mode {mode} steps {steps} path \"{path}\" arguments{arguments}")
+}
+
+/// A request of `route` as text.
+fn route_text(alloc: Global, mode: Mode, steps: u64, dry: bool) -> Result<String, AllocError> {
+    let mode = mode_word(mode);
+    let dry = if dry { " dry" } else { "" };
+    format!(in alloc; "route mode {mode} steps {steps}{dry}")
+}
+
+/// A request as text.
+fn request_text(alloc: Global, request: &Request) -> Result<String, AllocError> {
+    match request {
+        Request::Route { mode, steps, dry } => route_text(alloc, *mode, *steps, *dry),
+        Request::Names { steps } => {
+            let steps = *steps;
+            format!(in alloc; "names steps {steps}")
+        }
+        Request::Eval {
+            mode,
+            steps,
+            path,
+            arguments,
+        } => eval_text(alloc, *mode, *steps, path, arguments),
+        Request::Check => "check".to_string(alloc),
+    }
+}
+
+/// The request of words, if they are one.
+fn asked(alloc: Global, words: &[&str]) -> Option<Request> {
+    parse(alloc, words).ok()
+}
+
+/// What words ask for, as text: `fault` where they ask for nothing.
+pub fn request_of(alloc: Global, words: &[&str]) -> Result<String, AllocError> {
+    match asked(alloc, words) {
+        Some(request) => request_text(alloc, &request),
+        None => "fault".to_string(alloc),
+    }
+}

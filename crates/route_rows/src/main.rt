@@ -1,0 +1,23 @@
+//! Judges the rows of `data/`: what `route_check` says of a claim, `route_report` of a report's text, and `route_solve` of a
+//! problem. `data/README.md` says how a row is written.
+#![tactic(auto)]
+
+mod claims;
+mod faults;
+mod generated;
+mod pins;
+mod problems;
+mod questions;
+mod reports;
+mod row;
+mod texts;
+mod words;
+
+use crate::row::RouteRow;
+use std::io;
+use std::process::ExitCode;
+use test_rows::judge_rows;
+
+fn main(rt: HostRuntime) -> io::Result<ExitCode> {
+    judge_rows::<RouteRow, _>(&rt)
+}

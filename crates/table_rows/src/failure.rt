@@ -1,0 +1,67 @@
+//! Why a question has no answer of its own, and what is answered then.
+
+use ar_space::{InputFault, Refusal, ResourceFault, SpaceFault};
+use std::alloc::{AllocError, AllocFailed, Global};
+use std::num::ParseIntError;
+
+/// Why a question has no answer of its own.
+#[derive(Drop)]
+pub enum Failure {
+    /// The call that was asked refuses.
+    Refused(Refusal),
+    /// The question can't be read, or asks for what the row has not made.
+    NoQuestion,
+}
+
+impl From<Refusal> for Failure {
+    fn from(refusal: Refusal) -> Failure {
+        Failure::Refused(refusal)
+    }
+}
+
+impl From<SpaceFault> for Failure {
+    fn from(fault: SpaceFault) -> Failure {
+        Failure::Refused(Refusal::Space(fault))
+    }
+}
+
+impl From<AllocError> for Failure {
+    fn from(_error: AllocError) -> Failure {
+        Failure::Refused(Refusal::OutOfMemory)
+    }
+}
+
+impl<T: Drop> From<AllocFailed<T>> for Failure {
+    fn from(_error: AllocFailed<T>) -> Failure {
+        Failure::Refused(Refusal::OutOfMemory)
+    }
+}
+
+impl From<ParseIntError> for Failure {
+    fn from(_error: ParseIntError) -> Failure {
+        Failure::NoQuestion
+    }
+}
+
+/// How a refusal is answered: by its number, and by the line or the descriptor that it names.
+fn refused(alloc: Global, refusal: &Refusal) -> Result<String, AllocError> {
+    let number = refusal.number();
+    match refusal {
+        Refusal::Input(InputFault::MachineLine(line)) => {
+            format!(in alloc; "refused {number} at line {line}")
+        }
+        Refusal::Resource(ResourceFault::Descriptor(tag)) => {
+            format!(in alloc; "refused {number} at descriptor {tag}")
+        }
+        _ => format!(in alloc; "refused {number}"),
+    }
+}
+
+/// The text of an answer, or of why there is none.
+pub fn said(alloc: Global, answer: Result<String, Failure>) -> Result<String, AllocError> {
+    match answer {
+        Ok(text) => Ok(text),
+        Err(Failure::Refused(refusal)) => refused(alloc, &refusal),
+        Err(Failure::NoQuestion) => "no question".to_string(alloc),
+    }
+}

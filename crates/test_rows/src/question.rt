@@ -1,0 +1,30 @@
+//! Lines that are questions with their answers.
+use std::alloc::{AllocError, Global};
+
+/// A question, and the answer that is wanted.
+#[derive(Clone, Copy, Debug)]
+pub struct Question<'a> {
+    pub asked: &'a str,
+    pub wanted: &'a str,
+}
+
+impl<'a> Question<'a> {
+    /// Reads a line `QUESTION = ANSWER`; with no ` = ` the answer that is wanted is `done`.
+    pub fn new(line: &'a str) -> Question<'a> {
+        let (asked, wanted) = line.split_once(" = ").unwrap_or((line, "done"));
+        Question { asked, wanted }
+    }
+}
+
+/// What was answered in place of what is wanted, if that is something else.
+pub fn difference(
+    alloc: Global,
+    question: &Question,
+    answered: &str,
+) -> Result<Option<String>, AllocError> {
+    if answered == question.wanted {
+        return Ok(None);
+    }
+    let asked = question.asked;
+    Ok(Some(format!(in alloc; "{asked} = {answered}")?))
+}

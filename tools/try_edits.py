@@ -1,0 +1,281 @@
+#!/usr/bin/env python3
+"""try_edits.py [--all] [--lanes N] [--check] [NAME..]: tries the must-fail edits of crates that have changed.
+
+Run it at the top of the repository, once every crate is proved (`rt all check`). The edits of a crate are its files
+must-fail/*.edit, which the gate tries too, and those must-fail/*.md that hold lines `old:`, which only this script tries. An edit
+is tried over a copy of the work that the crate's own check kept, so none costs a whole proof:
+
+- first together with others that change other functions: a function is proved from its own body and from the contracts of those
+  that it calls, so an edit counts as refused where the check says that something in the very function which it changes is not
+  proved;
+- where that doesn't show it, or the edit changes something outside of functions, by itself, as in the gate.
+
+A crate is passed over where must-fail/tried.md has the sum of all that a verdict on its edits rests on:
+
+- the kit's line; the crate's line of crates.txt; its files of src/ (but no tests), specs/ and proofs/; its edits;
+- of each library below, what the built library hands on: its public items with their clauses and no bodies, and its
+  definitions. A body or a proof below that changes nothing of them leaves the sum as it is.
+
+--check tries nothing, reads the repository's own files and the sums, and fails where one differs: for a hook or a push. Where no
+library is built, it compares what the crate's own files say, and tells so."""
+import concurrent.futures
+import hashlib
+import importlib.machinery
+import importlib.util
+import os
+import re
+import shutil
+import sys
+import tempfile
+
+sys.dont_write_bytecode = True
+RT = shutil.which("rt") or "rt"
+# how many edits one check tries at most
+TOGETHER = 16
+
+
+def kit():
+    """The kit's own `rt` as a module, so that edits are applied and judged as the gate does it."""
+    loader = importlib.machinery.SourceFileLoader("rt", os.path.realpath(RT))
+    made = importlib.util.module_from_spec(importlib.util.spec_from_loader("rt", loader))
+    sys.modules["rt"] = made
+    loader.exec_module(made)
+    return made
+
+
+rt = kit()
+rtlib = rt.rtlib
+
+
+# ---- the sum of all that a verdict rests on
+
+
+def edits_of(crate):
+    folder = f"{crate.folder}/must-fail"
+    names = sorted(os.listdir(folder)) if os.path.isdir(folder) else []
+    files = [f"{folder}/{it}" for it in names if it.endswith((".edit", ".md")) and it != "tried.md"]
+    return [it for it in files if re.search(r"(?m)^old: ", rtlib.text_of(it) or "")]
+
+
+def files_below(folder):
+    for at, folders, names in os.walk(folder):
+        folders.sort()
+        yield from (f"{at}/{it}" for it in sorted(names))
+
+
+def added(sum, folder, file):
+    with open(file, "rb") as it:
+        sum.update(os.path.relpath(file, folder).encode() + b"\0" + it.read() + b"\0")
+
+
+def own_sum(crate):
+    """The sum of the kit's line and of the crate's own files."""
+    with open(f"{rt.KIT}/KIT-ID", "rb") as it:
+        found = hashlib.sha256(it.read())
+    found.update(repr((crate.of_kit, [it.name for it in crate.deps])).encode())
+    for part in ("src", "specs", "proofs"):
+        for file in files_below(f"{crate.folder}/{part}"):
+            if not re.match(r"src/tests(\.rt$|/)", os.path.relpath(file, crate.folder)):
+                added(found, crate.folder, file)
+    for edit in edits_of(crate):
+        # (the same edit may be in the gate or aside)
+        with open(edit, "rb") as it:
+            found.update(os.path.splitext(os.path.basename(edit))[0].encode() + b"\0" + it.read() + b"\0")
+    return found.hexdigest()
+
+
+def below_sum(crate):
+    """The sum of what the built libraries below hand on."""
+    found = hashlib.sha256()
+    for library in sorted(crate.below(), key=lambda it: it.name):
+        for part in ("lang/src", "lang/antt/specs"):
+            for file in files_below(f"{library.rlib}/{part}"):
+                added(found, library.rlib, file)
+    return found.hexdigest()
+
+
+def tried(crate, word):
+    text = rtlib.text_of(f"{crate.folder}/must-fail/tried.md") or ""
+    said = re.search(rf"(?m)^{word} ([0-9a-f]{{64}})$", text)
+    return said[1] if said else None
+
+
+def are_built(crates):
+    return all(it.is_built() for it in crates)
+
+
+def is_old(crate):
+    if tried(crate, "own") != own_sum(crate):
+        return True
+    return are_built(crate.below()) and tried(crate, "below") != below_sum(crate)
+
+
+# ---- the functions that an edit changes
+
+
+def module_of(path):
+    inside = re.sub(r"\.rt$", "", path.removeprefix("src/"))
+    return [it for it in inside.split("/") if it not in ("lib", "main", "mod")]
+
+
+def function_at(text, place):
+    """The name of the function whose head or body holds a place of a source file, and where it begins and ends, if one does."""
+    for head in reversed(list(re.finditer(r"(?m)^( *)(?:pub(?:\([a-z]+\))? )?(?:const )?fn (\w+)", text[:place]))):
+        end = re.compile(rf"(?m)^{head[1]}\}}").search(text, head.end())
+        if end and place < end.end():
+            return head[2], head.start(), end.end()
+        if not head[1]:
+            return None
+    return None
+
+
+class Edit:
+    """An edit, and where it changes functions: pairs of a file and a function's name, or None where it changes anything else."""
+
+    def __init__(self, crate, file):
+        self.file, self.name = file, os.path.basename(file)
+        self.texts, self.why = rt.read_edit(file, crate.folder)
+        self.pairs, self.changes = [], set()
+        path, old = "", None
+        with open(file, encoding="utf-8") as it:
+            lines = it.read().split("\n")
+        for line in lines:
+            if line.startswith("file: "):
+                path = line[len("file: "):].strip()
+            elif line.startswith("old: "):
+                old = line[len("old: "):]
+            elif line.startswith("new:") and old is not None:
+                self.pairs.append((path, old, re.sub(r"\A ", "", line[len("new:"):])))
+                text = rtlib.text_of(f"{crate.folder}/{path}") or ""
+                found = function_at(text, text.find(old)) if path.startswith("src/") and old in text else None
+                self.changes = self.changes | {(path, found[0])} if found and self.changes is not None else None
+                old = None
+
+
+def together(crate, edits):
+    """Edits in groups, in each of which no two change the same function: a function is proved from its own body and from the
+    contracts of those that it calls, so in a group each edit is refused or not as it is by itself."""
+    groups = []
+    for edit in edits:
+        for group in groups:
+            if len(group) < TOGETHER and not any(edit.changes & it.changes for it in group):
+                group.append(edit)
+                break
+        else:
+            groups.append([edit])
+    return groups
+
+
+def applied(crate, edits):
+    """The texts with all these edits, or None where one of them can't be applied beside the others."""
+    texts = {}
+    for path, old, new in (it for edit in edits for it in edit.pairs):
+        text = texts.get(path) or rtlib.text_of(f"{crate.folder}/{path}") or ""
+        if text.count(old) != 1:
+            return None
+        texts[path] = text.replace(old, new)
+    return texts
+
+
+def unproved(crate, texts, lines):
+    """The pairs of a file and a function of which a check says that something in it is not proved."""
+    found = set()
+    for line in lines:
+        at = re.match(r"note: (?:\./)?(src/\S+?):(\d+):\d+: it is not proved", line)
+        if at:
+            text = texts.get(at[1]) or rtlib.text_of(f"{crate.folder}/{at[1]}") or ""
+            place = sum(len(it) + 1 for it in text.split("\n")[: int(at[2]) - 1]) + 1
+            named = function_at(text, place + len(text[place:].split("\n")[0]))
+            found |= {(at[1], named[0])} if named else set()
+        at = re.match(r"(?:\./)?proofs/(\S+)/(\w+)/(?:Answers|Invariants|Proof)\.antt:\d+:\d+: error", line)
+        if at and not re.search(r"has no field|is not in scope|has no `|was not admitted", line):
+            found |= {(f"src/{end}.rt", at[2]) for end in (at[1], at[1].rpartition("/")[0])}
+    return found
+
+
+# ---- trying
+
+
+def try_group(crate, group, kept):
+    """What to say of each edit of a group that one check of them all shows to be refused, by the edit's name."""
+    texts = applied(crate, group)
+    if len(group) < 2 or not texts:
+        return {}
+    ran = rt.checked(crate, texts, ["--jobs", "1"], kept)
+    lines = ran.stdout.rstrip("\n").split("\n")
+    if ran.returncode != 1 or not lines[-1].startswith("logic=not-proved") or any(rt.unread(it, texts) for it in lines):
+        return {}
+    found = unproved(crate, texts, lines)
+    said = "refused, as it must be: not proved beside other edits of the crate, none of them of the same function:"
+    return {it.name: f"must-fail {crate.name}/{it.name}: {said} {sorted(it.changes)[0][1]}" for it in group if it.changes <= found}
+
+
+def try_some(crate, group):
+    """Tries edits of a crate over one copy of its kept work; returns the lines to print and whether all were refused."""
+    said, well = [], True
+    with tempfile.TemporaryDirectory(prefix="edits-") as room:
+        kept, own = f"{room}/kept", f"{crate.folder}/out/incremental"
+        shutil.copytree(own, kept) if os.path.isdir(own) else os.mkdir(kept)
+        if rt.checked(crate, {}, ["--jobs", "1"], kept).returncode:
+            return [f"{crate.name}: not proved: check it first"], False
+        shown = try_group(crate, group, kept)
+        for edit in group:
+            refused, text = (True, shown[edit.name]) if edit.name in shown else rt.must_fail(crate, edit.file, ["--jobs", "1"], kept)
+            said, well = said + [text], well and refused
+        # what the edits left in the folder must not have spoilt the crate's own verdict
+        if rt.checked(crate, {}, ["--jobs", "1"], kept).returncode:
+            return [*said, f"{crate.name}: not proved over what its edits left: try it again from nothing"], False
+    return said, well
+
+
+def note(crate):
+    with open(f"{crate.folder}/must-fail/tried.md", "w", encoding="utf-8") as it:
+        it.write("Every edit of this folder was refused for the crate with these sums, which `tools/try_edits.py` writes.\n\n")
+        it.write(f"own {own_sum(crate)}\nbelow {below_sum(crate)}\nedits {len(edits_of(crate))}\n")
+
+
+def groups_of(crate):
+    edits = [Edit(crate, it) for it in edits_of(crate)]
+    alone = [it for it in edits if it.why or not it.changes]
+    return together(crate, [it for it in edits if it not in alone]) + [[it] for it in alone]
+
+
+def try_crates(crates, lanes):
+    parts = {it.name: groups_of(it) for it in crates}
+    left, wells = {name: len(it) for name, it in parts.items()}, dict.fromkeys(parts, True)
+    with concurrent.futures.ThreadPoolExecutor(lanes) as pool:
+        runs = {pool.submit(try_some, crate, some): crate for crate in crates for some in parts[crate.name]}
+        for run in concurrent.futures.as_completed(runs):
+            crate, (said, well) = runs[run], run.result()
+            print("\n".join(said), flush=True)
+            left[crate.name] -= 1
+            wells[crate.name] = wells[crate.name] and well
+            if not left[crate.name] and wells[crate.name]:
+                note(crate)
+    return [name for name, well in wells.items() if not well]
+
+
+def main(words):
+    lanes = int(words[words.index("--lanes") + 1]) if "--lanes" in words else 2
+    names = [it for it in words if re.fullmatch(r"[a-z_][a-z0-9_]*", it)]
+    rtlib.guarded()
+    crates = [it for it in rtlib.crates_below(os.getcwd()) if edits_of(it) and (not names or it.name in names)]
+    if "--check" in words:
+        old = [it for it in crates if is_old(it)]
+        built = "" if are_built(crates) else " (by the crates' own files: no library is built)"
+        print(f"{len(old)} of {len(crates)} crates have changed since their edits were tried{built}")
+        print("".join(f"{it.name}: {len(edits_of(it))} edits to try\n" for it in old), end="")
+        return 1 if old else 0
+    lacking = [it.name for it in crates if not are_built(it.below())]
+    if lacking:
+        print(f"the libraries below {', '.join(lacking)} are not built: rt all check first")
+        return 2
+    changed = [it for it in crates if "--all" in words or is_old(it)]
+    print(f"{len(changed)} of {len(crates)} crates have changed since their edits were tried", flush=True)
+    failed = try_crates(changed, lanes)
+    print(f"{len(changed) - len(failed)} of {len(changed)} crates refused all their edits")
+    return 1 if failed else 0
+
+
+if __name__ == "__main__":
+    sys.exit(main(sys.argv[1:]))
