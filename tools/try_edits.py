@@ -32,6 +32,8 @@ sys.dont_write_bytecode = True
 RT = shutil.which("rt") or "rt"
 # how many edits one check tries at most
 TOGETHER = 16
+# and one lane
+IN_ONE_LANE = 24
 
 
 def kit():
@@ -136,19 +138,22 @@ class Edit:
         self.file, self.name = file, os.path.basename(file)
         self.texts, self.why = rt.read_edit(file, crate.folder)
         self.pairs, self.changes = [], set()
-        path, old = "", None
+        path, old, texts = "", None, {}
         with open(file, encoding="utf-8") as it:
             lines = it.read().split("\n")
         for line in lines:
             if line.startswith("file: "):
                 path = line[len("file: "):].strip()
+                texts.setdefault(path, rtlib.text_of(f"{crate.folder}/{path}") or "")
             elif line.startswith("old: "):
                 old = line[len("old: "):]
             elif line.startswith("new:") and old is not None:
-                self.pairs.append((path, old, re.sub(r"\A ", "", line[len("new:"):])))
-                text = rtlib.text_of(f"{crate.folder}/{path}") or ""
-                found = function_at(text, text.find(old)) if path.startswith("src/") and old in text else None
+                new = re.sub(r"\A ", "", line[len("new:"):])
+                self.pairs.append((path, old, new))
+                is_clear = path.startswith("src/") and texts[path].count(old) == 1
+                found = function_at(texts[path], texts[path].find(old)) if is_clear else None
                 self.changes = self.changes | {(path, found[0])} if found and self.changes is not None else None
+                texts[path] = texts[path].replace(old, new)
                 old = None
 
 
@@ -158,7 +163,8 @@ def together(crate, edits):
     groups = []
     for edit in edits:
         for group in groups:
-            if len(group) < TOGETHER and not any(edit.changes & it.changes for it in group):
+            is_free = len(group) < TOGETHER and not any(edit.changes & it.changes for it in group)
+            if is_free and applied(crate, [*group, edit]):
                 group.append(edit)
                 break
         else:
@@ -189,7 +195,8 @@ def unproved(crate, texts, lines):
             found |= {(at[1], named[0])} if named else set()
         at = re.match(r"(?:\./)?proofs/(\S+)/(\w+)/(?:Answers|Invariants|Proof)\.antt:\d+:\d+: error", line)
         if at and not re.search(r"has no field|is not in scope|has no `|was not admitted", line):
-            found |= {(f"src/{end}.rt", at[2]) for end in (at[1], at[1].rpartition("/")[0])}
+            files = [f"src/{end}.rt" for end in (at[1], at[1].rpartition("/")[0])]
+            found |= {(file, at[2]) for file in files if os.path.isfile(f"{crate.folder}/{file}")}
     return found
 
 
@@ -203,35 +210,44 @@ def try_group(crate, group, kept):
         return {}
     ran = rt.checked(crate, texts, ["--jobs", "1"], kept)
     lines = ran.stdout.rstrip("\n").split("\n")
-    if ran.returncode != 1 or not lines[-1].startswith("logic=not-proved") or any(rt.unread(it, texts) for it in lines):
+    is_refused = ran.returncode == 1 and lines[-1].startswith("logic=not-proved") and not rtlib.STALE.search(ran.stdout)
+    if not is_refused or any(rt.unread(it, texts) for it in lines):
         return {}
     found = unproved(crate, texts, lines)
+    if found - set().union(*(it.changes for it in group)):
+        # what nobody changed is not proved either: the edits are not independent
+        return {}
     said = "refused, as it must be: not proved beside other edits of the crate, none of them of the same function:"
     return {it.name: f"must-fail {crate.name}/{it.name}: {said} {sorted(it.changes)[0][1]}" for it in group if it.changes <= found}
 
 
-def try_some(crate, group):
-    """Tries edits of a crate over one copy of its kept work; returns the lines to print and whether all were refused."""
+def try_some(crate, groups):
+    """Tries groups of edits of a crate over one copy of its kept work; returns the lines to print and whether all were refused."""
     said, well = [], True
     with tempfile.TemporaryDirectory(prefix="edits-") as room:
         kept, own = f"{room}/kept", f"{crate.folder}/out/incremental"
         shutil.copytree(own, kept) if os.path.isdir(own) else os.mkdir(kept)
         if rt.checked(crate, {}, ["--jobs", "1"], kept).returncode:
             return [f"{crate.name}: not proved: check it first"], False
-        shown = try_group(crate, group, kept)
-        for edit in group:
-            refused, text = (True, shown[edit.name]) if edit.name in shown else rt.must_fail(crate, edit.file, ["--jobs", "1"], kept)
-            said, well = said + [text], well and refused
+        for group in groups:
+            shown = try_group(crate, group, kept)
+            for edit in group:
+                refused, text = (True, shown[edit.name]) if edit.name in shown else rt.must_fail(crate, edit.file, ["--jobs", "1"], kept)
+                said, well = said + [text], well and refused
         # what the edits left in the folder must not have spoilt the crate's own verdict
         if rt.checked(crate, {}, ["--jobs", "1"], kept).returncode:
             return [*said, f"{crate.name}: not proved over what its edits left: try it again from nothing"], False
     return said, well
 
 
-def note(crate):
+def sums(crate):
+    return own_sum(crate), below_sum(crate)
+
+
+def note(crate, found):
     with open(f"{crate.folder}/must-fail/tried.md", "w", encoding="utf-8") as it:
         it.write("Every edit of this folder was refused for the crate with these sums, which `tools/try_edits.py` writes.\n\n")
-        it.write(f"own {own_sum(crate)}\nbelow {below_sum(crate)}\nedits {len(edits_of(crate))}\n")
+        it.write(f"own {found[0]}\nbelow {found[1]}\nedits {len(edits_of(crate))}\n")
 
 
 def groups_of(crate):
@@ -240,8 +256,20 @@ def groups_of(crate):
     return together(crate, [it for it in edits if it not in alone]) + [[it] for it in alone]
 
 
+def shared_out(groups):
+    """Groups in parts of some twenty edits, each of which is tried in one lane."""
+    parts = [[]]
+    for group in groups:
+        if sum(map(len, parts[-1])) + len(group) > IN_ONE_LANE and parts[-1]:
+            parts.append([])
+        parts[-1].append(group)
+    return parts
+
+
 def try_crates(crates, lanes):
-    parts = {it.name: groups_of(it) for it in crates}
+    # (what changes while edits are tried is not what they were tried on)
+    before = {it.name: sums(it) for it in crates}
+    parts = {it.name: shared_out(groups_of(it)) for it in crates}
     left, wells = {name: len(it) for name, it in parts.items()}, dict.fromkeys(parts, True)
     with concurrent.futures.ThreadPoolExecutor(lanes) as pool:
         runs = {pool.submit(try_some, crate, some): crate for crate in crates for some in parts[crate.name]}
@@ -250,8 +278,8 @@ def try_crates(crates, lanes):
             print("\n".join(said), flush=True)
             left[crate.name] -= 1
             wells[crate.name] = wells[crate.name] and well
-            if not left[crate.name] and wells[crate.name]:
-                note(crate)
+            if not left[crate.name] and wells[crate.name] and sums(crate) == before[crate.name]:
+                note(crate, before[crate.name])
     return [name for name, well in wells.items() if not well]
 
 
@@ -260,6 +288,10 @@ def main(words):
     names = [it for it in words if re.fullmatch(r"[a-z_][a-z0-9_]*", it)]
     rtlib.guarded()
     crates = [it for it in rtlib.crates_below(os.getcwd()) if edits_of(it) and (not names or it.name in names)]
+    unknown = [it for it in names if it not in [crate.name for crate in crates]]
+    if unknown:
+        print(f"no crate with edits has this name: {', '.join(unknown)}")
+        return 2
     if "--check" in words:
         old = [it for it in crates if is_old(it)]
         built = "" if are_built(crates) else " (by the crates' own files: no library is built)"

@@ -8,7 +8,7 @@ use Rattle.ar_space.specs.declared.refusal.InputFault.TheVariants.{WriteFault}
 use Rattle.acpiroute_words.specs.ErrorLines.{error_line}
 use Rattle.acpiroute_words.specs.Written.{Written, status_of}
 
--- what the output or the errors held before a run, and what they hold after it, where that is known
+-- what the output or the errors held before a call, and what they hold after it, where that is known
 pub record Stream : Type 0 where
   pub before : Option (List ℕ)
   pub after : Option (List ℕ)

@@ -6,7 +6,9 @@ use std::marker::Model;
 /// The text that a command writes, made whole before the first byte of it goes out, and how it came out.
 #[derive(Debug, Drop)]
 pub struct Answer {
+    /// The text.
     pub text: Vec<u8>,
+    /// How it came out.
     pub completion: Completion,
 }
 

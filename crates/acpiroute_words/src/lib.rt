@@ -1,5 +1,5 @@
-//! What the program does without a machine: what its words ask for, the whole input, `check`, and an answer or the one line
-//! that tells of a refusal on its way out. `acpiroute_lib` does the rest over it.
+//! The parts of the program that need no machine: the command line, the whole input, `check`, and writing out an answer or the one
+//! line of a refusal. `acpiroute_lib` is built on it.
 #![tactic(auto)]
 
 mod answer;

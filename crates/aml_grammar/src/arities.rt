@@ -81,7 +81,7 @@ impl Arities {
         Ok(())
     }
 
-    /// Appends copies of entries, in their order.
+    /// Appends copies of entries, in their order. Where memory runs out, some of them may have been appended.
     pub fn append(&mut self, alloc: Global, entries: &[Arity]) -> Result<(), Refusal>
         ensures { Answers (seen (λ _. self.new) result) (Ok (self.old ++ entries.now)) }
     {

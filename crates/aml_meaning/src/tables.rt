@@ -1,4 +1,4 @@
-//! What tables declare of names' arguments, and the mutexes that they leave (ACPI 6.5, 5.4).
+//! The arguments that names take, and freeing all mutexes (ACPI 6.5, 5.4).
 ghost use Rattle.std.specs.Prelude.{◌≡◌};
 ghost use Rattle.aml_meaning.specs.Calling.{released};
 

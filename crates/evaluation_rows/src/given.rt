@@ -34,9 +34,10 @@ fn datum(alloc: Global, text: &str) -> Result<Datum, Trouble> {
 /// The arguments of a text `with ARGUMENT, ARGUMENT`.
 pub fn data(alloc: Global, text: &str) -> Result<Vec<Datum>, Trouble> {
     let mut list = Vec::new(alloc);
-    let Some(given) = text.strip_prefix("with ") else {
+    if text.is_empty() {
         return Ok(list);
-    };
+    }
+    let given = text.strip_prefix("with ").ok_or(Trouble::Unread)?;
     for item in given.split(',') {
         list.push(datum(alloc, item.strip_prefix(" ").unwrap_or(item))?)?;
     }
@@ -75,9 +76,10 @@ pub fn values(
     text: &str,
 ) -> Result<Vec<Value>, Trouble> {
     let mut list = Vec::new(alloc);
-    let Some(given) = text.strip_prefix("with ") else {
+    if text.is_empty() {
         return Ok(list);
-    };
+    }
+    let given = text.strip_prefix("with ").ok_or(Trouble::Unread)?;
     for item in given.split(',') {
         list.push(argument(alloc, world, item.strip_prefix(" ").unwrap_or(item))?)?;
     }

@@ -9,6 +9,7 @@ mod requests;
 mod row;
 mod running;
 mod streams;
+mod values;
 
 use crate::row::Row;
 use std::io;

@@ -5,6 +5,7 @@ use crate::refusals::line_of;
 use crate::requests::request_of;
 use crate::running::{ran, ran_faulty};
 use crate::streams::Faults;
+use crate::values::value_of;
 use std::alloc::{AllocError, Global};
 use std::io;
 use std::rt::Files;
@@ -23,6 +24,11 @@ impl Wanted {
             bytes: Vec::new(alloc),
             is_any: false,
         }
+    }
+
+    /// Whether a row says nothing of these bytes.
+    fn is_nothing(&self) -> bool {
+        self.bytes.is_empty() && !self.is_any
     }
 
     /// Whether these bytes are what is wanted.
@@ -86,16 +92,38 @@ impl Row {
             && self.is_read_so_far(found.unread.as_slice())
     }
 
+    /// What is wrong with a row of questions that also says what a run is to leave.
+    fn what_is_mixed(&self, alloc: Global) -> Result<Option<String>, AllocError> {
+        let is_bare = self.output.is_nothing() && self.errors.is_nothing() && self.status == 0;
+        if is_bare && self.is_told && !self.is_left {
+            return Ok(None);
+        }
+        Ok(Some("questions, and what a run leaves".to_string(alloc)?))
+    }
+
     /// Puts a question, and gives what was answered in place of what is wanted.
     fn asked(&mut self, alloc: Global, line: &str) -> io::Result<Option<String>> {
         self.is_asked = true;
         let question = Question::new(line);
-        let answered = match question.asked.strip_prefix("refusal ") {
-            Some(name) => line_of(alloc, name)?,
-            None => request_of(alloc, self.texts(alloc)?.as_slice())?,
-        };
+        let answered = answer(alloc, question.asked, self.texts(alloc)?.as_slice())?;
         Ok(difference(alloc, &question, answered.as_str())?)
     }
+}
+
+/// What a question comes to, after these words.
+fn answer(alloc: Global, asked: &str, words: &[&str]) -> io::Result<String> {
+    if let Some(name) = asked.strip_prefix("refusal ") {
+        return line_of(alloc, name);
+    }
+    match asked.strip_prefix("value ") {
+        Some(name) => Ok(value_of(alloc, name)?),
+        None => Ok(request_of(alloc, words)?),
+    }
+}
+
+/// Whether a line is a question.
+fn is_question(line: &str) -> bool {
+    line.starts_with("request = ") || line.starts_with("refusal ") || line.starts_with("value ")
 }
 
 impl Subject for Row {
@@ -118,7 +146,7 @@ impl Subject for Row {
     }
 
     fn take<R: Files + AllocGlobal>(&mut self, rt: &R, line: &str) -> io::Result<Option<String>> {
-        if line.starts_with("request = ") || line.starts_with("refusal ") {
+        if is_question(line) {
             return self.asked(rt.alloc(), line);
         }
         if take_line(rt, self, line)? {
@@ -129,7 +157,7 @@ impl Subject for Row {
 
     fn end<R: Files + AllocGlobal>(&mut self, rt: &R) -> io::Result<Option<String>> {
         if self.is_asked {
-            return Ok(None);
+            return Ok(self.what_is_mixed(rt.alloc())?);
         }
         let found = self.found(rt.alloc())?;
         if self.is_met(&found) {

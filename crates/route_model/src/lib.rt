@@ -4,7 +4,5 @@
 
 pub mod laws;
 mod link;
-#[cfg(test)]
-mod tests;
 
 pub use link::Link;

@@ -10,6 +10,7 @@ mod problems;
 mod questions;
 mod reports;
 mod row;
+mod small_problems;
 mod texts;
 mod words;
 

@@ -5,6 +5,7 @@ use ar_space::Refusal;
 use route_check::Claim;
 use route_model::Link;
 use route_solve::{Answer, Problem, Solver, fits, solve};
+use route_try::first_least;
 use std::alloc::{AllocError, Global};
 
 /// The problem of a row's links and wired interrupts.
@@ -91,4 +92,29 @@ pub fn search_text(alloc: Global, claim: &Claim) -> Result<String, Fault> {
     let problem = problem(alloc, claim)?;
     let answer = searched(alloc, &problem)?;
     answer_text(alloc, &problem.links, &answer)
+}
+
+/// `try`: the first least assignment, found by trying all of them, where the problem fits.
+pub fn try_text(alloc: Global, claim: &Claim) -> Result<String, Fault> {
+    let problem = problem(alloc, claim)?;
+    if !fits(&problem) {
+        return Ok(String::from_str(alloc, "does not fit")?);
+    }
+    let mut text = String::from_str(alloc, "give")?;
+    let choice = first_least(alloc, &problem)?;
+    put_numbers(&mut text, &choice)?;
+    Ok(text)
+}
+
+/// `taken-apart`: the path and the offers of the last link, which is taken out of the claim.
+pub fn taken_apart(alloc: Global, claim: &mut Claim) -> Result<String, Fault> {
+    let Some(link) = claim.links.pop() else {
+        return Err(Fault::NotUnderstood);
+    };
+    let (path, offers) = link.into_parts();
+    let mut text = String::from_str(alloc, "link")?;
+    put_path(alloc, &mut text, &path)?;
+    text.push_str(" offers")?;
+    put_numbers(&mut text, &offers)?;
+    Ok(text)
 }

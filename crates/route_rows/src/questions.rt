@@ -4,9 +4,10 @@ use crate::claims::{
 };
 use crate::faults::{Fault, answered, done};
 use crate::generated::{add_links, crowd};
-use crate::problems::{fitting, search_text, solve_text};
+use crate::problems::{fitting, search_text, solve_text, taken_apart, try_text};
 use crate::reports::add_line;
 use crate::row::RouteRow;
+use crate::small_problems::both_solvers;
 use crate::texts::{add_bytes, add_text, line, print_report, read_text, read_third, repeat};
 use std::alloc::{AllocError, Global};
 
@@ -47,6 +48,9 @@ fn asked(alloc: Global, row: &mut RouteRow, word: &str, text: &str) -> Result<St
         "fits" => fitting(alloc, &row.claim),
         "solve" => solve_text(alloc, &row.claim),
         "search" => search_text(alloc, &row.claim),
+        "try" => try_text(alloc, &row.claim),
+        "both-solvers" => both_solvers(alloc),
+        "taken-apart" => taken_apart(alloc, &mut row.claim),
         "print" => print_report(alloc, &mut row.text, &row.report),
         "line" => line(alloc, row.text.as_slice(), text),
         _ => Err(Fault::NotUnderstood),

@@ -34,7 +34,7 @@ impl Subject for RouteRow {
         let question = Question::new(line);
         if let Some(file) = question.asked.strip_prefix("file ") {
             self.text.extend_from_slice(fs::read(rt, file)?.as_slice())?;
-            return Ok(None);
+            return Ok(difference(alloc, &question, "done")?);
         }
         let answered = answer(alloc, self, question.asked)?;
         Ok(difference(alloc, &question, answered.as_str())?)

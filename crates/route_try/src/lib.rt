@@ -2,8 +2,6 @@
 #![tactic(auto)]
 
 mod loads;
-#[cfg(test)]
-mod tests;
 mod trial;
 
 pub use trial::first_least;

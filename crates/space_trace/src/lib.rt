@@ -3,8 +3,6 @@
 #![tactic(auto)]
 
 mod access;
-#[cfg(test)]
-mod tests;
 mod traced;
 
 pub use access::Access;

@@ -14,6 +14,7 @@ mod registers;
 mod row;
 mod structures;
 mod tables;
+mod traces;
 
 use crate::row::Row;
 use std::io;

@@ -3,7 +3,7 @@
 use crate::bytes::done;
 use crate::failure::Failure;
 use crate::row::Row;
-use crate::{descriptors, faults, machine_lines, registers, structures, tables};
+use crate::{descriptors, faults, machine_lines, registers, structures, tables, traces};
 use acpi_resources::{InterruptNumbers, Offer};
 use ar_tables::Tables;
 use machine_text::OsiTexts;
@@ -47,6 +47,7 @@ fn of_accesses(alloc: Global, row: &mut Row, word: &str, rest: &str) -> Result<S
         "beyond" => registers::beyond(alloc, rest),
         "width" => registers::bytes_and_bits(alloc, rest),
         "path" => registers::path(alloc, rest),
+        "trace" => traces::answer(alloc, &mut row.trace, rest),
         _ => Err(Failure::NoQuestion),
     }
 }

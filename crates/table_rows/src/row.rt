@@ -7,6 +7,7 @@ use acpi_resources::{InterruptNumbers, Offer};
 use ar_space::Sparse;
 use ar_tables::{Image, Tables};
 use machine_text::OsiTexts;
+use space_trace::Traced;
 use std::alloc::{AllocError, Global};
 use std::rt::Files;
 use std::{fs, io};
@@ -17,6 +18,8 @@ use test_rows::{Question, Subject, difference};
 pub struct Row {
     /// The register space, which a machine text makes anew.
     pub space: Sparse,
+    /// A register space that keeps the list of its accesses.
+    pub trace: Traced<Sparse>,
     pub image: Image,
     pub structures: Vec<Structure>,
     pub tables: Option<Tables>,
@@ -58,6 +61,7 @@ impl Subject for Row {
         let alloc = rt.alloc();
         Ok(Row {
             space: Sparse::new(alloc),
+            trace: Traced::new(Sparse::new(alloc)),
             image: Image::new(alloc),
             structures: Vec::new(alloc),
             tables: None,

@@ -1,4 +1,6 @@
 //! Lines that are questions with their answers.
+ghost use Rattle.std.specs.Prelude.{◌≡◌, ◌≢◌, IfOk, IsSome, IsNone};
+
 use std::alloc::{AllocError, Global};
 
 /// A question, and the answer that is wanted.
@@ -21,7 +23,10 @@ pub fn difference(
     alloc: Global,
     question: &Question,
     answered: &str,
-) -> Result<Option<String>, AllocError> {
+) -> Result<Option<String>, AllocError>
+    ensures same { answered.now ≡ question.now.wanted.now → IfOk result (λ found. IsNone found) }
+    ensures other { answered.now ≢ question.now.wanted.now → IfOk result (λ found. IsSome found) }
+{
     if answered == question.wanted {
         return Ok(None);
     }

@@ -107,6 +107,9 @@ fn is_byte_read_well(byte: u8, field: FieldUnit, number: usize) -> bool {
 
 /// Whether the bytes that were read are as they have to be.
 fn is_read_well(read: &[u8], field: FieldUnit) -> bool {
+    if read.len() != field.bits.div_ceil(8) as usize {
+        return false;
+    }
     for (number, byte) in read.iter().enumerate() {
         if !is_byte_read_well(*byte, field, number) {
             return false;

@@ -1,12 +1,12 @@
-//! Both solvers on all small problems.
-use crate::first_least;
+//! Both solvers on all small problems: up to three links that offer some of three interrupts each, and up to two sources wired to
+//! these or to a fourth one.
+use crate::faults::Fault;
 use aml_path::{Path, Seg};
 use ar_space::Refusal;
 use route_model::Link;
 use route_solve::{Problem, fits, solve};
+use route_try::first_least;
 use std::alloc::Global;
-use std::process::Abort;
-use std::test::Fail;
 
 /// Those of three interrupts whose bits are set.
 fn interrupts(alloc: Global, bits: usize) -> Result<Vec<u32>, Refusal> {
@@ -19,8 +19,8 @@ fn interrupts(alloc: Global, bits: usize) -> Result<Vec<u32>, Refusal> {
     Ok(numbers)
 }
 
-/// Up to two sources wired to three interrupts that links may offer and one that none offers: two numbers of 0 for none
-/// and 1 to 4, the first of them not the smaller.
+/// Up to two sources wired to three interrupts that links may offer and one that none offers: two
+/// numbers of 0 for none and 1 to 4, the first of them not the smaller.
 fn wired(alloc: Global, one: usize, other: usize) -> Result<Vec<(u32, u32)>, Refusal> {
     let mut counts: Vec<(u32, u32)> = Vec::new(alloc);
     for (place, n) in [(1, 5), (2, 10), (3, 11), (4, 12)] {
@@ -48,31 +48,39 @@ fn links(alloc: Global, bits: [usize; 3]) -> Result<Vec<Link>, Refusal> {
     Ok(links)
 }
 
-/// Compares both solvers on these links, with all ways to wire up to two sources.
-fn compare(rt: &impl Abort, alloc: Global, bits: [usize; 3]) -> Result<(), Refusal> {
-    for one in 0..5 {
+/// Whether both solvers give the same assignment, where the problem fits.
+fn agree_on(alloc: Global, problem: &Problem) -> Result<bool, Refusal> {
+    if !fits(problem) {
+        return Ok(false);
+    }
+    let answer = solve(alloc, problem)?;
+    let tried = first_least(alloc, problem)?;
+    Ok(answer.choice.as_slice() == tried.as_slice())
+}
+
+/// Whether they agree on these links with all ways to wire up to two sources.
+fn agree_on_links(alloc: Global, bits: [usize; 3]) -> Result<bool, Refusal> {
+    for one in 0..5usize {
         for other in 0..one + 1 {
             let problem = Problem {
                 links: links(alloc, bits)?,
                 wired: wired(alloc, one, other)?,
             };
-            assert!(rt; fits(&problem));
-            let answer = solve(alloc, &problem)?;
-            let tried = first_least(alloc, &problem)?;
-            assert_eq!(rt; answer.choice.as_slice(), tried.as_slice());
-        }
-    }
-    Ok(())
-}
-
-#[test]
-fn both_solvers_agree_on_all_small_problems(rt: HostRuntime) -> Result<(), Fail> {
-    for first in 0..8 {
-        for second in 0..8 {
-            for third in 0..8 {
-                compare(&rt, rt.alloc(), [first, second, third])?;
+            if !agree_on(alloc, &problem)? {
+                return Ok(false);
             }
         }
     }
-    Ok(())
+    Ok(true)
+}
+
+/// `both-solvers`: `agree`, or the offers of the first links on which they don't, as bits.
+pub fn both_solvers(alloc: Global) -> Result<String, Fault> {
+    for bits in 0..512usize {
+        let (first, second, third) = (bits / 64 % 8, bits / 8 % 8, bits % 8);
+        if !agree_on_links(alloc, [first, second, third])? {
+            return Ok(format!(in alloc; "differ at {first} {second} {third}")?);
+        }
+    }
+    Ok(String::from_str(alloc, "agree")?)
 }
