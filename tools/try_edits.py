@@ -193,7 +193,8 @@ def unproved(crate, texts, lines):
             place = sum(len(it) + 1 for it in text.split("\n")[: int(at[2]) - 1]) + 1
             named = function_at(text, place + len(text[place:].split("\n")[0]))
             found |= {(at[1], named[0])} if named else set()
-        at = re.match(r"(?:\./)?proofs/(\S+)/(\w+)/(?:Answers|Invariants|Proof)\.antt:\d+:\d+: error", line)
+        at = re.match(r"fn \S+: no proof: expected answers in \./proofs/(\S+)/(\w+)/Answers\.antt", line)
+        at = at or re.match(r"(?:\./)?proofs/(\S+)/(\w+)/(?:Answers|Invariants|Proof)\.antt:\d+:\d+: error", line)
         if at and not re.search(r"has no field|is not in scope|has no `|was not admitted", line):
             files = [f"src/{end}.rt" for end in (at[1], at[1].rpartition("/")[0])]
             found |= {(file, at[2]) for file in files if os.path.isfile(f"{crate.folder}/{file}")}
