@@ -47,3 +47,24 @@ pub fn hexadecimal(alloc: Global, bytes: &[u8]) -> Result<String, AllocError> {
     }
     Ok(text)
 }
+
+/// Bytes with their readable characters between quotation marks, and the others in hexadecimal digits; `-` where there are
+/// none.
+pub fn quoted(alloc: Global, bytes: &[u8]) -> Result<String, AllocError> {
+    let mut text = String::from_str(alloc, if bytes.is_empty() { "-" } else { "" })?;
+    let mut is_text = false;
+    for byte in bytes {
+        let is_readable = (0x20..0x7F).contains(byte);
+        if is_readable != is_text {
+            text.push_str(if is_text { "\" " } else { "\"" })?;
+        }
+        is_text = is_readable;
+        if is_readable {
+            text.push(char::from(*byte))?;
+        } else {
+            write!(text, "{byte:02X}")?;
+        }
+    }
+    text.push_str(if is_text { "\"" } else { "" })?;
+    Ok(text)
+}

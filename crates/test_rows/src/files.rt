@@ -6,14 +6,14 @@ use std::rt::Files;
 use std::{fs, io};
 
 /// How many rows came to what they say, and how many to something else.
-#[derive(Clone, Copy, Debug)]
+#[derive(Clone, Copy)]
 struct Tally {
     passed: u64,
     failed: u64,
 }
 
 /// A row that is being read.
-#[derive(Debug, Drop)]
+#[derive(Drop)]
 struct Open<S> {
     name: String,
     subject: S,

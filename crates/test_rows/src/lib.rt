@@ -10,10 +10,12 @@
 #![tactic(auto)]
 
 mod bytes;
+mod exchange;
 mod files;
 mod question;
 
 pub use bytes::{bytes_of, hexadecimal};
+pub use exchange::Exchange;
 pub use files::judge_rows;
 pub use question::{Question, difference};
 use std::io;

@@ -4,7 +4,7 @@ ghost use Rattle.std.specs.Prelude.{◌≡◌, ◌≢◌, IfOk, IsSome, IsNone};
 use std::alloc::{AllocError, Global};
 
 /// A question, and the answer that is wanted.
-#[derive(Clone, Copy, Debug)]
+#[derive(Clone, Copy)]
 pub struct Question<'a> {
     pub asked: &'a str,
     pub wanted: &'a str,

@@ -1,113 +1,102 @@
 //! Questions of bits of bytes, and of the units of a field.
 
-use crate::answers::{decimal, done, first_word, hex, integer, sides, word};
-use crate::failure::Failure;
+ghost use Rattle.std.specs.Prelude.{◌≤◌};
+
 use crate::places::{update_rule, width};
-use aml_fields::{Unit, bytes_for, copy_bits, copy_from_unit, get_bits, merge, units};
-use std::alloc::Global;
-use test_rows::{bytes_of, hexadecimal};
+use aml_fields::{bytes_for, copy_bits, copy_from_unit, get_bits, merge, units};
+use test_rows::Exchange;
 
 /// A number of bits, or of a bit, in decimal digits.
-fn number(text: &str) -> Result<u16, Failure> {
-    Ok(text.parse::<u16>()?)
-}
-
-/// Three numbers of bits.
-fn three(text: &str) -> Result<(u16, u16, u16), Failure> {
-    let (first, text) = first_word(text)?;
-    let (second, third) = first_word(text)?;
-    Ok((number(first)?, number(second)?, number(third)?))
+fn number(asked: &mut Exchange) -> usize
+    ensures { result ≤ 65535 }
+{
+    asked.number(0xFFFF) as usize
 }
 
 /// `bits FIRST COUNT: BYTES`: these bits of bytes.
-pub fn bits(alloc: Global, rest: &str) -> Result<String, Failure> {
-    let (range, bytes) = sides(rest)?;
-    let (first, count) = first_word(range)?;
-    let (first, count) = (number(first)?, number(count)?);
-    let bytes = bytes_of(alloc, bytes)?;
-    let found = get_bits(
-        alloc,
-        bytes.as_slice(),
-        usize::from(first),
-        usize::from(count),
-    )?;
-    Ok(hexadecimal(alloc, found.as_slice())?)
+pub fn bits(asked: &mut Exchange) {
+    let first = number(asked);
+    let count = number(asked);
+    let bytes = asked.bytes();
+    match get_bits(asked.alloc(), bytes.as_slice(), first, count) {
+        Ok(found) => asked.say_bytes(found.as_slice()),
+        Err(_) => asked.run_out(),
+    }
 }
 
 /// `bytes-for COUNT`: how many bytes hold so many bits.
-pub fn bytes_that_hold(alloc: Global, rest: &str) -> Result<String, Failure> {
-    let bytes = bytes_for(usize::from(number(rest)?));
-    Ok(format!(in alloc; "{bytes}")?)
-}
-
-/// `target BYTES`: the bytes over which bits are copied.
-pub fn target(alloc: Global, target: &mut Vec<u8>, rest: &str) -> Result<String, Failure> {
-    *target = bytes_of(alloc, rest)?;
-    done(alloc)
+pub fn bytes_that_hold(asked: &mut Exchange) {
+    let count = number(asked);
+    asked.say_number(bytes_for(count) as u64);
 }
 
 /// `copy-bits TO FIRST COUNT: BYTES`: copies bits of these bytes over those of the target from a bit on.
-pub fn copy(alloc: Global, target: &mut Vec<u8>, rest: &str) -> Result<String, Failure> {
-    let (range, bytes) = sides(rest)?;
-    let (to, first, count) = three(range)?;
-    let (to, first, count) = (usize::from(to), usize::from(first), usize::from(count));
+pub fn copy(asked: &mut Exchange, target: &mut Vec<u8>) {
+    let to = number(asked);
+    let first = number(asked);
+    let count = number(asked);
+    let bytes = asked.bytes();
     if (to + count + 7) / 8 > target.len() {
-        return Err(Failure::NoQuestion);
+        asked.misunderstand();
+        return;
     }
-    let bytes = bytes_of(alloc, bytes)?;
     copy_bits(target.as_mut_slice(), to, bytes.as_slice(), first, count);
-    Ok(hexadecimal(alloc, target.as_slice())?)
+    asked.say_bytes(target.as_slice());
 }
 
 /// `copy-unit TO FIRST COUNT: VALUE`: copies bits of a unit that was read over those of the target from a bit on.
-pub fn copy_unit(alloc: Global, target: &mut Vec<u8>, rest: &str) -> Result<String, Failure> {
-    let (range, value) = sides(rest)?;
-    let (to, first, count) = three(range)?;
-    let (to, first, count) = (usize::from(to), usize::from(first), usize::from(count));
+pub fn copy_unit(asked: &mut Exchange, target: &mut Vec<u8>) {
+    let to = number(asked);
+    let first = number(asked);
+    let count = number(asked);
+    let value = asked.hexadecimal(u64::MAX);
     if (to + count + 7) / 8 > target.len() || first + count > 64 {
-        return Err(Failure::NoQuestion);
+        asked.misunderstand();
+        return;
     }
-    copy_from_unit(target.as_mut_slice(), to, hex(value)?, first, count);
-    Ok(hexadecimal(alloc, target.as_slice())?)
+    copy_from_unit(target.as_mut_slice(), to, value, first, count);
+    asked.say_bytes(target.as_slice());
 }
 
 /// `merge RULE WIDTH OLD TO FIRST COUNT: BYTES`: what a unit of an old value is written with.
-pub fn merged(alloc: Global, rest: &str) -> Result<String, Failure> {
-    let (unit, bytes) = sides(rest)?;
-    let (rule, unit) = first_word(unit)?;
-    let (bits, unit) = first_word(unit)?;
-    let (old, range) = first_word(unit)?;
-    let (to, first, count) = three(range)?;
-    let (to, first, count) = (usize::from(to), usize::from(first), usize::from(count));
+pub fn merged(asked: &mut Exchange) {
+    let rule = update_rule(asked);
+    let width = width(asked);
+    let old = asked.hexadecimal(u64::MAX);
+    let to = number(asked);
+    let first = number(asked);
+    let count = number(asked);
+    let bytes = asked.bytes();
     if to + count > 64 {
-        return Err(Failure::NoQuestion);
+        asked.misunderstand();
+        return;
     }
-    let bytes = bytes_of(alloc, bytes)?;
-    let (rule, width, old) = (update_rule(rule)?, width(bits)?, hex(old)?);
-    integer(
-        alloc,
-        merge(rule, width, old, to, bytes.as_slice(), first, count),
-    )
+    let unit = merge(rule, width, old, to, bytes.as_slice(), first, count);
+    asked.say_hexadecimal(unit);
 }
 
-/// A unit in words.
-fn unit_text(alloc: Global, unit: Unit) -> Result<String, Failure> {
-    let (offset, first) = (unit.offset, unit.first);
-    let (count, position) = (unit.count, unit.position);
-    Ok(format!(in alloc; "offset {offset} first {first} count {count} position {position}")?)
+/// Answers a number behind its name.
+fn say_named(asked: &mut Exchange, name: &str, number: u64) {
+    asked.say(name);
+    asked.say_number(number);
 }
 
 /// `unit N: OFFSET BITS WIDTH`: what the walk over the units of a field gives after N others.
-pub fn unit(alloc: Global, rest: &str) -> Result<String, Failure> {
-    let (number, field) = sides(rest)?;
-    let (offset, field) = first_word(field)?;
-    let (bits, access) = first_word(field)?;
-    let mut units = units(offset.parse::<u64>()?, bits.parse::<u32>()?, width(access)?);
-    for _ in 0..decimal(number)? {
+pub fn unit(asked: &mut Exchange) {
+    let passed = asked.number(u64::MAX);
+    let offset = asked.number(u64::MAX);
+    let bits = asked.number(0xFFFF_FFFF) as u32;
+    let mut units = units(offset, bits, width(asked));
+    for _ in 0..passed {
         let _passed = units.next();
     }
     match units.next() {
-        Some(unit) => unit_text(alloc, unit),
-        None => word(alloc, "none"),
+        Some(unit) => {
+            say_named(asked, "offset", unit.offset);
+            say_named(asked, "first", unit.first as u64);
+            say_named(asked, "count", unit.count as u64);
+            say_named(asked, "position", unit.position as u64);
+        }
+        None => asked.say("none"),
     }
 }

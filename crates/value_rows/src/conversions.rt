@@ -1,103 +1,121 @@
 //! Questions of conversions between integers, strings and buffers, and of values compared and joined.
 
-use crate::answers::{first_word, hex, integer, quoted, word, yes_or_no};
-use crate::failure::Failure;
-use crate::operands::{integer_width, one, pair};
+use crate::answers::say_integer;
+use crate::operands::{integer_width, value_of};
 use aml_convert::{
     Comparison, Joined, compare, concat, concat_resources, explicit_integer, holds, to_buffer,
     to_integer, to_text, truncate, truncate_integer,
 };
-use std::alloc::Global;
+use aml_objects::Octets;
+use ar_space::Refusal;
 use std::cmp::Ordering;
-use test_rows::hexadecimal;
+use test_rows::Exchange;
+
+/// The words for how values compare.
+const ORDERS: [(&str, Ordering); 3] = [
+    ("less", Ordering::Less),
+    ("equal", Ordering::Equal),
+    ("greater", Ordering::Greater),
+];
+
+/// Answers bytes in hexadecimal digits, or the refusal.
+fn say_octets(asked: &mut Exchange, outcome: Result<Octets, Refusal>) {
+    match outcome {
+        Ok(bytes) => asked.say_bytes(bytes.as_slice()),
+        Err(refusal) => asked.refuse(refusal.number()),
+    }
+}
 
 /// `implicit-integer WIDTH VALUE`: the value where an integer is wanted.
-pub fn implicit_integer(alloc: Global, rest: &str) -> Result<String, Failure> {
-    let (width, operand) = one(alloc, rest)?;
-    integer(alloc, to_integer(width, operand.content())?)
+pub fn implicit_integer(asked: &mut Exchange) {
+    let width = integer_width(asked);
+    let value = value_of(asked);
+    say_integer(asked, to_integer(width, value.content()));
 }
 
 /// `ToInteger WIDTH VALUE`: what the operator gives.
-pub fn explicitly_integer(alloc: Global, rest: &str) -> Result<String, Failure> {
-    let (width, operand) = one(alloc, rest)?;
-    integer(alloc, explicit_integer(width, operand.content())?)
+pub fn explicitly_integer(asked: &mut Exchange) {
+    let width = integer_width(asked);
+    let value = value_of(asked);
+    say_integer(asked, explicit_integer(width, value.content()));
 }
 
 /// `implicit-string WIDTH VALUE`: the value where a string is wanted.
-pub fn implicit_string(alloc: Global, rest: &str) -> Result<String, Failure> {
-    let (width, operand) = one(alloc, rest)?;
-    let text = to_text(alloc, width, operand.content())?;
-    Ok(quoted(alloc, text.as_slice())?)
+pub fn implicit_string(asked: &mut Exchange) {
+    let width = integer_width(asked);
+    let value = value_of(asked);
+    match to_text(asked.alloc(), width, value.content()) {
+        Ok(text) => asked.say_quoted(text.as_slice()),
+        Err(refusal) => asked.refuse(refusal.number()),
+    }
 }
 
 /// `implicit-buffer WIDTH VALUE`: the value where a buffer is wanted.
-pub fn implicit_buffer(alloc: Global, rest: &str) -> Result<String, Failure> {
-    let (width, operand) = one(alloc, rest)?;
-    let bytes = to_buffer(alloc, width, operand.content())?;
-    Ok(hexadecimal(alloc, bytes.as_slice())?)
+pub fn implicit_buffer(asked: &mut Exchange) {
+    let width = integer_width(asked);
+    let value = value_of(asked);
+    let buffer = to_buffer(asked.alloc(), width, value.content());
+    say_octets(asked, buffer);
 }
 
 /// `compare WIDTH VALUE and VALUE`: how the first compares to the second.
-pub fn compared(alloc: Global, rest: &str) -> Result<String, Failure> {
-    let (width, values) = first_word(rest)?;
-    let (first, second) = pair(alloc, values)?;
-    let width = integer_width(width)?;
-    let text = match compare(alloc, width, first.content(), second.content())? {
-        Ordering::Less => "less",
-        Ordering::Equal => "equal",
-        Ordering::Greater => "greater",
-    };
-    word(alloc, text)
-}
-
-/// An order by its word.
-fn order(text: &str) -> Result<Ordering, Failure> {
-    match text {
-        "less" => Ok(Ordering::Less),
-        "equal" => Ok(Ordering::Equal),
-        "greater" => Ok(Ordering::Greater),
-        _ => Err(Failure::NoQuestion),
+pub fn compared(asked: &mut Exchange) {
+    let width = integer_width(asked);
+    let first = value_of(asked);
+    let second = value_of(asked);
+    match compare(asked.alloc(), width, first.content(), second.content()) {
+        Ok(Ordering::Less) => asked.say("less"),
+        Ok(Ordering::Equal) => asked.say("equal"),
+        Ok(Ordering::Greater) => asked.say("greater"),
+        Err(refusal) => asked.refuse(refusal.number()),
     }
 }
 
 /// `LEqual ORDER`, `LGreater ORDER`, `LLess ORDER`: whether the comparison holds of operands in this order.
-pub fn holds_of(alloc: Global, comparison: Comparison, rest: &str) -> Result<String, Failure> {
-    yes_or_no(alloc, holds(comparison, order(rest)?))
+pub fn holds_of(asked: &mut Exchange, comparison: Comparison) {
+    let word = asked.word();
+    let order = asked.one_of(&ORDERS, word, Ordering::Equal);
+    asked.say_whether(holds(comparison, order));
 }
 
 /// `Concatenate WIDTH VALUE and VALUE`: the two joined.
-pub fn joined(alloc: Global, rest: &str) -> Result<String, Failure> {
-    let (width, values) = first_word(rest)?;
-    let (first, second) = pair(alloc, values)?;
-    let width = integer_width(width)?;
-    match concat(alloc, width, first.content(), second.content())? {
-        Joined::String(bytes) => {
-            let text = quoted(alloc, bytes.as_slice())?;
-            Ok(format!(in alloc; "string {text}")?)
+pub fn joined(asked: &mut Exchange) {
+    let width = integer_width(asked);
+    let first = value_of(asked);
+    let second = value_of(asked);
+    match concat(asked.alloc(), width, first.content(), second.content()) {
+        Ok(Joined::String(bytes)) => {
+            asked.say("string");
+            asked.say_quoted(bytes.as_slice());
         }
-        Joined::Buffer(bytes) => {
-            let text = hexadecimal(alloc, bytes.as_slice())?;
-            Ok(format!(in alloc; "buffer {text}")?)
+        Ok(Joined::Buffer(bytes)) => {
+            asked.say("buffer");
+            asked.say_bytes(bytes.as_slice());
         }
+        Err(refusal) => asked.refuse(refusal.number()),
     }
 }
 
 /// `ConcatenateResTemplate VALUE and VALUE`: the resource items of both.
-pub fn resources_joined(alloc: Global, rest: &str) -> Result<String, Failure> {
-    let (first, second) = pair(alloc, rest)?;
-    let bytes = concat_resources(alloc, first.content(), second.content())?;
-    Ok(hexadecimal(alloc, bytes.as_slice())?)
+pub fn resources_joined(asked: &mut Exchange) {
+    let first = value_of(asked);
+    let second = value_of(asked);
+    let bytes = concat_resources(asked.alloc(), first.content(), second.content());
+    say_octets(asked, bytes);
 }
 
 /// `truncate WIDTH NUMBER`: the lowest bits of a number of up to 128 bits.
-pub fn truncated(alloc: Global, rest: &str) -> Result<String, Failure> {
-    let (width, number) = first_word(rest)?;
-    let number = u128::from_str_radix(number, 16)?;
-    integer(alloc, truncate(integer_width(width)?, number))
+pub fn truncated(asked: &mut Exchange) {
+    let width = integer_width(asked);
+    match u128::from_str_radix(asked.word(), 16) {
+        Ok(number) => asked.say_hexadecimal(truncate(width, number)),
+        Err(_) => asked.misunderstand(),
+    }
 }
 
 /// `truncate-integer WIDTH NUMBER`: the lowest bits of an integer of 64 bits.
-pub fn integer_truncated(alloc: Global, rest: &str) -> Result<String, Failure> {
-    let (width, number) = first_word(rest)?;
-    integer(alloc, truncate_integer(integer_width(width)?, hex(number)?))
+pub fn integer_truncated(asked: &mut Exchange) {
+    let width = integer_width(asked);
+    let number = asked.hexadecimal(u64::MAX);
+    asked.say_hexadecimal(truncate_integer(width, number));
 }

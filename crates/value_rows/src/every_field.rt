@@ -1,12 +1,11 @@
 //! Every field of up to 70 bits at each of the first 70 bits of a region, against a plain list of bits.
 
-use crate::answers::done;
-use crate::failure::Failure;
 use crate::places::{update_rule, width};
 use aml_fields::{AddressSpace, Region, read_field, write_field};
 use aml_objects::{FieldSource, FieldUnit, UpdateRule};
 use ar_space::{Place, Refusal, Sparse};
 use std::alloc::Global;
+use test_rows::Exchange;
 
 /// How many bytes the region has: the units of the last field end there.
 const BYTES: usize = 24;
@@ -126,30 +125,41 @@ fn is_written_well(space: &mut Sparse, field: FieldUnit) -> Result<bool, Refusal
 }
 
 /// Writes a field and reads it again, and says whether both are well.
-fn is_field_well(alloc: Global, space: &mut Sparse, field: FieldUnit) -> Result<bool, Refusal> {
-    if !is_written_well(space, field)? {
-        return Ok(false);
+fn is_field_well(alloc: Global, space: &mut Sparse, field: FieldUnit) -> bool {
+    let Ok(true) = is_written_well(space, field) else {
+        return false;
+    };
+    match read_field(alloc, space, REGION, field) {
+        Ok(read) => is_read_well(read.as_slice(), field),
+        Err(_) => false,
     }
-    let read = read_field(alloc, space, REGION, field)?;
-    Ok(is_read_well(read.as_slice(), field))
 }
 
 /// The first field of up to 70 bits at a bit that is not well.
-fn first_ill(alloc: Global, space: &mut Sparse, shape: FieldUnit) -> Result<Option<u32>, Refusal> {
+fn first_ill(alloc: Global, space: &mut Sparse, shape: FieldUnit) -> Option<u32> {
     for bits in 1..=70u32 {
-        let field = FieldUnit { bits, ..shape };
-        if !is_field_well(alloc, space, field)? {
-            return Ok(Some(bits));
+        if !is_field_well(alloc, space, FieldUnit { bits, ..shape }) {
+            return Some(bits);
         }
     }
-    Ok(None)
+    None
+}
+
+/// Answers with the first field at a bit that is not well, if there is one.
+fn say_first_ill(asked: &mut Exchange, space: &mut Sparse, shape: FieldUnit) {
+    if let Some(bits) = first_ill(asked.alloc(), space, shape) {
+        asked.say("not the");
+        asked.say_number(u64::from(bits));
+        asked.say("bits from");
+        asked.say_number(shape.bit_offset);
+    }
 }
 
 /// `every-field WIDTH RULE`: `done`, or the first field that is not written and read as the specification says.
-pub fn every_field(alloc: Global, rest: &str) -> Result<String, Failure> {
-    let (access, rule) = rest.split_once(' ').ok_or(Failure::NoQuestion)?;
-    let (access, update) = (width(access)?, update_rule(rule)?);
-    let mut space = Sparse::new(alloc);
+pub fn every_field(asked: &mut Exchange) {
+    let access = width(asked);
+    let update = update_rule(asked);
+    let mut space = Sparse::new(asked.alloc());
     for bit_offset in 0..70u64 {
         let shape = FieldUnit {
             source: FieldSource::Region(1),
@@ -158,9 +168,6 @@ pub fn every_field(alloc: Global, rest: &str) -> Result<String, Failure> {
             access,
             update,
         };
-        if let Some(bits) = first_ill(alloc, &mut space, shape)? {
-            return Ok(format!(in alloc; "not the {bits} bits from {bit_offset}")?);
-        }
+        say_first_ill(asked, &mut space, shape);
     }
-    done(alloc)
 }

@@ -1,85 +1,84 @@
 //! Questions of the register space, and of fields of operation regions in it.
 
-use crate::answers::{decimal, done, first_word, hex, sides, word};
-use crate::failure::Failure;
+use crate::answers::say_done;
 use crate::places::{address_space, place, update_rule, width};
+use crate::row::Row;
 use aml_fields::{Region, read_field, write_field};
 use aml_objects::{FieldSource, FieldUnit};
 use ar_space::Sparse;
-use std::alloc::Global;
-use test_rows::{bytes_of, hexadecimal};
+use test_rows::Exchange;
 
 /// `put PLACE: BYTES`: puts bytes from a place on.
-pub fn put(alloc: Global, space: &mut Sparse, rest: &str) -> Result<String, Failure> {
-    let (at, bytes) = sides(rest)?;
-    let mut next = Some(place(alloc, at)?);
-    for byte in bytes_of(alloc, bytes)?.iter() {
-        let at = next.ok_or(Failure::NoQuestion)?;
-        space.put(at, *byte)?;
-        next = at.offset_by(1);
+pub fn put(asked: &mut Exchange, space: &mut Sparse) {
+    let mut next = Some(place(asked));
+    let bytes = asked.bytes();
+    for byte in bytes.iter() {
+        match next {
+            Some(at) => {
+                say_done(asked, space.put(at, *byte));
+                next = at.offset_by(1);
+            }
+            None => asked.misunderstand(),
+        }
     }
-    done(alloc)
 }
 
 /// `byte PLACE`: the byte at a place.
-pub fn byte(alloc: Global, space: &Sparse, rest: &str) -> Result<String, Failure> {
-    match space.byte(place(alloc, rest)?) {
-        Some(byte) => Ok(format!(in alloc; "{byte:02X}")?),
-        None => word(alloc, "none"),
+pub fn byte(asked: &mut Exchange, space: &Sparse) {
+    match space.byte(place(asked)) {
+        Some(byte) => asked.say_bytes(&[byte]),
+        None => asked.say("none"),
     }
 }
 
 /// `region OFFSET LENGTH SPACE`: the operation region that fields lie in.
-pub fn region(alloc: Global, region: &mut Option<Region>, rest: &str) -> Result<String, Failure> {
-    let (offset, rest) = first_word(rest)?;
-    let (length, space) = first_word(rest)?;
-    let words: Vec<&str> = space.split(' ').collect(alloc)?;
-    *region = Some(Region {
-        space: address_space(words.as_slice())?,
-        offset: hex(offset)?,
-        length: decimal(length)? as u64,
-    });
-    done(alloc)
+pub fn region(asked: &mut Exchange) -> Option<Region> {
+    let offset = asked.hexadecimal(u64::MAX);
+    let length = asked.number(u64::MAX);
+    let space = address_space(asked);
+    Some(Region {
+        space,
+        offset,
+        length,
+    })
 }
 
 /// `field OFFSET BITS WIDTH RULE`: a field of the region.
-pub fn field(alloc: Global, field: &mut Option<FieldUnit>, rest: &str) -> Result<String, Failure> {
-    let (offset, rest) = first_word(rest)?;
-    let (bits, rest) = first_word(rest)?;
-    let (access, rule) = first_word(rest)?;
-    *field = Some(FieldUnit {
+pub fn field(asked: &mut Exchange) -> Option<FieldUnit> {
+    let bit_offset = asked.number(u64::MAX);
+    let bits = asked.number(0xFFFF_FFFF) as u32;
+    let access = width(asked);
+    let update = update_rule(asked);
+    Some(FieldUnit {
         source: FieldSource::Region(1),
-        bit_offset: offset.parse::<u64>()?,
-        bits: bits.parse::<u32>()?,
-        access: width(access)?,
-        update: update_rule(rule)?,
-    });
-    done(alloc)
+        bit_offset,
+        bits,
+        access,
+        update,
+    })
 }
 
 /// `read`: the bits of the field.
-pub fn read(
-    alloc: Global,
-    space: &mut Sparse,
-    region: Option<Region>,
-    field: Option<FieldUnit>,
-) -> Result<String, Failure> {
-    let region = region.ok_or(Failure::NoQuestion)?;
-    let field = field.ok_or(Failure::NoQuestion)?;
-    let bits = read_field(alloc, space, region, field)?;
-    Ok(hexadecimal(alloc, bits.as_slice())?)
+pub fn read(asked: &mut Exchange, row: &mut Row) {
+    let (Some(region), Some(field)) = (row.region, row.field) else {
+        asked.misunderstand();
+        return;
+    };
+    match read_field(asked.alloc(), &mut row.space, region, field) {
+        Ok(bits) => asked.say_bytes(bits.as_slice()),
+        Err(refusal) => asked.refuse(refusal.number()),
+    }
 }
 
 /// `write BYTES`: writes these bits into the field.
-pub fn write(
-    alloc: Global,
-    space: &mut Sparse,
-    region: Option<Region>,
-    field: Option<FieldUnit>,
-    rest: &str,
-) -> Result<String, Failure> {
-    let region = region.ok_or(Failure::NoQuestion)?;
-    let field = field.ok_or(Failure::NoQuestion)?;
-    write_field(space, region, field, bytes_of(alloc, rest)?.as_slice())?;
-    done(alloc)
+pub fn write(asked: &mut Exchange, row: &mut Row) {
+    let bytes = asked.bytes();
+    let (Some(region), Some(field)) = (row.region, row.field) else {
+        asked.misunderstand();
+        return;
+    };
+    say_done(
+        asked,
+        write_field(&mut row.space, region, field, bytes.as_slice()),
+    );
 }

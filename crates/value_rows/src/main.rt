@@ -6,7 +6,6 @@ mod answers;
 mod bits;
 mod conversions;
 mod every_field;
-mod failure;
 mod fields;
 mod operands;
 mod operators;

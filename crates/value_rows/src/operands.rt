@@ -1,62 +1,75 @@
 //! What a question writes as the operands of a call.
 
-use crate::answers::{first_word, hex};
-use crate::failure::Failure;
 use aml_objects::Content;
 use ar_space::IntegerWidth;
-use std::alloc::Global;
-use test_rows::bytes_of;
+use test_rows::Exchange;
 
 /// A value that a question writes.
 #[derive(Drop)]
-pub enum Operand {
-    Integer(u64),
-    String(Vec<u8>),
-    Buffer(Vec<u8>),
+pub struct Operand {
+    kind: Kind,
+    integer: u64,
+    bytes: Vec<u8>,
+}
+
+/// The type of a value.
+#[derive(Clone, Copy)]
+enum Kind {
+    Integer,
+    String,
+    Buffer,
     Other,
 }
 
+/// The words for types.
+const KINDS: [(&str, Kind); 4] = [
+    ("integer", Kind::Integer),
+    ("string", Kind::String),
+    ("buffer", Kind::Buffer),
+    ("other", Kind::Other),
+];
+
+/// How wide integers are, by their bits.
+const WIDTHS: [(&str, IntegerWidth); 2] = [
+    ("32", IntegerWidth::Bits32),
+    ("64", IntegerWidth::Bits64),
+];
+
 impl Operand {
     /// The value `integer NUMBER`, `string BYTES`, `buffer BYTES` or `other`.
-    pub fn new(alloc: Global, text: &str) -> Result<Operand, Failure> {
-        let (kind, value) = text.split_once(' ').unwrap_or((text, ""));
-        match kind {
-            "integer" => Ok(Operand::Integer(hex(value)?)),
-            "string" => Ok(Operand::String(bytes_of(alloc, value)?)),
-            "buffer" => Ok(Operand::Buffer(bytes_of(alloc, value)?)),
-            "other" => Ok(Operand::Other),
-            _ => Err(Failure::NoQuestion),
+    fn new(asked: &mut Exchange, text: &str) -> Operand {
+        let (kind, written) = text.split_once(' ').unwrap_or((text, ""));
+        let kind = asked.one_of(&KINDS, kind, Kind::Other);
+        let integer = match kind {
+            Kind::Integer => asked.digits(written, 16, u64::MAX),
+            _ => 0,
+        };
+        Operand {
+            kind,
+            integer,
+            bytes: asked.bytes_of(written),
         }
     }
 
     /// The value as conversions and operators see it.
     pub fn content(&self) -> Content<'_> {
-        match self {
-            Operand::Integer(number) => Content::Integer(*number),
-            Operand::String(bytes) => Content::String(bytes.as_slice()),
-            Operand::Buffer(bytes) => Content::Buffer(bytes.as_slice()),
-            Operand::Other => Content::Other,
+        match self.kind {
+            Kind::Integer => Content::Integer(self.integer),
+            Kind::String => Content::String(self.bytes.as_slice()),
+            Kind::Buffer => Content::Buffer(self.bytes.as_slice()),
+            Kind::Other => Content::Other,
         }
     }
 }
 
-/// How wide integers are, by their bits.
-pub fn integer_width(text: &str) -> Result<IntegerWidth, Failure> {
-    match text {
-        "32" => Ok(IntegerWidth::Bits32),
-        "64" => Ok(IntegerWidth::Bits64),
-        _ => Err(Failure::NoQuestion),
-    }
+/// How wide integers are.
+pub fn integer_width(asked: &mut Exchange) -> IntegerWidth {
+    let bits = asked.word();
+    asked.one_of(&WIDTHS, bits, IntegerWidth::Bits64)
 }
 
-/// A width and a value: `64 integer 1F`.
-pub fn one(alloc: Global, text: &str) -> Result<(IntegerWidth, Operand), Failure> {
-    let (width, value) = first_word(text)?;
-    Ok((integer_width(width)?, Operand::new(alloc, value)?))
-}
-
-/// Two values: `integer 1F and string "A"`.
-pub fn pair(alloc: Global, text: &str) -> Result<(Operand, Operand), Failure> {
-    let (first, second) = text.split_once(" and ").ok_or(Failure::NoQuestion)?;
-    Ok((Operand::new(alloc, first)?, Operand::new(alloc, second)?))
+/// The value that stands before ` and `, or that all that is left is.
+pub fn value_of(asked: &mut Exchange) -> Operand {
+    let text = asked.until(" and ");
+    Operand::new(asked, text)
 }

@@ -1,93 +1,116 @@
 //! Questions of operators on integers.
 
-use crate::answers::{first_word, hex, integer, yes_or_no};
-use crate::failure::Failure;
+use crate::answers::say_integer;
 use crate::operands::integer_width;
 use aml_convert::{
     BinaryOperator, LogicalOperator, UnaryOperator, divide, is_true, logical_not, operate,
     operate_logically, operate_on_one, truth,
 };
-use ar_space::IntegerWidth;
-use std::alloc::Global;
+use test_rows::Exchange;
 
-/// A width and an integer: `32 FF`.
-fn one_integer(text: &str) -> Result<(IntegerWidth, u64), Failure> {
-    let (width, x) = first_word(text)?;
-    Ok((integer_width(width)?, hex(x)?))
-}
+/// The operators that take two integers and give one, by their names in ASL.
+const BINARY: [(&str, BinaryOperator); 11] = [
+    ("Add", BinaryOperator::Add),
+    ("Subtract", BinaryOperator::Subtract),
+    ("Multiply", BinaryOperator::Multiply),
+    ("Mod", BinaryOperator::Mod),
+    ("And", BinaryOperator::And),
+    ("NAnd", BinaryOperator::Nand),
+    ("Or", BinaryOperator::Or),
+    ("NOr", BinaryOperator::Nor),
+    ("XOr", BinaryOperator::Xor),
+    ("ShiftLeft", BinaryOperator::ShiftLeft),
+    ("ShiftRight", BinaryOperator::ShiftRight),
+];
 
-/// A width and two integers: `32 FF 1`.
-fn two_integers(text: &str) -> Result<(IntegerWidth, u64, u64), Failure> {
-    let (width, integers) = first_word(text)?;
-    let (x, y) = first_word(integers)?;
-    Ok((integer_width(width)?, hex(x)?, hex(y)?))
-}
+/// The operators that take one integer, by their names in ASL.
+const UNARY: [(&str, UnaryOperator); 3] = [
+    ("Not", UnaryOperator::Not),
+    ("FindSetLeftBit", UnaryOperator::FindSetLeftBit),
+    ("FindSetRightBit", UnaryOperator::FindSetRightBit),
+];
 
-/// An operator that takes two integers and gives one, by its name in ASL.
-fn binary_operator(name: &str) -> Result<BinaryOperator, Failure> {
-    match name {
-        "Add" => Ok(BinaryOperator::Add),
-        "Subtract" => Ok(BinaryOperator::Subtract),
-        "Multiply" => Ok(BinaryOperator::Multiply),
-        "Mod" => Ok(BinaryOperator::Mod),
-        "And" => Ok(BinaryOperator::And),
-        "NAnd" => Ok(BinaryOperator::Nand),
-        "Or" => Ok(BinaryOperator::Or),
-        "NOr" => Ok(BinaryOperator::Nor),
-        "XOr" => Ok(BinaryOperator::Xor),
-        "ShiftLeft" => Ok(BinaryOperator::ShiftLeft),
-        "ShiftRight" => Ok(BinaryOperator::ShiftRight),
-        _ => Err(Failure::NoQuestion),
-    }
+/// The operators on two truth values, by their names in ASL.
+const LOGICAL: [(&str, LogicalOperator); 2] = [
+    ("LAnd", LogicalOperator::And),
+    ("LOr", LogicalOperator::Or),
+];
+
+/// An integer in hexadecimal digits.
+fn integer(asked: &mut Exchange) -> u64 {
+    asked.hexadecimal(u64::MAX)
 }
 
 /// `Add WIDTH X Y`, and so each other operator on two integers.
-pub fn operated(alloc: Global, name: &str, rest: &str) -> Result<String, Failure> {
-    let operator = binary_operator(name)?;
-    let (width, x, y) = two_integers(rest)?;
-    integer(alloc, operate(operator, width, x, y)?)
+fn operated(asked: &mut Exchange, name: &str) {
+    let operator = asked.one_of(&BINARY, name, BinaryOperator::Add);
+    let width = integer_width(asked);
+    let x = integer(asked);
+    let y = integer(asked);
+    say_integer(asked, operate(operator, width, x, y));
 }
 
 /// `Divide X Y`: the quotient and the remainder.
-pub fn divided(alloc: Global, rest: &str) -> Result<String, Failure> {
-    let (x, y) = first_word(rest)?;
-    let division = divide(hex(x)?, hex(y)?)?;
-    let (quotient, remainder) = (division.quotient, division.remainder);
-    Ok(format!(in alloc; "quotient {quotient:X} remainder {remainder:X}")?)
+fn divided(asked: &mut Exchange) {
+    let x = integer(asked);
+    let y = integer(asked);
+    match divide(x, y) {
+        Ok(division) => {
+            asked.say("quotient");
+            asked.say_hexadecimal(division.quotient);
+            asked.say("remainder");
+            asked.say_hexadecimal(division.remainder);
+        }
+        Err(refusal) => asked.refuse(refusal.number()),
+    }
 }
 
 /// `Not WIDTH X`, `FindSetLeftBit WIDTH X`, `FindSetRightBit WIDTH X`.
-pub fn operated_on_one(
-    alloc: Global,
-    operator: UnaryOperator,
-    rest: &str,
-) -> Result<String, Failure> {
-    let (width, x) = one_integer(rest)?;
-    integer(alloc, operate_on_one(operator, width, x))
+fn operated_on_one(asked: &mut Exchange, name: &str) {
+    let operator = asked.one_of(&UNARY, name, UnaryOperator::Not);
+    let width = integer_width(asked);
+    let x = integer(asked);
+    asked.say_hexadecimal(operate_on_one(operator, width, x));
 }
 
 /// `LAnd WIDTH X Y`, `LOr WIDTH X Y`.
-pub fn operated_logically(
-    alloc: Global,
-    operator: LogicalOperator,
-    rest: &str,
-) -> Result<String, Failure> {
-    let (width, x, y) = two_integers(rest)?;
-    integer(alloc, operate_logically(operator, width, x, y))
+fn operated_logically(asked: &mut Exchange, name: &str) {
+    let operator = asked.one_of(&LOGICAL, name, LogicalOperator::And);
+    let width = integer_width(asked);
+    let x = integer(asked);
+    let y = integer(asked);
+    asked.say_hexadecimal(operate_logically(operator, width, x, y));
 }
 
 /// `LNot WIDTH X`.
-pub fn logically_not(alloc: Global, rest: &str) -> Result<String, Failure> {
-    let (width, x) = one_integer(rest)?;
-    integer(alloc, logical_not(width, x))
+fn logically_not(asked: &mut Exchange) {
+    let width = integer_width(asked);
+    let x = integer(asked);
+    asked.say_hexadecimal(logical_not(width, x));
 }
 
 /// `true WIDTH`, `false WIDTH`: a truth value as an integer.
-pub fn truth_value(alloc: Global, holds: bool, rest: &str) -> Result<String, Failure> {
-    integer(alloc, truth(integer_width(rest)?, holds))
+fn truth_value(asked: &mut Exchange, holds: bool) {
+    let width = integer_width(asked);
+    asked.say_hexadecimal(truth(width, holds));
 }
 
 /// `is-true X`: whether an integer stands for true.
-pub fn stands_for_true(alloc: Global, rest: &str) -> Result<String, Failure> {
-    yes_or_no(alloc, is_true(hex(rest)?))
+fn stands_for_true(asked: &mut Exchange) {
+    let x = integer(asked);
+    asked.say_whether(is_true(x));
+}
+
+/// Questions of operators.
+pub fn answer(asked: &mut Exchange, word: &str) {
+    match word {
+        "Divide" => divided(asked),
+        "Not" | "FindSetLeftBit" | "FindSetRightBit" => operated_on_one(asked, word),
+        "LAnd" | "LOr" => operated_logically(asked, word),
+        "LNot" => logically_not(asked),
+        "true" => truth_value(asked, true),
+        "false" => truth_value(asked, false),
+        "is-true" => stands_for_true(asked),
+        _ => operated(asked, word),
+    }
 }
