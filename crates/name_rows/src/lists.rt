@@ -2,11 +2,12 @@
 
 use crate::parts;
 use crate::shown::show_list;
-use crate::words::{Fault, counted, done, path, two, word};
+use crate::words::{path, refuse};
+use aml_path::Path;
 use aml_terms::{Arities, Term, parse_list, parse_table};
 use std::alloc::Global;
 use std::mem;
-use test_rows::bytes_of;
+use test_rows::Exchange;
 
 /// How many arguments names take, and the terms that were read last.
 #[derive(Drop)]
@@ -15,11 +16,12 @@ pub struct Lists {
     terms: Vec<Term>,
 }
 
-/// The scope that a list is read in, and its bytes: the root where no scope is given.
-fn scope_and_bytes(rest: &str) -> (&str, &str) {
-    match rest.strip_prefix("in ") {
-        Some(scoped) => two(scoped),
-        None => ("\\", rest),
+/// The scope that a list is read in: the root where no scope is given.
+fn scope(asked: &mut Exchange) -> Path {
+    if asked.takes("in ") {
+        path(asked)
+    } else {
+        Path::root(asked.alloc())
     }
 }
 
@@ -33,79 +35,79 @@ impl Lists {
     }
 
     /// Notes how many arguments a name takes.
-    fn note(&mut self, alloc: Global, rest: &str, external: bool) -> Result<String, Fault> {
-        let (text, count) = two(rest);
-        match count.parse::<u8>() {
-            Ok(count) => self.arities.add(path(alloc, text)?, count, external)?,
-            Err(_) => return Err(Fault::NotUnderstood),
+    fn note(&mut self, asked: &mut Exchange, external: bool) {
+        let path = path(asked);
+        let count = asked.number(0xFF) as u8;
+        if asked.is_well() && self.arities.add(path, count, external).is_err() {
+            asked.run_out();
         }
-        done(alloc)
     }
 
     /// Reads a list of terms.
-    fn read(&mut self, alloc: Global, rest: &str, body: bool) -> Result<(), Fault> {
-        let (scope, text) = scope_and_bytes(rest);
-        let scope = path(alloc, scope)?;
-        let bytes = bytes_of(alloc, text)?;
-        self.terms = parse_list(alloc, bytes.as_slice(), &scope, body, &self.arities)?;
-        Ok(())
+    fn read(&mut self, asked: &mut Exchange, body: bool) {
+        let scope = scope(asked);
+        let bytes = asked.bytes();
+        match parse_list(asked.alloc(), bytes.as_slice(), &scope, body, &self.arities) {
+            Ok(terms) => self.terms = terms,
+            Err(refusal) => refuse(asked, refusal),
+        }
     }
 
     /// The terms of a list.
-    fn terms(&mut self, alloc: Global, rest: &str, body: bool) -> Result<String, Fault> {
-        self.read(alloc, rest, body)?;
-        Ok(show_list(alloc, self.terms.as_slice())?)
+    fn terms(&mut self, asked: &mut Exchange, body: bool) {
+        self.read(asked, body);
+        show_list(asked, self.terms.as_slice());
     }
 
     /// How many terms a list has.
-    fn count(&mut self, alloc: Global, rest: &str) -> Result<String, Fault> {
-        let (kind, list) = two(rest);
-        self.read(alloc, list, kind == "body")?;
-        counted(alloc, self.terms.len())
+    fn count(&mut self, asked: &mut Exchange) {
+        let kind = asked.word();
+        self.read(asked, kind == "body");
+        asked.say_number(self.terms.len() as u64);
     }
 
     /// Reads a whole table, after which the names that it declares are known.
-    fn load(&mut self, alloc: Global, rest: &str) -> Result<String, Fault> {
-        let bytes = bytes_of(alloc, rest)?;
-        let (terms, after) = parse_table(alloc, bytes.as_slice(), &self.arities)?;
-        self.terms = terms;
-        self.arities = after;
-        counted(alloc, self.terms.len())
+    fn load(&mut self, asked: &mut Exchange) {
+        let bytes = asked.bytes();
+        match parse_table(asked.alloc(), bytes.as_slice(), &self.arities) {
+            Ok((terms, after)) => {
+                self.terms = terms;
+                self.arities = after;
+                asked.say_number(self.terms.len() as u64);
+            }
+            Err(refusal) => refuse(asked, refusal),
+        }
     }
 
     /// How many arguments a name takes.
-    fn arity(&self, alloc: Global, rest: &str) -> Result<String, Fault> {
-        match self.arities.arity_at(&path(alloc, rest)?) {
-            Some(count) => counted(alloc, usize::from(count)),
-            None => Ok(word(alloc, "none")?),
+    fn arity(&self, asked: &mut Exchange) {
+        let path = path(asked);
+        match self.arities.arity_at(&path) {
+            Some(count) => asked.say_number(u64::from(count)),
+            None => asked.say("none"),
         }
     }
 
     /// How many entries there are of names that take arguments, taken out and put back.
-    fn entries(&mut self, alloc: Global) -> Result<String, Fault> {
-        let arities = mem::replace(&mut self.arities, Arities::new(alloc));
+    fn entries(&mut self, asked: &mut Exchange) {
+        let arities = mem::replace(&mut self.arities, Arities::new(asked.alloc()));
         self.arities = Arities::from_vec(arities.into_vec());
-        counted(alloc, self.arities.entries().len())
+        asked.say_number(self.arities.entries().len() as u64);
     }
 
-    /// The answer to a question about lists of terms, if it is one.
-    pub fn answer(
-        &mut self,
-        alloc: Global,
-        word: &str,
-        rest: &str,
-    ) -> Result<Option<String>, Fault> {
-        let answer = match word {
-            "takes" => self.note(alloc, rest, false)?,
-            "external" => self.note(alloc, rest, true)?,
-            "table" => self.terms(alloc, rest, false)?,
-            "body" => self.terms(alloc, rest, true)?,
-            "count" => self.count(alloc, rest)?,
-            "load" => self.load(alloc, rest)?,
-            "arity" => self.arity(alloc, rest)?,
-            "arities" => self.entries(alloc)?,
-            _ => return parts::answer(alloc, self.terms.as_slice(), word, rest),
-        };
-        Ok(Some(answer))
+    /// Answers a question about lists of terms, and says whether it is one.
+    pub fn answer(&mut self, asked: &mut Exchange, word: &str) -> bool {
+        match word {
+            "takes" => self.note(asked, false),
+            "external" => self.note(asked, true),
+            "table" => self.terms(asked, false),
+            "body" => self.terms(asked, true),
+            "count" => self.count(asked),
+            "load" => self.load(asked),
+            "arity" => self.arity(asked),
+            "arities" => self.entries(asked),
+            _ => return parts::answer(asked, self.terms.as_slice(), word),
+        }
+        true
     }
 }

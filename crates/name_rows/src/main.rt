@@ -16,13 +16,12 @@ mod words;
 use crate::lists::Lists;
 use crate::namespace::Namespace;
 use crate::objects::Objects;
-use crate::words::{Fault, told, two};
 use ar_space::Refusal;
-use std::alloc::Global;
+use std::alloc::{AllocError, Global};
 use std::io;
 use std::process::ExitCode;
 use std::rt::Files;
-use test_rows::{Question, Subject, difference, judge_rows};
+use test_rows::{Exchange, Question, Subject, judge_rows};
 
 /// What the questions of a row are put to: lists of terms, objects, and a namespace. Paths need nothing that lasts.
 #[derive(Drop)]
@@ -42,22 +41,19 @@ impl Names {
         })
     }
 
-    /// The answer to a question.
-    fn answer(&mut self, alloc: Global, asked: &str) -> Result<String, Fault> {
-        let (word, rest) = two(asked);
-        if let Some(answer) = paths::answer(alloc, word, rest)? {
-            return Ok(answer);
+    /// Puts a question, and gives what is answered in place of what is wanted.
+    fn put(&mut self, alloc: Global, line: &str) -> Result<Option<String>, AllocError> {
+        let question = Question::new(line);
+        let mut asked = Exchange::new(alloc, question.asked);
+        let word = asked.word();
+        let is_answered = paths::answer(&mut asked, word)
+            || self.lists.answer(&mut asked, word)
+            || self.objects.answer(&mut asked, word)
+            || self.namespace.answer(&mut asked, word);
+        if !is_answered {
+            asked.misunderstand();
         }
-        if let Some(answer) = self.lists.answer(alloc, word, rest)? {
-            return Ok(answer);
-        }
-        if let Some(answer) = self.objects.answer(alloc, word, rest)? {
-            return Ok(answer);
-        }
-        match self.namespace.answer(alloc, word, rest)? {
-            Some(answer) => Ok(answer),
-            None => Err(Fault::NotUnderstood),
-        }
+        asked.difference(&question)
     }
 }
 
@@ -70,13 +66,7 @@ impl Subject for Names {
     }
 
     fn take<R: Files + AllocGlobal>(&mut self, rt: &R, line: &str) -> io::Result<Option<String>> {
-        let alloc = rt.alloc();
-        let question = Question::new(line);
-        let answered = match self.answer(alloc, question.asked) {
-            Ok(answer) => answer,
-            Err(fault) => told(alloc, fault)?,
-        };
-        Ok(difference(alloc, &question, answered.as_str())?)
+        Ok(self.put(rt.alloc(), line)?)
     }
 
     fn end<R: Files + AllocGlobal>(&mut self, _rt: &R) -> io::Result<Option<String>> {

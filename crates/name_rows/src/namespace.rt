@@ -3,7 +3,7 @@
 use crate::agreement::agreed;
 use crate::shown::show_segment;
 use crate::values::{object, show_object};
-use crate::words::{Fault, done, name, number, path, refused, scoped, truth, two, word};
+use crate::words::{name, number, path, refuse, say_done, scope, show_path};
 use aml_namespace::{Call, Names, Reply};
 use aml_objects::Entry;
 use aml_path::{Path, Seg};
@@ -11,6 +11,7 @@ use ar_space::Refusal;
 use std::alloc::Global;
 use std::collections::VecDeque;
 use std::mem;
+use test_rows::Exchange;
 
 /// The namespace, and the calls that are answered next.
 #[derive(Drop)]
@@ -19,108 +20,90 @@ pub struct Namespace {
     calls: VecDeque<Call>,
 }
 
-/// The number of a declaration, as an answer.
-fn numbered(alloc: Global, number: u64) -> Result<String, Fault> {
-    Ok(format!(in alloc; "{number}")?)
-}
-
-/// A declaration: its number, and what was declared.
-fn show_entry(alloc: Global, entry: &Entry) -> Result<String, Fault> {
-    let object = show_object(alloc, &entry.object)?;
-    let number = entry.number;
-    Ok(format!(in alloc; "{number} {object}")?)
-}
-
-/// Puts one more word to an answer.
-fn append(text: &mut String, between: &str, word: &str) -> Result<(), Fault> {
-    if !text.is_empty() {
-        text.push_str(between)?;
-    }
-    text.push_str(word)?;
-    Ok(())
+/// Answers a declaration: its number, and what was declared.
+fn show_entry(asked: &mut Exchange, entry: &Entry) {
+    asked.say_number(entry.number);
+    show_object(asked, &entry.object);
 }
 
 /// Paths in their order, and `none` where there is none.
-fn show_paths(alloc: Global, paths: &[Path]) -> Result<String, Fault> {
-    let mut text = String::new(alloc);
+fn show_paths(asked: &mut Exchange, paths: &[Path]) {
+    asked.say(if paths.is_empty() { "none" } else { "" });
     for path in paths {
-        append(&mut text, " ", path.text(alloc)?.as_str())?;
+        show_path(asked, path);
     }
-    or_none(alloc, text)
 }
 
 /// Segments in their order, and `none` where there is none.
-fn show_segments(alloc: Global, segments: &[Seg]) -> Result<String, Fault> {
-    let mut text = String::new(alloc);
+fn show_segments(asked: &mut Exchange, segments: &[Seg]) {
+    asked.say(if segments.is_empty() { "none" } else { "" });
     for segment in segments {
-        append(&mut text, " ", show_segment(alloc, *segment)?.as_str())?;
+        asked.separate(" ");
+        show_segment(asked, *segment);
     }
-    or_none(alloc, text)
-}
-
-/// An answer, or `none` where it is empty.
-fn or_none(alloc: Global, text: String) -> Result<String, Fault> {
-    if text.is_empty() {
-        return Ok(word(alloc, "none")?);
-    }
-    Ok(text)
 }
 
 /// The number of a declaration, or the refusal.
-fn show_outcome(alloc: Global, outcome: &Result<u64, Refusal>) -> Result<String, Fault> {
+fn show_outcome(asked: &mut Exchange, outcome: &Result<u64, Refusal>) {
     match outcome {
-        Ok(number) => numbered(alloc, *number),
-        Err(refusal) => Ok(refused(alloc, refusal)?),
+        Ok(number) => asked.say_number(*number),
+        Err(refusal) => {
+            asked.say("refused");
+            asked.say_number(u64::from(refusal.number()));
+        }
     }
 }
 
 /// What a call answered.
-fn show_reply(alloc: Global, reply: &Reply) -> Result<String, Fault> {
+fn show_reply(asked: &mut Exchange, reply: &Reply) {
     match reply {
         Reply::Declared(outcome) => {
-            let outcome = show_outcome(alloc, outcome)?;
-            Ok(format!(in alloc; "declared {outcome}")?)
+            asked.say("declared");
+            show_outcome(asked, outcome);
         }
-        Reply::Removed => Ok(word(alloc, "removed")?),
+        Reply::Removed => asked.say("removed"),
         Reply::Found(outcome) => {
-            let outcome = show_outcome(alloc, outcome)?;
-            Ok(format!(in alloc; "found {outcome}")?)
+            asked.say("found");
+            show_outcome(asked, outcome);
         }
     }
 }
 
 /// What calls answered, in their order.
-fn show_replies(alloc: Global, replies: &[Reply]) -> Result<String, Fault> {
-    let mut text = String::new(alloc);
+fn show_replies(asked: &mut Exchange, replies: &[Reply]) {
+    asked.say(if replies.is_empty() { "none" } else { "" });
     for reply in replies {
-        append(&mut text, ", ", show_reply(alloc, reply)?.as_str())?;
+        asked.separate(",");
+        show_reply(asked, reply);
     }
-    or_none(alloc, text)
 }
 
-/// A call that a question has.
-fn call(alloc: Global, rest: &str) -> Result<Call, Fault> {
-    let (kind, what) = two(rest);
-    match kind {
+/// A call that a question has: clearing the root where it is none.
+fn call(asked: &mut Exchange) -> Call {
+    match asked.word() {
         "declare" => {
-            let (place, declared) = two(what);
-            Ok(Call::Insert(path(alloc, place)?, object(alloc, declared)?))
+            let place = path(asked);
+            Call::Insert(place, object(asked))
         }
-        "clear" => Ok(Call::RemoveBelow(path(alloc, what)?)),
         "lookup" => {
-            let (text, scope) = scoped(what);
-            Ok(Call::Lookup(path(alloc, scope)?, name(alloc, text)?))
+            let name = name(asked);
+            Call::Lookup(scope(asked), name)
         }
-        _ => Err(Fault::NotUnderstood),
+        "clear" => Call::RemoveBelow(path(asked)),
+        _ => {
+            asked.misunderstand();
+            Call::RemoveBelow(Path::root(asked.alloc()))
+        }
     }
 }
 
 /// Whether the namespace agrees with an ordered map over random calls.
-fn agreement(alloc: Global, rest: &str) -> Result<String, Fault> {
-    let (count, seed) = two(rest);
-    match (count.parse::<u32>(), seed.parse::<u64>()) {
-        (Ok(count), Ok(seed)) => truth(alloc, agreed(alloc, count, seed)?),
-        _ => Err(Fault::NotUnderstood),
+fn agreement(asked: &mut Exchange) {
+    let count = asked.number(0xFFFF_FFFF) as u32;
+    let seed = number(asked);
+    match agreed(asked.alloc(), count, seed) {
+        Ok(agree) => asked.say_whether(agree),
+        Err(refusal) => refuse(asked, refusal),
     }
 }
 
@@ -134,117 +117,132 @@ impl Namespace {
     }
 
     /// Declares a name, and gives the number of the declaration.
-    fn declare(&mut self, alloc: Global, rest: &str) -> Result<String, Fault> {
-        let (place, declared) = two(rest);
-        let number = self
-            .names
-            .insert(path(alloc, place)?, object(alloc, declared)?)?;
-        numbered(alloc, number)
+    fn declare(&mut self, asked: &mut Exchange) {
+        let place = path(asked);
+        let object = object(asked);
+        if asked.is_well() {
+            match self.names.insert(place, object) {
+                Ok(number) => asked.say_number(number),
+                Err(refusal) => refuse(asked, refusal),
+            }
+        }
     }
 
     /// Puts something else in place of what stands at a path.
-    fn replace(&mut self, alloc: Global, rest: &str) -> Result<String, Fault> {
-        let (place, declared) = two(rest);
-        self.names
-            .replace(&path(alloc, place)?, object(alloc, declared)?)?;
-        done(alloc)
+    fn replace(&mut self, asked: &mut Exchange) {
+        let place = path(asked);
+        let object = object(asked);
+        if asked.is_well() {
+            say_done(asked, self.names.replace(&place, object));
+        }
     }
 
     /// Removes the names below a path.
-    fn clear(&mut self, alloc: Global, rest: &str) -> Result<String, Fault> {
-        self.names.remove_below(&path(alloc, rest)?);
-        done(alloc)
-    }
-
-    /// Releases every mutex.
-    fn release(&mut self, alloc: Global) -> Result<String, Fault> {
-        self.names.release_mutexes();
-        done(alloc)
+    fn clear(&mut self, asked: &mut Exchange) {
+        let path = path(asked);
+        if asked.is_well() {
+            self.names.remove_below(&path);
+        }
     }
 
     /// What stands at a path.
-    fn get(&self, alloc: Global, rest: &str) -> Result<String, Fault> {
-        match self.names.get(&path(alloc, rest)?) {
-            Some(entry) => show_entry(alloc, entry),
-            None => Ok(word(alloc, "none")?),
+    fn get(&self, asked: &mut Exchange) {
+        let path = path(asked);
+        match self.names.get(&path) {
+            Some(entry) => show_entry(asked, entry),
+            None => asked.say("none"),
         }
     }
 
     /// The path of a declaration that stands.
-    fn at_number(&self, alloc: Global, rest: &str) -> Result<String, Fault> {
-        let number = number(rest)? as u64;
+    fn at_number(&self, asked: &mut Exchange) {
+        let number = number(asked);
         match self.names.numbered(number) {
-            Some(found) => Ok(found.0.text(alloc)?),
-            None => Ok(word(alloc, "none")?),
+            Some(found) => show_path(asked, &found.0),
+            None => asked.say("none"),
         }
     }
 
     /// What a name finds from a scope.
-    fn lookup(&self, alloc: Global, rest: &str) -> Result<String, Fault> {
-        let (text, scope) = scoped(rest);
-        let entry = self
-            .names
-            .lookup(&path(alloc, scope)?, &name(alloc, text)?)?;
-        show_entry(alloc, entry)
+    fn lookup(&self, asked: &mut Exchange) {
+        let name = name(asked);
+        let scope = scope(asked);
+        match self.names.lookup(&scope, &name) {
+            Ok(entry) => show_entry(asked, entry),
+            Err(refusal) => refuse(asked, refusal),
+        }
     }
 
     /// The path of what a name finds from a scope.
-    fn locate(&self, alloc: Global, rest: &str) -> Result<String, Fault> {
-        let (text, scope) = scoped(rest);
-        let place = self
-            .names
-            .locate(&path(alloc, scope)?, &name(alloc, text)?)?;
-        Ok(place.text(alloc)?)
+    fn locate(&self, asked: &mut Exchange) {
+        let name = name(asked);
+        let scope = scope(asked);
+        match self.names.locate(&scope, &name) {
+            Ok(place) => show_path(asked, place),
+            Err(refusal) => refuse(asked, refusal),
+        }
     }
 
     /// The paths of all names but the root.
-    fn walk(&self, alloc: Global) -> Result<String, Fault> {
-        let paths = self.names.walk(alloc)?;
-        show_paths(alloc, paths.as_slice())
+    fn walk(&self, asked: &mut Exchange) {
+        match self.names.walk(asked.alloc()) {
+            Ok(paths) => show_paths(asked, paths.as_slice()),
+            Err(refusal) => refuse(asked, refusal),
+        }
     }
 
     /// The last segments of the names one level below a path.
-    fn children(&self, alloc: Global, rest: &str) -> Result<String, Fault> {
-        let segments = self.names.children(alloc, &path(alloc, rest)?)?;
-        show_segments(alloc, segments.as_slice())
+    fn children(&self, asked: &mut Exchange) {
+        let path = path(asked);
+        match self.names.children(asked.alloc(), &path) {
+            Ok(segments) => show_segments(asked, segments.as_slice()),
+            Err(refusal) => refuse(asked, refusal),
+        }
     }
 
     /// Puts down a call that is answered later.
-    fn call(&mut self, alloc: Global, rest: &str) -> Result<String, Fault> {
-        self.calls.push_back(call(alloc, rest)?)?;
-        done(alloc)
+    fn call(&mut self, asked: &mut Exchange) {
+        let call = call(asked);
+        if asked.is_well() && self.calls.push_back(call).is_err() {
+            asked.run_out();
+        }
     }
 
     /// Answers the calls that were put down.
-    fn answer_calls(&mut self, alloc: Global) -> Result<String, Fault> {
-        let calls = mem::replace(&mut self.calls, VecDeque::new(alloc));
-        let replies = self.names.answer_all(alloc, calls)?;
-        show_replies(alloc, replies.as_slice())
+    fn answer_calls(&mut self, asked: &mut Exchange) {
+        let calls = mem::replace(&mut self.calls, VecDeque::new(asked.alloc()));
+        match self.names.answer_all(asked.alloc(), calls) {
+            Ok(replies) => show_replies(asked, replies.as_slice()),
+            Err(refusal) => refuse(asked, refusal),
+        }
     }
 
-    /// The answer to a question about the namespace, if it is one.
-    pub fn answer(
-        &mut self,
-        alloc: Global,
-        word: &str,
-        rest: &str,
-    ) -> Result<Option<String>, Fault> {
-        let answer = match word {
-            "declare" => self.declare(alloc, rest)?,
-            "replace" => self.replace(alloc, rest)?,
-            "clear" => self.clear(alloc, rest)?,
-            "release" => self.release(alloc)?,
-            "get" => self.get(alloc, rest)?,
-            "numbered" => self.at_number(alloc, rest)?,
-            "lookup" => self.lookup(alloc, rest)?,
-            "locate" => self.locate(alloc, rest)?,
-            "walk" => self.walk(alloc)?,
-            "children" => self.children(alloc, rest)?,
-            "call" => self.call(alloc, rest)?,
-            "answer" => self.answer_calls(alloc)?,
-            "agree" => agreement(alloc, rest)?,
-            _ => return Ok(None),
-        };
-        Ok(Some(answer))
+    /// Answers a question that changes the namespace, and says whether it is one.
+    fn answer_changes(&mut self, asked: &mut Exchange, word: &str) -> bool {
+        match word {
+            "declare" => self.declare(asked),
+            "replace" => self.replace(asked),
+            "clear" => self.clear(asked),
+            "release" => self.names.release_mutexes(),
+            "call" => self.call(asked),
+            "answer" => self.answer_calls(asked),
+            _ => return false,
+        }
+        true
+    }
+
+    /// Answers a question about the namespace, and says whether it is one.
+    pub fn answer(&mut self, asked: &mut Exchange, word: &str) -> bool {
+        match word {
+            "get" => self.get(asked),
+            "numbered" => self.at_number(asked),
+            "lookup" => self.lookup(asked),
+            "locate" => self.locate(asked),
+            "walk" => self.walk(asked),
+            "children" => self.children(asked),
+            "agree" => agreement(asked),
+            _ => return self.answer_changes(asked, word),
+        }
+        true
     }
 }

@@ -1,10 +1,9 @@
 //! Questions about the parts of terms that were read.
 
 use crate::shown::{show_code, show_name};
-use crate::words::{Fault, number, two, word};
+use crate::words::{count, refuse, say_of};
 use aml_terms::{OperandView, Term, TermPart, TermReader};
-use std::alloc::Global;
-use test_rows::hexadecimal;
+use test_rows::Exchange;
 
 /// An item of a list, from 0.
 fn item(list: TermPart<'_>, index: usize) -> Option<TermPart<'_>> {
@@ -33,76 +32,75 @@ fn below(part: TermPart<'_>, index: usize) -> Option<TermPart<'_>> {
 }
 
 /// The part at a place, as `1.0` for the operand 0 of the item 1.
-fn part_at<'a>(terms: &'a [Term], place: &str) -> Result<Option<TermPart<'a>>, Fault> {
+fn part_at<'a>(asked: &mut Exchange, terms: &'a [Term]) -> Option<TermPart<'a>> {
     let mut part = TermPart::List(terms);
-    for step in place.split('.') {
-        match below(part, number(step)?) {
+    for step in asked.word().split('.') {
+        let index = asked.digits(step, 10, u64::MAX) as usize;
+        match below(part, index) {
             Some(found) => part = found,
-            None => return Ok(None),
+            None => return None,
         }
     }
-    Ok(Some(part))
+    Some(part)
 }
 
-/// The term at a place, of which an operand is asked for, with the operand's index.
-fn operand_of<'a>(terms: &'a [Term], rest: &str) -> Result<(TermPart<'a>, usize), Fault> {
-    let (place, index) = two(rest);
-    match part_at(terms, place)? {
-        Some(part) => Ok((part, number(index)?)),
-        None => Err(Fault::NotUnderstood),
+/// What an operand is.
+fn show_operand(asked: &mut Exchange, operand: OperandView<TermPart<'_>>) {
+    match operand {
+        OperandView::Absent => asked.say("absent"),
+        OperandView::Null => asked.say("null"),
+        OperandView::Name => asked.say("name"),
+        OperandView::Number(number) => say_of(asked, "number", number),
+        OperandView::Bytes => asked.say("bytes"),
+        OperandView::Term(_) => asked.say("term"),
+        OperandView::List(_) => asked.say("list"),
+    }
+}
+
+/// The name that is an operand.
+fn operand_name(asked: &mut Exchange, part: TermPart<'_>, index: usize) {
+    match part.name(asked.alloc(), index) {
+        Ok(name) => show_name(asked, &name),
+        Err(refusal) => refuse(asked, refusal),
+    }
+}
+
+/// The bytes that are an operand.
+fn operand_bytes(asked: &mut Exchange, part: TermPart<'_>, index: usize) {
+    match part.bytes(asked.alloc(), index) {
+        Ok(bytes) => asked.say_bytes(bytes.as_slice()),
+        Err(refusal) => refuse(asked, refusal),
+    }
+}
+
+/// Answers a question about an operand of a term.
+fn of_operand(asked: &mut Exchange, terms: &[Term], word: &str) {
+    let Some(part) = part_at(asked, terms) else {
+        asked.misunderstand();
+        return;
+    };
+    let index = count(asked);
+    match word {
+        "operand" => show_operand(asked, part.operand(index)),
+        "operand-name" => operand_name(asked, part, index),
+        _ => operand_bytes(asked, part, index),
     }
 }
 
 /// The code of the term at a place, and `none` where no term is.
-fn code(alloc: Global, terms: &[Term], place: &str) -> Result<String, Fault> {
-    match part_at(terms, place)? {
-        Some(part) => Ok(show_code(alloc, part.code())?),
-        None => Ok(word(alloc, "none")?),
+fn code(asked: &mut Exchange, terms: &[Term]) {
+    match part_at(asked, terms) {
+        Some(part) => show_code(asked, part.code()),
+        None => asked.say("none"),
     }
 }
 
-/// What an operand is.
-fn operand(alloc: Global, terms: &[Term], rest: &str) -> Result<String, Fault> {
-    let (part, index) = operand_of(terms, rest)?;
-    let kind = match part.operand(index) {
-        OperandView::Absent => "absent",
-        OperandView::Null => "null",
-        OperandView::Name => "name",
-        OperandView::Number(number) => return Ok(format!(in alloc; "number {number}")?),
-        OperandView::Bytes => "bytes",
-        OperandView::Term(_) => "term",
-        OperandView::List(_) => "list",
-    };
-    Ok(word(alloc, kind)?)
-}
-
-/// The name that is an operand.
-fn operand_name(alloc: Global, terms: &[Term], rest: &str) -> Result<String, Fault> {
-    let (part, index) = operand_of(terms, rest)?;
-    let name = part.name(alloc, index)?;
-    Ok(show_name(alloc, &name)?)
-}
-
-/// The bytes that are an operand.
-fn operand_bytes(alloc: Global, terms: &[Term], rest: &str) -> Result<String, Fault> {
-    let (part, index) = operand_of(terms, rest)?;
-    let bytes = part.bytes(alloc, index)?;
-    Ok(hexadecimal(alloc, bytes.as_slice())?)
-}
-
-/// The answer to a question about the parts of terms, if it is one.
-pub fn answer(
-    alloc: Global,
-    terms: &[Term],
-    word: &str,
-    rest: &str,
-) -> Result<Option<String>, Fault> {
-    let answer = match word {
-        "code" => code(alloc, terms, rest)?,
-        "operand" => operand(alloc, terms, rest)?,
-        "operand-name" => operand_name(alloc, terms, rest)?,
-        "operand-bytes" => operand_bytes(alloc, terms, rest)?,
-        _ => return Ok(None),
-    };
-    Ok(Some(answer))
+/// Answers a question about the parts of terms, and says whether it is one.
+pub fn answer(asked: &mut Exchange, terms: &[Term], word: &str) -> bool {
+    match word {
+        "code" => code(asked, terms),
+        "operand" | "operand-name" | "operand-bytes" => of_operand(asked, terms, word),
+        _ => return false,
+    }
+    true
 }

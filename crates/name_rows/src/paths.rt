@@ -1,202 +1,172 @@
 //! Questions about segments, paths and names.
 
 use crate::shown::{show_name, show_segment};
-use crate::words::{Fault, counted, name, number, path, scoped, truth, two, word};
+use crate::words::{byte, count, name, path, path_of, refuse, say_path, scope, segment, show_path};
 use aml_path::{Path, Seg, is_lead_name_char, is_name_char};
-use std::alloc::Global;
 use std::cmp::Ordering;
-use test_rows::bytes_of;
-
-/// The segment of the first four bytes of a text of bytes.
-fn segment(alloc: Global, text: &str) -> Result<Seg, Fault> {
-    let bytes = bytes_of(alloc, text)?;
-    match bytes.as_slice() {
-        [first, second, third, fourth] => Ok(Seg::new([*first, *second, *third, *fourth])?),
-        _ => Err(Fault::NotUnderstood),
-    }
-}
+use test_rows::Exchange;
 
 /// A path with shorter segments filled up.
-fn full(alloc: Global, text: &str) -> Result<String, Fault> {
-    Ok(path(alloc, text)?.text(alloc)?)
-}
-
-/// A segment by its four bytes.
-fn segment_text(alloc: Global, text: &str) -> Result<String, Fault> {
-    Ok(show_segment(alloc, segment(alloc, text)?)?)
-}
-
-/// The segment that is known without a test.
-fn known(alloc: Global) -> Result<String, Fault> {
-    Ok(show_segment(alloc, Seg::known(*b"_SB_"))?)
-}
-
-/// Whether a segment is the one that is known without a test.
-fn is_known(alloc: Global, text: &str) -> Result<String, Fault> {
-    truth(alloc, segment(alloc, text)? == Seg::known(*b"_SB_"))
+fn full(asked: &mut Exchange) {
+    let text = asked.rest();
+    let path = path_of(asked, text);
+    show_path(asked, &path);
 }
 
 /// The path of one segment.
-fn of_segment(alloc: Global, text: &str) -> Result<String, Fault> {
-    let mut segments = Vec::new(alloc);
-    segments.push(segment(alloc, text)?)?;
-    Ok(Path::from_vec(segments).text(alloc)?)
+fn of_segment(asked: &mut Exchange) {
+    let segment = segment(asked);
+    let child = Path::root(asked.alloc()).child(asked.alloc(), segment);
+    say_path(asked, child);
 }
 
 /// The path one segment below another.
-fn child(alloc: Global, rest: &str) -> Result<String, Fault> {
-    let (above, last) = two(rest);
-    let child = path(alloc, above)?.child(alloc, segment(alloc, last)?)?;
-    Ok(child.text(alloc)?)
+fn child(asked: &mut Exchange) {
+    let above = path(asked);
+    let segment = segment(asked);
+    let child = above.child(asked.alloc(), segment);
+    say_path(asked, child);
 }
 
 /// The path one level up.
-fn parent(alloc: Global, text: &str) -> Result<String, Fault> {
-    match path(alloc, text)?.parent(alloc)? {
-        Some(parent) => Ok(parent.text(alloc)?),
-        None => Ok(word(alloc, "none")?),
+fn parent(asked: &mut Exchange) {
+    let below = path(asked);
+    match below.parent(asked.alloc()) {
+        Ok(Some(parent)) => show_path(asked, &parent),
+        Ok(None) => asked.say("none"),
+        Err(refusal) => refuse(asked, refusal),
     }
 }
 
 /// How many segments a path has.
-fn depth(alloc: Global, text: &str) -> Result<String, Fault> {
-    counted(alloc, path(alloc, text)?.depth())
+fn depth(asked: &mut Exchange) {
+    let depth = path(asked).depth();
+    asked.say_number(depth as u64);
 }
 
 /// The path of the first segments of a path.
-fn first(alloc: Global, rest: &str) -> Result<String, Fault> {
-    let (count, text) = two(rest);
-    let whole = path(alloc, text)?;
-    let depth = number(count)?;
+fn first(asked: &mut Exchange) {
+    let depth = count(asked);
+    let whole = path(asked);
     if depth > whole.depth() {
-        return Err(Fault::NotUnderstood);
+        asked.misunderstand();
+    } else {
+        let first = whole.prefix(asked.alloc(), depth);
+        say_path(asked, first);
     }
-    Ok(whole.prefix(alloc, depth)?.text(alloc)?)
 }
 
 /// The segments of a path below the first segments of another.
-fn joined(alloc: Global, rest: &str) -> Result<String, Fault> {
-    let (count, texts) = two(rest);
-    let (front, back) = two(texts);
-    let whole = path(alloc, front)?;
-    let below = path(alloc, back)?;
-    let depth = number(count)?;
+fn joined(asked: &mut Exchange) {
+    let depth = count(asked);
+    let whole = path(asked);
+    let below = path(asked);
     if depth > whole.depth() {
-        return Err(Fault::NotUnderstood);
+        asked.misunderstand();
+    } else {
+        let joined = whole.below_prefix(asked.alloc(), depth, below.segments());
+        say_path(asked, joined);
     }
-    let joined = whole.below_prefix(alloc, depth, below.segments())?;
-    Ok(joined.text(alloc)?)
 }
 
 /// Whether a path is below another.
-fn is_below(alloc: Global, rest: &str) -> Result<String, Fault> {
-    let (low, high) = two(rest);
-    truth(alloc, path(alloc, low)?.is_below(&path(alloc, high)?))
+fn is_below(asked: &mut Exchange) {
+    let low = path(asked);
+    let high = path(asked);
+    asked.say_whether(low.is_below(&high));
 }
 
 /// The order of two paths.
-fn compared(alloc: Global, rest: &str) -> Result<String, Fault> {
-    let (one, other) = two(rest);
-    let order = match path(alloc, one)?.cmp(&path(alloc, other)?) {
+fn compared(asked: &mut Exchange) {
+    let one = path(asked);
+    let other = path(asked);
+    asked.say(match one.cmp(&other) {
         Ordering::Less => "before",
         Ordering::Equal => "equal",
         Ordering::Greater => "after",
-    };
-    Ok(word(alloc, order)?)
+    });
 }
 
 /// Whether two texts are the same path.
-fn is_same(alloc: Global, rest: &str) -> Result<String, Fault> {
-    let (one, other) = two(rest);
-    truth(alloc, path(alloc, one)? == path(alloc, other)?)
-}
-
-/// A name by its prefix and its segments.
-fn name_text(alloc: Global, text: &str) -> Result<String, Fault> {
-    Ok(show_name(alloc, &name(alloc, text)?)?)
+fn is_same(asked: &mut Exchange) {
+    let one = path(asked);
+    let other = path(asked);
+    asked.say_whether(one == other);
 }
 
 /// A copy of a name.
-fn copied(alloc: Global, text: &str) -> Result<String, Fault> {
-    let copy = name(alloc, text)?.copy(alloc)?;
-    Ok(show_name(alloc, &copy)?)
-}
-
-/// Whether a name is the null name.
-fn is_null(alloc: Global, text: &str) -> Result<String, Fault> {
-    truth(alloc, name(alloc, text)?.is_null())
-}
-
-/// Whether a name is searched for in the scopes above.
-fn is_searched(alloc: Global, text: &str) -> Result<String, Fault> {
-    truth(alloc, name(alloc, text)?.is_searched())
+fn copied(asked: &mut Exchange) {
+    let name = name(asked);
+    match name.copy(asked.alloc()) {
+        Ok(copy) => show_name(asked, &copy),
+        Err(refusal) => refuse(asked, refusal),
+    }
 }
 
 /// The path that a name stands for in a scope.
-fn resolved(alloc: Global, rest: &str) -> Result<String, Fault> {
-    let (text, scope) = scoped(rest);
-    let place = name(alloc, text)?.resolve_in(alloc, &path(alloc, scope)?)?;
-    Ok(place.text(alloc)?)
+fn resolved(asked: &mut Exchange) {
+    let name = name(asked);
+    let scope = scope(asked);
+    let place = name.resolve_in(asked.alloc(), &scope);
+    say_path(asked, place);
 }
 
-/// The one byte of a text of bytes.
-fn byte(alloc: Global, text: &str) -> Result<u8, Fault> {
-    match bytes_of(alloc, text)?.as_slice() {
-        [byte] => Ok(*byte),
-        _ => Err(Fault::NotUnderstood),
+/// A question about a segment.
+fn of_segments(asked: &mut Exchange, word: &str) {
+    let segment = segment(asked);
+    match word {
+        "segment" => show_segment(asked, segment),
+        _ => asked.say_whether(segment == Seg::known(*b"_SB_")),
     }
 }
 
-/// Whether a segment may begin with a byte.
-fn is_lead(alloc: Global, text: &str) -> Result<String, Fault> {
-    truth(alloc, is_lead_name_char(byte(alloc, text)?))
-}
-
-/// Whether a byte may stand in a segment behind the first.
-fn is_further(alloc: Global, text: &str) -> Result<String, Fault> {
-    truth(alloc, is_name_char(byte(alloc, text)?))
-}
-
-/// The answer to a question about paths.
-fn of_paths(alloc: Global, word: &str, rest: &str) -> Result<Option<String>, Fault> {
-    let answer = match word {
-        "path" => full(alloc, rest)?,
-        "child" => child(alloc, rest)?,
-        "parent" => parent(alloc, rest)?,
-        "depth" => depth(alloc, rest)?,
-        "first" => first(alloc, rest)?,
-        "join" => joined(alloc, rest)?,
-        "below" => is_below(alloc, rest)?,
-        "compare" => compared(alloc, rest)?,
-        "same" => is_same(alloc, rest)?,
-        _ => return Ok(None),
-    };
-    Ok(Some(answer))
-}
-
-/// The answer to a question about segments, names and characters.
-fn of_names(alloc: Global, word: &str, rest: &str) -> Result<Option<String>, Fault> {
-    let answer = match word {
-        "segment" => segment_text(alloc, rest)?,
-        "path-of-segment" => of_segment(alloc, rest)?,
-        "known" => known(alloc)?,
-        "is-known" => is_known(alloc, rest)?,
-        "name" => name_text(alloc, rest)?,
-        "copy-name" => copied(alloc, rest)?,
-        "null" => is_null(alloc, rest)?,
-        "searched" => is_searched(alloc, rest)?,
-        "resolve" => resolved(alloc, rest)?,
-        "lead" => is_lead(alloc, rest)?,
-        "further" => is_further(alloc, rest)?,
-        _ => return Ok(None),
-    };
-    Ok(Some(answer))
-}
-
-/// The answer to a question about segments, paths and names, if it is one.
-pub fn answer(alloc: Global, word: &str, rest: &str) -> Result<Option<String>, Fault> {
-    match of_paths(alloc, word, rest)? {
-        Some(answer) => Ok(Some(answer)),
-        None => of_names(alloc, word, rest),
+/// A question about a name.
+fn of_names(asked: &mut Exchange, word: &str) {
+    let name = name(asked);
+    match word {
+        "name" => show_name(asked, &name),
+        "null" => asked.say_whether(name.is_null()),
+        _ => asked.say_whether(name.is_searched()),
     }
+}
+
+/// A question about a character of names.
+fn of_characters(asked: &mut Exchange, word: &str) {
+    let byte = byte(asked);
+    match word {
+        "lead" => asked.say_whether(is_lead_name_char(byte)),
+        _ => asked.say_whether(is_name_char(byte)),
+    }
+}
+
+/// Answers a question about segments, names and characters, and says whether it is one.
+fn answer_of_names(asked: &mut Exchange, word: &str) -> bool {
+    match word {
+        "segment" | "is-known" => of_segments(asked, word),
+        "path-of-segment" => of_segment(asked),
+        "known" => show_segment(asked, Seg::known(*b"_SB_")),
+        "name" | "null" | "searched" => of_names(asked, word),
+        "copy-name" => copied(asked),
+        "resolve" => resolved(asked),
+        "lead" | "further" => of_characters(asked, word),
+        _ => return false,
+    }
+    true
+}
+
+/// Answers a question about segments, paths and names, and says whether it is one.
+pub fn answer(asked: &mut Exchange, word: &str) -> bool {
+    match word {
+        "path" => full(asked),
+        "child" => child(asked),
+        "parent" => parent(asked),
+        "depth" => depth(asked),
+        "first" => first(asked),
+        "join" => joined(asked),
+        "below" => is_below(asked),
+        "compare" => compared(asked),
+        "same" => is_same(asked),
+        _ => return answer_of_names(asked, word),
+    }
+    true
 }

@@ -2,54 +2,54 @@
 
 use aml_path::{NameString, Prefix, Seg};
 use aml_terms::{Operand, Term, TermCode};
-use ar_space::Refusal;
-use std::alloc::Global;
+use std::alloc::{AllocError, Global};
+use test_rows::{Exchange, hexadecimal};
 
 /// `[` terms separated by commas `]`.
 #[cycle(show)]
-pub fn show_list(alloc: Global, terms: &[Term]) -> Result<String, Refusal> {
-    let mut text = String::from_str(alloc, "[")?;
+pub fn show_list(asked: &mut Exchange, terms: &[Term]) {
+    asked.push("[");
     for (index, term) in terms.iter().enumerate() {
-        if index > 0 {
-            text.push(',')?;
-        }
-        text.push_str(show_term(alloc, term)?.as_str())?;
+        asked.push(if index > 0 { "," } else { "" });
+        show_term(asked, term);
     }
-    text.push(']')?;
-    Ok(text)
+    asked.push("]");
 }
 
 /// The code of a term, and its operands between brackets if it has any.
 #[cycle(show)]
-fn show_term(alloc: Global, term: &Term) -> Result<String, Refusal> {
-    let mut text = show_code(alloc, term.code)?;
+fn show_term(asked: &mut Exchange, term: &Term) {
+    show_code(asked, term.code);
     for (index, operand) in term.operands.iter().enumerate() {
-        text.push(if index == 0 { '(' } else { ',' })?;
-        text.push_str(show_operand(alloc, operand)?.as_str())?;
+        asked.push(if index == 0 { "(" } else { "," });
+        show_operand(asked, operand);
     }
-    if !term.operands.is_empty() {
-        text.push(')')?;
-    }
-    Ok(text)
+    asked.push(if term.operands.is_empty() { "" } else { ")" });
 }
 
 /// An operand of a term.
 #[cycle(show)]
-fn show_operand(alloc: Global, operand: &Operand) -> Result<String, Refusal> {
+fn show_operand(asked: &mut Exchange, operand: &Operand) {
     match operand {
-        Operand::Null => Ok(String::from_str(alloc, "-")?),
-        Operand::Name(name) => show_name(alloc, name),
-        Operand::Number(number) => Ok(format!(in alloc; "{number}")?),
-        Operand::Bytes(bytes) => show_bytes(alloc, bytes),
-        Operand::Term(term) => show_term(alloc, term),
-        Operand::List(terms) => show_list(alloc, terms),
+        Operand::Null => asked.push("-"),
+        Operand::Name(name) => show_name(asked, name),
+        Operand::Number(number) => show_number(asked, *number),
+        Operand::Bytes(bytes) => show_bytes(asked, bytes),
+        Operand::Term(term) => show_term(asked, term),
+        Operand::List(terms) => show_list(asked, terms),
     }
 }
 
-/// An opcode in hexadecimal, and a word for a term without one.
-pub fn show_code(alloc: Global, code: TermCode) -> Result<String, Refusal> {
-    let name = match code {
-        TermCode::Opcode(opcode) => return Ok(format!(in alloc; "{:02X}", opcode.number())?),
+/// A number in decimal digits.
+fn show_number(asked: &mut Exchange, number: u64) {
+    let digits = format!(in asked.alloc(); "{number}");
+    asked.push_text(digits);
+}
+
+/// The words for the terms without an opcode.
+fn word_of(code: TermCode) -> &'static str {
+    match code {
+        TermCode::Opcode(_) => "opcode",
         TermCode::Name => "name",
         TermCode::MethodInvocation => "call",
         TermCode::NamedField => "field",
@@ -57,44 +57,47 @@ pub fn show_code(alloc: Global, code: TermCode) -> Result<String, Refusal> {
         TermCode::AccessField => "access",
         TermCode::ExtendedAccessField => "extended",
         TermCode::ConnectField => "connect",
-    };
-    Ok(String::from_str(alloc, name)?)
+    }
+}
+
+/// An opcode in hexadecimal, and a word for a term without one.
+pub fn show_code(asked: &mut Exchange, code: TermCode) {
+    if let TermCode::Opcode(opcode) = code {
+        let digits = format!(in asked.alloc(); "{:02X}", opcode.number());
+        asked.push_text(digits);
+    } else {
+        asked.push(word_of(code));
+    }
 }
 
 /// The `\` or the `^` that a name begins with.
-fn show_prefix(alloc: Global, prefix: Prefix) -> Result<String, Refusal> {
-    let mut text = String::new(alloc);
+fn show_prefix(asked: &mut Exchange, prefix: Prefix) {
     match prefix {
-        Prefix::Root => text.push('\\')?,
+        Prefix::Root => asked.push("\\"),
         Prefix::Parents(count) => {
             for _ in 0..count {
-                text.push('^')?;
+                asked.push("^");
             }
         }
     }
-    Ok(text)
 }
 
 /// A name as ASL writes it, its segments filled up.
-pub fn show_name(alloc: Global, name: &NameString) -> Result<String, Refusal> {
-    let mut text = show_prefix(alloc, name.prefix())?;
+pub fn show_name(asked: &mut Exchange, name: &NameString) {
+    show_prefix(asked, name.prefix());
     for (index, segment) in name.segments().iter().enumerate() {
-        if index > 0 {
-            text.push('.')?;
-        }
-        text.push_str(show_segment(alloc, *segment)?.as_str())?;
+        asked.push(if index > 0 { "." } else { "" });
+        show_segment(asked, *segment);
     }
-    Ok(text)
 }
 
 /// The four characters of a segment.
-pub fn show_segment(alloc: Global, segment: Seg) -> Result<String, Refusal> {
-    let bytes = segment.bytes();
-    show_characters(alloc, &bytes)
+pub fn show_segment(asked: &mut Exchange, segment: Seg) {
+    show_characters(asked, &segment.bytes());
 }
 
 /// Bytes as the characters that they are.
-pub fn show_characters(alloc: Global, bytes: &[u8]) -> Result<String, Refusal> {
+fn characters(alloc: Global, bytes: &[u8]) -> Result<String, AllocError> {
     let mut text = String::new(alloc);
     for byte in bytes {
         text.push(char::from(*byte))?;
@@ -102,12 +105,18 @@ pub fn show_characters(alloc: Global, bytes: &[u8]) -> Result<String, Refusal> {
     Ok(text)
 }
 
+/// Answers bytes as the characters that they are.
+pub fn show_characters(asked: &mut Exchange, bytes: &[u8]) {
+    let text = characters(asked.alloc(), bytes);
+    asked.push_text(text);
+}
+
 /// `<` bytes in hexadecimal `>`.
-fn show_bytes(alloc: Global, bytes: &[u8]) -> Result<String, Refusal> {
-    let mut text = String::from_str(alloc, "<")?;
-    for byte in bytes {
-        text.push_str(format!(in alloc; "{byte:02X}")?.as_str())?;
+fn show_bytes(asked: &mut Exchange, bytes: &[u8]) {
+    asked.push("<");
+    if !bytes.is_empty() {
+        let digits = hexadecimal(asked.alloc(), bytes);
+        asked.push_text(digits);
     }
-    text.push('>')?;
-    Ok(text)
+    asked.push(">");
 }

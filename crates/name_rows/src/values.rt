@@ -1,134 +1,149 @@
 //! Values, elements of packages, and what stands at names, as text.
 
 use crate::shown::show_name;
-use crate::words::{Fault, name, number, path, scoped, two, word};
+use crate::words::{count, name, number, path, refuse, say_of, scope, show_path};
 use aml_objects::{Element, NamedObject, Reference, Slot, Value};
-use std::alloc::Global;
+use ar_space::Refusal;
+use test_rows::Exchange;
 
-/// The slot of a frame, as `Local 0 of frame 3`.
-fn slot(kind: &str, rest: &str) -> Result<Value, Fault> {
-    let (index, frame) = rest.split_once(" of frame ").unwrap_or((rest, ""));
-    let index = match index.parse::<u8>() {
-        Ok(index) => index,
-        Err(_) => return Err(Fault::NotUnderstood),
-    };
-    let slot = if kind == "Local" {
-        Slot::Local(index)
-    } else {
-        Slot::Argument(index)
-    };
-    Ok(Value::Reference(Reference::Slot(integer(frame)?, slot)))
-}
-
-/// An integer that a question has.
-fn integer(text: &str) -> Result<u64, Fault> {
-    match text.parse::<u64>() {
-        Ok(number) => Ok(number),
-        Err(_) => Err(Fault::NotUnderstood),
+/// The slot of a frame, as `0 of frame 3`, and its word before it.
+fn slot(asked: &mut Exchange, kind: &str) -> Value {
+    let index = asked.number(0xFF) as u8;
+    if asked.until(" ") != "of" || asked.until(" ") != "frame" {
+        asked.misunderstand();
     }
+    let frame = number(asked);
+    let slot = match kind {
+        "Local" => Slot::Local(index),
+        _ => Slot::Argument(index),
+    };
+    Value::Reference(Reference::Slot(frame, slot))
 }
 
 /// A value that a question has.
-pub fn value(text: &str) -> Result<Value, Fault> {
-    let (kind, rest) = two(text);
+pub fn value(asked: &mut Exchange) -> Value {
+    let kind = asked.word();
     match kind {
-        "Uninitialized" => Ok(Value::Uninitialized),
-        "Integer" => Ok(Value::Integer(integer(rest)?)),
-        "String" => Ok(Value::String(number(rest)?)),
-        "Buffer" => Ok(Value::Buffer(number(rest)?)),
-        "Package" => Ok(Value::Package(number(rest)?)),
-        "Local" | "Arg" => slot(kind, rest),
-        _ => Err(Fault::NotUnderstood),
+        "Integer" => Value::Integer(number(asked)),
+        "String" => Value::String(count(asked)),
+        "Buffer" => Value::Buffer(count(asked)),
+        "Package" => Value::Package(count(asked)),
+        "Local" | "Arg" => slot(asked, kind),
+        "Uninitialized" => Value::Uninitialized,
+        _ => {
+            asked.misunderstand();
+            Value::Uninitialized
+        }
     }
 }
 
 /// An element of a package that a question has: a value, or `name NAME in SCOPE`.
-pub fn element(alloc: Global, text: &str) -> Result<Element, Fault> {
-    match text.strip_prefix("name ") {
-        Some(rest) => {
-            let (text, scope) = scoped(rest);
-            Ok(Element::Name(name(alloc, text)?, path(alloc, scope)?))
-        }
-        None => Ok(Element::Value(value(text)?)),
+pub fn element(asked: &mut Exchange) -> Element {
+    if asked.takes("name ") {
+        let name = name(asked);
+        Element::Name(name, scope(asked))
+    } else {
+        Element::Value(value(asked))
     }
 }
 
 /// What is declared at a name, that a question has.
-pub fn object(alloc: Global, text: &str) -> Result<NamedObject, Fault> {
-    let (kind, rest) = two(text);
-    match kind {
-        "Device" => Ok(NamedObject::Device),
-        "Event" => Ok(NamedObject::Event),
-        "Mutex" => Ok(NamedObject::Mutex(integer(rest)?)),
-        "Data" => Ok(NamedObject::Data(value(rest)?)),
-        "Alias" => Ok(NamedObject::Alias(path(alloc, rest)?)),
-        _ => Err(Fault::NotUnderstood),
+pub fn object(asked: &mut Exchange) -> NamedObject {
+    match asked.word() {
+        "Device" => NamedObject::Device,
+        "Event" => NamedObject::Event,
+        "Mutex" => NamedObject::Mutex(number(asked)),
+        "Data" => NamedObject::Data(value(asked)),
+        "Alias" => NamedObject::Alias(path(asked)),
+        _ => {
+            asked.misunderstand();
+            NamedObject::Event
+        }
     }
 }
 
 /// What a reference refers to.
-fn show_reference(alloc: Global, reference: Reference) -> Result<String, Fault> {
-    let text = match reference {
-        Reference::Name(number) => format!(in alloc; "declaration {number}"),
-        Reference::Slot(frame, Slot::Local(index)) => {
-            format!(in alloc; "Local {index} of frame {frame}")
+fn show_reference(asked: &mut Exchange, reference: Reference) {
+    let (word, number, of, whole) = match reference {
+        Reference::Name(number) => {
+            say_of(asked, "declaration", number);
+            return;
         }
+        Reference::Slot(frame, Slot::Local(index)) => (
+            "Local",
+            u64::from(index),
+            "of frame",
+            frame,
+        ),
         Reference::Slot(frame, Slot::Argument(index)) => {
-            format!(in alloc; "Arg {index} of frame {frame}")
+            ("Arg", u64::from(index), "of frame", frame)
         }
-        Reference::Element(object, index) => format!(in alloc; "element {index} of {object}"),
-        Reference::Byte(object, index) => format!(in alloc; "byte {index} of {object}"),
+        Reference::Element(object, index) => ("element", index as u64, "of", object as u64),
+        Reference::Byte(object, index) => ("byte", index as u64, "of", object as u64),
     };
-    Ok(text?)
+    say_of(asked, word, number);
+    say_of(asked, of, whole);
 }
 
-/// A value as an answer.
-pub fn show_value(alloc: Global, value: Value) -> Result<String, Fault> {
-    let text = match value {
-        Value::Uninitialized => word(alloc, "Uninitialized"),
-        Value::Integer(number) => format!(in alloc; "Integer {number}"),
-        Value::String(object) => format!(in alloc; "String {object}"),
-        Value::Buffer(object) => format!(in alloc; "Buffer {object}"),
-        Value::Package(object) => format!(in alloc; "Package {object}"),
-        Value::Reference(reference) => return show_reference(alloc, reference),
-    };
-    Ok(text?)
+/// Answers a value.
+fn show_value(asked: &mut Exchange, value: Value) {
+    match value {
+        Value::Uninitialized => asked.say("Uninitialized"),
+        Value::Integer(number) => say_of(asked, "Integer", number),
+        Value::String(object) => say_of(asked, "String", object as u64),
+        Value::Buffer(object) => say_of(asked, "Buffer", object as u64),
+        Value::Package(object) => say_of(asked, "Package", object as u64),
+        Value::Reference(reference) => show_reference(asked, reference),
+    }
 }
 
-/// An element of a package as an answer.
-pub fn show_element(alloc: Global, element: &Element) -> Result<String, Fault> {
+/// Answers a value, or the refusal.
+pub fn say_value(asked: &mut Exchange, outcome: Result<Value, Refusal>) {
+    match outcome {
+        Ok(value) => show_value(asked, value),
+        Err(refusal) => refuse(asked, refusal),
+    }
+}
+
+/// Answers an element of a package.
+pub fn show_element(asked: &mut Exchange, element: &Element) {
     match element {
-        Element::Value(value) => show_value(alloc, *value),
+        Element::Value(value) => show_value(asked, *value),
         Element::Name(name, scope) => {
-            let name = show_name(alloc, name)?;
-            let scope = scope.text(alloc)?;
-            Ok(format!(in alloc; "name {name} in {scope}")?)
+            asked.say("name ");
+            show_name(asked, name);
+            asked.say("in");
+            show_path(asked, scope);
         }
     }
 }
 
-/// What was declared at a name, as an answer.
-pub fn show_object(alloc: Global, object: &NamedObject) -> Result<String, Fault> {
-    let kind = match object {
+/// The words for what is declared at names.
+fn kind_of(object: &NamedObject) -> &'static str {
+    match object {
         NamedObject::Scope => "Scope",
         NamedObject::Device => "Device",
         NamedObject::Processor => "Processor",
         NamedObject::PowerResource => "PowerResource",
         NamedObject::ThermalZone => "ThermalZone",
         NamedObject::Method(_) => "Method",
-        NamedObject::Data(value) => {
-            let value = show_value(alloc, *value)?;
-            return Ok(format!(in alloc; "Data {value}")?);
-        }
+        NamedObject::Data(_) => "Data",
         NamedObject::OperationRegion(_) => "OperationRegion",
         NamedObject::FieldUnit(_) => "FieldUnit",
         NamedObject::BufferField(_) => "BufferField",
-        NamedObject::Mutex(count) => return Ok(format!(in alloc; "Mutex {count}")?),
+        NamedObject::Mutex(_) => "Mutex",
         NamedObject::Event => "Event",
-        NamedObject::Alias(path) => {
-            let path = path.text(alloc)?;
-            return Ok(format!(in alloc; "Alias {path}")?);
-        }
-    };
-    Ok(word(alloc, kind)?)
+        NamedObject::Alias(_) => "Alias",
+    }
+}
+
+/// Answers what was declared at a name.
+pub fn show_object(asked: &mut Exchange, object: &NamedObject) {
+    asked.say(kind_of(object));
+    match object {
+        NamedObject::Data(value) => show_value(asked, *value),
+        NamedObject::Mutex(count) => asked.say_number(*count),
+        NamedObject::Alias(path) => show_path(asked, path),
+        _ => {}
+    }
 }

@@ -1,95 +1,85 @@
-//! The words of questions and answers.
+//! The words of questions about names, and what calls give as answers.
 
-use aml_path::{NameString, Path, Prefix};
+use aml_path::{NameString, Path, Prefix, Seg};
 use ar_space::Refusal;
-use std::alloc::{AllocError, AllocFailed, Global};
+use std::alloc::Global;
+use test_rows::Exchange;
 
-/// Why a question has no answer of its own.
-#[derive(Debug, Drop)]
-pub enum Fault {
-    /// The library refuses.
-    Refused(Refusal),
-    /// There is no such question.
-    NotUnderstood,
-}
-
-impl From<Refusal> for Fault {
-    fn from(refusal: Refusal) -> Fault {
-        Fault::Refused(refusal)
-    }
-}
-
-impl From<AllocError> for Fault {
-    fn from(_error: AllocError) -> Fault {
-        Fault::Refused(Refusal::OutOfMemory)
-    }
-}
-
-impl<T: Drop> From<AllocFailed<T>> for Fault {
-    fn from(_error: AllocFailed<T>) -> Fault {
-        Fault::Refused(Refusal::OutOfMemory)
-    }
-}
-
-/// The answer that a fault is: a refusal is its number, and where it is of AML bytes its offset.
-pub fn told(alloc: Global, fault: Fault) -> Result<String, AllocError> {
-    match fault {
-        Fault::Refused(Refusal::Term(fault, offset)) => {
-            let number = Refusal::Term(fault, offset).number();
-            format!(in alloc; "refused {number} at {offset}")
-        }
-        Fault::Refused(refusal) => refused(alloc, &refusal),
-        Fault::NotUnderstood => word(alloc, "not understood"),
-    }
-}
-
-/// A refusal by its number.
-pub fn refused(alloc: Global, refusal: &Refusal) -> Result<String, AllocError> {
+/// Answers that a call refuses: by the refusal's number, and where it is of AML bytes by the offset of the fault.
+pub fn refuse(asked: &mut Exchange, refusal: Refusal) {
     let number = refusal.number();
-    format!(in alloc; "refused {number}")
-}
-
-/// A text of its own.
-pub fn word(alloc: Global, text: &str) -> Result<String, AllocError> {
-    text.to_string(alloc)
-}
-
-/// The answer to a question that only does something.
-pub fn done(alloc: Global) -> Result<String, Fault> {
-    Ok(word(alloc, "done")?)
-}
-
-/// `yes` or `no`.
-pub fn truth(alloc: Global, holds: bool) -> Result<String, Fault> {
-    Ok(word(alloc, if holds { "yes" } else { "no" })?)
-}
-
-/// A number as an answer.
-pub fn counted(alloc: Global, number: usize) -> Result<String, Fault> {
-    Ok(format!(in alloc; "{number}")?)
-}
-
-/// The first word of a text, and the rest behind the blank.
-pub fn two(text: &str) -> (&str, &str) {
-    text.split_once(' ').unwrap_or((text, ""))
-}
-
-/// What stands before the word `in`, and the scope behind it: the root where there is no such word.
-pub fn scoped(text: &str) -> (&str, &str) {
-    text.split_once(" in ").unwrap_or((text, "\\"))
-}
-
-/// A number that a question has.
-pub fn number(text: &str) -> Result<usize, Fault> {
-    match text.parse::<usize>() {
-        Ok(number) => Ok(number),
-        Err(_) => Err(Fault::NotUnderstood),
+    match &refusal {
+        Refusal::Term(_, offset) => asked.refuse_at(number, "at", *offset as u64),
+        _ => asked.refuse(number),
     }
 }
 
-/// A path that a question has.
-pub fn path(alloc: Global, text: &str) -> Result<Path, Refusal> {
-    Path::from_text(alloc, text.as_bytes())
+/// Answers what a call that only does something gives.
+pub fn say_done(asked: &mut Exchange, outcome: Result<(), Refusal>) {
+    if let Err(refusal) = outcome {
+        refuse(asked, refusal);
+    }
+}
+
+/// Answers a path, or the refusal.
+pub fn say_path(asked: &mut Exchange, outcome: Result<Path, Refusal>) {
+    match outcome {
+        Ok(path) => show_path(asked, &path),
+        Err(refusal) => refuse(asked, refusal),
+    }
+}
+
+/// Answers a path.
+pub fn show_path(asked: &mut Exchange, path: &Path) {
+    match path.text(asked.alloc()) {
+        Ok(text) => asked.say(text.as_str()),
+        Err(refusal) => refuse(asked, refusal),
+    }
+}
+
+/// Answers a number behind a word.
+pub fn say_of(asked: &mut Exchange, word: &str, number: u64) {
+    asked.say(word);
+    asked.say_number(number);
+}
+
+/// A number in decimal digits.
+pub fn number(asked: &mut Exchange) -> u64 {
+    asked.number(u64::MAX)
+}
+
+/// A number of things in decimal digits.
+pub fn count(asked: &mut Exchange) -> usize {
+    asked.number(u64::MAX) as usize
+}
+
+/// What a path that was read comes to: the root where it is none.
+fn path_or_root(asked: &mut Exchange, read: Result<Path, Refusal>) -> Path {
+    match read {
+        Ok(path) => path,
+        Err(refusal) => {
+            refuse(asked, refusal);
+            Path::root(asked.alloc())
+        }
+    }
+}
+
+/// The path that a text is.
+pub fn path_of(asked: &mut Exchange, text: &str) -> Path {
+    let read = Path::from_text(asked.alloc(), text.as_bytes());
+    path_or_root(asked, read)
+}
+
+/// The path that the next word is.
+pub fn path(asked: &mut Exchange) -> Path {
+    let text = asked.word();
+    path_of(asked, text)
+}
+
+/// The path of the scope behind a name: the root where none is given.
+pub fn scope(asked: &mut Exchange) -> Path {
+    let text = asked.word();
+    path_of(asked, if text.is_empty() { "\\" } else { text })
 }
 
 /// How many `^` a text has.
@@ -105,21 +95,50 @@ fn carets(text: &str) -> usize {
 
 /// The segments of a name, as the path that they make below the root.
 fn below_root(alloc: Global, text: &str) -> Result<Path, Refusal> {
-    let mut below = String::from_str(alloc, "\\")?;
-    for character in text.chars() {
-        if character != '\\' && character != '^' && character != '-' {
-            below.push(character)?;
+    let mut below = Vec::from_slice(alloc, b"\\")?;
+    for byte in text.bytes() {
+        if !matches!(&byte, b'\\' | b'^' | b'-') {
+            below.push(byte)?;
         }
     }
-    path(alloc, below.as_str())
+    Path::from_text(alloc, below.as_slice())
 }
 
-/// A name that a question has, as ASL writes it: `\FOO`, `^^FOO.BAR`, `FOO`, and `-` for the null name.
-pub fn name(alloc: Global, text: &str) -> Result<NameString, Refusal> {
+/// The name before ` in `, or that all that is left is, as ASL writes it: `\FOO`, `^^FOO.BAR`, `FOO`, and `-` for the null name.
+pub fn name(asked: &mut Exchange) -> NameString {
+    let text = asked.until(" in ");
     let prefix = if text.starts_with('\\') {
         Prefix::Root
     } else {
         Prefix::Parents(carets(text))
     };
-    Ok(NameString::new(prefix, below_root(alloc, text)?.into_vec()))
+    let read = below_root(asked.alloc(), text);
+    let below = path_or_root(asked, read);
+    NameString::new(prefix, below.into_vec())
+}
+
+/// The segment of the four bytes that are left.
+pub fn segment(asked: &mut Exchange) -> Seg {
+    let bytes = asked.bytes();
+    if let [first, second, third, fourth] = bytes.as_slice() {
+        match Seg::new([*first, *second, *third, *fourth]) {
+            Ok(segment) => return segment,
+            Err(refusal) => refuse(asked, refusal),
+        }
+    } else {
+        asked.misunderstand();
+    }
+    Seg::known(*b"____")
+}
+
+/// The one byte that is left.
+pub fn byte(asked: &mut Exchange) -> u8 {
+    let bytes = asked.bytes();
+    match bytes.as_slice() {
+        [byte] => *byte,
+        _ => {
+            asked.misunderstand();
+            0
+        }
+    }
 }
