@@ -60,7 +60,7 @@ skipped p n gives (l ∷ ls) fresh = ap (λ (m : ℕ). m ∷ choice_of ls ((p, n
     go true e = absurd (fresh 0 (omega arith) (path_tells.sound p l.path e))
     go false e = ap (λ b. if b then n else given_to gives l.path) e
 
-choice_given : (links : List OfferingLink) (choice : List ℕ) → IsDistinct (paths_of links) → length links ≡ length choice → choice_of links (gives_of links choice) ≡ choice
+pub choice_given : (links : List OfferingLink) (choice : List ℕ) → IsDistinct (paths_of links) → length links ≡ length choice → choice_of links (gives_of links choice) ≡ choice
 choice_given [] [] d e = refl
 choice_given [] (n ∷ ns) d e = absurd (omega arith)
 choice_given (l ∷ ls) [] d e = absurd (omega arith)

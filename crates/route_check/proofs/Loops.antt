@@ -58,9 +58,6 @@ distinct_failed xs i d h c distinct =
     let x = get_or xs i d in
     distinct c.0 i x (omega arith) h (sym (get_or-take i xs c.0 x (omega arith)) ∙ (c.2 ∙ get_or_default xs i d x h))
 
-pub distinct_done : {K : Type 0} (xs : List K) (i : ℕ) → length xs ≤ i → IsDistinct (take i xs) → IsTrue true ↔ IsDistinct xs
-distinct_done {K} xs i h d = let P : List K → Type 0 = λ ys. IsDistinct ys in yes (subst P (take_all i xs h) d)
-
 -- the same over the keys of some elements, by the element that was read
 pub distinct_keys_more : {X K : Type 0} (f : X → K) (xs : List X) (i : ℕ) (x : X) → i < length xs → x ≡ get_or xs i x → IsDistinct (map f (take i xs)) → (Contains (map f (take i xs)) (f x) → ⊥) → IsDistinct (map f (take (i + 1) xs))
 distinct_keys_more {X} {K} f xs i x h is distinct fresh =
@@ -86,17 +83,3 @@ distinct_keys_done {X} f xs i h d = let P : List X → Type 0 = λ ys. IsDistinc
 -- the same by the element that was read
 pub found_at_element : {X K : Type 0} (f : X → K) (xs : List X) (i : ℕ) (x : X) (k : K) → i < length xs → x ≡ get_or xs i x → f x ≡ k → Contains (map f xs) k
 found_at_element f xs i x k h is e = found_at f xs i x k h (ap f (sym is) ∙ e)
-
-pub found_equal : {K : Type 0} (xs : List K) (i : ℕ) (x k : K) → i < length xs → x ≡ get_or xs i x → x ≡ k → Contains xs k
-found_equal xs i x k h is e = (i, h, get_or_default xs i k x h ∙ (sym is ∙ e))
-
-pub none_equal : {K : Type 0} (xs : List K) (k : K) → All (λ x. x ≢ k) xs → Contains xs k → ⊥
-none_equal xs k h c = h c.0 k c.1 c.2
-
-pub distinct_more_at : {K : Type 0} (xs : List K) (i : ℕ) (x : K) → i < length xs → x ≡ get_or xs i x → IsDistinct (take i xs) → (Contains (take i xs) x → ⊥) → IsDistinct (take (i + 1) xs)
-distinct_more_at {K} xs i x h is distinct fresh =
-    let P : K → Type 0 = λ y. Contains (take i xs) y in distinct_more xs i x h distinct (λ c. fresh (subst P (sym is) c))
-
-pub distinct_failed_at : {K : Type 0} (xs : List K) (i : ℕ) (x : K) → i < length xs → x ≡ get_or xs i x → Contains (take i xs) x → IsDistinct xs → ⊥
-distinct_failed_at {K} xs i x h is c =
-    let P : K → Type 0 = λ y. Contains (take i xs) y in distinct_failed xs i x h (subst P is c)

@@ -2,3 +2,4 @@ pub mod Claims
 pub mod Valid
 pub mod Flaws
 pub mod Claimed
+pub mod Ascending

@@ -2,7 +2,7 @@
 use Rattle.std.specs.Prelude.{◌≡◌, ℕ, ◌+◌, ◌-◌, ◌*◌, ◌<◌, ◌≤◌, ◌⊎◌, List, [], ◌∷◌, length, map, Contains, All, sum_by, if◌then◌else◌}
 use Rattle.aml_path.specs.declared.segment.Seg.{Seg}
 use Rattle.aml_path.specs.Paths.{path_eq}
-use Rattle.route_model.specs.Links.{OfferingLink, offers_of, paths_of}
+use Rattle.route_model.specs.Links.{OfferingLink, paths_of}
 use Rattle.route_model.specs.Routing.{wired_to, busiest, IsAssignment}
 use Rattle.route_model.specs.Bound.{IsDistinct}
 use Rattle.route_check.specs.Claims.{RoutingClaim, links_of_bound, interrupts_of_bound}
@@ -15,6 +15,14 @@ keys_of pairs = map (λ p. p.0) pairs
 abbrev pub given_to : List (List Seg × ℕ) → List Seg → ℕ
 given_to [] path = 0
 given_to (g ∷ gs) path = if path_eq g.0 path then g.1 else given_to gs path
+
+-- the interrupts that a link of a claim may be given
+abbrev pub effective_offers : RoutingClaim → OfferingLink → List ℕ
+effective_offers c l = l.offers
+
+-- the sources that are wired to interrupts, by a claim
+abbrev pub effective_counts : RoutingClaim → List (ℕ × ℕ)
+effective_counts c = c.wired
 
 -- the gives in the order of the links
 abbrev pub choice_of : List OfferingLink → List (List Seg × ℕ) → List ℕ
@@ -41,21 +49,21 @@ pub record NoneMissing (c : RoutingClaim) : Type 0 where
   pub set_known : All (Contains (paths_of c.links)) (set_links c)
 
 abbrev pub AllOffered : RoutingClaim → Type 0
-AllOffered c = All (λ l. Contains l.offers (given_to c.gives l.path)) c.links
+AllOffered c = All (λ l. Contains (effective_offers c l) (given_to c.gives l.path)) c.links
 
 abbrev pub IsBusiestRight : RoutingClaim → Type 0
-IsBusiestRight c = busiest c.wired (choice_of c.links c.gives) ≡ c.busiest
+IsBusiestRight c = busiest (effective_counts c) (choice_of c.links c.gives) ≡ c.busiest
 
 abbrev pub SomeInterrupt : RoutingClaim → Type 0
 SomeInterrupt c = 0 < length (set_interrupts c)
 
 -- the links of the set offer its interrupts alone
 abbrev pub OffersInside : RoutingClaim → Type 0
-OffersInside c = All (λ l. Contains (set_links c) l.path → All (Contains (set_interrupts c)) l.offers) c.links
+OffersInside c = All (λ l. Contains (set_links c) l.path → All (Contains (set_interrupts c)) (effective_offers c l)) c.links
 
 -- the sources of the set are too many for one less than the busiest on each of its interrupts
 abbrev pub IsCrowded : RoutingClaim → Type 0
-IsCrowded c = (c.busiest - 1) * length (set_interrupts c) < length (set_links c) + sum_by (wired_to c.wired) (set_interrupts c)
+IsCrowded c = (c.busiest - 1) * length (set_interrupts c) < length (set_links c) + sum_by (wired_to (effective_counts c)) (set_interrupts c)
 
 pub record Valid (c : RoutingClaim) : Type 0 where
   pub none_repeated : NoneRepeated c
@@ -66,6 +74,6 @@ pub record Valid (c : RoutingClaim) : Type 0 where
 
 -- What a claim says: its gives are an assignment of its links, its busiest is theirs, and no assignment is less busy.
 pub record IsProved (c : RoutingClaim) : Type 0 where
-  pub assigned : IsAssignment (offers_of c.links) (choice_of c.links c.gives)
-  pub busiest_is : busiest c.wired (choice_of c.links c.gives) ≡ c.busiest
-  pub least : (b : List ℕ) → IsAssignment (offers_of c.links) b → c.busiest ≤ busiest c.wired b
+  pub assigned : IsAssignment (map (effective_offers c) c.links) (choice_of c.links c.gives)
+  pub busiest_is : busiest (effective_counts c) (choice_of c.links c.gives) ≡ c.busiest
+  pub least : (b : List ℕ) → IsAssignment (map (effective_offers c) c.links) b → c.busiest ≤ busiest (effective_counts c) b

@@ -1,10 +1,14 @@
 //! That the set of a claim proves its busiest interrupt to be the least busy one.
 ghost use Rattle.std.specs.Prelude.{◌↔◌, IsTrue, Contains, All, ◌<◌};
+ghost use Rattle.std.specs.Ordering.{nat_cmp};
+ghost use Rattle.aml_path.specs.Paths.{path_cmp};
+ghost use Rattle.route_check.specs.Ascending.{Ascends};
 ghost use Rattle.route_check.specs.Valid.{SomeInterrupt, OffersInside, IsCrowded};
 
 use crate::claim::Claim;
 use crate::loads::wired_to_all;
-use crate::paths::{has, has_path};
+use crate::search::{has_number, has_path};
+use crate::steps::{numbers_ascend, paths_ascend};
 use aml_path::Path;
 use route_model::Link;
 
@@ -15,29 +19,60 @@ pub(crate) fn has_interrupt(claim: &Claim) -> bool
     !claim.set_interrupts().is_empty()
 }
 
-fn all_inside(offers: &[u32], interrupts: &[u32]) -> bool
+/// Whether an interrupt is in the set.
+fn is_in_set(interrupts: &[u32], ascend: bool, n: u32) -> bool
+    requires { IsTrue ascend → Ascends nat_cmp (λ m. m) interrupts.now }
+    ensures { IsTrue result ↔ Contains interrupts.now n }
+{
+    has_number(interrupts, ascend, n)
+}
+
+/// Whether a link is in the set.
+fn is_set_link(set: &[Path], ascend: bool, path: &Path) -> bool
+    requires { IsTrue ascend → Ascends path_cmp (λ p. p) set.now }
+    ensures { IsTrue result ↔ Contains set.now path.now }
+{
+    has_path(set, ascend, path)
+}
+
+fn all_inside(offers: &[u32], interrupts: &[u32], ascend: bool) -> bool
+    requires { IsTrue ascend → Ascends nat_cmp (λ m. m) interrupts.now }
     ensures { IsTrue result ↔ All (Contains interrupts.now) offers.now }
 {
     for n in offers {
-        if !has(interrupts, *n) {
+        if !is_in_set(interrupts, ascend, *n) {
             return false;
         }
     }
     true
 }
 
-/// Whether a link is no link of the set, or offers its interrupts alone.
-fn is_inside(link: &Link, set: &[Path], interrupts: &[u32]) -> bool
-    ensures { IsTrue result ↔ (Contains set.now link.now.path → All (Contains interrupts.now) link.now.offers) }
-{
-    !has_path(set, link.path()) || all_inside(link.offers(), interrupts)
+/// The links of a set, its interrupts, and whether it is known that these ascend.
+#[derive(Drop)]
+struct Set<'a> {
+    links: &'a [Path],
+    links_ascend: bool,
+    interrupts: &'a [u32],
+    interrupts_ascend: bool,
 }
 
-fn are_inside(links: &[Link], set: &[Path], interrupts: &[u32]) -> bool
-    ensures { IsTrue result ↔ All (λ l. Contains set.now l.path → All (Contains interrupts.now) l.offers) links.now }
+/// Whether a link is no link of the set, or offers its interrupts alone.
+fn is_inside(link: &Link, set: &Set<'_>) -> bool
+    requires links { IsTrue set.now.links_ascend → Ascends path_cmp (λ p. p) set.now.links.now }
+    requires interrupts { IsTrue set.now.interrupts_ascend → Ascends nat_cmp (λ m. m) set.now.interrupts.now }
+    ensures { IsTrue result ↔ (Contains set.now.links.now link.now.path → All (Contains set.now.interrupts.now) link.now.offers) }
+{
+    !is_set_link(set.links, set.links_ascend, link.path())
+        || all_inside(link.offers(), set.interrupts, set.interrupts_ascend)
+}
+
+fn are_inside(links: &[Link], set: &Set<'_>) -> bool
+    requires links { IsTrue set.now.links_ascend → Ascends path_cmp (λ p. p) set.now.links.now }
+    requires interrupts { IsTrue set.now.interrupts_ascend → Ascends nat_cmp (λ m. m) set.now.interrupts.now }
+    ensures { IsTrue result ↔ All (λ l. Contains set.now.links.now l.path → All (Contains set.now.interrupts.now) l.offers) links.now }
 {
     for link in links {
-        if !is_inside(link, set, interrupts) {
+        if !is_inside(link, set) {
             return false;
         }
     }
@@ -48,7 +83,15 @@ fn are_inside(links: &[Link], set: &[Path], interrupts: &[u32]) -> bool
 pub(crate) fn offers_inside(claim: &Claim) -> bool
     ensures { IsTrue result ↔ OffersInside claim.now }
 {
-    are_inside(claim.links(), claim.set_links(), claim.set_interrupts())
+    let links = claim.set_links();
+    let interrupts = claim.set_interrupts();
+    let set = Set {
+        links,
+        links_ascend: paths_ascend(links),
+        interrupts,
+        interrupts_ascend: numbers_ascend(interrupts),
+    };
+    are_inside(claim.links(), &set)
 }
 
 /// Whether the sources of the set are too many for one less than the busiest on each of its interrupts.

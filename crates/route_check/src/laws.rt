@@ -2,14 +2,14 @@
 ghost use Rattle.std.specs.Prelude.{◌≡◌, ◌⊎◌, ℕ, List, map};
 ghost use Rattle.std.specs.List.Sorted.{IsStrictlyIncreasing, IsStrictlySortedBy};
 ghost use Rattle.aml_path.specs.Paths.{path_cmp};
-ghost use Rattle.route_model.specs.Links.{OfferingLink, offers_of, paths_of};
+ghost use Rattle.route_model.specs.Links.{OfferingLink, paths_of};
 ghost use Rattle.route_model.specs.Routing.{busiest, IsAssignment};
 ghost use Rattle.route_model.specs.Bound.{IsLowerBound};
 ghost use Rattle.route_check.specs.Claimed.{claim_of};
-ghost use Rattle.route_check.specs.Valid.{Valid};
+ghost use Rattle.route_check.specs.Valid.{effective_offers, effective_counts, Valid};
 
 /// The claim that is made of links in path order, an assignment of them with its busiest interrupt, and a bound for it is
 /// valid.
 pub fn an_assignment_with_its_bound_is_valid()
-    ensures { (links : List OfferingLink) (wired : List (ℕ × ℕ)) (choice : List ℕ) (k : ℕ) (places interrupts : List ℕ) → IsStrictlySortedBy path_cmp (paths_of links) → IsStrictlyIncreasing (map (λ w. w.0) wired) → IsAssignment (offers_of links) choice → busiest wired choice ≡ k → (k ≡ 0) ⊎ IsLowerBound (offers_of links) wired k places interrupts → Valid (claim_of links wired choice k places interrupts) }
+    ensures { (links : List OfferingLink) (wired : List (ℕ × ℕ)) (choice : List ℕ) (k : ℕ) (places interrupts : List ℕ) → let claim = claim_of links wired choice k places interrupts in let offers = map (effective_offers claim) links in let counts = effective_counts claim in IsStrictlySortedBy path_cmp (paths_of links) → IsStrictlyIncreasing (map (λ w. w.0) wired) → IsAssignment offers choice → busiest counts choice ≡ k → (k ≡ 0) ⊎ IsLowerBound offers counts k places interrupts → Valid claim }
 {}

@@ -6,12 +6,14 @@ mod bound;
 mod checked;
 mod claim;
 mod flaw;
+mod keys;
 mod known;
 pub mod laws;
 mod loads;
 mod offered;
-mod paths;
 mod repeated;
+mod search;
+mod steps;
 
 pub use checked::check;
 pub use claim::{Bound, Claim};

@@ -1,76 +1,86 @@
-//! That nothing is named twice.
-ghost use Rattle.std.specs.Prelude.{◌↔◌, IsTrue};
+//! That nothing is named twice. Neighbours are compared, as long as they ascend; each with all before it where they don't.
+ghost use Rattle.std.specs.Prelude.{◌↔◌, IsTrue, map};
 ghost use Rattle.route_model.specs.Bound.{IsDistinct};
-ghost use Rattle.route_model.specs.Links.{paths_of};
-ghost use Rattle.route_check.specs.Valid.{keys_of, NoneRepeated};
+ghost use Rattle.route_check.specs.Valid.{NoneRepeated};
 
 use crate::claim::Claim;
-use crate::paths::{has, has_count, has_give, has_link, has_path};
+use crate::keys::{Named, Numbered};
+use crate::search::{is_among_numbers, is_among_paths};
+use crate::steps::{number_steps, path_steps};
 use aml_path::Path;
-use route_model::Link;
+use std::cmp::Ordering;
 
-fn are_distinct(numbers: &[u32]) -> bool
-    ensures { IsTrue result ↔ IsDistinct numbers.now }
+fn are_paths_apart<T: Named>(xs: &[T]) -> bool
+    ensures { IsTrue result ↔ IsDistinct (map T.path xs.now) }
 {
-    for i in 0..numbers.len() {
-        if has(&numbers[..i], numbers[i]) {
+    for i in 0..xs.len() {
+        if is_among_paths(&xs[..i], xs[i].name()) {
             return false;
         }
     }
     true
 }
 
-fn are_paths_distinct(paths: &[Path]) -> bool
+fn are_numbers_apart<T: Numbered>(xs: &[T]) -> bool
+    ensures { IsTrue result ↔ IsDistinct (map T.number xs.now) }
+{
+    for i in 0..xs.len() {
+        if is_among_numbers(&xs[..i], xs[i].number()) {
+            return false;
+        }
+    }
+    true
+}
+
+fn are_paths_distinct<T: Named>(xs: &[T]) -> bool
+    ensures { IsTrue result ↔ IsDistinct (map T.path xs.now) }
+{
+    match path_steps(xs) {
+        Ordering::Less => true,
+        Ordering::Equal => false,
+        Ordering::Greater => are_paths_apart(xs),
+    }
+}
+
+fn are_numbers_distinct<T: Numbered>(xs: &[T]) -> bool
+    ensures { IsTrue result ↔ IsDistinct (map T.number xs.now) }
+{
+    match number_steps(xs) {
+        Ordering::Less => true,
+        Ordering::Equal => false,
+        Ordering::Greater => are_numbers_apart(xs),
+    }
+}
+
+/// Whether no link of the set stands twice.
+fn is_set_distinct(paths: &[Path]) -> bool
     ensures { IsTrue result ↔ IsDistinct paths.now }
 {
-    for i in 0..paths.len() {
-        if has_path(&paths[..i], &paths[i]) {
-            return false;
-        }
-    }
-    true
+    are_paths_distinct(paths)
 }
 
-fn are_links_distinct(links: &[Link]) -> bool
-    ensures { IsTrue result ↔ IsDistinct (paths_of links.now) }
+/// Whether no interrupt of the set stands twice.
+fn are_interrupts_distinct(interrupts: &[u32]) -> bool
+    ensures { IsTrue result ↔ IsDistinct interrupts.now }
 {
-    for i in 0..links.len() {
-        if has_link(&links[..i], links[i].path()) {
-            return false;
-        }
-    }
-    true
-}
-
-fn are_gives_distinct(gives: &[(Path, u32)]) -> bool
-    ensures { IsTrue result ↔ IsDistinct (keys_of gives.now) }
-{
-    for i in 0..gives.len() {
-        if has_give(&gives[..i], &gives[i].0) {
-            return false;
-        }
-    }
-    true
-}
-
-fn are_counts_distinct(wired: &[(u32, u32)]) -> bool
-    ensures { IsTrue result ↔ IsDistinct (keys_of wired.now) }
-{
-    for i in 0..wired.len() {
-        if has_count(&wired[..i], wired[i].0) {
-            return false;
-        }
-    }
-    true
+    are_numbers_distinct(interrupts)
 }
 
 /// Whether no link and no interrupt is named twice where it may stand once.
 pub(crate) fn none_repeated(claim: &Claim) -> bool
     ensures { IsTrue result ↔ NoneRepeated claim.now }
 {
-    are_links_distinct(claim.links())
-        && are_gives_distinct(claim.gives())
-        && are_counts_distinct(claim.wired())
-        && are_paths_distinct(claim.set_links())
-        && are_distinct(claim.set_interrupts())
+    if !are_paths_distinct(claim.links()) {
+        return false;
+    }
+    if !are_paths_distinct(claim.gives()) {
+        return false;
+    }
+    if !are_numbers_distinct(claim.wired()) {
+        return false;
+    }
+    if !is_set_distinct(claim.set_links()) {
+        return false;
+    }
+    are_interrupts_distinct(claim.set_interrupts())
 }

@@ -7,5 +7,5 @@ pub loop-n-preserved : goal.loop-n-preserved
 loop-n-preserved c =
     let more = capped_more (2 ^ 128 - 1) (wired_to c.args.wired.now) c.args.interrupts.now c.loop-n.n-index 0 c.loop-n.total (omega arith) c.loop-n.invariant in
     let e = c.saturating_add-total.ensures in
-    let f = c.wired_sources.ensures.value in
+    let f = c.sources_at.ensures in
     omega arith

@@ -1,14 +1,21 @@
-use Rattle.std.proofs.Common.{arith}
+use Rattle.std.proofs.Common.{◌≡◌, ◌∙◌, sym, arith}
 use Rattle.std.specs.Prelude.{Contains}
 use Rattle.route_check.specs.Valid.{given_to}
+use Rattle.route_check.proofs.Aligned.{given_there}
 use Rattle.route_check.proofs.Loops.{all_done, all_more, all_failed_at, shown, refuted}
 use Rattle.route_check.proofs.offered.are_offered.Goals as goal
 
-pub loop-link-preserved : goal.loop-link-preserved
-loop-link-preserved c = all_more (λ x. Contains x.offers (given_to c.args.gives.now x.path)) c.args.links.now c.loop-link.link-index c.link-item.result (omega arith) c.link-item.is c.loop-link.invariant (shown c.is_offered.result c.is_offered.ensures c.if-not-is_offered.false)
+pub loop-i-preserved : goal.loop-i-preserved
+loop-i-preserved c =
+    let link = c.index-links-i.result in
+    let is : c.given_at.result ≡ given_to c.args.gives.now link.path = c.given_at.ensures ∙ sym (given_there c.args.links.now c.args.gives.now c.loop-i.i link (omega arith) c.index-links-i.is) in
+    all_more (λ x. Contains x.offers (given_to c.args.gives.now x.path)) c.args.links.now c.loop-i.i link (omega arith) c.index-links-i.is c.loop-i.invariant (shown c.offers.result (rw is at c.offers.ensures) c.if-not-offers.false)
 
-pub returns-then-not-is_offered : goal.returns-then-not-is_offered
-returns-then-not-is_offered c = all_failed_at (λ x. Contains x.offers (given_to c.args.gives.now x.path)) c.args.links.now c.loop-link.link-index c.link-item.result (omega arith) c.link-item.is (refuted c.is_offered.result c.is_offered.ensures c.if-not-is_offered.true)
+pub returns-then-not-offers : goal.returns-then-not-offers
+returns-then-not-offers c =
+    let link = c.index-links-i.result in
+    let is : c.given_at.result ≡ given_to c.args.gives.now link.path = c.given_at.ensures ∙ sym (given_there c.args.links.now c.args.gives.now c.loop-i.i link (omega arith) c.index-links-i.is) in
+    all_failed_at (λ x. Contains x.offers (given_to c.args.gives.now x.path)) c.args.links.now c.loop-i.i link (omega arith) c.index-links-i.is (refuted c.offers.result (rw is at c.offers.ensures) c.if-not-offers.true)
 
 pub returns : goal.returns
-returns c = all_done (λ x. Contains x.offers (given_to c.args.gives.now x.path)) c.args.links.now c.loop-link.link-index (omega arith) c.loop-link.invariant
+returns c = all_done (λ x. Contains x.offers (given_to c.args.gives.now x.path)) c.args.links.now c.loop-i.i (omega arith) c.loop-i.invariant

@@ -1,6 +1,0 @@
-use Rattle.std.proofs.Common.{take}
-use Rattle.route_model.specs.Bound.{IsDistinct}
-use Rattle.route_check.proofs.repeated.are_paths_distinct.Given as goal
-
-abbrev pub invariant-loop-i : goal.invariant-loop-i
-invariant-loop-i l = IsDistinct (take l.i l.paths)
