@@ -1,6 +1,9 @@
 pub mod Again
+pub mod Claims
 pub mod Cuts
 pub mod Decimals
+pub mod Sorting
+pub mod Orders
 pub mod Plain
 pub mod Putting
 pub mod Sections

@@ -3,15 +3,16 @@ use Rattle.std.specs.Prelude.{ℕ, List, ◌<◌, ◌≤◌, ◌^◌, length, ma
 use Rattle.std.specs.List.Sorted.{IsStrictlyIncreasing}
 use Rattle.route_model.specs.Links.{OfferingLink}
 use Rattle.route_check.specs.Claims.{RoutingClaim, interrupts_of_bound}
+use Rattle.route_report.specs.Ordered.{claim_in_order}
 use Rattle.route_report.specs.declared.report.LinkLine.{LinkLine}
 use Rattle.route_report.specs.declared.report.Report.{Report}
 
 abbrev pub link_of : LinkLine → OfferingLink
 link_of l = record { path = l.path; offers = l.offers.items }
 
--- what the report claims
+-- what the report claims, each list in order
 abbrev pub claim_of_report : Report → RoutingClaim
-claim_of_report r = record { links = map link_of r.links.items; wired = r.wired.items; gives = r.gives.items; busiest = r.busiest; bound = r.bound }
+claim_of_report r = claim_in_order (record { links = map link_of r.links.items; wired = r.wired.items; gives = r.gives.items; busiest = r.busiest; bound = r.bound })
 
 -- an offer that a line can show
 pub record IsReadableOffer (offers : List ℕ) : Type 0 where

@@ -9,6 +9,7 @@ use Rattle.aml_path.specs.Text.{text_of, path_of_text}
 use Rattle.route_model.specs.Links.{OfferingLink}
 use Rattle.route_check.specs.Claims.{BoundingSet, RoutingClaim}
 use Rattle.route_report.specs.Lines.{lines, words, number}
+use Rattle.route_report.specs.Ordered.{claim_in_order}
 
 -- what the lines have said so far; of a bound, that there is none is said too
 pub record Said : Type 0 where
@@ -261,12 +262,12 @@ module _ (n : ℕ) where
     version ← expected (codes "1") name
     ended version
 
-  -- what all lines claim: the busiest interrupt and the bound must be said
+  -- what all lines claim, each list in order: the busiest interrupt and the bound must be said
   unfoldable pub claimed : Said → Outcome RoutingClaim
   claimed d = do
     k ← here d.busiest
     b ← here d.bound
-    Ok (record { links = d.links; wired = d.wired; gives = d.gives; busiest = k; bound = b })
+    Ok (claim_in_order (record { links = d.links; wired = d.wired; gives = d.gives; busiest = k; bound = b }))
 
 -- the lines from the n-th on, and what was said before them
 unfoldable pub lines_read : ℕ → List (List ℕ) → Said → Outcome RoutingClaim

@@ -3,6 +3,7 @@ ghost use Rattle.std.specs.Prelude.{◌≡◌};
 ghost use Rattle.ar_space.specs.Outcome.{Answers, seen};
 ghost use Rattle.route_report.specs.Reading.{nothing_said, with_link, with_wired, with_give, with_busiest, with_bound, here, claimed};
 
+use crate::ordered::{bound_in_order, gives_in_order, links_in_order, wired_in_order};
 use crate::words::bad;
 use aml_path::Path;
 use ar_space::Refusal;
@@ -107,7 +108,7 @@ impl Draft {
         Ok(())
     }
 
-    /// The claim, of a report that has n - 1 lines.
+    /// The claim, each of its lists in order, of a report that has n - 1 lines.
     #[tactic(auto, using(ar_space::specs::Outcome::answering), unfolding(crate::specs::Reading::claimed))]
     pub(crate) fn claim(self, n: usize) -> Result<Claim, Refusal>
         ensures { Answers result (claimed n self) }
@@ -115,11 +116,11 @@ impl Draft {
         let busiest = busiest_here(n, self.busiest)?;
         let bound = bound_here(n, self.bound)?;
         Ok(Claim {
-            links: self.links,
-            wired: self.wired,
-            gives: self.gives,
+            links: links_in_order(self.links),
+            wired: wired_in_order(self.wired),
+            gives: gives_in_order(self.gives),
             busiest,
-            bound,
+            bound: bound_in_order(bound),
         })
     }
 }

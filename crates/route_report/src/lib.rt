@@ -7,6 +7,7 @@ pub mod laws;
 mod line;
 mod lines;
 mod numerals;
+mod ordered;
 mod printing;
 mod put;
 mod reading;

@@ -63,7 +63,7 @@ fn put_chosen(alloc: Global, text: &mut Vec<u8>, report: &Report) -> Result<(), 
 /// - `set P ok`, `set P none` or `set P refused R` for each link that was to be set.
 /// - `after P V` or `after P refused R` for each of these.
 ///
-/// `read` gives the report's own claim of this text, where it has at most 256 links, each with an offer in ascending order,
+/// `read` gives the report's own claim of this text, its lists in order, where it has at most 256 links, each with an offer in ascending order,
 /// and at most 4096 wired interrupts. `OutOfMemory` where memory runs out.
 pub fn print(alloc: Global, report: &Report) -> Result<Vec<u8>, Refusal>
     ensures text { Answers (seen (λ v. v.items) result) (Ok (text_of_report report.now)) }

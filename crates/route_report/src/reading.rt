@@ -46,6 +46,9 @@ fn lines_read(alloc: Global, text: &[u8]) -> Result<Claim, Refusal>
 /// What a report claims: the links with their offers, the wired interrupts, what each link is given, how busy the busiest
 /// interrupt is, and why none is less busy. Whether the claim holds is for `route_check::check` to say.
 ///
+/// Each list of the claim is in order, whatever the order of the lines: paths in path order, numbers ascending. What stands
+/// twice stays twice, so that `check` finds it.
+///
 /// The first line is `acpiroute 1`; the others come in any order, and the last may lack its LF. Lines whose first word is
 /// `mode`, `ioapic`, `override`, `pin`, `set` or `after` are passed over. `link`, `wired`, `give`, `busiest` and `bound`
 /// have the form in which `print` writes them, but that what follows the word `now` of a link isn't looked at, and that

@@ -1,0 +1,94 @@
+-- What is read is in order, and has what the lines said.
+use Rattle.std.proofs.Common.{◌≡◌, subst, refl, ℕ, ◌+◌, List, [], ◌∷◌, Ok, Err, Option, Some, None}
+use Rattle.std.specs.Ordering.{nat_cmp}
+use Rattle.std.specs.FinMap.{nat_cmp-IsAntisymmetric}
+use Rattle.std.specs.List.Sorted.{IsPermutation, IsSorted}
+use Rattle.std.proofs.lemmas.Cmp.{nat_cmp_total}
+use Rattle.std.proofs.lemmas.List.Sorted.{IsPermutation-refl}
+use Rattle.ar_space.specs.Outcome.{Outcome, ◌>>=◌}
+use Rattle.aml_path.specs.Paths.{path_cmp}
+use Rattle.route_model.proofs.Paths.{path_total}
+use Rattle.route_check.specs.Claims.{BoundingSet, RoutingClaim, links_of_bound, interrupts_of_bound}
+use Rattle.route_report.specs.Lines.{lines, words}
+use Rattle.route_report.specs.Ordered.{link_order, wired_order, give_order, bound_in_order, claim_in_order, IsInOrder, HasSameElements}
+use Rattle.route_report.specs.Reading.{Said, here, claimed, line, heading, lines_read, all_read, claim_of_text}
+use Rattle.route_report.proofs.Orders.{path_exact, link_exact, wired_exact, give_exact, link_total, wired_total, give_total}
+use Rattle.route_report.proofs.Sorting.{stays, is_sorted, same_elements}
+
+-- what a step gave where the whole is no refusal
+pub went_on : {A B : Type 0} (m : Outcome A) (k : A → Outcome B) (b : B) → (m >>= k) ≡ Ok b → (a : A) × (m ≡ Ok a) × (k a ≡ Ok b)
+unfolding ◌>>=◌
+went_on (Ok a) k b e = (a, refl, e)
+went_on (Err z) k b e = absurd (cc e)
+
+set_sorted : (b : Option BoundingSet) → IsSorted path_cmp (links_of_bound (bound_in_order b))
+set_sorted None = is_sorted path_cmp path_total path_exact []
+set_sorted (Some b) = is_sorted path_cmp path_total path_exact b.links
+
+interrupts_sorted : (b : Option BoundingSet) → IsSorted nat_cmp (interrupts_of_bound (bound_in_order b))
+interrupts_sorted None = is_sorted nat_cmp nat_cmp_total nat_cmp-IsAntisymmetric []
+interrupts_sorted (Some b) = is_sorted nat_cmp nat_cmp_total nat_cmp-IsAntisymmetric b.interrupts
+
+pub claim_sorted : (c : RoutingClaim) → IsInOrder (claim_in_order c)
+claim_sorted c = record {
+  links = is_sorted link_order link_total link_exact c.links;
+  wired = is_sorted wired_order wired_total wired_exact c.wired;
+  gives = is_sorted give_order give_total give_exact c.gives;
+  set = set_sorted c.bound;
+  interrupts = interrupts_sorted c.bound;
+}
+
+bound_stays : (b : Option BoundingSet) → IsSorted path_cmp (links_of_bound b) → IsSorted nat_cmp (interrupts_of_bound b) → bound_in_order b ≡ b
+bound_stays None p n = refl
+bound_stays (Some b) p n =
+    let links = stays path_cmp path_total path_exact b.links p in
+    let interrupts = stays nat_cmp nat_cmp_total nat_cmp-IsAntisymmetric b.interrupts n in
+    rw (links, interrupts) refl
+
+pub claim_stays : (c : RoutingClaim) → IsInOrder c → claim_in_order c ≡ c
+claim_stays c h =
+    let links = stays link_order link_total link_exact c.links h.links in
+    let wired = stays wired_order wired_total wired_exact c.wired h.wired in
+    let gives = stays give_order give_total give_exact c.gives h.gives in
+    rw (links, wired, gives, bound_stays c.bound h.set h.interrupts) refl
+
+set_elements : (b : Option BoundingSet) → IsPermutation (links_of_bound b) (links_of_bound (bound_in_order b))
+set_elements None = IsPermutation-refl []
+set_elements (Some b) = same_elements path_cmp path_total path_exact b.links
+
+interrupt_elements : (b : Option BoundingSet) → IsPermutation (interrupts_of_bound b) (interrupts_of_bound (bound_in_order b))
+interrupt_elements None = IsPermutation-refl []
+interrupt_elements (Some b) = same_elements nat_cmp nat_cmp_total nat_cmp-IsAntisymmetric b.interrupts
+
+pub claim_elements : (c : RoutingClaim) → HasSameElements c (claim_in_order c)
+claim_elements c = record {
+  links = same_elements link_order link_total link_exact c.links;
+  wired = same_elements wired_order wired_total wired_exact c.wired;
+  gives = same_elements give_order give_total give_exact c.gives;
+  set = set_elements c.bound;
+  interrupts = interrupt_elements c.bound;
+}
+
+-- what is claimed of what was said
+pub said_in_order : (n : ℕ) (d : Said) (c : RoutingClaim) → claimed n d ≡ Ok c → IsInOrder c
+unfolding claimed
+said_in_order n d c e =
+    let a = went_on (here n d.busiest) _ c e in
+    let b = went_on (here n d.bound) _ c a.2 in
+    let raw : RoutingClaim = record { links = d.links; wired = d.wired; gives = d.gives; busiest = a.0; bound = b.0 } in
+    let is : claim_in_order raw ≡ c = cc (b.2) in
+    subst IsInOrder is (claim_sorted raw)
+
+read_in_order : (n : ℕ) (ls : List (List ℕ)) (d : Said) (c : RoutingClaim) → lines_read n ls d ≡ Ok c → IsInOrder c
+unfolding lines_read
+read_in_order n [] d c e = said_in_order n d c e
+read_in_order n (l ∷ ls) d c e = let a = went_on (line n (words l) d) (λ f. lines_read (n + 1) ls f) c e in read_in_order (n + 1) ls a.0 c a.2
+
+all_in_order : (ls : List (List ℕ)) (c : RoutingClaim) → all_read ls ≡ Ok c → IsInOrder c
+unfolding all_read
+all_in_order [] c e = absurd (cc e)
+all_in_order (l ∷ ls) c e = let a = went_on (heading 1 (words l)) _ c e in read_in_order 2 ls _ c a.2
+
+pub text_in_order : (text : List ℕ) (c : RoutingClaim) → claim_of_text text ≡ Ok c → IsInOrder c
+unfolding claim_of_text
+text_in_order text c e = all_in_order (lines text) c e
