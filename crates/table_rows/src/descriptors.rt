@@ -1,100 +1,116 @@
 //! Questions of resource descriptors: what a link device may be set to, and what it is set to.
 
-use crate::bytes::{done, numbers, word, yes_or_no};
-use crate::failure::Failure;
+use crate::answers::{refuse, say_numbers};
+use crate::row::Row;
 use acpi_resources::{Form, InterruptNumbers, Offer, Polarity, current, possible, setting};
-use std::alloc::{AllocError, Global};
-use test_rows::{bytes_of, hexadecimal};
+use test_rows::Exchange;
 
-/// The bytes that a question writes, or those of the text.
-fn given(alloc: Global, text: &[u8], rest: &str) -> Result<Vec<u8>, AllocError> {
-    if rest == "text" {
-        return text.to_vec(alloc);
+/// An interrupt's number.
+fn interrupt(asked: &mut Exchange) -> u32 {
+    asked.number(0xFFFF_FFFF) as u32
+}
+
+/// `possible BYTES`: the offer of possible resources; `possible text`: that of the text.
+fn offered(asked: &mut Exchange, row: &mut Row) {
+    let offer = if asked.takes("text") {
+        possible(asked.alloc(), row.text.as_slice())
+    } else {
+        let bytes = asked.bytes();
+        possible(asked.alloc(), bytes.as_slice())
+    };
+    match offer {
+        Ok(offer) => row.offer = Some(offer),
+        Err(refusal) => refuse(asked, refusal),
     }
-    bytes_of(alloc, rest)
-}
-
-/// `possible BYTES`, or `possible text`: the offer of possible resources.
-pub fn offered(
-    alloc: Global,
-    offer: &mut Option<Offer>,
-    text: &[u8],
-    rest: &str,
-) -> Result<String, Failure> {
-    let bytes = given(alloc, text, rest)?;
-    *offer = Some(possible(alloc, bytes.as_slice())?);
-    done(alloc)
-}
-
-/// `numbers`: the interrupts of the offer.
-pub fn offered_numbers(alloc: Global, offer: &Offer) -> Result<String, Failure> {
-    numbers(alloc, offer.numbers())
-}
-
-/// `form`: which descriptor the offer is, `small` or `extended`.
-pub fn form(alloc: Global, offer: &Offer) -> Result<String, Failure> {
-    let text = match offer.form() {
-        Form::Small => "small",
-        Form::Extended => "extended",
-    };
-    word(alloc, text)
-}
-
-/// `polarity`: at which level the interrupts of the offer are signaled, `low` or `high`.
-pub fn polarity(alloc: Global, offer: &Offer) -> Result<String, Failure> {
-    let text = match offer.polarity() {
-        Polarity::Low => "low",
-        Polarity::High => "high",
-    };
-    word(alloc, text)
-}
-
-/// `flags`: the flag byte of the offer.
-pub fn flags(alloc: Global, offer: &Offer) -> Result<String, Failure> {
-    let flags = offer.flags();
-    Ok(format!(in alloc; "{flags:02X}")?)
-}
-
-/// `contains N`: whether the offer has an interrupt.
-pub fn contains(alloc: Global, offer: &Offer, rest: &str) -> Result<String, Failure> {
-    yes_or_no(alloc, offer.contains(rest.parse::<u32>()?))
 }
 
 /// `setting N`: the bytes that set a link device to an interrupt of the offer.
-pub fn setting_to(alloc: Global, offer: &Offer, rest: &str) -> Result<String, Failure> {
-    let number = rest.parse::<u32>()?;
+fn setting_to(asked: &mut Exchange, offer: &Offer) {
+    let number = interrupt(asked);
     if !offer.contains(number) {
-        return Err(Failure::NoQuestion);
+        asked.misunderstand();
+        return;
     }
-    let bytes = setting(alloc, offer, number)?;
-    Ok(hexadecimal(alloc, bytes.as_slice())?)
+    match setting(asked.alloc(), offer, number) {
+        Ok(bytes) => asked.say_bytes(bytes.as_slice()),
+        Err(refusal) => refuse(asked, refusal),
+    }
+}
+
+/// Which descriptor an offer is.
+fn form(offer: &Offer) -> &'static str {
+    match offer.form() {
+        Form::Small => "small",
+        Form::Extended => "extended",
+    }
+}
+
+/// At which level the interrupts of an offer are signaled.
+fn polarity(offer: &Offer) -> &'static str {
+    match offer.polarity() {
+        Polarity::Low => "low",
+        Polarity::High => "high",
+    }
+}
+
+/// Answers a question of an offer.
+fn of_offer(asked: &mut Exchange, offer: &Offer, word: &str) {
+    match word {
+        "numbers" => say_numbers(asked, offer.numbers()),
+        "form" => asked.say(form(offer)),
+        "polarity" => asked.say(polarity(offer)),
+        "flags" => asked.say_bytes(&[offer.flags()]),
+        "contains" => {
+            let number = interrupt(asked);
+            asked.say_whether(offer.contains(number));
+        }
+        _ => setting_to(asked, offer),
+    }
 }
 
 /// `current BYTES`: the interrupts that a link device is set to.
-pub fn set_to(
-    alloc: Global,
-    set: &mut Option<InterruptNumbers>,
-    rest: &str,
-) -> Result<String, Failure> {
-    let bytes = bytes_of(alloc, rest)?;
-    let found = current(alloc, bytes.as_slice())?;
-    let text = numbers(alloc, found.as_slice())?;
-    *set = Some(found);
-    Ok(text)
+fn set_to(asked: &mut Exchange, row: &mut Row) {
+    let bytes = asked.bytes();
+    match current(asked.alloc(), bytes.as_slice()) {
+        Ok(numbers) => {
+            say_numbers(asked, numbers.as_slice());
+            row.set = Some(numbers);
+        }
+        Err(refusal) => refuse(asked, refusal),
+    }
 }
 
-/// `set-count`: how many interrupts it is set to.
-pub fn set_count(alloc: Global, set: &InterruptNumbers) -> Result<String, Failure> {
-    let count = set.len();
-    Ok(format!(in alloc; "{count}")?)
-}
-
-/// `set-empty`: whether it is set to none.
-pub fn set_empty(alloc: Global, set: &InterruptNumbers) -> Result<String, Failure> {
-    yes_or_no(alloc, set.is_empty())
+/// Answers a question of what a link device is set to.
+fn of_set(asked: &mut Exchange, set: &InterruptNumbers, word: &str) {
+    match word {
+        "set-count" => asked.say_number(set.len() as u64),
+        _ => asked.say_whether(set.is_empty()),
+    }
 }
 
 /// `set-taken`: the interrupts that the list gives up when it is taken apart.
-pub fn set_taken(alloc: Global, set: InterruptNumbers) -> Result<String, Failure> {
-    numbers(alloc, set.into_vec().as_slice())
+fn set_taken(asked: &mut Exchange, row: &mut Row) {
+    match row.set.take() {
+        Some(set) => say_numbers(asked, set.into_vec().as_slice()),
+        None => asked.misunderstand(),
+    }
+}
+
+/// Answers a question of resource descriptors, and says whether it is one.
+pub fn answer(asked: &mut Exchange, row: &mut Row, word: &str) -> bool {
+    match word {
+        "possible" => offered(asked, row),
+        "numbers" | "form" | "polarity" | "flags" | "contains" | "setting" => match &row.offer {
+            Some(offer) => of_offer(asked, offer, word),
+            None => asked.misunderstand(),
+        },
+        "current" => set_to(asked, row),
+        "set-count" | "set-empty" => match &row.set {
+            Some(set) => of_set(asked, set, word),
+            None => asked.misunderstand(),
+        },
+        "set-taken" => set_taken(asked, row),
+        _ => return false,
+    }
+    true
 }

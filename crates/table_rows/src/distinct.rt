@@ -1,48 +1,35 @@
 //! The answers of many calls of one kind, each named once.
 
-use std::alloc::{AllocError, Global};
+use test_rows::Exchange;
 
-/// The numbers of refusals that calls gave, each once; 0 stands for a call that did not refuse.
-#[derive(Drop)]
+/// Which numbers of refusals calls gave; 0 stands for a call that did not refuse.
+#[derive(Clone, Copy)]
 pub struct Distinct {
-    numbers: Vec<u8>,
+    seen: [bool; 256],
 }
 
 impl Distinct {
     /// No calls yet.
-    pub fn new(alloc: Global) -> Distinct {
-        Distinct {
-            numbers: Vec::new(alloc),
-        }
+    pub fn new() -> Distinct {
+        Distinct { seen: [false; 256] }
     }
 
     /// Notes what a call gave.
-    pub fn note(&mut self, number: u8) -> Result<(), AllocError> {
-        if !self.numbers.contains(&number) {
-            self.numbers.push(number)?;
-        }
-        Ok(())
+    pub fn note(&mut self, number: u8) {
+        self.seen[usize::from(number)] = true;
     }
 
-    /// The answers, by their numbers: `done`, `refused 13`, `refused 13 or refused 140`.
-    pub fn text(mut self, alloc: Global) -> Result<String, AllocError> {
-        self.numbers.sort()?;
-        let mut text = String::new(alloc);
-        for number in self.numbers.iter() {
-            if !text.is_empty() {
-                text.push_str(" or ")?;
+    /// Answers with the answers, by their numbers: `done`, `refused 13`, `refused 13 or refused 140`.
+    pub fn say(&self, asked: &mut Exchange) {
+        if self.seen[0] {
+            asked.say("done");
+        }
+        for number in 1..=255u8 {
+            if self.seen[usize::from(number)] {
+                asked.separate(" or");
+                asked.say("refused");
+                asked.say_number(u64::from(number));
             }
-            let answer = one(alloc, *number)?;
-            text.push_str(answer.as_str())?;
         }
-        Ok(text)
-    }
-}
-
-/// The answer of a call.
-fn one(alloc: Global, number: u8) -> Result<String, AllocError> {
-    match number {
-        0 => "done".to_string(alloc),
-        _ => format!(in alloc; "refused {number}"),
     }
 }

@@ -1,218 +1,223 @@
 //! Refusals by their names, their numbers and what they say.
 
-use crate::bytes::{decimal, sides};
-use crate::failure::Failure;
 use ar_space::{
     EvaluationFault, FieldFault, InputFault, MachineFault, NameFault, NamespaceFault, PathText,
     Refusal, ReportFault, ResourceFault, RoutingFault, RoutingTableFault, SpaceFault, TableFault,
     TermFault, ValueFault,
 };
-use std::alloc::Global;
+use test_rows::Exchange;
 
-/// A fault of an access.
-fn space(name: &str) -> Result<SpaceFault, Failure> {
-    match name {
-        "no register" => Ok(SpaceFault::NoRegister),
-        "device" => Ok(SpaceFault::Device),
-        _ => Err(Failure::NoQuestion),
-    }
-}
+/// The faults of an access.
+const SPACE: [(&str, SpaceFault); 2] = [
+    ("no register", SpaceFault::NoRegister),
+    ("device", SpaceFault::Device),
+];
 
-/// A fault of a table.
-fn table(name: &str) -> Result<TableFault, Failure> {
-    match name {
-        "bad signature" => Ok(TableFault::BadSignature),
-        "bad checksum" => Ok(TableFault::BadChecksum),
-        "bad length" => Ok(TableFault::BadLength),
-        "not in image" => Ok(TableFault::NotInImage),
-        "no FADT" => Ok(TableFault::NoFadt),
-        "no DSDT" => Ok(TableFault::NoDsdt),
-        _ => Err(Failure::NoQuestion),
-    }
-}
+/// The faults of a table.
+const TABLE: [(&str, TableFault); 6] = [
+    ("bad signature", TableFault::BadSignature),
+    ("bad checksum", TableFault::BadChecksum),
+    ("bad length", TableFault::BadLength),
+    ("not in image", TableFault::NotInImage),
+    ("no FADT", TableFault::NoFadt),
+    ("no DSDT", TableFault::NoDsdt),
+];
 
-/// A fault of a name.
-fn name_fault(name: &str) -> Result<NameFault, Failure> {
-    match name {
-        "bad name" => Ok(NameFault::BadName),
-        "above root" => Ok(NameFault::AboveRoot),
-        _ => Err(Failure::NoQuestion),
-    }
-}
+/// The faults of a name.
+const NAME: [(&str, NameFault); 2] = [
+    ("bad name", NameFault::BadName),
+    ("above root", NameFault::AboveRoot),
+];
+
+/// The faults of AML bytes.
+const TERM: [(&str, TermFault); 5] = [
+    ("bad opcode", TermFault::BadOpcode),
+    ("bad package length", TermFault::BadPkgLength),
+    ("truncated", TermFault::Truncated),
+    ("too deep", TermFault::TooDeep),
+    ("not in body", TermFault::NotInBody),
+];
+
+/// The faults of a value.
+const VALUE: [(&str, ValueFault); 3] = [
+    ("wrong type", ValueFault::WrongType),
+    ("empty value", ValueFault::EmptyValue),
+    ("divide by zero", ValueFault::DivideByZero),
+];
+
+/// The faults of a field.
+const FIELD: [(&str, FieldFault); 2] = [
+    ("field limit", FieldFault::FieldLimit),
+    ("region limit", FieldFault::RegionLimit),
+];
+
+/// The faults of the namespace.
+const NAMESPACE: [(&str, NamespaceFault); 2] = [
+    ("exists", NamespaceFault::Exists),
+    ("not found", NamespaceFault::NotFound),
+];
+
+/// The faults of an evaluation that are a name alone.
+const EVALUATION: [(&str, EvaluationFault); 11] = [
+    ("out of steps", EvaluationFault::OutOfSteps),
+    ("call depth", EvaluationFault::CallDepth),
+    ("arity changed", EvaluationFault::ArityChanged),
+    ("space kind", EvaluationFault::SpaceKind),
+    ("dead reference", EvaluationFault::DeadReference),
+    ("no value", EvaluationFault::NoValue),
+    ("fatal", EvaluationFault::Fatal),
+    ("deep PCI", EvaluationFault::DeepPci),
+    ("not acquired", EvaluationFault::NotAcquired),
+    ("index limit", EvaluationFault::IndexLimit),
+    ("object limit", EvaluationFault::ObjectLimit),
+];
+
+/// The faults of resource descriptors that are a name alone.
+const RESOURCE: [(&str, ResourceFault); 7] = [
+    ("edge", ResourceFault::Edge),
+    ("exclusive", ResourceFault::Exclusive),
+    ("dependent", ResourceFault::Dependent),
+    ("several", ResourceFault::Several),
+    ("no end", ResourceFault::NoEnd),
+    ("no interrupt", ResourceFault::NoInterrupt),
+    ("source", ResourceFault::Source),
+];
+
+/// The faults of a routing table.
+const ROUTING_TABLE: [(&str, RoutingTableFault); 5] = [
+    ("not package", RoutingTableFault::NotPackage),
+    ("bad entry", RoutingTableFault::BadEntry),
+    ("bad pin", RoutingTableFault::BadPin),
+    ("not a link", RoutingTableFault::NotALink),
+    ("source index", RoutingTableFault::SourceIndex),
+];
+
+/// The faults of input and output that are a name alone.
+const INPUT: [(&str, InputFault); 3] = [
+    ("read fault", InputFault::ReadFault),
+    ("write fault", InputFault::WriteFault),
+    ("text too long", InputFault::TextTooLong),
+];
 
 /// A fault of AML bytes, with its offset: `bad opcode 7`.
-fn term(text: &str) -> Result<Refusal, Failure> {
-    let (name, offset) = text.rsplit_once(' ').ok_or(Failure::NoQuestion)?;
-    let fault = match name {
-        "bad opcode" => TermFault::BadOpcode,
-        "bad package length" => TermFault::BadPkgLength,
-        "truncated" => TermFault::Truncated,
-        "too deep" => TermFault::TooDeep,
-        "not in body" => TermFault::NotInBody,
-        _ => return Err(Failure::NoQuestion),
-    };
-    Ok(Refusal::Term(fault, decimal(offset)?))
-}
-
-/// A fault of a value.
-fn value(name: &str) -> Result<ValueFault, Failure> {
-    match name {
-        "wrong type" => Ok(ValueFault::WrongType),
-        "empty value" => Ok(ValueFault::EmptyValue),
-        "divide by zero" => Ok(ValueFault::DivideByZero),
-        _ => Err(Failure::NoQuestion),
-    }
-}
-
-/// A fault of a field.
-fn field(name: &str) -> Result<FieldFault, Failure> {
-    match name {
-        "field limit" => Ok(FieldFault::FieldLimit),
-        "region limit" => Ok(FieldFault::RegionLimit),
-        _ => Err(Failure::NoQuestion),
-    }
-}
-
-/// A fault of the namespace.
-fn namespace(name: &str) -> Result<NamespaceFault, Failure> {
-    match name {
-        "exists" => Ok(NamespaceFault::Exists),
-        "not found" => Ok(NamespaceFault::NotFound),
-        _ => Err(Failure::NoQuestion),
-    }
+fn term(asked: &mut Exchange, text: &str) -> Refusal {
+    let (name, offset) = text.rsplit_once(' ').unwrap_or((text, ""));
+    let fault = asked.one_of(&TERM, name, TermFault::Truncated);
+    Refusal::Term(fault, asked.digits(offset, 10, u64::MAX) as usize)
 }
 
 /// A fault of an evaluation: a name, or `unsupported` and an opcode.
-fn evaluation(name: &str) -> Result<EvaluationFault, Failure> {
-    if let Some(opcode) = name.strip_prefix("unsupported ") {
-        return Ok(EvaluationFault::Unsupported(u16::from_str_radix(opcode, 16)?));
-    }
-    match name {
-        "out of steps" => Ok(EvaluationFault::OutOfSteps),
-        "call depth" => Ok(EvaluationFault::CallDepth),
-        "arity changed" => Ok(EvaluationFault::ArityChanged),
-        "space kind" => Ok(EvaluationFault::SpaceKind),
-        "dead reference" => Ok(EvaluationFault::DeadReference),
-        "no value" => Ok(EvaluationFault::NoValue),
-        "fatal" => Ok(EvaluationFault::Fatal),
-        "deep PCI" => Ok(EvaluationFault::DeepPci),
-        "not acquired" => Ok(EvaluationFault::NotAcquired),
-        "index limit" => Ok(EvaluationFault::IndexLimit),
-        "object limit" => Ok(EvaluationFault::ObjectLimit),
-        _ => Err(Failure::NoQuestion),
+fn evaluation(asked: &mut Exchange, name: &str) -> EvaluationFault {
+    match name.strip_prefix("unsupported ") {
+        Some(opcode) => EvaluationFault::Unsupported(asked.digits(opcode, 16, 0xFFFF) as u16),
+        None => asked.one_of(&EVALUATION, name, EvaluationFault::Fatal),
     }
 }
 
 /// A fault of a whole machine.
-fn machine(name: &str) -> Result<Refusal, Failure> {
+fn machine(asked: &mut Exchange, name: &str) -> Refusal {
     match name {
-        "spent" => Ok(Refusal::Machine(MachineFault::Spent)),
-        "out of memory" => Ok(Refusal::OutOfMemory),
-        _ => Err(Failure::NoQuestion),
+        "spent" => Refusal::Machine(MachineFault::Spent),
+        "out of memory" => Refusal::OutOfMemory,
+        _ => {
+            asked.misunderstand();
+            Refusal::OutOfMemory
+        }
     }
 }
 
 /// A fault of resource descriptors: a name, or `descriptor` and a tag.
-fn resource(name: &str) -> Result<ResourceFault, Failure> {
-    if let Some(tag) = name.strip_prefix("descriptor ") {
-        return Ok(ResourceFault::Descriptor(tag.parse::<u8>()?));
-    }
-    match name {
-        "edge" => Ok(ResourceFault::Edge),
-        "exclusive" => Ok(ResourceFault::Exclusive),
-        "dependent" => Ok(ResourceFault::Dependent),
-        "several" => Ok(ResourceFault::Several),
-        "no end" => Ok(ResourceFault::NoEnd),
-        "no interrupt" => Ok(ResourceFault::NoInterrupt),
-        "source" => Ok(ResourceFault::Source),
-        _ => Err(Failure::NoQuestion),
+fn resource(asked: &mut Exchange, name: &str) -> ResourceFault {
+    match name.strip_prefix("descriptor ") {
+        Some(tag) => ResourceFault::Descriptor(asked.digits(tag, 10, 0xFF) as u8),
+        None => asked.one_of(&RESOURCE, name, ResourceFault::Edge),
     }
 }
 
-/// A fault of a routing table.
-fn routing_table(name: &str) -> Result<RoutingTableFault, Failure> {
-    match name {
-        "not package" => Ok(RoutingTableFault::NotPackage),
-        "bad entry" => Ok(RoutingTableFault::BadEntry),
-        "bad pin" => Ok(RoutingTableFault::BadPin),
-        "not a link" => Ok(RoutingTableFault::NotALink),
-        "source index" => Ok(RoutingTableFault::SourceIndex),
-        _ => Err(Failure::NoQuestion),
+/// The text of a path.
+fn path_text(asked: &mut Exchange, text: &str) -> PathText {
+    match text.to_string(asked.alloc()) {
+        Ok(text) => PathText::new(text),
+        Err(_) => {
+            asked.run_out();
+            PathText::new(String::new(asked.alloc()))
+        }
     }
 }
 
 /// A fault of routing: a name, or `no offer` or `avoided` and a path.
-fn routing(alloc: Global, name: &str) -> Result<RoutingFault, Failure> {
+fn routing(asked: &mut Exchange, name: &str) -> RoutingFault {
     if let Some(path) = name.strip_prefix("no offer ") {
-        return Ok(RoutingFault::NoOffer(PathText::new(path.to_string(alloc)?)));
+        return RoutingFault::NoOffer(path_text(asked, path));
     }
     if let Some(path) = name.strip_prefix("avoided ") {
-        return Ok(RoutingFault::Avoided(PathText::new(path.to_string(alloc)?)));
+        return RoutingFault::Avoided(path_text(asked, path));
     }
-    match name {
-        "mixed polarity" => Ok(RoutingFault::MixedPolarity),
-        "too many" => Ok(RoutingFault::TooMany),
-        _ => Err(Failure::NoQuestion),
+    if name == "mixed polarity" {
+        return RoutingFault::MixedPolarity;
     }
+    if name != "too many" {
+        asked.misunderstand();
+    }
+    RoutingFault::TooMany
 }
 
 /// A fault of a report, with its line: `bad line 4`.
-fn report(name: &str) -> Result<ReportFault, Failure> {
-    match name.strip_prefix("bad line ") {
-        Some(line) => Ok(ReportFault::BadLine(decimal(line)?)),
-        None => Err(Failure::NoQuestion),
-    }
+fn report(asked: &mut Exchange, name: &str) -> ReportFault {
+    let line = name.strip_prefix("bad line ").unwrap_or("");
+    ReportFault::BadLine(asked.digits(line, 10, u64::MAX) as usize)
 }
 
 /// A fault of input or output: a name, or `machine line` and its number.
-fn input(name: &str) -> Result<InputFault, Failure> {
-    if let Some(line) = name.strip_prefix("machine line ") {
-        return Ok(InputFault::MachineLine(decimal(line)?));
-    }
-    match name {
-        "read fault" => Ok(InputFault::ReadFault),
-        "write fault" => Ok(InputFault::WriteFault),
-        "text too long" => Ok(InputFault::TextTooLong),
-        _ => Err(Failure::NoQuestion),
+fn input(asked: &mut Exchange, name: &str) -> InputFault {
+    match name.strip_prefix("machine line ") {
+        Some(line) => InputFault::MachineLine(asked.digits(line, 10, u64::MAX) as usize),
+        None => asked.one_of(&INPUT, name, InputFault::ReadFault),
     }
 }
 
 /// The refusal `KIND: FAULT`, of the kinds of the firmware's bytes and of what is computed from them.
-fn firmware_refusal(kind: &str, fault: &str) -> Result<Refusal, Failure> {
+fn firmware_refusal(asked: &mut Exchange, kind: &str, fault: &str) -> Refusal {
     match kind {
-        "space" => Ok(Refusal::Space(space(fault)?)),
-        "table" => Ok(Refusal::Table(table(fault)?)),
-        "name" => Ok(Refusal::Name(name_fault(fault)?)),
-        "term" => term(fault),
-        "value" => Ok(Refusal::Value(value(fault)?)),
-        "field" => Ok(Refusal::Field(field(fault)?)),
-        "namespace" => Ok(Refusal::Namespace(namespace(fault)?)),
-        "evaluation" => Ok(Refusal::Evaluation(evaluation(fault)?)),
-        _ => machine(fault),
+        "space" => Refusal::Space(asked.one_of(&SPACE, fault, SpaceFault::Device)),
+        "table" => Refusal::Table(asked.one_of(&TABLE, fault, TableFault::BadLength)),
+        "name" => Refusal::Name(asked.one_of(&NAME, fault, NameFault::BadName)),
+        "value" => Refusal::Value(asked.one_of(&VALUE, fault, ValueFault::WrongType)),
+        "field" => Refusal::Field(asked.one_of(&FIELD, fault, FieldFault::FieldLimit)),
+        "namespace" => {
+            Refusal::Namespace(asked.one_of(&NAMESPACE, fault, NamespaceFault::Exists))
+        }
+        "term" => term(asked, fault),
+        _ => machine(asked, fault),
     }
 }
 
 /// The refusal `KIND: FAULT`.
-fn refusal(alloc: Global, text: &str) -> Result<Refusal, Failure> {
-    let (kind, fault) = sides(text)?;
+fn refusal(asked: &mut Exchange) -> Refusal {
+    let kind = asked.until(": ");
+    let fault = asked.rest();
     match kind {
-        "resource" => Ok(Refusal::Resource(resource(fault)?)),
-        "routing table" => Ok(Refusal::RoutingTable(routing_table(fault)?)),
-        "routing" => Ok(Refusal::Routing(routing(alloc, fault)?)),
-        "report" => Ok(Refusal::Report(report(fault)?)),
-        "input" => Ok(Refusal::Input(input(fault)?)),
-        _ => firmware_refusal(kind, fault),
+        "evaluation" => Refusal::Evaluation(evaluation(asked, fault)),
+        "resource" => Refusal::Resource(resource(asked, fault)),
+        "routing table" => {
+            Refusal::RoutingTable(asked.one_of(&ROUTING_TABLE, fault, RoutingTableFault::BadPin))
+        }
+        "routing" => Refusal::Routing(routing(asked, fault)),
+        "report" => Refusal::Report(report(asked, fault)),
+        "input" => Refusal::Input(input(asked, fault)),
+        _ => firmware_refusal(asked, kind, fault),
     }
 }
 
 /// `number KIND: FAULT`: the number of a refusal.
-pub fn number(alloc: Global, rest: &str) -> Result<String, Failure> {
-    let number = refusal(alloc, rest)?.number();
-    Ok(format!(in alloc; "{number}")?)
+pub fn number(asked: &mut Exchange) {
+    let refusal = refusal(asked);
+    asked.say_number(u64::from(refusal.number()));
 }
 
 /// `says KIND: FAULT`: what a refusal says.
-pub fn says(alloc: Global, rest: &str) -> Result<String, Failure> {
-    let refusal = refusal(alloc, rest)?;
-    Ok(format!(in alloc; "{refusal}")?)
+pub fn says(asked: &mut Exchange) {
+    let refusal = refusal(asked);
+    let text = format!(in asked.alloc(); "{refusal}");
+    asked.say_text(text);
 }

@@ -2,10 +2,9 @@
 //! memory, and the resource descriptors of its link devices. `data/README.md` says how rows are written.
 #![tactic(auto)]
 
-mod bytes;
+mod answers;
 mod descriptors;
 mod distinct;
-mod failure;
 mod faults;
 mod machine_lines;
 mod places;

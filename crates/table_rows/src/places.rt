@@ -1,59 +1,75 @@
 //! Places of bytes, and widths of accesses.
 
-use crate::bytes::hex;
-use crate::failure::Failure;
 use ar_space::{Place, Width};
-use std::alloc::{AllocError, Global};
+use test_rows::Exchange;
+
+/// The widths of accesses, by their bits.
+const WIDTHS: [(&str, Width); 4] = [
+    ("8", Width::W8),
+    ("16", Width::W16),
+    ("32", Width::W32),
+    ("64", Width::W64),
+];
 
 /// A number of 16 bits in hexadecimal digits.
-fn short(text: &str) -> Result<u16, Failure> {
-    Ok(u16::from_str_radix(text, 16)?)
+fn short(asked: &mut Exchange) -> u16 {
+    asked.hexadecimal(0xFFFF) as u16
 }
 
 /// A number of 8 bits in hexadecimal digits.
-fn tiny(text: &str) -> Result<u8, Failure> {
-    Ok(u8::from_str_radix(text, 16)?)
+fn tiny(asked: &mut Exchange) -> u8 {
+    asked.hexadecimal(0xFF) as u8
 }
 
 /// A place: `memory ADDRESS`, `port NUMBER`, or `pci SEGMENT BUS DEVICE FUNCTION REGISTER`.
-pub fn place(alloc: Global, text: &str) -> Result<Place, Failure> {
-    let words: Vec<&str> = text.split(' ').collect(alloc)?;
-    match words.as_slice() {
-        ["memory", address] => Ok(Place::Memory(hex(address)?)),
-        ["port", port] => Ok(Place::Io(short(port)?)),
-        ["pci", seg, bus, dev, func, reg] => Ok(Place::Pci {
-            seg: short(seg)?,
-            bus: tiny(bus)?,
-            dev: tiny(dev)?,
-            func: tiny(func)?,
-            reg: short(reg)?,
-        }),
-        _ => Err(Failure::NoQuestion),
+pub fn place(asked: &mut Exchange) -> Place {
+    match asked.word() {
+        "memory" => Place::Memory(asked.hexadecimal(u64::MAX)),
+        "port" => Place::Io(short(asked)),
+        "pci" => Place::Pci {
+            seg: short(asked),
+            bus: tiny(asked),
+            dev: tiny(asked),
+            func: tiny(asked),
+            reg: short(asked),
+        },
+        _ => {
+            asked.misunderstand();
+            Place::Memory(0)
+        }
     }
 }
 
-/// A place in the words in which rows write it.
-pub fn place_text(alloc: Global, place: Place) -> Result<String, AllocError> {
+/// Answers a place.
+pub fn say_place(asked: &mut Exchange, place: Place) {
     match place {
-        Place::Memory(address) => format!(in alloc; "memory {address:X}"),
-        Place::Io(port) => format!(in alloc; "port {port:X}"),
+        Place::Memory(address) => {
+            asked.say("memory");
+            asked.say_hexadecimal(address);
+        }
+        Place::Io(port) => {
+            asked.say("port");
+            asked.say_hexadecimal(u64::from(port));
+        }
         Place::Pci {
             seg,
             bus,
             dev,
             func,
             reg,
-        } => format!(in alloc; "pci {seg:X} {bus:X} {dev:X} {func:X} {reg:X}"),
+        } => {
+            asked.say("pci");
+            asked.say_hexadecimal(u64::from(seg));
+            asked.say_hexadecimal(u64::from(bus));
+            asked.say_hexadecimal(u64::from(dev));
+            asked.say_hexadecimal(u64::from(func));
+            asked.say_hexadecimal(u64::from(reg));
+        }
     }
 }
 
-/// A width of accesses, by its bits.
-pub fn width(text: &str) -> Result<Width, Failure> {
-    match text {
-        "8" => Ok(Width::W8),
-        "16" => Ok(Width::W16),
-        "32" => Ok(Width::W32),
-        "64" => Ok(Width::W64),
-        _ => Err(Failure::NoQuestion),
-    }
+/// A width of accesses.
+pub fn width(asked: &mut Exchange) -> Width {
+    let bits = asked.word();
+    asked.one_of(&WIDTHS, bits, Width::W8)
 }

@@ -1,73 +1,107 @@
 //! Questions of the register space, of an access's width, and of path texts.
 
-use crate::bytes::{byte_or_none, done, hex, sides, word};
-use crate::failure::Failure;
-use crate::places::{place, place_text, width};
-use ar_space::{PathText, Space, Sparse};
-use std::alloc::Global;
-use test_rows::bytes_of;
+use crate::answers::{hexadecimal, refuse, say_byte, say_done};
+use crate::places::{place, say_place, width};
+use ar_space::{PathText, Refusal, Space, SpaceFault, Sparse};
+use test_rows::Exchange;
 
 /// `put PLACE: BYTES`: puts bytes from a place on.
-pub fn put(alloc: Global, space: &mut Sparse, rest: &str) -> Result<String, Failure> {
-    let (at, bytes) = sides(rest)?;
-    let mut next = Some(place(alloc, at)?);
-    for byte in bytes_of(alloc, bytes)?.iter() {
-        let at = next.ok_or(Failure::NoQuestion)?;
-        space.put(at, *byte)?;
-        next = at.offset_by(1);
+pub fn put(asked: &mut Exchange, space: &mut Sparse) {
+    let mut next = Some(place(asked));
+    let bytes = asked.bytes();
+    for byte in bytes.iter() {
+        match next {
+            Some(at) => {
+                say_done(asked, space.put(at, *byte));
+                next = at.offset_by(1);
+            }
+            None => asked.misunderstand(),
+        }
     }
-    done(alloc)
 }
 
-/// `byte PLACE`: the byte at a place.
-pub fn byte(alloc: Global, space: &Sparse, rest: &str) -> Result<String, Failure> {
-    byte_or_none(alloc, space.byte(place(alloc, rest)?))
+/// The byte at a place.
+pub fn byte(asked: &mut Exchange, space: &Sparse) {
+    let at = place(asked);
+    say_byte(asked, space.byte(at));
 }
 
 /// `memory ADDRESS`: the byte at an address of the space's memory.
-pub fn memory(alloc: Global, space: &Sparse, rest: &str) -> Result<String, Failure> {
-    byte_or_none(alloc, space.memory().byte(hex(rest)?))
+fn memory(asked: &mut Exchange, space: &Sparse) {
+    let address = hexadecimal(asked);
+    say_byte(asked, space.memory().byte(address));
+}
+
+/// Answers what a read gives.
+fn say_read(asked: &mut Exchange, outcome: Result<u64, SpaceFault>) {
+    match outcome {
+        Ok(value) => asked.say_hexadecimal(value),
+        Err(fault) => refuse(asked, Refusal::Space(fault)),
+    }
 }
 
 /// `load WIDTH PLACE`: an access that reads.
-pub fn load(alloc: Global, space: &mut Sparse, rest: &str) -> Result<String, Failure> {
-    let (bits, at) = rest.split_once(' ').ok_or(Failure::NoQuestion)?;
-    let value = space.read(place(alloc, at)?, width(bits)?)?;
-    Ok(format!(in alloc; "{value:X}")?)
+pub fn load<S: Space>(asked: &mut Exchange, space: &mut S) {
+    let width = width(asked);
+    let at = place(asked);
+    say_read(asked, space.read(at, width));
 }
 
 /// `store WIDTH PLACE: VALUE`: an access that writes.
-pub fn store(alloc: Global, space: &mut Sparse, rest: &str) -> Result<String, Failure> {
-    let (target, value) = sides(rest)?;
-    let (bits, at) = target.split_once(' ').ok_or(Failure::NoQuestion)?;
-    space.write(place(alloc, at)?, width(bits)?, hex(value)?)?;
-    done(alloc)
+pub fn store<S: Space>(asked: &mut Exchange, space: &mut S) {
+    let width = width(asked);
+    let at = place(asked);
+    let value = hexadecimal(asked);
+    if let Err(fault) = space.write(at, width, value) {
+        refuse(asked, Refusal::Space(fault));
+    }
 }
 
 /// `beyond N PLACE`: the place that many bytes on.
-pub fn beyond(alloc: Global, rest: &str) -> Result<String, Failure> {
-    let (count, at) = rest.split_once(' ').ok_or(Failure::NoQuestion)?;
-    let count = count.parse::<u8>()?;
-    match place(alloc, at)?.offset_by(count) {
-        Some(place) => Ok(place_text(alloc, place)?),
-        None => word(alloc, "none"),
+fn beyond(asked: &mut Exchange) {
+    let count = asked.number(0xFF) as u8;
+    let at = place(asked);
+    match at.offset_by(count) {
+        Some(place) => say_place(asked, place),
+        None => asked.say("none"),
     }
 }
 
 /// `width BITS`: how many bytes and bits an access of this width has.
-pub fn bytes_and_bits(alloc: Global, rest: &str) -> Result<String, Failure> {
-    let width = width(rest)?;
-    let (bytes, bits) = (width.bytes(), width.bits());
-    Ok(format!(in alloc; "{bytes} bytes {bits} bits")?)
+fn bytes_and_bits(asked: &mut Exchange) {
+    let width = width(asked);
+    asked.say_number(width.bytes() as u64);
+    asked.say("bytes");
+    asked.say_number(u64::from(width.bits()));
+    asked.say("bits");
 }
 
 /// `path lent TEXT` and `path taken TEXT`: the text of a path, as its two calls give it.
-pub fn path(alloc: Global, rest: &str) -> Result<String, Failure> {
-    let (call, text) = rest.split_once(' ').ok_or(Failure::NoQuestion)?;
-    let path = PathText::new(text.to_string(alloc)?);
-    match call {
-        "lent" => word(alloc, path.as_str()),
-        "taken" => Ok(path.into_string()),
-        _ => Err(Failure::NoQuestion),
+fn path(asked: &mut Exchange) {
+    let call = asked.word();
+    match asked.rest().to_string(asked.alloc()) {
+        Ok(text) => {
+            let path = PathText::new(text);
+            match call {
+                "lent" => asked.say(path.as_str()),
+                _ => asked.say(path.into_string().as_str()),
+            }
+        }
+        Err(_) => asked.run_out(),
+    }
+}
+
+/// Answers a question of the register space.
+pub fn answer(asked: &mut Exchange, space: &mut Sparse, word: &str) {
+    match word {
+        "put" => put(asked, space),
+        "byte" => byte(asked, space),
+        "memory" => memory(asked, space),
+        "load" => load(asked, space),
+        "store" => store(asked, space),
+        "beyond" => beyond(asked),
+        "width" => bytes_and_bits(asked),
+        "path" => path(asked),
+        _ => asked.misunderstand(),
     }
 }

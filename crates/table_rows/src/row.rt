@@ -1,6 +1,5 @@
 //! A row: all that its questions have made so far.
 
-use crate::failure::said;
 use crate::questions::answer;
 use crate::structures::Structure;
 use acpi_resources::{InterruptNumbers, Offer};
@@ -11,7 +10,7 @@ use space_trace::Traced;
 use std::alloc::{AllocError, Global};
 use std::rt::Files;
 use std::{fs, io};
-use test_rows::{Question, Subject, difference};
+use test_rows::{Exchange, Question, Subject};
 
 /// What the questions of a row share.
 #[derive(Drop)]
@@ -36,9 +35,9 @@ impl Row {
     /// Puts a question, and gives what is answered in place of what is wanted.
     fn put(&mut self, alloc: Global, line: &str) -> Result<Option<String>, AllocError> {
         let question = Question::new(line);
-        let answered = answer(alloc, self, question.asked);
-        let text = said(alloc, answered)?;
-        difference(alloc, &question, text.as_str())
+        let mut asked = Exchange::new(alloc, question.asked);
+        answer(self, &mut asked);
+        asked.difference(&question)
     }
 
     /// Puts the questions of a file.

@@ -1,10 +1,10 @@
 //! Structures in the memory of a machine: what stands at which address, and the image of it all.
 
-use crate::bytes::{decimal, done, hex, sides};
-use crate::failure::Failure;
+use crate::answers::hexadecimal;
+use ar_space::Refusal;
 use ar_tables::Image;
 use std::alloc::{AllocError, Global};
-use test_rows::bytes_of;
+use test_rows::Exchange;
 
 /// The bytes of a structure, and where it stands.
 #[derive(Drop)]
@@ -14,7 +14,7 @@ pub struct Structure {
 }
 
 /// Puts the first bytes of a structure from its address on.
-fn lay(image: &mut Image, structure: &Structure, count: usize) -> Result<(), Failure> {
+fn lay(image: &mut Image, structure: &Structure, count: usize) -> Result<(), Refusal> {
     for (place, byte) in structure.bytes.iter().take(count).enumerate() {
         image.put(structure.address.wrapping_add(place as u64), *byte)?;
     }
@@ -23,28 +23,41 @@ fn lay(image: &mut Image, structure: &Structure, count: usize) -> Result<(), Fai
 
 /// The image of these structures, with no more than so many bytes of the one at an address.
 pub fn image_of(
-    alloc: Global,
+    asked: &mut Exchange,
     structures: &[Structure],
     address: u64,
     count: usize,
-) -> Result<Image, Failure> {
-    let mut image = Image::new(alloc);
+) -> Image {
+    let mut image = Image::new(asked.alloc());
     for structure in structures {
         let kept = if structure.address == address {
             count
         } else {
             usize::MAX
         };
-        lay(&mut image, structure, kept)?;
+        if lay(&mut image, structure, kept).is_err() {
+            asked.run_out();
+        }
     }
-    Ok(image)
+    image
 }
 
 /// Notes a structure, in place of the one that stands at its address, if one does.
-fn note(structures: &mut Vec<Structure>, address: u64, bytes: Vec<u8>) -> Result<(), AllocError> {
+fn note(
+    asked: &mut Exchange,
+    structures: &mut Vec<Structure>,
+    address: u64,
+    bytes: Result<Vec<u8>, AllocError>,
+) {
     structures.retain(|structure| structure.address != address);
-    structures.push(Structure { address, bytes })?;
-    Ok(())
+    match bytes {
+        Ok(bytes) => {
+            if structures.push(Structure { address, bytes }).is_err() {
+                asked.run_out();
+            }
+        }
+        Err(_) => asked.run_out(),
+    }
 }
 
 /// The sum of bytes, as a checksum counts it.
@@ -84,72 +97,72 @@ fn length_with(body: &[u8]) -> u32 {
 }
 
 /// `structure ADDRESS: BYTES`: a structure of these bytes.
-pub fn put_structure(
-    alloc: Global,
-    structures: &mut Vec<Structure>,
-    rest: &str,
-) -> Result<String, Failure> {
-    let (address, bytes) = sides(rest)?;
-    note(structures, hex(address)?, bytes_of(alloc, bytes)?)?;
-    done(alloc)
+fn put_structure(asked: &mut Exchange, structures: &mut Vec<Structure>) {
+    let address = hexadecimal(asked);
+    let bytes = asked.bytes();
+    note(asked, structures, address, Ok(bytes));
 }
 
 /// `table ADDRESS: SIGNATURE REVISION BODY`: a table whose length and checksum are right.
-pub fn put_table(
-    alloc: Global,
-    structures: &mut Vec<Structure>,
-    rest: &str,
-) -> Result<String, Failure> {
-    let (address, table) = sides(rest)?;
-    let (signature, table) = table.split_once(' ').ok_or(Failure::NoQuestion)?;
-    let (revision, body) = table.split_once(' ').unwrap_or((table, ""));
-    let body = bytes_of(alloc, body)?;
+fn put_table(asked: &mut Exchange, structures: &mut Vec<Structure>) {
+    let address = hexadecimal(asked);
+    let signature = asked.word();
+    let revision = asked.number(0xFF) as u8;
+    let body = asked.bytes();
     let length = length_with(body.as_slice());
-    let revision = revision.parse::<u8>()?;
-    let bytes = table_of(alloc, signature, revision, length, body.as_slice())?;
-    note(structures, hex(address)?, bytes)?;
-    done(alloc)
+    let bytes = table_of(asked.alloc(), signature, revision, length, body.as_slice());
+    note(asked, structures, address, bytes);
 }
 
 /// `header ADDRESS: SIGNATURE REVISION LENGTH`: the header of a table that says it has so many bytes.
-pub fn put_header(
-    alloc: Global,
-    structures: &mut Vec<Structure>,
-    rest: &str,
-) -> Result<String, Failure> {
-    let (address, table) = sides(rest)?;
-    let (signature, table) = table.split_once(' ').ok_or(Failure::NoQuestion)?;
-    let (revision, length) = table.split_once(' ').ok_or(Failure::NoQuestion)?;
-    let revision = revision.parse::<u8>()?;
-    let length = u32::try_from(decimal(length)?).unwrap_or(u32::MAX);
-    let bytes = table_of(alloc, signature, revision, length, &[])?;
-    note(structures, hex(address)?, bytes)?;
-    done(alloc)
+fn put_header(asked: &mut Exchange, structures: &mut Vec<Structure>) {
+    let address = hexadecimal(asked);
+    let signature = asked.word();
+    let revision = asked.number(0xFF) as u8;
+    let length = asked.number(0xFFFF_FFFF) as u32;
+    let bytes = table_of(asked.alloc(), signature, revision, length, &[]);
+    note(asked, structures, address, bytes);
 }
 
-/// Adds an address of a list as often as is written: `4000`, or `4000*256`.
-fn add_address(body: &mut Vec<u8>, word: &str) -> Result<(), Failure> {
-    let (address, times) = word.split_once('*').unwrap_or((word, "1"));
-    let address = hex(address)?.to_le_bytes();
-    for _ in 0..decimal(times)? {
+/// Adds an address of a list so many times.
+fn add_address(body: &mut Vec<u8>, address: u64, times: u64) -> Result<(), AllocError> {
+    let address = address.to_le_bytes();
+    for _ in 0..times {
         body.extend_from_slice(&address)?;
     }
     Ok(())
 }
 
+/// Adds an address of a list as often as is written: `4000`, or `4000*256`.
+fn add_addresses(asked: &mut Exchange, body: &mut Vec<u8>, word: &str) {
+    let (address, times) = word.split_once('*').unwrap_or((word, "1"));
+    let address = asked.digits(address, 16, u64::MAX);
+    let times = asked.digits(times, 10, u64::MAX);
+    if add_address(body, address, times).is_err() {
+        asked.run_out();
+    }
+}
+
 /// `list ADDRESS: ADDRESSES`: an XSDT of these addresses.
-pub fn put_list(
-    alloc: Global,
-    structures: &mut Vec<Structure>,
-    rest: &str,
-) -> Result<String, Failure> {
-    let (address, addresses) = sides(rest)?;
-    let mut body = Vec::new(alloc);
-    for word in addresses.split(' ') {
-        add_address(&mut body, word)?;
+fn put_list(asked: &mut Exchange, structures: &mut Vec<Structure>) {
+    let address = hexadecimal(asked);
+    let mut body = Vec::new(asked.alloc());
+    for word in asked.rest().split(' ') {
+        add_addresses(asked, &mut body, word);
     }
     let length = length_with(body.as_slice());
-    let bytes = table_of(alloc, "XSDT", 1, length, body.as_slice())?;
-    note(structures, hex(address)?, bytes)?;
-    done(alloc)
+    let bytes = table_of(asked.alloc(), "XSDT", 1, length, body.as_slice());
+    note(asked, structures, address, bytes);
+}
+
+/// Answers a question that makes a structure, and says whether it is one.
+pub fn answer(asked: &mut Exchange, structures: &mut Vec<Structure>, word: &str) -> bool {
+    match word {
+        "structure" => put_structure(asked, structures),
+        "table" => put_table(asked, structures),
+        "header" => put_header(asked, structures),
+        "list" => put_list(asked, structures),
+        _ => return false,
+    }
+    true
 }
