@@ -1,3 +1,6 @@
+pub mod Bounds
+pub mod Claims
+pub mod One
 pub mod Placed
 pub mod Reported
 pub mod Turns

@@ -6,25 +6,10 @@ use Rattle.aml_path.specs.Paths.{path_eq}
 use Rattle.ar_tables.specs.declared.madt.MadtEntry.{MadtEntry}
 use Rattle.ar_tables.specs.declared.madt.MadtEntry.TheVariants.{IoApic, SourceOverride}
 use Rattle.ar_tables.specs.Structures.{entries_in, structures_of}
-use Rattle.acpi_resources.specs.declared.form.Form as resource_form
-use Rattle.acpi_resources.specs.declared.form.Form.TheVariants as resource
-use Rattle.acpi_resources.specs.declared.form.Polarity as resource_polarity
-use Rattle.acpi_resources.specs.declared.form.Polarity.TheVariants as level
-use Rattle.acpi_machine.specs.declared.mode.Mode as machine_mode
-use Rattle.acpi_machine.specs.declared.mode.Mode.TheVariants as machine
 use Rattle.acpi_prt.specs.declared.pin.Pin.{Pin}
 use Rattle.acpi_prt.specs.declared.pin.Route.{Route}
 use Rattle.acpi_prt.specs.declared.pin.Route.TheVariants as route
 use Rattle.acpi_links.specs.Links.{PresentLink}
-use Rattle.route_model.specs.Links.{OfferingLink}
-use Rattle.route_solve.specs.Problems.{RoutingAnswer}
-use Rattle.route_check.specs.Claims.{BoundingSet}
-use Rattle.route_report.specs.declared.report.Mode.{Mode}
-use Rattle.route_report.specs.declared.report.Mode.TheVariants as mode
-use Rattle.route_report.specs.declared.report.Form.{Form}
-use Rattle.route_report.specs.declared.report.Form.TheVariants as form
-use Rattle.route_report.specs.declared.report.Polarity.{Polarity}
-use Rattle.route_report.specs.declared.report.Polarity.TheVariants as polarity
 use Rattle.route_report.specs.declared.report.PinName.{PinName}
 use Rattle.route_report.specs.declared.report.PinName.TheVariants as letter
 use Rattle.route_report.specs.declared.report.IoApicLine.{IoApicLine}
@@ -32,21 +17,9 @@ use Rattle.route_report.specs.declared.report.OverrideLine.{OverrideLine}
 use Rattle.route_report.specs.declared.report.PinRoute.{PinRoute}
 use Rattle.route_report.specs.declared.report.PinRoute.TheVariants as way
 use Rattle.route_report.specs.declared.report.PinLine.{PinLine}
-use Rattle.acpi_configure.specs.Rows.{LinkRow}
+use Rattle.route_report.specs.Reports.{ReportedLink}
 
--- ---- names that two crates have for one thing
-
-abbrev pub mode_of : machine_mode.Mode → Mode
-mode_of machine.Pic = mode.Pic
-mode_of machine.Apic = mode.Apic
-
-abbrev pub form_of : resource_form.Form → Form
-form_of resource.Small = form.Small
-form_of resource.Extended = form.Extended
-
-abbrev pub polarity_of : resource_polarity.Polarity → Polarity
-polarity_of level.Low = polarity.Low
-polarity_of level.High = polarity.High
+-- ---- pins
 
 -- 0 to 3
 abbrev pub letter_of : ℕ → PinName
@@ -74,16 +47,10 @@ overrides_of madt = filter_map override_of (entries_of madt)
 
 -- ---- what was gathered
 
-abbrev pub row_of : PresentLink → LinkRow
-row_of link = record { path = link.0; form = form_of link.1.form; polarity = polarity_of link.1.polarity; offers = link.1.numbers; now = link.2 }
+abbrev pub row_of : PresentLink → ReportedLink
+row_of link = record { path = link.0; form = link.1.form; polarity = link.1.polarity; offers = link.1.numbers; now = link.2 }
 
 -- ---- what was chosen
-
--- each link with what it is given
-abbrev pub gives_of : List OfferingLink → List ℕ → List (List Seg × ℕ)
-gives_of [] choice = []
-gives_of (l ∷ ls) [] = []
-gives_of (l ∷ ls) (n ∷ ns) = (l.path, n) ∷ gives_of ls ns
 
 -- what a link is given, if it is among those that are given an interrupt
 abbrev pub given_to : List (List Seg × ℕ) → List Seg → Option ℕ
@@ -101,11 +68,3 @@ pin_route gives (route.Link p) = way_of p (given_to gives p)
 
 abbrev pub pin_line : List (List Seg × ℕ) → List Seg × Pin → PinLine
 pin_line gives pin = record { device = pin.0; number = pin.1.number; pin = letter_of pin.1.pin; route = pin_route gives pin.1.route }
-
--- the path of the link at a place
-abbrev pub path_at : List OfferingLink → ℕ → List Seg
-path_at links k = (slice_index_or links k (record { path = []; offers = [] })).path
-
--- where the busiest interrupt serves no source, nothing has to be shown
-unfoldable pub bound_of : List OfferingLink → RoutingAnswer → Option BoundingSet
-bound_of links a = if a.busiest == 0 then None else Some (record { links = map (path_at links) a.links; interrupts = a.interrupts })

@@ -1,7 +1,8 @@
 //! The lines of what was chosen.
-ghost use Rattle.std.specs.Prelude.{◌≡◌, ◌<◌, ◌==◌, All, Ok, None, Some, length, map, if◌then◌else◌};
+ghost use Rattle.std.specs.Prelude.{◌≡◌, ◌<◌, ◌==◌, All, Ok, None, Some, length, slice_index_or, []};
 ghost use Rattle.ar_space.specs.Outcome.{Answers, seen};
-ghost use Rattle.acpi_configure.specs.Lines.{gives_of, path_at, bound_of};
+ghost use Rattle.route_check.specs.Claimed.{gives_of, paths_at, bound_for};
+ghost use Rattle.route_model.specs.Links.{paths_of};
 
 use aml_path::Path;
 use ar_space::Refusal;
@@ -28,14 +29,14 @@ pub(crate) fn gives_of(
 }
 
 /// The set that shows why no assignment is less busy, where that has to be shown.
-#[tactic(auto, unfolding(crate::specs::Lines::bound_of))]
-pub(crate) fn bound_of(
+#[tactic(auto, using(crate::proofs::Bounds::bounds))]
+pub(crate) fn bound_for(
     alloc: Global,
     links: &[Link],
     answer: &Answer,
 ) -> Result<Option<Bound>, Refusal>
     requires { All (λ k. k < length links.now) answer.now.links }
-    ensures { Answers result (Ok (bound_of links.now answer.now)) }
+    ensures { Answers result (Ok (bound_for answer.now.busiest (record { links = paths_at links.now answer.now.links; interrupts = answer.now.interrupts }))) }
 {
     if answer.busiest == 0 {
         Ok(None)
@@ -51,7 +52,7 @@ fn some_bound(
     interrupts: &[u32],
 ) -> Result<Option<Bound>, Refusal>
     requires { All (λ k. k < length links.now) places.now }
-    ensures { Answers result (Ok (Some (record { links = map (path_at links.now) places.now; interrupts = interrupts.now }))) }
+    ensures { Answers result (Ok (Some (record { links = paths_at links.now places.now; interrupts = interrupts.now }))) }
 {
     let links = paths_at(alloc, links, places)?;
     let interrupts = Vec::from_slice(alloc, interrupts)?;
@@ -60,7 +61,7 @@ fn some_bound(
 
 fn paths_at(alloc: Global, links: &[Link], places: &[usize]) -> Result<Vec<Path>, Refusal>
     requires { All (λ k. k < length links.now) places.now }
-    ensures { Answers (seen (λ list. list.items) result) (Ok (map (path_at links.now) places.now)) }
+    ensures { Answers (seen (λ list. list.items) result) (Ok (paths_at links.now places.now)) }
 {
     let mut list = Vec::new(alloc);
     for place in places {
@@ -73,7 +74,7 @@ fn paths_at(alloc: Global, links: &[Link], places: &[usize]) -> Result<Vec<Path>
 /// The path of the link at a place.
 fn path_at(alloc: Global, links: &[Link], place: usize) -> Result<Path, Refusal>
     requires { place < length links.now }
-    ensures { Answers result (Ok (path_at links.now place)) }
+    ensures { Answers result (Ok (slice_index_or (paths_of links.now) place [])) }
 {
     links[place].path().copy(alloc)
 }

@@ -1,21 +1,23 @@
 //! Gathers, chooses, reports.
-ghost use Rattle.std.specs.Prelude.{◌≡◌, ◌≢◌, ◌<◌, ◌≤◌, All, Ok, Err, IfOk, IfErr, length, map};
+ghost use Rattle.std.specs.Prelude.{◌≡◌, ◌≢◌, ◌⊎◌, ◌<◌, ◌≤◌, All, Ok, Err, IfOk, IfErr, length, map};
 ghost use Rattle.ar_space.specs.declared.refusal.Refusal.TheVariants.{OutOfMemory};
-ghost use Rattle.ar_space.specs.Outcome.{Answers, seen};
+ghost use Rattle.ar_space.specs.Outcome.{Answers};
+ghost use Rattle.route_model.specs.Bound.{IsLowerBound};
+ghost use Rattle.route_model.specs.Links.{offers_of};
 ghost use Rattle.route_solve.specs.Fits.{Fits};
 ghost use Rattle.acpi_links.specs.Gatherings.{gathered};
-ghost use Rattle.acpi_configure.specs.Rows.{rows};
 ghost use Rattle.acpi_configure.specs.Configured.{Solves, report_of, IsDryReport};
 
-use crate::chosen_lines::{bound_of, gives_of};
+use crate::chosen_lines::{bound_for, gives_of};
 use crate::link_lines::link_lines;
 use crate::madt_lines::{io_apics_of, overrides_of};
-use crate::names::mode_of;
 use crate::pin_lines::pin_lines;
 use acpi_links::{Gathered, gather};
 use acpi_machine::Machine;
 use ar_space::{Refusal, Space};
+use route_check::laws::an_assignment_with_its_bound_is_valid;
 use route_report::Report;
+use route_report::laws::{a_claim_in_order_stays, the_claim_of_an_assignment_is_in_order};
 use route_solve::{Answer, Problem, solve};
 use std::alloc::Global;
 
@@ -25,12 +27,19 @@ use std::alloc::Global;
 /// busiest interrupt serves the fewest sources: compared link by link in path order, the smaller interrupt first. The bound
 /// is the set of links and interrupts that shows why none is less busy; there is none where no interrupt serves a source.
 /// The report has no line of a link that was set.
+///
+/// The text of the report can be read back; what it claims then is just this answer, and `route_check::check` says that the
+/// claim is valid.
 pub fn configure_dry<S: Space>(alloc: Global, machine: &mut Machine<S>) -> Result<Report, Refusal>
-    ensures report { IfOk result (λ report. IsDryReport S.accesses machine.old machine.new (rows report)) }
+    ensures report { IfOk result (λ report. IsDryReport S.accesses machine.old machine.new report) }
     ensures refusal { IfErr result (λ refusal. refusal ≢ OutOfMemory → gathered S.accesses machine.old ≡ (Err refusal, machine.new)) }
 {
     let gathered = gather(alloc, machine)?;
     let answer = answer_to(alloc, gathered.problem())?;
+    // the laws that the claim of the report rests on
+    an_assignment_with_its_bound_is_valid();
+    the_claim_of_an_assignment_is_in_order();
+    a_claim_in_order_stays();
     report_of(alloc, machine, &gathered, &answer)
 }
 
@@ -39,6 +48,7 @@ pub fn configure_dry<S: Space>(alloc: Global, machine: &mut Machine<S>) -> Resul
 fn answer_to(alloc: Global, problem: &Problem) -> Result<Answer, Refusal>
     requires { Fits problem.now }
     ensures solves { IfOk result (λ answer. Solves problem.now answer) }
+    ensures bound { IfOk result (λ answer. (answer.busiest ≡ 0) ⊎ IsLowerBound (offers_of problem.now.links) problem.now.wired answer.busiest answer.links answer.interrupts) }
     ensures memory { IfErr result (λ refusal. refusal ≡ OutOfMemory) }
 {
     Ok(solve(alloc, problem)?)
@@ -53,7 +63,7 @@ fn report_of<S: Space>(
     answer: &Answer,
 ) -> Result<Report, Refusal>
     requires { Solves gathered.now.problem answer.now }
-    ensures { Answers (seen rows result) (Ok (report_of machine.now gathered.now answer.now)) }
+    ensures { Answers result (Ok (report_of machine.now gathered.now answer.now)) }
 {
     let problem = gathered.problem();
     let io_apics = io_apics_of(alloc, machine.madt())?;
@@ -62,9 +72,9 @@ fn report_of<S: Space>(
     let wired = Vec::from_slice(alloc, problem.wired())?;
     let gives = gives_of(alloc, problem.links(), &answer.choice)?;
     let pins = pin_lines(alloc, &gives, gathered.pins())?;
-    let bound = bound_of(alloc, problem.links(), answer)?;
+    let bound = bound_for(alloc, problem.links(), answer)?;
     Ok(Report {
-        mode: mode_of(machine.mode()),
+        mode: machine.mode(),
         io_apics,
         overrides,
         links,

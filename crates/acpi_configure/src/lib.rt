@@ -3,6 +3,7 @@
 
 mod chosen_lines;
 mod configuring;
+pub mod laws;
 mod link_lines;
 mod madt_lines;
 mod names;

@@ -1,10 +1,8 @@
 //! The lines of link devices.
 ghost use Rattle.std.specs.Prelude.{◌≡◌, Ok, IfOk, map, option_map};
 ghost use Rattle.ar_space.specs.Outcome.{Answers, seen};
-ghost use Rattle.acpi_configure.specs.Rows.{link_row};
 ghost use Rattle.acpi_configure.specs.Lines.{row_of};
 
-use crate::names::{form_of, polarity_of};
 use acpi_links::PresentLink;
 use acpi_resources::{InterruptNumbers, Offer};
 use aml_path::Path;
@@ -14,7 +12,7 @@ use std::alloc::{AllocError, Global};
 
 /// A line for each present link.
 pub(crate) fn link_lines(alloc: Global, links: &[PresentLink]) -> Result<Vec<LinkLine>, Refusal>
-    ensures { Answers (seen (λ list. map link_row list.items) result) (Ok (map row_of links.now)) }
+    ensures { Answers (seen (λ list. list.items) result) (Ok (map row_of links.now)) }
 {
     let mut list = Vec::new(alloc);
     for (path, offer, now) in links {
@@ -30,15 +28,15 @@ fn link_line(
     offer: &Offer,
     now: &Option<InterruptNumbers>,
 ) -> Result<LinkLine, Refusal>
-    ensures { Answers (seen link_row result) (Ok (row_of (path.now, offer.now, now.now))) }
+    ensures { Answers result (Ok (row_of (path.now, offer.now, now.now))) }
 {
     let path = path.copy(alloc)?;
     let offers = Vec::from_slice(alloc, offer.numbers())?;
     let now = numbers_now(alloc, now)?;
     Ok(LinkLine {
         path,
-        form: form_of(offer.form()),
-        polarity: polarity_of(offer.polarity()),
+        form: offer.form(),
+        polarity: offer.polarity(),
         offers,
         now,
     })

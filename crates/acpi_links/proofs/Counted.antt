@@ -6,6 +6,7 @@ use Rattle.std.specs.List.Sorted.{IsStrictlySortedBy, IsStrictlyIncreasing}
 use Rattle.std.specs.Ordering.{nat_cmp}
 use Rattle.std.specs.declared.cmp.Ordering.TheVariants.{Less}
 use Rattle.std.proofs.lemmas.Bool.{eqb-true}
+use Rattle.std.proofs.lemmas.List.{length-map}
 use Rattle.std.proofs.lemmas.List.Sums.{sum_by-cons}
 use Rattle.std.proofs.lemmas.Map.Keys.{IsStrictlyIncreasing-from_sorted}
 use Rattle.acpi_links.specs.Problems.{counted, wired_counts}
@@ -103,3 +104,6 @@ counts_ascend ms set counts s e = rw (e, counted-numbers ms set) (IsStrictlyIncr
 
 pub counts_within : (ms set : List ℕ) (counts : List (ℕ × ℕ)) (k : ℕ) → length ms ≤ k → IsStrictlySortedBy nat_cmp set → counts ≡ map (counted ms) set → sum_by (λ (w : ℕ × ℕ). w.1) counts ≤ k
 counts_within ms set counts k l s e = rw e (let h = counts-few set ms s in omega arith)
+
+pub counts_as_many : (ms set : List ℕ) (counts : List (ℕ × ℕ)) (k : ℕ) → length ms ≤ k → length set ≤ length ms → counts ≡ map (counted ms) set → length counts ≤ k
+counts_as_many ms set counts k l s e = rw (e, length-map) (omega arith)

@@ -1,10 +1,12 @@
 -- The parts of a problem.
-use Rattle.std.proofs.Common.{◌≡◌, ℕ, ◌+◌, ◌<◌, ◌≤◌, List, [], ◌∷◌, ◌++◌, Option, Some, None, length, map, drop, get_or, Ok, refl, ◌∙◌, sym, ap, drop-cons, add-one, append_assoc, append-nil}
+use Rattle.std.proofs.Common.{◌≡◌, ℕ, ◌+◌, ◌<◌, ◌≤◌, List, [], ◌∷◌, ◌++◌, Option, Some, None, length, map, drop, get_or, Ok, arith, refl, ◌∙◌, sym, ap, drop-cons, add-one, append_assoc, append-nil}
 use Rattle.std.proofs.lemmas.List.{drop_all, get_or-map, length-map}
 use Rattle.std.specs.Prelude.{All, sum_by}
 use Rattle.std.specs.List.{cons_option}
 use Rattle.std.specs.List.Sorted.{IsStrictlySortedBy, IsStrictlyIncreasing}
-use Rattle.std.specs.Ordering.{nat_cmp}
+use Rattle.std.specs.Ordering.{nat_cmp, match_ordering}
+use Rattle.std.specs.declared.cmp.Ordering.{Ordering}
+use Rattle.std.specs.declared.cmp.Ordering.TheVariants.{Less, Equal, Greater}
 use Rattle.std.specs.BTreeSet.{insert_key}
 use Rattle.ar_space.specs.Outcome.{Answers}
 use Rattle.aml_path.specs.declared.segment.Seg.{Seg}
@@ -39,6 +41,24 @@ set_more all set after ns i so l e = rw (e, add-one) (sym (rw (drop-cons ns i 0 
 pub set_end : (all set after ns : List ℕ) (i : ℕ) → with_numbers set (drop i ns) ≡ all → length ns ≤ i → after ≡ set → after ≡ all
 unfolding with_numbers
 set_end all set after ns i so l e = e ∙ (sym (rw (drop_all i ns l) refl) ∙ so)
+
+-- a set has no more numbers than were put into it
+by_order : (o : Ordering) (a b c : List ℕ) (k : ℕ) → length a ≤ k → length b ≤ k → length c ≤ k → length (match_ordering o a b c) ≤ k
+by_order Less a b c k x y z = x
+by_order Equal a b c k x y z = y
+by_order Greater a b c k x y z = z
+
+one_grown : (set : List ℕ) (n : ℕ) → length (insert_key nat_cmp set n) ≤ length set + 1
+one_grown [] n = omega arith
+one_grown (m ∷ ms) n =
+    let h = one_grown ms n in
+    by_order (nat_cmp n m) (n ∷ m ∷ ms) (m ∷ ms) (m ∷ insert_key nat_cmp ms n) (length (m ∷ ms) + 1) (omega arith) (omega arith) (omega arith)
+
+pub set_grown : (after set : List ℕ) (i n : ℕ) → after ≡ insert_key nat_cmp set n → length set ≤ i → length after ≤ i + 1
+set_grown after set i n e l = rw e (let h = one_grown set n in omega arith)
+
+pub set_few : (after set : List ℕ) (i k : ℕ) → after ≡ set → length set ≤ i → i ≤ k → length after ≤ k
+set_few after set i k e l m = rw e (omega arith)
 
 -- a problem is made of its parts, and can be solved
 pub problem_is : (links : List PresentLink) (pins : List (List Seg × Pin)) (ls : List OfferingLink) (ns : List ℕ) (wired : List (ℕ × ℕ))

@@ -9,7 +9,7 @@ use Rattle.acpi_machine.specs.Kinds as kind
 use Rattle.acpi_machine.specs.Kinds.{Kind, kinds_walked}
 use Rattle.acpi_prt.specs.declared.pin.Pin.{Pin}
 use Rattle.acpi_prt.specs.RoutingTables.{routing_table}
-use Rattle.acpi_links.specs.Naming.{named_below}
+use Rattle.acpi_prt.specs.Children.{child_named}
 use Rattle.acpi_links.specs.Answered.{stands}
 use Rattle.acpi_links.specs.Folds.{folded}
 
@@ -55,7 +55,7 @@ module _ {S : Type 0} (accesses : Accesses S) where
 
   unfoldable pub pins_of_device : List Seg → Change (MachineState S) (List (List Seg × Pin))
   pins_of_device device = do
-    prt ← settle (named_below device (codes "_PRT"))
+    prt ← settle (child_named device (codes "_PRT"))
     pins ← pins_at device prt
     give (with_device device pins)
 

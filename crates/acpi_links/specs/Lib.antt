@@ -4,7 +4,6 @@ pub mod Folds
 pub mod Gathering
 pub mod Gatherings
 pub mod Links
-pub mod Naming
 pub mod Presence
 pub mod Problems
 pub mod Resources

@@ -9,7 +9,7 @@ use Rattle.aml_path.specs.declared.segment.Seg.{Seg}
 use Rattle.aml_meaning.specs.Given as given
 use Rattle.acpi_machine.specs.MachineStates.{MachineState}
 use Rattle.acpi_machine.specs.Calls.{evaluated_object}
-use Rattle.acpi_links.specs.Naming.{named_below}
+use Rattle.acpi_prt.specs.Children.{child_named}
 use Rattle.acpi_links.specs.Answered.{stands}
 
 -- bit 0 of an integer; no other value is taken
@@ -37,5 +37,5 @@ module _ {S : Type 0} (accesses : Accesses S) where
   -- a link without _STA is present
   unfoldable pub is_present : List Seg → Change (MachineState S) Bool
   is_present link = do
-    sta ← settle (named_below link (codes "_STA"))
+    sta ← settle (child_named link (codes "_STA"))
     presence_at sta

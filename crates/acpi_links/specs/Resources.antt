@@ -10,7 +10,7 @@ use Rattle.acpi_resources.specs.Records.{InterruptOffer}
 use Rattle.acpi_resources.specs.Offers.{possible_of}
 use Rattle.acpi_resources.specs.Current.{current_of}
 use Rattle.acpi_machine.specs.MachineStates.{MachineState}
-use Rattle.acpi_links.specs.Naming.{named_below}
+use Rattle.acpi_prt.specs.Children.{child_named}
 use Rattle.acpi_links.specs.Answered.{stands, buffer_at}
 
 -- accesses: what the register space makes of them
@@ -28,7 +28,7 @@ module _ {S : Type 0} (accesses : Accesses S) where
   -- what a link may be set to
   unfoldable pub possible_resources : List Seg → Change (MachineState S) InterruptOffer
   possible_resources link = do
-    prs ← settle (named_below link (codes "_PRS"))
+    prs ← settle (child_named link (codes "_PRS"))
     possible_at link prs
 
   -- the numbers in the buffer that an object answers
@@ -45,5 +45,5 @@ module _ {S : Type 0} (accesses : Accesses S) where
   -- what a link is set to
   unfoldable pub current_resources : List Seg → Change (MachineState S) (Option (List ℕ))
   current_resources link = do
-    crs ← settle (named_below link (codes "_CRS"))
+    crs ← settle (child_named link (codes "_CRS"))
     current_at crs

@@ -2,33 +2,16 @@
 ghost use Rattle.std.specs.Prelude.{◌≡◌, Ok};
 ghost use Rattle.ar_space.specs.Outcome.{Answers, seen};
 ghost use Rattle.ar_space.specs.Change.{Does};
-ghost use Rattle.aml_path.specs.Segments.{seg_of};
 ghost use Rattle.aml_meaning.specs.Given.{given_of};
 ghost use Rattle.acpi_machine.specs.Calls.{evaluated_object};
-ghost use Rattle.acpi_links.specs.Naming.{named_below};
 ghost use Rattle.acpi_links.specs.Answered.{stands, bytes_in, buffer_at};
 
 use acpi_machine::Machine;
 use aml_meaning::Datum;
 use aml_objects::Octets;
-use aml_path::{Path, Seg};
+use aml_path::Path;
 use ar_space::{Refusal, Space, ValueFault};
 use std::alloc::Global;
-
-/// The path of a name of four characters below another.
-#[tactic(auto, using(ar_space::specs::Outcome::answering), unfolding(crate::specs::Naming::named_below))]
-pub(crate) fn named_below(alloc: Global, path: &Path, name: [u8; 4]) -> Result<Path, Refusal>
-    ensures { Answers result (named_below path.now name) }
-{
-    let segment = segment(name)?;
-    path.child(alloc, segment)
-}
-
-fn segment(name: [u8; 4]) -> Result<Seg, Refusal>
-    ensures { Answers result (seg_of name) }
-{
-    Seg::new(name)
-}
 
 /// Whether a name stands at a path.
 pub(crate) fn stands<S: Space>(machine: &Machine<S>, path: &Path) -> bool

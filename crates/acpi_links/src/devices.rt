@@ -6,9 +6,9 @@ ghost use Rattle.ar_space.specs.Change.{Does};
 ghost use Rattle.acpi_machine.specs.Kinds.{kind_seen};
 ghost use Rattle.acpi_links.specs.Devices.{is_device, device_path, devices, pins_at, with_device, pins_of_device, pins_of_each};
 
-use crate::answers::{named_below, stands};
+use crate::answers::stands;
 use acpi_machine::{Kind, Machine};
-use acpi_prt::{Pin, get_irq_routing_table};
+use acpi_prt::{Pin, child_named, get_irq_routing_table};
 use aml_path::Path;
 use ar_space::{Refusal, Space};
 use std::alloc::Global;
@@ -65,7 +65,7 @@ fn pins_of_device<S: Space>(
 ) -> Result<Vec<(Path, Pin)>, Refusal>
     ensures { Does (seen (λ list. list.items) result) machine.new (pins_of_device S.accesses device.now) machine.old }
 {
-    let path = named_below(alloc, device, *b"_PRT")?;
+    let path = child_named(alloc, device, *b"_PRT")?;
     let pins = pins_at(alloc, machine, device, &path)?;
     with_device(alloc, device, pins)
 }

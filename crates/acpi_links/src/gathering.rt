@@ -7,6 +7,7 @@ ghost use Rattle.aml_path.specs.Paths.{path_cmp};
 ghost use Rattle.route_solve.specs.Fits.{Fits};
 ghost use Rattle.acpi_links.specs.Devices.{devices_listed};
 ghost use Rattle.acpi_links.specs.Gatherings.{pins_found, links_found, gathering, gathered};
+ghost use Rattle.acpi_links.specs.Problems.{problem_of};
 
 use crate::devices::{devices, pins_of_each};
 use crate::gathered::Gathered;
@@ -28,7 +29,9 @@ use std::alloc::Global;
 #[tactic(auto, using(ar_space::specs::Change::changing), unfolding(crate::specs::Gatherings::gathered))]
 pub fn gather<S: Space>(alloc: Global, machine: &mut Machine<S>) -> Result<Gathered, Refusal>
     ensures value { Does result machine.new (gathered S.accesses) machine.old }
+    ensures posed { IfOk result (λ g. g.problem ≡ problem_of g.links g.pins) }
     ensures fits { IfOk result (λ g. Fits g.problem) }
+    ensures few_wired { IfOk result (λ g. length g.problem.wired ≤ 4096) }
 {
     let pins = pins_found(alloc, machine)?;
     let links = links_found(alloc, machine, &pins)?;
@@ -84,7 +87,9 @@ fn gathering(
     requires few { length links.items ≤ 256 }
     requires in_order { IsStrictlySortedBy path_cmp (map (λ link. link.0) links.items) }
     ensures value { Answers result (Ok (gathering pins.items links.items)) }
+    ensures posed { IfOk result (λ g. g.problem ≡ problem_of g.links g.pins) }
     ensures fits { IfOk result (λ g. Fits g.problem) }
+    ensures few_wired { IfOk result (λ g. length g.problem.wired ≤ 4096) }
 {
     let problem = problem_of(alloc, &links, &pins)?;
     Ok(Gathered {

@@ -5,8 +5,9 @@ ghost use Rattle.ar_space.specs.Change.{Does};
 ghost use Rattle.aml_meaning.specs.Given.{given_of};
 ghost use Rattle.acpi_links.specs.Presence.{presence, status_at, presence_at, is_present};
 
-use crate::answers::{named_below, stands};
+use crate::answers::stands;
 use acpi_machine::Machine;
+use acpi_prt::child_named;
 use aml_meaning::Datum;
 use aml_path::Path;
 use ar_space::{Refusal, Space, ValueFault};
@@ -23,7 +24,7 @@ pub(crate) fn is_present<S: Space>(
 ) -> Result<bool, Refusal>
     ensures { Does result machine.new (is_present S.accesses link.now) machine.old }
 {
-    let path = named_below(alloc, link, *b"_STA")?;
+    let path = child_named(alloc, link, *b"_STA")?;
     presence_at(alloc, machine, &path)
 }
 

@@ -29,6 +29,7 @@ pub(crate) fn problem_of(
     requires in_order { IsStrictlySortedBy path_cmp (map (λ link. link.0) links.now) }
     ensures value { Answers result (Ok (problem_of links.now pins.now)) }
     ensures fits { IfOk result Fits }
+    ensures few_wired { IfOk result (λ p. length p.wired ≤ 4096) }
 {
     let offering = offering_links(alloc, links)?;
     let numbers = wired_numbers(alloc, pins)?;
@@ -90,6 +91,7 @@ fn wired_counts(alloc: Global, numbers: &[u32]) -> Result<Vec<(u32, u32)>, Alloc
     ensures value { IfOk result (λ list. list.items ≡ wired_counts numbers.now) }
     ensures ascending { IfOk result (λ list. IsStrictlyIncreasing (map (λ w. w.0) list.items)) }
     ensures counts { IfOk result (λ list. sum_by (λ w. w.1) list.items ≤ 4096) }
+    ensures few { IfOk result (λ list. length list.items ≤ 4096) }
 {
     let set = set_of(alloc, numbers)?;
     Ok(counts_of(alloc, numbers, set)?)
@@ -111,6 +113,7 @@ fn counts_of(alloc: Global, numbers: &[u32], set: Vec<u32>) -> Result<Vec<(u32, 
 fn set_of(alloc: Global, numbers: &[u32]) -> Result<Vec<u32>, AllocError>
     ensures value { IfOk result (λ list. list.items ≡ set_of numbers.now) }
     ensures ascending { IfOk result (λ list. IsStrictlySortedBy nat_cmp list.items) }
+    ensures few { IfOk result (λ list. length list.items ≤ length numbers.now) }
 {
     let mut set = BTreeSet::new(alloc);
     for n in numbers {

@@ -7,8 +7,9 @@ ghost use Rattle.ar_space.specs.declared.refusal.RoutingFault.TheVariants as rou
 ghost use Rattle.aml_path.specs.Text.{text_of};
 ghost use Rattle.acpi_links.specs.Resources.{possible_resources, possible_at, offer_at, current_resources, current_at, numbers_at};
 
-use crate::answers::{buffer_at, named_below, stands};
+use crate::answers::{buffer_at, stands};
 use acpi_machine::Machine;
+use acpi_prt::child_named;
 use acpi_resources::{InterruptNumbers, Offer, current, possible};
 use aml_path::Path;
 use ar_space::{PathText, Refusal, RoutingFault, Space};
@@ -26,7 +27,7 @@ pub fn get_possible_resources<S: Space>(
 ) -> Result<Offer, Refusal>
     ensures { Does result machine.new (possible_resources S.accesses link.now) machine.old }
 {
-    let path = named_below(alloc, link, *b"_PRS")?;
+    let path = child_named(alloc, link, *b"_PRS")?;
     possible_at(alloc, machine, link, &path)
 }
 
@@ -80,7 +81,7 @@ pub fn get_current_resources<S: Space>(
 ) -> Result<Option<InterruptNumbers>, Refusal>
     ensures { Does result machine.new (current_resources S.accesses link.now) machine.old }
 {
-    let path = named_below(alloc, link, *b"_CRS")?;
+    let path = child_named(alloc, link, *b"_CRS")?;
     current_at(alloc, machine, &path)
 }
 

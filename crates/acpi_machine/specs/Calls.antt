@@ -9,8 +9,8 @@ use Rattle.aml_path.specs.declared.segment.Seg.{Seg}
 use Rattle.aml_meaning.specs.State.{State}
 use Rattle.aml_meaning.specs.Given as given
 use Rattle.aml_meaning.specs.Calling.{answered}
-use Rattle.acpi_machine.specs.declared.mode.Mode.{Mode}
-use Rattle.acpi_machine.specs.declared.mode.Mode.TheVariants.{Pic, Apic}
+use Rattle.ar_tables.specs.declared.mode.Mode.{Mode}
+use Rattle.ar_tables.specs.declared.mode.Mode.TheVariants.{Pic, Apic}
 use Rattle.acpi_machine.specs.MachineStates.{MachineState}
 use Rattle.acpi_machine.specs.FixedPaths.{at_root, below_root}
 use Rattle.acpi_machine.specs.Loading.{few_texts}

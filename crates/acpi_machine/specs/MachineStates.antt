@@ -4,9 +4,9 @@ use Rattle.std.specs.Coded.{Coded, code_by, coded×, coded_ℕ, coded_bool}
 use Rattle.ar_tables.specs.declared.tables.Tables.{Tables}
 use Rattle.ar_tables.specs.contracts.tables.Tables as tables_type
 use Rattle.aml_meaning.specs.State.{State, state_code}
-use Rattle.acpi_machine.specs.declared.mode.Mode.{Mode}
-use Rattle.acpi_machine.specs.declared.mode.Mode.TheVariants.{Apic}
-use Rattle.acpi_machine.specs.contracts.mode.Mode as mode_type
+use Rattle.ar_tables.specs.declared.mode.Mode.{Mode}
+use Rattle.ar_tables.specs.declared.mode.Mode.TheVariants.{Apic}
+use Rattle.ar_tables.specs.contracts.mode.Mode as mode_type
 
 -- the world, the tables, the mode, how many steps an evaluation may take, and whether a call ran out of memory
 pub record MachineState (S : Type 0) : Type 0 where

@@ -12,7 +12,7 @@ use Rattle.aml_path.specs.declared.segment.Seg.{Seg}
 use Rattle.aml_meaning.specs.State.{State}
 use Rattle.aml_meaning.specs.Given.{Given}
 use Rattle.aml_meaning.specs.Calling.{answered}
-use Rattle.acpi_machine.specs.declared.mode.Mode.{Mode}
+use Rattle.ar_tables.specs.declared.mode.Mode.{Mode}
 use Rattle.acpi_machine.specs.Calls.{on_world, object_answered, unless_spent}
 use Rattle.acpi_machine.specs.MachineStates.{MachineState}
 

@@ -15,12 +15,13 @@ ghost use Rattle.acpi_machine.specs.Calls.{object_answered, evaluated_object, ob
 
 use crate::loading::few_texts;
 use crate::machine::Machine;
-use crate::mode::Mode;
+use crate::mode::mode_number;
 use aml_interp::answer;
 use aml_meaning::Datum;
 use aml_objects::Octets;
 use aml_path::{Path, Seg};
 use ar_space::{MachineFault, Refusal, Space};
+use ar_tables::Mode;
 use std::alloc::Global;
 
 const SPENT: Refusal = Refusal::Machine(MachineFault::Spent);
@@ -146,7 +147,7 @@ impl<S: Space> Machine<S> {
         let bus_ini = below_root(alloc, *b"_SB_", *b"_INI")?;
         self.call_where_it_stands(alloc, &bus_ini, Vec::new(alloc))?;
         let pic = at_root(alloc, *b"_PIC")?;
-        self.call_where_it_stands(alloc, &pic, one_integer(alloc, mode.number())?)
+        self.call_where_it_stands(alloc, &pic, one_integer(alloc, mode_number(mode))?)
     }
 
     /// Calls what stands at a path itself, if anything does.

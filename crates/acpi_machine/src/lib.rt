@@ -9,7 +9,7 @@ mod mode;
 mod named_tables;
 mod nodes;
 
+pub use ar_tables::Mode;
 pub use kind::Kind;
 pub use loading::load_tables;
 pub use machine::Machine;
-pub use mode::Mode;

@@ -9,12 +9,11 @@ ghost use Rattle.acpi_machine.specs.MachineStates.{machine_of};
 ghost use Rattle.acpi_machine.specs.Loading.{few_texts, each_loaded, all_loaded, loaded_tables, table_loaded};
 
 use crate::machine::Machine;
-use crate::mode::Mode;
 use aml_interp::load;
 use aml_meaning::World;
 use aml_objects::Octets;
 use ar_space::{EvaluationFault, Refusal, Space};
-use ar_tables::{Table, Tables};
+use ar_tables::{Mode, Table, Tables};
 use std::alloc::Global;
 
 /// How many texts `_OSI` may know.

@@ -1,10 +1,9 @@
 //! A machine, and what it shows without evaluating.
 ghost use Rattle.std.specs.Prelude.{◌≡◌, option_map};
 
-use crate::mode::Mode;
 use aml_meaning::World;
 use ar_space::Space;
-use ar_tables::{Madt, Tables};
+use ar_tables::{Madt, Mode, Tables};
 use std::marker::Model;
 
 /// A machine: the world that its tables were loaded into, the tables, how it delivers interrupts, how many steps an

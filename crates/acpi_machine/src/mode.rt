@@ -1,24 +1,15 @@
-//! How a machine delivers interrupts.
+//! How firmware is told the mode.
 ghost use Rattle.std.specs.Prelude.{◌≡◌};
 ghost use Rattle.acpi_machine.specs.Calls.{mode_number};
 
-/// Which interrupt controllers a machine uses: firmware is told so by `\_PIC` (ACPI 6.5, 5.8.1).
-#[derive(Clone, Copy, Debug, PartialEq, Eq)]
-pub enum Mode {
-    /// The two 8259 controllers.
-    Pic,
-    /// I/O APICs.
-    Apic,
-}
+use ar_tables::Mode;
 
-impl Mode {
-    /// The argument of `\_PIC` that stands for the mode: 0 or 1.
-    pub(crate) fn number(self) -> u64
-        ensures { result ≡ mode_number self }
-    {
-        match self {
-            Mode::Pic => 0,
-            Mode::Apic => 1,
-        }
+/// The argument of `\_PIC` that stands for a mode: 0 or 1.
+pub(crate) fn mode_number(mode: Mode) -> u64
+    ensures { result ≡ mode_number mode }
+{
+    match mode {
+        Mode::Pic => 0,
+        Mode::Apic => 1,
     }
 }

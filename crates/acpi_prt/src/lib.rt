@@ -6,5 +6,6 @@ mod link;
 mod pin;
 mod routing_table;
 
+pub use link::child_named;
 pub use pin::{Pin, Route};
 pub use routing_table::get_irq_routing_table;

@@ -112,9 +112,9 @@ fn is_link_id(id: &Datum) -> Result<(), Refusal>
     if is { Ok(()) } else { Err(NOT_A_LINK) }
 }
 
-/// The path of a name one level below another.
+/// The path of a name of four characters one level below another, or `BadName` where the characters are no name segment.
 #[tactic(auto, using(ar_space::specs::Outcome::answering), unfolding(crate::specs::Children::child_named))]
-pub(crate) fn child_named(alloc: Global, path: &Path, name: [u8; 4]) -> Result<Path, Refusal>
+pub fn child_named(alloc: Global, path: &Path, name: [u8; 4]) -> Result<Path, Refusal>
     ensures { Answers result (child_named path.now name) }
 {
     let segment = segment(name)?;

@@ -1,23 +1,54 @@
 //! The program: hands its words, input, output and errors to `acpiroute_lib::run`.
 #![tactic(auto)]
 
-use acpiroute_lib::run;
+use acpiroute_lib::{Outside, run};
+use std::alloc::{AllocError, Global};
+use std::env::Env;
 use std::process::ExitCode;
 use std::{env, io};
 
-fn main(rt: HostRuntime) -> io::Result<ExitCode> {
-    let alloc = rt.alloc();
-    let words: Vec<String> = env::args(&rt)?.collect(alloc)?;
-    let mut texts: Vec<&str> = Vec::new(alloc);
-    for word in words.iter() {
+/// The program's words, its own name first. An error where one is not UTF-8, or memory runs out.
+fn words<R: Env + AllocGlobal>(rt: &R) -> io::Result<Vec<String>> {
+    Ok(env::args(rt)?.collect(rt.alloc())?)
+}
+
+/// The texts of words.
+fn texts<'a>(alloc: Global, words: &'a [String]) -> Result<Vec<&'a str>, AllocError> {
+    let mut texts = Vec::new(alloc);
+    for word in words {
         texts.push(word.as_str())?;
     }
+    Ok(texts)
+}
+
+/// What is told where there are no words.
+fn complaint(error: &io::Error) -> &'static str {
+    match error.kind() {
+        io::ErrorKind::OutOfMemory => "error: out of memory",
+        _ => "error: the words of the command line are not UTF-8",
+    }
+}
+
+fn main(rt: HostRuntime) -> io::Result<ExitCode> {
+    let alloc = rt.alloc();
+    let words = match words(&rt) {
+        Ok(words) => words,
+        Err(error) => {
+            let complaint = complaint(&error);
+            let _ = eprintln!(rt; "{complaint}");
+            return Ok(ExitCode::from(2));
+        }
+    };
+    let Ok(texts) = texts(alloc, words.as_slice()) else {
+        let _ = eprintln!(rt; "error: out of memory");
+        return Ok(ExitCode::from(2));
+    };
     let status = run(
         alloc,
         texts.as_slice(),
-        &mut rt.reader(),
-        &mut io::writer(&rt),
-        &mut rt.stderr(),
+        &mut Outside::new(rt.reader()),
+        &mut Outside::new(io::writer(&rt)),
+        &mut Outside::new(rt.stderr()),
     );
     Ok(ExitCode::from(status))
 }

@@ -7,14 +7,14 @@ use Rattle.ar_space.specs.Change.{Does}
 use Rattle.ar_space.specs.Outcome.{Outcome, Answers}
 use Rattle.acpi_machine.specs.Calls.{initialized}
 use Rattle.acpi_machine.specs.MachineStates.{MachineState}
-use Rattle.route_report.specs.declared.report.Mode.{Mode}
-use Rattle.acpiroute_lib.specs.Machines.{machine_mode_of, initialized_machine}
+use Rattle.ar_tables.specs.declared.mode.Mode.{Mode}
+use Rattle.acpiroute_lib.specs.Machines.{initialized_machine}
 
-pub initialized_ok : {u : Unit {0}} {m after : MachineState Bytes} (mode : Mode) → Does (Ok u) after (initialized byte_accesses (machine_mode_of mode)) m → Answers (Ok after) (initialized_machine mode m)
+pub initialized_ok : {u : Unit {0}} {m after : MachineState Bytes} (mode : Mode) → Does (Ok u) after (initialized byte_accesses mode) m → Answers (Ok after) (initialized_machine mode m)
 unfolding initialized_machine
 initialized_ok mode h = record { is = λ _. rw (h.is tt) refl }
 
-pub initialized_err : {e : Refusal} {m after : MachineState Bytes} {r : Outcome (MachineState Bytes)} (mode : Mode) → Does (Err e) after (initialized byte_accesses (machine_mode_of mode)) m → IsErr r × IsErrAnd r (λ x. x ≡ e)
+pub initialized_err : {e : Refusal} {m after : MachineState Bytes} {r : Outcome (MachineState Bytes)} (mode : Mode) → Does (Err e) after (initialized byte_accesses mode) m → IsErr r × IsErrAnd r (λ x. x ≡ e)
     → Answers r (initialized_machine mode m)
 unfolding initialized_machine
 initialized_err {r = Ok x} mode h i = absurd (cc i.0)

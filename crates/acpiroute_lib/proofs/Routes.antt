@@ -1,23 +1,70 @@
 -- The answer of `route`, from the machine and its report.
-use Rattle.std.proofs.Common.{◌≡◌, ◌≢◌, ◌∙◌, ap, sym}
-use Rattle.std.specs.Prelude.{ℕ, List, Ok, Err, IsErr, IsErrAnd}
+use Rattle.std.proofs.Common.{◌≡◌, ◌≢◌, ◌∙◌, ◌<◌, ap, sym, subst, refl, arith, inl, inr}
+use Rattle.std.specs.Prelude.{◌⊎◌, ℕ, List, Ok, Err, IfOk, IsErr, IsErrAnd}
 use Rattle.ar_space.specs.declared.refusal.Refusal.{Refusal}
 use Rattle.ar_space.specs.declared.refusal.Refusal.TheVariants.{OutOfMemory}
 use Rattle.ar_space.specs.Bytes.{Bytes, byte_accesses}
-use Rattle.ar_space.specs.Outcome.{Outcome, Answers, NotMemory}
+use Rattle.ar_space.specs.Outcome.{Outcome, Answers, NotMemory, ◌>>=◌}
 use Rattle.acpi_machine.specs.MachineStates.{MachineState}
 use Rattle.acpi_links.specs.Gatherings.{gathered}
-use Rattle.acpi_configure.specs.Rows.{rows}
 use Rattle.acpi_configure.specs.Configured.{IsDryReport}
-use Rattle.route_report.specs.declared.report.Mode.{Mode}
-use Rattle.route_report.specs.declared.report.Report.{Report}
+use Rattle.ar_tables.specs.declared.mode.Mode.{Mode}
+use Rattle.route_check.specs.Claims.{RoutingClaim}
+use Rattle.route_check.specs.Flaws.{IsFirstFlaw}
+use Rattle.route_check.specs.Valid.{Valid, SomeInterrupt, OffersInside, IsCrowded}
+use Rattle.route_check.specs.declared.flaw.Flaw.{Flaw}
+use Rattle.route_check.specs.declared.flaw.Flaw.TheVariants as flaw
+use Rattle.route_report.specs.Readable.{IsReadable, claim_of_report}
+use Rattle.route_report.specs.Reading.{claim_of_text}
+use Rattle.route_report.specs.Reports.{RoutingReport}
+use Rattle.acpiroute_words.specs.CheckCommand.{Verdict, IsVerdictOn, IsCheckAnswer, check_answer, verdict_answer}
 use Rattle.acpiroute_lib.specs.Machines.{machine_of_text_in}
 use Rattle.acpiroute_lib.specs.RouteCommand.{printed, IsRouted, IsRouteAnswer}
 use Rattle.acpiroute_words.specs.Written.{Written}
 
-pub reported : {m after : MachineState Bytes} (report : Report) (r : Outcome Written) → IsDryReport byte_accesses m after (rows report) → Answers r (Ok (printed report)) → NotMemory r → IsRouted m r
-reported {after = after} report (Ok w) is h ne = record { report = report; after = after; is_report = is; is_text = sym (cc (h.is ne)) }
-reported report (Err e) is h ne = absurd (cc (h.is ne))
+-- a valid claim has no flaw
+no_flaw : (c : RoutingClaim) (f : Flaw) → Valid c → IsFirstFlaw c f → ⊥
+no_flaw c flaw.Repeated v h = h v.none_repeated
+no_flaw c flaw.LinkMissing v h = h.1 v.none_missing
+no_flaw c flaw.NotOffered v h = h.2 v.all_offered
+no_flaw c flaw.BusiestWrong v h = h.3 v.busiest_right
+no_flaw c flaw.SetEmpty v h = go v.bound
+  where
+    go : (c.busiest ≡ 0) ⊎ (SomeInterrupt c × OffersInside c × IsCrowded c) → ⊥
+    go (inl is) = absurd (let some = h.4 in omega arith)
+    go (inr b) = h.5 b.0
+no_flaw c flaw.OfferOutsideSet v h = go v.bound
+  where
+    go : (c.busiest ≡ 0) ⊎ (SomeInterrupt c × OffersInside c × IsCrowded c) → ⊥
+    go (inl is) = absurd (let some = h.4 in omega arith)
+    go (inr b) = h.6 b.1
+no_flaw c flaw.CountTooSmall v h = go v.bound
+  where
+    go : (c.busiest ≡ 0) ⊎ (SomeInterrupt c × OffersInside c × IsCrowded c) → ⊥
+    go (inl is) = absurd (let some = h.4 in omega arith)
+    go (inr b) = h.7 b.2
+
+-- `check` says yes to a text whose claim is valid
+verdict_yes : (c : RoutingClaim) (text : List ℕ) (o : Outcome RoutingClaim) (verdict : Verdict) → o ≡ Ok c → claim_of_text text ≡ o → Valid c → IsVerdictOn o verdict → check_answer verdict text ≡ Ok (verdict_answer (Ok tt))
+unfolding check_answer ◌>>=◌
+verdict_yes c text o (Ok u) is at v h = rw (at, is) refl
+verdict_yes c text o (Err f) is at v h = absurd (no_flaw c f v (subst (λ o. IsVerdictOn o (Err f)) is h))
+
+checked : (c : RoutingClaim) (text : List ℕ) → claim_of_text text ≡ Ok c → Valid c → (r : Outcome Written) → IsCheckAnswer text r → r ≡ Ok (verdict_answer (Ok tt))
+checked c text at v r h = h.2 ∙ verdict_yes c text (claim_of_text text) h.0 at refl v h.1
+
+pub reported : {m after : MachineState Bytes} (report : RoutingReport) (r : Outcome Written) → IsDryReport byte_accesses m after report → Answers r (Ok (printed report))
+    → IfOk r (λ w. IsReadable report → claim_of_text w.text ≡ Ok (claim_of_report report)) → NotMemory r → IsRouted m r
+reported {after = after} report (Ok w) is h back ne =
+    record {
+      report = report;
+      after = after;
+      is_report = is;
+      is_text = sym (cc (h.is ne));
+      is_read_back = back is.readable;
+      is_checked = checked (claim_of_report report) w.text (back is.readable) is.valid;
+    }
+reported report (Err e) is h back ne = absurd (cc (h.is ne))
 
 pub not_gathered : {e : Refusal} {after : MachineState Bytes} (m : MachineState Bytes) (r : Outcome Written) → (e ≢ OutOfMemory → gathered byte_accesses m ≡ (Err e, after)) → IsErr r × IsErrAnd r (λ x. x ≡ e)
     → NotMemory r → IsRouted m r

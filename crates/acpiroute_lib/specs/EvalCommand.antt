@@ -7,7 +7,7 @@ use Rattle.aml_path.specs.Text.{path_of_text}
 use Rattle.aml_meaning.specs.Given as given
 use Rattle.acpi_machine.specs.Calls.{evaluated_object}
 use Rattle.acpi_machine.specs.MachineStates.{MachineState}
-use Rattle.route_report.specs.declared.report.Mode.{Mode}
+use Rattle.ar_tables.specs.declared.mode.Mode.{Mode}
 use Rattle.acpiroute_words.specs.declared.completion.Completion.TheVariants.{Done}
 use Rattle.acpiroute_lib.specs.Machines.{machine_of_text_in}
 use Rattle.acpiroute_lib.specs.ValueText.{value_text}

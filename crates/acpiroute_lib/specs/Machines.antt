@@ -10,10 +10,7 @@ use Rattle.aml_meaning.specs.Predefined.{fresh}
 use Rattle.acpi_machine.specs.Calls.{initialized}
 use Rattle.acpi_machine.specs.Loading.{loaded_tables}
 use Rattle.acpi_machine.specs.MachineStates.{MachineState, machine_of}
-use Rattle.acpi_machine.specs.declared.mode.Mode as machine_mode
-use Rattle.acpi_machine.specs.declared.mode.Mode.TheVariants as machine
-use Rattle.route_report.specs.declared.report.Mode.{Mode}
-use Rattle.route_report.specs.declared.report.Mode.TheVariants as mode
+use Rattle.ar_tables.specs.declared.mode.Mode.{Mode}
 
 -- the machine over the world that loading left, or the refusal that ended it
 abbrev pub machine_left : Tables → ℕ → State Bytes → Outcome (Unit {0}) → Outcome (MachineState Bytes)
@@ -34,18 +31,13 @@ machine_of_text steps text = do
 
 -- ---- initialized
 
--- a report and a machine name the same two modes
-abbrev pub machine_mode_of : Mode → machine_mode.Mode
-machine_mode_of mode.Apic = machine.Apic
-machine_mode_of mode.Pic = machine.Pic
-
 -- the machine as its calls left it, or the refusal that ended them
 abbrev pub initialized_left : MachineState Bytes → Outcome (Unit {0}) → Outcome (MachineState Bytes)
 initialized_left m (Ok u) = Ok m
 initialized_left m (Err e) = Err e
 
 unfoldable pub initialized_machine : Mode → MachineState Bytes → Outcome (MachineState Bytes)
-initialized_machine mode m = let i = initialized byte_accesses (machine_mode_of mode) m in initialized_left i.1 i.0
+initialized_machine mode m = let i = initialized byte_accesses mode m in initialized_left i.1 i.0
 
 -- the machine of a machine text, initialized in this mode
 unfoldable pub machine_of_text_in : Mode → ℕ → List ℕ → Outcome (MachineState Bytes)

@@ -4,25 +4,30 @@ use Rattle.ar_space.specs.Outcome.{Outcome}
 use Rattle.ar_space.specs.Bytes.{Bytes, byte_accesses}
 use Rattle.acpi_machine.specs.MachineStates.{MachineState}
 use Rattle.acpi_links.specs.Gatherings.{gathered}
-use Rattle.acpi_configure.specs.Rows.{rows}
 use Rattle.acpi_configure.specs.Configured.{IsDryReport}
-use Rattle.route_report.specs.declared.report.Mode.{Mode}
-use Rattle.route_report.specs.declared.report.Report.{Report}
+use Rattle.ar_tables.specs.declared.mode.Mode.{Mode}
+use Rattle.route_report.specs.Readable.{claim_of_report}
+use Rattle.route_report.specs.Reading.{claim_of_text}
+use Rattle.route_report.specs.Reports.{RoutingReport}
 use Rattle.route_report.specs.Printing.{text_of_report}
+use Rattle.acpiroute_words.specs.CheckCommand.{verdict_answer, IsCheckAnswer}
 use Rattle.acpiroute_words.specs.declared.completion.Completion.TheVariants.{Done}
 use Rattle.acpiroute_lib.specs.Machines.{machine_of_text_in}
 use Rattle.acpiroute_words.specs.Written.{Written}
 
 -- a report as text
-abbrev pub printed : Report → Written
+abbrev pub printed : RoutingReport → Written
 printed report = record { text = text_of_report report; completion = Done }
 
--- the text of the report of a machine of which no link is set
+-- The text of the report of a machine of which no link is set. What the text claims is what the report claims, the answer to the
+-- machine's problem, and `check` says yes to it.
 pub record IsReportOf (m : MachineState Bytes) (w : Written) : Type 0 where
-  pub report : Report
+  pub report : RoutingReport
   pub after : MachineState Bytes
-  pub is_report : IsDryReport byte_accesses m after (rows report)
+  pub is_report : IsDryReport byte_accesses m after report
   pub is_text : w ≡ printed report
+  pub is_read_back : claim_of_text w.text ≡ Ok (claim_of_report report)
+  pub is_checked : (r : Outcome Written) → IsCheckAnswer w.text r → r ≡ Ok (verdict_answer (Ok tt))
 
 -- the report, or the refusal of what it has to find
 abbrev pub IsRouted : MachineState Bytes → Outcome Written → Type 0

@@ -1,14 +1,16 @@
--- What a run comes to, and what it leaves in its writers.
-use Rattle.std.specs.Prelude.{◌≡◌, ◌⊎◌, ℕ, Bool, true, false, List, [], ◌∷◌, Some, Ok, Err, codes}
+-- What a run has to say, and what it leaves in its writers.
+use Rattle.std.specs.Prelude.{◌≡◌, ◌≢◌, ◌⊎◌, ◌<◌, length, ℕ, Bool, true, false, List, [], ◌∷◌, Option, Some, Ok, Err, codes}
 use Rattle.clap.specs.Kinds.{IsAmong}
 use Rattle.clap.specs.declared.error.kind.ErrorKind.{ErrorKind}
 use Rattle.clap.specs.declared.error.kind.ErrorKind.TheVariants as kind
-use Rattle.ar_space.specs.Outcome.{Outcome}
+use Rattle.ar_space.specs.Outcome.{Outcome, NotMemory}
+use Rattle.ar_space.specs.declared.refusal.Refusal.TheVariants.{Input}
+use Rattle.ar_space.specs.declared.refusal.InputFault.TheVariants.{ReadFault}
 use Rattle.acpiroute_words.specs.declared.request.Request.{Request}
 use Rattle.acpiroute_words.specs.CommandLine.{request_of, faults_of, is_supported}
-use Rattle.acpiroute_words.specs.Decided.{Settles}
-use Rattle.acpiroute_words.specs.Deliveries.{Stream, Unchanged, Gains, Delivers}
-use Rattle.acpiroute_words.specs.Input.{input_of}
+use Rattle.acpiroute_words.specs.Deliveries.{Reply, reply_of, Delivered}
+use Rattle.acpiroute_words.specs.Held.{Held}
+use Rattle.acpiroute_words.specs.Input.{input_of, IsInput}
 use Rattle.acpiroute_words.specs.Written.{Written}
 use Rattle.acpiroute_lib.specs.Commands.{IsAnswer}
 
@@ -17,41 +19,78 @@ abbrev pub IsAnswerOver : Request → Outcome (List ℕ) → Outcome Written →
 IsAnswerOver q (Ok input) r = IsAnswer q input r
 IsAnswerOver q (Err e) r = r ≡ Err e
 
--- what a request comes to over all that a reader has left
-abbrev pub ComesTo : Request → List ℕ → Outcome Written → Type 0
-ComesTo q bytes r = IsAnswerOver q (input_of bytes) r
+-- what a request comes to over all that was left, and where a read failed: that alone
+abbrev pub ComesTo : Request → Bool → List ℕ → Outcome Written → Type 0
+ComesTo q true input r = r ≡ Err (Input ReadFault)
+ComesTo q false input r = NotMemory r → IsAnswerOver q (input_of input) r
 
--- what a faulty command line leaves: help goes to the output with status 0, all else to the errors with 2
-abbrev pub Shows : ErrorKind → ℕ → Stream → Type 0
-Shows kind.DisplayHelp status output = (status ≡ 0) ⊎ (status ≡ 1)
-Shows kind.DisplayVersion status output = (status ≡ 0) ⊎ (status ≡ 1)
-Shows other status output = (status ≡ 2) × Unchanged output
+-- what is told where memory runs out before the words are read
+abbrev pub no_memory : Reply
+no_memory = record { text = []; line = codes "error: out of memory\n"; status = 2 }
 
--- a fault of the words is shown, or that memory ran out before they were read
-pub record Complained (words : List (List ℕ)) (status : ℕ) (output : Stream) : Type 0 where
+-- a text that goes to the output with status 0
+abbrev pub IsHelp : ErrorKind → Type 0
+IsHelp fault = (fault ≡ kind.DisplayHelp) ⊎ (fault ≡ kind.DisplayVersion)
+
+-- how a fault of the words is told: want of memory by its line, help by a text on the output with status 0, all else by a text on
+-- the errors with status 2; the texts are clap's
+pub record Shows (fault : ErrorKind) (r : Reply) : Type 0 where
+  pub memory : fault ≡ kind.OutOfMemory → r ≡ no_memory
+  pub help : IsHelp fault → (r.status ≡ 0) × (r.line ≡ []) × (0 < length r.text)
+  pub other : fault ≢ kind.OutOfMemory → (IsHelp fault → ⊥) → (r.status ≡ 2) × (r.text ≡ []) × (0 < length r.line)
+
+-- a fault of the words is told, or that memory ran out before they were read
+pub record Complained (words : List (List ℕ)) (r : Reply) : Type 0 where
   pub fault : ErrorKind
   pub found : IsAmong fault (kind.OutOfMemory ∷ faults_of words)
-  pub shown : Shows fault status output
+  pub shown : Shows fault r
 
--- the words ask for this, the request comes to that outcome over the input, and it is delivered
-pub record Worked (words : List (List ℕ)) (input : List ℕ) (status : ℕ) (is_told : Bool) (output errors : Stream) : Type 0 where
+-- what is told where the words ask for what isn't done yet
+abbrev pub only_dry : Reply
+only_dry = record { text = []; line = codes "only --dry\n"; status = 2 }
+
+pub record Declined (words : List (List ℕ)) (r : Reply) : Type 0 where
+  pub request : Request
+  pub no_fault : faults_of words ≡ []
+  pub asked : request_of words ≡ Some request
+  pub unsupported : is_supported request ≡ false
+  pub is : r ≡ only_dry
+
+-- the words ask for this, and the request comes to that outcome over the input
+pub record Worked (words : List (List ℕ)) (read_failed : Bool) (input : List ℕ) (r : Reply) : Type 0 where
   pub request : Request
   pub no_fault : faults_of words ≡ []
   pub asked : request_of words ≡ Some request
   pub supported : is_supported request ≡ true
   pub outcome : Outcome Written
-  pub comes : Settles outcome (ComesTo request input)
-  pub delivers : Delivers outcome status is_told output errors
+  pub comes : ComesTo request read_failed input outcome
+  pub is : r ≡ reply_of outcome
 
--- the words ask for what isn't done yet
-pub record Declined (words : List (List ℕ)) (status : ℕ) (is_told : Bool) (output errors : Stream) : Type 0 where
-  pub request : Request
-  pub no_fault : faults_of words ≡ []
-  pub asked : request_of words ≡ Some request
-  pub unsupported : is_supported request ≡ false
-  pub status_is : status ≡ 2
-  pub no_text : Unchanged output
-  pub line : is_told ≡ true → Gains errors (codes "only --dry\n")
+-- what a run over these words has to say
+abbrev pub IsReply : List (List ℕ) → Bool → List ℕ → Reply → Type 0
+IsReply words read_failed input r = Complained words r ⊎ (Declined words r ⊎ Worked words read_failed input r)
 
-abbrev pub Ran : List (List ℕ) → List ℕ → ℕ → Bool → Stream → Stream → Type 0
-Ran words input status is_told output errors = Complained words status output ⊎ (Declined words status is_told output errors ⊎ Worked words input status is_told output errors)
+-- What a run leaves: what it has to say is delivered. What needs no input is said over any; where the bytes are known that were
+-- left to the reader, the input is these.
+pub record Ran (words : List (List ℕ)) (left : Option (List ℕ)) (read_failed : Bool) (status : ℕ) (output output2 errors errors2 : Held) : Type 0 where
+  pub input : List ℕ
+  pub is_input : IsInput left input
+  pub reply : Reply
+  pub is_reply : IsReply words read_failed input reply
+  pub delivered : Delivered reply status output output2 errors errors2
+
+-- what a request leaves
+pub record Served (q : Request) (left : Option (List ℕ)) (read_failed : Bool) (status : ℕ) (output output2 errors errors2 : Held) : Type 0 where
+  pub input : List ℕ
+  pub is_input : IsInput left input
+  pub outcome : Outcome Written
+  pub comes : ComesTo q read_failed input outcome
+  pub delivered : Delivered (reply_of outcome) status output output2 errors errors2
+
+-- what a fault of the words leaves
+pub record Shown (fault : ErrorKind) (status : ℕ) (output output2 errors errors2 : Held) : Type 0 where
+  pub told : ErrorKind
+  pub is_told : IsAmong told (kind.OutOfMemory ∷ fault ∷ [])
+  pub reply : Reply
+  pub shown : Shows told reply
+  pub delivered : Delivered reply status output output2 errors errors2

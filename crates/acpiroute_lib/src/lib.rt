@@ -4,13 +4,16 @@
 
 mod commands;
 mod eval_command;
+pub mod laws;
 mod machine;
+mod memory;
 mod name_lines;
 mod names_command;
 mod program;
 mod route_command;
 mod value_text;
 
-pub use acpiroute_words::{Delivery, Integers, Request, parse, tell};
-pub use program::{run, run_telling};
+pub use acpiroute_words::{Failed, Growing, Integers, Outside, Request, Sink, Source, parse, tell};
+pub use memory::{Reply, run_over};
+pub use program::run;
 pub use value_text::value_line;

@@ -1,14 +1,13 @@
 //! The machine that a machine text describes.
 ghost use Rattle.std.specs.Prelude.{◌≡◌, IfOk, map};
 ghost use Rattle.ar_space.specs.Outcome.{Answers};
-ghost use Rattle.acpiroute_lib.specs.Machines.{machine_with, machine_of_text, machine_mode_of, initialized_machine, machine_of_text_in};
+ghost use Rattle.acpiroute_lib.specs.Machines.{machine_with, machine_of_text, initialized_machine, machine_of_text_in};
 
-use acpi_machine::{Machine, Mode as MachineMode, load_tables};
+use acpi_machine::{Machine, Mode, load_tables};
 use aml_objects::Octets;
 use ar_space::{Refusal, Sparse};
 use ar_tables::{Tables, find_tables};
 use machine_text::read_machine;
-use route_report::Mode;
 use std::alloc::{AllocError, Global};
 
 /// Texts that `_OSI` is to know.
@@ -55,16 +54,6 @@ pub(crate) fn machine_of_text(
     machine_with(alloc, tables, steps, said.space, osi)
 }
 
-/// A report and a machine name the same two modes.
-fn machine_mode_of(mode: Mode) -> MachineMode
-    ensures { result ≡ machine_mode_of mode }
-{
-    match mode {
-        Mode::Apic => MachineMode::Apic,
-        Mode::Pic => MachineMode::Pic,
-    }
-}
-
 #[tactic(auto, using(crate::proofs::Machines::initializing))]
 fn initialized_machine(
     alloc: Global,
@@ -74,7 +63,7 @@ fn initialized_machine(
     ensures { Answers result (initialized_machine mode machine) }
 {
     let mut machine = machine;
-    machine.initialize(alloc, machine_mode_of(mode))?;
+    machine.initialize(alloc, mode)?;
     Ok(machine)
 }
 

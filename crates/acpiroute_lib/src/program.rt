@@ -1,75 +1,82 @@
 //! The program, from its words and its input to its output, its error line and its status.
-ghost use Rattle.std.specs.Prelude.{◌≡◌, ◌⊎◌, IfSome, map, codes, true, Bool};
+ghost use Rattle.std.specs.Prelude.{◌≡◌, ◌≢◌, ◌<◌, [], length, map, false, IfOk};
 ghost use Rattle.clap.specs.Words.{kind_of};
-ghost use Rattle.acpiroute_words.specs.Decided.{Settles};
-ghost use Rattle.acpiroute_words.specs.Deliveries.{Gains};
-ghost use Rattle.acpiroute_lib.specs.Runs.{ComesTo, Ran, Shows};
+ghost use Rattle.acpiroute_words.specs.CommandLine.{faults_of};
+ghost use Rattle.acpiroute_words.specs.Deliveries.{Delivered};
+ghost use Rattle.acpiroute_lib.specs.Runs.{Ran, Served, Shown, no_memory};
 
 use crate::commands::answer_to;
-use acpiroute_words::{Answer, Delivery, Request, deliver, parse, read_input, refuse};
-use ar_space::{InputFault, Refusal};
+use acpiroute_words::{Request, Sink, Source, deliver, deliver_outcome, parse, read_input};
 use clap::Error;
-use std::alloc::Global;
-use std::io::{Read, Write};
+use clap::error::ErrorKind;
+use std::alloc::{AllocError, Global};
+use std::io::Write;
 
-/// What a request comes to over all that a reader has left. Nothing is written yet.
-fn come_to<R: Read>(alloc: Global, request: Request, reader: &mut R) -> Result<Answer, Refusal>
-    ensures { IfSome (R.remaining reader.old) (λ bytes. Settles result (ComesTo request bytes)) }
-{
-    let input = read_input(alloc, reader)?;
-    answer_to(alloc, request, input.as_slice())
-}
-
-/// The text of a faulty command line: help to the output with status 0, all else to the errors with 2.
-fn show<W: Write, E: Write>(error: &Error, writer: &mut W, errors: &mut E) -> Delivery
-    ensures { Shows (kind_of error.now) result.status (record { before = W.contents writer.old; after = W.contents writer.new }) }
-{
-    if error.use_stderr() {
-        let is_told = write!(errors, "{error}").is_ok();
-        return Delivery { status: 2, is_told };
-    }
-    match write!(writer, "{error}") {
-        Ok(()) => Delivery {
-            status: 0,
-            is_told: true,
-        },
-        Err(_) => refuse(errors, &Refusal::Input(InputFault::WriteFault)),
-    }
-}
-
-/// The line for what isn't done yet, and status 2.
-fn decline<E: Write>(errors: &mut E) -> Delivery
-    ensures status { result.status ≡ 2 }
-    ensures line { result.is_told ≡ true → Gains (record { before = E.contents errors.old; after = E.contents errors.new }) (codes "only --dry\n") }
-{
-    Delivery {
-        status: 2,
-        is_told: errors.write_all(b"only --dry\n").is_ok(),
-    }
-}
-
-/// As `run`, which says what the words and the status are, and also answers whether the errors took their line whole.
-pub fn run_telling<R: Read, W: Write, E: Write>(
+/// Reads all that is left, and delivers what a request comes to over it.
+fn serve<R: Source, W: Sink, E: Sink>(
     alloc: Global,
-    words: &[&str],
+    request: Request,
     reader: &mut R,
     writer: &mut W,
     errors: &mut E,
-) -> Delivery
-    ensures ran { IfSome (R.remaining reader.old) (λ input. Ran (map (λ s. s.now) words.entry.now) input result.status result.is_told
-        (record { before = W.contents writer.old; after = W.contents writer.new })
-        (record { before = E.contents errors.old; after = E.contents errors.new })) }
-    ensures first { result.status ≡ 2 → reader.new ≡ reader.old }
+) -> u8
+    requires input { R.has_failed reader.old ≡ false }
+    requires output { (W.held writer.old).has_failed ≡ false }
+    requires errors { (E.held errors.old).has_failed ≡ false }
+    ensures { Served request (R.left reader.old) (R.has_failed reader.new) result
+        (W.held writer.old) (W.held writer.new) (E.held errors.old) (E.held errors.new) }
 {
-    match parse(alloc, words) {
-        Ok(request) => {
-            if !request.is_supported() {
-                return decline(errors);
-            }
-            let outcome = come_to(alloc, request, reader);
-            deliver(outcome, writer, errors)
+    match read_input(alloc, reader) {
+        Ok(input) => {
+            let outcome = answer_to(alloc, request, input.as_slice());
+            deliver_outcome(alloc, outcome, writer, errors)
         }
-        Err(error) => show(&error, writer, errors),
+        Err(stop) => deliver(b"", stop.line(), 1, writer, errors),
+    }
+}
+
+/// The text of a faulty command line, by clap. A line in its place where clap has none, so that each fault is told.
+fn fault_text(alloc: Global, error: &Error) -> Result<Vec<u8>, AllocError>
+    ensures { IfOk result (λ v. 0 < length v.items) }
+{
+    let mut text = Vec::new(alloc);
+    if write!(text, "{error}").is_err() {
+        return Err(AllocError);
+    }
+    if text.is_empty() {
+        text.extend_from_slice(b"error\n")?;
+    }
+    Ok(text)
+}
+
+/// Tells that memory ran out before the words were read.
+fn show_no_memory<W: Sink, E: Sink>(writer: &mut W, errors: &mut E) -> u8
+    requires output { (W.held writer.old).has_failed ≡ false }
+    requires errors { (E.held errors.old).has_failed ≡ false }
+    ensures { Delivered no_memory result
+        (W.held writer.old) (W.held writer.new) (E.held errors.old) (E.held errors.new) }
+{
+    deliver(b"", b"error: out of memory\n", 2, writer, errors)
+}
+
+/// Tells what is wrong with the command line: help goes to the output with status 0, all else to the errors with 2.
+#[tactic(auto, using(crate::proofs::Deliveries::showing))]
+fn show<W: Sink, E: Sink>(alloc: Global, error: &Error, writer: &mut W, errors: &mut E) -> u8
+    requires output { (W.held writer.old).has_failed ≡ false }
+    requires errors { (E.held errors.old).has_failed ≡ false }
+    ensures { Shown (kind_of error.now) result
+        (W.held writer.old) (W.held writer.new) (E.held errors.old) (E.held errors.new) }
+{
+    if error.kind() == ErrorKind::OutOfMemory {
+        return show_no_memory(writer, errors);
+    }
+    let Ok(text) = fault_text(alloc, error) else {
+        return show_no_memory(writer, errors);
+    };
+    if error.use_stderr() {
+        deliver(b"", text.as_slice(), 2, writer, errors)
+    } else {
+        deliver(text.as_slice(), b"", 0, writer, errors)
     }
 }
 
@@ -103,17 +110,29 @@ pub fn run_telling<R: Read, W: Write, E: Write>(
 /// ` line N` for a line of a report or of a machine text, ` P` for the path of a link that offers nothing. An input of more
 /// than 16,777,216 bytes is refused as 143, any error of the reader as 141, and any error of the output's writer as 142; what
 /// had gone out then stays. An error of the errors' writer changes nothing.
-pub fn run<R: Read, W: Write, E: Write>(
+#[tactic(auto, using(crate::proofs::Deliveries::running))]
+pub fn run<R: Source, W: Sink, E: Sink>(
     alloc: Global,
     words: &[&str],
     reader: &mut R,
     writer: &mut W,
     errors: &mut E,
 ) -> u8
-    ensures ran { IfSome (R.remaining reader.old) (λ input. (is_told : Bool) × Ran (map (λ s. s.now) words.entry.now) input result is_told
-        (record { before = W.contents writer.old; after = W.contents writer.new })
-        (record { before = E.contents errors.old; after = E.contents errors.new })) }
+    requires input { R.has_failed reader.old ≡ false }
+    requires output { (W.held writer.old).has_failed ≡ false }
+    requires errors { (E.held errors.old).has_failed ≡ false }
+    ensures ran { Ran (map (λ s. s.now) words.entry.now) (R.left reader.old) (R.has_failed reader.new) result
+        (W.held writer.old) (W.held writer.new) (E.held errors.old) (E.held errors.new) }
     ensures first { result ≡ 2 → reader.new ≡ reader.old }
+    ensures faulty { faults_of (map (λ s. s.now) words.entry.now) ≢ [] → reader.new ≡ reader.old }
 {
-    run_telling(alloc, words, reader, writer, errors).status
+    match parse(alloc, words) {
+        Ok(request) => {
+            if !request.is_supported() {
+                return deliver(b"", b"only --dry\n", 2, writer, errors);
+            }
+            serve(alloc, request, reader, writer, errors)
+        }
+        Err(error) => show(alloc, &error, writer, errors),
+    }
 }

@@ -1,6 +1,8 @@
 //! `route`: loads and initializes a machine, routes its interrupts, and writes the report.
-ghost use Rattle.std.specs.Prelude.{◌≡◌, Ok};
+ghost use Rattle.std.specs.Prelude.{◌≡◌, Ok, IfOk};
 ghost use Rattle.ar_space.specs.Outcome.{Answers, NotMemory};
+ghost use Rattle.route_report.specs.Readable.{IsReadable, claim_of_report};
+ghost use Rattle.route_report.specs.Reading.{claim_of_text};
 ghost use Rattle.acpiroute_lib.specs.RouteCommand.{printed, IsRouted, IsRouteAnswer};
 
 use crate::machine::machine_of_text_in;
@@ -13,7 +15,8 @@ use std::alloc::Global;
 
 /// A report as text.
 fn printed(alloc: Global, report: &Report) -> Result<Answer, Refusal>
-    ensures { Answers result (Ok (printed report.now)) }
+    ensures text { Answers result (Ok (printed report.now)) }
+    ensures read_back { IfOk result (λ w. IsReadable report.now → claim_of_text w.text ≡ Ok (claim_of_report report.now)) }
 {
     Ok(Answer {
         text: print(alloc, report)?,

@@ -1,15 +1,40 @@
--- What stands in the output and the errors once an answer went out.
-use Rattle.std.proofs.Common.{◌≡◌, ℕ, Bool, subst, inr}
-use Rattle.std.specs.Prelude.{Ok}
+-- What stands in the output and the errors after a run.
+use Rattle.std.proofs.Common.{◌≡◌, ℕ, Bool, true, false, List, [], refl, sym, subst, inl, inr}
+use Rattle.std.specs.Prelude.{codes, Ok, Err}
+use Rattle.std.specs.Fmt.{digits}
+use Rattle.acpiroute_words.specs.Held.{Held, Takes}
+use Rattle.acpiroute_words.specs.Deliveries.{Reply, Delivered, Told, reply_of}
 use Rattle.ar_space.specs.Outcome.{Outcome}
 use Rattle.ar_space.specs.declared.refusal.Refusal.{Refusal}
-use Rattle.ar_space.specs.declared.refusal.Refusal.TheVariants.{Input}
-use Rattle.ar_space.specs.declared.refusal.InputFault.TheVariants.{WriteFault}
-use Rattle.acpiroute_words.specs.Written.{Written}
-use Rattle.acpiroute_words.specs.Deliveries.{Stream, GainsPart, Tells, Delivers}
+use Rattle.ar_space.specs.declared.refusal.Refusal.TheVariants.{OutOfMemory}
+use Rattle.acpiroute_words.specs.Written.{Written, status_of}
+use Rattle.acpiroute_words.specs.ErrorLines.{error_line}
 
--- a fault of the output's writer
-pub not_all : (outcome : Outcome Written) (answer : Written) (fault : Refusal) (status : ℕ) (is_told : Bool) (output errors : Stream) → outcome ≡ Ok answer → fault ≡ Input WriteFault
-    → status ≡ 1 → GainsPart output answer.text → Tells is_told errors fault → Delivers outcome status is_told output errors
-not_all outcome answer fault status is_told output errors is found one part line =
-    rw is (inr (record { status_is = one; text = part; line = subst (λ e. Tells is_told errors e) found line }))
+-- a write to the output failed
+pub not_all : (r : Reply) (output output2 errors errors2 : Held) → output2.has_failed ≡ true → Takes output output2 r.text → Takes errors errors2 (codes "refused 142\n")
+    → Delivered r 1 output output2 errors errors2
+unfolding digits
+not_all r output output2 errors errors2 failed text line = record { text = text; line = rw failed line; status_is = rw failed refl }
+
+-- an answer
+pub told_answer : (outcome : Outcome Written) (answer : Written) (text : List ℕ) (own status : ℕ) (output output2 errors errors2 : Held) → outcome ≡ Ok answer → text ≡ answer.text → own ≡ status_of answer.completion
+    → Delivered (record { text = text; line = []; status = own }) status output output2 errors errors2 → Told outcome status output output2 errors errors2
+told_answer outcome answer text own status output output2 errors errors2 is same same_status d =
+    record {
+      told = Ok answer;
+      is_told = rw is refl;
+      delivered = subst (λ n. Delivered (record { text = answer.text; line = []; status = n }) status output output2 errors errors2) same_status
+          (subst (λ x. Delivered (record { text = x; line = []; status = own }) status output output2 errors errors2) same d);
+    }
+
+-- a refusal, with its line
+pub told_refusal : (outcome : Outcome Written) (r : Refusal) (line : List ℕ) (status : ℕ) (output output2 errors errors2 : Held) → outcome ≡ Err r → line ≡ error_line r
+    → Delivered (record { text = []; line = line; status = 1 }) status output output2 errors errors2 → Told outcome status output output2 errors errors2
+told_refusal outcome r line status output output2 errors errors2 is same d =
+    record { told = Err r; is_told = rw is (inl refl); delivered = subst (λ x. Delivered (record { text = []; line = x; status = 1 }) status output output2 errors errors2) same d }
+
+-- no memory for its line
+pub told_memory : (outcome : Outcome Written) (r : Refusal) (status : ℕ) (output output2 errors errors2 : Held) → outcome ≡ Err r
+    → Delivered (record { text = []; line = codes "refused 99\n"; status = 1 }) status output output2 errors errors2 → Told outcome status output output2 errors errors2
+unfolding digits
+told_memory outcome r status output output2 errors errors2 is d = record { told = Err OutOfMemory; is_told = rw is (inr refl); delivered = d }

@@ -1,9 +1,11 @@
 pub mod Added
 pub mod Checks
 pub mod Deliveries
+pub mod Digits
 pub mod ErrorLines
 pub mod Faults
 pub mod Getters
 pub mod Inputs
 pub mod Numbers
 pub mod Outputs
+pub mod Stops

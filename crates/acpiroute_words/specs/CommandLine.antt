@@ -5,7 +5,7 @@ use Rattle.clap.specs.Kinds.{or_else}
 use Rattle.clap.specs.Words.{App, Kinds, Row, Rule, Text, all_of, fault_of, first_of, new_app, new_rule, subcommand_of, with_rule, with_subcommand}
 use Rattle.clap.specs.declared.builder.action.ArgAction.TheVariants.{SetTrue}
 use Rattle.clap.specs.declared.error.kind.ErrorKind.TheVariants as kind
-use Rattle.route_report.specs.declared.report.Mode.{Mode}
+use Rattle.ar_tables.specs.declared.mode.Mode.{Mode}
 use Rattle.acpiroute_words.specs.Values.{◌>>=◌, mode_named, numbers_named, steps_named, is_true}
 use Rattle.acpiroute_words.specs.declared.request.Request.{Request}
 use Rattle.acpiroute_words.specs.declared.request.Request.TheVariants as request

@@ -1,50 +1,37 @@
--- What an answer or a refusal leaves in the writers.
-use Rattle.std.specs.Prelude.{◌≡◌, ◌⊎◌, ℕ, Bool, true, List, take, Option, Ok, Err}
-use Rattle.std.specs.Io.KnownBytes.{Appends, Keeps}
+-- What a run has to say, and what it leaves in the writers.
+use Rattle.std.specs.Prelude.{◌≡◌, ◌⊎◌, ℕ, List, [], Ok, Err, if◌then◌else◌}
 use Rattle.ar_space.specs.Outcome.{Outcome}
-use Rattle.ar_space.specs.declared.refusal.Refusal.{Refusal}
-use Rattle.ar_space.specs.declared.refusal.Refusal.TheVariants.{Input}
+use Rattle.ar_space.specs.declared.refusal.Refusal.TheVariants.{Input, OutOfMemory}
 use Rattle.ar_space.specs.declared.refusal.InputFault.TheVariants.{WriteFault}
 use Rattle.acpiroute_words.specs.ErrorLines.{error_line}
+use Rattle.acpiroute_words.specs.Held.{Held, Takes}
 use Rattle.acpiroute_words.specs.Written.{Written, status_of}
 
--- what the output or the errors held before a call, and what they hold after it, where that is known
-pub record Stream : Type 0 where
-  pub before : Option (List ℕ)
-  pub after : Option (List ℕ)
+-- a text for the output, a line for the errors, and the exit status
+pub record Reply : Type 0 where
+  pub text : List ℕ
+  pub line : List ℕ
+  pub status : ℕ
 
-abbrev pub Unchanged : Stream → Type 0
-Unchanged s = Keeps s.before s.after
+-- an answer goes to the output with its own status; a refusal is its line alone, with status 1
+abbrev pub reply_of : Outcome Written → Reply
+reply_of (Ok answer) = record { text = answer.text; line = []; status = status_of answer.completion }
+reply_of (Err r) = record { text = []; line = error_line r; status = 1 }
 
-abbrev pub Gains : Stream → List ℕ → Type 0
-Gains s text = Appends s.before s.after text
+-- A reply, delivered. Where a write to the output failed, the line is that of the fault, and the status is 1. Where a write to
+-- the errors failed, nothing else is changed by it.
+pub record Delivered (r : Reply) (status : ℕ) (output output2 errors errors2 : Held) : Type 0 where
+  pub text : Takes output output2 r.text
+  pub line : Takes errors errors2 (if output2.has_failed then error_line (Input WriteFault) else r.line)
+  pub status_is : status ≡ (if output2.has_failed then 1 else r.status)
 
--- a front part of the text went out
-abbrev pub GainsPart : Stream → List ℕ → Type 0
-GainsPart s text = (n : ℕ) × Gains s (take n text)
+-- an answer is told as it is; memory may run out for the line of a refusal
+abbrev pub IsToldAs : Outcome Written → Outcome Written → Type 0
+IsToldAs (Ok answer) told = told ≡ Ok answer
+IsToldAs (Err r) told = (told ≡ Err r) ⊎ (told ≡ Err OutOfMemory)
 
--- the line of a refusal went out, if the errors took it
-abbrev pub Tells : Bool → Stream → Refusal → Type 0
-Tells is_told errors r = is_told ≡ true → Gains errors (error_line r)
-
--- an answer went out whole, with its own status
-pub record WroteWhole (answer : Written) (status : ℕ) (output errors : Stream) : Type 0 where
-  pub status_is : status ≡ status_of answer.completion
-  pub text : Gains output answer.text
-  pub no_line : Unchanged errors
-
--- the output's writer failed: what had gone out stays
-pub record WroteNotAll (answer : Written) (status : ℕ) (is_told : Bool) (output errors : Stream) : Type 0 where
-  pub status_is : status ≡ 1
-  pub text : GainsPart output answer.text
-  pub line : Tells is_told errors (Input WriteFault)
-
--- a refusal writes its line alone
-pub record WroteRefusal (r : Refusal) (status : ℕ) (is_told : Bool) (output errors : Stream) : Type 0 where
-  pub status_is : status ≡ 1
-  pub no_text : Unchanged output
-  pub line : Tells is_told errors r
-
-abbrev pub Delivers : Outcome Written → ℕ → Bool → Stream → Stream → Type 0
-Delivers (Ok answer) status is_told output errors = WroteWhole answer status output errors ⊎ WroteNotAll answer status is_told output errors
-Delivers (Err r) status is_told output errors = WroteRefusal r status is_told output errors
+-- an outcome, delivered
+pub record Told (outcome : Outcome Written) (status : ℕ) (output output2 errors errors2 : Held) : Type 0 where
+  pub told : Outcome Written
+  pub is_told : IsToldAs outcome told
+  pub delivered : Delivered (reply_of told) status output output2 errors errors2

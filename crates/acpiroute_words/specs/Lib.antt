@@ -1,8 +1,9 @@
 pub mod Values
 pub mod CommandLine
-pub mod Decided
-pub mod Input
 pub mod ErrorLines
+pub mod Held
+pub mod Stops
+pub mod Input
 pub mod Written
 pub mod CheckCommand
 pub mod Deliveries

@@ -2,19 +2,24 @@
 use Rattle.std.specs.Prelude.{ℕ, ◌+◌, ◌*◌, ◌-◌, ◌&&◌, nat_le, nat_lt, Bool, false, List, [], ◌∷◌, length, Option, Some, None, codes, option_and_then, if◌then◌else◌}
 use Rattle.std.specs.Str.{bytes_eq}
 use Rattle.clap.specs.Words.{Text}
-use Rattle.route_report.specs.declared.report.Mode.{Mode}
-use Rattle.route_report.specs.declared.report.Mode.TheVariants.{Apic, Pic}
+use Rattle.ar_tables.specs.declared.mode.Mode.{Mode}
+use Rattle.ar_tables.specs.declared.mode.Mode.TheVariants.{Apic, Pic}
 
 -- a value, and where there is one what follows from it
 infixl 10 ◌>>=◌
 abbrev pub ◌>>=◌ : {A B : Type 0} → Option A → (A → Option B) → Option B
 m >>= f = option_and_then f m
 
+-- n with one decimal digit more behind it, where that is below 2^64
+unfoldable pub with_digit : ℕ → ℕ → Option ℕ
+with_digit n c = if nat_le 48 c && (nat_le c 57 && nat_le (n * 10 + (c - 48)) 18446744073709551615) then Some (n * 10 + (c - 48)) else None
+
 -- the number below 2^64 that n and then these decimal digits make
 unfoldable pub number_from : ℕ → List ℕ → Option ℕ
 number_from n [] = Some n
-number_from n (c ∷ cs) =
-    if nat_le 48 c && (nat_le c 57 && nat_le (n * 10 + (c - 48)) 18446744073709551615) then number_from (n * 10 + (c - 48)) cs else None
+number_from n (c ∷ cs) = do
+  m ← with_digit n c
+  number_from m cs
 
 -- one digit at least, and nothing else: no sign
 unfoldable pub number : Text → Option ℕ

@@ -1,74 +1,85 @@
-//! Out of the program: an answer to the output, or one line to the errors.
-ghost use Rattle.std.specs.Prelude.{◌≡◌, IfErr, OnOk, OnErr};
-ghost use Rattle.ar_space.specs.declared.refusal.Refusal.TheVariants.{Input};
-ghost use Rattle.ar_space.specs.declared.refusal.InputFault.TheVariants.{WriteFault};
-ghost use Rattle.acpiroute_words.specs.Deliveries.{Delivers, Tells, Gains, GainsPart};
+//! Out of the program: a text to the output and a line to the errors.
+ghost use Rattle.std.specs.Prelude.{◌≡◌, false, is_err, IfOk};
+ghost use Rattle.acpiroute_words.specs.Deliveries.{Delivered, Told};
+ghost use Rattle.acpiroute_words.specs.ErrorLines.{error_line};
+ghost use Rattle.acpiroute_words.specs.Held.{Takes};
 
 use crate::answer::Answer;
 use crate::error_line::tell;
-use ar_space::{InputFault, Refusal};
-use std::io::Write;
+use crate::streams::{Failed, Sink};
+use ar_space::Refusal;
+use std::alloc::{AllocError, Global};
 
-/// How a run ended.
-#[derive(Clone, Copy, Debug, PartialEq, Eq)]
-pub struct Delivery {
-    /// The exit status, from 0 to 4.
-    pub status: u8,
-    /// Whether the errors took their line whole.
-    pub is_told: bool,
-}
-
-/// Writes a text whole. Any error of the writer ends it, and what had gone out stays.
-fn put<W: Write>(writer: &mut W, text: &[u8]) -> Result<(), Refusal>
-    ensures whole { OnOk result (Gains (record { before = W.contents writer.old; after = W.contents writer.new }) text.now) }
-    ensures part { OnErr result (GainsPart (record { before = W.contents writer.old; after = W.contents writer.new }) text.now) }
-    ensures fault { IfErr result (λ e. e ≡ Input WriteFault) }
+/// Writes a text whole, or up to where a write fails.
+fn put_all<W: Sink>(writer: &mut W, text: &[u8]) -> Result<(), Failed>
+    requires { (W.held writer.old).has_failed ≡ false }
+    ensures takes { Takes (W.held writer.old) (W.held writer.new) text.now }
+    ensures fault { (W.held writer.new).has_failed ≡ is_err result }
 {
     let mut done = 0;
     while done < text.len() {
-        match writer.write(&text[done..]) {
-            Ok(n) => {
-                if n == 0 {
-                    return Err(Refusal::Input(InputFault::WriteFault));
-                }
-                done += n;
-            }
-            Err(_) => return Err(Refusal::Input(InputFault::WriteFault)),
-        }
+        done += writer.put(&text[done..])?;
     }
     Ok(())
 }
 
-/// The line of a refusal, and status 1.
-pub fn refuse<E: Write>(errors: &mut E, refusal: &Refusal) -> Delivery
-    ensures status { result.status ≡ 1 }
-    ensures line { Tells result.is_told (record { before = E.contents errors.old; after = E.contents errors.new }) refusal.now }
+/// Delivers a text, a line and a status. Where a write to the output fails, the line is that of the fault and the status 1;
+/// where a write to the errors fails, nothing else changes.
+pub fn deliver<W: Sink, E: Sink>(
+    text: &[u8],
+    line: &[u8],
+    status: u8,
+    writer: &mut W,
+    errors: &mut E,
+) -> u8
+    requires output { (W.held writer.old).has_failed ≡ false }
+    requires errors { (E.held errors.old).has_failed ≡ false }
+    ensures { Delivered (record { text = text.now; line = line.now; status = status }) result
+        (W.held writer.old) (W.held writer.new) (E.held errors.old) (E.held errors.new) }
 {
-    Delivery {
-        status: 1,
-        is_told: tell(errors, refusal).is_ok(),
+    let wrote = put_all(writer, text);
+    if wrote.is_err() {
+        let _ = put_all(errors, b"refused 142\n");
+        return 1;
+    }
+    let _ = put_all(errors, line);
+    status
+}
+
+/// The line of a refusal.
+fn line_of(alloc: Global, refusal: &Refusal) -> Result<Vec<u8>, AllocError>
+    ensures { IfOk result (λ v. v.items ≡ error_line refusal.now) }
+{
+    let mut line = Vec::new(alloc);
+    match tell(&mut line, refusal) {
+        Ok(()) => Ok(line),
+        Err(_) => Err(AllocError),
     }
 }
 
-/// Writes an answer, or the line of a refusal and nothing else. Where the output's writer fails, the line is that of
-/// `WriteFault`.
-pub fn deliver<W: Write, E: Write>(
+/// Delivers an answer, or the line of a refusal and nothing else. The line is made whole before its first byte goes out;
+/// where memory runs out for it, the line is that of `OutOfMemory`.
+pub fn deliver_outcome<W: Sink, E: Sink>(
+    alloc: Global,
     outcome: Result<Answer, Refusal>,
     writer: &mut W,
     errors: &mut E,
-) -> Delivery
-    ensures { Delivers outcome result.status result.is_told
-        (record { before = W.contents writer.old; after = W.contents writer.new })
-        (record { before = E.contents errors.old; after = E.contents errors.new }) }
+) -> u8
+    requires output { (W.held writer.old).has_failed ≡ false }
+    requires errors { (E.held errors.old).has_failed ≡ false }
+    ensures { Told outcome result (W.held writer.old) (W.held writer.new) (E.held errors.old) (E.held errors.new) }
 {
     match outcome {
-        Ok(answer) => match put(writer, answer.text.as_slice()) {
-            Ok(()) => Delivery {
-                status: answer.completion.status(),
-                is_told: true,
-            },
-            Err(fault) => refuse(errors, &fault),
+        Ok(answer) => deliver(
+            answer.text.as_slice(),
+            b"",
+            answer.completion.status(),
+            writer,
+            errors,
+        ),
+        Err(refusal) => match line_of(alloc, &refusal) {
+            Ok(line) => deliver(b"", line.as_slice(), 1, writer, errors),
+            Err(_) => deliver(b"", b"refused 99\n", 1, writer, errors),
         },
-        Err(refusal) => refuse(errors, &refusal),
     }
 }

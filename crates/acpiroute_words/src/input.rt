@@ -1,13 +1,46 @@
 //! The whole input.
-ghost use Rattle.std.specs.Prelude.{◌≡◌, ◌<◌, ◌+◌, ◌^◌, IfOk, IfSome, length};
-ghost use Rattle.std.specs.Io.KnownBytes.{Consumes};
-ghost use Rattle.ar_space.specs.Outcome.{seen};
-ghost use Rattle.acpiroute_words.specs.Decided.{Settles};
-ghost use Rattle.acpiroute_words.specs.Input.{input_of, input_within};
+ghost use Rattle.std.specs.Prelude.{◌≡◌, ◌<◌, ◌+◌, ◌^◌, IfOk, length, false};
+ghost use Rattle.acpiroute_words.specs.ErrorLines.{error_line};
+ghost use Rattle.acpiroute_words.specs.Input.{IsRead, read_as};
+ghost use Rattle.acpiroute_words.specs.Stops.{refusal_of};
 
-use ar_space::{InputFault, Refusal};
+use crate::streams::Source;
 use std::alloc::{AllocError, Global};
-use std::io::Read;
+
+/// Why there is no input.
+#[derive(Clone, Copy, Debug, PartialEq, Eq)]
+pub enum Stop {
+    /// Memory ran out.
+    OutOfMemory,
+    /// A read failed.
+    ReadFault,
+    /// More than 16 MiB were given.
+    TooLong,
+}
+
+impl From<AllocError> for Stop {
+    ghost use Rattle.acpiroute_words.specs.declared.input.Stop.TheVariants.{OutOfMemory};
+
+    ghost from_gives = { λ _ r. r ≡ OutOfMemory };
+
+    fn from(_error: AllocError) -> Stop {
+        Stop::OutOfMemory
+    }
+}
+
+impl Stop {
+    /// The line that tells of it. It takes no memory.
+    #[tactic(auto, using(crate::proofs::Stops::lines))]
+    pub fn line(self) -> &'static [u8]
+        ensures { result.now ≡ error_line (refusal_of self) }
+    {
+        match self {
+            Stop::OutOfMemory => b"refused 99\n",
+            Stop::ReadFault => b"refused 141\n",
+            Stop::TooLong => b"refused 143\n",
+        }
+    }
+}
 
 /// Room for the bytes of one read.
 fn room(alloc: Global, size: usize) -> Result<Vec<u8>, AllocError>
@@ -16,38 +49,39 @@ fn room(alloc: Global, size: usize) -> Result<Vec<u8>, AllocError>
     vec![in alloc; 0u8; size]
 }
 
-/// All that a reader gives, up to a limit: at most one turn for each byte of the limit, and one more.
-fn read_within<R: Read>(
+/// All that a source gives, up to a limit: at most one turn for each byte of the limit, and one more.
+fn read_within<R: Source>(
     alloc: Global,
     reader: &mut R,
     limit: usize,
     chunk: &mut [u8],
-) -> Result<Vec<u8>, Refusal>
+) -> Result<Vec<u8>, Stop>
     requires some { 0 < length chunk.old }
     requires limit { limit + 1 < 2 ^ 64 }
-    ensures { IfSome (R.remaining reader.old) (λ bytes. Settles (seen (λ v. v.items) result) (λ r. r ≡ input_within limit bytes)) }
+    requires before { R.has_failed reader.old ≡ false }
+    ensures { IsRead limit (R.left reader.old) (R.has_failed reader.new) (read_as (λ v. v.items) result) }
 {
     let mut input = Vec::new(alloc);
     for _ in 0..limit + 1 {
-        let n = match reader.read(chunk) {
+        let n = match reader.fill(chunk) {
             Ok(n) => n,
-            Err(_) => return Err(Refusal::Input(InputFault::ReadFault)),
+            Err(_) => return Err(Stop::ReadFault),
         };
         if n == 0 {
             return Ok(input);
         }
         input.extend_from_slice(&chunk[..n])?;
         if input.len() > limit {
-            return Err(Refusal::Input(InputFault::TextTooLong));
+            return Err(Stop::TooLong);
         }
     }
-    Err(Refusal::Input(InputFault::TextTooLong))
+    Err(Stop::TooLong)
 }
 
-/// The whole input, of at most 16 MiB: `TextTooLong` where it is longer, `ReadFault` at any error of the reader.
-#[tactic(auto, unfolding(crate::specs::Input::input_of))]
-pub fn read_input<R: Read>(alloc: Global, reader: &mut R) -> Result<Vec<u8>, Refusal>
-    ensures { IfSome (R.remaining reader.old) (λ bytes. Settles (seen (λ v. v.items) result) (λ r. r ≡ input_of bytes)) }
+/// The whole input, of at most 16 MiB: `TooLong` where it is longer, `ReadFault` where a read failed.
+pub fn read_input<R: Source>(alloc: Global, reader: &mut R) -> Result<Vec<u8>, Stop>
+    requires { R.has_failed reader.old ≡ false }
+    ensures { IsRead 16777216 (R.left reader.old) (R.has_failed reader.new) (read_as (λ v. v.items) result) }
 {
     let mut chunk = room(alloc, 65536)?;
     read_within(alloc, reader, 16_777_216, chunk.as_mut_slice())

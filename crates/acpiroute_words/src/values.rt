@@ -1,26 +1,31 @@
 //! The values of options.
 ghost use Rattle.std.specs.Prelude.{◌≡◌, IfOk, map, option_map};
-ghost use Rattle.acpiroute_words.specs.Values.{number, number_from, numbers, numbers_named, mode_named, steps_named, within_steps, is_true};
+ghost use Rattle.acpiroute_words.specs.Values.{number, number_from, with_digit, numbers, numbers_named, mode_named, steps_named, within_steps, is_true};
 
 use crate::integers::Integers;
 use route_report::Mode;
 use std::alloc::{AllocError, Global};
 
-/// The number that n and then these decimal digits make.
-#[tactic(auto, unfolding(crate::specs::Values::number_from))]
-fn number_from(n: u64, digits: &[u8]) -> Option<u64>
-    ensures { result ≡ number_from n digits.now }
+/// A number with one decimal digit more behind it, where that is below 2^64.
+#[tactic(auto, unfolding(crate::specs::Values::with_digit))]
+fn with_digit(n: u64, digit: u8) -> Option<u64>
+    ensures { result ≡ with_digit n digit }
 {
-    match digits {
-        [] => Some(n),
-        [c, rest @ ..] => {
-            if *c < b'0' || *c > b'9' {
-                return None;
-            }
-            let next = n.checked_mul(10)?.checked_add(u64::from(*c - b'0'))?;
-            number_from(next, rest)
-        }
+    if digit < b'0' || digit > b'9' {
+        return None;
     }
+    n.checked_mul(10)?.checked_add(u64::from(digit - b'0'))
+}
+
+/// The number that decimal digits make.
+fn number_of_digits(digits: &[u8]) -> Option<u64>
+    ensures { result ≡ number_from 0 digits.now }
+{
+    let mut n = 0;
+    for digit in digits {
+        n = with_digit(n, *digit)?;
+    }
+    Some(n)
 }
 
 /// The number below 2^64 that a text is: digits alone, of which the first may be zeros.
@@ -31,7 +36,7 @@ fn number(text: &str) -> Option<u64>
     if text.is_empty() {
         return None;
     }
-    number_from(0, text.as_bytes())
+    number_of_digits(text.as_bytes())
 }
 
 /// Each number of some texts.

@@ -4,6 +4,7 @@
 mod fadt;
 mod image_bytes;
 mod madt;
+mod mode;
 mod root_pointer;
 mod root_table;
 mod table;
@@ -12,5 +13,6 @@ mod tables;
 pub use ar_space::{ByteMap as Image, IntegerWidth};
 pub use fadt::Fadt;
 pub use madt::{Madt, MadtEntries, MadtEntry, madt_entries};
+pub use mode::Mode;
 pub use table::Table;
 pub use tables::{Ssdts, Tables, find_tables};

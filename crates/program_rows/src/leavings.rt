@@ -13,17 +13,6 @@ pub struct Leavings {
 }
 
 impl Leavings {
-    /// What a run leaves that has nothing to say.
-    pub fn new(alloc: Global) -> Leavings {
-        Leavings {
-            status: 0,
-            is_told: true,
-            output: Vec::new(alloc),
-            errors: Vec::new(alloc),
-            unread: Vec::new(alloc),
-        }
-    }
-
     /// What stands in the report of a row that came to this.
     pub fn text(&self, alloc: Global) -> Result<String, AllocError> {
         let status = self.status;

@@ -3,7 +3,7 @@ use crate::leavings::Leavings;
 use crate::lines::take_line;
 use crate::refusals::line_of;
 use crate::requests::request_of;
-use crate::running::{ran, ran_faulty};
+use crate::running::{ran, ran_over_streams};
 use crate::streams::Faults;
 use crate::values::value_of;
 use std::alloc::{AllocError, Global};
@@ -72,10 +72,12 @@ impl Row {
     fn found(&self, alloc: Global) -> Result<Leavings, AllocError> {
         let words = self.texts(alloc)?;
         let input = self.input.as_slice();
-        match self.faults {
-            None => ran(alloc, words.as_slice(), input),
-            Some(faults) => ran_faulty(alloc, words.as_slice(), input, faults),
+        let is_over_memory = self.faults.is_none() && !self.is_left;
+        if is_over_memory {
+            return ran(alloc, words.as_slice(), input);
         }
+        let faults = self.faults.unwrap_or(Faults::none());
+        ran_over_streams(alloc, words.as_slice(), input, faults)
     }
 
     /// Whether this is left unread that is to be.

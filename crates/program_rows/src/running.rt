@@ -1,67 +1,62 @@
 //! Runs of the program.
+ghost use Rattle.std.specs.Prelude.{◌≡◌, false};
+
 use crate::leavings::Leavings;
 use crate::streams::{Faults, FewBytes, Pairs};
-use acpiroute_lib::{Delivery, run, run_telling};
+use acpiroute_lib::{Outside, Reply, run, run_over};
 use std::alloc::{AllocError, Global};
 
-/// Runs the program over bytes, and nothing else.
-fn through(
+/// Runs the program over memory, and nothing else.
+fn over_memory(alloc: Global, words: &[&str], input: &[u8]) -> Result<Reply, AllocError> {
+    run_over(alloc, words, input)
+}
+
+/// Runs the program over streams, and nothing else.
+fn over_streams(
     alloc: Global,
     words: &[&str],
-    reader: &mut &[u8],
-    output: &mut Vec<u8>,
-    errors: &mut Vec<u8>,
-) -> u8 {
+    reader: &mut Outside<FewBytes<'_>>,
+    output: &mut Outside<Pairs>,
+    errors: &mut Outside<Pairs>,
+) -> u8
+    requires reader { reader.old.has_failed ≡ false }
+    requires output { output.old.has_failed ≡ false }
+    requires errors { errors.old.has_failed ≡ false }
+{
     run(alloc, words, reader, output, errors)
 }
 
-/// Runs the program over streams that fail, and nothing else.
-fn through_faulty(
-    alloc: Global,
-    words: &[&str],
-    reader: &mut FewBytes<'_>,
-    output: &mut Pairs,
-    errors: &mut Pairs,
-) -> Delivery {
-    run_telling(alloc, words, reader, output, errors)
-}
-
-/// What the program leaves over these words and this input.
+/// What the program leaves over these words and this input, read from memory.
 pub fn ran(alloc: Global, words: &[&str], input: &[u8]) -> Result<Leavings, AllocError> {
-    let mut left = Leavings::new(alloc);
-    let mut reader = input;
-    left.status = through(
-        alloc,
-        words,
-        &mut reader,
-        &mut left.output,
-        &mut left.errors,
-    );
-    left.unread.extend_from_slice(reader)?;
-    Ok(left)
+    let reply = over_memory(alloc, words, input)?;
+    Ok(Leavings {
+        status: reply.status,
+        is_told: true,
+        output: reply.text,
+        errors: reply.line,
+        unread: Vec::new(alloc),
+    })
 }
 
 /// What the program leaves over these words and this input, read and written by streams with these faults.
-pub fn ran_faulty(
+pub fn ran_over_streams(
     alloc: Global,
     words: &[&str],
     input: &[u8],
     faults: Faults,
 ) -> Result<Leavings, AllocError> {
-    let mut reader = FewBytes {
+    let mut reader = Outside::new(FewBytes {
         left: input,
         fault: faults.reader,
-    };
-    let mut output = Pairs::new(alloc, faults.output);
-    let mut errors = Pairs::new(alloc, faults.errors);
-    let delivery = through_faulty(alloc, words, &mut reader, &mut output, &mut errors);
-    let mut unread = Vec::new(alloc);
-    unread.extend_from_slice(reader.left)?;
+    });
+    let mut output = Outside::new(Pairs::new(alloc, faults.output));
+    let mut errors = Outside::new(Pairs::new(alloc, faults.errors));
+    let status = over_streams(alloc, words, &mut reader, &mut output, &mut errors);
     Ok(Leavings {
-        status: delivery.status,
-        is_told: delivery.is_told,
-        output: output.got,
-        errors: errors.got,
-        unread,
+        status,
+        is_told: !errors.has_failed,
+        output: output.inner.got,
+        errors: errors.inner.got,
+        unread: Vec::from_slice(alloc, reader.inner.left)?,
     })
 }

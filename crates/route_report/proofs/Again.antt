@@ -12,11 +12,11 @@ use Rattle.aml_path.specs.declared.segment.Seg.{Seg}
 use Rattle.aml_path.specs.Text.{text_of, path_of_text}
 use Rattle.route_check.specs.Claims.{BoundingSet, interrupts_of_bound}
 use Rattle.route_report.specs.Reading.{Said, ascends, here, number_here, path_here, named, numbered, one_of, expected, offered, offers, with_offer, until, link, link_line, with_link, wired, wired_line, with_wired, give, give_line, with_give, busiest, busiest_line, with_busiest, with_path, set_links, with_number, numbers_after, set, bound, bound_line, with_bound, keyed, line}
-use Rattle.route_report.specs.declared.report.Form.{Form}
-use Rattle.route_report.specs.declared.report.Form.TheVariants as form
-use Rattle.route_report.specs.declared.report.Polarity.{Polarity}
-use Rattle.route_report.specs.declared.report.Polarity.TheVariants as polarity
-use Rattle.route_report.specs.declared.report.LinkLine.{LinkLine}
+use Rattle.acpi_resources.specs.declared.form.Form.{Form}
+use Rattle.acpi_resources.specs.declared.form.Form.TheVariants as form
+use Rattle.acpi_resources.specs.declared.form.Polarity.{Polarity}
+use Rattle.acpi_resources.specs.declared.form.Polarity.TheVariants as polarity
+use Rattle.route_report.specs.Reports.{ReportedLink}
 use Rattle.route_report.specs.Printing.{Words, form_word, polarity_word, now_words, link_words, wired_words, give_words, busiest_words, path_words, set_of_bound, bound_words}
 use Rattle.route_report.specs.Readable.{link_of, IsReadableOffer}
 use Rattle.route_report.proofs.Decimals.{same_bytes, equal_bytes, number_of_decimal}
@@ -95,13 +95,13 @@ offer_words : (n : ℕ) (os : List ℕ) (rest : Words) → IsReadableOffer os �
 offer_words n [] rest readable small = let some = readable.some in absurd (omega arith)
 offer_words n (k ∷ ks) rest readable small = offers_again n k ks rest readable.ascending small
 
-pub link_again : (back : PathsAreReadBack) (n : ℕ) (l : LinkLine) (d : Said) → length d.links < 256 → IsReadableOffer l.offers.items → All (λ m. m < 2 ^ 32) l.offers.items
+pub link_again : (back : PathsAreReadBack) (n : ℕ) (l : ReportedLink) (d : Said) → length d.links < 256 → IsReadableOffer l.offers → All (λ m. m < 2 ^ 32) l.offers
     → line n (link_words l) d ≡ Ok (record d { links = d.links ++ link_of l ∷ [] })
 unfolding line keyed link_line link with_link ◌>>=◌
 link_again back n l d room readable small =
-    let rest = now_words (option_map (λ v. v.items) l.now) in
-    let tail = map decimal l.offers.items ++ codes "now" ∷ rest in
-    rw (named_again back n l.path (form_word l.form ∷ polarity_word l.polarity ∷ codes "offers" ∷ tail), offered_again n l.form l.polarity tail, offer_words n l.offers.items rest readable small, lt-ltb (length d.links) 256 room) refl
+    let rest = now_words l.now in
+    let tail = map decimal l.offers ++ codes "now" ∷ rest in
+    rw (named_again back n l.path (form_word l.form ∷ polarity_word l.polarity ∷ codes "offers" ∷ tail), offered_again n l.form l.polarity tail, offer_words n l.offers rest readable small, lt-ltb (length d.links) 256 room) refl
 
 pub wired_again : (n : ℕ) (w : ℕ × ℕ) (d : Said) → length d.wired < 4096 → (w.0 < 2 ^ 32) × (w.1 < 2 ^ 32) → line n (wired_words w) d ≡ Ok (record d { wired = d.wired ++ w ∷ [] })
 unfolding line keyed wired_line wired with_wired ◌>>=◌

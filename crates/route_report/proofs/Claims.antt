@@ -1,5 +1,6 @@
 -- What is read is in order, and has what the lines said.
 use Rattle.std.proofs.Common.{◌≡◌, subst, refl, ℕ, ◌+◌, List, [], ◌∷◌, Ok, Err, Option, Some, None}
+use Rattle.std.specs.Prelude.{is_some}
 use Rattle.std.specs.Ordering.{nat_cmp}
 use Rattle.std.specs.FinMap.{nat_cmp-IsAntisymmetric}
 use Rattle.std.specs.List.Sorted.{IsPermutation, IsSorted}
@@ -13,7 +14,7 @@ use Rattle.route_report.specs.Lines.{lines, words}
 use Rattle.route_report.specs.Ordered.{link_order, wired_order, give_order, bound_in_order, claim_in_order, IsInOrder, HasSameElements}
 use Rattle.route_report.specs.Reading.{Said, here, claimed, line, heading, lines_read, all_read, claim_of_text}
 use Rattle.route_report.proofs.Orders.{path_exact, link_exact, wired_exact, give_exact, link_total, wired_total, give_total}
-use Rattle.route_report.proofs.Sorting.{stays, is_sorted, same_elements}
+use Rattle.route_report.proofs.Sorting.{stays, is_sorted, permuted, same_elements}
 
 -- what a step gave where the whole is no refusal
 pub went_on : {A B : Type 0} (m : Outcome A) (k : A → Outcome B) (b : B) → (m >>= k) ≡ Ok b → (a : A) × (m ≡ Ok a) × (k a ≡ Ok b)
@@ -60,6 +61,27 @@ interrupt_elements : (b : Option BoundingSet) → IsPermutation (interrupts_of_b
 interrupt_elements None = IsPermutation-refl []
 interrupt_elements (Some b) = same_elements nat_cmp nat_cmp_total nat_cmp-IsAntisymmetric b.interrupts
 
+same_presence : (b : Option BoundingSet) → is_some b ≡ is_some (bound_in_order b)
+same_presence None = refl
+same_presence (Some b) = refl
+
+-- claims with the same elements are the same in order
+bound_same : (b c : Option BoundingSet) → IsPermutation (links_of_bound b) (links_of_bound c) → IsPermutation (interrupts_of_bound b) (interrupts_of_bound c) → is_some b ≡ is_some c → bound_in_order b ≡ bound_in_order c
+bound_same None None p n e = refl
+bound_same None (Some c) p n e = absurd (cc e)
+bound_same (Some b) None p n e = absurd (cc e)
+bound_same (Some b) (Some c) p n e =
+    let links = permuted path_cmp path_total path_exact b.links c.links p in
+    let interrupts = permuted nat_cmp nat_cmp_total nat_cmp-IsAntisymmetric b.interrupts c.interrupts n in
+    rw (links, interrupts) refl
+
+pub claims_same : (c d : RoutingClaim) → HasSameElements c d → claim_in_order c ≡ claim_in_order d
+claims_same c d h =
+    let links = permuted link_order link_total link_exact c.links d.links h.links in
+    let wired = permuted wired_order wired_total wired_exact c.wired d.wired h.wired in
+    let gives = permuted give_order give_total give_exact c.gives d.gives h.gives in
+    rw (links, wired, gives, h.busiest, bound_same c.bound d.bound h.set h.interrupts h.bound) refl
+
 pub claim_elements : (c : RoutingClaim) → HasSameElements c (claim_in_order c)
 claim_elements c = record {
   links = same_elements link_order link_total link_exact c.links;
@@ -67,6 +89,8 @@ claim_elements c = record {
   gives = same_elements give_order give_total give_exact c.gives;
   set = set_elements c.bound;
   interrupts = interrupt_elements c.bound;
+  busiest = refl;
+  bound = same_presence c.bound;
 }
 
 -- what is claimed of what was said

@@ -1,12 +1,17 @@
 pub mod Again
 pub mod Claims
+pub mod Claimed
 pub mod Cuts
 pub mod Decimals
+pub mod Effects
 pub mod Sorting
 pub mod Orders
 pub mod Plain
 pub mod Putting
+pub mod Rearranged
+pub mod Renumbered
 pub mod Sections
+pub mod Shuffles
 pub mod Steps
 pub mod Texts
 pub mod Turns

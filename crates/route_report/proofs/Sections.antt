@@ -10,27 +10,23 @@ use Rattle.aml_path.specs.Text.{text_of}
 use Rattle.route_check.specs.Claims.{BoundingSet, RoutingClaim}
 use Rattle.route_report.specs.Lines.{joined}
 use Rattle.route_report.specs.Reading.{Said, nothing_said, line, keyed, heading, expected, claimed, lines_read, all_read, claim_of_text}
-use Rattle.route_report.specs.declared.report.Mode.{Mode}
-use Rattle.route_report.specs.declared.report.Mode.TheVariants as mode
-use Rattle.route_report.specs.declared.report.Form.{Form}
-use Rattle.route_report.specs.declared.report.Form.TheVariants as form
-use Rattle.route_report.specs.declared.report.Polarity.{Polarity}
-use Rattle.route_report.specs.declared.report.Polarity.TheVariants as polarity
+use Rattle.ar_tables.specs.declared.mode.Mode.{Mode}
+use Rattle.ar_tables.specs.declared.mode.Mode.TheVariants as mode
+use Rattle.acpi_resources.specs.declared.form.Form.{Form}
+use Rattle.acpi_resources.specs.declared.form.Form.TheVariants as form
+use Rattle.acpi_resources.specs.declared.form.Polarity.{Polarity}
+use Rattle.acpi_resources.specs.declared.form.Polarity.TheVariants as polarity
 use Rattle.route_report.specs.declared.report.PinName.{PinName}
 use Rattle.route_report.specs.declared.report.PinName.TheVariants as pin
 use Rattle.route_report.specs.declared.report.IoApicLine.{IoApicLine}
 use Rattle.route_report.specs.declared.report.OverrideLine.{OverrideLine}
-use Rattle.route_report.specs.declared.report.LinkLine.{LinkLine}
 use Rattle.route_report.specs.declared.report.PinRoute.{PinRoute}
 use Rattle.route_report.specs.declared.report.PinRoute.TheVariants as route
 use Rattle.route_report.specs.declared.report.PinLine.{PinLine}
 use Rattle.route_report.specs.declared.report.SetOutcome.{SetOutcome}
 use Rattle.route_report.specs.declared.report.SetOutcome.TheVariants as outcome
 use Rattle.route_report.specs.declared.report.SetLine.{SetLine}
-use Rattle.route_report.specs.declared.report.After.{After}
-use Rattle.route_report.specs.declared.report.After.TheVariants as after
-use Rattle.route_report.specs.declared.report.AfterLine.{AfterLine}
-use Rattle.route_report.specs.declared.report.Report.{Report}
+use Rattle.route_report.specs.Reports.{ReportedLink, AfterState, Now, Refused, ReportedAfter, RoutingReport}
 use Rattle.route_report.specs.Printing.{Words, mode_word, form_word, polarity_word, pin_word, number_words, path_words, now_words, heading_words, mode_words, io_apic_words, override_words, link_words, wired_words, route_words, pin_words, give_words, busiest_words, set_of_bound, bound_words, outcome_words, set_words, state_words, after_words, found_lines, chosen_lines, text_of_report}
 use Rattle.route_report.specs.Readable.{link_of, claim_of_report, IsReadableOffer, IsReadable, IsSmall}
 use Rattle.route_report.proofs.Plain.{Plain, PlainWords, literal, decimal_plain, upper_plain, path_plain, words_again, lines_again}
@@ -105,16 +101,16 @@ override_plain o =
     (key (codes "flags") (flags ∷ []) (literal (codes "flags") refl)
     (key flags [] (upper_plain (to_be_bytes w16 o.flags)) none)))))
 
-link_plain : (l : LinkLine) → PlainWords (link_words l)
+link_plain : (l : ReportedLink) → PlainWords (link_words l)
 link_plain l =
-    let now = now_words (option_map (λ v. v.items) l.now) in
-    let tail = map decimal l.offers.items ++ codes "now" ∷ now in
+    let now = now_words l.now in
+    let tail = map decimal l.offers ++ codes "now" ∷ now in
     key (codes "link") (text_of l.path ∷ form_word l.form ∷ polarity_word l.polarity ∷ codes "offers" ∷ tail) (literal (codes "link") refl)
     (key (text_of l.path) (form_word l.form ∷ polarity_word l.polarity ∷ codes "offers" ∷ tail) (path_plain l.path)
     (key (form_word l.form) (polarity_word l.polarity ∷ codes "offers" ∷ tail) (form_plain l.form)
     (key (polarity_word l.polarity) (codes "offers" ∷ tail) (polarity_plain l.polarity)
     (key (codes "offers") tail (literal (codes "offers") refl)
-    (All-append (All Plain) (map decimal l.offers.items) (codes "now" ∷ now) (decimals l.offers.items) (key (codes "now") now (literal (codes "now") refl) (now_plain (option_map (λ v. v.items) l.now))))))))
+    (All-append (All Plain) (map decimal l.offers) (codes "now" ∷ now) (decimals l.offers) (key (codes "now") now (literal (codes "now") refl) (now_plain l.now)))))))
 
 wired_plain : (w : ℕ × ℕ) → PlainWords (wired_words w)
 wired_plain w =
@@ -161,38 +157,38 @@ outcome_plain (outcome.Refused r) = refused_plain r
 set_plain : (s : SetLine) → PlainWords (set_words s)
 set_plain s = key (codes "set") (text_of s.path ∷ outcome_words s.outcome) (literal (codes "set") refl) (key (text_of s.path) (outcome_words s.outcome) (path_plain s.path) (outcome_plain s.outcome))
 
-state_plain : (a : After) → PlainWords (state_words a)
-state_plain (after.Now now) = now_plain (option_map (λ v. v.items) now)
-state_plain (after.Refused r) = refused_plain r
+state_plain : (a : AfterState) → PlainWords (state_words a)
+state_plain (Now now) = now_plain now
+state_plain (Refused r) = refused_plain r
 
-after_plain : (a : AfterLine) → PlainWords (after_words a)
+after_plain : (a : ReportedAfter) → PlainWords (after_words a)
 after_plain a = key (codes "after") (text_of a.path ∷ state_words a.state) (literal (codes "after") refl) (key (text_of a.path) (state_words a.state) (path_plain a.path) (state_plain a.state))
 
 section : {X : Type 0} (view : X → Words) → ((x : X) → PlainWords (view x)) → (xs : List X) → All PlainWords (map view xs)
 section view plain xs = All-map PlainWords view xs (λ i d l. plain (get_or xs i d))
 
-found_plain : (r : Report) → All PlainWords (found_lines r)
+found_plain : (r : RoutingReport) → All PlainWords (found_lines r)
 found_plain r =
-    let pins = map pin_words r.pins.items in
-    let wireds = map wired_words r.wired.items ++ pins in
-    let links = map link_words r.links.items ++ wireds in
-    let overrides = map override_words r.overrides.items ++ links in
-    let io_apics = map io_apic_words r.io_apics.items ++ overrides in
+    let pins = map pin_words r.pins in
+    let wireds = map wired_words r.wired ++ pins in
+    let links = map link_words r.links ++ wireds in
+    let overrides = map override_words r.overrides ++ links in
+    let io_apics = map io_apic_words r.io_apics ++ overrides in
     All-cons PlainWords heading_words (mode_words r.mode ∷ io_apics) heading_plain
     (All-cons PlainWords (mode_words r.mode) io_apics (mode_plain r.mode)
-    (All-append PlainWords (map io_apic_words r.io_apics.items) overrides (section io_apic_words io_apic_plain r.io_apics.items)
-    (All-append PlainWords (map override_words r.overrides.items) links (section override_words override_plain r.overrides.items)
-    (All-append PlainWords (map link_words r.links.items) wireds (section link_words link_plain r.links.items)
-    (All-append PlainWords (map wired_words r.wired.items) pins (section wired_words wired_plain r.wired.items) (section pin_words pin_plain r.pins.items))))))
+    (All-append PlainWords (map io_apic_words r.io_apics) overrides (section io_apic_words io_apic_plain r.io_apics)
+    (All-append PlainWords (map override_words r.overrides) links (section override_words override_plain r.overrides)
+    (All-append PlainWords (map link_words r.links) wireds (section link_words link_plain r.links)
+    (All-append PlainWords (map wired_words r.wired) pins (section wired_words wired_plain r.wired) (section pin_words pin_plain r.pins))))))
 
-chosen_plain : (r : Report) → All PlainWords (chosen_lines r)
+chosen_plain : (r : RoutingReport) → All PlainWords (chosen_lines r)
 chosen_plain r =
-    let afters = map after_words r.afters.items in
-    let sets = map set_words r.sets.items ++ afters in
-    All-append PlainWords (map give_words r.gives.items) (busiest_words r.busiest ∷ bound_words r.bound ∷ sets) (section give_words give_plain r.gives.items)
+    let afters = map after_words r.afters in
+    let sets = map set_words r.sets ++ afters in
+    All-append PlainWords (map give_words r.gives) (busiest_words r.busiest ∷ bound_words r.bound ∷ sets) (section give_words give_plain r.gives)
     (All-cons PlainWords (busiest_words r.busiest) (bound_words r.bound ∷ sets) (busiest_plain r.busiest)
     (All-cons PlainWords (bound_words r.bound) sets (bound_plain r.bound)
-    (All-append PlainWords (map set_words r.sets.items) afters (section set_words set_plain r.sets.items) (section after_words after_plain r.afters.items))))
+    (All-append PlainWords (map set_words r.sets) afters (section set_words set_plain r.sets) (section after_words after_plain r.afters))))
 
 -- the rest of a report's lines
 abbrev reads : ℕ → List Words → Said → Outcome RoutingClaim
@@ -234,21 +230,21 @@ set_passed : (n : ℕ) (s : SetLine) (d : Said) → line n (set_words s) d ≡ O
 unfolding line keyed ◌>>=◌
 set_passed n s d = refl
 
-after_passed : (n : ℕ) (a : AfterLine) (d : Said) → line n (after_words a) d ≡ Ok d
+after_passed : (n : ℕ) (a : ReportedAfter) (d : Said) → line n (after_words a) d ≡ Ok d
 unfolding line keyed ◌>>=◌
 after_passed n a d = refl
 
 -- lines that add to what is claimed
-all_links : (back : PathsAreReadBack) (n : ℕ) (ls : List LinkLine) (rest : List Words) (d : Said) → length d.links + length ls ≤ 256 → All (λ l. IsReadableOffer l.offers.items) ls → All (λ l. All (λ m. m < 2 ^ 32) l.offers.items) ls
+all_links : (back : PathsAreReadBack) (n : ℕ) (ls : List ReportedLink) (rest : List Words) (d : Said) → length d.links + length ls ≤ 256 → All (λ l. IsReadableOffer l.offers) ls → All (λ l. All (λ m. m < 2 ^ 32) l.offers) ls
     → Reaches n (map link_words ls ++ rest) d rest (record d { links = d.links ++ map link_of ls })
 all_links back n [] rest d room readable small = (n, ap (λ ls. reads n rest (record d { links = ls })) (sym (append-nil d.links)))
 all_links back n (l ∷ ls) rest d room readable small =
     let e : Said = record d { links = d.links ++ link_of l ∷ [] } in
     let long = length-append d.links (link_of l ∷ []) in
-    let tail = text_of l.path ∷ form_word l.form ∷ polarity_word l.polarity ∷ codes "offers" ∷ (map decimal l.offers.items ++ codes "now" ∷ now_words (option_map (λ v. v.items) l.now)) in
-    let r = all_links back (n + 1) ls rest e (omega arith) (All-tail (λ x. IsReadableOffer x.offers.items) l ls readable) (All-tail (λ x. All (λ m. m < 2 ^ 32) x.offers.items) l ls small) in
+    let tail = text_of l.path ∷ form_word l.form ∷ polarity_word l.polarity ∷ codes "offers" ∷ (map decimal l.offers ++ codes "now" ∷ now_words l.now) in
+    let r = all_links back (n + 1) ls rest e (omega arith) (All-tail (λ x. IsReadableOffer x.offers) l ls readable) (All-tail (λ x. All (λ m. m < 2 ^ 32) x.offers) l ls small) in
     let s = reach n (codes "link") tail (map link_words ls ++ rest) d e rest (record e { links = e.links ++ map link_of ls }) (link_plain l)
-    (link_again back n l d (omega arith) (All-head (λ x. IsReadableOffer x.offers.items) l ls readable) (All-head (λ x. All (λ m. m < 2 ^ 32) x.offers.items) l ls small)) r in
+    (link_again back n l d (omega arith) (All-head (λ x. IsReadableOffer x.offers) l ls readable) (All-head (λ x. All (λ m. m < 2 ^ 32) x.offers) l ls small)) r in
     (s.0, s.1 ∙ ap (λ xs. reads s.0 rest (record d { links = xs })) (append_assoc d.links (link_of l ∷ []) (map link_of ls)))
 
 all_wired : (n : ℕ) (ws : List (ℕ × ℕ)) (rest : List Words) (d : Said) → length d.wired + length ws ≤ 4096 → All (λ w. (w.0 < 2 ^ 32) × (w.1 < 2 ^ 32)) ws
@@ -274,68 +270,68 @@ all_gives back n (g ∷ gs) rest d small =
 next : (n : ℕ) (ls : List Words) (d : Said) (rest : List Words) (e : Said) (last : List Words) (f : Said) → Reaches n ls d rest e → ((m : ℕ) → Reaches m rest e last f) → Reaches n ls d last f
 next n ls d rest e last f r go = let s = go r.0 in (s.0, r.1 ∙ s.1)
 
-abbrev linked : Report → Said
-linked r = record nothing_said { links = map link_of r.links.items }
+abbrev linked : RoutingReport → Said
+linked r = record nothing_said { links = map link_of r.links }
 
-abbrev with_wires : Report → Said
-with_wires r = record (linked r) { wired = r.wired.items }
+abbrev with_wires : RoutingReport → Said
+with_wires r = record (linked r) { wired = r.wired }
 
-abbrev given : Report → Said
-given r = record (with_wires r) { gives = r.gives.items }
+abbrev given : RoutingReport → Said
+given r = record (with_wires r) { gives = r.gives }
 
-abbrev busy : Report → Said
+abbrev busy : RoutingReport → Said
 busy r = record (given r) { busiest = Some r.busiest }
 
-abbrev all_said : Report → Said
+abbrev all_said : RoutingReport → Said
 all_said r = record (busy r) { bound = Some r.bound }
 
-abbrev last_lines : Report → List Words
-last_lines r = map set_words r.sets.items ++ (map after_words r.afters.items ++ [])
+abbrev last_lines : RoutingReport → List Words
+last_lines r = map set_words r.sets ++ (map after_words r.afters ++ [])
 
-abbrev chosen_rest : Report → List Words
+abbrev chosen_rest : RoutingReport → List Words
 chosen_rest r = busiest_words r.busiest ∷ bound_words r.bound ∷ last_lines r
 
-abbrev all_lines : Report → List Words
-all_lines r = mode_words r.mode ∷ (map io_apic_words r.io_apics.items ++ (map override_words r.overrides.items
-    ++ (map link_words r.links.items ++ (map wired_words r.wired.items ++ (map pin_words r.pins.items ++ (map give_words r.gives.items ++ chosen_rest r))))))
+abbrev all_lines : RoutingReport → List Words
+all_lines r = mode_words r.mode ∷ (map io_apic_words r.io_apics ++ (map override_words r.overrides
+    ++ (map link_words r.links ++ (map wired_words r.wired ++ (map pin_words r.pins ++ (map give_words r.gives ++ chosen_rest r))))))
 
-flat : (r : Report) → found_lines r ++ chosen_lines r ≡ heading_words ∷ all_lines r
+flat : (r : RoutingReport) → found_lines r ++ chosen_lines r ≡ heading_words ∷ all_lines r
 flat r = simp (append_assoc, append-nil) refl
 
-read_last : (r : Report) (d : Said) (n : ℕ) → Reaches n (last_lines r) d [] d
+read_last : (r : RoutingReport) (d : Said) (n : ℕ) → Reaches n (last_lines r) d [] d
 read_last r d n =
-    let afters = map after_words r.afters.items ++ [] in
-    next n (last_lines r) d afters d [] d (over (codes "set") (λ (s : SetLine). text_of s.path ∷ outcome_words s.outcome) set_plain set_passed n r.sets.items afters d)
-    (λ m. over (codes "after") (λ (a : AfterLine). text_of a.path ∷ state_words a.state) after_plain after_passed m r.afters.items [] d)
+    let afters = map after_words r.afters ++ [] in
+    next n (last_lines r) d afters d [] d (over (codes "set") (λ (s : SetLine). text_of s.path ∷ outcome_words s.outcome) set_plain set_passed n r.sets afters d)
+    (λ m. over (codes "after") (λ (a : ReportedAfter). text_of a.path ∷ state_words a.state) after_plain after_passed m r.afters [] d)
 
-read_chosen : (back : PathsAreReadBack) (r : Report) → IsSmall r → (n : ℕ) → Reaches n (map give_words r.gives.items ++ chosen_rest r) (with_wires r) [] (all_said r)
+read_chosen : (back : PathsAreReadBack) (r : RoutingReport) → IsSmall r → (n : ℕ) → Reaches n (map give_words r.gives ++ chosen_rest r) (with_wires r) [] (all_said r)
 read_chosen back r small n =
-    next n (map give_words r.gives.items ++ chosen_rest r) (with_wires r) (chosen_rest r) (given r) [] (all_said r) (all_gives back n r.gives.items (chosen_rest r) (with_wires r) small.gives)
+    next n (map give_words r.gives ++ chosen_rest r) (with_wires r) (chosen_rest r) (given r) [] (all_said r) (all_gives back n r.gives (chosen_rest r) (with_wires r) small.gives)
     (λ m. reach m (codes "busiest") (decimal r.busiest ∷ []) (bound_words r.bound ∷ last_lines r) (given r) (busy r) [] (all_said r) (busiest_plain r.busiest) (busiest_again m r.busiest (given r) refl small.busiest)
     (reach (m + 1) (codes "bound") (set_of_bound r.bound) (last_lines r) (busy r) (all_said r) [] (all_said r) (bound_plain r.bound) (bound_again back (m + 1) r.bound (busy r) refl small.interrupts)
     (read_last r (all_said r) (m + 1 + 1))))
 
-read_all : (back : PathsAreReadBack) (r : Report) → IsReadable r → IsSmall r → (n : ℕ) → Reaches n (all_lines r) nothing_said [] (all_said r)
+read_all : (back : PathsAreReadBack) (r : RoutingReport) → IsReadable r → IsSmall r → (n : ℕ) → Reaches n (all_lines r) nothing_said [] (all_said r)
 read_all back r readable small n =
-    let gives = map give_words r.gives.items ++ chosen_rest r in
-    let pins = map pin_words r.pins.items ++ gives in
-    let wireds = map wired_words r.wired.items ++ pins in
-    let links = map link_words r.links.items ++ wireds in
-    let overrides = map override_words r.overrides.items ++ links in
-    let io_apics = map io_apic_words r.io_apics.items ++ overrides in
+    let gives = map give_words r.gives ++ chosen_rest r in
+    let pins = map pin_words r.pins ++ gives in
+    let wireds = map wired_words r.wired ++ pins in
+    let links = map link_words r.links ++ wireds in
+    let overrides = map override_words r.overrides ++ links in
+    let io_apics = map io_apic_words r.io_apics ++ overrides in
     let few_links = readable.few_links in
     let few_wired = readable.few_wired in
     let d = nothing_said in
     let e = all_said r in
     reach n (codes "mode") (mode_word r.mode ∷ []) io_apics d d [] e (mode_plain r.mode) (mode_passed n r.mode d)
-    (next (n + 1) io_apics d overrides d [] e (over (codes "ioapic") (λ (a : IoApicLine). decimal a.id ∷ codes "at" ∷ encode_upper (to_be_bytes w32 a.address) ∷ codes "base" ∷ decimal a.gsi_base ∷ []) io_apic_plain io_apic_passed (n + 1) r.io_apics.items overrides d)
-    (λ m. next m overrides d links d [] e (over (codes "override") (λ (o : OverrideLine). decimal o.source ∷ codes "to" ∷ decimal o.gsi ∷ codes "flags" ∷ encode_upper (to_be_bytes w16 o.flags) ∷ []) override_plain override_passed m r.overrides.items links d)
-    (λ m. next m links d wireds (linked r) [] e (all_links back m r.links.items wireds d (omega arith) readable.offers small.offers)
-    (λ m. next m wireds (linked r) pins (with_wires r) [] e (all_wired m r.wired.items pins (linked r) (omega arith) small.wired)
-    (λ m. next m pins (with_wires r) gives (with_wires r) [] e (over (codes "pin") (λ (p : PinLine). text_of p.device ∷ decimal p.number ∷ pin_word p.pin ∷ route_words p.route) pin_plain pin_passed m r.pins.items gives (with_wires r))
+    (next (n + 1) io_apics d overrides d [] e (over (codes "ioapic") (λ (a : IoApicLine). decimal a.id ∷ codes "at" ∷ encode_upper (to_be_bytes w32 a.address) ∷ codes "base" ∷ decimal a.gsi_base ∷ []) io_apic_plain io_apic_passed (n + 1) r.io_apics overrides d)
+    (λ m. next m overrides d links d [] e (over (codes "override") (λ (o : OverrideLine). decimal o.source ∷ codes "to" ∷ decimal o.gsi ∷ codes "flags" ∷ encode_upper (to_be_bytes w16 o.flags) ∷ []) override_plain override_passed m r.overrides links d)
+    (λ m. next m links d wireds (linked r) [] e (all_links back m r.links wireds d (omega arith) readable.offers small.offers)
+    (λ m. next m wireds (linked r) pins (with_wires r) [] e (all_wired m r.wired pins (linked r) (omega arith) small.wired)
+    (λ m. next m pins (with_wires r) gives (with_wires r) [] e (over (codes "pin") (λ (p : PinLine). text_of p.device ∷ decimal p.number ∷ pin_word p.pin ∷ route_words p.route) pin_plain pin_passed m r.pins gives (with_wires r))
     (λ m. read_chosen back r small m))))))
 
-ended : (r : Report) (n : ℕ) → reads n [] (all_said r) ≡ Ok (claim_of_report r)
+ended : (r : RoutingReport) (n : ℕ) → reads n [] (all_said r) ≡ Ok (claim_of_report r)
 unfolding lines_read claimed ◌>>=◌
 ended r n = refl
 
@@ -343,7 +339,7 @@ headed : (ls : List Words) → all_read (map joined (heading_words ∷ ls)) ≡ 
 unfolding all_read heading expected ◌>>=◌
 headed ls = refl
 
-pub read_back : (back : PathsAreReadBack) (r : Report) → IsReadable r → IsSmall r → claim_of_text (text_of_report r) ≡ Ok (claim_of_report r)
+pub read_back : (back : PathsAreReadBack) (r : RoutingReport) → IsReadable r → IsSmall r → claim_of_text (text_of_report r) ≡ Ok (claim_of_report r)
 unfolding claim_of_text text_of_report
 read_back back r readable small =
     let all = read_all back r readable small 2 in

@@ -1,18 +1,17 @@
 -- A list that was sorted is the list in order.
-use Rattle.std.proofs.Common.{◌≡◌, ℕ, zero, suc, ◌+◌, ◌<◌, Bool, true, false, List, [], ◌∷◌, length, refl, sym, ◌∙◌, ap, subst, arith, get_or, set}
+use Rattle.std.proofs.Common.{◌≡◌, ℕ, zero, suc, ◌+◌, Bool, true, false, List, [], ◌∷◌, refl, sym, ◌∙◌, ap, subst, arith, get_or}
 use Rattle.std.specs.Prelude.{if◌then◌else◌}
 use Rattle.std.specs.declared.cmp.Ordering.{Ordering}
 use Rattle.std.specs.declared.cmp.Ordering.TheVariants.{Less, Equal, Greater}
 use Rattle.std.specs.Ordering.{is_lt, is_gt, ordering_reverse}
 use Rattle.std.specs.Cmp.{IsTotalOrder}
 use Rattle.std.specs.FinMap.{IsAntisymmetric}
-use Rattle.std.specs.List.{swap}
 use Rattle.std.specs.List.Sorted.{IsPermutation, IsSortedBy}
 use Rattle.std.proofs.lemmas.Bool.{true≢false, false≢true}
-use Rattle.std.proofs.lemmas.List.{get_or_default}
 use Rattle.std.proofs.lemmas.Cmp.{upto}
-use Rattle.std.proofs.lemmas.List.Sorted.{IsPermutation-refl, IsPermutation-trans, IsPermutation-cons, IsPermutation-middle, IsPermutation-keeps}
+use Rattle.std.proofs.lemmas.List.Sorted.{IsPermutation-refl, IsPermutation-trans, IsPermutation-cons, IsPermutation-middle}
 use Rattle.route_report.specs.Ordered.{among, in_order}
+use Rattle.route_report.proofs.Shuffles.{shuffled}
 
 reversed_gt : (o p : Ordering) → p ≡ ordering_reverse o → is_gt o ≡ true → is_gt p ≡ false
 reversed_gt Less p e h = absurd (false≢true h)
@@ -76,7 +75,7 @@ module _ {X : Type 0} (order : X → X → Ordering) (total : IsTotalOrder order
       ∙ (sym (past y z (among order x zs) hy) ∙ sym (ap (among order y) (past x z zs hx)))))
 
   -- two elements may come in either order
-  commute : (x y : X) (l : List X) → among order x (among order y l) ≡ among order y (among order x l)
+  pub commute : (x y : X) (l : List X) → among order x (among order y l) ≡ among order y (among order x l)
   commute x y [] = two x y [] refl refl
   commute x y (z ∷ zs) = go (is_gt (order x z)) (is_gt (order y z)) refl refl (commute x y zs)
     where
@@ -86,27 +85,9 @@ module _ {X : Type 0} (order : X → X → Ordering) (total : IsTotalOrder order
       go false true e f rest = sym (one_past y x z zs f e)
       go false false e f rest = ap (among order x) (before y z zs f) ∙ (two x y (z ∷ zs) (before x z zs e) (before y z zs f) ∙ sym (ap (among order y) (before x z zs e)))
 
-  -- one element in another's place
-  replaced : (x y : X) (l : List X) (j : ℕ) → j < length l → get_or l j y ≡ y → among order y (in_order order (set l j x)) ≡ among order x (in_order order l)
-  replaced x y [] j b e = absurd (omega arith)
-  replaced x y (z ∷ zs) zero b e = commute y x (in_order order zs) ∙ ap (λ u. among order x (among order u (in_order order zs))) (sym e)
-  replaced x y (z ∷ zs) (suc j) b e =
-      commute y z (in_order order (set zs j x)) ∙ (ap (among order z) (replaced x y zs j (omega arith) e) ∙ commute z x (in_order order zs))
-
-  exchanged : (d : X) (l : List X) (i j : ℕ) → i < length l → j < length l → in_order order (set (set l i (get_or l j d)) j (get_or l i d)) ≡ in_order order l
-  exchanged d [] i j bi bj = absurd (omega arith)
-  exchanged d (a ∷ l) zero zero bi bj = refl
-  exchanged d (a ∷ l) zero (suc j) bi bj = replaced a (get_or l j d) l j (omega arith) (get_or_default l j (get_or l j d) d (omega arith))
-  exchanged d (a ∷ l) (suc i) zero bi bj = replaced a (get_or l i d) l i (omega arith) (get_or_default l i (get_or l i d) d (omega arith))
-  exchanged d (a ∷ l) (suc i) (suc j) bi bj = ap (among order a) (exchanged d l i j (omega arith) (omega arith))
-
-  swapped : (l : List X) (i j : ℕ) → i < length l → j < length l → in_order order (swap l i j) ≡ in_order order l
-  swapped [] i j bi bj = absurd (omega arith)
-  swapped (d ∷ ys) i j bi bj = exchanged d (d ∷ ys) i j bi bj
-
   -- the order of the elements says nothing
   pub permuted : (xs ys : List X) → IsPermutation xs ys → in_order order ys ≡ in_order order xs
-  permuted xs = IsPermutation-keeps xs (λ l. in_order order l ≡ in_order order xs) refl (λ l i j bi bj h. swapped l i j bi bj ∙ h)
+  permuted = shuffled (in_order order) (among order) (λ x xs. refl) commute
 
   sorted_tail : (y : X) (ys : List X) → IsSortedBy (λ a b. is_lt (order a b)) (y ∷ ys) → IsSortedBy (λ a b. is_lt (order a b)) ys
   sorted_tail y ys h k d low b =

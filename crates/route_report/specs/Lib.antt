@@ -1,5 +1,7 @@
+pub mod Reports
 pub mod Lines
 pub mod Ordered
 pub mod Reading
+pub mod Counting
 pub mod Printing
 pub mod Readable

@@ -1,5 +1,5 @@
 -- The lists of a claim in order: paths in path order, numbers ascending. What stands twice stays twice.
-use Rattle.std.specs.Prelude.{ℕ, List, [], ◌∷◌, Option, Some, None, if◌then◌else◌}
+use Rattle.std.specs.Prelude.{◌≡◌, ℕ, List, [], ◌∷◌, Option, Some, None, is_some, if◌then◌else◌}
 use Rattle.std.specs.declared.cmp.Ordering.{Ordering}
 use Rattle.std.specs.List.Sorted.{IsPermutation, IsSorted}
 use Rattle.std.specs.Ordering.{is_gt, nat_cmp, ordering_then}
@@ -51,10 +51,12 @@ pub record IsInOrder (c : RoutingClaim) : Type 0 where
   pub set : IsSorted path_cmp (links_of_bound c.bound)
   pub interrupts : IsSorted nat_cmp (interrupts_of_bound c.bound)
 
--- each list of the one has the elements of the other's
+-- each list of the one has the elements of the other's, and the rest is the same
 pub record HasSameElements (c d : RoutingClaim) : Type 0 where
   pub links : IsPermutation c.links d.links
   pub wired : IsPermutation c.wired d.wired
   pub gives : IsPermutation c.gives d.gives
   pub set : IsPermutation (links_of_bound c.bound) (links_of_bound d.bound)
   pub interrupts : IsPermutation (interrupts_of_bound c.bound) (interrupts_of_bound d.bound)
+  pub busiest : c.busiest ≡ d.busiest
+  pub bound : is_some c.bound ≡ is_some d.bound

@@ -1,32 +1,28 @@
 -- The lines of a report.
-use Rattle.std.specs.Prelude.{ℕ, List, [], ◌∷◌, ◌++◌, map, Option, Some, None, option_map, codes, decimal}
+use Rattle.std.specs.Prelude.{ℕ, List, [], ◌∷◌, ◌++◌, map, Option, Some, None, codes, decimal}
 use Rattle.std.specs.Int.{to_be_bytes, w16, w32}
 use Rattle.hex.specs.Hex.{encode_upper}
 use Rattle.aml_path.specs.declared.segment.Seg.{Seg}
 use Rattle.aml_path.specs.Text.{text_of}
 use Rattle.route_check.specs.Claims.{BoundingSet}
 use Rattle.route_report.specs.Lines.{text_of_lines}
-use Rattle.route_report.specs.declared.report.Mode.{Mode}
-use Rattle.route_report.specs.declared.report.Mode.TheVariants as mode
-use Rattle.route_report.specs.declared.report.Form.{Form}
-use Rattle.route_report.specs.declared.report.Form.TheVariants as form
-use Rattle.route_report.specs.declared.report.Polarity.{Polarity}
-use Rattle.route_report.specs.declared.report.Polarity.TheVariants as polarity
+use Rattle.ar_tables.specs.declared.mode.Mode.{Mode}
+use Rattle.ar_tables.specs.declared.mode.Mode.TheVariants as mode
+use Rattle.acpi_resources.specs.declared.form.Form.{Form}
+use Rattle.acpi_resources.specs.declared.form.Form.TheVariants as form
+use Rattle.acpi_resources.specs.declared.form.Polarity.{Polarity}
+use Rattle.acpi_resources.specs.declared.form.Polarity.TheVariants as polarity
 use Rattle.route_report.specs.declared.report.PinName.{PinName}
 use Rattle.route_report.specs.declared.report.PinName.TheVariants as pin
 use Rattle.route_report.specs.declared.report.IoApicLine.{IoApicLine}
 use Rattle.route_report.specs.declared.report.OverrideLine.{OverrideLine}
-use Rattle.route_report.specs.declared.report.LinkLine.{LinkLine}
 use Rattle.route_report.specs.declared.report.PinRoute.{PinRoute}
 use Rattle.route_report.specs.declared.report.PinRoute.TheVariants as route
 use Rattle.route_report.specs.declared.report.PinLine.{PinLine}
 use Rattle.route_report.specs.declared.report.SetOutcome.{SetOutcome}
 use Rattle.route_report.specs.declared.report.SetOutcome.TheVariants as outcome
 use Rattle.route_report.specs.declared.report.SetLine.{SetLine}
-use Rattle.route_report.specs.declared.report.After.{After}
-use Rattle.route_report.specs.declared.report.After.TheVariants as after
-use Rattle.route_report.specs.declared.report.AfterLine.{AfterLine}
-use Rattle.route_report.specs.declared.report.Report.{Report}
+use Rattle.route_report.specs.Reports.{ReportedLink, AfterState, Now, Refused, ReportedAfter, RoutingReport}
 
 abbrev pub Words : Type 0
 Words = List (List ℕ)
@@ -81,9 +77,9 @@ abbrev pub override_words : OverrideLine → Words
 override_words o = codes "override" ∷ decimal o.source ∷ codes "to" ∷ decimal o.gsi ∷ codes "flags" ∷ encode_upper (to_be_bytes w16 o.flags) ∷ []
 
 -- `link P small low offers N.. now V`
-abbrev pub link_words : LinkLine → Words
+abbrev pub link_words : ReportedLink → Words
 link_words l = codes "link" ∷ text_of l.path ∷ form_word l.form ∷ polarity_word l.polarity ∷ codes "offers"
-    ∷ (map decimal l.offers.items ++ codes "now" ∷ now_words (option_map (λ v. v.items) l.now))
+    ∷ (map decimal l.offers ++ codes "now" ∷ now_words l.now)
 
 -- `wired N C`
 abbrev pub wired_words : ℕ × ℕ → Words
@@ -124,20 +120,20 @@ abbrev pub set_words : SetLine → Words
 set_words s = codes "set" ∷ text_of s.path ∷ outcome_words s.outcome
 
 -- `after P V`, `after P refused R`
-abbrev pub state_words : After → Words
-state_words (after.Now now) = now_words (option_map (λ v. v.items) now)
-state_words (after.Refused r) = codes "refused" ∷ decimal r ∷ []
+abbrev pub state_words : AfterState → Words
+state_words (Now now) = now_words now
+state_words (Refused r) = codes "refused" ∷ decimal r ∷ []
 
-abbrev pub after_words : AfterLine → Words
+abbrev pub after_words : ReportedAfter → Words
 after_words a = codes "after" ∷ text_of a.path ∷ state_words a.state
 
 -- all lines, in their order: what was found, and what was chosen
-abbrev pub found_lines : Report → List Words
-found_lines r = heading_words ∷ mode_words r.mode ∷ (map io_apic_words r.io_apics.items ++ (map override_words r.overrides.items
-    ++ (map link_words r.links.items ++ (map wired_words r.wired.items ++ map pin_words r.pins.items))))
+abbrev pub found_lines : RoutingReport → List Words
+found_lines r = heading_words ∷ mode_words r.mode ∷ (map io_apic_words r.io_apics ++ (map override_words r.overrides
+    ++ (map link_words r.links ++ (map wired_words r.wired ++ map pin_words r.pins))))
 
-abbrev pub chosen_lines : Report → List Words
-chosen_lines r = map give_words r.gives.items ++ (busiest_words r.busiest ∷ bound_words r.bound ∷ (map set_words r.sets.items ++ map after_words r.afters.items))
+abbrev pub chosen_lines : RoutingReport → List Words
+chosen_lines r = map give_words r.gives ++ (busiest_words r.busiest ∷ bound_words r.bound ∷ (map set_words r.sets ++ map after_words r.afters))
 
-unfoldable pub text_of_report : Report → List ℕ
+unfoldable pub text_of_report : RoutingReport → List ℕ
 text_of_report r = text_of_lines (found_lines r ++ chosen_lines r)

@@ -1,7 +1,13 @@
 //! What holds of all reports: each law is the contract of a function that does nothing.
-ghost use Rattle.std.specs.Prelude.{◌≡◌, ℕ, List, Ok};
+ghost use Rattle.std.specs.Prelude.{◌≡◌, ◌↔◌, ◌<◌, ◌∷◌, ℕ, List, Ok, All, length, map, filter};
+ghost use Rattle.std.specs.List.Sorted.{IsPermutation, IsStrictlyIncreasing, IsStrictlySortedBy};
+ghost use Rattle.aml_path.specs.Paths.{path_cmp};
+ghost use Rattle.route_model.specs.Links.{OfferingLink, paths_of};
+ghost use Rattle.route_check.specs.Claimed.{claim_of};
 ghost use Rattle.route_check.specs.Claims.{RoutingClaim};
-ghost use Rattle.route_report.specs.declared.report.Report.{Report};
+ghost use Rattle.route_report.specs.Counting.{counts};
+ghost use Rattle.route_report.specs.Lines.{lines};
+ghost use Rattle.route_report.specs.Reports.{RoutingReport};
 ghost use Rattle.route_report.specs.Ordered.{claim_in_order, IsInOrder, HasSameElements};
 ghost use Rattle.route_report.specs.Printing.{text_of_report};
 ghost use Rattle.route_report.specs.Reading.{claim_of_text};
@@ -12,7 +18,7 @@ use aml_path::laws::text_is_read_back;
 /// The text of a report is read as the report's own claim, its lists in order, where its links, offers and wired interrupts are within the
 /// limits of reading: at most 256 links, each with an offer in ascending order, and at most 4096 wired interrupts.
 pub fn a_printed_report_is_read_back()
-    ensures { (report : Report) → IsReadable report → IsSmall report → claim_of_text (text_of_report report) ≡ Ok (claim_of_report report) }
+    ensures { (report : RoutingReport) → IsReadable report → IsSmall report → claim_of_text (text_of_report report) ≡ Ok (claim_of_report report) }
 {
     text_is_read_back();
 }
@@ -22,12 +28,35 @@ pub fn a_claim_that_was_read_is_in_order()
     ensures { (text : List ℕ) (claim : RoutingClaim) → claim_of_text text ≡ Ok claim → IsInOrder claim }
 {}
 
-/// Putting the lists of a claim in order neither adds an element nor drops one.
+/// Putting the lists of a claim in order neither adds an element nor drops one, and changes nothing else.
 pub fn a_claim_in_order_has_the_same_elements()
     ensures { (claim : RoutingClaim) → HasSameElements claim (claim_in_order claim) }
+{}
+
+/// Claims whose lists have the same elements, in whatever order, are the same claim once they are in order.
+pub fn claims_with_the_same_elements_are_one_in_order()
+    ensures { (claim other : RoutingClaim) → HasSameElements claim other → claim_in_order claim ≡ claim_in_order other }
 {}
 
 /// A claim whose lists are in order stays as it is, so a report whose lists are in order claims these very lists.
 pub fn a_claim_in_order_stays()
     ensures { (claim : RoutingClaim) → IsInOrder claim → claim_in_order claim ≡ claim }
+{}
+
+/// The claim that is made of an assignment and its bound is in order, where links are in path order, and wired interrupts, the
+/// places of the set's links and the set's interrupts ascend.
+pub fn the_claim_of_an_assignment_is_in_order()
+    ensures { (links : List OfferingLink) (wired : List (ℕ × ℕ)) (choice : List ℕ) (k : ℕ) (places interrupts : List ℕ) → IsStrictlySortedBy path_cmp (paths_of links) → IsStrictlyIncreasing (map (λ w. w.0) wired) → IsStrictlyIncreasing places → All (λ l. l < length links) places → IsStrictlyIncreasing interrupts → IsInOrder (claim_of links wired choice k places interrupts) }
+{}
+
+/// Two texts with the same first line, whose other lines differ in their order alone, are read as the same claim, or neither is read
+/// as a claim.
+pub fn the_order_of_lines_does_not_matter()
+    ensures { (text other first : List ℕ) (ls ms : List (List ℕ)) (claim : RoutingClaim) → lines text ≡ first ∷ ls → lines other ≡ first ∷ ms → IsPermutation ls ms → claim_of_text text ≡ Ok claim ↔ claim_of_text other ≡ Ok claim }
+{}
+
+/// Lines that are passed over say nothing, wherever they stand: two texts with the same first line and behind it the same lines that
+/// count, in any order, are read as the same claim, or neither is read as a claim.
+pub fn lines_that_are_passed_over_say_nothing()
+    ensures { (text other first : List ℕ) (ls ms : List (List ℕ)) (claim : RoutingClaim) → lines text ≡ first ∷ ls → lines other ≡ first ∷ ms → IsPermutation (filter counts ls) (filter counts ms) → claim_of_text text ≡ Ok claim ↔ claim_of_text other ≡ Ok claim }
 {}

@@ -14,9 +14,11 @@ mod reading;
 mod report;
 mod words;
 
+pub use acpi_resources::{Form, Polarity};
+pub use ar_tables::Mode;
 pub use printing::print;
 pub use reading::read;
 pub use report::{
-    After, AfterLine, Form, IoApicLine, LinkLine, Mode, OverrideLine, PinLine, PinName, PinRoute,
-    Polarity, Report, SetLine, SetOutcome,
+    After, AfterLine, IoApicLine, LinkLine, OverrideLine, PinLine, PinName, PinRoute, Report,
+    SetLine, SetOutcome,
 };

@@ -2,14 +2,17 @@
 ghost use Rattle.std.specs.Prelude.{◌≡◌, ◌<◌, ◌^◌, All, ◌++◌, ◌∷◌, [], OnOk, map, option_map, codes, decimal};
 ghost use Rattle.route_check.specs.Claims.{interrupts_of_bound};
 ghost use Rattle.route_report.specs.Lines.{spaced, line_text, text_of_lines};
+ghost use Rattle.route_report.specs.Reports.{after_state};
 ghost use Rattle.route_report.specs.Printing.{mode_word, form_word, polarity_word, pin_word, heading_words, mode_words, io_apic_words, override_words, now_words, link_words, wired_words, route_words, pin_words, give_words, busiest_words, path_words, set_of_bound, bound_words, outcome_words, set_words, state_words, after_words};
 
 use crate::put;
 use crate::report::{
-    After, AfterLine, Form, IoApicLine, LinkLine, Mode, OverrideLine, PinLine, PinName, PinRoute,
-    Polarity, SetLine, SetOutcome,
+    After, AfterLine, IoApicLine, LinkLine, OverrideLine, PinLine, PinName, PinRoute, SetLine,
+    SetOutcome,
 };
+use acpi_resources::{Form, Polarity};
 use aml_path::Path;
+use ar_tables::Mode;
 use route_check::Bound;
 use std::alloc::{AllocError, Global};
 
@@ -151,7 +154,7 @@ fn put_offers(text: &mut Vec<u8>, offers: &[u32], now: &Option<Vec<u32>>) -> Res
 impl Line for LinkLine {
     ghost words = { link_words };
 
-    ghost Small = { λ l. All (λ n. n < 2 ^ 32) l.offers.items };
+    ghost Small = { λ l. All (λ n. n < 2 ^ 32) l.offers };
 
     #[tactic(auto, using(crate::proofs::Putting::putting))]
     fn put(&self, alloc: Global, text: &mut Vec<u8>) -> Result<(), AllocError> {
@@ -319,7 +322,7 @@ impl Line for SetLine {
 
 /// What a link is set to after the choice.
 fn put_state(text: &mut Vec<u8>, state: &After) -> Result<(), AllocError>
-    ensures { OnOk result (text.new.items ≡ text.old.items ++ spaced (state_words state.now)) }
+    ensures { OnOk result (text.new.items ≡ text.old.items ++ spaced (state_words (after_state state.now))) }
 {
     match state {
         After::Now(now) => put::current(text, now),

@@ -16,8 +16,8 @@ use std::alloc::{AllocError, Global};
 /// The lines of what was found.
 fn put_found(alloc: Global, text: &mut Vec<u8>, report: &Report) -> Result<(), AllocError>
     ensures text { OnOk result (text.new.items ≡ text.old.items ++ text_of_lines (found_lines report.now)) }
-    ensures offers { OnOk result (All (λ l. All (λ n. n < 2 ^ 32) l.offers.items) report.now.links.items) }
-    ensures wired { OnOk result (All (λ w. (w.0 < 2 ^ 32) × (w.1 < 2 ^ 32)) report.now.wired.items) }
+    ensures offers { OnOk result (All (λ l. All (λ n. n < 2 ^ 32) l.offers) report.now.links) }
+    ensures wired { OnOk result (All (λ w. (w.0 < 2 ^ 32) × (w.1 < 2 ^ 32)) report.now.wired) }
 {
     put_heading(text)?;
     put_mode(text, report.mode)?;
@@ -32,7 +32,7 @@ fn put_found(alloc: Global, text: &mut Vec<u8>, report: &Report) -> Result<(), A
 /// The lines of what was chosen.
 fn put_chosen(alloc: Global, text: &mut Vec<u8>, report: &Report) -> Result<(), AllocError>
     ensures text { OnOk result (text.new.items ≡ text.old.items ++ text_of_lines (chosen_lines report.now)) }
-    ensures gives { OnOk result (All (λ g. g.1 < 2 ^ 32) report.now.gives.items) }
+    ensures gives { OnOk result (All (λ g. g.1 < 2 ^ 32) report.now.gives) }
     ensures busiest { OnOk result (report.now.busiest < 2 ^ 32) }
     ensures interrupts { OnOk result (All (λ n. n < 2 ^ 32) (interrupts_of_bound report.now.bound)) }
 {

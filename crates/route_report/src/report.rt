@@ -1,29 +1,9 @@
 //! What a run reports: a field for each kind of line.
+use acpi_resources::{Form, Polarity};
 use aml_path::Path;
+use ar_tables::Mode;
 use route_check::Bound;
-
-/// Which interrupt controllers the machine was told to use (ACPI 6.5, 5.8.1).
-#[derive(Clone, Copy, Debug, PartialEq, Eq)]
-pub enum Mode {
-    Apic,
-    Pic,
-}
-
-/// The form of the descriptor that offers a link's interrupts.
-#[derive(Clone, Copy, Debug, PartialEq, Eq)]
-pub enum Form {
-    /// An IRQ descriptor, of at most 16 interrupts (ACPI 6.5, 6.4.2.1).
-    Small,
-    /// An Extended Interrupt descriptor (ACPI 6.5, 6.4.3.6).
-    Extended,
-}
-
-/// The polarity of a link's interrupts.
-#[derive(Clone, Copy, Debug, PartialEq, Eq)]
-pub enum Polarity {
-    Low,
-    High,
-}
+use std::marker::Model;
 
 /// A pin of a PCI device.
 #[derive(Clone, Copy, Debug, PartialEq, Eq)]
@@ -60,6 +40,15 @@ pub struct LinkLine {
     pub offers: Vec<u32>,
     /// The interrupts that `_CRS` gives; none without `_CRS`.
     pub now: Option<Vec<u32>>,
+}
+
+impl Model for LinkLine {
+    ghost use Rattle.std.specs.Prelude.{option_map};
+    ghost use Rattle.route_report.specs.Reports.{ReportedLink};
+
+    ghost Value = { ReportedLink };
+
+    ghost view = { λ l. record { path = l.path; form = l.form; polarity = l.polarity; offers = l.offers.items; now = option_map (λ v. v.items) l.now } };
 }
 
 /// Where a pin leads.
@@ -117,6 +106,14 @@ pub struct AfterLine {
     pub state: After,
 }
 
+impl Model for AfterLine {
+    ghost use Rattle.route_report.specs.Reports.{ReportedAfter, after_state};
+
+    ghost Value = { ReportedAfter };
+
+    ghost view = { λ a. record { path = a.path; state = after_state a.state } };
+}
+
 /// What a run found and chose. `print` writes its lines in the order of the fields.
 #[derive(Debug, Drop)]
 pub struct Report {
@@ -139,4 +136,24 @@ pub struct Report {
     pub sets: Vec<SetLine>,
     /// What each present link is set to then; empty where none was to be set.
     pub afters: Vec<AfterLine>,
+}
+
+impl Model for Report {
+    ghost use Rattle.route_report.specs.Reports.{RoutingReport};
+
+    ghost Value = { RoutingReport };
+
+    ghost view = { λ r. record {
+      mode = r.mode;
+      io_apics = r.io_apics.items;
+      overrides = r.overrides.items;
+      links = r.links.items;
+      wired = r.wired.items;
+      pins = r.pins.items;
+      gives = r.gives.items;
+      busiest = r.busiest;
+      bound = r.bound;
+      sets = r.sets.items;
+      afters = r.afters.items;
+    } };
 }

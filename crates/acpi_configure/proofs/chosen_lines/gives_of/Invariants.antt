@@ -1,5 +1,5 @@
 use Rattle.std.proofs.Common.{◌≡◌, ◌++◌, drop}
-use Rattle.acpi_configure.specs.Lines.{gives_of}
+use Rattle.route_check.specs.Claimed.{gives_of}
 use Rattle.acpi_configure.proofs.chosen_lines.gives_of.Given as goal
 
 abbrev pub invariant-loop-i : goal.invariant-loop-i

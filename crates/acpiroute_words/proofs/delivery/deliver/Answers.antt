@@ -2,8 +2,7 @@ use Rattle.std.proofs.Common.{rules}
 use Rattle.acpiroute_words.proofs.Deliveries.{not_all}
 use Rattle.acpiroute_words.proofs.delivery.deliver.Goals as goal
 
-pub returns-in-Ok : goal.returns-in-Ok
-returns-in-Ok g c = not_all c.args.outcome c.in-Ok.answer c.in-Err-put.fault c.refuse.result.status c.refuse.result.is_told
-    (record { before = g.W.Write.contents c.args.writer.now; after = g.W.Write.contents c.put.new.writer })
-    (record { before = g.E.Write.contents c.args.errors.now; after = g.E.Write.contents c.refuse.new.errors })
-    (search rules) c.in-Err-put.ensures.fault c.refuse.ensures.status (search rules) c.refuse.ensures.line
+pub returns-then-is_err : goal.returns-then-is_err
+returns-then-is_err g c = not_all (record { text = c.args.text.now; line = c.args.line.now; status = c.args.status })
+    (g.W.Sink.held c.args.writer.now) (g.W.Sink.held c.put_all-wrote.new.writer) (g.E.Sink.held c.args.errors.now) (g.E.Sink.held c.put_all.new.writer)
+    (search rules) c.put_all-wrote.ensures.takes c.put_all.ensures.takes

@@ -3,12 +3,12 @@ use Rattle.ar_space.specs.Outcome.{answers_is}
 use Rattle.route_report.specs.Lines.{text_of_lines}
 use Rattle.route_report.specs.Printing.{found_lines, chosen_lines, text_of_report}
 use Rattle.route_report.specs.Reading.{claim_of_text}
-use Rattle.route_report.specs.declared.report.Report.{Report}
+use Rattle.route_report.specs.Reports.{RoutingReport}
 use Rattle.route_report.proofs.Putting.{lines_append}
 use Rattle.route_report.proofs.Sections.{read_back}
 use Rattle.route_report.proofs.printing.print.Goals as goal
 
-whole : (r : Report) (start first last : List ℕ) → start ≡ [] → first ≡ start ++ text_of_lines (found_lines r) → last ≡ first ++ text_of_lines (chosen_lines r) → last ≡ text_of_report r
+whole : (r : RoutingReport) (start first last : List ℕ) → start ≡ [] → first ≡ start ++ text_of_lines (found_lines r) → last ≡ first ++ text_of_lines (chosen_lines r) → last ≡ text_of_report r
 unfolding text_of_report
 whole r start first last none found chosen =
     chosen ∙ (ap (λ t. t ++ text_of_lines (chosen_lines r)) (found ∙ ap (λ t. t ++ text_of_lines (found_lines r)) none) ∙ sym (lines_append (found_lines r) (chosen_lines r)))
