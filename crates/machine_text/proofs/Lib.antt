@@ -2,4 +2,3 @@ pub mod Bytes
 pub mod Numbers
 pub mod Reading
 pub mod Turns
-pub mod Cuts

@@ -9,7 +9,8 @@ use Rattle.ar_space.specs.declared.space.Place.{Place}
 use Rattle.ar_space.specs.declared.space.Place.TheVariants as place
 use Rattle.ar_space.specs.declared.refusal.Refusal.TheVariants.{Input}
 use Rattle.ar_space.specs.declared.refusal.InputFault.TheVariants.{MachineLine}
-use Rattle.machine_text.specs.Words.{words_left, tail_of, number, word_bytes}
+use Rattle.text_words.specs.Words.{words_left, tail_of}
+use Rattle.machine_text.specs.Words.{number, word_bytes}
 use Rattle.machine_text.specs.declared.address_space.AddressSpace.{AddressSpace}
 use Rattle.machine_text.specs.declared.address_space.AddressSpace.TheVariants.{Memory, Io, Pci}
 use Rattle.machine_text.specs.declared.draft.Draft.{Draft}

@@ -1,25 +1,11 @@
--- Words, numbers and bytes of a line of the machine text.
-use Rattle.std.specs.Prelude.{ℕ, ◌+◌, ◌*◌, ◌==◌, ◌&&◌, nat_le, nat_lt, List, [], ◌∷◌, length, Option, Some, None, Result, Ok, Err, option_and_then, if◌then◌else◌}
-use Rattle.std.specs.List.{slice_split, position_or_len, after_first}
+-- The numbers and bytes that words of the machine text are.
+use Rattle.std.specs.Prelude.{ℕ, ◌+◌, ◌*◌, ◌&&◌, nat_le, nat_lt, List, [], ◌∷◌, length, Option, Some, None, Result, Ok, Err, option_and_then, if◌then◌else◌}
 use Rattle.hex.specs.Hex.{hex_digit_value, decode_of}
 
 -- the `?` of options
 infixl 10 ◌>>=◌
 abbrev ◌>>=◌ : {A B : Type 0} → Option A → (A → Option B) → Option B
 m >>= f = option_and_then f m
-
--- the words of a text, parted by single blanks
-abbrev pub words : List ℕ → List (List ℕ)
-words = slice_split (λ b. b == 32)
-
--- what follows the first blank, if there is one
-abbrev pub tail_of : List ℕ → Option (List ℕ)
-tail_of line = if nat_lt (position_or_len (λ b. b == 32) line) (length line) then Some (after_first (λ b. b == 32) line) else None
-
--- the words that are left, none where no blank stood before them
-abbrev pub words_left : Option (List ℕ) → List (List ℕ)
-words_left None = []
-words_left (Some text) = words text
 
 -- the value of hexadecimal digits, after those that gave n
 unfoldable pub number_from : ℕ → List ℕ → Option ℕ

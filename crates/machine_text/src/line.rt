@@ -7,9 +7,10 @@ ghost use Rattle.machine_text.specs.MachineText.{last_of, placed, configured, ro
 use crate::address_space::AddressSpace;
 use crate::draft::Draft;
 use crate::osi_texts::OsiTexts;
-use crate::words::{Words, bad, cut};
+use crate::words::{bad, bytes, ended, number};
 use ar_space::{Refusal, Sparse};
 use std::alloc::Global;
+use text_words::{Words, cut};
 
 /// How many bytes an `osi` text may have.
 const MAX_TEXT: usize = 255;
@@ -28,8 +29,8 @@ fn placed(
     ensures { Answers (seen (λ _. space.new) result) (placed n in_space space.old words.old) }
 {
     let last = in_space.last();
-    let first = words.number(n, last)?;
-    let bytes = words.bytes(alloc, n)?;
+    let first = number(n, last, words)?;
+    let bytes = bytes(alloc, n, words)?;
     if !fits(first, bytes.len(), last) {
         return Err(bad(n));
     }
@@ -55,10 +56,10 @@ fn configured(
 ) -> Result<(), Refusal>
     ensures { Answers (seen (λ _. space.new) result) (configured n space.old words.old) }
 {
-    let seg = words.number(n, 0xFFFF)? as u16;
-    let bus = words.number(n, 0xFF)? as u8;
-    let dev = words.number(n, 0x1F)? as u8;
-    let func = words.number(n, 7)? as u8;
+    let seg = number(n, 0xFFFF, words)? as u16;
+    let bus = number(n, 0xFF, words)? as u8;
+    let dev = number(n, 0x1F, words)? as u8;
+    let func = number(n, 7, words)? as u8;
     let function = AddressSpace::Pci {
         seg,
         bus,
@@ -73,8 +74,8 @@ fn configured(
 fn root(n: usize, rsdp: Option<u64>, words: &mut Words<'_>) -> Result<Option<u64>, Refusal>
     ensures { Answers result (root n rsdp words.old) }
 {
-    let address = words.number(n, u64::MAX)?;
-    words.ended(n)?;
+    let address = number(n, u64::MAX, words)?;
+    ended(n, words)?;
     if rsdp.is_some() {
         return Err(bad(n));
     }

@@ -7,9 +7,10 @@ ghost use Rattle.machine_text.specs.MachineText.{lines_read, said, machine_text}
 use crate::draft::Draft;
 use crate::line::line;
 use crate::osi_texts::OsiTexts;
-use crate::words::{bad, place_of};
+use crate::words::bad;
 use ar_space::{Refusal, Sparse};
 use std::alloc::Global;
+use text_words::cut_at;
 
 /// What a machine text says: the address of the RSDP, the bytes of the machine, whose memory is the image of its
 /// tables, and the texts that `_OSI` knows.
@@ -27,11 +28,9 @@ fn first_line(text: &[u8]) -> (&[u8], &[u8])
     ensures lines { lines text.now ≡ result.0.now ∷ lines result.1.now }
     ensures shorter { length result.1.now < length text.now }
 {
-    let i = place_of(b'\n', text);
-    if i < text.len() {
-        (without_return(&text[..i]), &text[i + 1..])
-    } else {
-        (text, b"")
+    match cut_at(b'\n', text) {
+        (line, Some(rest)) => (without_return(line), rest),
+        (_, None) => (text, b""),
     }
 }
 

@@ -1,8 +1,7 @@
-//! The words of a line, parted by single blanks.
-ghost use Rattle.std.specs.Prelude.{◌≡◌, ◌==◌, ◌≤◌, ◌<◌, [], ◌∷◌, IfOk, IfSome, IfNone, option_map, length};
-ghost use Rattle.std.specs.List.{before_first, position_or_len};
+//! The words of a line as numbers and bytes.
+ghost use Rattle.std.specs.Prelude.{◌≡◌, ◌≤◌, [], ◌∷◌, IfOk};
 ghost use Rattle.ar_space.specs.Outcome.{Answers, seen};
-ghost use Rattle.machine_text.specs.Words.{tail_of, words_left, number, word_bytes};
+ghost use Rattle.machine_text.specs.Words.{number, word_bytes};
 ghost use Rattle.machine_text.specs.MachineText.{here, word, ended, numbered, with_word, bytes_after, all_bytes};
 ghost use Rattle.ar_space.specs.declared.refusal.Refusal.TheVariants.{Input};
 ghost use Rattle.ar_space.specs.declared.refusal.InputFault.TheVariants.{MachineLine};
@@ -10,7 +9,7 @@ ghost use Rattle.ar_space.specs.declared.refusal.InputFault.TheVariants.{Machine
 use crate::digits;
 use ar_space::{InputFault, Refusal};
 use std::alloc::Global;
-use std::marker::Model;
+use text_words::Words;
 
 /// The refusal of the line with this number.
 pub(crate) fn bad(n: usize) -> Refusal
@@ -19,112 +18,46 @@ pub(crate) fn bad(n: usize) -> Refusal
     Refusal::Input(InputFault::MachineLine(n))
 }
 
-/// The first place of a byte, or the length.
-pub(crate) fn place_of(byte: u8, text: &[u8]) -> usize
-    ensures value { result ≡ position_or_len (λ b. b == byte) text.now }
-    ensures within { result ≤ length text.now }
+/// The next word.
+#[tactic(auto, using(ar_space::specs::Outcome::answering))]
+fn word<'a>(n: usize, words: &mut Words<'a>) -> Result<&'a [u8], Refusal>
+    ensures { Answers (seen (λ w. (w.now, words.new)) result) (word n words.old) }
 {
-    let mut i = 0;
-    while i < text.len() {
-        if text[i] == byte {
-            return i;
-        }
-        i += 1;
+    match words.take() {
+        Some(word) => Ok(word),
+        None => Err(bad(n)),
     }
-    i
 }
 
-/// What stands before the first blank, and what follows it.
-pub(crate) fn cut(line: &[u8]) -> (&[u8], Option<&[u8]>)
-    ensures before { result.0.now ≡ before_first (λ b. b == 32) line.now }
-    ensures tail { option_map (λ s. s.now) result.1 ≡ tail_of line.now }
+/// No word is left.
+#[tactic(auto, using(ar_space::specs::Outcome::answering))]
+pub(crate) fn ended(n: usize, words: &Words<'_>) -> Result<(), Refusal>
+    ensures { Answers result (ended n words.now) }
 {
-    let i = place_of(b' ', line);
-    if i < line.len() {
-        (&line[..i], Some(&line[i + 1..]))
+    if words.is_ended() {
+        Ok(())
     } else {
-        (line, None)
+        Err(bad(n))
     }
 }
 
-/// Words that are left of a line.
-#[derive(Drop)]
-pub(crate) struct Words<'a> {
-    rest: Option<&'a [u8]>,
+/// The next word, as a number that is at most `most`.
+#[tactic(auto, using(ar_space::specs::Outcome::answering), unfolding(crate::specs::MachineText::numbered))]
+pub(crate) fn number(n: usize, most: u64, words: &mut Words<'_>) -> Result<u64, Refusal>
+    ensures value { Answers (seen (λ a. (a, words.new)) result) (numbered n most words.old) }
+    ensures within { IfOk result (λ a. a ≤ most) }
+{
+    let word = word(n, words)?;
+    number_here(n, word, most)
 }
 
-impl<'a> Model for Words<'a> {
-    ghost use Rattle.std.specs.Prelude.{ℕ, List, option_map};
-    ghost use Rattle.machine_text.specs.Words.{words_left};
-
-    ghost Value = { List (List ℕ) };
-
-    ghost view = { λ s. words_left (option_map (λ t. t.now) s.rest) };
-}
-
-impl<'a> Words<'a> {
-    pub(crate) fn new(rest: Option<&'a [u8]>) -> Words<'a>
-        ensures { result ≡ words_left (option_map (λ t. t.now) rest.entry) }
-    {
-        Words { rest }
-    }
-
-    /// The next word, if there is one.
-    #[tactic(auto, using(crate::proofs::Cuts::words_cut))]
-    fn take(&mut self) -> Option<&'a [u8]>
-        ensures some { IfSome result (λ w. self.old ≡ w.now ∷ self.new) }
-        ensures none { IfNone result (self.old ≡ []) }
-    {
-        let rest = self.rest?;
-        let (word, tail) = cut(rest);
-        self.rest = tail;
-        Some(word)
-    }
-
-    /// The next word.
-    #[tactic(auto, using(crate::proofs::Cuts::some_word, ar_space::specs::Outcome::answering))]
-    fn word(&mut self, n: usize) -> Result<&'a [u8], Refusal>
-        ensures { Answers (seen (λ w. (w.now, self.new)) result) (word n self.old) }
-    {
-        match self.rest {
-            Some(rest) => {
-                let (word, tail) = cut(rest);
-                self.rest = tail;
-                Ok(word)
-            }
-            None => Err(bad(n)),
-        }
-    }
-
-    /// No word is left.
-    #[tactic(auto, using(crate::proofs::Cuts::not_ended, ar_space::specs::Outcome::answering))]
-    pub(crate) fn ended(&self, n: usize) -> Result<(), Refusal>
-        ensures { Answers result (ended n self.now) }
-    {
-        match self.rest {
-            Some(_) => Err(bad(n)),
-            None => Ok(()),
-        }
-    }
-
-    /// The next word, as a number that is at most `most`.
-    #[tactic(auto, using(ar_space::specs::Outcome::answering), unfolding(crate::specs::MachineText::numbered))]
-    pub(crate) fn number(&mut self, n: usize, most: u64) -> Result<u64, Refusal>
-        ensures value { Answers (seen (λ a. (a, self.new)) result) (numbered n most self.old) }
-        ensures within { IfOk result (λ a. a ≤ most) }
-    {
-        let word = self.word(n)?;
-        number_here(n, word, most)
-    }
-
-    /// The bytes of all words, of which there is one at least.
-    #[tactic(auto, using(ar_space::specs::Outcome::answering), unfolding(crate::specs::MachineText::all_bytes))]
-    pub(crate) fn bytes(&mut self, alloc: Global, n: usize) -> Result<Vec<u8>, Refusal>
-        ensures { Answers (seen (λ v. v.items) result) (all_bytes n self.old) }
-    {
-        let first = self.word(n)?;
-        bytes_after(alloc, n, first, self)
-    }
+/// The bytes of all words, of which there is one at least.
+#[tactic(auto, using(ar_space::specs::Outcome::answering), unfolding(crate::specs::MachineText::all_bytes))]
+pub(crate) fn bytes(alloc: Global, n: usize, words: &mut Words<'_>) -> Result<Vec<u8>, Refusal>
+    ensures { Answers (seen (λ v. v.items) result) (all_bytes n words.old) }
+{
+    let first = word(n, words)?;
+    bytes_after(alloc, n, first, words)
 }
 
 /// The number of a word.

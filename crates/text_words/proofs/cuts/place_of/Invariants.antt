@@ -1,5 +1,5 @@
 use Rattle.std.proofs.Common.{◌≡◌, ℕ, length, ◌-◌, ◌<◌, ◌≤◌, get_or, false, ◌==◌}
-use Rattle.machine_text.proofs.words.place_of.Given as goal
+use Rattle.text_words.proofs.cuts.place_of.Given as goal
 
 abbrev pub invariant-loop-i : goal.invariant-loop-i
 invariant-loop-i l = (l.i ≤ length l.text) × ((k : ℕ) → k < l.i → (get_or l.text k 0 == l.byte) ≡ false)

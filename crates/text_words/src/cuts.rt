@@ -1,0 +1,43 @@
+//! Texts that are cut at the first byte of a kind.
+ghost use Rattle.std.specs.Prelude.{◌≡◌, ◌==◌, ◌≤◌, ◌<◌, IfSome, length, option_map};
+ghost use Rattle.std.specs.List.{before_first, position_or_len};
+ghost use Rattle.text_words.specs.Words.{tail_at, tail_of};
+
+/// The first place of a byte, from 0, or the length where the byte isn't in the text: `place_of(b' ', b"give it")` is 4.
+pub fn place_of(byte: u8, text: &[u8]) -> usize
+    ensures value { result ≡ position_or_len (λ b. b == byte) text.now }
+    ensures within { result ≤ length text.now }
+{
+    let mut i = 0;
+    while i < text.len() {
+        if text[i] == byte {
+            return i;
+        }
+        i += 1;
+    }
+    i
+}
+
+/// What stands before the first such byte, and what follows it: `cut_at(b'\n', b"one\ntwo")` is `(b"one", Some(b"two"))`.
+/// Where the byte isn't in the text it is the whole text and `None`.
+pub fn cut_at(byte: u8, text: &[u8]) -> (&[u8], Option<&[u8]>)
+    ensures before { result.0.now ≡ before_first (λ b. b == byte) text.now }
+    ensures tail { option_map (λ s. s.now) result.1 ≡ tail_at byte text.now }
+    ensures shorter { IfSome result.1 (λ s. length s.now < length text.now) }
+{
+    let i = place_of(byte, text);
+    if i < text.len() {
+        (&text[..i], Some(&text[i + 1..]))
+    } else {
+        (text, None)
+    }
+}
+
+/// The first word of a line, and what follows the blank behind it: `cut(b"give it")` is `(b"give", Some(b"it"))`. Where the
+/// line has no blank it is the whole line and `None`.
+pub fn cut(line: &[u8]) -> (&[u8], Option<&[u8]>)
+    ensures before { result.0.now ≡ before_first (λ b. b == 32) line.now }
+    ensures tail { option_map (λ s. s.now) result.1 ≡ tail_of line.now }
+{
+    cut_at(b' ', line)
+}
