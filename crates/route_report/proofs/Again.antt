@@ -1,6 +1,6 @@
 -- Lines that are printed say what they were printed of.
 use Rattle.std.proofs.Common.{◌≡◌, ◌∙◌, ap, refl, subst, ℕ, suc, ◌+◌, ◌<◌, ◌^◌, List, [], ◌∷◌, ◌++◌, length, map, Bool, true, false, arith, append_assoc, append-nil, Ok, Some, None, Option}
-use Rattle.std.specs.Prelude.{All, codes, decimal, nat_lt, slice_index, option_map}
+use Rattle.std.specs.Prelude.{All, codes, decimal, nat_lt, slice_index}
 use Rattle.std.specs.List.Sorted.{IsStrictlyIncreasing}
 use Rattle.std.specs.Str.{bytes_eq}
 use Rattle.std.specs.Str.Parse.{AllDigits}

@@ -10,7 +10,8 @@ use Rattle.ar_space.specs.Outcome.{Outcome, ◌>>=◌}
 use Rattle.aml_path.specs.Paths.{path_cmp}
 use Rattle.route_model.proofs.Paths.{path_total}
 use Rattle.route_check.specs.Claims.{BoundingSet, RoutingClaim, links_of_bound, interrupts_of_bound}
-use Rattle.route_report.specs.Lines.{lines, words}
+use Rattle.text_words.specs.Words.{words}
+use Rattle.route_report.specs.Lines.{lines}
 use Rattle.route_report.specs.Ordered.{link_order, wired_order, give_order, bound_in_order, claim_in_order, IsInOrder, HasSameElements}
 use Rattle.route_report.specs.Reading.{Said, here, claimed, line, heading, lines_read, all_read, claim_of_text}
 use Rattle.route_report.proofs.Orders.{path_exact, link_exact, wired_exact, give_exact, link_total, wired_total, give_total}

@@ -1,7 +1,6 @@
 pub mod Again
 pub mod Claims
 pub mod Claimed
-pub mod Cuts
 pub mod Decimals
 pub mod Effects
 pub mod Sorting

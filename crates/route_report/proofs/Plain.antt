@@ -9,7 +9,8 @@ use Rattle.hex.specs.Hex.{encode_with, encode_upper, upper_digits}
 use Rattle.aml_path.specs.Characters.{is_lead_name_char, is_name_char, is_segment}
 use Rattle.aml_path.specs.declared.segment.Seg.{Seg}
 use Rattle.aml_path.specs.Text.{text_of}
-use Rattle.route_report.specs.Lines.{lines, words, spaced, joined, text_of_lines, without_end}
+use Rattle.text_words.specs.Words.{words}
+use Rattle.route_report.specs.Lines.{lines, spaced, joined, text_of_lines, without_end}
 use Rattle.route_report.proofs.Texts.{more_lines}
 
 -- neither a blank nor a line feed

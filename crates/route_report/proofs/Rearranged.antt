@@ -9,7 +9,8 @@ use Rattle.ar_space.specs.Outcome.{Outcome, ◌>>=◌}
 use Rattle.aml_path.specs.declared.segment.Seg.{Seg}
 use Rattle.route_model.specs.Links.{OfferingLink}
 use Rattle.route_check.specs.Claims.{BoundingSet, RoutingClaim}
-use Rattle.route_report.specs.Lines.{lines, words}
+use Rattle.text_words.specs.Words.{words}
+use Rattle.route_report.specs.Lines.{lines}
 use Rattle.route_report.specs.Ordered.{among, in_order, link_order, wired_order, give_order, bound_in_order, claim_in_order}
 use Rattle.route_report.specs.Counting.{counts}
 use Rattle.route_report.specs.Reading.{Said, nothing_said, bad, here, with_link, with_wired, with_give, with_busiest, with_bound, claimed, line, lines_read, heading, all_read, claim_of_text}

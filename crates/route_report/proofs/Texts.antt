@@ -1,38 +1,28 @@
 -- The lines of a text, one after the other.
-use Rattle.std.proofs.Common.{◌≡◌, ◌∙◌, ap, refl, ℕ, ◌+◌, ◌<◌, ◌≤◌, List, [], ◌∷◌, length, Bool, true, false, ◌==◌, arith, Ok, Err}
-use Rattle.std.specs.List.{slice_split, onto_first, before_first, after_first, position_or_len}
-use Rattle.std.proofs.lemmas.List.Splits.{slice_split_first}
+use Rattle.std.proofs.Common.{◌≡◌, ◌∙◌, ap, refl, ℕ, ◌+◌, ◌<◌, List, [], ◌∷◌, length, ◌==◌, arith, Ok, Err, Some, None}
+use Rattle.std.specs.List.{slice_split, before_first}
 use Rattle.std.specs.Prelude.{IsErr, IsErrAnd}
 use Rattle.ar_space.specs.declared.refusal.Refusal.{Refusal}
 use Rattle.ar_space.specs.Outcome.{Outcome, Answers, ◌>>=◌}
 use Rattle.route_check.specs.Claims.{RoutingClaim}
-use Rattle.route_report.specs.Lines.{lines, words, without_end}
+use Rattle.text_words.specs.Words.{words, tail_at}
+use Rattle.text_words.proofs.Pieces.{split_cut, cut_once, uncut}
+use Rattle.route_report.specs.Lines.{lines, without_end}
 use Rattle.route_report.specs.Reading.{Said, nothing_said, bad, line, heading, claimed, lines_read, all_read, claim_of_text}
 use Rattle.route_report.proofs.Turns.{taken, halted, at_last}
-use Rattle.route_report.proofs.Cuts.{none_left}
 
-onto : (x : List ℕ) (b : ℕ) (parts : List (List ℕ)) → without_end (x ∷ onto_first b parts) ≡ x ∷ without_end (onto_first b parts)
-onto x b [] = refl
-onto x b (p ∷ ps) = refl
+pub more_lines : (x xs : List ℕ) → without_end (x ∷ slice_split (λ b. b == 10) xs) ≡ x ∷ lines xs
+more_lines x xs = rw (split_cut 10 xs) refl
 
-one_more : (x : List ℕ) (b : ℕ) (bs : List ℕ) (t : Bool) → (b == 10) ≡ t
-    → without_end (x ∷ slice_split (λ c. c == 10) (b ∷ bs)) ≡ x ∷ without_end (slice_split (λ c. c == 10) (b ∷ bs))
-one_more x b bs true is = rw is refl
-one_more x b bs false is = rw is (onto x b (slice_split (λ c. c == 10) bs))
-
-pub more_lines : (x xs : List ℕ) → without_end (x ∷ slice_split (λ c. c == 10) xs) ≡ x ∷ lines xs
-more_lines x [] = refl
-more_lines x (b ∷ bs) = one_more x b bs (b == 10) refl
-
-pub first_of_lines : (t : List ℕ) → position_or_len (λ b. b == 10) t < length t → lines t ≡ before_first (λ b. b == 10) t ∷ lines (after_first (λ b. b == 10) t)
-first_of_lines t lt = ap without_end (slice_split_first (λ b. b == 10) t 0 lt) ∙ more_lines (before_first (λ b. b == 10) t) (after_first (λ b. b == 10) t)
+pub first_of_lines : (t rest : List ℕ) → Some rest ≡ tail_at 10 t → lines t ≡ before_first (λ b. b == 10) t ∷ lines rest
+first_of_lines t rest is = ap without_end (cut_once 10 t rest is) ∙ more_lines (before_first (λ b. b == 10) t) rest
 
 last_line : (t : List ℕ) → 0 < length t → without_end (t ∷ []) ≡ t ∷ lines []
 last_line [] some = absurd (omega arith)
 last_line (b ∷ bs) some = refl
 
-pub only_line : (t : List ℕ) → 0 < length t → length t ≤ position_or_len (λ b. b == 10) t → lines t ≡ t ∷ lines []
-only_line t some le = ap without_end (none_left (λ b. b == 10) t le) ∙ last_line t some
+pub only_line : (t : List ℕ) → 0 < length t → None ≡ tail_at 10 t → lines t ≡ t ∷ lines []
+only_line t some is = ap without_end (uncut 10 t is) ∙ last_line t some
 
 module _ (n : ℕ) (d : Said) (l : List ℕ) (us ls : List (List ℕ)) (total : Outcome RoutingClaim) (is : us ≡ l ∷ ls) (so_far : total ≡ lines_read n us d) where
   turn : total ≡ (line n (words l) d >>= (λ e. lines_read (n + 1) ls e))

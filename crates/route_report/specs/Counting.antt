@@ -1,6 +1,6 @@
 -- Which lines of a report count.
 use Rattle.std.specs.Prelude.{ℕ, Bool, not, List, [], ◌∷◌}
-use Rattle.route_report.specs.Lines.{words}
+use Rattle.text_words.specs.Words.{words}
 use Rattle.route_report.specs.Reading.{is_passed_over}
 
 -- the first of the words, where there is one

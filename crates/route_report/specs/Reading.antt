@@ -8,7 +8,8 @@ use Rattle.aml_path.specs.declared.segment.Seg.{Seg}
 use Rattle.aml_path.specs.Text.{text_of, path_of_text}
 use Rattle.route_model.specs.Links.{OfferingLink}
 use Rattle.route_check.specs.Claims.{BoundingSet, RoutingClaim}
-use Rattle.route_report.specs.Lines.{lines, words, number}
+use Rattle.text_words.specs.Words.{words}
+use Rattle.route_report.specs.Lines.{lines, number}
 use Rattle.route_report.specs.Ordered.{claim_in_order}
 
 -- what the lines have said so far; of a bound, that there is none is said too

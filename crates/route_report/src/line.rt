@@ -1,16 +1,17 @@
 //! One line of a report.
 ghost use Rattle.std.specs.Prelude.{◌≡◌, [], codes};
 ghost use Rattle.ar_space.specs.Outcome.{Answers, seen};
-ghost use Rattle.route_report.specs.Lines.{words};
+ghost use Rattle.text_words.specs.Words.{words};
 ghost use Rattle.route_report.specs.Reading.{ascends, is_passed_over, with_offer, until, offers, offered, link, wired, give, busiest, with_path, set_links, with_number, numbers_after, set, bound, link_line, wired_line, give_line, busiest_line, bound_line, keyed, line, heading};
 
 use crate::draft::Draft;
-use crate::words::{Words, bad, number_here, path_here};
+use crate::words::{bad, ended, expected, number, number_here, one_of, path, path_here, word};
 use aml_path::Path;
 use ar_space::Refusal;
 use route_check::Bound;
 use route_model::Link;
 use std::alloc::Global;
+use text_words::Words;
 
 /// Whether a number follows those before it in ascending order.
 #[tactic(auto, using(crate::proofs::Steps::last_decides, crate::proofs::Steps::first_follows))]
@@ -51,7 +52,7 @@ fn add_offers(n: usize, offers: &mut Vec<u32>, words: &mut Words<'_>) -> Result<
 fn offers(alloc: Global, n: usize, words: &mut Words<'_>) -> Result<Vec<u32>, Refusal>
     ensures { Answers (seen (λ v. v.items) result) (offers n words.old) }
 {
-    let first = words.word(n)?;
+    let first = word(n, words)?;
     let mut offers = Vec::new(alloc);
     add_offer(n, &mut offers, first)?;
     add_offers(n, &mut offers, words)?;
@@ -63,9 +64,9 @@ fn offers(alloc: Global, n: usize, words: &mut Words<'_>) -> Result<Vec<u32>, Re
 fn offered(alloc: Global, n: usize, words: &mut Words<'_>) -> Result<Vec<u32>, Refusal>
     ensures { Answers (seen (λ v. v.items) result) (offered n words.old) }
 {
-    words.one_of(n, b"small", b"extended")?;
-    words.one_of(n, b"low", b"high")?;
-    words.expected(n, b"offers")?;
+    one_of(n, b"small", b"extended", words)?;
+    one_of(n, b"low", b"high", words)?;
+    expected(n, b"offers", words)?;
     offers(alloc, n, words)
 }
 
@@ -74,7 +75,7 @@ fn offered(alloc: Global, n: usize, words: &mut Words<'_>) -> Result<Vec<u32>, R
 fn link(alloc: Global, n: usize, words: &mut Words<'_>) -> Result<Link, Refusal>
     ensures { Answers result (link n words.old) }
 {
-    let path = words.path(alloc, n)?;
+    let path = path(alloc, n, words)?;
     let offers = offered(alloc, n, words)?;
     Ok(Link::new(path, offers))
 }
@@ -84,9 +85,9 @@ fn link(alloc: Global, n: usize, words: &mut Words<'_>) -> Result<Link, Refusal>
 fn wired(n: usize, words: &mut Words<'_>) -> Result<(u32, u32), Refusal>
     ensures { Answers result (wired n words.old) }
 {
-    let interrupt = words.number(n)?;
-    let count = words.number(n)?;
-    words.ended(n)?;
+    let interrupt = number(n, words)?;
+    let count = number(n, words)?;
+    ended(n, words)?;
     Ok((interrupt, count))
 }
 
@@ -95,9 +96,9 @@ fn wired(n: usize, words: &mut Words<'_>) -> Result<(u32, u32), Refusal>
 fn give(alloc: Global, n: usize, words: &mut Words<'_>) -> Result<(Path, u32), Refusal>
     ensures { Answers result (give n words.old) }
 {
-    let path = words.path(alloc, n)?;
-    let interrupt = words.number(n)?;
-    words.ended(n)?;
+    let path = path(alloc, n, words)?;
+    let interrupt = number(n, words)?;
+    ended(n, words)?;
     Ok((path, interrupt))
 }
 
@@ -106,8 +107,8 @@ fn give(alloc: Global, n: usize, words: &mut Words<'_>) -> Result<(Path, u32), R
 fn busiest(n: usize, words: &mut Words<'_>) -> Result<u32, Refusal>
     ensures { Answers result (busiest n words.old) }
 {
-    let count = words.number(n)?;
-    words.ended(n)?;
+    let count = number(n, words)?;
+    ended(n, words)?;
     Ok(count)
 }
 
@@ -151,7 +152,7 @@ fn set_links(
 {
     let mut links = Vec::new(alloc);
     if first == b"-".as_slice() {
-        words.expected(n, b"over")?;
+        expected(n, b"over", words)?;
         Ok(links)
     } else {
         add_path(alloc, n, &mut links, first)?;
@@ -196,9 +197,9 @@ fn set(alloc: Global, n: usize, first: &[u8], words: &mut Words<'_>) -> Result<B
 fn bound(alloc: Global, n: usize, words: &mut Words<'_>) -> Result<Option<Bound>, Refusal>
     ensures { Answers result (bound n words.old) }
 {
-    let first = words.word(n)?;
+    let first = word(n, words)?;
     if first == b"none".as_slice() {
-        words.ended(n)?;
+        ended(n, words)?;
         Ok(None)
     } else {
         Ok(Some(set(alloc, n, first, words)?))
@@ -311,7 +312,7 @@ pub(crate) fn line(alloc: Global, n: usize, text: &[u8], draft: &mut Draft) -> R
     ensures { Answers (seen (λ _. draft.new) result) (line n (words text.now) draft.old) }
 {
     let mut words = Words::of(text);
-    let key = words.word(n)?;
+    let key = word(n, &mut words)?;
     keyed(alloc, n, key, &mut words, draft)
 }
 
@@ -321,7 +322,7 @@ pub(crate) fn heading(n: usize, text: &[u8]) -> Result<(), Refusal>
     ensures { Answers result (heading n (words text.now)) }
 {
     let mut words = Words::of(text);
-    words.expected(n, b"acpiroute")?;
-    words.expected(n, b"1")?;
-    words.ended(n)
+    expected(n, b"acpiroute", &mut words)?;
+    expected(n, b"1", &mut words)?;
+    ended(n, &words)
 }

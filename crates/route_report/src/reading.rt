@@ -6,10 +6,11 @@ ghost use Rattle.route_report.specs.Reading.{lines_read, claim_of_text, nothing_
 
 use crate::draft::Draft;
 use crate::line::{heading, line};
-use crate::words::{bad, place_of};
+use crate::words::bad;
 use ar_space::Refusal;
 use route_check::Claim;
 use std::alloc::Global;
+use text_words::cut_at;
 
 /// The first line of a text that isn't empty, and what follows it.
 #[tactic(auto, using(crate::proofs::Texts::first_of_lines, crate::proofs::Texts::only_line))]
@@ -18,11 +19,9 @@ fn first_line(text: &[u8]) -> (&[u8], &[u8])
     ensures lines { lines text.now ≡ result.0.now ∷ lines result.1.now }
     ensures shorter { length result.1.now < length text.now }
 {
-    let i = place_of(b'\n', text);
-    if i < text.len() {
-        (&text[..i], &text[i + 1..])
-    } else {
-        (text, b"")
+    match cut_at(b'\n', text) {
+        (line, Some(rest)) => (line, rest),
+        (_, None) => (text, b""),
     }
 }
 

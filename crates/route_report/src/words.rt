@@ -1,20 +1,17 @@
-//! The words of a line, parted by single blanks.
-ghost use Rattle.std.specs.Prelude.{◌≡◌, ◌==◌, ◌≤◌, ◌<◌, [], ◌∷◌, IfSome, IfNone, option_map, length};
-ghost use Rattle.std.specs.List.{before_first, position_or_len};
+//! The words of a line as numbers and paths.
+ghost use Rattle.std.specs.Prelude.{◌≡◌, Ok};
+ghost use Rattle.std.specs.Str.{bytes_eq};
 ghost use Rattle.ar_space.specs.Outcome.{Answers, seen};
 ghost use Rattle.ar_space.specs.declared.refusal.Refusal.TheVariants.{Report};
 ghost use Rattle.ar_space.specs.declared.refusal.ReportFault.TheVariants.{BadLine};
 ghost use Rattle.aml_path.specs.Text.{text_of, path_of_text};
-ghost use Rattle.route_report.specs.Lines.{tail_of, words, words_left, number};
 ghost use Rattle.route_report.specs.Reading.{in_line, word, ended, expected, one_of, number_here, path_here, numbered, named};
-ghost use Rattle.std.specs.Str.{bytes_eq};
-ghost use Rattle.std.specs.Prelude.{Ok};
 
 use crate::numerals;
 use aml_path::Path;
 use ar_space::{Refusal, ReportFault};
 use std::alloc::Global;
-use std::marker::Model;
+use text_words::Words;
 
 /// The refusal of the line with this number.
 pub(crate) fn bad(n: usize) -> Refusal
@@ -23,134 +20,72 @@ pub(crate) fn bad(n: usize) -> Refusal
     Refusal::Report(ReportFault::BadLine(n))
 }
 
-/// The first place of a byte, or the length.
-pub(crate) fn place_of(byte: u8, text: &[u8]) -> usize
-    ensures value { result ≡ position_or_len (λ b. b == byte) text.now }
-    ensures within { result ≤ length text.now }
+/// The next word.
+#[tactic(auto, using(ar_space::specs::Outcome::answering))]
+pub(crate) fn word<'a>(n: usize, words: &mut Words<'a>) -> Result<&'a [u8], Refusal>
+    ensures { Answers (seen (λ w. (w.now, words.new)) result) (word n words.old) }
 {
-    let mut i = 0;
-    while i < text.len() {
-        if text[i] == byte {
-            return i;
-        }
-        i += 1;
+    match words.take() {
+        Some(word) => Ok(word),
+        None => Err(bad(n)),
     }
-    i
 }
 
-/// What stands before the first blank, and what follows it.
-fn cut(line: &[u8]) -> (&[u8], Option<&[u8]>)
-    ensures before { result.0.now ≡ before_first (λ b. b == 32) line.now }
-    ensures tail { option_map (λ s. s.now) result.1 ≡ tail_of line.now }
+/// No word is left.
+#[tactic(auto, using(ar_space::specs::Outcome::answering))]
+pub(crate) fn ended(n: usize, words: &Words<'_>) -> Result<(), Refusal>
+    ensures { Answers result (ended n words.now) }
 {
-    let i = place_of(b' ', line);
-    if i < line.len() {
-        (&line[..i], Some(&line[i + 1..]))
+    if words.is_ended() {
+        Ok(())
     } else {
-        (line, None)
+        Err(bad(n))
     }
 }
 
-/// Words that are left of a line.
-#[derive(Drop)]
-pub(crate) struct Words<'a> {
-    rest: Option<&'a [u8]>,
+/// The next word is this one.
+#[tactic(auto, using(ar_space::specs::Outcome::answering), unfolding(crate::specs::Reading::expected))]
+pub(crate) fn expected(n: usize, key: &[u8], words: &mut Words<'_>) -> Result<(), Refusal>
+    ensures { Answers (seen (λ _. words.new) result) (expected n key.now words.old) }
+{
+    let word = word(n, words)?;
+    if word == key { Ok(()) } else { Err(bad(n)) }
 }
 
-impl<'a> Model for Words<'a> {
-    ghost use Rattle.std.specs.Prelude.{ℕ, List, option_map};
-    ghost use Rattle.route_report.specs.Lines.{words_left};
-
-    ghost Value = { List (List ℕ) };
-
-    ghost view = { λ s. words_left (option_map (λ t. t.now) s.rest) };
+/// The next word is one of two.
+#[tactic(auto, using(ar_space::specs::Outcome::answering), unfolding(crate::specs::Reading::one_of))]
+pub(crate) fn one_of(
+    n: usize,
+    this: &[u8],
+    that: &[u8],
+    words: &mut Words<'_>,
+) -> Result<(), Refusal>
+    ensures { Answers (seen (λ _. words.new) result) (one_of n this.now that.now words.old) }
+{
+    let word = word(n, words)?;
+    if word == this || word == that {
+        Ok(())
+    } else {
+        Err(bad(n))
+    }
 }
 
-impl<'a> Words<'a> {
-    /// All words of a line.
-    pub(crate) fn of(line: &'a [u8]) -> Words<'a>
-        ensures { result ≡ words line.now }
-    {
-        Words { rest: Some(line) }
-    }
+/// The next word as a number.
+#[tactic(auto, using(ar_space::specs::Outcome::answering), unfolding(crate::specs::Reading::numbered))]
+pub(crate) fn number(n: usize, words: &mut Words<'_>) -> Result<u32, Refusal>
+    ensures { Answers (seen (λ a. (a, words.new)) result) (numbered n words.old) }
+{
+    let word = word(n, words)?;
+    number_here(n, word)
+}
 
-    /// The next word, if there is one.
-    #[tactic(auto, using(crate::proofs::Cuts::words_cut))]
-    pub(crate) fn take(&mut self) -> Option<&'a [u8]>
-        ensures some { IfSome result (λ w. self.old ≡ w.now ∷ self.new) }
-        ensures none { IfNone result (self.old ≡ []) }
-    {
-        let rest = self.rest?;
-        let (word, tail) = cut(rest);
-        self.rest = tail;
-        Some(word)
-    }
-
-    /// The next word.
-    #[tactic(auto, using(crate::proofs::Cuts::some_word, ar_space::specs::Outcome::answering))]
-    pub(crate) fn word(&mut self, n: usize) -> Result<&'a [u8], Refusal>
-        ensures { Answers (seen (λ w. (w.now, self.new)) result) (word n self.old) }
-    {
-        match self.rest {
-            Some(rest) => {
-                let (word, tail) = cut(rest);
-                self.rest = tail;
-                Ok(word)
-            }
-            None => Err(bad(n)),
-        }
-    }
-
-    /// No word is left.
-    #[tactic(auto, using(crate::proofs::Cuts::not_ended, ar_space::specs::Outcome::answering))]
-    pub(crate) fn ended(&self, n: usize) -> Result<(), Refusal>
-        ensures { Answers result (ended n self.now) }
-    {
-        match self.rest {
-            Some(_) => Err(bad(n)),
-            None => Ok(()),
-        }
-    }
-
-    /// The next word is this one.
-    #[tactic(auto, using(ar_space::specs::Outcome::answering), unfolding(crate::specs::Reading::expected))]
-    pub(crate) fn expected(&mut self, n: usize, key: &[u8]) -> Result<(), Refusal>
-        ensures { Answers (seen (λ _. self.new) result) (expected n key.now self.old) }
-    {
-        let word = self.word(n)?;
-        if word == key { Ok(()) } else { Err(bad(n)) }
-    }
-
-    /// The next word is one of two.
-    #[tactic(auto, using(ar_space::specs::Outcome::answering), unfolding(crate::specs::Reading::one_of))]
-    pub(crate) fn one_of(&mut self, n: usize, this: &[u8], that: &[u8]) -> Result<(), Refusal>
-        ensures { Answers (seen (λ _. self.new) result) (one_of n this.now that.now self.old) }
-    {
-        let word = self.word(n)?;
-        if word == this || word == that {
-            Ok(())
-        } else {
-            Err(bad(n))
-        }
-    }
-
-    /// The next word as a number.
-    #[tactic(auto, using(ar_space::specs::Outcome::answering), unfolding(crate::specs::Reading::numbered))]
-    pub(crate) fn number(&mut self, n: usize) -> Result<u32, Refusal>
-        ensures { Answers (seen (λ a. (a, self.new)) result) (numbered n self.old) }
-    {
-        let word = self.word(n)?;
-        number_here(n, word)
-    }
-
-    /// The next word as a path.
-    #[tactic(auto, using(ar_space::specs::Outcome::answering), unfolding(crate::specs::Reading::named))]
-    pub(crate) fn path(&mut self, alloc: Global, n: usize) -> Result<Path, Refusal>
-        ensures { Answers (seen (λ p. (p, self.new)) result) (named n self.old) }
-    {
-        let word = self.word(n)?;
-        path_here(alloc, n, word)
-    }
+/// The next word as a path.
+#[tactic(auto, using(ar_space::specs::Outcome::answering), unfolding(crate::specs::Reading::named))]
+pub(crate) fn path(alloc: Global, n: usize, words: &mut Words<'_>) -> Result<Path, Refusal>
+    ensures { Answers (seen (λ p. (p, words.new)) result) (named n words.old) }
+{
+    let word = word(n, words)?;
+    path_here(alloc, n, word)
 }
 
 /// The number that a word is.
