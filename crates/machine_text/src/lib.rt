@@ -4,6 +4,7 @@
 mod address_space;
 mod digits;
 mod draft;
+pub mod laws;
 mod line;
 mod machine_lines;
 mod osi_texts;
