@@ -1,2 +1,4 @@
 pub mod Turns
 pub mod Structures
+pub mod TableBytes
+pub mod Conditions

@@ -1,3 +1,4 @@
+pub mod Conditions
 pub mod Fadts
 pub mod FindTables
 pub mod Headers

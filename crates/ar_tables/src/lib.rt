@@ -3,6 +3,7 @@
 
 mod fadt;
 mod image_bytes;
+pub mod laws;
 mod madt;
 mod mode;
 mod root_pointer;
