@@ -4,3 +4,4 @@ pub mod Finding
 pub mod Links
 pub mod Pins
 pub mod RoutingTables
+pub mod Said

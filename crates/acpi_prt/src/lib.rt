@@ -2,6 +2,7 @@
 #![tactic(auto)]
 
 mod entry;
+pub mod laws;
 mod link;
 mod pin;
 mod routing_table;
