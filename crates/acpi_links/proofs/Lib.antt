@@ -1,6 +1,10 @@
 pub mod Counted
+pub mod Found
 pub mod Kept
+pub mod Leading
 pub mod Listed
+pub mod Members
 pub mod Named
 pub mod Posed
 pub mod Settled
+pub mod Wired

@@ -7,3 +7,4 @@ pub mod Links
 pub mod Presence
 pub mod Problems
 pub mod Resources
+pub mod Wiring

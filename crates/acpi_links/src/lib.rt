@@ -5,6 +5,7 @@ mod answers;
 mod devices;
 mod gathered;
 mod gathering;
+pub mod laws;
 mod links;
 mod presence;
 mod problem;
