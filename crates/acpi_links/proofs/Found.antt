@@ -1,6 +1,7 @@
 -- The links found are some of the links named, in their order.
 use Rattle.std.proofs.Common.{◌≡◌, List, [], ◌∷◌, ◌++◌, Bool, true, false, Option, Some, None, Ok, Err, map, refl, sym, ◌∙◌, ap, append_assoc, append-nil}
 use Rattle.std.specs.List.{items_where_true}
+use Rattle.std.specs.Option.{is_some}
 use Rattle.std.proofs.lemmas.List.{map-append}
 use Rattle.ar_space.specs.Accesses.{Accesses}
 use Rattle.ar_space.specs.Outcome.{Outcome}
@@ -10,6 +11,7 @@ use Rattle.acpi_machine.specs.MachineStates.{MachineState}
 use Rattle.acpi_prt.specs.declared.pin.Pin.{Pin}
 use Rattle.acpi_links.specs.Folds.{folded}
 use Rattle.acpi_links.specs.Gatherings.{links_found}
+use Rattle.acpi_links.specs.Presence.{is_present}
 use Rattle.acpi_links.specs.Links.{PresentLink, IsAt, with_link, link_asked, link_if, link_found, links_named}
 
 -- what goes before an answer
@@ -77,3 +79,20 @@ module _ {S : Type 0} (accesses : Accesses S) where
 pub found_named : {S : Type 0} (accesses : Accesses S) (pins : List (List Seg × Pin)) (links : List PresentLink) (before after : MachineState S) → links_found accesses pins before ≡ (Ok links, after)
     → (found : List Bool) × (map (λ link. link.0) links ≡ items_where_true found (links_named pins))
 found_named accesses = all_found accesses
+
+-- a link that is asked is found if it is present, and only then
+found_if : {S : Type 0} (accesses : Accesses S) (link : List Seg) (present : Bool) (found : Option PresentLink) (s t : MachineState S) → link_if accesses present link s ≡ (Ok found, t) → present ≡ is_some found
+unfolding link_if link_found
+found_if accesses link true found s t e =
+    let offer = before_ok _ _ found s t e in
+    let now = before_ok _ _ found offer.1 t offer.2 in
+    let is : found ≡ Some (link, offer.0, now.0) = given_ok _ found now.1 t now.2 in
+    rw is refl
+found_if accesses link false found s t e = let is : found ≡ None = given_ok None found s t e in rw is refl
+
+pub found_present : {S : Type 0} (accesses : Accesses S) (link : List Seg) (found : Option PresentLink) (before after : MachineState S) → link_asked accesses link before ≡ (Ok found, after)
+    → (asked : MachineState S) × (is_present accesses link before ≡ (Ok (is_some found), asked))
+unfolding link_asked
+found_present accesses link found before after e =
+    let present = before_ok _ _ found before after e in
+    (present.1, present.3 ∙ ap (λ b. (Ok b, present.1)) (found_if accesses link present.0 found present.1 after present.2))
