@@ -5,8 +5,7 @@ ghost use Rattle.acpi_configure.specs.Configured.{Solves};
 
 use route_solve::laws::{the_first_least_assignment_is_one, the_set_is_one};
 
-/// A problem has one answer: one first least assignment, and one set that shows why none is less busy. So the report of a
-/// machine is one, and so is its text.
+/// A problem has one answer: one first least assignment, and one set that shows why none is less busy.
 pub fn a_problem_has_one_answer()
     ensures { (problem : RoutingProblem) (one other : RoutingAnswer) → Solves problem one → Solves problem other → one ≡ other }
 {

@@ -4,6 +4,7 @@ use Rattle.std.specs.List.{filter_map}
 use Rattle.std.specs.Option.{option_map}
 use Rattle.std.specs.FinMap.{get}
 use Rattle.aml_path.specs.declared.segment.Seg.{Seg}
+use Rattle.aml_objects.specs.Methods.{arguments_taken}
 use Rattle.aml_objects.specs.declared.value.Value.{Value}
 use Rattle.aml_objects.specs.declared.value.Value.TheVariants as value
 use Rattle.aml_objects.specs.declared.entry.NamedObject.{NamedObject}
@@ -68,7 +69,7 @@ kind_of object.Device = Device
 kind_of object.Processor = Processor
 kind_of object.PowerResource = PowerResource
 kind_of object.ThermalZone = ThermalZone
-kind_of (object.Method m) = Method m.arguments
+kind_of (object.Method m) = Method (arguments_taken m.flags)
 kind_of (object.Data v) = kind_of_value v
 kind_of (object.OperationRegion r) = Region
 kind_of (object.FieldUnit u) = FieldUnit

@@ -48,7 +48,7 @@ pub(crate) fn kind_of(object: &NamedObject) -> Kind<'_>
         NamedObject::Processor => Kind::Processor,
         NamedObject::PowerResource => Kind::PowerResource,
         NamedObject::ThermalZone => Kind::ThermalZone,
-        NamedObject::Method(method) => Kind::Method(method.arguments),
+        NamedObject::Method(method) => Kind::Method(method.flags.arguments()),
         NamedObject::Data(value) => kind_of_value(*value),
         NamedObject::OperationRegion(_) => Kind::Region,
         NamedObject::FieldUnit(_) => Kind::FieldUnit,

@@ -1,7 +1,7 @@
 //! Conversion to an integer (ACPI 6.5, 19.3.5.7).
 ghost use Rattle.std.specs.Prelude.{◌≡◌};
 ghost use Rattle.byteorder.specs.Endian.{little_number};
-ghost use Rattle.ar_space.specs.Outcome.{Answers};
+ghost use Rattle.ar_space.specs.Outcome.{Answers, NotMemory};
 ghost use Rattle.aml_objects.specs.Contents.{content_of};
 ghost use Rattle.aml_convert.specs.Integers.{bytes_of};
 ghost use Rattle.aml_convert.specs.Conversions.{to_integer_of, integer_in_string, integer_in_buffer, numeral, explicit_integer_of};
@@ -18,7 +18,8 @@ use byteorder::{ByteOrder, LittleEndian};
 /// them; a string without any is 0. Of a buffer the first 4 or 8 bytes count, the lowest first; missing ones are 0. An
 /// empty string or buffer is refused as `EmptyValue`, every other value as `WrongType`.
 pub fn to_integer(width: IntegerWidth, content: Content<'_>) -> Result<u64, Refusal>
-    ensures { result ≡ to_integer_of width (content_of content.entry) }
+    ensures answer { result ≡ to_integer_of width (content_of content.entry) }
+    ensures memory { NotMemory result }
 {
     match content {
         Content::Integer(n) => Ok(n),
@@ -30,7 +31,8 @@ pub fn to_integer(width: IntegerWidth, content: Content<'_>) -> Result<u64, Refu
 
 /// `to_integer`, as a step among others that may take memory.
 pub(crate) fn integer(width: IntegerWidth, content: Content<'_>) -> Result<u64, Refusal>
-    ensures { Answers result (to_integer_of width (content_of content.entry)) }
+    ensures answer { Answers result (to_integer_of width (content_of content.entry)) }
+    ensures memory { NotMemory result }
 {
     to_integer(width, content)
 }
@@ -41,7 +43,8 @@ pub(crate) fn integer(width: IntegerWidth, content: Content<'_>) -> Result<u64, 
 /// the hexadecimal ones. The number is taken modulo 2^32 or 2^64. Refused are an empty string or buffer as `EmptyValue`, and as
 /// `WrongType` anything that is no integer, string or buffer.
 pub fn explicit_integer(width: IntegerWidth, content: Content<'_>) -> Result<u64, Refusal>
-    ensures { result ≡ explicit_integer_of width (content_of content.entry) }
+    ensures answer { result ≡ explicit_integer_of width (content_of content.entry) }
+    ensures memory { NotMemory result }
 {
     match content {
         Content::Integer(n) => Ok(n),
@@ -52,7 +55,8 @@ pub fn explicit_integer(width: IntegerWidth, content: Content<'_>) -> Result<u64
 }
 
 fn integer_in_string(width: IntegerWidth, text: &[u8]) -> Result<u64, Refusal>
-    ensures { result ≡ integer_in_string width text.now }
+    ensures answer { result ≡ integer_in_string width text.now }
+    ensures memory { NotMemory result }
 {
     if text.is_empty() {
         return Err(Refusal::Value(ValueFault::EmptyValue));
@@ -62,7 +66,8 @@ fn integer_in_string(width: IntegerWidth, text: &[u8]) -> Result<u64, Refusal>
 }
 
 fn integer_in_buffer(width: IntegerWidth, buffer: &[u8]) -> Result<u64, Refusal>
-    ensures { result ≡ integer_in_buffer width buffer.now }
+    ensures answer { result ≡ integer_in_buffer width buffer.now }
+    ensures memory { NotMemory result }
 {
     if buffer.is_empty() {
         return Err(Refusal::Value(ValueFault::EmptyValue));
@@ -75,7 +80,8 @@ fn integer_in_buffer(width: IntegerWidth, buffer: &[u8]) -> Result<u64, Refusal>
 }
 
 fn numeral(width: IntegerWidth, text: &[u8]) -> Result<u64, Refusal>
-    ensures { result ≡ numeral width text.now }
+    ensures answer { result ≡ numeral width text.now }
+    ensures memory { NotMemory result }
 {
     match text {
         [] => Err(Refusal::Value(ValueFault::EmptyValue)),

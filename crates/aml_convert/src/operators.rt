@@ -1,5 +1,6 @@
 //! Operators on integers (ACPI 6.5, 19.6).
 ghost use Rattle.std.specs.Prelude.{◌≡◌, ◌+◌, ◌-◌, ◌^◌};
+ghost use Rattle.ar_space.specs.Outcome.{NotMemory};
 ghost use Rattle.std.specs.Int.RustNames.{bit_and, bit_or, bit_xor};
 ghost use Rattle.ar_space.specs.declared.refusal.Refusal.TheVariants.{Value};
 ghost use Rattle.ar_space.specs.declared.refusal.ValueFault.TheVariants.{DivideByZero};
@@ -51,7 +52,8 @@ pub fn operate(
     x: u64,
     y: u64,
 ) -> Result<u64, Refusal>
-    ensures { result ≡ result_of operator width x y }
+    ensures answer { result ≡ result_of operator width x y }
+    ensures memory { NotMemory result }
 {
     match operator {
         BinaryOperator::Add => Ok(truncate(width, u128::from(x) + u128::from(y))),
@@ -81,7 +83,8 @@ pub fn operate_on_one(operator: UnaryOperator, width: IntegerWidth, x: u64) -> u
 
 /// Divide: the quotient and the remainder of two integers. A divisor of 0 is refused as `DivideByZero`.
 pub fn divide(x: u64, y: u64) -> Result<Division, Refusal>
-    ensures { result ≡ divided x y }
+    ensures answer { result ≡ divided x y }
+    ensures memory { NotMemory result }
 {
     if y == 0 {
         return Err(Refusal::Value(ValueFault::DivideByZero));
@@ -100,7 +103,8 @@ fn subtract(width: IntegerWidth, x: u64, y: u64) -> u64
 }
 
 fn remainder(x: u64, y: u64) -> Result<u64, Refusal>
-    ensures { result ≡ remainder x y }
+    ensures answer { result ≡ remainder x y }
+    ensures memory { NotMemory result }
 {
     if y == 0 {
         return Err(Refusal::Value(ValueFault::DivideByZero));

@@ -14,8 +14,8 @@ use Rattle.aml_fields.specs.Bits.{bit, bits_from, bits_of, number_of, put, field
 use Rattle.aml_fields.specs.Covering.{IsUnit, Cover}
 use Rattle.aml_fields.specs.Regions.{write_unit}
 use Rattle.aml_fields.specs.UnitByUnit.{write_units}
-use Rattle.aml_fields.specs.BitLists.{length_from, from_at}
-use Rattle.aml_fields.specs.Putting.{length_extended}
+use Rattle.aml_fields.proofs.BitLists.{length_from, from_at}
+use Rattle.aml_fields.proofs.Putting.{length_extended}
 use Rattle.aml_fields.proofs.Cells.{Cells}
 use Rattle.aml_fields.proofs.SpaceBits.{space_bit, bits_again, put_before, put_inside, put_behind, length_put}
 use Rattle.aml_fields.proofs.UnitWrites.{steps, IsOf, place_is, kept_is, replaced_by, Small, Swapped, swapped, extended_at, narrow}

@@ -1,7 +1,12 @@
-pub mod Turns
+pub mod BitLists
 pub mod Cells
-pub mod SpaceBits
-pub mod UnitWrites
+pub mod Covers
 pub mod FieldWrites
-pub mod ReadBack
+pub mod Numbers
 pub mod Plain
+pub mod Putting
+pub mod ReadBack
+pub mod SpaceBits
+pub mod Turns
+pub mod UnitLoops
+pub mod UnitWrites

@@ -15,9 +15,9 @@ use Rattle.aml_fields.specs.Covering.{IsUnit, Cover}
 use Rattle.aml_fields.specs.Units.{units_of}
 use Rattle.aml_fields.specs.Regions.{unit_place, read_access, read_unit, read_field, write_unit, write_field}
 use Rattle.aml_fields.specs.UnitByUnit.{bits_read, read_units, write_units}
-use Rattle.aml_fields.specs.BitLists.{from_at}
-use Rattle.aml_fields.specs.Putting.{extended_more, extended_none, length_extended}
-use Rattle.aml_fields.specs.Covers.{units_cover}
+use Rattle.aml_fields.proofs.BitLists.{from_at}
+use Rattle.aml_fields.proofs.Putting.{extended_more, extended_none, length_extended}
+use Rattle.aml_fields.proofs.Covers.{units_cover}
 use Rattle.aml_fields.proofs.Cells.{Cells, Stand, little, read_stand, stand_read}
 use Rattle.aml_fields.proofs.SpaceBits.{space_bit, stand_bit, bits_of_little}
 use Rattle.aml_fields.proofs.UnitWrites.{steps, IsOf, place_is, kept_is, replaced_by, Small, stand_small, extended_at, narrow, eight}

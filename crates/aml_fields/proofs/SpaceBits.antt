@@ -7,8 +7,8 @@ use Rattle.std.specs.Option.{option_map}
 use Rattle.byteorder.specs.Endian.{little_number}
 use Rattle.ar_space.specs.Bytes.{Bytes}
 use Rattle.aml_fields.specs.Bits.{bit, bits_from, bits_of, number_of, put}
-use Rattle.aml_fields.specs.BitLists.{length_from, length_of, bit_of}
-use Rattle.aml_fields.specs.Numbers.{number_from, same_number, one_number, little_rest}
+use Rattle.aml_fields.proofs.BitLists.{length_from, length_of, bit_of}
+use Rattle.aml_fields.proofs.Numbers.{number_from, same_number, one_number, little_rest}
 use Rattle.aml_fields.proofs.Cells.{Cells, Stand, little, digits}
 
 -- a list of bits is known by its number

@@ -22,8 +22,8 @@ use Rattle.aml_fields.specs.declared.field_units.Unit.{Unit as Access}
 use Rattle.aml_fields.specs.Bits.{bit, bits_from, bits_of, extended}
 use Rattle.aml_fields.specs.Regions.{faulted, place_in, or_limit, unit_place, read_access, write_access}
 use Rattle.aml_fields.specs.UnitByUnit.{kept, kept_by}
-use Rattle.aml_fields.specs.BitLists.{from_at}
-use Rattle.aml_fields.specs.Putting.{extended_more, length_extended}
+use Rattle.aml_fields.proofs.BitLists.{from_at}
+use Rattle.aml_fields.proofs.Putting.{extended_more, length_extended}
 use Rattle.aml_fields.proofs.Cells.{Cells, Stand, Written, digits, read_stand, written}
 use Rattle.aml_fields.proofs.SpaceBits.{space_bit, stand_at, stand_bit, bits_of_digits, bits_of_little}
 

@@ -1,11 +1,6 @@
-pub mod BitLists
 pub mod Bits
 pub mod Covering
-pub mod Covers
-pub mod Numbers
-pub mod Putting
 pub mod Regions
 pub mod SpaceBits
 pub mod UnitByUnit
-pub mod UnitLoops
 pub mod Units

@@ -1,6 +1,6 @@
 //! Reads and writes of fields, unit by unit (ACPI 6.5, 19.6.46).
 ghost use Rattle.std.specs.Prelude.{◌≡◌, ◌+◌, ◌≤◌, ◌<◌, ◌^◌};
-ghost use Rattle.ar_space.specs.Outcome.{seen};
+ghost use Rattle.ar_space.specs.Outcome.{NotMemory, seen};
 ghost use Rattle.ar_space.specs.Change.{Does};
 ghost use Rattle.aml_fields.specs.Regions.{read_access, read_unit, write_access, write_unit, write_field, read_field};
 ghost use Rattle.aml_fields.specs.UnitByUnit.{kept, kept_by, write_units, bits_read};
@@ -16,7 +16,8 @@ use std::alloc::Global;
 /// One access that reads.
 #[tactic(auto, unfolding(crate::specs::Regions::read_access))]
 fn read_access<S: Space>(space: &mut S, place: Place, width: Width) -> Result<u64, Refusal>
-    ensures { Does result space.new (read_access S.accesses place width) space.old }
+    ensures change { Does result space.new (read_access S.accesses place width) space.old }
+    ensures memory { NotMemory result }
 {
     match space.read(place, width) {
         Ok(value) => Ok(value),
@@ -32,7 +33,8 @@ fn write_access<S: Space>(
     width: Width,
     value: u64,
 ) -> Result<(), Refusal>
-    ensures { Does result space.new (write_access S.accesses place width value) space.old }
+    ensures change { Does result space.new (write_access S.accesses place width value) space.old }
+    ensures memory { NotMemory result }
 {
     match space.write(place, width, value) {
         Ok(()) => Ok(()),
@@ -48,7 +50,8 @@ fn read_unit<S: Space>(
     width: Width,
     unit: Unit,
 ) -> Result<u64, Refusal>
-    ensures { Does result space.new (read_unit S.accesses region width unit) space.old }
+    ensures change { Does result space.new (read_unit S.accesses region width unit) space.old }
+    ensures memory { NotMemory result }
 {
     let place = region.place(width, unit.offset)?;
     read_access(space, place, width)
@@ -57,7 +60,8 @@ fn read_unit<S: Space>(
 /// What a unit holds that a write keeps: it is read where the field isn't all of it and the update rule is Preserve.
 #[tactic(auto, unfolding(crate::specs::UnitByUnit::kept))]
 fn kept<S: Space>(space: &mut S, field: FieldUnit, unit: Unit, place: Place) -> Result<u64, Refusal>
-    ensures { Does result space.new (kept field unit (read_access S.accesses place field.access)) space.old }
+    ensures change { Does result space.new (kept field unit (read_access S.accesses place field.access)) space.old }
+    ensures memory { NotMemory result }
 {
     if unit.count == usize::from(field.access.bits()) {
         return Ok(0);
@@ -80,7 +84,8 @@ fn write_unit<S: Space>(
 ) -> Result<(), Refusal>
     requires inside { unit.first + unit.count ≤ 64 }
     requires position { unit.position + unit.count < 2 ^ 64 }
-    ensures { Does result space.new (write_unit S.accesses region field source.now unit) space.old }
+    ensures change { Does result space.new (write_unit S.accesses region field source.now unit) space.old }
+    ensures memory { NotMemory result }
 {
     let place = region.place(field.access, unit.offset)?;
     let old = kept(space, field, unit, place)?;
@@ -107,7 +112,8 @@ pub fn write_field<S: Space>(
     field: FieldUnit,
     source: &[u8],
 ) -> Result<(), Refusal>
-    ensures { Does result space.new (write_field S.accesses region field source.now) space.old }
+    ensures change { Does result space.new (write_field S.accesses region field source.now) space.old }
+    ensures memory { NotMemory result }
 {
     for unit in units(field.bit_offset, field.bits, field.access) {
         write_unit(space, region, field, unit, source)?;

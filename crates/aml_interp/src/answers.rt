@@ -5,11 +5,11 @@ ghost use Rattle.ar_space.specs.Change.{Does};
 ghost use Rattle.aml_meaning.specs.Given.{given_of};
 ghost use Rattle.aml_meaning.specs.Readings.{absolute};
 ghost use Rattle.aml_meaning.specs.Invocations.{invocation_found};
-ghost use Rattle.aml_meaning.specs.Calling.{called, counted, evaluated, with_rest, with_steps, handed_out, answered, value_of};
+ghost use Rattle.aml_meaning.specs.Calling.{called, counted, evaluated, with_rest, with_steps, answer_exported, answered, value_of};
 
+use crate::export::exported;
 use crate::field_calls::eval_field_read;
 use crate::invocations::eval_method_value;
-use crate::outward::outward;
 use aml_meaning::{Datum, Invocation, World};
 use aml_objects::Value;
 use aml_path::{NameString, Path, Prefix};
@@ -51,7 +51,7 @@ fn with_rest(value: Result<Value, Refusal>, rest: u64) -> Result<(Value, u64), R
 /// The value names no object of the world: a name that stands is given as its path, and so is an element of a package that is
 /// a name without a value, or that finds nothing. Refused as `eval` is, and `ObjectLimit` where packages nest more than 64
 /// deep, `OutOfSteps` where no step is left. However it ends, all mutexes are free after it.
-#[tactic(auto, using(crate::specs::Steps::answering))]
+#[tactic(auto, using(crate::proofs::Steps::answering))]
 pub fn answer<S: Space>(
     alloc: Global,
     world: &mut World<S>,
@@ -74,26 +74,26 @@ fn with_steps<S: Space>(
     arguments: &[Datum],
     steps: u64,
 ) -> Result<Datum, Refusal>
-    ensures { Does (seen given_of result) world.new (with_steps steps (handed_out S.accesses path.now (length arguments.now) (map given_of arguments.now))) world.old }
+    ensures { Does (seen given_of result) world.new (with_steps steps (answer_exported S.accesses path.now (length arguments.now) (map given_of arguments.now))) world.old }
 {
     let mut budget = steps;
-    handed_out(alloc, world, &mut budget, path, arguments)
+    answer_exported(alloc, world, &mut budget, path, arguments)
 }
 
-#[tactic(auto, using(aml_meaning::specs::Calling::calling), unfolding(aml_meaning::specs::Calling::handed_out))]
-fn handed_out<S: Space>(
+#[tactic(auto, using(aml_meaning::specs::Calling::calling), unfolding(aml_meaning::specs::Calling::answer_exported))]
+fn answer_exported<S: Space>(
     alloc: Global,
     world: &mut World<S>,
     budget: &mut u64,
     path: &Path,
     arguments: &[Datum],
 ) -> Result<Datum, Refusal>
-    ensures { Does (seen given_of result) (world.new, budget.new) (handed_out S.accesses path.now (length arguments.now) (map given_of arguments.now)) (world.old, budget.old) }
+    ensures { Does (seen given_of result) (world.new, budget.new) (answer_exported S.accesses path.now (length arguments.now) (map given_of arguments.now)) (world.old, budget.old) }
 {
     let invocation = invocation(alloc, world, path, arguments.len())?;
-    let values = world.take_all(alloc, arguments)?;
+    let values = world.import_all(alloc, arguments)?;
     let value = value_of(alloc, world, budget, invocation, &values)?;
-    outward(alloc, world, budget, value)
+    exported(alloc, world, budget, value)
 }
 
 /// The value of the object at a path, with these arguments.
@@ -140,7 +140,7 @@ fn value_of<S: Space>(
         Invocation::Value(value) => Ok(value),
         Invocation::FieldUnit(unit) => eval_field_read(alloc, world, budget, 1, unit),
         Invocation::Method(path, body) => {
-            eval_method_value(alloc, world, budget, 0, &path, body, arguments)
+            eval_method_value(alloc, world, budget, 0, &path, &body, arguments)
         }
     }
 }

@@ -19,7 +19,7 @@ use std::alloc::Global;
 
 /// Data, by its kind.
 #[cycle(evaluation)]
-#[tactic(auto, using(crate::specs::Steps::evaluating))]
+#[tactic(auto, using(crate::proofs::Steps::evaluating))]
 pub(crate) fn eval_data<S: Space>(
     alloc: Global,
     world: &mut World<S>,
@@ -43,7 +43,7 @@ pub(crate) fn eval_data<S: Space>(
 }
 
 /// An integer that an opcode says.
-#[tactic(auto, using(crate::specs::Steps::evaluating), unfolding(aml_meaning::specs::DataTerms::constant_rule))]
+#[tactic(auto, using(crate::proofs::Steps::evaluating), unfolding(aml_meaning::specs::DataTerms::constant_rule))]
 fn eval_constant<S: Space>(world: &World<S>, budget: u64, number: u64) -> Result<Flow, Refusal>
     ensures { Does result (world.now, budget) (constant_rule (meaning S.accesses) number) (world.now, budget) }
 {
@@ -52,7 +52,7 @@ fn eval_constant<S: Space>(world: &World<S>, budget: u64, number: u64) -> Result
 }
 
 /// An integer that follows its opcode.
-#[tactic(auto, using(crate::specs::Steps::evaluating), unfolding(aml_meaning::specs::DataTerms::integer_rule))]
+#[tactic(auto, using(crate::proofs::Steps::evaluating), unfolding(aml_meaning::specs::DataTerms::integer_rule))]
 fn eval_integer<S: Space>(world: &World<S>, budget: u64, term: Reader<'_>) -> Result<Flow, Refusal>
     ensures { Does result (world.now, budget) (integer_rule (meaning S.accesses) (part_tree term.entry)) (world.now, budget) }
 {
@@ -60,7 +60,7 @@ fn eval_integer<S: Space>(world: &World<S>, budget: u64, term: Reader<'_>) -> Re
     eval_constant(world, budget, number)
 }
 
-#[tactic(auto, using(crate::specs::Steps::evaluating), unfolding(aml_meaning::specs::DataTerms::string_rule))]
+#[tactic(auto, using(crate::proofs::Steps::evaluating), unfolding(aml_meaning::specs::DataTerms::string_rule))]
 fn eval_string<S: Space>(
     alloc: Global,
     world: &mut World<S>,
@@ -75,7 +75,7 @@ fn eval_string<S: Space>(
 }
 
 #[cycle(evaluation)]
-#[tactic(auto, using(crate::specs::Steps::evaluating), unfolding(aml_meaning::specs::DataTerms::buffer_rule))]
+#[tactic(auto, using(crate::proofs::Steps::evaluating), unfolding(aml_meaning::specs::DataTerms::buffer_rule))]
 fn eval_buffer<S: Space>(
     alloc: Global,
     world: &mut World<S>,
@@ -95,7 +95,7 @@ fn eval_buffer<S: Space>(
 }
 
 #[cycle(evaluation)]
-#[tactic(auto, using(crate::specs::Steps::evaluating), unfolding(aml_meaning::specs::DataTerms::package_rule))]
+#[tactic(auto, using(crate::proofs::Steps::evaluating), unfolding(aml_meaning::specs::DataTerms::package_rule))]
 fn eval_package<S: Space>(
     alloc: Global,
     world: &mut World<S>,
@@ -113,7 +113,7 @@ fn eval_package<S: Space>(
 }
 
 #[cycle(evaluation)]
-#[tactic(auto, using(crate::specs::Steps::evaluating), unfolding(aml_meaning::specs::DataTerms::var_package_rule))]
+#[tactic(auto, using(crate::proofs::Steps::evaluating), unfolding(aml_meaning::specs::DataTerms::var_package_rule))]
 fn eval_var_package<S: Space>(
     alloc: Global,
     world: &mut World<S>,
@@ -134,7 +134,7 @@ fn eval_var_package<S: Space>(
 
 /// A package of so many elements, the first of which are given.
 #[cycle(evaluation)]
-#[tactic(auto, using(crate::specs::Steps::evaluating), unfolding(aml_meaning::specs::DataTerms::package_of))]
+#[tactic(auto, using(crate::proofs::Steps::evaluating), unfolding(aml_meaning::specs::DataTerms::package_of))]
 fn package_of<S: Space>(
     alloc: Global,
     world: &mut World<S>,
@@ -154,7 +154,7 @@ fn package_of<S: Space>(
 
 /// Elements one after another, so many at most.
 #[cycle(evaluation)]
-#[tactic(auto, using(crate::specs::Steps::evaluating))]
+#[tactic(auto, using(crate::proofs::Steps::evaluating))]
 fn eval_elements<S: Space>(
     alloc: Global,
     world: &mut World<S>,
@@ -186,7 +186,7 @@ fn eval_elements<S: Space>(
 }
 
 #[cycle(evaluation)]
-#[tactic(auto, using(crate::specs::Steps::evaluating))]
+#[tactic(auto, using(crate::proofs::Steps::evaluating))]
 fn eval_element<S: Space>(
     alloc: Global,
     world: &mut World<S>,
@@ -213,7 +213,7 @@ fn eval_element<S: Space>(
 }
 
 /// A name in a package, which is searched for at each use.
-#[tactic(auto, using(crate::specs::Steps::evaluating), unfolding(aml_meaning::specs::DataTerms::named_element))]
+#[tactic(auto, using(crate::proofs::Steps::evaluating), unfolding(aml_meaning::specs::DataTerms::named_element))]
 fn named_element<S: Space>(
     alloc: Global,
     world: &World<S>,
@@ -231,7 +231,7 @@ fn named_element<S: Space>(
 }
 
 #[cycle(evaluation)]
-#[tactic(auto, using(crate::specs::Steps::evaluating), unfolding(aml_meaning::specs::DataTerms::valued_element))]
+#[tactic(auto, using(crate::proofs::Steps::evaluating), unfolding(aml_meaning::specs::DataTerms::valued_element))]
 fn valued_element<S: Space>(
     alloc: Global,
     world: &mut World<S>,

@@ -11,14 +11,14 @@ use crate::operands::{Reader, bytes, inner, list, number};
 use crate::terms::{eval_list, eval_value};
 use aml_grammar::TermReader;
 use aml_meaning::{DeclarationKind, Flow, World};
-use aml_objects::NamedObject;
+use aml_objects::{MethodFlags, NamedObject};
 use aml_path::Path;
 use ar_space::{Refusal, Space};
 use std::alloc::Global;
 
 /// A declaration or a Scope, by its kind.
 #[cycle(evaluation)]
-#[tactic(auto, using(crate::specs::Steps::evaluating))]
+#[tactic(auto, using(crate::proofs::Steps::evaluating))]
 pub(crate) fn eval_declaration<S: Space>(
     alloc: Global,
     world: &mut World<S>,
@@ -111,7 +111,7 @@ pub(crate) fn eval_declaration<S: Space>(
 }
 
 /// A name that the term's first operand declares.
-#[tactic(auto, using(crate::specs::Steps::evaluating), unfolding(aml_meaning::specs::DeclarationTerms::declaring))]
+#[tactic(auto, using(crate::proofs::Steps::evaluating), unfolding(aml_meaning::specs::DeclarationTerms::declaring))]
 pub(crate) fn eval_declaring<S: Space>(
     alloc: Global,
     world: &mut World<S>,
@@ -130,7 +130,7 @@ pub(crate) fn eval_declaring<S: Space>(
 }
 
 #[cycle(evaluation)]
-#[tactic(auto, using(crate::specs::Steps::evaluating), unfolding(aml_meaning::specs::DeclarationTerms::name_rule))]
+#[tactic(auto, using(crate::proofs::Steps::evaluating), unfolding(aml_meaning::specs::DeclarationTerms::name_rule))]
 fn eval_name<S: Space>(
     alloc: Global,
     world: &mut World<S>,
@@ -155,7 +155,7 @@ fn eval_name<S: Space>(
     )
 }
 
-#[tactic(auto, using(crate::specs::Steps::evaluating), unfolding(aml_meaning::specs::DeclarationTerms::alias_rule))]
+#[tactic(auto, using(crate::proofs::Steps::evaluating), unfolding(aml_meaning::specs::DeclarationTerms::alias_rule))]
 fn eval_alias<S: Space>(
     alloc: Global,
     world: &mut World<S>,
@@ -174,7 +174,7 @@ fn eval_alias<S: Space>(
     Ok(Flow::Next)
 }
 
-#[tactic(auto, using(crate::specs::Steps::evaluating), unfolding(aml_meaning::specs::DeclarationTerms::method_rule))]
+#[tactic(auto, using(crate::proofs::Steps::evaluating), unfolding(aml_meaning::specs::DeclarationTerms::method_rule))]
 fn eval_method<S: Space>(
     alloc: Global,
     world: &mut World<S>,
@@ -189,13 +189,16 @@ fn eval_method<S: Space>(
     let path = name.resolve_in(alloc, scope)?;
     let flags = number(term, 1)?;
     let body = bytes(alloc, term, 2)?;
-    world.new_method(alloc, depth == 0, path, (flags % 8) as u8, body)?;
+    let flags = MethodFlags {
+        byte: (flags % 256) as u8,
+    };
+    world.new_method(alloc, depth == 0, path, flags, body)?;
     Ok(Flow::Next)
 }
 
 /// The list of a Scope stands in the scope that its name finds.
 #[cycle(evaluation)]
-#[tactic(auto, using(crate::specs::Steps::evaluating), unfolding(aml_meaning::specs::DeclarationTerms::scope_rule))]
+#[tactic(auto, using(crate::proofs::Steps::evaluating), unfolding(aml_meaning::specs::DeclarationTerms::scope_rule))]
 fn eval_scope<S: Space>(
     alloc: Global,
     world: &mut World<S>,
@@ -213,9 +216,9 @@ fn eval_scope<S: Space>(
     eval_list(alloc, world, budget, &path, depth, items)
 }
 
-/// A new name, and then the list of the term in it, which is the operand at a place.
+/// A new name, and then the list of the term in it, which is the operand at a position.
 #[cycle(evaluation)]
-#[tactic(auto, using(crate::specs::Steps::evaluating), unfolding(aml_meaning::specs::DeclarationTerms::new_scope))]
+#[tactic(auto, using(crate::proofs::Steps::evaluating), unfolding(aml_meaning::specs::DeclarationTerms::new_scope))]
 fn eval_new_scope<S: Space>(
     alloc: Global,
     world: &mut World<S>,
@@ -224,15 +227,15 @@ fn eval_new_scope<S: Space>(
     depth: usize,
     term: Reader<'_>,
     object: NamedObject,
-    place: usize,
+    position: usize,
 ) -> Result<Flow, Refusal>
     ensures spent { budget.new ≤ budget.old }
-    ensures means { Does result (world.new, budget.new) (new_scope (meaning S.accesses) object place scope.now depth (part_tree term.entry)) (world.old, budget.old) }
+    ensures means { Does result (world.new, budget.new) (new_scope (meaning S.accesses) object position scope.now depth (part_tree term.entry)) (world.old, budget.old) }
 {
     let name = term.name(alloc, 0)?;
     let path = name.resolve_in(alloc, scope)?;
     declare(alloc, world, depth, &path, object)?;
-    let items = list(term, place)?;
+    let items = list(term, position)?;
     eval_list(alloc, world, budget, &path, depth, items)
 }
 

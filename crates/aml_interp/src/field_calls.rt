@@ -13,8 +13,8 @@ use crate::fields::{
     field_given,
 };
 use crate::invocations::{MAX_DEPTH, eval_method_value};
-use aml_meaning::{Datum, Held, Invocation, Place, Referent, Stored, World, integer_only};
-use aml_objects::{BodyPlace, FieldUnit, Value};
+use aml_meaning::{Datum, Held, Invocation, Referent, StoreTarget, Stored, World, integer_only};
+use aml_objects::{Body, FieldUnit, Value};
 use aml_path::Path;
 use ar_space::{EvaluationFault, Refusal, Space};
 use std::alloc::Global;
@@ -28,7 +28,7 @@ fn calls_left(depth: usize) -> usize
 
 /// The value of a field unit, where so many control methods are being called.
 #[cycle(evaluation)]
-#[tactic(auto, using(crate::specs::Steps::evaluating))]
+#[tactic(auto, using(crate::proofs::Steps::evaluating))]
 pub(crate) fn eval_field_read<S: Space>(
     alloc: Global,
     world: &mut World<S>,
@@ -42,9 +42,9 @@ pub(crate) fn eval_field_read<S: Space>(
     eval_field_value(alloc, world, budget, calls_left(depth), unit)
 }
 
-/// What a place holds, as an integer.
+/// What a target holds, as an integer.
 #[cycle(evaluation)]
-#[tactic(auto, using(crate::specs::Steps::evaluating))]
+#[tactic(auto, using(crate::proofs::Steps::evaluating))]
 pub(crate) fn eval_held<S: Space>(
     alloc: Global,
     world: &mut World<S>,
@@ -65,7 +65,7 @@ pub(crate) fn eval_held<S: Space>(
 
 /// What a reference refers to, where an element of a package that is the name of a field stands for the field's value.
 #[cycle(evaluation)]
-#[tactic(auto, using(crate::specs::Steps::evaluating))]
+#[tactic(auto, using(crate::proofs::Steps::evaluating))]
 pub(crate) fn eval_referent<S: Space>(
     alloc: Global,
     world: &mut World<S>,
@@ -86,41 +86,41 @@ pub(crate) fn eval_referent<S: Space>(
     }
 }
 
-/// Stores a value to a place.
+/// Stores a value to a target.
 #[cycle(evaluation)]
-#[tactic(auto, using(crate::specs::Steps::evaluating), unfolding(aml_meaning::specs::FieldCalls::stored_to))]
+#[tactic(auto, using(crate::proofs::Steps::evaluating), unfolding(aml_meaning::specs::FieldCalls::stored_to))]
 pub(crate) fn eval_stored_to<S: Space>(
     alloc: Global,
     world: &mut World<S>,
     budget: &mut u64,
     depth: usize,
-    place: &Place,
+    target: &StoreTarget,
     value: Value,
 ) -> Result<(), Refusal>
     ensures spent { budget.new ≤ budget.old }
-    ensures means { Does result (world.new, budget.new) (stored_to S.accesses (meaning S.accesses) depth place.now value) (world.old, budget.old) }
+    ensures means { Does result (world.new, budget.new) (stored_to S.accesses (meaning S.accesses) depth target.now value) (world.old, budget.old) }
 {
-    let stored = world.store(alloc, place, value)?;
+    let stored = world.store(alloc, target, value)?;
     eval_completed(alloc, world, budget, depth, stored, value)
 }
 
-/// Stores a value to a place whose value was read before: a field unit that was read is the one that is written.
+/// Stores a value to a target whose value was read before: a field unit that was read is the one that is written.
 #[cycle(evaluation)]
-#[tactic(auto, using(crate::specs::Steps::evaluating))]
+#[tactic(auto, using(crate::proofs::Steps::evaluating))]
 pub(crate) fn eval_stored_back<S: Space>(
     alloc: Global,
     world: &mut World<S>,
     budget: &mut u64,
     depth: usize,
     held: Held,
-    place: &Place,
+    target: &StoreTarget,
     value: Value,
 ) -> Result<(), Refusal>
     ensures spent { budget.new ≤ budget.old }
-    ensures means { Does result (world.new, budget.new) (stored_back S.accesses (meaning S.accesses) depth held place.now value) (world.old, budget.old) }
+    ensures means { Does result (world.new, budget.new) (stored_back S.accesses (meaning S.accesses) depth held target.now value) (world.old, budget.old) }
 {
     match held {
-        Held::Value(_) => eval_stored_to(alloc, world, budget, depth, place, value),
+        Held::Value(_) => eval_stored_to(alloc, world, budget, depth, target, value),
         Held::FieldUnit(unit) => {
             eval_field_stored(alloc, world, budget, calls_left(depth), unit, value)
         }
@@ -129,7 +129,7 @@ pub(crate) fn eval_stored_back<S: Space>(
 
 /// A store is done, or a field unit is written next.
 #[cycle(evaluation)]
-#[tactic(auto, using(crate::specs::Steps::evaluating))]
+#[tactic(auto, using(crate::proofs::Steps::evaluating))]
 pub(crate) fn eval_completed<S: Space>(
     alloc: Global,
     world: &mut World<S>,
@@ -151,7 +151,7 @@ pub(crate) fn eval_completed<S: Space>(
 
 /// The integer that the object at a path answers, without arguments, where so many calls may still be made.
 #[cycle(evaluation)]
-#[tactic(auto, using(crate::specs::Steps::evaluating), unfolding(aml_meaning::specs::FieldCalls::asked))]
+#[tactic(auto, using(crate::proofs::Steps::evaluating), unfolding(aml_meaning::specs::FieldCalls::asked))]
 pub(crate) fn eval_asked<S: Space>(
     alloc: Global,
     world: &mut World<S>,
@@ -167,7 +167,7 @@ pub(crate) fn eval_asked<S: Space>(
 }
 
 #[cycle(evaluation)]
-#[tactic(auto, using(crate::specs::Steps::evaluating))]
+#[tactic(auto, using(crate::proofs::Steps::evaluating))]
 fn eval_answer<S: Space>(
     alloc: Global,
     world: &mut World<S>,
@@ -186,7 +186,7 @@ fn eval_answer<S: Space>(
 
 /// What is found, answered, where so many calls may still be made inside this one.
 #[cycle(evaluation)]
-#[tactic(auto, using(crate::specs::Steps::evaluating))]
+#[tactic(auto, using(crate::proofs::Steps::evaluating))]
 fn eval_answer_over<S: Space>(
     alloc: Global,
     world: &mut World<S>,
@@ -202,32 +202,32 @@ fn eval_answer_over<S: Space>(
         Invocation::FieldUnit(unit) => eval_field_part(alloc, world, budget, calls, unit),
         Invocation::Method(path, body) => {
             let depth = (MAX_DEPTH - 1).saturating_sub(calls);
-            eval_method_integer(alloc, world, budget, depth, &path, body)
+            eval_method_integer(alloc, world, budget, depth, &path, &body)
         }
     }
 }
 
 /// The integer that a control method gives, called without arguments.
 #[cycle(evaluation)]
-#[tactic(auto, using(crate::specs::Steps::evaluating), unfolding(aml_meaning::specs::FieldCalls::method_integer))]
+#[tactic(auto, using(crate::proofs::Steps::evaluating), unfolding(aml_meaning::specs::FieldCalls::method_integer))]
 fn eval_method_integer<S: Space>(
     alloc: Global,
     world: &mut World<S>,
     budget: &mut u64,
     depth: usize,
     path: &Path,
-    body: BodyPlace,
+    body: &Body,
 ) -> Result<u64, Refusal>
     ensures spent { budget.new ≤ budget.old }
-    ensures means { Does result (world.new, budget.new) (method_integer S.accesses (meaning S.accesses) depth path.now body) (world.old, budget.old) }
+    ensures means { Does result (world.new, budget.new) (method_integer S.accesses (meaning S.accesses) depth path.now body.now) (world.old, budget.old) }
 {
     let value = eval_method_value(alloc, world, budget, depth, path, body, &[])?;
     integer_only(value)
 }
 
 /// A field unit as it is handed out, read as in a call of its own.
-#[tactic(auto, using(crate::specs::Steps::evaluating))]
-pub(crate) fn field_out<S: Space>(
+#[tactic(auto, using(crate::proofs::Steps::evaluating))]
+pub(crate) fn field_exported<S: Space>(
     alloc: Global,
     world: &mut World<S>,
     budget: &mut u64,

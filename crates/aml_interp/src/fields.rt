@@ -21,7 +21,7 @@ use std::alloc::Global;
 
 /// The bits of a field unit, as a value.
 #[cycle(evaluation)]
-#[tactic(auto, using(crate::specs::Steps::evaluating), unfolding(aml_meaning::specs::Fields::field_value))]
+#[tactic(auto, using(crate::proofs::Steps::evaluating), unfolding(aml_meaning::specs::Fields::field_value))]
 pub(crate) fn eval_field_value<S: Space>(
     alloc: Global,
     world: &mut World<S>,
@@ -38,7 +38,7 @@ pub(crate) fn eval_field_value<S: Space>(
 
 /// The bits of a field unit, as an integer.
 #[cycle(evaluation)]
-#[tactic(auto, using(crate::specs::Steps::evaluating), unfolding(aml_meaning::specs::Fields::field_integer))]
+#[tactic(auto, using(crate::proofs::Steps::evaluating), unfolding(aml_meaning::specs::Fields::field_integer))]
 pub(crate) fn eval_field_integer<S: Space>(
     alloc: Global,
     world: &mut World<S>,
@@ -55,7 +55,7 @@ pub(crate) fn eval_field_integer<S: Space>(
 
 /// The bits of a field unit, as a part of an address.
 #[cycle(evaluation)]
-#[tactic(auto, using(crate::specs::Steps::evaluating), unfolding(aml_meaning::specs::Fields::field_part))]
+#[tactic(auto, using(crate::proofs::Steps::evaluating), unfolding(aml_meaning::specs::Fields::field_part))]
 pub(crate) fn eval_field_part<S: Space>(
     alloc: Global,
     world: &mut World<S>,
@@ -72,7 +72,7 @@ pub(crate) fn eval_field_part<S: Space>(
 
 /// The bits of a field unit, as what SizeOf and ObjectType speak of.
 #[cycle(evaluation)]
-#[tactic(auto, using(crate::specs::Steps::evaluating), unfolding(aml_meaning::specs::Fields::field_referent))]
+#[tactic(auto, using(crate::proofs::Steps::evaluating), unfolding(aml_meaning::specs::Fields::field_referent))]
 pub(crate) fn eval_field_referent<S: Space>(
     alloc: Global,
     world: &mut World<S>,
@@ -88,7 +88,7 @@ pub(crate) fn eval_field_referent<S: Space>(
 }
 
 /// The bits of a field unit, as they are handed out.
-#[tactic(auto, using(crate::specs::Steps::evaluating), unfolding(aml_meaning::specs::Fields::field_given))]
+#[tactic(auto, using(crate::proofs::Steps::evaluating), unfolding(aml_meaning::specs::Fields::field_given))]
 pub(crate) fn field_given<S: Space>(
     alloc: Global,
     world: &mut World<S>,
@@ -104,7 +104,7 @@ pub(crate) fn field_given<S: Space>(
 
 /// Stores a value to a field unit: its bits, cut or with zeros behind them.
 #[cycle(evaluation)]
-#[tactic(auto, using(crate::specs::Steps::evaluating), unfolding(aml_meaning::specs::Fields::field_stored))]
+#[tactic(auto, using(crate::proofs::Steps::evaluating), unfolding(aml_meaning::specs::Fields::field_stored))]
 pub(crate) fn eval_field_stored<S: Space>(
     alloc: Global,
     world: &mut World<S>,
@@ -129,7 +129,7 @@ pub(crate) fn eval_field_stored<S: Space>(
 }
 
 #[cycle(evaluation)]
-#[tactic(auto, using(crate::specs::Steps::evaluating))]
+#[tactic(auto, using(crate::proofs::Steps::evaluating))]
 fn eval_bits_in<S: Space>(
     alloc: Global,
     world: &mut World<S>,
@@ -152,7 +152,7 @@ fn eval_bits_in<S: Space>(
 }
 
 #[cycle(evaluation)]
-#[tactic(auto, using(crate::specs::Steps::evaluating))]
+#[tactic(auto, using(crate::proofs::Steps::evaluating))]
 fn eval_written_in<S: Space>(
     alloc: Global,
     world: &mut World<S>,
@@ -178,7 +178,7 @@ fn eval_written_in<S: Space>(
 
 /// The bits of a field of a region.
 #[cycle(evaluation)]
-#[tactic(auto, using(crate::specs::Steps::evaluating), unfolding(aml_meaning::specs::Fields::region_bits))]
+#[tactic(auto, using(crate::proofs::Steps::evaluating), unfolding(aml_meaning::specs::Fields::region_bits))]
 pub(crate) fn eval_region_bits<S: Space>(
     alloc: Global,
     world: &mut World<S>,
@@ -195,7 +195,7 @@ pub(crate) fn eval_region_bits<S: Space>(
 
 /// Writes a field of a region.
 #[cycle(evaluation)]
-#[tactic(auto, using(crate::specs::Steps::evaluating), unfolding(aml_meaning::specs::Fields::region_written))]
+#[tactic(auto, using(crate::proofs::Steps::evaluating), unfolding(aml_meaning::specs::Fields::region_written))]
 pub(crate) fn eval_region_written<S: Space>(
     alloc: Global,
     world: &mut World<S>,
@@ -213,7 +213,7 @@ pub(crate) fn eval_region_written<S: Space>(
 
 /// Where the region with the number of a declaration is; its address is asked for.
 #[cycle(evaluation)]
-#[tactic(auto, using(crate::specs::Steps::evaluating), unfolding(aml_meaning::specs::Fields::located))]
+#[tactic(auto, using(crate::proofs::Steps::evaluating), unfolding(aml_meaning::specs::Fields::located))]
 fn eval_located<S: Space>(
     alloc: Global,
     world: &mut World<S>,
@@ -235,7 +235,7 @@ fn eval_located<S: Space>(
 }
 
 #[cycle(evaluation)]
-#[tactic(auto, using(crate::specs::Steps::evaluating))]
+#[tactic(auto, using(crate::proofs::Steps::evaluating))]
 fn eval_space_at<S: Space>(
     alloc: Global,
     world: &mut World<S>,
@@ -258,7 +258,7 @@ fn eval_space_at<S: Space>(
 /// The registers of the PCI function that a scope belongs to: its segment group, its bus and its address are asked for, in this
 /// order.
 #[cycle(evaluation)]
-#[tactic(auto, using(crate::specs::Steps::evaluating), unfolding(aml_meaning::specs::Fields::pci_address))]
+#[tactic(auto, using(crate::proofs::Steps::evaluating), unfolding(aml_meaning::specs::Fields::pci_address))]
 fn eval_pci_address<S: Space>(
     alloc: Global,
     world: &mut World<S>,
@@ -279,7 +279,7 @@ fn eval_pci_address<S: Space>(
 
 /// What the nearest object of a name answers, from a device on upward; 0 where there is none.
 #[cycle(evaluation)]
-#[tactic(auto, using(crate::specs::Steps::evaluating), unfolding(aml_meaning::specs::Fields::inherited))]
+#[tactic(auto, using(crate::proofs::Steps::evaluating), unfolding(aml_meaning::specs::Fields::inherited))]
 fn eval_inherited<S: Space>(
     alloc: Global,
     world: &mut World<S>,
@@ -296,7 +296,7 @@ fn eval_inherited<S: Space>(
 }
 
 #[cycle(evaluation)]
-#[tactic(auto, using(crate::specs::Steps::evaluating))]
+#[tactic(auto, using(crate::proofs::Steps::evaluating))]
 fn eval_part_in<S: Space>(
     alloc: Global,
     world: &mut World<S>,
@@ -315,7 +315,7 @@ fn eval_part_in<S: Space>(
 }
 
 #[cycle(evaluation)]
-#[tactic(auto, using(crate::specs::Steps::evaluating))]
+#[tactic(auto, using(crate::proofs::Steps::evaluating))]
 fn eval_part_below<S: Space>(
     alloc: Global,
     world: &mut World<S>,

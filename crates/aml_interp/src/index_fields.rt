@@ -19,7 +19,7 @@ use std::alloc::Global;
 
 /// The bits of a field behind the fields with these numbers of declarations.
 #[cycle(evaluation)]
-#[tactic(auto, using(crate::specs::Steps::evaluating), unfolding(aml_meaning::specs::Fields::index_bits))]
+#[tactic(auto, using(crate::proofs::Steps::evaluating), unfolding(aml_meaning::specs::Fields::index_bits))]
 pub(crate) fn eval_index_bits<S: Space>(
     alloc: Global,
     world: &mut World<S>,
@@ -39,7 +39,7 @@ pub(crate) fn eval_index_bits<S: Space>(
 
 /// Writes a field behind the fields with these numbers of declarations.
 #[cycle(evaluation)]
-#[tactic(auto, using(crate::specs::Steps::evaluating), unfolding(aml_meaning::specs::Fields::index_written))]
+#[tactic(auto, using(crate::proofs::Steps::evaluating), unfolding(aml_meaning::specs::Fields::index_written))]
 pub(crate) fn eval_index_written<S: Space>(
     alloc: Global,
     world: &mut World<S>,
@@ -60,7 +60,7 @@ pub(crate) fn eval_index_written<S: Space>(
 
 /// Each unit is read, lowest first.
 #[cycle(evaluation)]
-#[tactic(auto, using(crate::specs::Steps::evaluating))]
+#[tactic(auto, using(crate::proofs::Steps::evaluating))]
 fn eval_index_reads<S: Space>(
     alloc: Global,
     world: &mut World<S>,
@@ -92,7 +92,7 @@ fn eval_index_reads<S: Space>(
 
 /// Each unit is written, lowest first.
 #[cycle(evaluation)]
-#[tactic(auto, using(crate::specs::Steps::evaluating))]
+#[tactic(auto, using(crate::proofs::Steps::evaluating))]
 fn eval_index_writes<S: Space>(
     alloc: Global,
     world: &mut World<S>,
@@ -116,7 +116,7 @@ fn eval_index_writes<S: Space>(
 
 /// One unit is read: its offset is written to the index field, and the data field is read.
 #[cycle(evaluation)]
-#[tactic(auto, using(crate::specs::Steps::evaluating), unfolding(aml_meaning::specs::Fields::index_unit))]
+#[tactic(auto, using(crate::proofs::Steps::evaluating), unfolding(aml_meaning::specs::Fields::index_unit))]
 fn eval_index_unit<S: Space>(
     alloc: Global,
     world: &mut World<S>,
@@ -137,7 +137,7 @@ fn eval_index_unit<S: Space>(
 
 /// One unit is written: as a whole, or merged with what it holds, ones or zeros.
 #[cycle(evaluation)]
-#[tactic(auto, using(crate::specs::Steps::evaluating), unfolding(aml_meaning::specs::Fields::index_unit_written))]
+#[tactic(auto, using(crate::proofs::Steps::evaluating), unfolding(aml_meaning::specs::Fields::index_unit_written))]
 fn eval_index_unit_written<S: Space>(
     alloc: Global,
     world: &mut World<S>,
@@ -170,7 +170,7 @@ fn eval_index_unit_written<S: Space>(
 
 /// What a unit holds that a write keeps: it is read where the field isn't all of it and the update rule is Preserve.
 #[cycle(evaluation)]
-#[tactic(auto, using(crate::specs::Steps::evaluating), unfolding(aml_fields::specs::UnitByUnit::kept))]
+#[tactic(auto, using(crate::proofs::Steps::evaluating), unfolding(aml_fields::specs::UnitByUnit::kept))]
 fn eval_index_kept<S: Space>(
     alloc: Global,
     world: &mut World<S>,

@@ -1,7 +1,7 @@
 //! Names where values stand, and calls of control methods (ACPI 6.5, 5.5.2 and 20.2.5).
 ghost use Rattle.std.specs.Prelude.{◌≡◌, ◌≤◌, ◌<◌, OnOk, [], map, slice_index_or};
 ghost use Rattle.ar_space.specs.Change.{Does};
-ghost use Rattle.ar_space.specs.Outcome.{Answers, seen};
+ghost use Rattle.ar_space.specs.Outcome.{Answers, NotMemory, seen};
 ghost use Rattle.aml_grammar.specs.PartTree.{part_tree, part_list};
 ghost use Rattle.aml_grammar.specs.Shape.{trees_of};
 ghost use Rattle.aml_grammar.specs.View.{tree_view};
@@ -17,7 +17,7 @@ use crate::readings::read_body;
 use crate::terms::{eval_list, eval_value};
 use aml_grammar::{Term, TermReader};
 use aml_meaning::{Flow, Invocation, World};
-use aml_objects::{BodyPlace, FieldUnit, Value};
+use aml_objects::{Body, FieldUnit, Value};
 use aml_path::Path;
 use ar_space::{EvaluationFault, Refusal, Space};
 use std::alloc::Global;
@@ -27,7 +27,7 @@ pub(crate) const MAX_DEPTH: usize = 32;
 
 /// A name where a value stands, and its arguments.
 #[cycle(evaluation)]
-#[tactic(auto, using(crate::specs::Steps::evaluating), unfolding(aml_meaning::specs::InvocationTerms::name_value))]
+#[tactic(auto, using(crate::proofs::Steps::evaluating), unfolding(aml_meaning::specs::InvocationTerms::name_value))]
 pub(crate) fn eval_name_value<S: Space>(
     alloc: Global,
     world: &mut World<S>,
@@ -48,7 +48,7 @@ pub(crate) fn eval_name_value<S: Space>(
 }
 
 #[cycle(evaluation)]
-#[tactic(auto, using(crate::specs::Steps::evaluating))]
+#[tactic(auto, using(crate::proofs::Steps::evaluating))]
 fn eval_invocation<S: Space>(
     alloc: Global,
     world: &mut World<S>,
@@ -65,14 +65,14 @@ fn eval_invocation<S: Space>(
         Invocation::Value(value) => Ok(Flow::Value(value)),
         Invocation::FieldUnit(unit) => eval_field(alloc, world, budget, depth, unit),
         Invocation::Method(path, body) => {
-            eval_call(alloc, world, budget, scope, depth, arguments, &path, body)
+            eval_call(alloc, world, budget, scope, depth, arguments, &path, &body)
         }
     }
 }
 
 /// The bits of a field unit, as a value.
 #[cycle(evaluation)]
-#[tactic(auto, using(crate::specs::Steps::evaluating), unfolding(aml_meaning::specs::InvocationTerms::field_rule))]
+#[tactic(auto, using(crate::proofs::Steps::evaluating), unfolding(aml_meaning::specs::InvocationTerms::field_rule))]
 fn eval_field<S: Space>(
     alloc: Global,
     world: &mut World<S>,
@@ -88,7 +88,7 @@ fn eval_field<S: Space>(
 }
 
 #[cycle(evaluation)]
-#[tactic(auto, using(crate::specs::Steps::evaluating), unfolding(aml_meaning::specs::InvocationTerms::call_rule))]
+#[tactic(auto, using(crate::proofs::Steps::evaluating), unfolding(aml_meaning::specs::InvocationTerms::call_rule))]
 fn eval_call<S: Space>(
     alloc: Global,
     world: &mut World<S>,
@@ -97,10 +97,10 @@ fn eval_call<S: Space>(
     depth: usize,
     arguments: Reader<'_>,
     path: &Path,
-    body: BodyPlace,
+    body: &Body,
 ) -> Result<Flow, Refusal>
     ensures spent { budget.new ≤ budget.old }
-    ensures means { Does result (world.new, budget.new) (call_rule (meaning S.accesses) scope.now depth (part_list arguments.entry) path.now body) (world.old, budget.old) }
+    ensures means { Does result (world.new, budget.new) (call_rule (meaning S.accesses) scope.now depth (part_list arguments.entry) path.now body.now) (world.old, budget.old) }
 {
     let values = eval_arguments(alloc, world, budget, scope, depth, arguments)?;
     eval_invoked(alloc, world, budget, depth, path, body, &values)
@@ -108,7 +108,7 @@ fn eval_call<S: Space>(
 
 /// Arguments one after another.
 #[cycle(evaluation)]
-#[tactic(auto, using(crate::specs::Steps::evaluating))]
+#[tactic(auto, using(crate::proofs::Steps::evaluating))]
 fn eval_arguments<S: Space>(
     alloc: Global,
     world: &mut World<S>,
@@ -136,18 +136,18 @@ fn eval_arguments<S: Space>(
 
 /// The body of the control method at a path, in a frame of its own.
 #[cycle(evaluation)]
-#[tactic(auto, using(crate::specs::Steps::evaluating), unfolding(aml_meaning::specs::Invocations::invoked))]
+#[tactic(auto, using(crate::proofs::Steps::evaluating), unfolding(aml_meaning::specs::Invocations::invoked))]
 fn eval_invoked<S: Space>(
     alloc: Global,
     world: &mut World<S>,
     budget: &mut u64,
     depth: usize,
     path: &Path,
-    body: BodyPlace,
+    body: &Body,
     arguments: &[Value],
 ) -> Result<Flow, Refusal>
     ensures spent { budget.new ≤ budget.old }
-    ensures means { Does result (world.new, budget.new) (invoked (meaning S.accesses) depth path.now body arguments.now) (world.old, budget.old) }
+    ensures means { Does result (world.new, budget.new) (invoked (meaning S.accesses) depth path.now body.now arguments.now) (world.old, budget.old) }
 {
     shallow(depth)?;
     let terms = read_body(alloc, world, path, body)?;
@@ -157,18 +157,18 @@ fn eval_invoked<S: Space>(
 
 /// The value of a call of the control method at a path.
 #[cycle(evaluation)]
-#[tactic(auto, using(crate::specs::Steps::evaluating), unfolding(aml_meaning::specs::Invocations::method_value))]
+#[tactic(auto, using(crate::proofs::Steps::evaluating), unfolding(aml_meaning::specs::Invocations::method_value))]
 pub(crate) fn eval_method_value<S: Space>(
     alloc: Global,
     world: &mut World<S>,
     budget: &mut u64,
     depth: usize,
     path: &Path,
-    body: BodyPlace,
+    body: &Body,
     arguments: &[Value],
 ) -> Result<Value, Refusal>
     ensures spent { budget.new ≤ budget.old }
-    ensures means { Does result (world.new, budget.new) (method_value (meaning S.accesses) depth path.now body arguments.now) (world.old, budget.old) }
+    ensures means { Does result (world.new, budget.new) (method_value (meaning S.accesses) depth path.now body.now arguments.now) (world.old, budget.old) }
 {
     let flow = eval_invoked(alloc, world, budget, depth, path, body, arguments)?;
     Ok(value_of_call(flow))
@@ -188,7 +188,7 @@ fn value_of_call(flow: Flow) -> Value
 
 /// However the body ends, its frame ends, and the names below the control method are removed.
 #[cycle(evaluation)]
-#[tactic(auto, using(crate::specs::Steps::evaluating))]
+#[tactic(auto, using(crate::proofs::Steps::evaluating))]
 fn eval_body<S: Space>(
     alloc: Global,
     world: &mut World<S>,
@@ -217,6 +217,7 @@ fn of_call(outcome: Result<Flow, Refusal>) -> Result<Flow, Refusal>
 fn shallow(depth: usize) -> Result<(), Refusal>
     ensures answer { Answers result (shallow depth) }
     ensures few { OnOk result (depth < 32) }
+    ensures memory { NotMemory result }
 {
     if depth < MAX_DEPTH {
         Ok(())

@@ -4,6 +4,7 @@
 mod answers;
 mod data;
 mod declarations;
+mod export;
 mod field_calls;
 mod fields;
 mod index_fields;
@@ -11,11 +12,10 @@ mod invocations;
 mod loading;
 mod operands;
 mod operators;
-mod outward;
-mod places;
 mod readings;
 mod regions;
 mod statements;
+mod targets;
 mod terms;
 
 pub use answers::{answer, eval};

@@ -1,6 +1,6 @@
 //! Operands of terms, by the kind that the grammar gives them.
 ghost use Rattle.std.specs.Prelude.{◌≡◌, ◌==◌, option_map};
-ghost use Rattle.ar_space.specs.Outcome.{Answers, seen};
+ghost use Rattle.ar_space.specs.Outcome.{Answers, NotMemory, seen};
 ghost use Rattle.aml_grammar.specs.PartTree.{part_tree, part_list};
 ghost use Rattle.aml_grammar.specs.Apart.{operand_of, bytes_of};
 ghost use Rattle.aml_meaning.specs.Readings.{as_many};
@@ -16,7 +16,8 @@ pub(crate) type Reader<'t> = TermPart<'t>;
 
 /// An operand that is a number.
 pub(crate) fn number(term: Reader<'_>, index: usize) -> Result<u64, Refusal>
-    ensures { Answers result (number_of (operand_of (part_tree term.entry) index)) }
+    ensures answer { Answers result (number_of (operand_of (part_tree term.entry) index)) }
+    ensures memory { NotMemory result }
 {
     match term.operand(index) {
         OperandView::Number(number) => Ok(number),
@@ -26,7 +27,8 @@ pub(crate) fn number(term: Reader<'_>, index: usize) -> Result<u64, Refusal>
 
 /// An operand that is a term.
 pub(crate) fn inner(term: Reader<'_>, index: usize) -> Result<Reader<'_>, Refusal>
-    ensures { Answers (seen part_tree result) (inner_of (operand_of (part_tree term.entry) index)) }
+    ensures answer { Answers (seen part_tree result) (inner_of (operand_of (part_tree term.entry) index)) }
+    ensures memory { NotMemory result }
 {
     match term.operand(index) {
         OperandView::Term(part) => Ok(part),
@@ -36,7 +38,8 @@ pub(crate) fn inner(term: Reader<'_>, index: usize) -> Result<Reader<'_>, Refusa
 
 /// An operand that is a list of terms.
 pub(crate) fn list(term: Reader<'_>, index: usize) -> Result<Reader<'_>, Refusal>
-    ensures { Answers (seen part_list result) (list_of (operand_of (part_tree term.entry) index)) }
+    ensures answer { Answers (seen part_list result) (list_of (operand_of (part_tree term.entry) index)) }
+    ensures memory { NotMemory result }
 {
     match term.operand(index) {
         OperandView::List(part) => Ok(part),
@@ -66,7 +69,8 @@ pub(crate) fn bytes(alloc: Global, term: Reader<'_>, index: usize) -> Result<Oct
 
 /// A list has as many terms as are wanted, or is refused as `ArityChanged`.
 pub(crate) fn as_many(list: Reader<'_>, wanted: u8) -> Result<(), Refusal>
-    ensures { Answers result (as_many wanted (count_of (part_list list.entry))) }
+    ensures answer { Answers result (as_many wanted (count_of (part_list list.entry))) }
+    ensures memory { NotMemory result }
 {
     if has_count(list, wanted) {
         Ok(())

@@ -7,7 +7,7 @@ ghost use Rattle.aml_meaning.specs.OperatorTerms.{operator_rule, slot_rule, stor
 
 use crate::field_calls::{eval_completed, eval_held, eval_referent, eval_stored_back};
 use crate::operands::Reader;
-use crate::places::{eval_place, eval_targeted};
+use crate::targets::{eval_target, eval_targeted};
 use crate::terms::{eval_two_values, eval_value_at};
 use aml_meaning::{Count, Flow, OneOperand, OperatorKind, Test, TwoOperands, World};
 use aml_objects::{Slot, Value};
@@ -17,7 +17,7 @@ use std::alloc::Global;
 
 /// A term that has a value, by its kind.
 #[cycle(evaluation)]
-#[tactic(auto, using(crate::specs::Steps::evaluating))]
+#[tactic(auto, using(crate::proofs::Steps::evaluating))]
 pub(crate) fn eval_operator<S: Space>(
     alloc: Global,
     world: &mut World<S>,
@@ -47,7 +47,7 @@ pub(crate) fn eval_operator<S: Space>(
 }
 
 /// A local or an argument, where a value stands.
-#[tactic(auto, using(crate::specs::Steps::evaluating), unfolding(aml_meaning::specs::OperatorTerms::slot_rule))]
+#[tactic(auto, using(crate::proofs::Steps::evaluating), unfolding(aml_meaning::specs::OperatorTerms::slot_rule))]
 fn eval_slot<S: Space>(world: &World<S>, budget: u64, slot: Slot) -> Result<Flow, Refusal>
     ensures { Does result (world.now, budget) (slot_rule S.accesses (meaning S.accesses) slot) (world.now, budget) }
 {
@@ -56,7 +56,7 @@ fn eval_slot<S: Space>(world: &World<S>, budget: u64, slot: Slot) -> Result<Flow
 }
 
 #[cycle(evaluation)]
-#[tactic(auto, using(crate::specs::Steps::evaluating), unfolding(aml_meaning::specs::OperatorTerms::store_rule))]
+#[tactic(auto, using(crate::proofs::Steps::evaluating), unfolding(aml_meaning::specs::OperatorTerms::store_rule))]
 fn eval_store<S: Space>(
     alloc: Global,
     world: &mut World<S>,
@@ -73,7 +73,7 @@ fn eval_store<S: Space>(
 }
 
 #[cycle(evaluation)]
-#[tactic(auto, using(crate::specs::Steps::evaluating), unfolding(aml_meaning::specs::OperatorTerms::copy_rule))]
+#[tactic(auto, using(crate::proofs::Steps::evaluating), unfolding(aml_meaning::specs::OperatorTerms::copy_rule))]
 fn eval_copy<S: Space>(
     alloc: Global,
     world: &mut World<S>,
@@ -86,15 +86,15 @@ fn eval_copy<S: Space>(
     ensures means { Does result (world.new, budget.new) (copy_rule S.accesses (meaning S.accesses) scope.now depth (part_tree term.entry)) (world.old, budget.old) }
 {
     let value = eval_value_at(alloc, world, budget, scope, depth, term, 0)?;
-    let place = eval_place(alloc, world, budget, scope, depth, term, 1)?;
-    let stored = world.copy_to(alloc, &place, value)?;
+    let target = eval_target(alloc, world, budget, scope, depth, term, 1)?;
+    let stored = world.copy_to(alloc, &target, value)?;
     eval_completed(alloc, world, budget, depth, stored, value)?;
     Ok(Flow::Value(value))
 }
 
 /// An operator with two operands and a target.
 #[cycle(evaluation)]
-#[tactic(auto, using(crate::specs::Steps::evaluating), unfolding(aml_meaning::specs::OperatorTerms::two_rule))]
+#[tactic(auto, using(crate::proofs::Steps::evaluating), unfolding(aml_meaning::specs::OperatorTerms::two_rule))]
 fn eval_two<S: Space>(
     alloc: Global,
     world: &mut World<S>,
@@ -113,7 +113,7 @@ fn eval_two<S: Space>(
 }
 
 #[cycle(evaluation)]
-#[tactic(auto, using(crate::specs::Steps::evaluating), unfolding(aml_meaning::specs::OperatorTerms::divide_rule))]
+#[tactic(auto, using(crate::proofs::Steps::evaluating), unfolding(aml_meaning::specs::OperatorTerms::divide_rule))]
 fn eval_divide<S: Space>(
     alloc: Global,
     world: &mut World<S>,
@@ -151,7 +151,7 @@ fn eval_divide<S: Space>(
 
 /// An operator with an operand and a target.
 #[cycle(evaluation)]
-#[tactic(auto, using(crate::specs::Steps::evaluating), unfolding(aml_meaning::specs::OperatorTerms::one_rule))]
+#[tactic(auto, using(crate::proofs::Steps::evaluating), unfolding(aml_meaning::specs::OperatorTerms::one_rule))]
 fn eval_one<S: Space>(
     alloc: Global,
     world: &mut World<S>,
@@ -171,7 +171,7 @@ fn eval_one<S: Space>(
 
 /// An operator with two operands whose value is True or False.
 #[cycle(evaluation)]
-#[tactic(auto, using(crate::specs::Steps::evaluating), unfolding(aml_meaning::specs::OperatorTerms::test_rule))]
+#[tactic(auto, using(crate::proofs::Steps::evaluating), unfolding(aml_meaning::specs::OperatorTerms::test_rule))]
 fn eval_test<S: Space>(
     alloc: Global,
     world: &mut World<S>,
@@ -190,7 +190,7 @@ fn eval_test<S: Space>(
 }
 
 #[cycle(evaluation)]
-#[tactic(auto, using(crate::specs::Steps::evaluating), unfolding(aml_meaning::specs::OperatorTerms::not_rule))]
+#[tactic(auto, using(crate::proofs::Steps::evaluating), unfolding(aml_meaning::specs::OperatorTerms::not_rule))]
 fn eval_not<S: Space>(
     alloc: Global,
     world: &mut World<S>,
@@ -207,9 +207,9 @@ fn eval_not<S: Space>(
     Ok(Flow::Value(result))
 }
 
-/// Increment and Decrement: the place is found once, read and stored to.
+/// Increment and Decrement: the target is found once, read and stored to.
 #[cycle(evaluation)]
-#[tactic(auto, using(crate::specs::Steps::evaluating), unfolding(aml_meaning::specs::OperatorTerms::count_rule))]
+#[tactic(auto, using(crate::proofs::Steps::evaluating), unfolding(aml_meaning::specs::OperatorTerms::count_rule))]
 fn eval_count<S: Space>(
     alloc: Global,
     world: &mut World<S>,
@@ -222,16 +222,16 @@ fn eval_count<S: Space>(
     ensures spent { budget.new ≤ budget.old }
     ensures means { Does result (world.new, budget.new) (count_rule S.accesses (meaning S.accesses) kind scope.now depth (part_tree term.entry)) (world.old, budget.old) }
 {
-    let place = eval_place(alloc, world, budget, scope, depth, term, 0)?;
-    let held = world.place_read(&place)?;
+    let target = eval_target(alloc, world, budget, scope, depth, term, 0)?;
+    let held = world.target_read(&target)?;
     let number = eval_held(alloc, world, budget, depth, held)?;
     let result = world.count(kind, number)?;
-    eval_stored_back(alloc, world, budget, depth, held, &place, result)?;
+    eval_stored_back(alloc, world, budget, depth, held, &target, result)?;
     Ok(Flow::Value(result))
 }
 
 #[cycle(evaluation)]
-#[tactic(auto, using(crate::specs::Steps::evaluating), unfolding(aml_meaning::specs::OperatorTerms::size_rule))]
+#[tactic(auto, using(crate::proofs::Steps::evaluating), unfolding(aml_meaning::specs::OperatorTerms::size_rule))]
 fn eval_size<S: Space>(
     alloc: Global,
     world: &mut World<S>,
@@ -243,15 +243,15 @@ fn eval_size<S: Space>(
     ensures spent { budget.new ≤ budget.old }
     ensures means { Does result (world.new, budget.new) (size_rule S.accesses (meaning S.accesses) scope.now depth (part_tree term.entry)) (world.old, budget.old) }
 {
-    let place = eval_place(alloc, world, budget, scope, depth, term, 0)?;
-    let referent = world.place_referent(alloc, &place)?;
+    let target = eval_target(alloc, world, budget, scope, depth, term, 0)?;
+    let referent = world.target_referent(alloc, &target)?;
     let referent = eval_referent(alloc, world, budget, depth, referent)?;
     let size = world.size(referent)?;
     Ok(Flow::Value(size))
 }
 
 #[cycle(evaluation)]
-#[tactic(auto, using(crate::specs::Steps::evaluating), unfolding(aml_meaning::specs::OperatorTerms::type_rule))]
+#[tactic(auto, using(crate::proofs::Steps::evaluating), unfolding(aml_meaning::specs::OperatorTerms::type_rule))]
 fn eval_type<S: Space>(
     alloc: Global,
     world: &mut World<S>,
@@ -263,15 +263,15 @@ fn eval_type<S: Space>(
     ensures spent { budget.new ≤ budget.old }
     ensures means { Does result (world.new, budget.new) (type_rule S.accesses (meaning S.accesses) scope.now depth (part_tree term.entry)) (world.old, budget.old) }
 {
-    let place = eval_place(alloc, world, budget, scope, depth, term, 0)?;
-    let referent = world.place_referent(alloc, &place)?;
+    let target = eval_target(alloc, world, budget, scope, depth, term, 0)?;
+    let referent = world.target_referent(alloc, &target)?;
     let referent = eval_referent(alloc, world, budget, depth, referent)?;
     Ok(Flow::Value(Value::Integer(referent.object_type().number())))
 }
 
 /// A mutex is always free for who asks: Acquire gives False.
 #[cycle(evaluation)]
-#[tactic(auto, using(crate::specs::Steps::evaluating), unfolding(aml_meaning::specs::OperatorTerms::acquire_rule))]
+#[tactic(auto, using(crate::proofs::Steps::evaluating), unfolding(aml_meaning::specs::OperatorTerms::acquire_rule))]
 fn eval_acquire<S: Space>(
     alloc: Global,
     world: &mut World<S>,
@@ -283,7 +283,7 @@ fn eval_acquire<S: Space>(
     ensures spent { budget.new ≤ budget.old }
     ensures means { Does result (world.new, budget.new) (acquire_rule S.accesses (meaning S.accesses) scope.now depth (part_tree term.entry)) (world.old, budget.old) }
 {
-    let place = eval_place(alloc, world, budget, scope, depth, term, 0)?;
-    world.acquire(&place)?;
+    let target = eval_target(alloc, world, budget, scope, depth, term, 0)?;
+    world.acquire(&target)?;
     Ok(Flow::Value(Value::Integer(0)))
 }

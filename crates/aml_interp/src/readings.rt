@@ -9,7 +9,7 @@ ghost use Rattle.aml_meaning.specs.Invocations.{body_terms};
 
 use aml_grammar::Term;
 use aml_meaning::World;
-use aml_objects::BodyPlace;
+use aml_objects::Body;
 use aml_path::Path;
 use aml_terms::{parse_list, parse_table};
 use ar_space::Refusal;
@@ -41,12 +41,12 @@ pub(crate) fn read_body<S>(
     alloc: Global,
     world: &World<S>,
     path: &Path,
-    body: BodyPlace,
+    body: &Body,
 ) -> Result<Vec<Term>, Refusal>
-    ensures { Does (seen (λ v. trees_of (map tree_view v.items)) result) world.now (body_terms path.now body) world.now }
+    ensures { Does (seen (λ v. trees_of (map tree_view v.items)) result) world.now (body_terms path.now body.now) world.now }
 {
     match world.body_arities(alloc) {
-        Ok(arities) => parse_list(alloc, world.body(body), path, true, &arities),
+        Ok(arities) => parse_list(alloc, body.as_slice(), path, true, &arities),
         Err(refusal) => Err(refusal),
     }
 }

@@ -19,7 +19,7 @@ use std::alloc::Global;
 
 /// An operation region or a list of fields, by its kind.
 #[cycle(evaluation)]
-#[tactic(auto, using(crate::specs::Steps::evaluating))]
+#[tactic(auto, using(crate::proofs::Steps::evaluating))]
 pub(crate) fn eval_region_term<S: Space>(
     alloc: Global,
     world: &mut World<S>,
@@ -41,7 +41,7 @@ pub(crate) fn eval_region_term<S: Space>(
 
 /// An operation region, whose offset and length are evaluated here.
 #[cycle(evaluation)]
-#[tactic(auto, using(crate::specs::Steps::evaluating), unfolding(aml_meaning::specs::FieldTerms::region_rule))]
+#[tactic(auto, using(crate::proofs::Steps::evaluating), unfolding(aml_meaning::specs::FieldTerms::region_rule))]
 fn eval_region<S: Space>(
     alloc: Global,
     world: &mut World<S>,
@@ -75,7 +75,7 @@ fn eval_region<S: Space>(
 }
 
 /// The fields of an operation region.
-#[tactic(auto, using(crate::specs::Steps::evaluating), unfolding(aml_meaning::specs::FieldTerms::field_list_rule))]
+#[tactic(auto, using(crate::proofs::Steps::evaluating), unfolding(aml_meaning::specs::FieldTerms::field_list_rule))]
 fn eval_field_list<S: Space>(
     alloc: Global,
     world: &mut World<S>,
@@ -104,7 +104,7 @@ fn eval_field_list<S: Space>(
 }
 
 /// The fields behind an index field and a data field.
-#[tactic(auto, using(crate::specs::Steps::evaluating), unfolding(aml_meaning::specs::FieldTerms::index_list_rule))]
+#[tactic(auto, using(crate::proofs::Steps::evaluating), unfolding(aml_meaning::specs::FieldTerms::index_list_rule))]
 fn eval_index_list<S: Space>(
     alloc: Global,
     world: &mut World<S>,
@@ -135,7 +135,7 @@ fn eval_index_list<S: Space>(
 }
 
 /// The fields of a list, with these flags.
-#[tactic(auto, using(crate::specs::Steps::evaluating), unfolding(aml_meaning::specs::FieldTerms::fields_laid))]
+#[tactic(auto, using(crate::proofs::Steps::evaluating), unfolding(aml_meaning::specs::FieldTerms::fields_laid))]
 fn lay_fields<S: Space>(
     alloc: Global,
     world: &mut World<S>,
@@ -186,7 +186,7 @@ fn lay_elements<S: Space>(
     }
 }
 
-#[tactic(auto, using(crate::specs::Steps::evaluating))]
+#[tactic(auto, using(crate::proofs::Steps::evaluating))]
 fn lay_element<S: Space>(
     alloc: Global,
     world: &mut World<S>,
@@ -212,7 +212,7 @@ fn lay_element<S: Space>(
 }
 
 /// A field that is declared.
-#[tactic(auto, using(crate::specs::Steps::evaluating), unfolding(aml_meaning::specs::FieldTerms::named_field))]
+#[tactic(auto, using(crate::proofs::Steps::evaluating), unfolding(aml_meaning::specs::FieldTerms::named_field))]
 fn lay_named<S: Space>(
     alloc: Global,
     world: &mut World<S>,
@@ -231,7 +231,7 @@ fn lay_named<S: Space>(
 }
 
 /// Bits that are passed over.
-#[tactic(auto, using(crate::specs::Steps::evaluating), unfolding(aml_meaning::specs::FieldTerms::reserved_field))]
+#[tactic(auto, using(crate::proofs::Steps::evaluating), unfolding(aml_meaning::specs::FieldTerms::reserved_field))]
 fn lay_reserved<S: Space>(
     world: &World<S>,
     group: FieldGroup,
@@ -247,7 +247,7 @@ fn lay_reserved<S: Space>(
 }
 
 /// Other accesses for the fields that follow.
-#[tactic(auto, using(crate::specs::Steps::evaluating), unfolding(aml_meaning::specs::FieldTerms::access_field))]
+#[tactic(auto, using(crate::proofs::Steps::evaluating), unfolding(aml_meaning::specs::FieldTerms::access_field))]
 fn lay_access<S: Space>(
     world: &World<S>,
     group: FieldGroup,

@@ -9,7 +9,7 @@ ghost use Rattle.aml_meaning.specs.Terms.{else_of};
 ghost use Rattle.aml_meaning.specs.StatementTerms.{otherwise, branch, if_rule, else_rule, turn_of, turn, loop, while_rule, return_rule, release_rule, notify_rule, pause_rule, fatal_rule, statement_rule};
 
 use crate::operands::{Reader, else_of, inner, list};
-use crate::places::eval_place;
+use crate::targets::eval_target;
 use crate::terms::{eval_list, eval_operand_integer, eval_term, eval_value_at};
 use aml_convert::is_true;
 use aml_meaning::{Flow, StatementKind, World};
@@ -19,7 +19,7 @@ use std::alloc::Global;
 
 /// A statement, by its kind.
 #[cycle(evaluation)]
-#[tactic(auto, using(crate::specs::Steps::evaluating))]
+#[tactic(auto, using(crate::proofs::Steps::evaluating))]
 pub(crate) fn eval_statement<S: Space>(
     alloc: Global,
     world: &mut World<S>,
@@ -48,7 +48,7 @@ pub(crate) fn eval_statement<S: Space>(
 }
 
 #[cycle(evaluation)]
-#[tactic(auto, using(crate::specs::Steps::evaluating), unfolding(aml_meaning::specs::StatementTerms::if_rule))]
+#[tactic(auto, using(crate::proofs::Steps::evaluating), unfolding(aml_meaning::specs::StatementTerms::if_rule))]
 fn eval_if<S: Space>(
     alloc: Global,
     world: &mut World<S>,
@@ -77,7 +77,7 @@ fn eval_if<S: Space>(
 
 /// The list of an If, or what follows it.
 #[cycle(evaluation)]
-#[tactic(auto, using(crate::specs::Steps::evaluating))]
+#[tactic(auto, using(crate::proofs::Steps::evaluating))]
 fn eval_branch<S: Space>(
     alloc: Global,
     world: &mut World<S>,
@@ -99,7 +99,7 @@ fn eval_branch<S: Space>(
 }
 
 #[cycle(evaluation)]
-#[tactic(auto, using(crate::specs::Steps::evaluating))]
+#[tactic(auto, using(crate::proofs::Steps::evaluating))]
 fn eval_otherwise<S: Space>(
     alloc: Global,
     world: &mut World<S>,
@@ -118,7 +118,7 @@ fn eval_otherwise<S: Space>(
 }
 
 #[cycle(evaluation)]
-#[tactic(auto, using(crate::specs::Steps::evaluating), unfolding(aml_meaning::specs::StatementTerms::else_rule))]
+#[tactic(auto, using(crate::proofs::Steps::evaluating), unfolding(aml_meaning::specs::StatementTerms::else_rule))]
 fn eval_else<S: Space>(
     alloc: Global,
     world: &mut World<S>,
@@ -135,7 +135,7 @@ fn eval_else<S: Space>(
 }
 
 #[cycle(evaluation)]
-#[tactic(auto, using(crate::specs::Steps::evaluating), unfolding(aml_meaning::specs::StatementTerms::while_rule))]
+#[tactic(auto, using(crate::proofs::Steps::evaluating), unfolding(aml_meaning::specs::StatementTerms::while_rule))]
 fn eval_while<S: Space>(
     alloc: Global,
     world: &mut World<S>,
@@ -154,7 +154,7 @@ fn eval_while<S: Space>(
 
 /// Turns of a While, until one ends it.
 #[cycle(evaluation)]
-#[tactic(auto, using(crate::specs::Steps::evaluating))]
+#[tactic(auto, using(crate::proofs::Steps::evaluating))]
 fn eval_loop<S: Space>(
     alloc: Global,
     world: &mut World<S>,
@@ -178,7 +178,7 @@ fn eval_loop<S: Space>(
 
 /// The condition of a While, and its list where the condition holds; where it doesn't, that ends the loop.
 #[cycle(evaluation)]
-#[tactic(auto, using(crate::specs::Steps::evaluating), unfolding(aml_meaning::specs::StatementTerms::turn))]
+#[tactic(auto, using(crate::proofs::Steps::evaluating), unfolding(aml_meaning::specs::StatementTerms::turn))]
 fn eval_turn<S: Space>(
     alloc: Global,
     world: &mut World<S>,
@@ -197,7 +197,7 @@ fn eval_turn<S: Space>(
 }
 
 #[cycle(evaluation)]
-#[tactic(auto, using(crate::specs::Steps::evaluating))]
+#[tactic(auto, using(crate::proofs::Steps::evaluating))]
 fn eval_turn_of<S: Space>(
     alloc: Global,
     world: &mut World<S>,
@@ -218,7 +218,7 @@ fn eval_turn_of<S: Space>(
 }
 
 #[cycle(evaluation)]
-#[tactic(auto, using(crate::specs::Steps::evaluating), unfolding(aml_meaning::specs::StatementTerms::return_rule))]
+#[tactic(auto, using(crate::proofs::Steps::evaluating), unfolding(aml_meaning::specs::StatementTerms::return_rule))]
 fn eval_return<S: Space>(
     alloc: Global,
     world: &mut World<S>,
@@ -235,7 +235,7 @@ fn eval_return<S: Space>(
 }
 
 #[cycle(evaluation)]
-#[tactic(auto, using(crate::specs::Steps::evaluating), unfolding(aml_meaning::specs::StatementTerms::release_rule))]
+#[tactic(auto, using(crate::proofs::Steps::evaluating), unfolding(aml_meaning::specs::StatementTerms::release_rule))]
 fn eval_release<S: Space>(
     alloc: Global,
     world: &mut World<S>,
@@ -247,14 +247,14 @@ fn eval_release<S: Space>(
     ensures spent { budget.new ≤ budget.old }
     ensures means { Does result (world.new, budget.new) (release_rule (meaning S.accesses) scope.now depth (part_tree term.entry)) (world.old, budget.old) }
 {
-    let place = eval_place(alloc, world, budget, scope, depth, term, 0)?;
-    world.release(&place)?;
+    let target = eval_target(alloc, world, budget, scope, depth, term, 0)?;
+    world.release(&target)?;
     Ok(Flow::Next)
 }
 
 /// Nobody is told: the operands are evaluated, and nothing else.
 #[cycle(evaluation)]
-#[tactic(auto, using(crate::specs::Steps::evaluating), unfolding(aml_meaning::specs::StatementTerms::notify_rule))]
+#[tactic(auto, using(crate::proofs::Steps::evaluating), unfolding(aml_meaning::specs::StatementTerms::notify_rule))]
 fn eval_notify<S: Space>(
     alloc: Global,
     world: &mut World<S>,
@@ -266,14 +266,14 @@ fn eval_notify<S: Space>(
     ensures spent { budget.new ≤ budget.old }
     ensures means { Does result (world.new, budget.new) (notify_rule (meaning S.accesses) scope.now depth (part_tree term.entry)) (world.old, budget.old) }
 {
-    eval_place(alloc, world, budget, scope, depth, term, 0)?;
+    eval_target(alloc, world, budget, scope, depth, term, 0)?;
     eval_value_at(alloc, world, budget, scope, depth, term, 1)?;
     Ok(Flow::Next)
 }
 
 /// Stall and Sleep: no time passes.
 #[cycle(evaluation)]
-#[tactic(auto, using(crate::specs::Steps::evaluating), unfolding(aml_meaning::specs::StatementTerms::pause_rule))]
+#[tactic(auto, using(crate::proofs::Steps::evaluating), unfolding(aml_meaning::specs::StatementTerms::pause_rule))]
 fn eval_pause<S: Space>(
     alloc: Global,
     world: &mut World<S>,
@@ -290,7 +290,7 @@ fn eval_pause<S: Space>(
 }
 
 #[cycle(evaluation)]
-#[tactic(auto, using(crate::specs::Steps::evaluating), unfolding(aml_meaning::specs::StatementTerms::fatal_rule))]
+#[tactic(auto, using(crate::proofs::Steps::evaluating), unfolding(aml_meaning::specs::StatementTerms::fatal_rule))]
 fn eval_fatal<S: Space>(
     alloc: Global,
     world: &mut World<S>,

@@ -1,6 +1,7 @@
 //! Terms and lists of them, each evaluated by its rule.
 ghost use Rattle.std.specs.Prelude.{◌≡◌, ◌≤◌, ◌<◌, OnOk};
 ghost use Rattle.ar_space.specs.Change.{Does};
+ghost use Rattle.ar_space.specs.Outcome.{NotMemory};
 ghost use Rattle.aml_grammar.specs.PartTree.{part_tree, part_list};
 ghost use Rattle.aml_grammar.specs.Apart.{code_of};
 ghost use Rattle.ar_space.specs.declared.refusal.Refusal.TheVariants.{Evaluation};
@@ -32,6 +33,7 @@ pub(crate) fn charge<S: Space>(world: &World<S>, budget: &mut u64) -> Result<(),
     ensures does { Does result (world.now, budget.new) charge (world.now, budget.old) }
     ensures spent { budget.new ≤ budget.old }
     ensures paid { OnOk result (budget.new < budget.old) }
+    ensures memory { NotMemory result }
 {
     if *budget == 0 {
         return Err(Refusal::Evaluation(EvaluationFault::OutOfSteps));
@@ -42,7 +44,7 @@ pub(crate) fn charge<S: Space>(world: &World<S>, budget: &mut u64) -> Result<(),
 
 /// A term: it costs a step, and is then evaluated by its rule.
 #[cycle(evaluation)]
-#[tactic(auto, using(crate::specs::Steps::evaluating), unfolding(aml_meaning::specs::Evaluation::rule))]
+#[tactic(auto, using(crate::proofs::Steps::evaluating), unfolding(aml_meaning::specs::Evaluation::rule))]
 pub(crate) fn eval_term<S: Space>(
     alloc: Global,
     world: &mut World<S>,
@@ -60,7 +62,7 @@ pub(crate) fn eval_term<S: Space>(
 }
 
 #[cycle(evaluation)]
-#[tactic(auto, using(crate::specs::Steps::evaluating))]
+#[tactic(auto, using(crate::proofs::Steps::evaluating))]
 fn eval_code<S: Space>(
     alloc: Global,
     world: &mut World<S>,
@@ -96,7 +98,7 @@ fn eval_code<S: Space>(
 }
 
 #[cycle(evaluation)]
-#[tactic(auto, using(crate::specs::Steps::evaluating))]
+#[tactic(auto, using(crate::proofs::Steps::evaluating))]
 fn eval_kind<S: Space>(
     alloc: Global,
     world: &mut World<S>,
@@ -130,7 +132,7 @@ pub(crate) fn unsupported(opcode: Opcode) -> Refusal
 
 /// An operand's value.
 #[cycle(evaluation)]
-#[tactic(auto, using(crate::specs::Steps::evaluating), unfolding(aml_meaning::specs::Tasks::operand_value))]
+#[tactic(auto, using(crate::proofs::Steps::evaluating), unfolding(aml_meaning::specs::Tasks::operand_value))]
 pub(crate) fn eval_value<S: Space>(
     alloc: Global,
     world: &mut World<S>,
@@ -149,7 +151,7 @@ pub(crate) fn eval_value<S: Space>(
 
 /// The value of the operand at a position.
 #[cycle(evaluation)]
-#[tactic(auto, using(crate::specs::Steps::evaluating), unfolding(aml_meaning::specs::Tasks::value_at))]
+#[tactic(auto, using(crate::proofs::Steps::evaluating), unfolding(aml_meaning::specs::Tasks::value_at))]
 pub(crate) fn eval_value_at<S: Space>(
     alloc: Global,
     world: &mut World<S>,
@@ -168,7 +170,7 @@ pub(crate) fn eval_value_at<S: Space>(
 
 /// The values of the first two operands.
 #[cycle(evaluation)]
-#[tactic(auto, using(crate::specs::Steps::evaluating), unfolding(aml_meaning::specs::Tasks::two_values))]
+#[tactic(auto, using(crate::proofs::Steps::evaluating), unfolding(aml_meaning::specs::Tasks::two_values))]
 pub(crate) fn eval_two_values<S: Space>(
     alloc: Global,
     world: &mut World<S>,
@@ -187,7 +189,7 @@ pub(crate) fn eval_two_values<S: Space>(
 
 /// An integer that an operand gives.
 #[cycle(evaluation)]
-#[tactic(auto, using(crate::specs::Steps::evaluating), unfolding(aml_meaning::specs::Tasks::operand_integer))]
+#[tactic(auto, using(crate::proofs::Steps::evaluating), unfolding(aml_meaning::specs::Tasks::operand_integer))]
 pub(crate) fn eval_operand_integer<S: Space>(
     alloc: Global,
     world: &mut World<S>,
@@ -206,7 +208,7 @@ pub(crate) fn eval_operand_integer<S: Space>(
 
 /// Items one after another, until one ends the list.
 #[cycle(evaluation)]
-#[tactic(auto, using(crate::specs::Steps::evaluating))]
+#[tactic(auto, using(crate::proofs::Steps::evaluating))]
 pub(crate) fn eval_list<S: Space>(
     alloc: Global,
     world: &mut World<S>,

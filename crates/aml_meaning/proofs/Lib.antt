@@ -1,1 +1,10 @@
+pub mod Agree
+pub mod AgreeFields
+pub mod AgreeTerms
+pub mod Exports
 pub mod Filling
+pub mod Following
+pub mod Imports
+pub mod Lifted
+pub mod Loops
+pub mod Meanings

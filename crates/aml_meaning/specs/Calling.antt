@@ -11,7 +11,6 @@ use Rattle.aml_grammar.specs.Grammar.{table_reading}
 use Rattle.aml_objects.specs.declared.value.Value.{Value}
 use Rattle.aml_objects.specs.declared.value.Value.TheVariants as value
 use Rattle.aml_namespace.specs.Namespace.{mutexes_released}
-use Rattle.aml_objects.specs.declared.entry.BodyPlace.{BodyPlace}
 use Rattle.aml_meaning.specs.declared.flow.Flow.{Flow}
 use Rattle.aml_meaning.specs.declared.flow.Flow.TheVariants as flow
 use Rattle.aml_meaning.specs.declared.invocation.Invocation.{Invocation}
@@ -24,9 +23,9 @@ use Rattle.aml_meaning.specs.Readings.{absolute}
 use Rattle.aml_meaning.specs.Tasks.{in_turn}
 use Rattle.aml_meaning.specs.Invocations.{invocation_found, method_value}
 use Rattle.aml_meaning.specs.FieldCalls.{field_read}
-use Rattle.aml_meaning.specs.Taking.{all_taken}
+use Rattle.aml_meaning.specs.Importing.{all_imported}
 use Rattle.aml_meaning.specs.Meaning.{meaning}
-use Rattle.aml_meaning.specs.Outward.{outward}
+use Rattle.aml_meaning.specs.Exporting.{exported}
 
 -- however an evaluation ended, all mutexes are free after it
 abbrev pub released : {S : Type 0} → State S → State S
@@ -93,16 +92,16 @@ counted steps m w = (with_rest (m (w, steps)).0 (m (w, steps)).1.1, (m (w, steps
 unfoldable pub evaluated : {S : Type 0} → Accesses S → List Seg → List Value → ℕ → Change (State S) (Value × ℕ)
 evaluated accesses p arguments steps = counted steps (called accesses p arguments)
 
--- the value that is handed out, in the same steps; arguments are taken once they are as many as are wanted
-unfoldable pub handed_out : {S : Type 0} → Accesses S → List Seg → ℕ → List Given → Run S Given
-handed_out accesses p count arguments = do
+-- the value that is handed out, in the same steps; arguments are imported once they are as many as are wanted
+unfoldable pub answer_exported : {S : Type 0} → Accesses S → List Seg → ℕ → List Given → Run S Given
+answer_exported accesses p count arguments = do
   i ← lift (invocation_found [] (absolute p) count)
-  vs ← lift (all_taken arguments [])
+  vs ← lift (all_imported arguments [])
   v ← value_of accesses i vs
-  outward accesses v
+  exported accesses v
 
 unfoldable pub answered : {S : Type 0} → Accesses S → List Seg → List Given → ℕ → Change (State S) Given
-answered accesses p arguments steps = ending (with_steps steps (handed_out accesses p (length arguments) arguments))
+answered accesses p arguments steps = ending (with_steps steps (answer_exported accesses p (length arguments) arguments))
 
 -- ---- however the evaluation ended
 

@@ -48,7 +48,7 @@ module _ {S : Type 0} (ev : Task → Run S Flow) where
     p ← settle (resolved n scope)
     flags ← settle (number_of (operand_of t 1))
     body ← settle (bytes_of (operand_of t 2))
-    number ← lift (new_method (module_level depth) p (flags % 8) body)
+    number ← lift (new_method (module_level depth) p (record { byte = flags % 256 }) body)
     give flow.Next
 
   -- ---- scopes: the list stands in the scope
@@ -60,13 +60,13 @@ module _ {S : Type 0} (ev : Task → Run S Flow) where
     ts ← settle (list_of (operand_of t 1))
     in_turn ev p depth ts
 
-  -- a new name, and then the list, the operand at a place
+  -- a new name, and then the list, the operand at a position
   unfoldable pub new_scope : NamedObject → ℕ → List Seg → ℕ → Tree → Run S Flow
-  new_scope o place scope depth t = do
+  new_scope o position scope depth t = do
     n ← settle (name_of (operand_of t 0))
     p ← settle (resolved n scope)
     number ← lift (new_name (module_level depth) p o)
-    ts ← settle (list_of (operand_of t place))
+    ts ← settle (list_of (operand_of t position))
     in_turn ev p depth ts
 
   abbrev pub declaration_rule : DeclarationKind → List Seg → ℕ → Tree → Run S Flow

@@ -1,5 +1,5 @@
 -- Declarations in the world (ACPI 6.5, 5.3 and 19.6).
-use Rattle.std.specs.Prelude.{ℕ, ◌+◌, ◌-◌, List, [], ◌∷◌, ◌++◌, length, replicate, Bool, true, false, Option, Some, None, Ok, Err, ◌&&◌, if◌then◌else◌}
+use Rattle.std.specs.Prelude.{ℕ, List, Bool, Option, Some, None, Ok, Err, if◌then◌else◌}
 use Rattle.std.specs.FinMap.{get}
 use Rattle.ar_space.specs.declared.refusal.Refusal.TheVariants as refusal
 use Rattle.ar_space.specs.declared.refusal.NamespaceFault.TheVariants.{NotFound}
@@ -9,6 +9,7 @@ use Rattle.aml_path.specs.declared.segment.Seg.{Seg}
 use Rattle.aml_objects.specs.declared.entry.Entry.{Entry}
 use Rattle.aml_objects.specs.declared.entry.NamedObject.{NamedObject}
 use Rattle.aml_objects.specs.declared.entry.NamedObject.TheVariants as object
+use Rattle.aml_objects.specs.declared.entry.MethodFlags.{MethodFlags}
 use Rattle.aml_objects.specs.declared.entry.MethodBody.TheVariants.{Aml}
 use Rattle.aml_namespace.specs.Namespace.{above, declared}
 use Rattle.aml_meaning.specs.State.{State, on_names}
@@ -31,15 +32,6 @@ new_name module_level p o = do
   free ← not_in_method module_level p
   on_names (declared p o)
 
--- the AML in which the body of a control method stands, kept, and its number
-unfoldable pub kept : {S : Type 0} → List ℕ → Change (State S) ℕ
-kept bytes w = (Ok (length w.tables), record w { tables = w.tables ++ bytes ∷ [] })
-
-abbrev pub method_in : ℕ → ℕ → ℕ → NamedObject
-method_in arguments table size = object.Method (record { arguments = arguments; body = Aml (record { table = table; offset = 0; length = size }) })
-
--- a new control method
-unfoldable pub new_method : {S : Type 0} → Bool → List Seg → ℕ → List ℕ → Change (State S) ℕ
-new_method module_level p arguments bytes = do
-  table ← kept bytes
-  new_name module_level p (method_in arguments table (length bytes))
+-- a new control method: its flags, and the bytes of its body
+unfoldable pub new_method : {S : Type 0} → Bool → List Seg → MethodFlags → List ℕ → Change (State S) ℕ
+new_method module_level p flags body = new_name module_level p (object.Method (record { flags = flags; body = Aml body }))

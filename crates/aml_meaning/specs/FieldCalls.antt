@@ -7,17 +7,16 @@ use Rattle.ar_space.specs.Change.{give, stop, settle, ◌>>=◌}
 use Rattle.aml_path.specs.declared.segment.Seg.{Seg}
 use Rattle.aml_objects.specs.declared.value.Value.{Value}
 use Rattle.aml_objects.specs.declared.entry.FieldUnit.{FieldUnit}
-use Rattle.aml_objects.specs.declared.entry.BodyPlace.{BodyPlace}
 use Rattle.aml_meaning.specs.declared.flow.Flow.{Flow}
 use Rattle.aml_meaning.specs.declared.invocation.Invocation.{Invocation}
 use Rattle.aml_meaning.specs.declared.invocation.Invocation.TheVariants as invocation
 use Rattle.aml_meaning.specs.declared.object_type.Referent.{Referent}
 use Rattle.aml_meaning.specs.declared.object_type.Referent.TheVariants as referent
-use Rattle.aml_meaning.specs.declared.place.Place.{Place}
-use Rattle.aml_meaning.specs.declared.place.Held.{Held}
-use Rattle.aml_meaning.specs.declared.place.Held.TheVariants as held
-use Rattle.aml_meaning.specs.declared.place.Stored.{Stored}
-use Rattle.aml_meaning.specs.declared.place.Stored.TheVariants as store
+use Rattle.aml_meaning.specs.declared.store_target.StoreTarget.{StoreTarget}
+use Rattle.aml_meaning.specs.declared.store_target.Held.{Held}
+use Rattle.aml_meaning.specs.declared.store_target.Held.TheVariants as held
+use Rattle.aml_meaning.specs.declared.store_target.Stored.{Stored}
+use Rattle.aml_meaning.specs.declared.store_target.Stored.TheVariants as store
 use Rattle.aml_meaning.specs.State.{State}
 use Rattle.aml_meaning.specs.Run.{Run, lift}
 use Rattle.aml_meaning.specs.Readings.{absolute, integer_in}
@@ -34,7 +33,7 @@ asked answer p = do
   answer i
 
 module _ {S : Type 0} (accesses : Accesses S) (ev : Task → Run S Flow) where
-  unfoldable pub method_integer : ℕ → List Seg → BodyPlace → Run S ℕ
+  unfoldable pub method_integer : ℕ → List Seg → List ℕ → Run S ℕ
   method_integer depth p body = do
     v ← method_value ev depth p body []
     settle (integer_only v)
@@ -61,7 +60,7 @@ module _ {S : Type 0} (accesses : Accesses S) (ev : Task → Run S Flow) where
   abbrev pub field_written : ℕ → FieldUnit → Value → Run S (Unit {0})
   field_written depth u v = field_stored accesses (called_at depth) u v
 
-  -- what a place holds, as an integer
+  -- what a target holds, as an integer
   abbrev pub held_integer : ℕ → Held → Run S ℕ
   held_integer depth (held.Value v) = lift (integer_in v)
   held_integer depth (held.FieldUnit u) = field_integer accesses (called_at depth) u
@@ -78,12 +77,12 @@ module _ {S : Type 0} (accesses : Accesses S) (ev : Task → Run S Flow) where
   completed depth store.Done v = give tt
   completed depth (store.FieldUnit u) v = field_written depth u v
 
-  unfoldable pub stored_to : ℕ → Place → Value → Run S (Unit {0})
+  unfoldable pub stored_to : ℕ → StoreTarget → Value → Run S (Unit {0})
   stored_to depth p v = do
     s ← lift (stored p v)
     completed depth s v
 
-  -- a store to a place whose value was read before; a field unit that was read is the one that is written
-  abbrev pub stored_back : ℕ → Held → Place → Value → Run S (Unit {0})
+  -- a store to a target whose value was read before; a field unit that was read is the one that is written
+  abbrev pub stored_back : ℕ → Held → StoreTarget → Value → Run S (Unit {0})
   stored_back depth (held.Value old) p v = stored_to depth p v
   stored_back depth (held.FieldUnit u) p v = field_written depth u v

@@ -6,7 +6,6 @@ use Rattle.aml_path.specs.declared.segment.Seg.{Seg}
 use Rattle.aml_grammar.specs.Tree.{Tree, Trees, no_trees, tree}
 use Rattle.aml_grammar.specs.Apart.{operand_of, name_of}
 use Rattle.aml_objects.specs.declared.value.Value.{Value}
-use Rattle.aml_objects.specs.declared.entry.BodyPlace.{BodyPlace}
 use Rattle.aml_objects.specs.declared.entry.FieldUnit.{FieldUnit}
 use Rattle.aml_meaning.specs.declared.flow.Flow.{Flow}
 use Rattle.aml_meaning.specs.declared.flow.Flow.TheVariants as flow
@@ -28,7 +27,7 @@ module _ {S : Type 0} (ev : Task → Run S Flow) where
     v ← operand_value ev scope depth t
     arguments_in_turn scope depth ts (done ++ v ∷ [])
 
-  unfoldable pub call_rule : List Seg → ℕ → Trees → List Seg → BodyPlace → Run S Flow
+  unfoldable pub call_rule : List Seg → ℕ → Trees → List Seg → List ℕ → Run S Flow
   call_rule scope depth ts p body = do
     arguments ← arguments_in_turn scope depth ts []
     invoked ev depth p body arguments

@@ -1,5 +1,5 @@
 -- What names are where values stand, and calls of control methods (ACPI 6.5, 5.5.2 and 20.2.5: MethodInvocation).
-use Rattle.std.specs.Prelude.{ℕ, ◌+◌, List, [], ◌∷◌, ◌++◌, take, drop, length, map, true, false, Option, Some, None, Ok, Err, slice_get, slice_index_or, nat_lt, if◌then◌else◌}
+use Rattle.std.specs.Prelude.{ℕ, ◌+◌, List, [], ◌∷◌, ◌++◌, length, map, true, false, Option, Some, None, Ok, Err, slice_index_or, nat_lt, if◌then◌else◌}
 use Rattle.std.specs.List.{filter}
 use Rattle.std.specs.FinMap.{get, entries}
 use Rattle.ar_space.specs.declared.refusal.Refusal.TheVariants as refusal
@@ -20,7 +20,7 @@ use Rattle.aml_objects.specs.declared.entry.NamedObject.{NamedObject}
 use Rattle.aml_objects.specs.declared.entry.NamedObject.TheVariants as object
 use Rattle.aml_objects.specs.declared.entry.MethodBody.{MethodBody}
 use Rattle.aml_objects.specs.declared.entry.MethodBody.TheVariants.{Osi, Aml}
-use Rattle.aml_objects.specs.declared.entry.BodyPlace.{BodyPlace}
+use Rattle.aml_objects.specs.Methods.{arguments_taken}
 use Rattle.aml_namespace.specs.Namespace.{Map, without_below}
 use Rattle.aml_namespace.specs.Search.{found}
 use Rattle.aml_meaning.specs.declared.flow.Flow.{Flow}
@@ -30,7 +30,7 @@ use Rattle.aml_meaning.specs.declared.invocation.Invocation.TheVariants as invoc
 use Rattle.aml_meaning.specs.State.{State}
 use Rattle.aml_meaning.specs.Run.{Run, lift}
 use Rattle.aml_meaning.specs.Slots.{opened, closed}
-use Rattle.aml_meaning.specs.Readings.{arguments_found, as_many, read_as}
+use Rattle.aml_meaning.specs.Readings.{arguments_of, arguments_found, as_many, read_as}
 use Rattle.aml_meaning.specs.Tasks.{Task, in_turn}
 
 -- ---- what a name is where a value stands
@@ -72,17 +72,13 @@ invocation_found scope n count = do
 -- ---- the body of a control method, which is read at each call
 
 -- how many arguments what stands at a path takes; an alias takes those of its target
-abbrev pub count_of_object : NamedObject → ℕ
-count_of_object (object.Method m) = m.arguments
-count_of_object _ = 0
-
 abbrev pub count_of_entry : Option Entry → ℕ
 count_of_entry None = 0
-count_of_entry (Some e) = count_of_object e.object
+count_of_entry (Some e) = arguments_of e.object
 
 abbrev pub count_through : Map → NamedObject → ℕ
 count_through names (object.Alias p) = count_of_entry (get names p)
-count_through names (object.Method m) = m.arguments
+count_through names (object.Method m) = arguments_taken m.flags
 count_through names _ = 0
 
 abbrev pub arity_of_entry : Map → List Seg × Entry → Arity
@@ -92,12 +88,8 @@ arity_of_entry names e = record { path = e.0; count = count_through names e.1.ob
 abbrev pub body_arities : {S : Type 0} → State S → List Arity
 body_arities w = map (arity_of_entry w.names.map) (entries w.names.map) ++ filter (λ a. a.external) w.arities
 
-abbrev pub body_in : BodyPlace → Option (List ℕ) → List ℕ
-body_in body None = []
-body_in body (Some bytes) = take body.length (drop body.offset bytes)
-
-unfoldable pub body_terms : {S : Type 0} → List Seg → BodyPlace → Change (State S) Trees
-body_terms p body w = (seen trees_of (reading (body_in body (slice_get w.tables body.table)) p true (body_arities w)), w)
+unfoldable pub body_terms : {S : Type 0} → List Seg → List ℕ → Change (State S) Trees
+body_terms p body w = (seen trees_of (reading body p true (body_arities w)), w)
 
 -- ---- calls
 
@@ -134,7 +126,7 @@ value_of_call flow.Continue = value.Uninitialized
 value_of_call (flow.Return v) = value.Uninitialized
 
 module _ {S : Type 0} (ev : Task → Run S Flow) where
-  unfoldable pub invoked : ℕ → List Seg → BodyPlace → List Value → Run S Flow
+  unfoldable pub invoked : ℕ → List Seg → List ℕ → List Value → Run S Flow
   invoked depth p body arguments = do
     few ← settle (shallow depth)
     ts ← lift (body_terms p body)
@@ -142,7 +134,7 @@ module _ {S : Type 0} (ev : Task → Run S Flow) where
     leaving p (in_turn ev p (depth + 1) ts)
 
   -- the value of a call; one that gives none is uninitialized
-  unfoldable pub method_value : ℕ → List Seg → BodyPlace → List Value → Run S Value
+  unfoldable pub method_value : ℕ → List Seg → List ℕ → List Value → Run S Value
   method_value depth p body arguments = do
     f ← invoked depth p body arguments
     give (value_of_call f)

@@ -12,8 +12,8 @@ use Rattle.aml_objects.specs.declared.entry.Entry.{Entry}
 use Rattle.aml_objects.specs.declared.entry.NamedObject.{NamedObject}
 use Rattle.aml_objects.specs.declared.entry.NamedObject.TheVariants as object
 use Rattle.aml_namespace.specs.Namespace.{replaced}
-use Rattle.aml_meaning.specs.declared.place.Place.{Place}
-use Rattle.aml_meaning.specs.declared.place.Place.TheVariants as place
+use Rattle.aml_meaning.specs.declared.store_target.StoreTarget.{StoreTarget}
+use Rattle.aml_meaning.specs.declared.store_target.StoreTarget.TheVariants as targets
 use Rattle.aml_meaning.specs.State.{State, on_names}
 
 -- how often a mutex is acquired
@@ -47,12 +47,12 @@ given_back p = do
   on_names (replaced p (object.Mutex m))
 
 -- a mutex is given by its own name
-abbrev pub acquired_at : {S : Type 0} → Place → Change (State S) (Unit {0})
-acquired_at place.Nowhere = stop (refusal.Value WrongType)
-acquired_at (place.Slot slot) = stop (refusal.Value WrongType)
-acquired_at (place.Name p) = acquired p
+abbrev pub acquired_at : {S : Type 0} → StoreTarget → Change (State S) (Unit {0})
+acquired_at targets.Nowhere = stop (refusal.Value WrongType)
+acquired_at (targets.Slot slot) = stop (refusal.Value WrongType)
+acquired_at (targets.Name p) = acquired p
 
-abbrev pub given_back_at : {S : Type 0} → Place → Change (State S) (Unit {0})
-given_back_at place.Nowhere = stop (refusal.Value WrongType)
-given_back_at (place.Slot slot) = stop (refusal.Value WrongType)
-given_back_at (place.Name p) = given_back p
+abbrev pub given_back_at : {S : Type 0} → StoreTarget → Change (State S) (Unit {0})
+given_back_at targets.Nowhere = stop (refusal.Value WrongType)
+given_back_at (targets.Slot slot) = stop (refusal.Value WrongType)
+given_back_at (targets.Name p) = given_back p

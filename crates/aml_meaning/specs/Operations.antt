@@ -135,7 +135,7 @@ to_buffer_in (value.String o) = new_buffer_of (value.String o)
 to_buffer_in (value.Package o) = new_buffer_of (value.Package o)
 to_buffer_in (value.Reference r) = new_buffer_of (value.Reference r)
 
--- ---- SizeOf and ObjectType, of what stands at a place when references are followed
+-- ---- SizeOf and ObjectType, of what a target holds when references are followed
 
 -- bytes of a string or a buffer, elements of a package
 abbrev pub size_of_object : Option Object → Outcome ℕ

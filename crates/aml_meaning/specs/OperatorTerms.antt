@@ -9,7 +9,7 @@ use Rattle.aml_objects.specs.declared.value.Value.{Value}
 use Rattle.aml_objects.specs.declared.value.Value.TheVariants as value
 use Rattle.aml_meaning.specs.declared.flow.Flow.{Flow}
 use Rattle.aml_meaning.specs.declared.flow.Flow.TheVariants as flow
-use Rattle.aml_meaning.specs.declared.place.Place.{Place}
+use Rattle.aml_meaning.specs.declared.store_target.StoreTarget.{StoreTarget}
 use Rattle.aml_objects.specs.declared.value.Slot.{Slot}
 use Rattle.aml_meaning.specs.declared.term_kind.OperatorKind.{OperatorKind}
 use Rattle.aml_meaning.specs.declared.term_kind.OperatorKind.TheVariants as kinds
@@ -23,12 +23,12 @@ use Rattle.aml_meaning.specs.declared.term_kind.Count.{Count}
 use Rattle.aml_meaning.specs.declared.term_kind.Count.TheVariants as count
 use Rattle.aml_meaning.specs.State.{State}
 use Rattle.aml_meaning.specs.Run.{Run, lift}
-use Rattle.aml_meaning.specs.Places.{slot_read, place_read, place_referent}
+use Rattle.aml_meaning.specs.StoreTargets.{slot_read, target_read, target_referent}
 use Rattle.aml_meaning.specs.Stores.{copied_to}
 use Rattle.aml_meaning.specs.Mutexes.{acquired_at}
 use Rattle.aml_meaning.specs.Operations.{operated, divided_in, operated_on_one, operated_logically, turned, next_integer, integer_before, compared_in, joined, joined_resources, to_integer_in, to_buffer_in, size_in, type_of_referent, type_number}
 use Rattle.aml_meaning.specs.Tasks.{Task, value_at, two_values}
-use Rattle.aml_meaning.specs.PlaceTerms.{place_at, targeted}
+use Rattle.aml_meaning.specs.TargetTerms.{target_at, targeted}
 use Rattle.aml_meaning.specs.FieldCalls.{completed, held_integer, referent_read, stored_back}
 
 -- ---- what operators give of values
@@ -66,7 +66,7 @@ module _ {S : Type 0} (accesses : Accesses S) (ev : Task → Run S Flow) where
   unfoldable pub copy_rule : List Seg → ℕ → Tree → Run S Flow
   copy_rule scope depth t = do
     v ← value_at ev scope depth t 0
-    p ← place_at ev scope depth t 1
+    p ← target_at ev scope depth t 1
     s ← lift (copied_to p v)
     done ← completed accesses ev depth s v
     give (flow.Value v)
@@ -103,11 +103,11 @@ module _ {S : Type 0} (accesses : Accesses S) (ev : Task → Run S Flow) where
     r ← lift (turned v)
     give (flow.Value r)
 
-  -- the place is found once, read and stored to
+  -- the target is found once, read and stored to
   unfoldable pub count_rule : Count → List Seg → ℕ → Tree → Run S Flow
   count_rule k scope depth t = do
-    p ← place_at ev scope depth t 0
-    h ← lift (place_read p)
+    p ← target_at ev scope depth t 0
+    h ← lift (target_read p)
     n ← held_integer accesses ev depth h
     r ← lift (counted_by k n)
     done ← stored_back accesses ev depth h p r
@@ -115,23 +115,23 @@ module _ {S : Type 0} (accesses : Accesses S) (ev : Task → Run S Flow) where
 
   unfoldable pub size_rule : List Seg → ℕ → Tree → Run S Flow
   size_rule scope depth t = do
-    p ← place_at ev scope depth t 0
-    r ← lift (place_referent p)
+    p ← target_at ev scope depth t 0
+    r ← lift (target_referent p)
     s ← referent_read accesses ev depth r
     v ← lift (size_in s)
     give (flow.Value v)
 
   unfoldable pub type_rule : List Seg → ℕ → Tree → Run S Flow
   type_rule scope depth t = do
-    p ← place_at ev scope depth t 0
-    r ← lift (place_referent p)
+    p ← target_at ev scope depth t 0
+    r ← lift (target_referent p)
     s ← referent_read accesses ev depth r
     give (flow.Value (value.Integer (type_number (type_of_referent s))))
 
   -- a mutex is always free for who asks: Acquire gives False
   unfoldable pub acquire_rule : List Seg → ℕ → Tree → Run S Flow
   acquire_rule scope depth t = do
-    p ← place_at ev scope depth t 0
+    p ← target_at ev scope depth t 0
     done ← lift (acquired_at p)
     give (flow.Value (value.Integer 0))
 

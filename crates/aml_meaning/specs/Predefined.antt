@@ -14,7 +14,7 @@ use Rattle.aml_meaning.specs.State.{State, on_objects, on_names}
 
 -- the world before anything is declared
 abbrev pub fresh : {S : Type 0} → IntegerWidth → List (List ℕ) → S → State S
-fresh width osi space = record { names = root_alone; arities = []; objects = []; frames = []; started = 0; tables = []; space = space; osi = osi; width = width }
+fresh width osi space = record { names = root_alone; arities = []; objects = []; frames = []; started = 0; space = space; osi = osi; width = width }
 
 -- how many arguments a path takes, from now on
 unfoldable pub takes : {S : Type 0} → List Seg → ℕ → Change (State S) (Unit {0})
@@ -43,7 +43,7 @@ predefined_objects = do
   text ← on_objects (make_string (codes "Microsoft Windows NT"))
   at_root (codes "_OS_") (object.Data text) 0
   at_root (codes "_REV") (object.Data (value.Integer 2)) 0
-  at_root (codes "_OSI") (object.Method (record { arguments = 1; body = Osi })) 1
+  at_root (codes "_OSI") (object.Method (record { flags = record { byte = 1 }; body = Osi })) 1
 
 unfoldable pub predefined : {S : Type 0} → Change (State S) (Unit {0})
 predefined = do

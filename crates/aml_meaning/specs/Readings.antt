@@ -13,6 +13,7 @@ use Rattle.aml_objects.specs.declared.value.Value.{Value}
 use Rattle.aml_objects.specs.declared.value.Value.TheVariants as value
 use Rattle.aml_objects.specs.declared.value.Reference.TheVariants as reference
 use Rattle.aml_objects.specs.declared.entry.Entry.{Entry}
+use Rattle.aml_objects.specs.Methods.{arguments_taken}
 use Rattle.aml_objects.specs.declared.entry.NamedObject.{NamedObject}
 use Rattle.aml_objects.specs.declared.entry.NamedObject.TheVariants as object
 use Rattle.aml_convert.specs.Conversions.{to_integer_of}
@@ -84,7 +85,7 @@ scope_found scope n = do
 
 -- how many arguments it takes to evaluate an object
 abbrev pub arguments_of : NamedObject → ℕ
-arguments_of (object.Method m) = m.arguments
+arguments_of (object.Method m) = arguments_taken m.flags
 arguments_of _ = 0
 
 -- it must be so many

@@ -29,7 +29,7 @@ use Rattle.aml_meaning.specs.declared.regions.RegionSpace.TheVariants as spaces
 use Rattle.aml_meaning.specs.declared.regions.RegionField.{RegionField}
 use Rattle.aml_meaning.specs.Given as given
 use Rattle.aml_meaning.specs.State.{State, on_objects}
-use Rattle.aml_meaning.specs.Places.{declaration}
+use Rattle.aml_meaning.specs.StoreTargets.{declaration}
 
 -- the address space with a number
 abbrev pub space_numbered : ℕ → RegionSpace

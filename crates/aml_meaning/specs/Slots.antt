@@ -21,9 +21,9 @@ abbrev pub with_slot : Frame → Slot → Value → Frame
 with_slot f (Local i) v = record f { locals = slice_set f.locals i v }
 with_slot f (Argument i) v = record f { arguments = slice_set f.arguments i v }
 
--- the frame with a number, while it stands: its place among the frames
-abbrev pub frame_place : ℕ → List Frame → Option ℕ
-frame_place n frames = position (λ f. f.number == n) frames
+-- the frame with a number, while it stands: its index among the frames
+abbrev pub frame_index : ℕ → List Frame → Option ℕ
+frame_index n frames = position (λ f. f.number == n) frames
 
 abbrev pub slot_found : Slot → Option Frame → Outcome Value
 slot_found slot None = Err (refusal.Evaluation DeadReference)
@@ -35,7 +35,7 @@ slot_at slot frames (Some k) = slot_found slot (slice_get frames k)
 
 -- what a slot of the frame with a number holds; a frame that ended is a dead reference
 unfoldable pub slot_of : {S : Type 0} → ℕ → Slot → Change (State S) Value
-slot_of n slot w = (slot_at slot w.frames (frame_place n w.frames), w)
+slot_of n slot w = (slot_at slot w.frames (frame_index n w.frames), w)
 
 -- a new frame, whose locals are uninitialized
 unfoldable pub opened : {S : Type 0} → List Value → Change (State S) ℕ

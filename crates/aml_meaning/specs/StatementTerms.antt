@@ -16,7 +16,7 @@ use Rattle.aml_meaning.specs.Run.{Run, lift}
 use Rattle.aml_meaning.specs.Terms.{inner_of, list_of, else_of}
 use Rattle.aml_meaning.specs.Mutexes.{given_back_at}
 use Rattle.aml_meaning.specs.Tasks.{Task, task, operand_integer, value_at, in_turn}
-use Rattle.aml_meaning.specs.PlaceTerms.{place_at}
+use Rattle.aml_meaning.specs.TargetTerms.{target_at}
 
 -- how a loop ends with a turn, where it does
 abbrev pub loop_end : Flow → Option Flow
@@ -93,14 +93,14 @@ module _ {S : Type 0} (ev : Task → Run S Flow) where
 
   unfoldable pub release_rule : List Seg → ℕ → Tree → Run S Flow
   release_rule scope depth t = do
-    p ← place_at ev scope depth t 0
+    p ← target_at ev scope depth t 0
     done ← lift (given_back_at p)
     give flow.Next
 
   -- nobody is told: its operands are evaluated, and nothing else
   unfoldable pub notify_rule : List Seg → ℕ → Tree → Run S Flow
   notify_rule scope depth t = do
-    p ← place_at ev scope depth t 0
+    p ← target_at ev scope depth t 0
     v ← value_at ev scope depth t 1
     give flow.Next
 

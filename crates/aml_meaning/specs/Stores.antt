@@ -20,16 +20,16 @@ use Rattle.aml_objects.specs.declared.entry.NamedObject.TheVariants as object
 use Rattle.aml_convert.specs.Conversions.{to_text_of, to_buffer_of}
 use Rattle.aml_namespace.specs.Namespace.{replaced}
 use Rattle.aml_meaning.specs.declared.frame.Frame.{Frame}
-use Rattle.aml_meaning.specs.declared.place.Place.{Place}
-use Rattle.aml_meaning.specs.declared.place.Place.TheVariants as place
-use Rattle.aml_meaning.specs.declared.place.Holding.{Holding}
-use Rattle.aml_meaning.specs.declared.place.Holding.TheVariants as holding
-use Rattle.aml_meaning.specs.declared.place.Stored.{Stored}
-use Rattle.aml_meaning.specs.declared.place.Stored.TheVariants as store
+use Rattle.aml_meaning.specs.declared.store_target.StoreTarget.{StoreTarget}
+use Rattle.aml_meaning.specs.declared.store_target.StoreTarget.TheVariants as targets
+use Rattle.aml_meaning.specs.declared.store_target.Holding.{Holding}
+use Rattle.aml_meaning.specs.declared.store_target.Holding.TheVariants as holding
+use Rattle.aml_meaning.specs.declared.store_target.Stored.{Stored}
+use Rattle.aml_meaning.specs.declared.store_target.Stored.TheVariants as store
 use Rattle.aml_meaning.specs.State.{State, on_objects, on_names}
 use Rattle.aml_meaning.specs.Slots.{with_slot}
 use Rattle.aml_meaning.specs.Readings.{integer_in}
-use Rattle.aml_meaning.specs.Places.{held_at, latest_frame, frame_found, slot_held, declaration, holding_of, most_references}
+use Rattle.aml_meaning.specs.StoreTargets.{held_at, latest_frame, frame_found, slot_held, declaration, holding_of, most_references}
 
 -- ---- copies, without conversion, packages deeply
 
@@ -37,7 +37,7 @@ abbrev pub with_frame : Option Frame → ℕ → Slot → Value → List Frame �
 with_frame None k slot v frames = frames
 with_frame (Some f) k slot v frames = slice_set frames k (with_slot f slot v)
 
--- a slot of the frame at a place
+-- a slot of the frame at an index
 unfoldable pub slot_put : {S : Type 0} → ℕ → Slot → Value → Change (State S) (Unit {0})
 slot_put k slot v w = (Ok tt, record w { frames = with_frame (slice_get w.frames k) k slot v w.frames })
 
@@ -177,7 +177,7 @@ unfoldable pub stored_through : {S : Type 0} → ℕ → Reference → Value →
 stored_through zero r v = stop (refusal.Evaluation DeadReference)
 stored_through (suc n) r v = store_at_reference (stored_through n) r v
 
--- ---- stores to places
+-- ---- stores to targets
 
 unfoldable pub store_in_slot : {S : Type 0} → Slot → Value → Change (State S) Stored
 store_in_slot slot v = do
@@ -190,10 +190,10 @@ store_in_name p v = do
   store_over h p v
 
 -- Store: with conversion to what a name holds
-abbrev pub stored : {S : Type 0} → Place → Value → Change (State S) Stored
-stored place.Nowhere v = give store.Done
-stored (place.Slot slot) v = store_in_slot slot v
-stored (place.Name p) v = store_in_name p v
+abbrev pub stored : {S : Type 0} → StoreTarget → Value → Change (State S) Stored
+stored targets.Nowhere v = give store.Done
+stored (targets.Slot slot) v = store_in_slot slot v
+stored (targets.Name p) v = store_in_name p v
 
 -- CopyObject: a name that holds a value takes a copy
 unfoldable pub copy_in_name : {S : Type 0} → List Seg → Value → Change (State S) Stored
@@ -201,7 +201,7 @@ copy_in_name p v = do
   h ← held_at p
   copy_over h p v
 
-abbrev pub copied_to : {S : Type 0} → Place → Value → Change (State S) Stored
-copied_to place.Nowhere v = give store.Done
-copied_to (place.Slot slot) v = store_in_slot slot v
-copied_to (place.Name p) v = copy_in_name p v
+abbrev pub copied_to : {S : Type 0} → StoreTarget → Value → Change (State S) Stored
+copied_to targets.Nowhere v = give store.Done
+copied_to (targets.Slot slot) v = store_in_slot slot v
+copied_to (targets.Name p) v = copy_in_name p v

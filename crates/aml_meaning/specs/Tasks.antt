@@ -41,7 +41,7 @@ module _ {S : Type 0} (ev : Task → Run S Flow) where
     f ← ev (task scope depth t)
     settle (value_in f)
 
-  -- the value of the operand at a place, and of the first two
+  -- the value of the operand at a position, and of the first two
   unfoldable pub value_at : List Seg → ℕ → Tree → ℕ → Run S Value
   value_at scope depth t i = do
     x ← settle (inner_of (operand_of t i))

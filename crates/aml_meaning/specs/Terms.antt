@@ -15,8 +15,8 @@ use Rattle.aml_convert.specs.declared.operators.BinaryOperator.TheVariants as in
 use Rattle.aml_convert.specs.declared.operators.UnaryOperator.TheVariants as unary
 use Rattle.aml_convert.specs.declared.logic.LogicalOperator.TheVariants as logical
 use Rattle.aml_convert.specs.declared.logic.Comparison.TheVariants as comparisons
-use Rattle.aml_meaning.specs.declared.place.Place.{Place}
-use Rattle.aml_meaning.specs.declared.place.Place.TheVariants as places
+use Rattle.aml_meaning.specs.declared.store_target.StoreTarget.{StoreTarget}
+use Rattle.aml_meaning.specs.declared.store_target.StoreTarget.TheVariants as targets
 use Rattle.aml_meaning.specs.declared.term_kind.TermKind.{TermKind}
 use Rattle.aml_meaning.specs.declared.term_kind.TermKind.TheVariants as kinds
 use Rattle.aml_meaning.specs.declared.term_kind.DataKind.{DataKind}
@@ -207,20 +207,20 @@ data_or op None = declaration_or op (declaration_kind op)
 abbrev pub kind_of : Opcode → TermKind
 kind_of op = data_or op (data_kind op)
 
--- the place that a local, an argument or Debug is
-abbrev pub slot_place : Option Slot → Option Place
-slot_place None = None
-slot_place (Some slot) = Some (places.Slot slot)
+-- the target that a local, an argument or Debug is
+abbrev pub slot_target : Option Slot → Option StoreTarget
+slot_target None = None
+slot_target (Some slot) = Some (targets.Slot slot)
 
-abbrev pub place_of_opcode : Opcode → Option Place
-place_of_opcode opcodes.Debug = Some places.Nowhere
-place_of_opcode op = slot_place (slot_kind op)
+abbrev pub target_of_opcode : Opcode → Option StoreTarget
+target_of_opcode opcodes.Debug = Some targets.Nowhere
+target_of_opcode op = slot_target (slot_kind op)
 
-abbrev pub place_of_code : TermCode → Option Place
-place_of_code (codes.Opcode op) = place_of_opcode op
-place_of_code _ = None
+abbrev pub target_of_code : TermCode → Option StoreTarget
+target_of_code (codes.Opcode op) = target_of_opcode op
+target_of_code _ = None
 
--- an operand that is a number, a term, or a list of terms; the grammar leaves no other where one of them is taken
+-- an operand that is a number, a term, or a list of terms; the grammar leaves no other where one of them is imported
 abbrev pub number_of : Option Part → Outcome ℕ
 number_of (Some (number n)) = Ok n
 number_of _ = Err (refusal.Name BadName)

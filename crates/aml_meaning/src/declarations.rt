@@ -1,13 +1,13 @@
 //! Declarations in the world's namespace (ACPI 6.5, 5.3 and 19.6).
 ghost use Rattle.std.specs.Prelude.{◌≡◌};
 ghost use Rattle.ar_space.specs.Change.{Does};
-ghost use Rattle.ar_space.specs.Outcome.{Answers};
+ghost use Rattle.ar_space.specs.Outcome.{Answers, NotMemory};
 ghost use Rattle.aml_namespace.specs.Namespace.{declared, without_below};
 ghost use Rattle.aml_meaning.specs.State.{on_names};
-ghost use Rattle.aml_meaning.specs.Declaring.{not_in_method, no_method, new_name, kept, new_method, method_in};
+ghost use Rattle.aml_meaning.specs.Declaring.{not_in_method, no_method, new_name, new_method};
 
 use crate::world::World;
-use aml_objects::{BodyPlace, Method, MethodBody, NamedObject, Octets};
+use aml_objects::{Body, Method, MethodBody, MethodFlags, NamedObject, Octets};
 use aml_path::Path;
 use ar_space::{NamespaceFault, Refusal};
 use std::alloc::Global;
@@ -17,7 +17,7 @@ impl<S> World<S> {
     ///
     /// A name whose parent doesn't stand is refused as `NotFound`, one that stands already as `Exists`, and one for which no
     /// number is left as `ObjectLimit`. Where a name is refused, nothing changes.
-    #[tactic(auto, using(crate::specs::Lifted::parts))]
+    #[tactic(auto, using(crate::proofs::Lifted::parts))]
     pub fn declare(&mut self, path: Path, object: NamedObject) -> Result<u64, Refusal>
         ensures world { Does result self.new (on_names (declared path object)) self.old }
         ensures space { self.new.space ≡ self.old.space }
@@ -40,37 +40,26 @@ impl<S> World<S> {
         self.declare(path, object)
     }
 
-    /// Declares a control method with its count of arguments and its body, which the world keeps; refused as `new_name`
-    /// refuses it.
-    #[tactic(auto, using(ar_space::specs::Change::changing), unfolding(crate::specs::Declaring::new_method))]
+    /// Declares a control method with its flags and its body; refused as `new_name` refuses it, and then nothing changes.
+    #[tactic(auto, unfolding(crate::specs::Declaring::new_method))]
     pub fn new_method(
         &mut self,
         alloc: Global,
         module_level: bool,
         path: Path,
-        arguments: u8,
+        flags: MethodFlags,
         body: Octets,
     ) -> Result<u64, Refusal>
-        ensures { Does result self.new (new_method module_level path arguments body) self.old }
+        ensures { Does result self.new (new_method module_level path flags body) self.old }
     {
-        let length = body.as_slice().len();
-        let table = self.keep(body)?;
-        self.new_name(
-            alloc,
-            module_level,
-            path,
-            method_in(arguments, table, length),
-        )
-    }
-
-    /// Keeps the AML in which the body of a control method stands, and gives its number.
-    #[tactic(auto, unfolding(crate::specs::Declaring::kept))]
-    fn keep(&mut self, bytes: Octets) -> Result<usize, Refusal>
-        ensures { Does result self.new (kept bytes) self.old }
-    {
-        let number = self.tables.len();
-        self.tables.push(bytes)?;
-        Ok(number)
+        match Body::new(alloc, body) {
+            Ok(body) => {
+                let body = MethodBody::Aml(body);
+                let method = NamedObject::Method(Method { flags, body });
+                self.new_name(alloc, module_level, path, method)
+            }
+            Err(refusal) => Err(refusal),
+        }
     }
 
     #[tactic(auto, unfolding(crate::specs::Declaring::not_in_method))]
@@ -95,21 +84,9 @@ impl<S> World<S> {
     }
 }
 
-fn method_in(arguments: u8, table: usize, length: usize) -> NamedObject
-    ensures { result ≡ method_in arguments table length }
-{
-    NamedObject::Method(Method {
-        arguments,
-        body: MethodBody::Aml(BodyPlace {
-            table,
-            offset: 0,
-            length,
-        }),
-    })
-}
-
 fn no_method(object: &NamedObject) -> Result<(), Refusal>
-    ensures { Answers result (no_method object.now) }
+    ensures answer { Answers result (no_method object.now) }
+    ensures memory { NotMemory result }
 {
     match object {
         NamedObject::Method(_) => Err(Refusal::Namespace(NamespaceFault::NotFound)),

@@ -1,7 +1,7 @@
 //! Declarations of fields (ACPI 6.5, 19.6: Field, IndexField; 20.2.5.2: FieldFlags, FieldList).
 ghost use Rattle.std.specs.Prelude.{◌≡◌};
 ghost use Rattle.ar_space.specs.Change.{Does};
-ghost use Rattle.ar_space.specs.Outcome.{Answers};
+ghost use Rattle.ar_space.specs.Outcome.{Answers, NotMemory};
 ghost use Rattle.aml_meaning.specs.FieldTerms.{width_numbered, access_width, rule_numbered, update_rule, sized, further, new_field, region_number, region_found, in_region, field_number, field_found};
 
 use crate::world::World;
@@ -31,7 +31,8 @@ pub struct FieldLayout {
 impl FieldLayout {
     /// So many bits further on; an offset of 2^64 and more is refused as `FieldLimit`.
     pub fn further(self, count: u64) -> Result<FieldLayout, Refusal>
-        ensures { Answers result (further self count) }
+        ensures answer { Answers result (further self count) }
+        ensures memory { NotMemory result }
     {
         match self.bit_offset.checked_add(count) {
             Some(bit_offset) => Ok(FieldLayout {
@@ -70,7 +71,7 @@ pub fn access_width(flags: u64) -> Width
     }
 }
 
-/// The update rule of field flags: their bits 5 and 6. The number 3, which has no meaning, is taken as 0.
+/// The update rule of field flags: their bits 5 and 6. The number 3, which has no meaning, is imported as 0.
 pub fn update_rule(flags: u64) -> UpdateRule
     ensures { result ≡ update_rule flags }
 {
@@ -116,7 +117,8 @@ impl<S> World<S> {
     /// a name that isn't found as `Names::lookup` refuses it.
     #[tactic(auto, using(ar_space::specs::Change::changing), unfolding(crate::specs::FieldTerms::region_found))]
     pub fn region_found(&self, scope: &Path, name: &NameString) -> Result<u64, Refusal>
-        ensures { Does result self.now (region_found scope.now name.now) self.now }
+        ensures answer { Does result self.now (region_found scope.now name.now) self.now }
+        ensures memory { NotMemory result }
     {
         let entry = self.entry(scope, name)?;
         region_number(entry.number, &entry.object)
@@ -126,7 +128,8 @@ impl<S> World<S> {
     /// refused as `WrongType`, and a name that isn't found as `Names::lookup` refuses it.
     #[tactic(auto, using(ar_space::specs::Change::changing), unfolding(crate::specs::FieldTerms::field_found))]
     pub fn field_found(&self, scope: &Path, name: &NameString) -> Result<u64, Refusal>
-        ensures { Does result self.now (field_found scope.now name.now) self.now }
+        ensures answer { Does result self.now (field_found scope.now name.now) self.now }
+        ensures memory { NotMemory result }
     {
         let entry = self.entry(scope, name)?;
         field_number(entry.number, &entry.object)
@@ -135,7 +138,8 @@ impl<S> World<S> {
 
 /// How many bits a named field has.
 fn sized(count: u64) -> Result<u32, Refusal>
-    ensures { Answers result (sized count) }
+    ensures answer { Answers result (sized count) }
+    ensures memory { NotMemory result }
 {
     if count == 0 || MAX_BITS < count {
         Err(Refusal::Field(FieldFault::FieldLimit))
@@ -145,7 +149,8 @@ fn sized(count: u64) -> Result<u32, Refusal>
 }
 
 fn region_number(number: u64, object: &NamedObject) -> Result<u64, Refusal>
-    ensures { Answers result (region_number number object.now) }
+    ensures answer { Answers result (region_number number object.now) }
+    ensures memory { NotMemory result }
 {
     match object {
         NamedObject::OperationRegion(_) => Ok(number),
@@ -154,7 +159,8 @@ fn region_number(number: u64, object: &NamedObject) -> Result<u64, Refusal>
 }
 
 fn field_number(number: u64, object: &NamedObject) -> Result<u64, Refusal>
-    ensures { Answers result (field_number number object.now) }
+    ensures answer { Answers result (field_number number object.now) }
+    ensures memory { NotMemory result }
 {
     match object {
         NamedObject::FieldUnit(unit) => in_region(number, unit.source),
@@ -163,7 +169,8 @@ fn field_number(number: u64, object: &NamedObject) -> Result<u64, Refusal>
 }
 
 fn in_region(number: u64, source: FieldSource) -> Result<u64, Refusal>
-    ensures { Answers result (in_region number source) }
+    ensures answer { Answers result (in_region number source) }
+    ensures memory { NotMemory result }
 {
     match source {
         FieldSource::Region(_) => Ok(number),

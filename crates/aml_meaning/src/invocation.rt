@@ -1,6 +1,6 @@
 //! What a name is where a value stands.
 
-use aml_objects::{BodyPlace, FieldUnit, Value};
+use aml_objects::{Body, FieldUnit, Value};
 use aml_path::Path;
 
 /// What a name is where a value stands (ACPI 6.5, 19.3.5 and 20.2.5, MethodInvocation).
@@ -11,5 +11,5 @@ pub enum Invocation {
     /// The bits of a field unit.
     FieldUnit(FieldUnit),
     /// A call of the control method at this path, with this body.
-    Method(Path, BodyPlace),
+    Method(Path, Body),
 }

@@ -5,14 +5,14 @@ ghost use Rattle.std.specs.List.{filter};
 ghost use Rattle.ar_space.specs.Change.{Does};
 ghost use Rattle.ar_space.specs.Outcome.{Answers, seen};
 ghost use Rattle.aml_namespace.specs.Search.{found};
-ghost use Rattle.aml_meaning.specs.Invocations.{invocation_of_body, invocation_of_object, invocation_of, named_use, invocation_found, count_of_object, count_of_entry, count_through, arity_of_entry, body_arities, body_in, left};
+ghost use Rattle.aml_meaning.specs.Invocations.{invocation_of_body, invocation_of_object, invocation_of, named_use, invocation_found, count_of_entry, count_through, arity_of_entry, body_arities, left};
 
 use crate::invocation::Invocation;
-use crate::readings::{as_many, read_as};
+use crate::readings::{arguments_of, as_many, read_as};
 use crate::world::World;
 use aml_grammar::{Arities, Arity};
 use aml_namespace::Names;
-use aml_objects::{BodyPlace, Entry, Method, MethodBody, NamedObject, Octets, Reference, Value};
+use aml_objects::{Entry, MethodBody, NamedObject, Reference, Value};
 use aml_path::{NameString, Path};
 use ar_space::{EvaluationFault, Refusal};
 use std::alloc::Global;
@@ -54,16 +54,6 @@ impl<S> World<S> {
         }
     }
 
-    /// The AML of a body.
-    pub fn body(&self, body: BodyPlace) -> &[u8]
-        ensures { result.now ≡ body_in body (list.slice_get self.now.tables body.table) }
-    {
-        match self.tables.get(body.table) {
-            None => &[],
-            Some(bytes) => part(bytes, body.offset, body.length),
-        }
-    }
-
     /// How many arguments the names take that stand, and those of which an External told.
     pub fn body_arities(&self, alloc: Global) -> Result<Arities, Refusal>
         ensures { Answers result (Ok (body_arities self.now)) }
@@ -86,21 +76,12 @@ impl<S> World<S> {
     }
 }
 
-/// A part of some bytes, as far as there are any.
-fn part(bytes: &Octets, offset: usize, length: usize) -> &[u8]
-    ensures { result.now ≡ list.take length (list.drop offset bytes.now) }
-{
-    let bytes = bytes.as_slice();
-    let rest = &bytes[offset.min(bytes.len())..];
-    &rest[..length.min(rest.len())]
-}
-
 fn use_of(alloc: Global, found: &(Path, Entry)) -> Result<Invocation, Refusal>
     ensures { Answers result (invocation_of_object found.now.0 found.now.1.number found.now.1.object) }
 {
     match &found.1.object {
         NamedObject::Data(value) => Ok(Invocation::Value(read_as(found.1.number, *value))),
-        NamedObject::Method(method) => call_of(alloc, &found.0, method.body),
+        NamedObject::Method(method) => call_of(alloc, &found.0, &method.body),
         NamedObject::FieldUnit(unit) => Ok(Invocation::FieldUnit(*unit)),
         NamedObject::BufferField(_) => {
             Err(Refusal::Evaluation(EvaluationFault::Unsupported(0x5B13)))
@@ -109,12 +90,12 @@ fn use_of(alloc: Global, found: &(Path, Entry)) -> Result<Invocation, Refusal>
     }
 }
 
-fn call_of(alloc: Global, path: &Path, body: MethodBody) -> Result<Invocation, Refusal>
-    ensures { Answers result (invocation_of_body path.now body) }
+fn call_of(alloc: Global, path: &Path, body: &MethodBody) -> Result<Invocation, Refusal>
+    ensures { Answers result (invocation_of_body path.now body.now) }
 {
     match body {
         MethodBody::Osi => Err(Refusal::Evaluation(EvaluationFault::Unsupported(0x14))),
-        MethodBody::Aml(body) => Ok(Invocation::Method(path.copy(alloc)?, body)),
+        MethodBody::Aml(body) => Ok(Invocation::Method(path.copy(alloc)?, body.share()?)),
     }
 }
 
@@ -159,7 +140,7 @@ fn count_through(names: &Names, object: &NamedObject) -> u8
 {
     match object {
         NamedObject::Alias(path) => count_of_entry(names.get(path)),
-        NamedObject::Method(method) => method.arguments,
+        NamedObject::Method(method) => method.flags.arguments(),
         _ => 0,
     }
 }
@@ -169,15 +150,6 @@ fn count_of_entry(entry: Option<&Entry>) -> u8
 {
     match entry {
         None => 0,
-        Some(entry) => count_of_object(&entry.object),
-    }
-}
-
-fn count_of_object(object: &NamedObject) -> u8
-    ensures { result ≡ count_of_object object.now }
-{
-    match object {
-        NamedObject::Method(method) => method.arguments,
-        _ => 0,
+        Some(entry) => arguments_of(&entry.object),
     }
 }

@@ -1,8 +1,8 @@
 //! The rule by which a term with an opcode is evaluated.
 ghost use Rattle.std.specs.Prelude.{◌≡◌};
-ghost use Rattle.aml_meaning.specs.Terms.{data_kind, declaration_kind, region_kind, statement_kind, slot_kind, integer_operator, two_operands, one_operand, test_kind, other_operator, kind_of, declaration_or, region_or, statement_or, slot_or, integers_or, two_or, one_or, test_or, other_or, slot_place, place_of_opcode, place_of_code};
+ghost use Rattle.aml_meaning.specs.Terms.{data_kind, declaration_kind, region_kind, statement_kind, slot_kind, integer_operator, two_operands, one_operand, test_kind, other_operator, kind_of, declaration_or, region_or, statement_or, slot_or, integers_or, two_or, one_or, test_or, other_or, slot_target, target_of_opcode, target_of_code};
 
-use crate::place::Place;
+use crate::store_target::StoreTarget;
 use crate::term_kind::{
     Count, DataKind, DeclarationKind, OneOperand, OperatorKind, RegionKind, StatementKind,
     TermKind, Test, TwoOperands,
@@ -274,30 +274,30 @@ fn other_kind(opcode: Opcode) -> TermKind
     }
 }
 
-/// The place that a term is which stands where a place is named: Debug, a local or an argument.
-pub fn place_of(code: TermCode) -> Option<Place>
-    ensures { result ≡ place_of_code code }
+/// The target that a term is which stands where a target is named: Debug, a local or an argument.
+pub fn target_of(code: TermCode) -> Option<StoreTarget>
+    ensures { result ≡ target_of_code code }
 {
     match code {
-        TermCode::Opcode(opcode) => place_of_opcode(opcode),
+        TermCode::Opcode(opcode) => target_of_opcode(opcode),
         _ => None,
     }
 }
 
-fn place_of_opcode(opcode: Opcode) -> Option<Place>
-    ensures { result ≡ place_of_opcode opcode }
+fn target_of_opcode(opcode: Opcode) -> Option<StoreTarget>
+    ensures { result ≡ target_of_opcode opcode }
 {
     match opcode {
-        Opcode::Debug => Some(Place::Nowhere),
-        _ => slot_place(slot_kind(opcode)),
+        Opcode::Debug => Some(StoreTarget::Nowhere),
+        _ => slot_target(slot_kind(opcode)),
     }
 }
 
-fn slot_place(slot: Option<Slot>) -> Option<Place>
-    ensures { result ≡ slot_place slot }
+fn slot_target(slot: Option<Slot>) -> Option<StoreTarget>
+    ensures { result ≡ slot_target slot }
 {
     match slot {
         None => None,
-        Some(slot) => Some(Place::Slot(slot)),
+        Some(slot) => Some(StoreTarget::Slot(slot)),
     }
 }

@@ -7,10 +7,10 @@ mod declarations;
 mod field_layout;
 mod flow;
 mod frame;
+mod import;
 mod invocation;
 mod invocations;
 mod kinds;
-pub mod laws;
 mod mutexes;
 mod name_use;
 mod new_objects;
@@ -18,17 +18,16 @@ mod object_type;
 mod objects;
 mod operations;
 mod pci_functions;
-mod place;
-mod places;
 mod predefined;
 mod readings;
 mod references;
 mod referents;
 mod regions;
 mod slots;
+mod store_target;
 mod stores;
 mod tables;
-mod taking;
+mod targets;
 mod term_kind;
 mod world;
 
@@ -37,12 +36,12 @@ pub use field_layout::{FieldGroup, FieldLayout, access_width, update_rule};
 pub use flow::Flow;
 pub use frame::Frame;
 pub use invocation::Invocation;
-pub use kinds::{kind_of, place_of};
+pub use kinds::{kind_of, target_of};
 pub use name_use::NameUse;
 pub use object_type::{ObjectType, Referent};
 pub use pci_functions::{Sought, adr, base_bus, segment_group};
-pub use place::{Held, Holding, Place, Stored};
 pub use regions::{RegionField, RegionSpace, integer_only, pci_space, space_numbered};
+pub use store_target::{Held, Holding, StoreTarget, Stored};
 pub use term_kind::{
     Count, DataKind, DeclarationKind, OneOperand, OperatorKind, RegionKind, StatementKind,
     TermKind, Test, TwoOperands,

@@ -1,13 +1,13 @@
 //! Mutexes (ACPI 6.5, 19.6: Acquire, Release). How often each is acquired is counted; nothing else holds one.
 ghost use Rattle.std.specs.Prelude.{◌≡◌};
 ghost use Rattle.ar_space.specs.Change.{Does};
-ghost use Rattle.ar_space.specs.Outcome.{Answers};
+ghost use Rattle.ar_space.specs.Outcome.{Answers, NotMemory};
 ghost use Rattle.aml_objects.specs.declared.entry.NamedObject.TheVariants as object;
 ghost use Rattle.aml_namespace.specs.Namespace.{replaced};
 ghost use Rattle.aml_meaning.specs.State.{on_names};
 ghost use Rattle.aml_meaning.specs.Mutexes.{count_of_object, mutex_count, once_more, once_less, acquired, given_back, acquired_at, given_back_at};
 
-use crate::place::Place;
+use crate::store_target::StoreTarget;
 use crate::world::World;
 use aml_objects::NamedObject;
 use aml_path::Path;
@@ -17,32 +17,35 @@ impl<S> World<S> {
     /// Acquires the mutex that is named. Anything else is refused as `WrongType`, and as `ObjectLimit` a mutex that is
     /// acquired 2^64 - 1 times.
     #[tactic(auto, using(ar_space::specs::Change::changing))]
-    pub fn acquire(&mut self, place: &Place) -> Result<(), Refusal>
-        ensures { Does result self.new (acquired_at place.now) self.old }
+    pub fn acquire(&mut self, target: &StoreTarget) -> Result<(), Refusal>
+        ensures change { Does result self.new (acquired_at target.now) self.old }
+        ensures memory { NotMemory result }
     {
-        match place {
-            Place::Nowhere => Err(Refusal::Value(ValueFault::WrongType)),
-            Place::Slot(_) => Err(Refusal::Value(ValueFault::WrongType)),
-            Place::Name(path) => self.acquire_at(path),
+        match target {
+            StoreTarget::Nowhere => Err(Refusal::Value(ValueFault::WrongType)),
+            StoreTarget::Slot(_) => Err(Refusal::Value(ValueFault::WrongType)),
+            StoreTarget::Name(path) => self.acquire_at(path),
         }
     }
 
     /// Releases the mutex that is named. Anything else is refused as `WrongType`, and as `NotAcquired` a mutex that nobody
     /// has acquired.
     #[tactic(auto, using(ar_space::specs::Change::changing))]
-    pub fn release(&mut self, place: &Place) -> Result<(), Refusal>
-        ensures { Does result self.new (given_back_at place.now) self.old }
+    pub fn release(&mut self, target: &StoreTarget) -> Result<(), Refusal>
+        ensures change { Does result self.new (given_back_at target.now) self.old }
+        ensures memory { NotMemory result }
     {
-        match place {
-            Place::Nowhere => Err(Refusal::Value(ValueFault::WrongType)),
-            Place::Slot(_) => Err(Refusal::Value(ValueFault::WrongType)),
-            Place::Name(path) => self.release_at(path),
+        match target {
+            StoreTarget::Nowhere => Err(Refusal::Value(ValueFault::WrongType)),
+            StoreTarget::Slot(_) => Err(Refusal::Value(ValueFault::WrongType)),
+            StoreTarget::Name(path) => self.release_at(path),
         }
     }
 
     #[tactic(auto, using(ar_space::specs::Change::changing), unfolding(crate::specs::Mutexes::acquired))]
     fn acquire_at(&mut self, path: &Path) -> Result<(), Refusal>
-        ensures { Does result self.new (acquired path.now) self.old }
+        ensures change { Does result self.new (acquired path.now) self.old }
+        ensures memory { NotMemory result }
     {
         let count = self.mutex_count(path)?;
         let more = once_more(count)?;
@@ -51,16 +54,18 @@ impl<S> World<S> {
 
     #[tactic(auto, using(ar_space::specs::Change::changing), unfolding(crate::specs::Mutexes::given_back))]
     fn release_at(&mut self, path: &Path) -> Result<(), Refusal>
-        ensures { Does result self.new (given_back path.now) self.old }
+        ensures change { Does result self.new (given_back path.now) self.old }
+        ensures memory { NotMemory result }
     {
         let count = self.mutex_count(path)?;
         let less = once_less(count)?;
         self.put_count(path, less)
     }
 
-    #[tactic(auto, using(crate::specs::Lifted::parts))]
+    #[tactic(auto, using(crate::proofs::Lifted::parts))]
     fn put_count(&mut self, path: &Path, count: u64) -> Result<(), Refusal>
-        ensures { Does result self.new (on_names (replaced path.now (object.Mutex count))) self.old }
+        ensures change { Does result self.new (on_names (replaced path.now (object.Mutex count))) self.old }
+        ensures memory { NotMemory result }
     {
         self.names.replace(path, NamedObject::Mutex(count))
     }
@@ -68,7 +73,8 @@ impl<S> World<S> {
     /// How often the mutex at a path is acquired.
     #[tactic(auto, unfolding(crate::specs::Mutexes::mutex_count))]
     fn mutex_count(&self, path: &Path) -> Result<u64, Refusal>
-        ensures { Does result self.now (mutex_count path.now) self.now }
+        ensures answer { Does result self.now (mutex_count path.now) self.now }
+        ensures memory { NotMemory result }
     {
         match self.names.get(path) {
             None => Err(Refusal::Namespace(NamespaceFault::NotFound)),
@@ -78,7 +84,8 @@ impl<S> World<S> {
 }
 
 fn count_of(object: &NamedObject) -> Result<u64, Refusal>
-    ensures { Answers result (count_of_object object.now) }
+    ensures answer { Answers result (count_of_object object.now) }
+    ensures memory { NotMemory result }
 {
     match object {
         NamedObject::Mutex(count) => Ok(*count),
@@ -87,7 +94,8 @@ fn count_of(object: &NamedObject) -> Result<u64, Refusal>
 }
 
 fn once_more(count: u64) -> Result<u64, Refusal>
-    ensures { Answers result (once_more count) }
+    ensures answer { Answers result (once_more count) }
+    ensures memory { NotMemory result }
 {
     if count == u64::MAX {
         return Err(Refusal::Evaluation(EvaluationFault::ObjectLimit));
@@ -96,7 +104,8 @@ fn once_more(count: u64) -> Result<u64, Refusal>
 }
 
 fn once_less(count: u64) -> Result<u64, Refusal>
-    ensures { Answers result (once_less count) }
+    ensures answer { Answers result (once_less count) }
+    ensures memory { NotMemory result }
 {
     if count == 0 {
         return Err(Refusal::Evaluation(EvaluationFault::NotAcquired));

@@ -4,7 +4,7 @@ ghost use Rattle.ar_space.specs.Change.{Does};
 ghost use Rattle.ar_space.specs.Outcome.{Answers, seen};
 ghost use Rattle.aml_path.specs.Paths.{resolved};
 ghost use Rattle.aml_namespace.specs.Search.{found};
-ghost use Rattle.aml_meaning.specs.Outward.{name_use, value_or_path, held_or_path, path_of};
+ghost use Rattle.aml_meaning.specs.Exporting.{name_use, value_or_path, held_or_path, path_of};
 ghost use Rattle.aml_meaning.specs.Given as given;
 ghost use Rattle.aml_meaning.specs.Given.{given_of};
 ghost use Rattle.aml_meaning.specs.declared.name_use.NameUse.TheVariants as uses;
@@ -29,7 +29,7 @@ pub enum NameUse {
 
 impl<S> World<S> {
     /// What an element of a package stands for that is a name, searched for from the scope where the package was made.
-    #[tactic(auto, unfolding(crate::specs::Outward::name_use))]
+    #[tactic(auto, unfolding(crate::specs::Exporting::name_use))]
     pub fn name_use(
         &self,
         alloc: Global,
@@ -93,7 +93,7 @@ impl<S> World<S> {
     }
 
     /// What the name of a declaration is handed out as: its path while it stands, and a reference to nothing else.
-    #[tactic(auto, unfolding(crate::specs::Outward::path_of))]
+    #[tactic(auto, unfolding(crate::specs::Exporting::path_of))]
     pub fn path_of(&self, alloc: Global, number: u64) -> Result<Datum, Refusal>
         ensures { Does (seen given_of result) self.now (path_of number) self.now }
     {

@@ -1,7 +1,7 @@
 //! Objects that terms form (ACPI 6.5, 19.6: Buffer, Package, VarPackage).
 ghost use Rattle.std.specs.Prelude.{◌≡◌, Ok};
 ghost use Rattle.ar_space.specs.Change.{Does};
-ghost use Rattle.ar_space.specs.Outcome.{Answers};
+ghost use Rattle.ar_space.specs.Outcome.{Answers, NotMemory};
 ghost use Rattle.aml_objects.specs.Objects.{make_buffer};
 ghost use Rattle.aml_meaning.specs.State.{on_objects};
 ghost use Rattle.aml_meaning.specs.NewObjects.{within, sized, filled, new_buffer, new_package};
@@ -36,14 +36,16 @@ impl<S> World<S> {
 
     /// A package may have so many elements; more are refused as `ObjectLimit`.
     pub fn few_elements(&self, count: u64) -> Result<(), Refusal>
-        ensures { Does result self.now (within 65535 count) self.now }
+        ensures answer { Does result self.now (within 65535 count) self.now }
+        ensures memory { NotMemory result }
     {
         self.within(MAX_ELEMENTS, count)
     }
 
     #[tactic(auto, unfolding(crate::specs::NewObjects::within))]
     fn within(&self, most: u64, count: u64) -> Result<(), Refusal>
-        ensures { Does result self.now (within most count) self.now }
+        ensures answer { Does result self.now (within most count) self.now }
+        ensures memory { NotMemory result }
     {
         if most < count {
             return Err(Refusal::Evaluation(EvaluationFault::ObjectLimit));

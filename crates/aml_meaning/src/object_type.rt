@@ -27,7 +27,7 @@ pub enum ObjectType {
     DebugObject,
 }
 
-/// What a place holds when references are followed.
+/// What a target holds when references are followed.
 #[derive(Clone, Copy, Debug, PartialEq, Eq)]
 pub enum Referent {
     /// A value that is no reference.

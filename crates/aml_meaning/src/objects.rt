@@ -1,6 +1,7 @@
 //! Objects of the world: made, read and copied (ACPI 6.5, 19.3.5).
 ghost use Rattle.std.specs.Prelude.{◌≡◌};
 ghost use Rattle.ar_space.specs.Change.{Does};
+ghost use Rattle.ar_space.specs.Outcome.{NotMemory};
 ghost use Rattle.aml_objects.specs.Contents.{content_of, content_in};
 ghost use Rattle.aml_objects.specs.Copies.{copied};
 ghost use Rattle.aml_objects.specs.Objects.{make_string, make_buffer, make_package, string_at, buffer_at, elements_at, element_at, byte_at, write_buffer, write_string, write_element, write_byte};
@@ -20,7 +21,7 @@ impl<S> World<S> {
     }
 
     /// A new string; refused as `ObjectLimit` where it is too long, or one object too many.
-    #[tactic(auto, using(crate::specs::Lifted::parts))]
+    #[tactic(auto, using(crate::proofs::Lifted::parts))]
     pub fn make_string(&mut self, bytes: Octets) -> Result<Value, Refusal>
         ensures world { Does result self.new (on_objects (make_string bytes)) self.old }
         ensures space { self.new.space ≡ self.old.space }
@@ -29,7 +30,7 @@ impl<S> World<S> {
     }
 
     /// A new buffer; refused as `ObjectLimit` where it is too long, or one object too many.
-    #[tactic(auto, using(crate::specs::Lifted::parts))]
+    #[tactic(auto, using(crate::proofs::Lifted::parts))]
     pub fn make_buffer(&mut self, bytes: Octets) -> Result<Value, Refusal>
         ensures { Does result self.new (on_objects (make_buffer bytes)) self.old }
     {
@@ -37,7 +38,7 @@ impl<S> World<S> {
     }
 
     /// A new package; refused as `ObjectLimit` where it has too many elements, or one object too many.
-    #[tactic(auto, using(crate::specs::Lifted::parts))]
+    #[tactic(auto, using(crate::proofs::Lifted::parts))]
     pub fn make_package(&mut self, elements: Elements) -> Result<Value, Refusal>
         ensures { Does result self.new (on_objects (make_package elements)) self.old }
     {
@@ -46,7 +47,7 @@ impl<S> World<S> {
 
     /// A deep copy of a value; refused as `ObjectLimit` where packages nest too deeply or objects are too many, and then
     /// nothing changes.
-    #[tactic(auto, using(crate::specs::Lifted::parts))]
+    #[tactic(auto, using(crate::proofs::Lifted::parts))]
     pub fn copy(&mut self, alloc: Global, value: Value) -> Result<Value, Refusal>
         ensures { Does result self.new (on_objects (copied value)) self.old }
     {
@@ -54,7 +55,7 @@ impl<S> World<S> {
     }
 
     /// The bytes of a string; another kind of object is refused as `WrongType`.
-    #[tactic(auto, using(crate::specs::Lifted::parts))]
+    #[tactic(auto, using(crate::proofs::Lifted::parts))]
     pub fn string(&self, alloc: Global, object: usize) -> Result<Octets, Refusal>
         ensures { Does result self.now (on_objects (string_at object)) self.now }
     {
@@ -62,7 +63,7 @@ impl<S> World<S> {
     }
 
     /// The bytes of a buffer; another kind of object is refused as `WrongType`.
-    #[tactic(auto, using(crate::specs::Lifted::parts))]
+    #[tactic(auto, using(crate::proofs::Lifted::parts))]
     pub fn buffer(&self, alloc: Global, object: usize) -> Result<Octets, Refusal>
         ensures { Does result self.now (on_objects (buffer_at object)) self.now }
     {
@@ -70,7 +71,7 @@ impl<S> World<S> {
     }
 
     /// The elements of a package; another kind of object is refused as `WrongType`.
-    #[tactic(auto, using(crate::specs::Lifted::parts))]
+    #[tactic(auto, using(crate::proofs::Lifted::parts))]
     pub fn elements(&self, alloc: Global, object: usize) -> Result<Elements, Refusal>
         ensures { Does result self.now (on_objects (elements_at object)) self.now }
     {
@@ -79,7 +80,7 @@ impl<S> World<S> {
 
     /// Stores bytes into a buffer, cut or zero-filled to its length; an empty one takes them whole. Refused as
     /// `Heap::write_buffer` refuses it.
-    #[tactic(auto, using(crate::specs::Lifted::parts))]
+    #[tactic(auto, using(crate::proofs::Lifted::parts))]
     pub fn write_buffer(&mut self, object: usize, bytes: Octets) -> Result<(), Refusal>
         ensures { Does result self.new (on_objects (write_buffer object bytes)) self.old }
     {
@@ -87,7 +88,7 @@ impl<S> World<S> {
     }
 
     /// Stores bytes into a string, which takes their length. Refused as `Heap::write_string` refuses it.
-    #[tactic(auto, using(crate::specs::Lifted::parts))]
+    #[tactic(auto, using(crate::proofs::Lifted::parts))]
     pub fn write_string(&mut self, object: usize, bytes: Octets) -> Result<(), Refusal>
         ensures { Does result self.new (on_objects (write_string object bytes)) self.old }
     {
@@ -95,7 +96,7 @@ impl<S> World<S> {
     }
 
     /// An element of a package; past its end, and of another kind of object, this is refused as `DeadReference`.
-    #[tactic(auto, using(crate::specs::Lifted::parts))]
+    #[tactic(auto, using(crate::proofs::Lifted::parts))]
     pub(crate) fn element(
         &self,
         alloc: Global,
@@ -108,15 +109,16 @@ impl<S> World<S> {
     }
 
     /// A byte of a string or a buffer; past its end this is refused as `DeadReference`.
-    #[tactic(auto, using(crate::specs::Lifted::parts))]
+    #[tactic(auto, using(crate::proofs::Lifted::parts))]
     pub(crate) fn byte(&self, object: usize, index: usize) -> Result<u8, Refusal>
-        ensures { Does result self.now (on_objects (byte_at object index)) self.now }
+        ensures answer { Does result self.now (on_objects (byte_at object index)) self.now }
+        ensures memory { NotMemory result }
     {
         self.heap.byte(object, index)
     }
 
     /// Puts an element in place of one of a package.
-    #[tactic(auto, using(crate::specs::Lifted::parts))]
+    #[tactic(auto, using(crate::proofs::Lifted::parts))]
     pub(crate) fn write_element(
         &mut self,
         object: usize,
@@ -129,14 +131,15 @@ impl<S> World<S> {
     }
 
     /// Puts a byte in place of one of a string or a buffer.
-    #[tactic(auto, using(crate::specs::Lifted::parts))]
+    #[tactic(auto, using(crate::proofs::Lifted::parts))]
     pub(crate) fn write_byte(
         &mut self,
         object: usize,
         index: usize,
         byte: u8,
     ) -> Result<(), Refusal>
-        ensures { Does result self.new (on_objects (write_byte object index byte)) self.old }
+        ensures change { Does result self.new (on_objects (write_byte object index byte)) self.old }
+        ensures memory { NotMemory result }
     {
         self.heap.write_byte(object, index, byte)
     }

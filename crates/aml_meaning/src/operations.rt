@@ -1,7 +1,7 @@
 //! Operators over the values of a world (ACPI 6.5, 19.6).
 ghost use Rattle.std.specs.Prelude.{◌≡◌, option_map};
 ghost use Rattle.ar_space.specs.Change.{Does};
-ghost use Rattle.ar_space.specs.Outcome.{Answers, seen};
+ghost use Rattle.ar_space.specs.Outcome.{Answers, NotMemory, seen};
 ghost use Rattle.aml_convert.specs.Joined.{joined_content};
 ghost use Rattle.aml_objects.specs.Contents as held;
 ghost use Rattle.aml_meaning.specs.State.{on_objects};
@@ -77,7 +77,8 @@ impl<S> World<S> {
     /// The quotient and the remainder of two values; a divisor of 0 is refused as `DivideByZero`.
     #[tactic(auto, using(ar_space::specs::Change::changing), unfolding(crate::specs::Operations::divided_in))]
     pub fn divide(&self, first: Value, second: Value) -> Result<Division, Refusal>
-        ensures { Does result self.now (divided_in first second) self.now }
+        ensures answer { Does result self.now (divided_in first second) self.now }
+        ensures memory { NotMemory result }
     {
         let x = self.integer_in(first)?;
         let y = self.integer_in(second)?;
@@ -87,7 +88,8 @@ impl<S> World<S> {
     /// True where a value is 0, converted to an integer first and refused as that is.
     #[tactic(auto, using(ar_space::specs::Change::changing), unfolding(crate::specs::Operations::turned))]
     pub fn logical_not(&self, value: Value) -> Result<Value, Refusal>
-        ensures { Does result self.now (turned value) self.now }
+        ensures answer { Does result self.now (turned value) self.now }
+        ensures memory { NotMemory result }
     {
         let x = self.integer_in(value)?;
         self.integer_turned(x)
@@ -96,7 +98,8 @@ impl<S> World<S> {
     /// The next integer, or the one before.
     #[tactic(auto, using(ar_space::specs::Change::changing))]
     pub fn count(&self, count: Count, number: u64) -> Result<Value, Refusal>
-        ensures { Does result self.now (counted_by count number) self.now }
+        ensures answer { Does result self.now (counted_by count number) self.now }
+        ensures memory { NotMemory result }
     {
         match count {
             Count::Up => self.next_integer(number),
@@ -108,7 +111,8 @@ impl<S> World<S> {
     /// refused as `WrongType`, and what is uninitialized as `NoValue`.
     #[tactic(auto, unfolding(crate::specs::Operations::size_in))]
     pub fn size(&self, referent: Referent) -> Result<Value, Refusal>
-        ensures { Does result self.now (size_in referent) self.now }
+        ensures answer { Does result self.now (size_in referent) self.now }
+        ensures memory { NotMemory result }
     {
         match self.size_of(referent) {
             Ok(size) => Ok(Value::Integer(size)),
@@ -147,7 +151,8 @@ impl<S> World<S> {
 
     #[tactic(auto, unfolding(crate::specs::Operations::integer_operated))]
     fn integer_operated(&self, operator: UnaryOperator, x: u64) -> Result<Value, Refusal>
-        ensures { Does result self.now (integer_operated operator x) self.now }
+        ensures answer { Does result self.now (integer_operated operator x) self.now }
+        ensures memory { NotMemory result }
     {
         Ok(Value::Integer(operate_on_one(operator, self.width, x)))
     }
@@ -168,28 +173,32 @@ impl<S> World<S> {
 
     #[tactic(auto, unfolding(crate::specs::Operations::integers_tested))]
     fn integers_tested(&self, operator: LogicalOperator, x: u64, y: u64) -> Result<Value, Refusal>
-        ensures { Does result self.now (integers_tested operator x y) self.now }
+        ensures answer { Does result self.now (integers_tested operator x y) self.now }
+        ensures memory { NotMemory result }
     {
         Ok(Value::Integer(operate_logically(operator, self.width, x, y)))
     }
 
     #[tactic(auto, unfolding(crate::specs::Operations::integer_turned))]
     fn integer_turned(&self, x: u64) -> Result<Value, Refusal>
-        ensures { Does result self.now (integer_turned x) self.now }
+        ensures answer { Does result self.now (integer_turned x) self.now }
+        ensures memory { NotMemory result }
     {
         Ok(Value::Integer(logical_not(self.width, x)))
     }
 
     #[tactic(auto, unfolding(crate::specs::Operations::next_integer))]
     fn next_integer(&self, x: u64) -> Result<Value, Refusal>
-        ensures { Does result self.now (next_integer x) self.now }
+        ensures answer { Does result self.now (next_integer x) self.now }
+        ensures memory { NotMemory result }
     {
         Ok(Value::Integer(truncate(self.width, u128::from(x) + 1)))
     }
 
     #[tactic(auto, unfolding(crate::specs::Operations::integer_before))]
     fn integer_before(&self, x: u64) -> Result<Value, Refusal>
-        ensures { Does result self.now (integer_before x) self.now }
+        ensures answer { Does result self.now (integer_before x) self.now }
+        ensures memory { NotMemory result }
     {
         integer(operate(BinaryOperator::Subtract, self.width, x, 1))
     }
@@ -301,7 +310,8 @@ impl<S> World<S> {
     }
 
     fn size_of(&self, referent: Referent) -> Result<u64, Refusal>
-        ensures { result ≡ size_of_referent self.now.objects referent }
+        ensures answer { result ≡ size_of_referent self.now.objects referent }
+        ensures memory { NotMemory result }
     {
         match referent {
             Referent::Value(value) => self.size_of_value(value),
@@ -312,7 +322,8 @@ impl<S> World<S> {
     }
 
     fn size_of_value(&self, value: Value) -> Result<u64, Refusal>
-        ensures { result ≡ size_of_value self.now.objects value }
+        ensures answer { result ≡ size_of_value self.now.objects value }
+        ensures memory { NotMemory result }
     {
         match value {
             Value::String(object) => size_of_object(self.heap.object(object)),
@@ -326,7 +337,8 @@ impl<S> World<S> {
 }
 
 fn integer(number: Result<u64, Refusal>) -> Result<Value, Refusal>
-    ensures { result ≡ as_integer number }
+    ensures answer { result ≡ as_integer number }
+    ensures memory { NotMemory number → NotMemory result }
 {
     match number {
         Ok(number) => Ok(Value::Integer(number)),
@@ -335,7 +347,8 @@ fn integer(number: Result<u64, Refusal>) -> Result<Value, Refusal>
 }
 
 fn size_of_object(object: Option<&Object>) -> Result<u64, Refusal>
-    ensures { result ≡ size_of_object (option_map (λ o. o.now) object.entry) }
+    ensures answer { result ≡ size_of_object (option_map (λ o. o.now) object.entry) }
+    ensures memory { NotMemory result }
 {
     match object {
         None => Err(Refusal::Value(ValueFault::WrongType)),

@@ -8,7 +8,7 @@ ghost use Rattle.ar_space.specs.Change.{Does};
 ghost use Rattle.aml_meaning.specs.Predefined.{at_root, predefined, predefined_objects, predefined_scopes, takes};
 
 use crate::world::World;
-use aml_objects::{Method, MethodBody, NamedObject, Octets, Value};
+use aml_objects::{Method, MethodBody, MethodFlags, NamedObject, Octets, Value};
 use aml_path::{Path, Seg};
 use ar_space::Refusal;
 use std::alloc::Global;
@@ -46,7 +46,7 @@ impl<S> World<S> {
         self.at_root(alloc, *b"_OS_", NamedObject::Data(text), 0)?;
         self.at_root(alloc, *b"_REV", NamedObject::Data(Value::Integer(2)), 0)?;
         let osi = Method {
-            arguments: 1,
+            flags: MethodFlags { byte: 1 },
             body: MethodBody::Osi,
         };
         self.at_root(alloc, *b"_OSI", NamedObject::Method(osi), 1)

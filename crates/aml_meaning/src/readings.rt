@@ -1,7 +1,7 @@
 //! What names find, and what values are, in a world (ACPI 6.5, 5.3 and 19.3.5).
 ghost use Rattle.std.specs.Prelude.{◌≡◌};
 ghost use Rattle.ar_space.specs.Change.{Does};
-ghost use Rattle.ar_space.specs.Outcome.{Answers, seen};
+ghost use Rattle.ar_space.specs.Outcome.{Answers, NotMemory, seen};
 ghost use Rattle.aml_meaning.specs.Readings.{integer_kept, integer_in, entry_found, path_found, is_scope, scope_or_not, scope_found, arguments_of, arguments_found, as_many, read_as};
 
 use crate::world::World;
@@ -15,7 +15,8 @@ impl<S> World<S> {
     /// A number as an integer keeps it: its lowest 32 or 64 bits.
     #[tactic(auto, unfolding(crate::specs::Readings::integer_kept))]
     pub fn integer_kept(&self, number: u64) -> Result<Value, Refusal>
-        ensures { Does result self.now (integer_kept number) self.now }
+        ensures answer { Does result self.now (integer_kept number) self.now }
+        ensures memory { NotMemory result }
     {
         Ok(Value::Integer(truncate_integer(self.width, number)))
     }
@@ -23,7 +24,8 @@ impl<S> World<S> {
     /// A value where an integer is wanted, converted to one; it is refused as conversions are.
     #[tactic(auto, unfolding(crate::specs::Readings::integer_in))]
     pub fn integer_in(&self, value: Value) -> Result<u64, Refusal>
-        ensures { Does result self.now (integer_in value) self.now }
+        ensures answer { Does result self.now (integer_in value) self.now }
+        ensures memory { NotMemory result }
     {
         to_integer(self.width, self.heap.content(value))
     }
@@ -31,7 +33,8 @@ impl<S> World<S> {
     /// What a name finds from a scope; refused as `Names::lookup` refuses it.
     #[tactic(auto, unfolding(crate::specs::Readings::entry_found))]
     pub(crate) fn entry(&self, scope: &Path, name: &NameString) -> Result<&Entry, Refusal>
-        ensures { Does (seen (λ e. e.now) result) self.now (entry_found scope.now name.now) self.now }
+        ensures answer { Does (seen (λ e. e.now) result) self.now (entry_found scope.now name.now) self.now }
+        ensures memory { NotMemory result }
     {
         self.names.lookup(scope, name)
     }
@@ -67,7 +70,8 @@ impl<S> World<S> {
     /// as `Names::lookup` refuses it.
     #[tactic(auto, using(ar_space::specs::Change::changing), unfolding(crate::specs::Readings::arguments_found))]
     pub fn arguments(&self, scope: &Path, name: &NameString) -> Result<u8, Refusal>
-        ensures { Does result self.now (arguments_found scope.now name.now) self.now }
+        ensures answer { Does result self.now (arguments_found scope.now name.now) self.now }
+        ensures memory { NotMemory result }
     {
         let entry = self.entry(scope, name)?;
         Ok(arguments_of(&entry.object))
@@ -75,7 +79,8 @@ impl<S> World<S> {
 }
 
 fn scope_or_not(object: &NamedObject) -> Result<(), Refusal>
-    ensures { Answers result (scope_or_not object.now) }
+    ensures answer { Answers result (scope_or_not object.now) }
+    ensures memory { NotMemory result }
 {
     if is_scope(object) {
         Ok(())
@@ -99,7 +104,8 @@ fn is_scope(object: &NamedObject) -> bool
 }
 
 pub(crate) fn as_many(wanted: u8, count: usize) -> Result<(), Refusal>
-    ensures { Answers result (as_many wanted count) }
+    ensures answer { Answers result (as_many wanted count) }
+    ensures memory { NotMemory result }
 {
     if usize::from(wanted) == count {
         Ok(())
@@ -109,11 +115,11 @@ pub(crate) fn as_many(wanted: u8, count: usize) -> Result<(), Refusal>
 }
 
 /// How many arguments it takes to evaluate an object.
-fn arguments_of(object: &NamedObject) -> u8
+pub(crate) fn arguments_of(object: &NamedObject) -> u8
     ensures { result ≡ arguments_of object.now }
 {
     match object {
-        NamedObject::Method(method) => method.arguments,
+        NamedObject::Method(method) => method.flags.arguments(),
         _ => 0,
     }
 }

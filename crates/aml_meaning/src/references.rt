@@ -5,28 +5,28 @@ ghost use Rattle.ar_space.specs.Outcome.{Answers};
 ghost use Rattle.aml_objects.specs.Contents.{content_of};
 ghost use Rattle.aml_meaning.specs.Stores.{first_byte, byte_of, byte_in, store_byte, copy_into_element, copy_into_declared, store_over_slot, store_in_frame, store_in_frame_numbered, store_at_reference, stored_through};
 
-use crate::place::Stored;
-use crate::places::holding_of;
+use crate::store_target::Stored;
+use crate::targets::holding_of;
 use crate::world::World;
 use aml_objects::{Content, Element, Reference, Slot, Value};
 use ar_space::{EvaluationFault, Refusal, ValueFault};
 use std::alloc::Global;
 
-/// Stores a value to a slot of the frame at a place: an argument that holds a reference stands for what that refers to.
+/// Stores a value to a slot of the frame at an index: an argument that holds a reference stands for what that refers to.
 #[cycle(through)]
 #[tactic(auto, using(ar_space::specs::Change::changing), unfolding(crate::specs::Stores::store_in_frame))]
 pub(crate) fn store_in_frame<S>(
     alloc: Global,
     world: &mut World<S>,
     levels: usize,
-    place: usize,
+    frame: usize,
     slot: Slot,
     value: Value,
 ) -> Result<Stored, Refusal>
-    ensures { Does result world.new (store_in_frame (stored_through levels) place slot value) world.old }
+    ensures { Does result world.new (store_in_frame (stored_through levels) frame slot value) world.old }
 {
-    let held = world.slot_held(place, slot)?;
-    store_over_slot(alloc, world, levels, place, slot, held, value)
+    let held = world.slot_held(frame, slot)?;
+    store_over_slot(alloc, world, levels, frame, slot, held, value)
 }
 
 #[cycle(through)]
@@ -35,27 +35,27 @@ fn store_over_slot<S>(
     alloc: Global,
     world: &mut World<S>,
     levels: usize,
-    place: usize,
+    frame: usize,
     slot: Slot,
     held: Value,
     value: Value,
 ) -> Result<Stored, Refusal>
-    ensures { Does result world.new (store_over_slot (stored_through levels) place slot held value) world.old }
+    ensures { Does result world.new (store_over_slot (stored_through levels) frame slot held value) world.old }
 {
     match (slot, held) {
         (Slot::Argument(_), Value::Reference(reference)) => {
             store_through(alloc, world, levels, reference, value)
         }
-        (Slot::Local(index), _) => world.copy_into_slot(alloc, place, Slot::Local(index), value),
+        (Slot::Local(index), _) => world.copy_into_slot(alloc, frame, Slot::Local(index), value),
         (Slot::Argument(index), _) => {
-            world.copy_into_slot(alloc, place, Slot::Argument(index), value)
+            world.copy_into_slot(alloc, frame, Slot::Argument(index), value)
         }
     }
 }
 
 /// Stores a value to what a reference refers to, at most so many followed one after another.
 #[cycle(through)]
-#[tactic(auto, using(crate::specs::Following::following))]
+#[tactic(auto, using(crate::proofs::Following::following))]
 fn store_through<S>(
     alloc: Global,
     world: &mut World<S>,
@@ -104,8 +104,8 @@ fn store_in_frame_numbered<S>(
 ) -> Result<Stored, Refusal>
     ensures { Does result world.new (store_in_frame_numbered (stored_through levels) number slot value) world.old }
 {
-    let place = world.frame_found(number)?;
-    store_in_frame(alloc, world, levels, place, slot, value)
+    let frame = world.frame_found(number)?;
+    store_in_frame(alloc, world, levels, frame, slot, value)
 }
 
 impl<S> World<S> {

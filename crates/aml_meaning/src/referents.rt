@@ -1,11 +1,11 @@
 //! What references refer to in the end (ACPI 6.5, 19.6: SizeOf, ObjectType).
 ghost use Rattle.std.specs.Prelude.{◌≡◌};
 ghost use Rattle.ar_space.specs.Change.{Does};
-ghost use Rattle.aml_meaning.specs.Places.{referent_of, element_named, value_followed, referent_followed, declared_followed, slot_followed, name_followed, element_followed, held_followed, byte_followed, reference_followed, followed, most_references, slot_referent, declared_referent, name_referent, place_referent};
+ghost use Rattle.aml_meaning.specs.StoreTargets.{referent_of, element_named, value_followed, referent_followed, declared_followed, slot_followed, name_followed, element_followed, held_followed, byte_followed, reference_followed, followed, most_references, slot_referent, declared_referent, name_referent, target_referent};
 
 use crate::object_type::{ObjectType, Referent};
-use crate::place::Place;
 use crate::readings::read_as;
+use crate::store_target::StoreTarget;
 use crate::world::World;
 use aml_objects::{Element, NamedObject, Reference, Slot, Value};
 use aml_path::{NameString, Path};
@@ -16,21 +16,21 @@ use std::alloc::Global;
 pub(crate) const MOST_REFERENCES: usize = 64;
 
 impl<S> World<S> {
-    /// What a place holds when references are followed, at most 64 of them. A field unit that an element of a package names
+    /// What a target holds when references are followed, at most 64 of them. A field unit that an element of a package names
     /// is handed back, for its value to be read. A reference to what is gone, and a longer chain, are refused as
     /// `DeadReference`.
     #[tactic(auto, using(ar_space::specs::Change::changing))]
-    pub fn place_referent(&self, alloc: Global, place: &Place) -> Result<Referent, Refusal>
-        ensures { Does result self.now (place_referent place.now) self.now }
+    pub fn target_referent(&self, alloc: Global, target: &StoreTarget) -> Result<Referent, Refusal>
+        ensures { Does result self.now (target_referent target.now) self.now }
     {
-        match place {
-            Place::Nowhere => Ok(Referent::Object(ObjectType::DebugObject)),
-            Place::Slot(slot) => self.slot_referent(alloc, *slot),
-            Place::Name(path) => self.name_referent(alloc, path),
+        match target {
+            StoreTarget::Nowhere => Ok(Referent::Object(ObjectType::DebugObject)),
+            StoreTarget::Slot(slot) => self.slot_referent(alloc, *slot),
+            StoreTarget::Name(path) => self.name_referent(alloc, path),
         }
     }
 
-    #[tactic(auto, using(ar_space::specs::Change::changing), unfolding(crate::specs::Places::slot_referent))]
+    #[tactic(auto, using(ar_space::specs::Change::changing), unfolding(crate::specs::StoreTargets::slot_referent))]
     fn slot_referent(&self, alloc: Global, slot: Slot) -> Result<Referent, Refusal>
         ensures { Does result self.now (slot_referent slot) self.now }
     {
@@ -38,7 +38,7 @@ impl<S> World<S> {
         value_followed(alloc, self, MOST_REFERENCES, value)
     }
 
-    #[tactic(auto, using(ar_space::specs::Change::changing), unfolding(crate::specs::Places::name_referent))]
+    #[tactic(auto, using(ar_space::specs::Change::changing), unfolding(crate::specs::StoreTargets::name_referent))]
     fn name_referent(&self, alloc: Global, path: &Path) -> Result<Referent, Refusal>
         ensures { Does result self.now (name_referent path.now) self.now }
     {
@@ -46,7 +46,7 @@ impl<S> World<S> {
         referent_followed(alloc, self, MOST_REFERENCES, referent)
     }
 
-    #[tactic(auto, unfolding(crate::specs::Places::declared_referent))]
+    #[tactic(auto, unfolding(crate::specs::StoreTargets::declared_referent))]
     fn declared_referent(&self, path: &Path) -> Result<Referent, Refusal>
         ensures { Does result self.now (declared_referent path.now) self.now }
     {
@@ -117,7 +117,7 @@ fn referent_followed<S>(
 
 /// What a reference refers to in the end, at most so many followed one after another.
 #[cycle(following)]
-#[tactic(auto, using(crate::specs::Following::following))]
+#[tactic(auto, using(crate::proofs::Following::following))]
 fn follow<S>(
     alloc: Global,
     world: &World<S>,
@@ -151,7 +151,7 @@ fn reference_followed<S>(
 }
 
 #[cycle(following)]
-#[tactic(auto, using(ar_space::specs::Change::changing), unfolding(crate::specs::Places::declared_followed))]
+#[tactic(auto, using(ar_space::specs::Change::changing), unfolding(crate::specs::StoreTargets::declared_followed))]
 fn declared_followed<S>(
     alloc: Global,
     world: &World<S>,
@@ -165,7 +165,7 @@ fn declared_followed<S>(
 }
 
 #[cycle(following)]
-#[tactic(auto, using(ar_space::specs::Change::changing), unfolding(crate::specs::Places::slot_followed))]
+#[tactic(auto, using(ar_space::specs::Change::changing), unfolding(crate::specs::StoreTargets::slot_followed))]
 fn slot_followed<S>(
     alloc: Global,
     world: &World<S>,
@@ -175,13 +175,13 @@ fn slot_followed<S>(
 ) -> Result<Referent, Refusal>
     ensures { Does result world.now (slot_followed (followed levels) number slot) world.now }
 {
-    let place = world.frame_found(number)?;
-    let value = world.slot_held(place, slot)?;
+    let index = world.frame_found(number)?;
+    let value = world.slot_held(index, slot)?;
     value_followed(alloc, world, levels, value)
 }
 
 #[cycle(following)]
-#[tactic(auto, using(ar_space::specs::Change::changing), unfolding(crate::specs::Places::held_followed))]
+#[tactic(auto, using(ar_space::specs::Change::changing), unfolding(crate::specs::StoreTargets::held_followed))]
 fn held_followed<S>(
     alloc: Global,
     world: &World<S>,
@@ -212,7 +212,7 @@ fn element_followed<S>(
 }
 
 #[cycle(following)]
-#[tactic(auto, using(ar_space::specs::Change::changing), unfolding(crate::specs::Places::name_followed))]
+#[tactic(auto, using(ar_space::specs::Change::changing), unfolding(crate::specs::StoreTargets::name_followed))]
 fn name_followed<S>(
     alloc: Global,
     world: &World<S>,
@@ -245,7 +245,7 @@ fn element_named<S>(
     }
 }
 
-#[tactic(auto, using(ar_space::specs::Change::changing), unfolding(crate::specs::Places::byte_followed))]
+#[tactic(auto, using(ar_space::specs::Change::changing), unfolding(crate::specs::StoreTargets::byte_followed))]
 fn byte_followed<S>(world: &World<S>, object: usize, index: usize) -> Result<Referent, Refusal>
     ensures { Does result world.now (byte_followed object index) world.now }
 {

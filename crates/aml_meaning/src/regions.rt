@@ -1,7 +1,7 @@
 //! Operation regions and the field units in them, as they were declared, and accesses of their registers (ACPI 6.5, 5.5.2.4).
 ghost use Rattle.std.specs.Prelude.{◌≡◌, nat_lt};
 ghost use Rattle.ar_space.specs.Change.{Does};
-ghost use Rattle.ar_space.specs.Outcome.{Answers, seen};
+ghost use Rattle.ar_space.specs.Outcome.{Answers, NotMemory, seen};
 ghost use Rattle.aml_convert.specs.Integers.{bits_of};
 ghost use Rattle.aml_fields.specs.Regions.{read_field, write_field};
 ghost use Rattle.aml_meaning.specs.State.{on_space};
@@ -53,7 +53,8 @@ pub fn space_numbered(number: u8) -> RegionSpace
 /// What an object answers that is a part of an address: an integer. Nothing is refused as `NoValue`, anything else as
 /// `WrongType`; no value is converted.
 pub fn integer_only(value: Value) -> Result<u64, Refusal>
-    ensures { Answers result (integer_only value) }
+    ensures answer { Answers result (integer_only value) }
+    ensures memory { NotMemory result }
 {
     match value {
         Value::Uninitialized => Err(Refusal::Evaluation(EvaluationFault::NoValue)),
@@ -68,7 +69,8 @@ pub fn integer_only(value: Value) -> Result<u64, Refusal>
 /// The registers of a PCI function, by its segment group, its bus, and its address (device in the high word, function in the
 /// low one). A number that is out of range is refused as `RegionLimit`.
 pub fn pci_space(segment: u64, bus: u64, address: u64) -> Result<AddressSpace, Refusal>
-    ensures { Answers result (pci_space segment bus address) }
+    ensures answer { Answers result (pci_space segment bus address) }
+    ensures memory { NotMemory result }
 {
     let device = address / 65536;
     let function = address % 65536;
@@ -104,7 +106,8 @@ impl<S> World<S> {
     /// The field unit of a region with the number of a declaration; one that is gone is refused as `DeadReference`.
     #[tactic(auto, using(ar_space::specs::Change::changing), unfolding(crate::specs::Regions::field_declared))]
     pub fn field_declared(&self, number: u64) -> Result<RegionField, Refusal>
-        ensures { Does result self.now (field_declared number) self.now }
+        ensures answer { Does result self.now (field_declared number) self.now }
+        ensures memory { NotMemory result }
     {
         let found = self.declaration(number)?;
         field_of_object(&found.1.object)
@@ -126,7 +129,8 @@ impl<S> World<S> {
     /// The bits of a field as an integer, converted as a buffer is.
     #[tactic(auto, unfolding(crate::specs::Regions::integer_of_bits))]
     pub fn integer_of_bits(&self, bytes: &[u8]) -> Result<u64, Refusal>
-        ensures { Does result self.now (integer_of_bits bytes.now) self.now }
+        ensures answer { Does result self.now (integer_of_bits bytes.now) self.now }
+        ensures memory { NotMemory result }
     {
         to_integer(self.width, Content::Buffer(bytes))
     }
@@ -134,7 +138,8 @@ impl<S> World<S> {
     /// The bits of a field as a part of an address; more than an integer has are refused as `WrongType`.
     #[tactic(auto, unfolding(crate::specs::Regions::integer_alone))]
     pub fn integer_alone(&self, count: u32, bytes: &[u8]) -> Result<u64, Refusal>
-        ensures { Does result self.now (integer_alone count bytes.now) self.now }
+        ensures answer { Does result self.now (integer_alone count bytes.now) self.now }
+        ensures memory { NotMemory result }
     {
         if is_wide(self.width, count) {
             Err(Refusal::Value(ValueFault::WrongType))
@@ -162,7 +167,8 @@ impl<S> World<S> {
     /// so many bytes. No object is made.
     #[tactic(auto, unfolding(crate::specs::Regions::referent_of_bits))]
     pub fn referent_of_bits(&self, count: u32, bytes: &[u8]) -> Result<Referent, Refusal>
-        ensures { Does result self.now (referent_of_bits count bytes.now) self.now }
+        ensures answer { Does result self.now (referent_of_bits count bytes.now) self.now }
+        ensures memory { NotMemory result }
     {
         if is_wide(self.width, count) {
             return Ok(Referent::Bytes(bytes.len()));
@@ -175,7 +181,8 @@ impl<S> World<S> {
 
     #[tactic(auto, using(ar_space::specs::Change::changing), unfolding(crate::specs::Regions::integer_value))]
     fn integer_value(&self, bytes: &[u8]) -> Result<Value, Refusal>
-        ensures { Does result self.now (integer_value bytes.now) self.now }
+        ensures answer { Does result self.now (integer_value bytes.now) self.now }
+        ensures memory { NotMemory result }
     {
         let number = self.integer_of_bits(bytes)?;
         Ok(Value::Integer(number))
@@ -185,7 +192,7 @@ impl<S> World<S> {
 impl<S: Space> World<S> {
     /// A read of a field of a region that is located: its bits, lowest first, as bytes. Refused as `aml_fields::read_field`
     /// refuses it.
-    #[tactic(auto, using(crate::specs::Lifted::parts))]
+    #[tactic(auto, using(crate::proofs::Lifted::parts))]
     pub fn read_field(
         &mut self,
         alloc: Global,
@@ -198,14 +205,15 @@ impl<S: Space> World<S> {
     }
 
     /// A write of a field of a region that is located. Refused as `aml_fields::write_field` refuses it.
-    #[tactic(auto, using(crate::specs::Lifted::parts))]
+    #[tactic(auto, using(crate::proofs::Lifted::parts))]
     pub fn write_field(
         &mut self,
         region: Region,
         field: FieldUnit,
         bytes: &[u8],
     ) -> Result<(), Refusal>
-        ensures { Does result self.new (on_space (write_field S.accesses region field bytes.now)) self.old }
+        ensures change { Does result self.new (on_space (write_field S.accesses region field bytes.now)) self.old }
+        ensures memory { NotMemory result }
     {
         write_field(&mut self.space, region, field, bytes)
     }
@@ -229,7 +237,8 @@ fn integer_bits(width: IntegerWidth) -> u8
 }
 
 fn region_of_object(object: &NamedObject) -> Result<OperationRegion, Refusal>
-    ensures { Answers result (region_of_object object.now) }
+    ensures answer { Answers result (region_of_object object.now) }
+    ensures memory { NotMemory result }
 {
     match object {
         NamedObject::OperationRegion(region) => Ok(*region),
@@ -238,7 +247,8 @@ fn region_of_object(object: &NamedObject) -> Result<OperationRegion, Refusal>
 }
 
 fn field_of_object(object: &NamedObject) -> Result<RegionField, Refusal>
-    ensures { Answers result (field_of_object object.now) }
+    ensures answer { Answers result (field_of_object object.now) }
+    ensures memory { NotMemory result }
 {
     match object {
         NamedObject::FieldUnit(unit) => region_field(unit.source, *unit),
@@ -247,7 +257,8 @@ fn field_of_object(object: &NamedObject) -> Result<RegionField, Refusal>
 }
 
 fn region_field(source: FieldSource, unit: FieldUnit) -> Result<RegionField, Refusal>
-    ensures { Answers result (region_field source unit) }
+    ensures answer { Answers result (region_field source unit) }
+    ensures memory { NotMemory result }
 {
     match source {
         FieldSource::Region(region) => Ok(RegionField { region, unit }),

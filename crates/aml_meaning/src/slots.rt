@@ -1,6 +1,7 @@
 //! Frames, and the slots in them (ACPI 6.5, 5.5.2.3 and 19.6: ArgX, LocalX).
 ghost use Rattle.std.specs.Prelude.{◌≡◌, ◌==◌, ◌<◌, length, position, slice_index_or, slice_set, IfSome};
 ghost use Rattle.ar_space.specs.Change.{Does};
+ghost use Rattle.ar_space.specs.Outcome.{NotMemory};
 ghost use Rattle.aml_meaning.specs.Slots.{slot_in, with_slot, slot_of, opened, closed};
 ghost use Rattle.aml_objects.specs.declared.value.Value.TheVariants.{Uninitialized};
 
@@ -9,9 +10,9 @@ use crate::world::World;
 use aml_objects::{Slot, Value};
 use ar_space::{EvaluationFault, Refusal};
 
-/// The place of the frame with a number.
-pub(crate) fn place_of(frames: &[Frame], number: u64) -> Option<usize>
-    ensures place { result ≡ position (λ f. f.number == number) frames.now }
+/// The index of the frame with a number.
+pub(crate) fn frame_index(frames: &[Frame], number: u64) -> Option<usize>
+    ensures index { result ≡ position (λ f. f.number == number) frames.now }
     ensures within { IfSome result (λ i. i < length frames.now) }
 {
     frames.iter().position(|frame| frame.number == number)
@@ -65,11 +66,12 @@ impl<S> World<S> {
     /// What a slot of the frame with a number holds; a frame that ended is refused as `DeadReference`.
     #[tactic(auto, unfolding(crate::specs::Slots::slot_of))]
     pub fn slot(&self, number: u64, slot: Slot) -> Result<Value, Refusal>
-        ensures { Does result self.now (slot_of number slot) self.now }
+        ensures answer { Does result self.now (slot_of number slot) self.now }
+        ensures memory { NotMemory result }
     {
-        match place_of(&self.frames, number) {
+        match frame_index(&self.frames, number) {
             None => Err(Refusal::Evaluation(EvaluationFault::DeadReference)),
-            Some(place) => Ok(self.frames[place].slot(slot)),
+            Some(index) => Ok(self.frames[index].slot(slot)),
         }
     }
 

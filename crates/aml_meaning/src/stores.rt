@@ -7,9 +7,9 @@ ghost use Rattle.aml_namespace.specs.Namespace.{replaced};
 ghost use Rattle.aml_meaning.specs.State.{on_names};
 ghost use Rattle.aml_meaning.specs.Stores.{slot_put, copy_into_slot, copy_into_name, copy_over, text_in, bytes_in, store_integer, store_text, store_bytes, store_package, store_over_value, store_over, store_in_slot, store_in_name, stored, copy_in_name, copied_to};
 
-use crate::place::{Holding, Place, Stored};
 use crate::references::store_in_frame;
 use crate::referents::MOST_REFERENCES;
+use crate::store_target::{Holding, StoreTarget, Stored};
 use crate::world::World;
 use aml_convert::{to_buffer, to_text};
 use aml_objects::{NamedObject, Octets, Slot, Value};
@@ -18,34 +18,44 @@ use ar_space::{EvaluationFault, Refusal, ValueFault};
 use std::alloc::Global;
 
 impl<S> World<S> {
-    /// Stores a value to a place.
+    /// Stores a value to a target.
     ///
     /// A local takes a copy. So does an argument; where it holds a reference, that is followed, at most 64 times
     /// (`DeadReference`). A name that holds an integer, a string or a buffer takes the value converted, as conversions are
     /// refused; one that holds a package takes a copy of a package alone, and one that holds a reference a copy of anything.
-    /// Where the place is a field unit, nothing is stored yet: the caller writes it next. Other names are refused as
+    /// Where the target is a field unit, nothing is stored yet: the caller writes it next. Other names are refused as
     /// `WrongType`, and buffer fields as `Unsupported`. A refused store changes nothing.
     #[tactic(auto, using(ar_space::specs::Change::changing))]
-    pub fn store(&mut self, alloc: Global, place: &Place, value: Value) -> Result<Stored, Refusal>
-        ensures { Does result self.new (stored place.now value) self.old }
+    pub fn store(
+        &mut self,
+        alloc: Global,
+        target: &StoreTarget,
+        value: Value,
+    ) -> Result<Stored, Refusal>
+        ensures { Does result self.new (stored target.now value) self.old }
     {
-        match place {
-            Place::Nowhere => Ok(Stored::Done),
-            Place::Slot(slot) => self.store_in_slot(alloc, *slot, value),
-            Place::Name(path) => self.store_in_name(alloc, path, value),
+        match target {
+            StoreTarget::Nowhere => Ok(Stored::Done),
+            StoreTarget::Slot(slot) => self.store_in_slot(alloc, *slot, value),
+            StoreTarget::Name(path) => self.store_in_name(alloc, path, value),
         }
     }
 
-    /// Stores a copy of a value to a place, without conversion: a name that holds a value holds the copy after it. Anything
+    /// Stores a copy of a value to a target, without conversion: a name that holds a value holds the copy after it. Anything
     /// else is as `store` has it.
     #[tactic(auto, using(ar_space::specs::Change::changing))]
-    pub fn copy_to(&mut self, alloc: Global, place: &Place, value: Value) -> Result<Stored, Refusal>
-        ensures { Does result self.new (copied_to place.now value) self.old }
+    pub fn copy_to(
+        &mut self,
+        alloc: Global,
+        target: &StoreTarget,
+        value: Value,
+    ) -> Result<Stored, Refusal>
+        ensures { Does result self.new (copied_to target.now value) self.old }
     {
-        match place {
-            Place::Nowhere => Ok(Stored::Done),
-            Place::Slot(slot) => self.store_in_slot(alloc, *slot, value),
-            Place::Name(path) => self.copy_in_name(alloc, path, value),
+        match target {
+            StoreTarget::Nowhere => Ok(Stored::Done),
+            StoreTarget::Slot(slot) => self.store_in_slot(alloc, *slot, value),
+            StoreTarget::Name(path) => self.copy_in_name(alloc, path, value),
         }
     }
 
@@ -53,8 +63,8 @@ impl<S> World<S> {
     fn store_in_slot(&mut self, alloc: Global, slot: Slot, value: Value) -> Result<Stored, Refusal>
         ensures { Does result self.new (store_in_slot slot value) self.old }
     {
-        let place = self.latest_frame()?;
-        store_in_frame(alloc, self, MOST_REFERENCES, place, slot, value)
+        let frame = self.latest_frame()?;
+        store_in_frame(alloc, self, MOST_REFERENCES, frame, slot, value)
     }
 
     #[tactic(auto, using(ar_space::specs::Change::changing), unfolding(crate::specs::Stores::store_in_name))]
@@ -186,7 +196,7 @@ impl<S> World<S> {
     }
 
     /// The name at a path holds a value from now on.
-    #[tactic(auto, using(crate::specs::Lifted::parts))]
+    #[tactic(auto, using(crate::proofs::Lifted::parts))]
     fn put_data(&mut self, path: &Path, value: Value) -> Result<(), Refusal>
         ensures { Does result self.new (on_names (replaced path.now (Data value))) self.old }
     {
@@ -197,25 +207,25 @@ impl<S> World<S> {
     pub(crate) fn copy_into_slot(
         &mut self,
         alloc: Global,
-        place: usize,
+        frame: usize,
         slot: Slot,
         value: Value,
     ) -> Result<Stored, Refusal>
-        ensures { Does result self.new (copy_into_slot place slot value) self.old }
+        ensures { Does result self.new (copy_into_slot frame slot value) self.old }
     {
         let copy = self.copy(alloc, value)?;
-        self.slot_put(place, slot, copy)?;
+        self.slot_put(frame, slot, copy)?;
         Ok(Stored::Done)
     }
 
-    /// A slot of the frame at a place holds a value from now on.
+    /// A slot of the frame at an index holds a value from now on.
     #[tactic(auto, unfolding(crate::specs::Stores::slot_put))]
-    fn slot_put(&mut self, place: usize, slot: Slot, value: Value) -> Result<(), Refusal>
-        ensures { Does result self.new (slot_put place slot value) self.old }
+    fn slot_put(&mut self, frame: usize, slot: Slot, value: Value) -> Result<(), Refusal>
+        ensures { Does result self.new (slot_put frame slot value) self.old }
     {
-        if place < self.frames.len() {
-            let frame = self.frames[place];
-            self.frames[place] = frame.with_slot(slot, value);
+        if frame < self.frames.len() {
+            let before = self.frames[frame];
+            self.frames[frame] = before.with_slot(slot, value);
         }
         Ok(())
     }

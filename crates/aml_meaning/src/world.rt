@@ -12,8 +12,7 @@ use std::alloc::Global;
 use std::marker::Model;
 
 /// What evaluation changes, the register space among it: the namespace, how many arguments its names take, the objects, the
-/// frames of the calls in progress with the number of the next one, the AML of control methods' bodies, the texts that `_OSI`
-/// knows, and how wide integers are.
+/// frames of the calls in progress with the number of the next one, the texts that `_OSI` knows, and how wide integers are.
 #[derive(Drop)]
 pub struct World<S> {
     pub(crate) names: Names,
@@ -21,7 +20,6 @@ pub struct World<S> {
     pub(crate) heap: Heap,
     pub(crate) frames: Vec<Frame>,
     pub(crate) started: u64,
-    pub(crate) tables: Vec<Octets>,
     pub(crate) space: S,
     pub(crate) osi: Vec<Octets>,
     pub(crate) width: IntegerWidth,
@@ -34,7 +32,7 @@ impl<S> Model for World<S> {
 
     ghost coded = { state_code S.code };
 
-    ghost view = { λ w. record { names = w.names; arities = w.arities; objects = w.heap; frames = w.frames.items; started = w.started; tables = w.tables.items; space = w.space; osi = w.osi.items; width = w.width } };
+    ghost view = { λ w. record { names = w.names; arities = w.arities; objects = w.heap; frames = w.frames.items; started = w.started; space = w.space; osi = w.osi.items; width = w.width } };
 }
 
 impl<S> World<S> {
@@ -60,7 +58,6 @@ impl<S> World<S> {
             heap: Heap::new(alloc),
             frames: Vec::new(alloc),
             started: 0,
-            tables: Vec::new(alloc),
             space,
             osi,
             width,

@@ -15,7 +15,7 @@ use Rattle.aml_path.specs.declared.segment.Seg.{Seg}
 use Rattle.aml_path.specs.Segments.{seg_cmp}
 use Rattle.aml_path.specs.Paths.{path_cmp, path_eq, is_below}
 use Rattle.aml_namespace.specs.Namespace.{Map}
-use Rattle.aml_namespace.specs.Kept.{only_equal}
+use Rattle.aml_namespace.proofs.Kept.{only_equal}
 use Rattle.aml_namespace.specs.Walks.{child_of, children, named, walked, Ascending}
 
 bytes_itself : (bs : List ℕ) → slice_cmp nat_cmp bs bs ≡ Equal

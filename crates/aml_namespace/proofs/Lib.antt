@@ -1,5 +1,9 @@
 pub mod Ascent
+pub mod Changes
 pub mod Children
+pub mod Kept
+pub mod Numbering
+pub mod Numbers
 pub mod Parts
 pub mod Picking
 pub mod Places

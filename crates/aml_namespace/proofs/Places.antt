@@ -11,7 +11,8 @@ use Rattle.std.specs.FinMap.{is_sorted}
 use Rattle.std.specs.FinMap.Entries.{below_all, by_order}
 use Rattle.aml_path.specs.declared.segment.Seg.{Seg}
 use Rattle.aml_path.specs.Paths.{path_cmp}
-use Rattle.aml_namespace.specs.Kept.{path_total, place, find_entry}
+use Rattle.aml_namespace.specs.Entries.{place, find_entry}
+use Rattle.aml_namespace.proofs.Kept.{path_total}
 
 first : (a b : Bool) → T (a && b) → T a
 first true b p = tt

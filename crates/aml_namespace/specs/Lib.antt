@@ -1,7 +1,6 @@
 pub mod Calls
-pub mod Changes
-pub mod Kept
+pub mod Entries
 pub mod Namespace
-pub mod Numbers
+pub mod Numbering
 pub mod Search
 pub mod Walks

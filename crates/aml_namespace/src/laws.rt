@@ -20,7 +20,7 @@ pub fn names_are_walked_in_path_order()
 {}
 
 /// After the mutexes are released, a path has what it had, under the same number: a mutex released, anything else as it was.
-#[tactic(auto, using(crate::specs::Changes::released_at))]
+#[tactic(auto, using(crate::proofs::Changes::released_at))]
 pub fn releasing_changes_mutexes_alone()
     ensures { (names : Namespace) (path : List Seg) → get (mutexes_released names).map path ≡ option_map entry_released (get names.map path) }
 {}

@@ -1,5 +1,5 @@
 //! The names that are declared, by whole paths in path order.
-ghost use Rattle.std.specs.Prelude.{◌≡◌, ◌++◌, ◌+◌, ◌<◌, ◌≤◌, ◌^◌, nat_lt, List, Ok, Err, None, OnOk, IsOkUnless, MatchOption, length, option_map};
+ghost use Rattle.std.specs.Prelude.{◌≡◌, ◌++◌, ◌+◌, ◌<◌, ◌≤◌, ◌^◌, nat_lt, List, Ok, Err, None, OnOk, OnErr, IfOk, IsOkUnless, MatchOption, length, option_map};
 ghost use Rattle.std.specs.Prelude as list;
 ghost use Rattle.std.specs.FinMap as map;
 ghost use Rattle.std.specs.Prelude.{T};
@@ -10,7 +10,8 @@ ghost use Rattle.ar_space.specs.Change.{Does};
 ghost use Rattle.aml_path.specs.Paths.{path_cmp, is_below};
 ghost use Rattle.aml_namespace.specs.Namespace.{root_alone, declared, without_below, with_object, replaced, released, entry_released, mutexes_released, numbered, with_number};
 ghost use Rattle.aml_namespace.specs.Search.{at_path};
-ghost use Rattle.aml_namespace.specs.Kept.{place, find_entry, StandsAt};
+ghost use Rattle.aml_namespace.specs.Entries.{place, find_entry, StandsAt};
+ghost use Rattle.aml_namespace.specs.Numbering.{Numbered};
 
 use crate::compare::compare;
 use aml_objects::{Entry, NamedObject};
@@ -21,7 +22,8 @@ use std::marker::Model;
 
 /// The namespace: what stands at each path, and the number of the next declaration.
 ///
-/// It is seen as a finite map of paths and that number. A number that was given is never given again.
+/// It is seen as a finite map of paths and that number. Each declaration's number is below the next one, and no two that stand
+/// have the same: a number that was given is never given again.
 #[derive(Debug, Drop)]
 pub struct Names {
     entries: Vec<(Path, Entry)>,
@@ -33,6 +35,7 @@ impl Model for Names {
     ghost use Rattle.std.specs.FinMap as map;
     ghost use Rattle.aml_path.specs.Paths.{path_cmp};
     ghost use Rattle.aml_namespace.specs.Namespace.{Namespace, namespace_code};
+    ghost use Rattle.aml_namespace.specs.Numbering.{Numbered};
 
     ghost Value = { Namespace };
 
@@ -40,7 +43,7 @@ impl Model for Names {
 
     ghost view = { λ n. record { map = map.from_sorted n.entries.items; next = n.next } };
 
-    ghost invariant = { λ n. T (map.is_sorted path_cmp n.entries.items) };
+    ghost invariant = { λ n. T (map.is_sorted path_cmp n.entries.items) × Numbered (record { map = map.from_sorted n.entries.items; next = n.next }) };
 }
 
 impl Names {
@@ -65,7 +68,7 @@ impl Names {
     }
 
     /// What stands at a path that is given in two parts, with the path. It takes no memory.
-    #[tactic(auto, using(crate::specs::Kept::finding))]
+    #[tactic(auto, using(crate::proofs::Kept::finding))]
     pub(crate) fn at(&self, front: &[Seg], back: &[Seg]) -> Option<&(Path, Entry)>
         ensures { option_map (λ found. found.now) result ≡ at_path self.now.map (front.now ++ back.now) }
     {
@@ -89,6 +92,13 @@ impl Names {
         with_number(&self.entries, number)
     }
 
+    /// Each declaration's number is below the next one, and no two that stand have the same. It is a law: it does nothing.
+    pub fn numbers_are_given_once(&self)
+        ensures { Numbered self.now }
+    {
+        let _next = self.next;
+    }
+
     /// Whether a number was given to a declaration, which may be gone by now. It takes no memory.
     pub fn was_given(&self, number: u64) -> bool
         ensures { result ≡ nat_lt number self.now.next }
@@ -99,10 +109,11 @@ impl Names {
     /// Declares a name, and gives the number of the declaration.
     ///
     /// A name whose parent doesn't stand is refused as `NotFound`, one that stands already as `Exists`, and one for which
-    /// no number is left as `ObjectLimit`. Where a name is refused, nothing changes.
-    #[tactic(auto, using(crate::specs::Kept::inserting), unfolding(crate::specs::Namespace::declared))]
+    /// no number is left as `ObjectLimit`. Where a name is refused, as for want of memory, nothing changes.
+    #[tactic(auto, using(crate::proofs::Kept::inserting), unfolding(crate::specs::Namespace::declared))]
     pub fn insert(&mut self, path: Path, object: NamedObject) -> Result<u64, Refusal>
-        ensures { Does result self.new (declared path object) self.old }
+        ensures change { Does result self.new (declared path object) self.old }
+        ensures refused { OnErr result (self.new ≡ self.old) }
     {
         let above = path.depth().saturating_sub(1);
         if self.at(&[], &path.segments()[..above]).is_none() {
@@ -114,22 +125,24 @@ impl Names {
         if self.next == u64::MAX {
             return Err(Refusal::Evaluation(EvaluationFault::ObjectLimit));
         }
-        let number = self.next;
-        self.add(path, Entry { number, object })?;
-        Ok(number)
+        self.add(path, object)
     }
 
-    /// Puts an entry where its path goes.
-    fn add(&mut self, path: Path, entry: Entry) -> Result<(), Refusal>
+    /// Puts a declaration where its path goes, under the next number.
+    fn add(&mut self, path: Path, object: NamedObject) -> Result<u64, Refusal>
         requires free { map.get self.old.map path ≡ None }
         requires room { self.old.next + 1 < 2 ^ 64 }
-        ensures added { OnOk result (self.new ≡ record { map = map.insert self.old.map path entry; next = self.old.next + 1 }) }
+        ensures added { OnOk result (self.new ≡ record { map = map.insert self.old.map path (record { number = self.old.next; object = object }); next = self.old.next + 1 }) }
+        ensures number { IfOk result (λ number. number ≡ self.old.next) }
+        ensures unchanged { OnErr result (self.new ≡ self.old) }
         ensures memory { IsOkUnless result OutOfMemory }
     {
+        let number = self.next;
         let count = place(&self.entries, &path);
-        self.entries.insert(count, (path, entry))?;
+        self.entries
+            .insert(count, (path, Entry { number, object }))?;
         self.next += 1;
-        Ok(())
+        Ok(number)
     }
 
     /// Puts another object in place of what stands at a path, under the number of its declaration. It takes no memory.
@@ -156,7 +169,7 @@ impl Names {
     }
 
     /// Removes the names below a path, and not the name at it. It takes no memory.
-    #[tactic(auto, using(crate::specs::Kept::removing), unfolding(crate::specs::Namespace::without_below))]
+    #[tactic(auto, using(crate::proofs::Kept::removing), unfolding(crate::specs::Namespace::without_below))]
     pub fn remove_below(&mut self, path: &Path)
         ensures { self.new ≡ without_below path.now self.old }
     {

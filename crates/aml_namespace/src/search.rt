@@ -1,6 +1,6 @@
 //! What a name finds from a scope (ACPI 6.5, 5.3).
 ghost use Rattle.std.specs.Prelude.{◌≡◌, ◌++◌, ◌-◌, ◌≤◌, Ok, Err, length, take, option_map, MatchResult};
-ghost use Rattle.ar_space.specs.Outcome.{Answers, seen};
+ghost use Rattle.ar_space.specs.Outcome.{Answers, NotMemory, seen};
 ghost use Rattle.aml_path.specs.Paths.{resolved};
 ghost use Rattle.aml_namespace.specs.Search.{at_path, search_up, found_or_not, first_found, through, target_of, found};
 
@@ -17,7 +17,8 @@ impl Names {
     /// nothing or to another alias, the name is refused as `NotFound`; the null name is refused as `BadName`, and a name
     /// with more `^` than the scope has parents as `AboveRoot`.
     pub fn lookup(&self, scope: &Path, name: &NameString) -> Result<&Entry, Refusal>
-        ensures { seen (λ entry. entry.now) result ≡ seen (λ f. f.1) (found self.now.map scope.now name.now) }
+        ensures answer { seen (λ entry. entry.now) result ≡ seen (λ f. f.1) (found self.now.map scope.now name.now) }
+        ensures memory { NotMemory result }
     {
         match self.find(scope, name) {
             Ok(found) => Ok(&found.1),
@@ -27,7 +28,8 @@ impl Names {
 
     /// The path of what a name finds from a scope, refused as `lookup` is. It takes no memory.
     pub fn locate(&self, scope: &Path, name: &NameString) -> Result<&Path, Refusal>
-        ensures { seen (λ path. path.now) result ≡ seen (λ f. f.0) (found self.now.map scope.now name.now) }
+        ensures answer { seen (λ path. path.now) result ≡ seen (λ f. f.0) (found self.now.map scope.now name.now) }
+        ensures memory { NotMemory result }
     {
         match self.find(scope, name) {
             Ok(found) => Ok(&found.0),
@@ -37,7 +39,8 @@ impl Names {
 
     /// What a name finds from a scope, with its path; refused as `lookup` refuses it. It takes no memory.
     pub fn find(&self, scope: &Path, name: &NameString) -> Result<&(Path, Entry), Refusal>
-        ensures { seen (λ f. f.now) result ≡ found self.now.map scope.now name.now }
+        ensures answer { seen (λ f. f.now) result ≡ found self.now.map scope.now name.now }
+        ensures memory { NotMemory result }
     {
         match self.first_found(scope, name) {
             Ok(first) => self.through(first),
@@ -47,7 +50,8 @@ impl Names {
 
     /// What a name finds from a scope, aliases not followed.
     fn first_found(&self, scope: &Path, name: &NameString) -> Result<&(Path, Entry), Refusal>
-        ensures { seen (λ f. f.now) result ≡ first_found self.now.map scope.now name.now }
+        ensures answer { seen (λ f. f.now) result ≡ first_found self.now.map scope.now name.now }
+        ensures memory { NotMemory result }
     {
         if name.is_searched() {
             return found_or_not(self.search_up(scope, name.segments()));
@@ -77,7 +81,8 @@ impl Names {
     /// The target of an alias, in one step; anything else stands for itself.
     #[tactic(auto, unfolding(crate::specs::Search::through))]
     fn through<'a>(&'a self, found: &'a (Path, Entry)) -> Result<&'a (Path, Entry), Refusal>
-        ensures { seen (λ f. f.now) result ≡ through self.now.map found.now }
+        ensures answer { seen (λ f. f.now) result ≡ through self.now.map found.now }
+        ensures memory { NotMemory result }
     {
         match &found.1.object {
             NamedObject::Alias(path) => target_of(self.at(&[], path.segments())),
@@ -88,7 +93,8 @@ impl Names {
 
 /// The target of an alias, which is no alias.
 fn target_of(target: Option<&(Path, Entry)>) -> Result<&(Path, Entry), Refusal>
-    ensures { seen (λ f. f.now) result ≡ target_of (option_map (λ f. f.now) target.entry) }
+    ensures answer { seen (λ f. f.now) result ≡ target_of (option_map (λ f. f.now) target.entry) }
+    ensures memory { NotMemory result }
 {
     match target {
         None => Err(Refusal::Namespace(NamespaceFault::NotFound)),
@@ -100,7 +106,8 @@ fn target_of(target: Option<&(Path, Entry)>) -> Result<&(Path, Entry), Refusal>
 }
 
 fn found_or_not(found: Option<&(Path, Entry)>) -> Result<&(Path, Entry), Refusal>
-    ensures { seen (λ f. f.now) result ≡ found_or_not (option_map (λ f. f.now) found.entry) }
+    ensures answer { seen (λ f. f.now) result ≡ found_or_not (option_map (λ f. f.now) found.entry) }
+    ensures memory { NotMemory result }
 {
     found.ok_or(Refusal::Namespace(NamespaceFault::NotFound))
 }
@@ -108,7 +115,8 @@ fn found_or_not(found: Option<&(Path, Entry)>) -> Result<&(Path, Entry), Refusal
 /// The part of the scope that stands before a name's own segments in the path that it stands for.
 #[tactic(auto, unfolding(aml_path::specs::Paths::resolved))]
 fn front_of<'a>(name: &NameString, scope: &'a Path) -> Result<&'a [Seg], Refusal>
-    ensures { MatchResult result (λ front. resolved name.now scope.now ≡ Ok (front.now ++ name.now.segments)) (λ refusal. resolved name.now scope.now ≡ Err refusal) }
+    ensures front { MatchResult result (λ front. resolved name.now scope.now ≡ Ok (front.now ++ name.now.segments)) (λ refusal. resolved name.now scope.now ≡ Err refusal) }
+    ensures memory { NotMemory result }
 {
     if name.is_null() {
         return Err(Refusal::Name(NameFault::BadName));

@@ -1,4 +1,4 @@
 pub mod Contents
 pub mod Copies
-pub mod Copying
+pub mod Methods
 pub mod Objects

@@ -14,7 +14,7 @@ const MAX_NESTING: usize = 64;
 
 impl Heap {
     /// A copy of a value, packages deeply. A refused one makes no object.
-    #[tactic(auto, using(crate::specs::Copying::copying))]
+    #[tactic(auto, using(crate::proofs::Copying::copying))]
     pub fn copy(&mut self, alloc: Global, value: Value) -> Result<Value, Refusal>
         ensures { Does result self.new (copied value) self.old }
     {
@@ -61,7 +61,7 @@ fn copy_buffer(alloc: Global, heap: &mut Heap, object: usize) -> Result<Value, R
 }
 
 #[cycle(copies)]
-#[tactic(auto, using(crate::specs::Copying::copying))]
+#[tactic(auto, using(crate::proofs::Copying::copying))]
 fn copy_package(
     alloc: Global,
     heap: &mut Heap,

@@ -1,18 +1,22 @@
 //! What stands at a path of the namespace (ACPI 6.5, 5.3 and 5.5.2).
 
+ghost use Rattle.std.specs.Prelude.{◌≡◌};
+ghost use Rattle.aml_objects.specs.Methods.{arguments_taken};
+
+use crate::body::Body;
 use crate::value::Value;
 use aml_path::Path;
 use ar_space::Width;
 
 /// What stands at a path: the number of its declaration, by which references find it, and what was declared.
-#[derive(Debug, PartialEq, Eq, Drop)]
+#[derive(Debug, Drop)]
 pub struct Entry {
     pub number: u64,
     pub object: NamedObject,
 }
 
 /// What a name was declared as.
-#[derive(Debug, PartialEq, Eq, Drop)]
+#[derive(Debug, Drop)]
 pub enum NamedObject {
     /// A predefined scope, or the root.
     Scope,
@@ -33,29 +37,36 @@ pub enum NamedObject {
     Alias(Path),
 }
 
-/// A control method: how many arguments it takes, 0 to 7, and its body.
-#[derive(Clone, Copy, Debug, PartialEq, Eq)]
+/// A control method: its flags, and what runs when it is called.
+#[derive(Debug, Drop)]
 pub struct Method {
-    pub arguments: u8,
+    pub flags: MethodFlags,
     pub body: MethodBody,
 }
 
-/// What runs when a control method is called.
+/// The flags of a control method (ACPI 6.5, 20.2.5.2, MethodFlags): bits 0 to 2 are how many arguments it takes, bit 3 is set
+/// where its calls are serialized, and bits 4 to 7 are its synchronization level.
 #[derive(Clone, Copy, Debug, PartialEq, Eq)]
+pub struct MethodFlags {
+    pub byte: u8,
+}
+
+impl MethodFlags {
+    /// How many arguments the control method takes, 0 to 7.
+    pub fn arguments(self) -> u8
+        ensures { result ≡ arguments_taken self }
+    {
+        self.byte % 8
+    }
+}
+
+/// What runs when a control method is called.
+#[derive(Debug, Drop)]
 pub enum MethodBody {
     /// The predefined `_OSI`.
     Osi,
     /// AML.
-    Aml(BodyPlace),
-}
-
-/// Where the body of a control method stands: in which of the strings of AML that the world keeps, counted from 0, at which
-/// offset its first byte, and how many bytes it has.
-#[derive(Clone, Copy, Debug, PartialEq, Eq)]
-pub struct BodyPlace {
-    pub table: usize,
-    pub offset: usize,
-    pub length: usize,
+    Aml(Body),
 }
 
 /// An operation region (ACPI 6.5, 5.5.2.4): its address space as AML numbers it, and where it begins and how long it is,

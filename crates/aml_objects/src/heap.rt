@@ -1,6 +1,6 @@
 //! The objects, each by its number.
 ghost use Rattle.std.specs.Prelude.{◌≡◌, ◌<◌, ◌++◌, ◌∷◌, [], List, length, take, ◌==◌, slice_get, slice_set, nat_lt, if◌then◌else◌, option_map, Ok, Err, OnOk, OnErr};
-ghost use Rattle.ar_space.specs.Outcome.{Answers};
+ghost use Rattle.ar_space.specs.Outcome.{Answers, NotMemory};
 ghost use Rattle.ar_space.specs.Change.{Does};
 ghost use Rattle.aml_objects.specs.Objects.{make, fits, few, make_string, make_buffer, make_package, string_at, buffer_at, elements_at, write_buffer, write_string, fitted_to, write_byte, byte_outcome, byte_written, or_dead, element_at, byte_at, write_element, element_outcome, element_written};
 
@@ -187,7 +187,8 @@ impl Heap {
     /// Writes one byte of a string or a buffer. Past its end, and of another object, this is refused as `DeadReference`.
     #[tactic(auto, unfolding(crate::specs::Objects::write_byte))]
     pub fn write_byte(&mut self, object: usize, index: usize, byte: u8) -> Result<(), Refusal>
-        ensures { Does result self.new (write_byte object index byte) self.old }
+        ensures change { Does result self.new (write_byte object index byte) self.old }
+        ensures memory { NotMemory result }
     {
         if object >= self.objects.len() {
             return Err(Refusal::Evaluation(EvaluationFault::DeadReference));
@@ -213,7 +214,8 @@ impl Heap {
     /// One byte of a string or a buffer. Past its end, and of another object, this is refused as `DeadReference`.
     #[tactic(auto, unfolding(crate::specs::Objects::byte_at))]
     pub fn byte(&self, object: usize, index: usize) -> Result<u8, Refusal>
-        ensures { Does result self.now (byte_at object index) self.now }
+        ensures answer { Does result self.now (byte_at object index) self.now }
+        ensures memory { NotMemory result }
     {
         if object >= self.objects.len() {
             return Err(Refusal::Evaluation(EvaluationFault::DeadReference));

@@ -6,7 +6,7 @@ ghost use Rattle.aml_objects.specs.Copies.{copied};
 
 /// A copy, refused or not, leaves the objects that were there as they were, each under its number, and any new one
 /// stands behind them.
-#[tactic(auto, using(crate::specs::Copying::copy_grows))]
+#[tactic(auto, using(crate::proofs::Copying::copy_grows))]
 pub fn a_copy_leaves_objects_as_they_were()
     ensures { (value : Value) (before : List Object) → (made : List Object) × ((copied value before).1 ≡ before ++ made) }
 {}

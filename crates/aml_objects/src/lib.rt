@@ -2,6 +2,7 @@
 //! namespace (ACPI 6.5, 5.3, 5.5.2 and 19.3.5).
 #![tactic(auto)]
 
+mod body;
 mod content;
 mod copies;
 mod entry;
@@ -10,9 +11,10 @@ pub mod laws;
 mod object;
 mod value;
 
+pub use body::Body;
 pub use content::Content;
 pub use entry::{
-    BodyPlace, BufferField, Entry, FieldSource, FieldUnit, Method, MethodBody, NamedObject,
+    BufferField, Entry, FieldSource, FieldUnit, Method, MethodBody, MethodFlags, NamedObject,
     OperationRegion, UpdateRule,
 };
 pub use heap::Heap;

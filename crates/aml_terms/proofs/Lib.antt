@@ -1,4 +1,6 @@
 pub mod Appended
+pub mod Levels
+pub mod Loops
 pub mod Numbers
 pub mod SpelledNames
 pub mod SpelledNumbers
@@ -7,4 +9,7 @@ pub mod SpelledParts
 pub mod SpelledRowTerms
 pub mod SpelledRows
 pub mod SpelledTerms
+pub mod Steps
+pub mod Tables
 pub mod Takes
+pub mod Viewed

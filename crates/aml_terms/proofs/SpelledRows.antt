@@ -113,7 +113,7 @@ found_step p q x y xs ih true true e f is all = let same : x ≡ y = cc is in rw
 found_step p q x y xs ih false true e f is all = ih is all
 found_step p q x y xs ih b false e f is all = absurd (cc all)
 
-found_all : {X : Type 0} (p q : X → Bool) (xs : List X) (y : X) → find p xs ≡ Some y → list_all q xs ≡ true → (p y ≡ true) × (q y ≡ true)
+pub found_all : {X : Type 0} (p q : X → Bool) (xs : List X) (y : X) → find p xs ≡ Some y → list_all q xs ≡ true → (p y ≡ true) × (q y ≡ true)
 found_all p q [] y is all = absurd (cc is)
 found_all p q (x ∷ xs) y is all = found_step p q x y xs (found_all p q xs y) (p x) (q x) refl refl is all
 

@@ -1,6 +1,1 @@
-pub mod Levels
-pub mod Loops
 pub mod Spelling
-pub mod Steps
-pub mod Tables
-pub mod Viewed

@@ -14,7 +14,7 @@ use ar_space::Refusal;
 use std::alloc::Global;
 
 /// Bits that are passed over.
-#[tactic(auto, using(crate::specs::Viewed::viewing), unfolding(aml_grammar::specs::Operands::reserved_field))]
+#[tactic(auto, using(crate::proofs::Viewed::viewing), unfolding(aml_grammar::specs::Operands::reserved_field))]
 pub(crate) fn reserved_field(alloc: Global, reader: &mut Reader<'_>) -> Result<Term, Refusal>
     ensures reads { Does (seen tree_view result) reader.new reserved_field reader.old }
     ensures shorter { OnOk result (length reader.new.rest < length reader.old.rest) }
@@ -30,7 +30,7 @@ pub(crate) fn reserved_field(alloc: Global, reader: &mut Reader<'_>) -> Result<T
 }
 
 /// The access and its attribute for the elements after it.
-#[tactic(auto, using(crate::specs::Viewed::viewing), unfolding(aml_grammar::specs::Operands::access_field))]
+#[tactic(auto, using(crate::proofs::Viewed::viewing), unfolding(aml_grammar::specs::Operands::access_field))]
 pub(crate) fn access_field(alloc: Global, reader: &mut Reader<'_>) -> Result<Term, Refusal>
     ensures reads { Does (seen tree_view result) reader.new access_field reader.old }
     ensures shorter { OnOk result (length reader.new.rest < length reader.old.rest) }
@@ -48,7 +48,7 @@ pub(crate) fn access_field(alloc: Global, reader: &mut Reader<'_>) -> Result<Ter
 }
 
 /// The access, its attribute and its length for the elements after it.
-#[tactic(auto, using(crate::specs::Viewed::viewing), unfolding(aml_grammar::specs::Operands::extended_access_field))]
+#[tactic(auto, using(crate::proofs::Viewed::viewing), unfolding(aml_grammar::specs::Operands::extended_access_field))]
 pub(crate) fn extended_access_field(alloc: Global, reader: &mut Reader<'_>) -> Result<Term, Refusal>
     ensures reads { Does (seen tree_view result) reader.new extended_access_field reader.old }
     ensures shorter { OnOk result (length reader.new.rest < length reader.old.rest) }
@@ -68,7 +68,7 @@ pub(crate) fn extended_access_field(alloc: Global, reader: &mut Reader<'_>) -> R
 }
 
 /// A segment and a count of bits: it is declared in the scope where the Field stands.
-#[tactic(auto, using(crate::specs::Viewed::viewing), unfolding(aml_grammar::specs::Operands::named_field))]
+#[tactic(auto, using(crate::proofs::Viewed::viewing), unfolding(aml_grammar::specs::Operands::named_field))]
 pub(crate) fn named_field(
     alloc: Global,
     reader: &mut Reader<'_>,

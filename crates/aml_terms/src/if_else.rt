@@ -16,7 +16,7 @@ use std::alloc::Global;
 
 /// An If, with the Else that may follow it (DefIfElse).
 #[cycle(parse)]
-#[tactic(auto, using(crate::specs::Levels::leveling), unfolding(aml_grammar::specs::Grammar::if_term))]
+#[tactic(auto, using(crate::proofs::Levels::leveling), unfolding(aml_grammar::specs::Grammar::if_term))]
 pub(crate) fn if_term(
     alloc: Global,
     reader: &mut Reader<'_>,
@@ -37,7 +37,7 @@ pub(crate) fn if_term(
 const ELSE: u8 = 0xA1;
 
 #[cycle(parse)]
-#[tactic(auto, using(crate::specs::Levels::leveling), unfolding(aml_grammar::specs::Grammar::else_part))]
+#[tactic(auto, using(crate::proofs::Levels::leveling), unfolding(aml_grammar::specs::Grammar::else_part))]
 fn else_part(
     alloc: Global,
     reader: &mut Reader<'_>,
@@ -58,7 +58,7 @@ fn else_part(
 }
 
 #[cycle(parse)]
-#[tactic(auto, using(crate::specs::Levels::leveling), unfolding(aml_grammar::specs::Grammar::else_operand))]
+#[tactic(auto, using(crate::proofs::Levels::leveling), unfolding(aml_grammar::specs::Grammar::else_operand))]
 fn else_operand(
     alloc: Global,
     reader: &mut Reader<'_>,
@@ -73,7 +73,7 @@ fn else_operand(
 }
 
 #[cycle(parse)]
-#[tactic(auto, using(crate::specs::Levels::leveling), unfolding(aml_grammar::specs::Grammar::else_term))]
+#[tactic(auto, using(crate::proofs::Levels::leveling), unfolding(aml_grammar::specs::Grammar::else_term))]
 fn else_term(
     alloc: Global,
     reader: &mut Reader<'_>,
@@ -96,7 +96,7 @@ fn else_term(
 
 /// A list in a package.
 #[cycle(parse)]
-#[tactic(auto, using(crate::specs::Levels::leveling))]
+#[tactic(auto, using(crate::proofs::Levels::leveling))]
 fn packed_list(
     alloc: Global,
     reader: &mut Reader<'_>,

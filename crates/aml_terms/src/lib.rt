@@ -17,4 +17,4 @@ mod terms;
 pub use aml_grammar::{
     Arities, Arity, Item, Mark, Opcode, Operand, OperandView, Term, TermCode, TermPart, TermReader,
 };
-pub use parse::{one_reading, parse_list, parse_table, read_as_spelled};
+pub use parse::{parse_list, parse_table, read_as_spelled};

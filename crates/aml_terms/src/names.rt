@@ -18,7 +18,7 @@ pub(crate) fn starts_name(byte: u8) -> bool
     byte == b'\\' || byte == b'^' || byte == b'.' || byte == b'/' || is_lead_name_char(byte)
 }
 
-#[tactic(auto, using(crate::specs::Steps::reading), unfolding(aml_grammar::specs::Names::lead_name_char))]
+#[tactic(auto, using(crate::proofs::Steps::reading), unfolding(aml_grammar::specs::Names::lead_name_char))]
 fn lead_name_char(reader: &mut Reader<'_>) -> Result<u8, Refusal>
     ensures reads { Does result reader.new lead_name_char reader.old }
     ensures shorter { OnOk result (length reader.new.rest < length reader.old.rest) }
@@ -31,7 +31,7 @@ fn lead_name_char(reader: &mut Reader<'_>) -> Result<u8, Refusal>
     }
 }
 
-#[tactic(auto, using(crate::specs::Steps::reading), unfolding(aml_grammar::specs::Names::name_char))]
+#[tactic(auto, using(crate::proofs::Steps::reading), unfolding(aml_grammar::specs::Names::name_char))]
 fn name_char(reader: &mut Reader<'_>) -> Result<u8, Refusal>
     ensures reads { Does result reader.new name_char reader.old }
     ensures shorter { OnOk result (length reader.new.rest < length reader.old.rest) }
@@ -45,7 +45,7 @@ fn name_char(reader: &mut Reader<'_>) -> Result<u8, Refusal>
 }
 
 /// One segment.
-#[tactic(auto, using(crate::specs::Steps::reading), unfolding(aml_grammar::specs::Names::segment))]
+#[tactic(auto, using(crate::proofs::Steps::reading), unfolding(aml_grammar::specs::Names::segment))]
 pub(crate) fn segment(reader: &mut Reader<'_>) -> Result<Seg, Refusal>
     ensures reads { Does result reader.new segment reader.old }
     ensures shorter { OnOk result (length reader.new.rest < length reader.old.rest) }
@@ -69,7 +69,7 @@ fn counted_segments(alloc: Global, reader: &mut Reader<'_>, count: u8) -> Result
     Ok(list)
 }
 
-#[tactic(auto, using(crate::specs::Steps::reading), unfolding(aml_grammar::specs::Names::multiple_segments))]
+#[tactic(auto, using(crate::proofs::Steps::reading), unfolding(aml_grammar::specs::Names::multiple_segments))]
 fn multiple_segments(alloc: Global, reader: &mut Reader<'_>) -> Result<Vec<Seg>, Refusal>
     ensures reads { Does (seen (λ v. v.items) result) reader.new multiple_segments reader.old }
     ensures shorter { OnOk result (length reader.new.rest < length reader.old.rest) }
@@ -82,7 +82,7 @@ fn multiple_segments(alloc: Global, reader: &mut Reader<'_>) -> Result<Vec<Seg>,
 }
 
 /// The segments of a name after its prefix.
-#[tactic(auto, using(crate::specs::Steps::reading), unfolding(aml_grammar::specs::Names::segments))]
+#[tactic(auto, using(crate::proofs::Steps::reading), unfolding(aml_grammar::specs::Names::segments))]
 fn segments(alloc: Global, reader: &mut Reader<'_>) -> Result<Vec<Seg>, Refusal>
     ensures reads { Does (seen (λ v. v.items) result) reader.new segments reader.old }
     ensures shorter { OnOk result (length reader.new.rest < length reader.old.rest) }
@@ -103,7 +103,7 @@ fn segments(alloc: Global, reader: &mut Reader<'_>) -> Result<Vec<Seg>, Refusal>
     counted_segments(alloc, reader, 1)
 }
 
-#[tactic(auto, using(crate::specs::Steps::reading), unfolding(aml_grammar::specs::Names::rooted_name))]
+#[tactic(auto, using(crate::proofs::Steps::reading), unfolding(aml_grammar::specs::Names::rooted_name))]
 fn rooted_name(alloc: Global, reader: &mut Reader<'_>) -> Result<NameString, Refusal>
     ensures reads { Does result reader.new rooted_name reader.old }
     ensures shorter { OnOk result (length reader.new.rest < length reader.old.rest) }
@@ -113,7 +113,7 @@ fn rooted_name(alloc: Global, reader: &mut Reader<'_>) -> Result<NameString, Ref
     Ok(NameString::new(Prefix::Root, segments))
 }
 
-#[tactic(auto, using(crate::specs::Steps::reading), unfolding(aml_grammar::specs::Names::relative_name))]
+#[tactic(auto, using(crate::proofs::Steps::reading), unfolding(aml_grammar::specs::Names::relative_name))]
 fn relative_name(alloc: Global, reader: &mut Reader<'_>) -> Result<NameString, Refusal>
     ensures reads { Does result reader.new relative_name reader.old }
     ensures shorter { OnOk result (length reader.new.rest < length reader.old.rest) }
@@ -124,7 +124,7 @@ fn relative_name(alloc: Global, reader: &mut Reader<'_>) -> Result<NameString, R
 }
 
 /// A name, where nothing else may stand: not the null name alone.
-#[tactic(auto, using(crate::specs::Steps::reading), unfolding(aml_grammar::specs::Names::name_string))]
+#[tactic(auto, using(crate::proofs::Steps::reading), unfolding(aml_grammar::specs::Names::name_string))]
 pub(crate) fn name_string(alloc: Global, reader: &mut Reader<'_>) -> Result<NameString, Refusal>
     ensures reads { Does result reader.new name_string reader.old }
     ensures shorter { OnOk result (length reader.new.rest < length reader.old.rest) }

@@ -61,7 +61,7 @@ fn allowed_path(
 }
 
 /// A declaration adds its arity, but not in a body.
-#[tactic(auto, using(crate::specs::Viewed::viewing))]
+#[tactic(auto, using(crate::proofs::Viewed::viewing))]
 pub(crate) fn declare(
     alloc: Global,
     reader: &mut Reader<'_>,
@@ -81,7 +81,7 @@ pub(crate) fn declare(
     Ok(())
 }
 
-#[tactic(auto, using(crate::specs::Viewed::viewing))]
+#[tactic(auto, using(crate::proofs::Viewed::viewing))]
 fn declare_earlier(
     alloc: Global,
     reader: &mut Reader<'_>,
@@ -101,7 +101,7 @@ fn declare_earlier(
 
 // ---- names
 
-#[tactic(auto, using(crate::specs::Viewed::viewing), unfolding(aml_grammar::specs::Operands::name_operand))]
+#[tactic(auto, using(crate::proofs::Viewed::viewing), unfolding(aml_grammar::specs::Operands::name_operand))]
 pub(crate) fn name_operand(alloc: Global, reader: &mut Reader<'_>) -> Result<Operand, Refusal>
     ensures reads { Does (seen part_view result) reader.new name_operand reader.old }
     ensures kept { OnOk result (length reader.new.rest ≤ length reader.old.rest) }
@@ -110,7 +110,7 @@ pub(crate) fn name_operand(alloc: Global, reader: &mut Reader<'_>) -> Result<Ope
 }
 
 /// The name of a Scope: its list stands where the name is found, or else at the path that it stands for.
-#[tactic(auto, using(crate::specs::Viewed::viewing), unfolding(aml_grammar::specs::Operands::scope_name))]
+#[tactic(auto, using(crate::proofs::Viewed::viewing), unfolding(aml_grammar::specs::Operands::scope_name))]
 pub(crate) fn scope_name(
     alloc: Global,
     reader: &mut Reader<'_>,
@@ -127,7 +127,7 @@ pub(crate) fn scope_name(
     Ok(Operand::Name(name))
 }
 
-#[tactic(auto, using(crate::specs::Viewed::viewing), unfolding(aml_grammar::specs::Operands::alias_source))]
+#[tactic(auto, using(crate::proofs::Viewed::viewing), unfolding(aml_grammar::specs::Operands::alias_source))]
 pub(crate) fn alias_source(
     alloc: Global,
     reader: &mut Reader<'_>,
@@ -143,7 +143,7 @@ pub(crate) fn alias_source(
     Ok(Operand::Name(name))
 }
 
-#[tactic(auto, using(crate::specs::Viewed::viewing), unfolding(aml_grammar::specs::Operands::external_name))]
+#[tactic(auto, using(crate::proofs::Viewed::viewing), unfolding(aml_grammar::specs::Operands::external_name))]
 pub(crate) fn external_name(
     alloc: Global,
     reader: &mut Reader<'_>,
@@ -160,7 +160,7 @@ pub(crate) fn external_name(
 }
 
 /// A name that is declared: it adds its arity as soon as it is accepted.
-#[tactic(auto, using(crate::specs::Viewed::viewing), unfolding(aml_grammar::specs::Operands::declared_name))]
+#[tactic(auto, using(crate::proofs::Viewed::viewing), unfolding(aml_grammar::specs::Operands::declared_name))]
 pub(crate) fn declared_name(
     alloc: Global,
     reader: &mut Reader<'_>,
@@ -183,7 +183,7 @@ pub(crate) fn declared_name(
 
 // ---- numbers and bytes
 
-#[tactic(auto, using(crate::specs::Viewed::viewing), unfolding(aml_grammar::specs::Operands::integer_operand))]
+#[tactic(auto, using(crate::proofs::Viewed::viewing), unfolding(aml_grammar::specs::Operands::integer_operand))]
 pub(crate) fn integer_operand(reader: &mut Reader<'_>, width: usize) -> Result<Operand, Refusal>
     requires { width ≤ 8 }
     ensures reads { Does (seen part_view result) reader.new (integer_operand width) reader.old }
@@ -193,7 +193,7 @@ pub(crate) fn integer_operand(reader: &mut Reader<'_>, width: usize) -> Result<O
 }
 
 /// The flags of a Method: bits 2 to 0 are its number of arguments.
-#[tactic(auto, using(crate::specs::Viewed::viewing), unfolding(aml_grammar::specs::Operands::method_flags))]
+#[tactic(auto, using(crate::proofs::Viewed::viewing), unfolding(aml_grammar::specs::Operands::method_flags))]
 pub(crate) fn method_flags(
     alloc: Global,
     reader: &mut Reader<'_>,
@@ -209,7 +209,7 @@ pub(crate) fn method_flags(
 }
 
 /// The object type of an External.
-#[tactic(auto, using(crate::specs::Viewed::viewing), unfolding(aml_grammar::specs::Operands::object_type))]
+#[tactic(auto, using(crate::proofs::Viewed::viewing), unfolding(aml_grammar::specs::Operands::object_type))]
 pub(crate) fn object_type(
     reader: &mut Reader<'_>,
     earlier: &mut Earlier,
@@ -226,7 +226,7 @@ pub(crate) fn object_type(
 const METHOD_TYPE: u8 = 8;
 
 /// The argument count of an External: it counts where the object type is that of a method.
-#[tactic(auto, using(crate::specs::Viewed::viewing), unfolding(aml_grammar::specs::Operands::argument_count))]
+#[tactic(auto, using(crate::proofs::Viewed::viewing), unfolding(aml_grammar::specs::Operands::argument_count))]
 pub(crate) fn argument_count(
     alloc: Global,
     reader: &mut Reader<'_>,
@@ -247,7 +247,7 @@ pub(crate) fn argument_count(
 }
 
 /// The text of a String.
-#[tactic(auto, using(crate::specs::Viewed::viewing), unfolding(aml_grammar::specs::Operands::text_operand))]
+#[tactic(auto, using(crate::proofs::Viewed::viewing), unfolding(aml_grammar::specs::Operands::text_operand))]
 pub(crate) fn text_operand(alloc: Global, reader: &mut Reader<'_>) -> Result<Operand, Refusal>
     ensures reads { Does (seen part_view result) reader.new text_operand reader.old }
     ensures kept { OnOk result (length reader.new.rest ≤ length reader.old.rest) }
@@ -256,7 +256,7 @@ pub(crate) fn text_operand(alloc: Global, reader: &mut Reader<'_>) -> Result<Ope
 }
 
 /// The rest of a package as bytes.
-#[tactic(auto, using(crate::specs::Viewed::viewing), unfolding(aml_grammar::specs::Operands::bytes_operand))]
+#[tactic(auto, using(crate::proofs::Viewed::viewing), unfolding(aml_grammar::specs::Operands::bytes_operand))]
 pub(crate) fn bytes_operand(alloc: Global, reader: &mut Reader<'_>) -> Result<Operand, Refusal>
     ensures reads { Does (seen part_view result) reader.new bytes_operand reader.old }
     ensures kept { OnOk result (length reader.new.rest ≤ length reader.old.rest) }
@@ -267,7 +267,7 @@ pub(crate) fn bytes_operand(alloc: Global, reader: &mut Reader<'_>) -> Result<Op
 // ---- by kind
 
 /// An operand of a kind that holds no terms.
-#[tactic(auto, using(crate::specs::Levels::leveling), unfolding(aml_grammar::specs::Grammar::operand))]
+#[tactic(auto, using(crate::proofs::Levels::leveling), unfolding(aml_grammar::specs::Grammar::operand))]
 pub(crate) fn operand(
     alloc: Global,
     reader: &mut Reader<'_>,

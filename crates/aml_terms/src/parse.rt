@@ -1,12 +1,11 @@
 //! Whole lists of terms.
-ghost use Rattle.std.specs.Prelude.{◌≡◌, List, Bool, false, ℕ, Ok, map, ◌⊎◌};
-ghost use Rattle.ar_space.specs.declared.refusal.Refusal.{Refusal};
+ghost use Rattle.std.specs.Prelude.{◌≡◌, List, Bool, false, ℕ, Ok, map};
 ghost use Rattle.ar_space.specs.Outcome.{Answers, seen};
 ghost use Rattle.aml_path.specs.declared.segment.Seg.{Seg};
 ghost use Rattle.aml_grammar.specs.declared.arities.Arity.{Arity};
 ghost use Rattle.aml_grammar.specs.Tree.{Tree};
 ghost use Rattle.aml_grammar.specs.View.{tree_view};
-ghost use Rattle.aml_grammar.specs.Grammar.{reading, table_reading, Reads, Fails};
+ghost use Rattle.aml_grammar.specs.Grammar.{reading, table_reading, Reads};
 ghost use Rattle.aml_terms.specs.Spelling.{IsSpelled};
 
 use crate::reader::Reader;
@@ -56,7 +55,7 @@ pub fn parse_list(
 
 /// The terms of a table after its header, whose names stand at the root, and the arities that hold after it: those from
 /// before, and then those that the table declares. The faults are those of `parse_list`.
-#[tactic(auto, using(crate::specs::Tables::tabling), unfolding(aml_grammar::specs::Grammar::term_list))]
+#[tactic(auto, using(crate::proofs::Tables::tabling), unfolding(aml_grammar::specs::Grammar::term_list))]
 pub fn parse_table(
     alloc: Global,
     bytes: &[u8],
@@ -82,18 +81,6 @@ pub fn parse_table(
     let after = reader.all_arities(alloc)?;
     Ok((terms, after))
 }
-
-/// Of each list exactly one holds: it has terms, or it has a first fault; and it has one of them.
-pub fn one_reading()
-    ensures some { (bs : List ℕ) (scope : List Seg) (body : Bool) (known : List Arity) →
-        ((ts : List Tree) × Reads bs scope body known ts) ⊎ ((r : Refusal) × Fails bs scope body known r) }
-    ensures trees { (bs : List ℕ) (scope : List Seg) (body : Bool) (known : List Arity) (ts us : List Tree) →
-        Reads bs scope body known ts → Reads bs scope body known us → ts ≡ us }
-    ensures fault { (bs : List ℕ) (scope : List Seg) (body : Bool) (known : List Arity) (q r : Refusal) →
-        Fails bs scope body known q → Fails bs scope body known r → q ≡ r }
-    ensures never_both { (bs : List ℕ) (scope : List Seg) (body : Bool) (known : List Arity) (ts : List Tree) (r : Refusal) →
-        Reads bs scope body known ts → Fails bs scope body known r → ⊥ }
-{}
 
 /// What is read is spelled so: the bytes of a list or a table are the spellings of its terms, one after another, and
 /// nothing else.

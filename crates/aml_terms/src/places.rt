@@ -17,7 +17,7 @@ use std::alloc::Global;
 
 /// A place that is read or written: a name, a local, an argument, Debug, or a term that gives a reference.
 #[cycle(parse)]
-#[tactic(auto, using(crate::specs::Levels::leveling), unfolding(aml_grammar::specs::Grammar::super_name))]
+#[tactic(auto, using(crate::proofs::Levels::leveling), unfolding(aml_grammar::specs::Grammar::super_name))]
 pub(crate) fn super_name(
     alloc: Global,
     reader: &mut Reader<'_>,
@@ -40,7 +40,7 @@ pub(crate) fn super_name(
 
 /// A place that a result is stored to, or none.
 #[cycle(parse)]
-#[tactic(auto, using(crate::specs::Levels::leveling), unfolding(aml_grammar::specs::Grammar::target))]
+#[tactic(auto, using(crate::proofs::Levels::leveling), unfolding(aml_grammar::specs::Grammar::target))]
 pub(crate) fn target(
     alloc: Global,
     reader: &mut Reader<'_>,
@@ -69,7 +69,7 @@ fn is_slot(byte: u8) -> bool
 
 /// A name, a local or an argument.
 #[cycle(parse)]
-#[tactic(auto, using(crate::specs::Levels::leveling), unfolding(aml_grammar::specs::Grammar::simple_name))]
+#[tactic(auto, using(crate::proofs::Levels::leveling), unfolding(aml_grammar::specs::Grammar::simple_name))]
 pub(crate) fn simple_name(
     alloc: Global,
     reader: &mut Reader<'_>,
@@ -93,7 +93,7 @@ const BUFFER: u8 = 0x11;
 
 /// What the elements after it are connected to: a name or a Buffer.
 #[cycle(parse)]
-#[tactic(auto, using(crate::specs::Levels::leveling), unfolding(aml_grammar::specs::Grammar::connection))]
+#[tactic(auto, using(crate::proofs::Levels::leveling), unfolding(aml_grammar::specs::Grammar::connection))]
 fn connection(
     alloc: Global,
     reader: &mut Reader<'_>,
@@ -115,7 +115,7 @@ fn connection(
 }
 
 #[cycle(parse)]
-#[tactic(auto, using(crate::specs::Levels::leveling), unfolding(aml_grammar::specs::Grammar::connect_field))]
+#[tactic(auto, using(crate::proofs::Levels::leveling), unfolding(aml_grammar::specs::Grammar::connect_field))]
 fn connect_field(
     alloc: Global,
     reader: &mut Reader<'_>,
@@ -137,7 +137,7 @@ fn connect_field(
 }
 
 #[cycle(parse)]
-#[tactic(auto, using(crate::specs::Levels::leveling), unfolding(aml_grammar::specs::Grammar::field))]
+#[tactic(auto, using(crate::proofs::Levels::leveling), unfolding(aml_grammar::specs::Grammar::field))]
 fn field(
     alloc: Global,
     reader: &mut Reader<'_>,
@@ -184,7 +184,7 @@ fn fields(
 
 /// The rest of a package as field elements.
 #[cycle(parse)]
-#[tactic(auto, using(crate::specs::Levels::leveling), unfolding(aml_grammar::specs::Grammar::fields_operand))]
+#[tactic(auto, using(crate::proofs::Levels::leveling), unfolding(aml_grammar::specs::Grammar::fields_operand))]
 pub(crate) fn fields_operand(
     alloc: Global,
     reader: &mut Reader<'_>,

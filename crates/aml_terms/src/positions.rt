@@ -121,7 +121,7 @@ pub(crate) fn in_loop(context: Context) -> Context
 const EXT_OP_PREFIX: u8 = 0x5B;
 
 /// The number of an opcode: one byte, or two after ExtOpPrefix.
-#[tactic(auto, using(crate::specs::Steps::reading), unfolding(aml_grammar::specs::Grammar::opcode))]
+#[tactic(auto, using(crate::proofs::Steps::reading), unfolding(aml_grammar::specs::Grammar::opcode))]
 fn opcode(reader: &mut Reader<'_>) -> Result<u16, Refusal>
     ensures reads { Does result reader.new opcode reader.old }
     ensures shorter { OnOk result (length reader.new.rest < length reader.old.rest) }
@@ -136,7 +136,7 @@ fn opcode(reader: &mut Reader<'_>) -> Result<u16, Refusal>
 }
 
 /// The row of the next opcode, which may stand in this position.
-#[tactic(auto, using(crate::specs::Steps::reading), unfolding(aml_grammar::specs::Grammar::row_at))]
+#[tactic(auto, using(crate::proofs::Steps::reading), unfolding(aml_grammar::specs::Grammar::row_at))]
 pub(crate) fn row_at(
     reader: &mut Reader<'_>,
     position: Position,
@@ -162,7 +162,7 @@ pub(crate) fn row_at(
 }
 
 /// An element of a package that is a name.
-#[tactic(auto, using(crate::specs::Viewed::viewing), unfolding(aml_grammar::specs::Grammar::element_name))]
+#[tactic(auto, using(crate::proofs::Viewed::viewing), unfolding(aml_grammar::specs::Grammar::element_name))]
 pub(crate) fn element_name(alloc: Global, reader: &mut Reader<'_>) -> Result<Term, Refusal>
     ensures reads { Does (seen tree_view result) reader.new element_name reader.old }
     ensures shorter { OnOk result (length reader.new.rest < length reader.old.rest) }
@@ -177,7 +177,7 @@ pub(crate) fn element_name(alloc: Global, reader: &mut Reader<'_>) -> Result<Ter
 }
 
 /// How many arguments a name takes; a call with arguments is marked.
-#[tactic(auto, using(crate::specs::Steps::reading), unfolding(aml_grammar::specs::Grammar::argument_number, aml_grammar::specs::Grammar::by_arities))]
+#[tactic(auto, using(crate::proofs::Steps::reading), unfolding(aml_grammar::specs::Grammar::argument_number, aml_grammar::specs::Grammar::by_arities))]
 pub(crate) fn argument_number(
     alloc: Global,
     reader: &mut Reader<'_>,
@@ -195,7 +195,7 @@ pub(crate) fn argument_number(
 }
 
 /// An If with its Else, or nothing, as its last operand.
-#[tactic(auto, using(crate::specs::Viewed::pushing))]
+#[tactic(auto, using(crate::proofs::Viewed::pushing))]
 pub(crate) fn with_else(
     opcode: Opcode,
     mut operands: Vec<Operand>,

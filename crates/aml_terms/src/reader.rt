@@ -127,7 +127,7 @@ impl<'a> Reader<'a> {
     }
 
     /// All bytes that are left.
-    #[tactic(auto, using(crate::specs::Steps::reading), unfolding(aml_grammar::specs::State::all_bytes))]
+    #[tactic(auto, using(crate::proofs::Steps::reading), unfolding(aml_grammar::specs::State::all_bytes))]
     pub(crate) fn all_bytes(&mut self, alloc: Global) -> Result<Vec<u8>, Refusal>
         ensures reads { Does (seen (λ v. v.items) result) self.new all_bytes self.old }
         ensures kept { OnOk result (length self.new.rest ≤ length self.old.rest) }
@@ -138,7 +138,7 @@ impl<'a> Reader<'a> {
     }
 
     /// Bytes up to a zero, and goes past it.
-    #[tactic(auto, using(crate::specs::Steps::reading), unfolding(aml_grammar::specs::State::text))]
+    #[tactic(auto, using(crate::proofs::Steps::reading), unfolding(aml_grammar::specs::State::text))]
     pub(crate) fn text(&mut self, alloc: Global) -> Result<Vec<u8>, Refusal>
         ensures reads { Does (seen (λ v. v.items) result) self.new text self.old }
         ensures kept { OnOk result (length self.new.rest ≤ length self.old.rest) }
@@ -149,7 +149,7 @@ impl<'a> Reader<'a> {
     }
 
     /// The integer of the next bytes, the lowest first.
-    #[tactic(auto, using(crate::specs::Steps::reading), unfolding(aml_grammar::specs::State::integer))]
+    #[tactic(auto, using(crate::proofs::Steps::reading), unfolding(aml_grammar::specs::State::integer))]
     pub(crate) fn integer(&mut self, count: usize) -> Result<u64, Refusal>
         requires { count ≤ 8 }
         ensures reads { Does result self.new (integer count) self.old }
@@ -161,7 +161,7 @@ impl<'a> Reader<'a> {
     }
 
     /// A count of bits, which is spelled as the length of a package.
-    #[tactic(auto, using(crate::specs::Steps::reading), unfolding(aml_grammar::specs::State::bit_count))]
+    #[tactic(auto, using(crate::proofs::Steps::reading), unfolding(aml_grammar::specs::State::bit_count))]
     pub(crate) fn bit_count(&mut self) -> Result<u64, Refusal>
         ensures reads { Does result self.new bit_count self.old }
         ensures kept { OnOk result (length self.new.rest ≤ length self.old.rest) }
@@ -171,7 +171,7 @@ impl<'a> Reader<'a> {
         Ok(length_of(lead, more))
     }
 
-    #[tactic(auto, using(crate::specs::Steps::reading), unfolding(aml_grammar::specs::State::package_size))]
+    #[tactic(auto, using(crate::proofs::Steps::reading), unfolding(aml_grammar::specs::State::package_size))]
     fn package_size(&mut self) -> Result<usize, Refusal>
         ensures reads { Does result self.new package_size self.old }
         ensures kept { OnOk result (length self.new.rest ≤ length self.old.rest) }
@@ -196,7 +196,7 @@ impl<'a> Reader<'a> {
     }
 
     /// Reads the length of a package, and leaves its bytes alone.
-    #[tactic(auto, using(crate::specs::Steps::reading), unfolding(aml_grammar::specs::State::enter))]
+    #[tactic(auto, using(crate::proofs::Steps::reading), unfolding(aml_grammar::specs::State::enter))]
     pub(crate) fn enter(&mut self) -> Result<Outer<'a>, Refusal>
         ensures reads { Does (seen (λ o. (o.at, o.rest.now)) result) self.new enter self.old }
         ensures kept { OnOk result (length self.new.rest ≤ length self.old.rest) }
@@ -238,7 +238,7 @@ impl<'a> Reader<'a> {
     }
 
     /// The arities so far, as arities of their own.
-    #[tactic(auto, using(crate::specs::Steps::reading))]
+    #[tactic(auto, using(crate::proofs::Steps::reading))]
     pub(crate) fn all_arities(&self, alloc: Global) -> Result<Arities, Refusal>
         ensures { Answers result (Ok self.now.arities) }
     {
@@ -256,7 +256,7 @@ impl<'a> Reader<'a> {
     }
 
     /// How many arguments a name takes that stands, without a search, for a path.
-    #[tactic(auto, using(crate::specs::Steps::reading))]
+    #[tactic(auto, using(crate::proofs::Steps::reading))]
     pub(crate) fn arity_of(
         &self,
         alloc: Global,
@@ -270,7 +270,7 @@ impl<'a> Reader<'a> {
     }
 
     /// The path where a name is found, or else the one that it stands for.
-    #[tactic(auto, using(crate::specs::Steps::reading))]
+    #[tactic(auto, using(crate::proofs::Steps::reading))]
     pub(crate) fn place_of(
         &self,
         alloc: Global,

@@ -23,7 +23,7 @@ use std::alloc::Global;
 
 /// A term, with at most this many levels below it.
 #[cycle(parse)]
-#[tactic(auto, using(crate::specs::Levels::leveling), unfolding(aml_grammar::specs::Grammar::term_at, aml_grammar::specs::Grammar::term_in))]
+#[tactic(auto, using(crate::proofs::Levels::leveling), unfolding(aml_grammar::specs::Grammar::term_at, aml_grammar::specs::Grammar::term_in))]
 pub(crate) fn term(
     alloc: Global,
     reader: &mut Reader<'_>,
@@ -47,7 +47,7 @@ pub(crate) fn term(
 
 /// A term that begins with a name.
 #[cycle(parse)]
-#[tactic(auto, using(crate::specs::Levels::leveling), unfolding(aml_grammar::specs::Grammar::named))]
+#[tactic(auto, using(crate::proofs::Levels::leveling), unfolding(aml_grammar::specs::Grammar::named))]
 fn named(
     alloc: Global,
     reader: &mut Reader<'_>,
@@ -70,7 +70,7 @@ fn named(
 }
 
 #[cycle(parse)]
-#[tactic(auto, using(crate::specs::Levels::leveling))]
+#[tactic(auto, using(crate::proofs::Levels::leveling))]
 fn named_term(
     alloc: Global,
     reader: &mut Reader<'_>,
@@ -91,7 +91,7 @@ fn named_term(
 
 /// A name and as many terms as it takes arguments.
 #[cycle(parse)]
-#[tactic(auto, using(crate::specs::Levels::leveling), unfolding(aml_grammar::specs::Grammar::invocation))]
+#[tactic(auto, using(crate::proofs::Levels::leveling), unfolding(aml_grammar::specs::Grammar::invocation))]
 fn invocation(
     alloc: Global,
     reader: &mut Reader<'_>,
@@ -138,7 +138,7 @@ fn arguments(
 
 /// A term that begins with an opcode.
 #[cycle(parse)]
-#[tactic(auto, using(crate::specs::Levels::leveling), unfolding(aml_grammar::specs::Grammar::coded_term))]
+#[tactic(auto, using(crate::proofs::Levels::leveling), unfolding(aml_grammar::specs::Grammar::coded_term))]
 fn coded_term(
     alloc: Global,
     reader: &mut Reader<'_>,
@@ -165,7 +165,7 @@ fn coded_term(
 }
 
 #[cycle(parse)]
-#[tactic(auto, using(crate::specs::Levels::leveling), unfolding(aml_grammar::specs::Grammar::row_term))]
+#[tactic(auto, using(crate::proofs::Levels::leveling), unfolding(aml_grammar::specs::Grammar::row_term))]
 fn row_term(
     alloc: Global,
     reader: &mut Reader<'_>,
@@ -186,7 +186,7 @@ fn row_term(
 }
 
 #[cycle(parse)]
-#[tactic(auto, using(crate::specs::Levels::leveling), unfolding(aml_grammar::specs::Grammar::plain_term))]
+#[tactic(auto, using(crate::proofs::Levels::leveling), unfolding(aml_grammar::specs::Grammar::plain_term))]
 fn plain_term(
     alloc: Global,
     reader: &mut Reader<'_>,
@@ -208,7 +208,7 @@ fn plain_term(
 
 /// The operands of a row of the table.
 #[cycle(parse)]
-#[tactic(auto, using(crate::specs::Levels::leveling))]
+#[tactic(auto, using(crate::proofs::Levels::leveling))]
 pub(crate) fn row_operands(
     alloc: Global,
     reader: &mut Reader<'_>,
@@ -231,7 +231,7 @@ pub(crate) fn row_operands(
 
 /// Operands in a package.
 #[cycle(parse)]
-#[tactic(auto, using(crate::specs::Levels::leveling))]
+#[tactic(auto, using(crate::proofs::Levels::leveling))]
 fn packed_operands(
     alloc: Global,
     reader: &mut Reader<'_>,
@@ -288,7 +288,7 @@ fn operands(
 }
 
 #[cycle(parse)]
-#[tactic(auto, using(crate::specs::Levels::leveling), unfolding(aml_grammar::specs::Grammar::operand))]
+#[tactic(auto, using(crate::proofs::Levels::leveling), unfolding(aml_grammar::specs::Grammar::operand))]
 fn operand(
     alloc: Global,
     reader: &mut Reader<'_>,
@@ -326,7 +326,7 @@ fn operand(
 }
 
 #[cycle(parse)]
-#[tactic(auto, using(crate::specs::Levels::leveling), unfolding(aml_grammar::specs::Grammar::term_operand))]
+#[tactic(auto, using(crate::proofs::Levels::leveling), unfolding(aml_grammar::specs::Grammar::term_operand))]
 pub(crate) fn term_operand(
     alloc: Global,
     reader: &mut Reader<'_>,
@@ -343,7 +343,7 @@ pub(crate) fn term_operand(
 
 /// The terms of a term, under the path of its name where it has one.
 #[cycle(parse)]
-#[tactic(auto, using(crate::specs::Levels::leveling))]
+#[tactic(auto, using(crate::proofs::Levels::leveling))]
 fn term_list(
     alloc: Global,
     reader: &mut Reader<'_>,
@@ -368,7 +368,7 @@ fn term_list(
 
 /// The elements of a package.
 #[cycle(parse)]
-#[tactic(auto, using(crate::specs::Levels::leveling))]
+#[tactic(auto, using(crate::proofs::Levels::leveling))]
 fn element_list(
     alloc: Global,
     reader: &mut Reader<'_>,
@@ -393,7 +393,7 @@ fn element_list(
 
 /// The list of a term, under the path of its name where it has one.
 #[cycle(parse)]
-#[tactic(auto, using(crate::specs::Levels::leveling))]
+#[tactic(auto, using(crate::proofs::Levels::leveling))]
 fn list_under(
     alloc: Global,
     reader: &mut Reader<'_>,
@@ -413,7 +413,7 @@ fn list_under(
 }
 
 #[cycle(parse)]
-#[tactic(auto, using(crate::specs::Levels::leveling), unfolding(aml_grammar::specs::Grammar::list_operand))]
+#[tactic(auto, using(crate::proofs::Levels::leveling), unfolding(aml_grammar::specs::Grammar::list_operand))]
 pub(crate) fn list_operand(
     alloc: Global,
     reader: &mut Reader<'_>,

@@ -78,9 +78,9 @@ pub fn byte(alloc: Global, byte: Option<u8>) -> Result<String, Trouble> {
 }
 
 /// A control method: how many arguments it takes, and whether it is the predefined one.
-fn method(alloc: Global, method: Method) -> Result<String, Trouble> {
-    let count = method.arguments;
-    match method.body {
+fn method(alloc: Global, method: &Method) -> Result<String, Trouble> {
+    let count = method.flags.arguments();
+    match &method.body {
         MethodBody::Osi => Ok(format!(in alloc; "predefined method {count}")?),
         MethodBody::Aml(_) => Ok(format!(in alloc; "method {count}")?),
     }
@@ -94,7 +94,7 @@ pub fn object(alloc: Global, object: &NamedObject) -> Result<String, Trouble> {
         NamedObject::Processor => word(alloc, "processor"),
         NamedObject::PowerResource => word(alloc, "power resource"),
         NamedObject::ThermalZone => word(alloc, "thermal zone"),
-        NamedObject::Method(one) => method(alloc, *one),
+        NamedObject::Method(one) => method(alloc, one),
         NamedObject::Data(held) => value(alloc, *held),
         NamedObject::OperationRegion(_) => word(alloc, "region"),
         NamedObject::FieldUnit(_) => word(alloc, "field"),

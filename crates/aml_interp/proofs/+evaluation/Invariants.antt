@@ -5,7 +5,7 @@ use Rattle.aml_meaning.specs.Meaning.{meaning}
 use Rattle.aml_meaning.specs.Tasks.{in_turn}
 use Rattle.aml_meaning.specs.DataTerms.{elements_in_turn}
 use Rattle.aml_meaning.specs.StatementTerms.{loop}
-use Rattle.aml_fields.specs.UnitLoops.{Reading, Writing}
+use Rattle.aml_fields.proofs.UnitLoops.{Reading, Writing}
 use Rattle.aml_meaning.specs.Fields.{index_unit, index_unit_written}
 use Rattle.aml_meaning.specs.FieldCalls.{asked, answer_within}
 use Rattle.aml_meaning.specs.InvocationTerms.{arguments_in_turn}
@@ -65,17 +65,17 @@ decreases-declarations::eval_new_scope g l = 40 * (l.budget.now + (32 - l.depth)
 abbrev pub decreases-declarations::eval_declaration : goal.decreases-declarations::eval_declaration
 decreases-declarations::eval_declaration g l = 40 * (l.budget.now + (32 - l.depth)) + 28
 
-abbrev pub decreases-places::eval_referring : goal.decreases-places::eval_referring
-decreases-places::eval_referring g l = 40 * (l.budget.now + (32 - l.depth)) + 1
+abbrev pub decreases-targets::eval_referring : goal.decreases-targets::eval_referring
+decreases-targets::eval_referring g l = 40 * (l.budget.now + (32 - l.depth)) + 1
 
-abbrev pub decreases-places::eval_inner_place : goal.decreases-places::eval_inner_place
-decreases-places::eval_inner_place g l = 40 * (l.budget.now + (32 - l.depth)) + 2
+abbrev pub decreases-targets::eval_inner_target : goal.decreases-targets::eval_inner_target
+decreases-targets::eval_inner_target g l = 40 * (l.budget.now + (32 - l.depth)) + 2
 
-abbrev pub decreases-places::eval_place : goal.decreases-places::eval_place
-decreases-places::eval_place g l = 40 * (l.budget.now + (32 - l.depth)) + 3
+abbrev pub decreases-targets::eval_target : goal.decreases-targets::eval_target
+decreases-targets::eval_target g l = 40 * (l.budget.now + (32 - l.depth)) + 3
 
-abbrev pub decreases-places::eval_targeted : goal.decreases-places::eval_targeted
-decreases-places::eval_targeted g l = 40 * (l.budget.now + (32 - l.depth)) + 26
+abbrev pub decreases-targets::eval_targeted : goal.decreases-targets::eval_targeted
+decreases-targets::eval_targeted g l = 40 * (l.budget.now + (32 - l.depth)) + 26
 
 abbrev pub decreases-operators::eval_store : goal.decreases-operators::eval_store
 decreases-operators::eval_store g l = 40 * (l.budget.now + (32 - l.depth)) + 27

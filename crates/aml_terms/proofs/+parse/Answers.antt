@@ -3,8 +3,8 @@ use Rattle.std.proofs.lemmas.List.{map_push}
 use Rattle.aml_grammar.specs.declared.context.Position.TheVariants as positions
 use Rattle.aml_grammar.specs.Grammar.{by_arities, term_at, items, field, fields, nothing_earlier}
 use Rattle.aml_grammar.specs.View.{part_view, tree_view}
-use Rattle.aml_terms.specs.Loops.{times_init, times_turn, times_err, times_done, until_init, until_turn, until_err, until_done}
-use Rattle.aml_terms.specs.Levels.{operands_init, operands_turn, operands_err, operands_end, operands_done}
+use Rattle.aml_terms.proofs.Loops.{times_init, times_turn, times_err, times_done, until_init, until_turn, until_err, until_done}
+use Rattle.aml_terms.proofs.Levels.{operands_init, operands_turn, operands_err, operands_end, operands_done}
 use Rattle.aml_terms.proofs.+parse.Goals as goal
 
 -- ---- arguments

@@ -3,7 +3,7 @@ use Rattle.ar_space.specs.Change.{Same}
 use Rattle.aml_grammar.specs.declared.context.Position.TheVariants as positions
 use Rattle.aml_grammar.specs.State.{times, until_end}
 use Rattle.aml_grammar.specs.Grammar.{by_arities, term_at, field, operands, nothing_earlier}
-use Rattle.aml_terms.specs.Loops.{with_front}
+use Rattle.aml_terms.proofs.Loops.{with_front}
 use Rattle.aml_grammar.specs.View.{part_view, tree_view}
 use Rattle.aml_terms.proofs.+parse.Given as goal
 

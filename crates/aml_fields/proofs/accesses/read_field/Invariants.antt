@@ -1,5 +1,5 @@
 use Rattle.aml_fields.specs.Regions.{read_unit}
-use Rattle.aml_fields.specs.UnitLoops.{Reading}
+use Rattle.aml_fields.proofs.UnitLoops.{Reading}
 use Rattle.aml_fields.proofs.accesses.read_field.Given as goal
 
 abbrev pub invariant-loop-unit : goal.invariant-loop-unit

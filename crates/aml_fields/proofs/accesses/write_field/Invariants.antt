@@ -1,5 +1,5 @@
 use Rattle.aml_fields.specs.Regions.{write_unit}
-use Rattle.aml_fields.specs.UnitLoops.{Writing}
+use Rattle.aml_fields.proofs.UnitLoops.{Writing}
 use Rattle.aml_fields.proofs.accesses.write_field.Given as goal
 
 abbrev pub invariant-loop-unit : goal.invariant-loop-unit

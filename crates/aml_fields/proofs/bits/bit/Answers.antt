@@ -2,7 +2,7 @@ use Rattle.std.proofs.Common.{◌==◌, ◌/◌, ◌%◌, sym, ap, ◌∙◌}
 use Rattle.std.proofs.lemmas.List.{get_or_past}
 use Rattle.std.proofs.lemmas.Nat.Bits.{shr_and_one, bit_at-zero}
 use Rattle.aml_fields.specs.Bits.{bit}
-use Rattle.aml_fields.specs.BitLists.{bit_of}
+use Rattle.aml_fields.proofs.BitLists.{bit_of}
 use Rattle.aml_fields.proofs.bits.bit.Goals as goal
 
 pub returns-then-place-bytes : goal.returns-then-place-bytes

@@ -1,9 +1,9 @@
 -- Each bit goes behind those before it.
 use Rattle.std.proofs.Common.{◌≡◌, ◌+◌, ◌<◌, false, length, drop, set, refl, sym, ap, ◌∙◌, subst, arith, get_or-drop}
 use Rattle.aml_fields.specs.Bits.{bits_of, field_bits, put}
-use Rattle.aml_fields.specs.Numbers.{known_by_bits}
-use Rattle.aml_fields.specs.BitLists.{length_of}
-use Rattle.aml_fields.specs.Putting.{put_none, put_more}
+use Rattle.aml_fields.proofs.Numbers.{known_by_bits}
+use Rattle.aml_fields.proofs.BitLists.{length_of}
+use Rattle.aml_fields.proofs.Putting.{put_none, put_more}
 use Rattle.aml_fields.proofs.bits.copy_bits.Goals as goal
 
 pub loop-n-init : goal.loop-n-init

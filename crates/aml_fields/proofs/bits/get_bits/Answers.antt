@@ -1,7 +1,7 @@
 use Rattle.std.proofs.Common.{ap, ◌∙◌, drop, length, replicate, rules}
 use Rattle.aml_fields.specs.Bits.{bits_of, field_bits, put, bytes_within}
-use Rattle.aml_fields.specs.Numbers.{over_zeros}
-use Rattle.aml_fields.specs.Putting.{length_extended}
+use Rattle.aml_fields.proofs.Numbers.{over_zeros}
+use Rattle.aml_fields.proofs.Putting.{length_extended}
 use Rattle.aml_fields.proofs.bits.get_bits.Goals as goal
 
 pub returns : goal.returns

@@ -4,7 +4,7 @@ use Rattle.std.proofs.Math.Bool.{beq}
 use Rattle.std.proofs.Math.Nat.{mod-lt}
 use Rattle.std.proofs.lemmas.Nat.{one_shl}
 use Rattle.aml_fields.specs.Bits.{bits_of}
-use Rattle.aml_fields.specs.BitLists.{bit_turned}
+use Rattle.aml_fields.proofs.BitLists.{bit_turned}
 use Rattle.aml_fields.proofs.bits.set_bit.Goals as goal
 
 other : (r v : Bool) → not (beq r v) ≡ true → not r ≡ v

@@ -1,4 +1,4 @@
-use Rattle.aml_fields.specs.Covers.{units_cover}
+use Rattle.aml_fields.proofs.Covers.{units_cover}
 use Rattle.aml_fields.proofs.laws.units_hold_each_bit_once.Goals as goal
 
 pub returns : goal.returns

@@ -1,6 +1,6 @@
 use Rattle.std.proofs.Common.{ap, ◌∙◌, refl}
 use Rattle.aml_fields.specs.Bits.{bits_of}
-use Rattle.aml_fields.specs.Numbers.{bits_of_number, known_by_bits, small_bytes}
+use Rattle.aml_fields.proofs.Numbers.{bits_of_number, known_by_bits, small_bytes}
 use Rattle.aml_fields.proofs.unit.bytes_of.Goals as goal
 
 pub returns-clause-bits : goal.returns-clause-bits

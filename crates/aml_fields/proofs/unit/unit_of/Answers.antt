@@ -1,6 +1,6 @@
 use Rattle.std.proofs.Common.{ap, sym, ◌∙◌}
 use Rattle.byteorder.specs.Endian.{little_number}
-use Rattle.aml_fields.specs.Numbers.{one_number}
+use Rattle.aml_fields.proofs.Numbers.{one_number}
 use Rattle.aml_fields.proofs.unit.unit_of.Goals as goal
 
 pub returns : goal.returns

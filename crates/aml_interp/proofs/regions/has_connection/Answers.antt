@@ -1,7 +1,7 @@
 use Rattle.std.proofs.Common.{◌≡◌, ap, sym, ◌∙◌}
 use Rattle.aml_grammar.specs.Apart.{first_of}
 use Rattle.aml_grammar.specs.PartTree.{part_tree, part_list}
-use Rattle.aml_interp.specs.Steps.{connected, unconnected_end, or_true, or_false}
+use Rattle.aml_interp.proofs.Steps.{connected, unconnected_end, or_true, or_false}
 use Rattle.aml_interp.proofs.regions.has_connection.Goals as goal
 
 pub returns-in-None : goal.returns-in-None

@@ -2,7 +2,7 @@ use Rattle.std.proofs.Common.{◌≡◌, refl, ap, ◌∙◌}
 use Rattle.ar_space.specs.Change.{does_same, does_err, same_ok}
 use Rattle.aml_grammar.specs.Apart.{first_of}
 use Rattle.aml_grammar.specs.PartTree.{part_tree, part_list}
-use Rattle.aml_interp.specs.Steps.{same_laid, laid_end, laid_by}
+use Rattle.aml_interp.proofs.Steps.{same_laid, laid_end, laid_by}
 use Rattle.aml_interp.proofs.regions.lay_elements.Goals as goal
 
 pub elements-init : goal.elements-init

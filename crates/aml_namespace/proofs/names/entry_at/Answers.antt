@@ -1,5 +1,5 @@
 use Rattle.std.proofs.Common.{◌∙◌, ap, sym, Some}
-use Rattle.aml_namespace.specs.Kept.{found_there}
+use Rattle.aml_namespace.proofs.Kept.{found_there}
 use Rattle.aml_namespace.proofs.names.entry_at.Goals as goal
 
 pub returns-in-Some : goal.returns-in-Some

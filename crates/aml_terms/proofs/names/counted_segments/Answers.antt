@@ -1,6 +1,6 @@
 use Rattle.std.proofs.Common.{arith}
 use Rattle.aml_grammar.specs.Names.{segment}
-use Rattle.aml_terms.specs.Loops.{times_init, times_turn, times_err, times_done}
+use Rattle.aml_terms.proofs.Loops.{times_init, times_turn, times_err, times_done}
 use Rattle.aml_terms.proofs.names.counted_segments.Goals as goal
 
 pub segments-init : goal.segments-init

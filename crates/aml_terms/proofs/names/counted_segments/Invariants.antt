@@ -2,7 +2,7 @@ use Rattle.std.proofs.Common.{◌-◌, ◌+◌, ◌≤◌, length}
 use Rattle.ar_space.specs.Change.{Same}
 use Rattle.aml_grammar.specs.State.{times}
 use Rattle.aml_grammar.specs.Names.{segment}
-use Rattle.aml_terms.specs.Loops.{with_front}
+use Rattle.aml_terms.proofs.Loops.{with_front}
 use Rattle.aml_terms.proofs.names.counted_segments.Given as goal
 
 abbrev pub invariant-segments : goal.invariant-segments

@@ -1,7 +1,0 @@
-use Rattle.std.proofs.Common.{rules}
-use Rattle.aml_meaning.specs.declared.datum.Datum.{the_lemmas}
-use Rattle.aml_meaning.specs.Given.{row_is_list}
-use Rattle.aml_interp.proofs.outward.package.Goals as goal
-
-pub returns : goal.returns
-returns c = search (rules, the_lemmas, row_is_list)

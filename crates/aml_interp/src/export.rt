@@ -1,0 +1,221 @@
+//! How an answer is handed out.
+ghost use Rattle.std.specs.Prelude.{◌≡◌, [], map};
+ghost use Rattle.ar_space.specs.Outcome.{seen};
+ghost use Rattle.ar_space.specs.Change.{Does};
+ghost use Rattle.aml_objects.specs.Objects.{string_at, buffer_at};
+ghost use Rattle.aml_meaning.specs.Given as given;
+ghost use Rattle.aml_meaning.specs.Exporting.{text_exported, bytes_exported, reference_exported, value_exported, use_exported, name_exported, held_exported, element_exported, each_exported, elements_exported, package_exported, exported};
+
+use crate::field_calls::field_exported;
+use crate::terms::charge;
+use aml_meaning::{Datum, NameUse, World};
+use aml_objects::{Element, Reference, Value};
+use aml_path::{NameString, Path};
+use ar_space::{EvaluationFault, Refusal, Space};
+use std::alloc::Global;
+
+/// How deep packages may nest that are handed out.
+const MAX_NESTING: usize = 64;
+
+/// A value as an answer hands it out.
+#[tactic(auto, unfolding(aml_meaning::specs::Exporting::exported))]
+pub(crate) fn exported<S: Space>(
+    alloc: Global,
+    world: &mut World<S>,
+    budget: &mut u64,
+    value: Value,
+) -> Result<Datum, Refusal>
+    ensures { Does (seen given.given_of result) (world.new, budget.new) (exported S.accesses value) (world.old, budget.old) }
+{
+    value_exported(alloc, world, budget, MAX_NESTING, value)
+}
+
+/// The value of a package with these elements.
+fn package(list: Vec<Datum>) -> Datum
+    ensures { given.given_of result ≡ given.Package (given.givens (map given.given_of list.items)) }
+{
+    Datum::Package(list)
+}
+
+#[tactic(auto, using(aml_meaning::proofs::Exports::exporting), unfolding(aml_meaning::specs::Exporting::text_exported))]
+fn text_exported<S: Space>(
+    alloc: Global,
+    world: &World<S>,
+    budget: u64,
+    object: usize,
+) -> Result<Datum, Refusal>
+    ensures { Does (seen given.given_of result) (world.now, budget) (text_exported object) (world.now, budget) }
+{
+    let bytes = world.string(alloc, object)?;
+    Ok(Datum::Text(bytes))
+}
+
+#[tactic(auto, using(aml_meaning::proofs::Exports::exporting), unfolding(aml_meaning::specs::Exporting::bytes_exported))]
+fn bytes_exported<S: Space>(
+    alloc: Global,
+    world: &World<S>,
+    budget: u64,
+    object: usize,
+) -> Result<Datum, Refusal>
+    ensures { Does (seen given.given_of result) (world.now, budget) (bytes_exported object) (world.now, budget) }
+{
+    let bytes = world.buffer(alloc, object)?;
+    Ok(Datum::Bytes(bytes))
+}
+
+#[tactic(auto, using(aml_meaning::proofs::Exports::exporting), unfolding(aml_meaning::specs::Exporting::reference_exported))]
+fn reference_exported<S: Space>(
+    alloc: Global,
+    world: &World<S>,
+    budget: u64,
+    reference: Reference,
+) -> Result<Datum, Refusal>
+    ensures { Does (seen given.given_of result) (world.now, budget) (reference_exported reference) (world.now, budget) }
+{
+    match reference {
+        Reference::Name(number) => world.path_of(alloc, number),
+        Reference::Slot(_, _) => Ok(Datum::Reference),
+        Reference::Element(_, _) => Ok(Datum::Reference),
+        Reference::Byte(_, _) => Ok(Datum::Reference),
+    }
+}
+
+#[cycle(exporting)]
+#[tactic(auto, using(aml_meaning::proofs::Exports::exporting), unfolding(aml_meaning::specs::Exporting::value_exported))]
+fn value_exported<S: Space>(
+    alloc: Global,
+    world: &mut World<S>,
+    budget: &mut u64,
+    levels: usize,
+    value: Value,
+) -> Result<Datum, Refusal>
+    ensures { Does (seen given.given_of result) (world.new, budget.new) (value_exported S.accesses (package_exported S.accesses levels) value) (world.old, budget.old) }
+{
+    match value {
+        Value::Uninitialized => Ok(Datum::Nothing),
+        Value::Integer(number) => Ok(Datum::Integer(number)),
+        Value::String(object) => text_exported(alloc, world, *budget, object),
+        Value::Buffer(object) => bytes_exported(alloc, world, *budget, object),
+        Value::Package(object) => package_exported(alloc, world, budget, levels, object),
+        Value::Reference(reference) => reference_exported(alloc, world, *budget, reference),
+    }
+}
+
+#[cycle(exporting)]
+#[tactic(auto, using(aml_meaning::proofs::Exports::exporting))]
+fn package_exported<S: Space>(
+    alloc: Global,
+    world: &mut World<S>,
+    budget: &mut u64,
+    levels: usize,
+    object: usize,
+) -> Result<Datum, Refusal>
+    ensures { Does (seen given.given_of result) (world.new, budget.new) (package_exported S.accesses levels object) (world.old, budget.old) }
+{
+    if levels == 0 {
+        return Err(Refusal::Evaluation(EvaluationFault::ObjectLimit));
+    }
+    elements_exported(alloc, world, budget, levels - 1, object)
+}
+
+#[cycle(exporting)]
+#[tactic(auto, using(aml_meaning::proofs::Exports::exporting), unfolding(aml_meaning::specs::Exporting::elements_exported))]
+fn elements_exported<S: Space>(
+    alloc: Global,
+    world: &mut World<S>,
+    budget: &mut u64,
+    levels: usize,
+    object: usize,
+) -> Result<Datum, Refusal>
+    ensures { Does (seen given.given_of result) (world.new, budget.new) (elements_exported S.accesses (package_exported S.accesses levels) object) (world.old, budget.old) }
+{
+    let elements = world.elements(alloc, object)?;
+    let list = each_exported(alloc, world, budget, levels, elements.as_slice())?;
+    Ok(package(list))
+}
+
+#[cycle(exporting)]
+#[tactic(auto, using(aml_meaning::proofs::Exports::exporting))]
+fn each_exported<S: Space>(
+    alloc: Global,
+    world: &mut World<S>,
+    budget: &mut u64,
+    levels: usize,
+    elements: &[Element],
+) -> Result<Vec<Datum>, Refusal>
+    ensures { Does (seen (λ v. map given.given_of v.items) result) (world.new, budget.new) (each_exported S.accesses (package_exported S.accesses levels) elements.now []) (world.old, budget.old) }
+{
+    let mut done = Vec::new(alloc);
+    for element in elements {
+        let datum = element_exported(alloc, world, budget, levels, element)?;
+        done.push(datum)?;
+    }
+    Ok(done)
+}
+
+/// An element of a package, which costs a step.
+#[cycle(exporting)]
+#[tactic(auto, using(aml_meaning::proofs::Exports::exporting), unfolding(aml_meaning::specs::Exporting::element_exported))]
+fn element_exported<S: Space>(
+    alloc: Global,
+    world: &mut World<S>,
+    budget: &mut u64,
+    levels: usize,
+    element: &Element,
+) -> Result<Datum, Refusal>
+    ensures { Does (seen given.given_of result) (world.new, budget.new) (element_exported S.accesses (package_exported S.accesses levels) element.now) (world.old, budget.old) }
+{
+    charge(world, budget)?;
+    held_exported(alloc, world, budget, levels, element)
+}
+
+#[cycle(exporting)]
+#[tactic(auto, using(aml_meaning::proofs::Exports::exporting), unfolding(aml_meaning::specs::Exporting::held_exported))]
+fn held_exported<S: Space>(
+    alloc: Global,
+    world: &mut World<S>,
+    budget: &mut u64,
+    levels: usize,
+    element: &Element,
+) -> Result<Datum, Refusal>
+    ensures { Does (seen given.given_of result) (world.new, budget.new) (held_exported S.accesses (package_exported S.accesses levels) element.now) (world.old, budget.old) }
+{
+    match element {
+        Element::Value(value) => value_exported(alloc, world, budget, levels, *value),
+        Element::Name(name, scope) => name_exported(alloc, world, budget, levels, name, scope),
+    }
+}
+
+#[cycle(exporting)]
+#[tactic(auto, using(aml_meaning::proofs::Exports::exporting), unfolding(aml_meaning::specs::Exporting::name_exported))]
+fn name_exported<S: Space>(
+    alloc: Global,
+    world: &mut World<S>,
+    budget: &mut u64,
+    levels: usize,
+    name: &NameString,
+    scope: &Path,
+) -> Result<Datum, Refusal>
+    ensures { Does (seen given.given_of result) (world.new, budget.new) (name_exported S.accesses (package_exported S.accesses levels) name.now scope.now) (world.old, budget.old) }
+{
+    let found = world.name_use(alloc, name, scope)?;
+    use_exported(alloc, world, budget, levels, found)
+}
+
+#[cycle(exporting)]
+#[tactic(auto, using(aml_meaning::proofs::Exports::exporting), unfolding(aml_meaning::specs::Exporting::use_exported))]
+fn use_exported<S: Space>(
+    alloc: Global,
+    world: &mut World<S>,
+    budget: &mut u64,
+    levels: usize,
+    found: NameUse,
+) -> Result<Datum, Refusal>
+    ensures { Does (seen given.given_of result) (world.new, budget.new) (use_exported S.accesses (package_exported S.accesses levels) found) (world.old, budget.old) }
+{
+    match found {
+        NameUse::Value(value) => value_exported(alloc, world, budget, levels, value),
+        NameUse::FieldUnit(unit) => field_exported(alloc, world, budget, unit),
+        NameUse::Path(path) => Ok(Datum::Named(path)),
+    }
+}

@@ -1,0 +1,41 @@
+-- Names that stand outside of control methods stay.
+use Rattle.std.specs.Prelude.{List}
+use Rattle.ar_space.specs.Accesses.{Accesses}
+use Rattle.aml_path.specs.declared.segment.Seg.{Seg}
+use Rattle.aml_namespace.specs.Namespace.{Namespace, with_object, without_below}
+use Rattle.aml_meaning.specs.State.{State}
+use Rattle.aml_laws.specs.Becomes.{Becomes}
+use Rattle.aml_laws.specs.Outside.{OutsideIn, Outside, Stands}
+use Rattle.aml_laws.proofs.Outside.{Kept, kept_same, kept_twice, kept_new, kept_replaced, kept_removed, kept_released, method_apart}
+use Rattle.aml_laws.proofs.Callees.{MethodAt}
+use Rattle.aml_laws.proofs.Keeping.{Law}
+use Rattle.aml_laws.proofs.Loading.{becomes}
+
+-- at the end of a call: its control method is above no path that is outside of control methods
+pub kept_called : (u w : Namespace) (q p : List Seg) → MethodAt u.map q → (OutsideIn u.map p → Kept u.map w.map p) → OutsideIn u.map p → Kept u.map (without_below q w).map p
+unfolding without_below
+kept_called u w q p at h o = kept_twice u.map w.map _ p (h o) (kept_removed w.map q p (method_apart u.map q p at.entry o at.there at.method) (h o).outside)
+
+abbrev pub names_law : {S : Type 0} (accesses : Accesses S) → List Seg → Law accesses
+names_law accesses p = record {
+  Moves = λ w v. OutsideIn w.names.map p → Kept w.names.map v.names.map p;
+  stays = λ w o. kept_same w.names.map p o;
+  twice = λ u v w h i o. kept_twice u.names.map v.names.map w.names.map p (h o) (i (h o).outside);
+  objects = λ w h k o. kept_same w.names.map p o;
+  declares = λ w q n free o. kept_new w.names.map q _ p free o;
+  replaces = λ w q n e at is o. kept_replaced w.names.map q (with_object n e) p is o;
+  slots = λ w frames is o. kept_same w.names.map p o;
+  between = λ w v vs h o. h o;
+  removes = λ u w q at h o. kept_called u.names w.names q p at h o;
+  space = λ w s r o. kept_same w.names.map p o;
+  arities = λ w list o. kept_same w.names.map p o;
+  releases = λ w o. kept_released w.names p o;
+}
+
+-- a path that is outside of control methods stays so
+pub outside_stays : {S : Type 0} (accesses : Accesses S) (w v : State S) (p : List Seg) → Becomes accesses w v → Outside w p → Outside v p
+outside_stays accesses w v p h o = (becomes (names_law accesses p) w v h o).outside
+
+-- and a name that stands there stands there still
+pub names_stay : {S : Type 0} (accesses : Accesses S) (w v : State S) (p : List Seg) → Becomes accesses w v → Outside w p → Stands w p → Stands v p
+names_stay accesses w v p h o st = (becomes (names_law accesses p) w v h o).stands st

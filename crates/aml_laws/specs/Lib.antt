@@ -1,0 +1,10 @@
+pub mod Becomes
+pub mod Calls
+pub mod Declares
+pub mod Kinds
+pub mod Mutexes
+pub mod Numbers
+pub mod Outside
+pub mod Parts
+pub mod Reached
+pub mod Within

@@ -1,0 +1,22 @@
+//! What holds of every evaluation (ACPI 6.5, 5.3 and 5.5): each law is the contract of a function that does nothing.
+#![tactic(auto)]
+
+mod calls;
+mod frames;
+mod integers;
+mod mutexes;
+mod names;
+mod numbers;
+mod objects;
+mod space;
+mod steps;
+
+pub use calls::calls_leave_nothing;
+pub use frames::frames_are_balanced;
+pub use integers::operators_form_integers_of_the_width;
+pub use mutexes::no_mutex_stays_acquired;
+pub use names::{declared_names_stand, names_stay, outside_of_control_methods};
+pub use numbers::{numbers_are_given_once, numbers_never_fall, what_is_gone_stays_gone};
+pub use objects::objects_keep_number_and_kind;
+pub use space::space_is_reached_by_accesses;
+pub use steps::no_more_terms_than_steps;

@@ -1,0 +1,42 @@
+//! Which names stand after an evaluation.
+ghost use Rattle.std.specs.Prelude.{◌≡◌, ℕ, List, [], ◌∷◌, ◌++◌, true, Ok};
+ghost use Rattle.std.specs.FinMap.{get};
+ghost use Rattle.ar_space.specs.Accesses.{Accesses};
+ghost use Rattle.aml_path.specs.declared.segment.Seg.{Seg};
+ghost use Rattle.aml_grammar.specs.Tree.{Tree, Trees};
+ghost use Rattle.aml_meaning.specs.declared.flow.Flow.{Flow};
+ghost use Rattle.aml_meaning.specs.declared.flow.Flow.TheVariants as flow;
+ghost use Rattle.aml_meaning.specs.State.{State};
+ghost use Rattle.aml_meaning.specs.Tasks.{task, in_turn};
+ghost use Rattle.aml_meaning.specs.Meaning.{meaning};
+ghost use Rattle.aml_laws.specs.Becomes.{Becomes};
+ghost use Rattle.aml_laws.specs.Outside.{Outside, Stands, is_open};
+ghost use Rattle.aml_laws.specs.Declares.{Declares, IsItem};
+
+/// A path is outside of control methods where at each path above it stands a name, and that of no control method. So the root
+/// is, and each path one level below a name that is outside of control methods and is none itself.
+#[tactic(auto, using(crate::proofs::Outside::outside_root, crate::proofs::Outside::outside_below))]
+pub fn outside_of_control_methods<S>()
+    ensures root { (w : State S) → Outside w [] }
+    ensures below { (w : State S) (path : List Seg) (segment : Seg) → Outside w path → is_open (get w.names.map path) ≡ true → Outside w (path ++ segment ∷ []) }
+{}
+
+/// No evaluation removes a name that stands outside of control methods, nor does it declare a control method above one, however
+/// it ends. At the end of a call the names below its control method are removed.
+#[tactic(auto, using(crate::proofs::NamesStay::outside_stays, crate::proofs::NamesStay::names_stay))]
+pub fn names_stay<S>()
+    ensures outside { (accesses : Accesses S) (w v : State S) (path : List Seg) → Becomes accesses w v → Outside w path → Outside v path }
+    ensures stands { (accesses : Accesses S) (w v : State S) (path : List Seg) → Becomes accesses w v → Outside w path → Stands w path → Stands v path }
+{}
+
+/// A term that declares a name outside of control methods by one of its operands, and is not refused, leaves it at the path that
+/// the operand stands for in its scope (the fields of a list, whose names its elements declare, aren't meant); and a list that is
+/// evaluated to its end leaves there the names of all its terms whose paths were outside of control methods when it began. The
+/// list of a device or another scope is evaluated so in the path of that scope.
+#[tactic(auto, using(crate::proofs::Placing::declares_stands, crate::proofs::Placing::items_stand))]
+pub fn declared_names_stand<S>()
+    ensures term { (accesses : Accesses S) (scope : List Seg) (depth : ℕ) (t : Tree) (path : List Seg) (s : State S × ℕ) (f : Flow) →
+        Declares scope t path → Outside s.0 path → (meaning accesses (task scope depth t) s).0 ≡ Ok f → Stands (meaning accesses (task scope depth t) s).1.0 path }
+    ensures list { (accesses : Accesses S) (scope : List Seg) (depth : ℕ) (t : Tree) (ts : Trees) (path : List Seg) (s : State S × ℕ) →
+        IsItem t ts → Declares scope t path → Outside s.0 path → (in_turn (meaning accesses) scope depth ts s).0 ≡ Ok flow.Next → Stands (in_turn (meaning accesses) scope depth ts s).1.0 path }
+{}

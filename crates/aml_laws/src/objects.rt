@@ -1,0 +1,12 @@
+//! Objects: strings, buffers and packages.
+ghost use Rattle.std.specs.Prelude.{◌≡◌, ℕ};
+ghost use Rattle.ar_space.specs.Accesses.{Accesses};
+ghost use Rattle.aml_meaning.specs.State.{State};
+ghost use Rattle.aml_laws.specs.Becomes.{Becomes};
+ghost use Rattle.aml_laws.specs.Kinds.{KeepsKinds};
+
+/// No object goes: a string, a buffer or a package is one as long as the world stands, under the number that it got.
+#[tactic(auto, using(crate::proofs::KindsKept::kinds_kept))]
+pub fn objects_keep_number_and_kind<S>()
+    ensures kept { (accesses : Accesses S) (w v : State S) → Becomes accesses w v → KeepsKinds w.objects v.objects }
+{}

@@ -1,0 +1,234 @@
+-- Where values are stored, and what stands there (ACPI 6.5, 19.3.5 and 20.2.2: SuperName, Target).
+use Rattle.std.specs.Prelude.{ℕ, zero, suc, ◌-◌, List, length, Option, Some, None, Ok, Err, slice_get}
+use Rattle.std.specs.FinMap.{get}
+use Rattle.ar_space.specs.declared.refusal.Refusal.TheVariants as refusal
+use Rattle.ar_space.specs.declared.refusal.EvaluationFault.TheVariants.{DeadReference, NoValue, Unsupported}
+use Rattle.ar_space.specs.declared.refusal.NamespaceFault.TheVariants.{NotFound}
+use Rattle.ar_space.specs.declared.refusal.ValueFault.TheVariants.{WrongType}
+use Rattle.ar_space.specs.Outcome.{Outcome}
+use Rattle.ar_space.specs.Change.{Change, give, stop, settle, ◌>>=◌}
+use Rattle.aml_path.specs.declared.segment.Seg.{Seg}
+use Rattle.aml_path.specs.Paths.{Name}
+use Rattle.aml_objects.specs.declared.value.Value.{Value}
+use Rattle.aml_objects.specs.declared.value.Value.TheVariants as value
+use Rattle.aml_objects.specs.declared.value.Slot.{Slot}
+use Rattle.aml_objects.specs.declared.value.Reference.{Reference}
+use Rattle.aml_objects.specs.declared.value.Reference.TheVariants as reference
+use Rattle.aml_objects.specs.declared.object.Element.{Element}
+use Rattle.aml_objects.specs.declared.object.Element.TheVariants as element
+use Rattle.aml_objects.specs.declared.entry.Entry.{Entry}
+use Rattle.aml_objects.specs.declared.entry.NamedObject.{NamedObject}
+use Rattle.aml_objects.specs.declared.entry.NamedObject.TheVariants as object
+use Rattle.aml_objects.specs.Objects.{element_at, byte_at}
+use Rattle.aml_namespace.specs.Namespace.{numbered}
+use Rattle.aml_meaning.specs.declared.frame.Frame.{Frame}
+use Rattle.aml_meaning.specs.declared.store_target.StoreTarget.{StoreTarget}
+use Rattle.aml_meaning.specs.declared.store_target.StoreTarget.TheVariants as targets
+use Rattle.aml_meaning.specs.declared.store_target.Holding.{Holding}
+use Rattle.aml_meaning.specs.declared.store_target.Holding.TheVariants as holding
+use Rattle.aml_meaning.specs.declared.store_target.Held.{Held}
+use Rattle.aml_meaning.specs.declared.store_target.Held.TheVariants as held
+use Rattle.aml_meaning.specs.declared.object_type.ObjectType.{ObjectType}
+use Rattle.aml_meaning.specs.declared.object_type.ObjectType.TheVariants as types
+use Rattle.aml_meaning.specs.declared.object_type.Referent.{Referent}
+use Rattle.aml_meaning.specs.declared.object_type.Referent.TheVariants as referent
+use Rattle.aml_meaning.specs.State.{State, on_objects}
+use Rattle.aml_meaning.specs.Slots.{frame_index, slot_at}
+use Rattle.aml_meaning.specs.Readings.{entry_found, read_as}
+
+-- ---- what a name holds
+
+abbrev pub holding_of : NamedObject → Holding
+holding_of (object.Data v) = holding.Value v
+holding_of (object.FieldUnit u) = holding.FieldUnit u
+holding_of (object.BufferField b) = holding.BufferField
+holding_of _ = holding.Nothing
+
+abbrev pub holding_in : Option Entry → Outcome Holding
+holding_in None = Err (refusal.Namespace NotFound)
+holding_in (Some e) = Ok (holding_of e.object)
+
+-- what the name at a path holds
+unfoldable pub held_at : {S : Type 0} → List Seg → Change (State S) Holding
+held_at p w = (holding_in (get w.names.map p), w)
+
+-- ---- frames
+
+abbrev pub last_index : ℕ → Option ℕ
+last_index zero = None
+last_index (suc n) = Some n
+
+abbrev pub or_ended : Option ℕ → Outcome ℕ
+or_ended None = Err (refusal.Evaluation DeadReference)
+or_ended (Some k) = Ok k
+
+-- the index of the frame of the control method that runs, and of the frame with a number
+unfoldable pub latest_frame : {S : Type 0} → Change (State S) ℕ
+latest_frame w = (or_ended (last_index (length w.frames)), w)
+
+unfoldable pub frame_found : {S : Type 0} → ℕ → Change (State S) ℕ
+frame_found n w = (or_ended (frame_index n w.frames), w)
+
+-- what a slot of the frame at an index holds
+unfoldable pub slot_held : {S : Type 0} → ℕ → Slot → Change (State S) Value
+slot_held k slot w = (slot_at slot w.frames (Some k), w)
+
+-- what a slot of the control method that runs holds
+unfoldable pub own_slot : {S : Type 0} → Slot → Change (State S) Value
+own_slot slot = do
+  k ← latest_frame
+  slot_held k slot
+
+-- a value that is read
+abbrev pub initialized : Value → Outcome Value
+initialized value.Uninitialized = Err (refusal.Evaluation NoValue)
+initialized (value.Integer n) = Ok (value.Integer n)
+initialized (value.String o) = Ok (value.String o)
+initialized (value.Buffer o) = Ok (value.Buffer o)
+initialized (value.Package o) = Ok (value.Package o)
+initialized (value.Reference r) = Ok (value.Reference r)
+
+unfoldable pub slot_read : {S : Type 0} → Slot → Change (State S) Value
+slot_read slot = do
+  v ← own_slot slot
+  settle (initialized v)
+
+-- ---- what a target holds (Increment and Decrement read there and store there)
+
+abbrev pub held_in : Holding → Outcome Held
+held_in (holding.Value v) = Ok (held.Value v)
+held_in (holding.FieldUnit u) = Ok (held.FieldUnit u)
+held_in holding.BufferField = Err (refusal.Evaluation (Unsupported 0x5B13))
+held_in holding.Nothing = Err (refusal.Value WrongType)
+
+unfoldable pub name_read : {S : Type 0} → List Seg → Change (State S) Held
+name_read p = do
+  h ← held_at p
+  settle (held_in h)
+
+unfoldable pub held_in_slot : {S : Type 0} → Slot → Change (State S) Held
+held_in_slot slot = do
+  v ← slot_read slot
+  give (held.Value v)
+
+abbrev pub target_read : {S : Type 0} → StoreTarget → Change (State S) Held
+target_read targets.Nowhere = stop (refusal.Value WrongType)
+target_read (targets.Slot slot) = held_in_slot slot
+target_read (targets.Name p) = name_read p
+
+-- ---- what a reference refers to in the end (SizeOf and ObjectType)
+
+-- the type of what holds no value
+abbrev pub referent_of : NamedObject → Referent
+referent_of (object.Data v) = referent.Value v
+referent_of object.Scope = referent.Object types.Uninitialized
+referent_of object.Device = referent.Object types.Device
+referent_of object.Processor = referent.Object types.Processor
+referent_of object.PowerResource = referent.Object types.PowerResource
+referent_of object.ThermalZone = referent.Object types.ThermalZone
+referent_of (object.Method m) = referent.Object types.Method
+referent_of (object.OperationRegion r) = referent.Object types.OperationRegion
+referent_of (object.FieldUnit u) = referent.Object types.FieldUnit
+referent_of (object.BufferField b) = referent.Object types.BufferField
+referent_of (object.Mutex n) = referent.Object types.Mutex
+referent_of object.Event = referent.Object types.Event
+referent_of (object.Alias p) = referent.Object types.Uninitialized
+
+-- the declaration with a number, while it stands
+abbrev pub or_gone : Option (List Seg × Entry) → Outcome (List Seg × Entry)
+or_gone None = Err (refusal.Evaluation DeadReference)
+or_gone (Some e) = Ok e
+
+unfoldable pub declaration : {S : Type 0} → ℕ → Change (State S) (List Seg × Entry)
+declaration n w = (or_gone (numbered n w.names.map), w)
+
+-- a byte of a string or a buffer is a buffer field
+unfoldable pub byte_followed : {S : Type 0} → ℕ → ℕ → Change (State S) Referent
+byte_followed o i = do
+  b ← on_objects (byte_at o i)
+  give (referent.Object types.BufferField)
+
+-- follow: what a reference refers to in the end
+module _ {S : Type 0} (follow : Reference → Change (State S) Referent) where
+  abbrev pub value_followed : Value → Change (State S) Referent
+  value_followed value.Uninitialized = give (referent.Value value.Uninitialized)
+  value_followed (value.Integer n) = give (referent.Value (value.Integer n))
+  value_followed (value.String o) = give (referent.Value (value.String o))
+  value_followed (value.Buffer o) = give (referent.Value (value.Buffer o))
+  value_followed (value.Package o) = give (referent.Value (value.Package o))
+  value_followed (value.Reference r) = follow r
+
+  abbrev pub referent_followed : Referent → Change (State S) Referent
+  referent_followed (referent.Value v) = value_followed v
+  referent_followed (referent.Object t) = give (referent.Object t)
+  referent_followed (referent.FieldUnit u) = give (referent.FieldUnit u)
+  referent_followed (referent.Bytes n) = give (referent.Bytes n)
+
+  unfoldable pub declared_followed : ℕ → Change (State S) Referent
+  declared_followed n = do
+    e ← declaration n
+    referent_followed (referent_of e.1.object)
+
+  unfoldable pub slot_followed : ℕ → Slot → Change (State S) Referent
+  slot_followed n slot = do
+    k ← frame_found n
+    v ← slot_held k slot
+    value_followed v
+
+  -- a name in a package stands for the value of its data or of its field, which is read next, and else for a reference to the name
+  abbrev pub element_named : ℕ → NamedObject → Change (State S) Referent
+  element_named n (object.Data v) = value_followed (read_as n v)
+  element_named n (object.FieldUnit u) = give (referent.FieldUnit u)
+  element_named n _ = follow (reference.Name n)
+
+  -- it is searched for at each use
+  unfoldable pub name_followed : Name → List Seg → Change (State S) Referent
+  name_followed n scope = do
+    e ← entry_found scope n
+    element_named e.number e.object
+
+  abbrev pub element_followed : Element → Change (State S) Referent
+  element_followed (element.Value v) = value_followed v
+  element_followed (element.Name n scope) = name_followed n scope
+
+  unfoldable pub held_followed : ℕ → ℕ → Change (State S) Referent
+  held_followed o i = do
+    e ← on_objects (element_at o i)
+    element_followed e
+
+  abbrev pub reference_followed : Reference → Change (State S) Referent
+  reference_followed (reference.Name n) = declared_followed n
+  reference_followed (reference.Slot n slot) = slot_followed n slot
+  reference_followed (reference.Element o i) = held_followed o i
+  reference_followed (reference.Byte o i) = byte_followed o i
+
+-- at most so many references one after another
+unfoldable pub followed : {S : Type 0} → ℕ → Reference → Change (State S) Referent
+followed zero r = stop (refusal.Evaluation DeadReference)
+followed (suc n) r = reference_followed (followed n) r
+
+abbrev pub most_references : ℕ
+most_references = 64
+
+-- what a target holds, references followed
+unfoldable pub slot_referent : {S : Type 0} → Slot → Change (State S) Referent
+slot_referent slot = do
+  v ← own_slot slot
+  value_followed (followed most_references) v
+
+abbrev pub referent_in : Option Entry → Outcome Referent
+referent_in None = Err (refusal.Namespace NotFound)
+referent_in (Some e) = Ok (referent_of e.object)
+
+unfoldable pub declared_referent : {S : Type 0} → List Seg → Change (State S) Referent
+declared_referent p w = (referent_in (get w.names.map p), w)
+
+unfoldable pub name_referent : {S : Type 0} → List Seg → Change (State S) Referent
+name_referent p = do
+  r ← declared_referent p
+  referent_followed (followed most_references) r
+
+abbrev pub target_referent : {S : Type 0} → StoreTarget → Change (State S) Referent
+target_referent targets.Nowhere = give (referent.Object types.DebugObject)
+target_referent (targets.Slot slot) = slot_referent slot
+target_referent (targets.Name p) = name_referent p

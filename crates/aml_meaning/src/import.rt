@@ -1,0 +1,159 @@
+//! Arguments that callers hand in (ACPI 6.5, 5.5.2.3).
+ghost use Rattle.std.specs.Prelude.{◌≡◌, [], map};
+ghost use Rattle.ar_space.specs.Change.{Does};
+ghost use Rattle.ar_space.specs.Outcome.{Answers, seen};
+ghost use Rattle.aml_objects.specs.Objects.{make_string, make_buffer};
+ghost use Rattle.aml_meaning.specs.State.{on_objects};
+ghost use Rattle.aml_meaning.specs.Given.{given_of, givens};
+ghost use Rattle.aml_meaning.specs.Readings.{absolute};
+ghost use Rattle.aml_meaning.specs.Importing.{reference_to, imported_by, each_imported, elements_imported, package_imported, imported, all_imported};
+
+use crate::datum::Datum;
+use crate::world::World;
+use aml_objects::{Element, Elements, Octets, Reference, Value};
+use aml_path::{NameString, Path, Prefix};
+use ar_space::{EvaluationFault, Refusal, ValueFault};
+use std::alloc::Global;
+
+/// How deep packages may nest that are handed in.
+const MAX_NESTING: usize = 64;
+
+impl<S> World<S> {
+    /// A value that is handed in, as a value of this world.
+    ///
+    /// An integer is imported as wide as integers are, and a name as a reference to it. Refused: a name that isn't found as
+    /// `NotFound`, a reference as `WrongType`, and as `ObjectLimit` what is too large, packages that nest more than 64 deep,
+    /// and too many objects. A refused value makes no object.
+    #[tactic(auto, unfolding(crate::specs::Importing::imported))]
+    pub fn import(&mut self, alloc: Global, datum: &Datum) -> Result<Value, Refusal>
+        ensures { Does result self.new (imported (given_of datum.now)) self.old }
+    {
+        let before = self.heap.len();
+        match import_by(alloc, self, MAX_NESTING, datum) {
+            Ok(value) => Ok(value),
+            Err(refusal) => {
+                self.heap.truncate(before);
+                Err(refusal)
+            }
+        }
+    }
+
+    /// Values that are handed in, one after another, each refused as `import` refuses it; the objects of those before a refused one
+    /// stay.
+    pub fn import_all(&mut self, alloc: Global, arguments: &[Datum]) -> Result<Vec<Value>, Refusal>
+        ensures { Does (seen (λ list. list.items) result) self.new (all_imported (map given_of arguments.now) []) self.old }
+    {
+        let mut values = Vec::new(alloc);
+        for datum in arguments {
+            let value = self.import(alloc, datum)?;
+            values.push(value)?;
+        }
+        Ok(values)
+    }
+
+    /// A reference to the name at a path.
+    #[tactic(auto, using(ar_space::specs::Change::changing), unfolding(crate::specs::Importing::reference_to))]
+    fn reference_to(&self, alloc: Global, path: &Path) -> Result<Value, Refusal>
+        ensures { Does result self.now (reference_to path.now) self.now }
+    {
+        let name = absolute(alloc, path)?;
+        let entry = self.entry(&Path::root(alloc), &name)?;
+        Ok(Value::Reference(Reference::Name(entry.number)))
+    }
+
+    /// A new string of these bytes.
+    fn new_text(&mut self, alloc: Global, bytes: &Octets) -> Result<Value, Refusal>
+        ensures { Does result self.new (on_objects (make_string bytes.now)) self.old }
+    {
+        match bytes.copy(alloc) {
+            Ok(bytes) => self.make_string(bytes),
+            Err(refusal) => Err(refusal),
+        }
+    }
+
+    /// A new buffer of these bytes.
+    fn new_bytes(&mut self, alloc: Global, bytes: &Octets) -> Result<Value, Refusal>
+        ensures { Does result self.new (on_objects (make_buffer bytes.now)) self.old }
+    {
+        match bytes.copy(alloc) {
+            Ok(bytes) => self.make_buffer(bytes),
+            Err(refusal) => Err(refusal),
+        }
+    }
+}
+
+/// A path, as a name that stands for it anywhere.
+fn absolute(alloc: Global, path: &Path) -> Result<NameString, Refusal>
+    ensures { Answers result (Ok (absolute path.now)) }
+{
+    Ok(NameString::new(Prefix::Root, path.copy(alloc)?.into_vec()))
+}
+
+#[cycle(importing)]
+#[tactic(auto, using(crate::proofs::Imports::importing))]
+fn import_by<S>(
+    alloc: Global,
+    world: &mut World<S>,
+    levels: usize,
+    datum: &Datum,
+) -> Result<Value, Refusal>
+    ensures { Does result world.new (imported_by (package_imported levels) (given_of datum.now)) world.old }
+{
+    match datum {
+        Datum::Nothing => Ok(Value::Uninitialized),
+        Datum::Integer(number) => world.integer_kept(*number),
+        Datum::Text(bytes) => world.new_text(alloc, bytes),
+        Datum::Bytes(bytes) => world.new_bytes(alloc, bytes),
+        Datum::Package(list) => import_package(alloc, world, levels, list),
+        Datum::Named(path) => world.reference_to(alloc, path),
+        Datum::Reference => Err(Refusal::Value(ValueFault::WrongType)),
+    }
+}
+
+#[cycle(importing)]
+#[tactic(auto, using(crate::proofs::Imports::importing))]
+fn import_package<S>(
+    alloc: Global,
+    world: &mut World<S>,
+    levels: usize,
+    list: &[Datum],
+) -> Result<Value, Refusal>
+    ensures { Does result world.new (package_imported levels (givens (map given_of list.now))) world.old }
+{
+    if levels == 0 {
+        return Err(Refusal::Evaluation(EvaluationFault::ObjectLimit));
+    }
+    import_elements(alloc, world, levels - 1, list)
+}
+
+#[cycle(importing)]
+#[tactic(auto, using(ar_space::specs::Change::changing), unfolding(crate::specs::Importing::elements_imported))]
+fn import_elements<S>(
+    alloc: Global,
+    world: &mut World<S>,
+    levels: usize,
+    list: &[Datum],
+) -> Result<Value, Refusal>
+    ensures { Does result world.new (elements_imported (package_imported levels) (givens (map given_of list.now))) world.old }
+{
+    let elements = import_each(alloc, world, levels, list)?;
+    world.make_package(elements)
+}
+
+#[cycle(importing)]
+#[tactic(auto, using(ar_space::specs::Change::changing))]
+fn import_each<S>(
+    alloc: Global,
+    world: &mut World<S>,
+    levels: usize,
+    list: &[Datum],
+) -> Result<Elements, Refusal>
+    ensures { Does result world.new (each_imported (package_imported levels) (givens (map given_of list.now)) []) world.old }
+{
+    let mut done = Elements::new(alloc);
+    for datum in list {
+        let value = import_by(alloc, world, levels, datum)?;
+        done.push(Element::Value(value))?;
+    }
+    Ok(done)
+}

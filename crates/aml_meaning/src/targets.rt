@@ -1,0 +1,179 @@
+//! What stands where values are stored (ACPI 6.5, 19.3.5).
+ghost use Rattle.std.specs.Prelude.{◌≡◌, ◌<◌, IfOk, length};
+ghost use Rattle.ar_space.specs.Change.{Does};
+ghost use Rattle.ar_space.specs.Outcome.{Answers, NotMemory, seen};
+ghost use Rattle.aml_meaning.specs.StoreTargets.{holding_of, held_at, latest_frame, frame_found, slot_held, own_slot, initialized, slot_read, held_in, held_in_slot, name_read, target_read, declaration};
+ghost use Rattle.aml_meaning.specs.TargetTerms.{target_named};
+
+use crate::slots::frame_index;
+use crate::store_target::{Held, Holding, StoreTarget};
+use crate::world::World;
+use aml_objects::{Entry, NamedObject, Slot, Value};
+use aml_path::{NameString, Path};
+use ar_space::{EvaluationFault, NamespaceFault, Refusal, ValueFault};
+use std::alloc::Global;
+
+impl<S> World<S> {
+    /// The target that a name stands for; refused as `Names::locate` refuses it.
+    #[tactic(auto, using(ar_space::specs::Change::changing), unfolding(crate::specs::TargetTerms::target_named))]
+    pub fn target_named(
+        &self,
+        alloc: Global,
+        scope: &Path,
+        name: &NameString,
+    ) -> Result<StoreTarget, Refusal>
+        ensures { Does result self.now (target_named scope.now name.now) self.now }
+    {
+        let path = self.locate(alloc, scope, name)?;
+        Ok(StoreTarget::Name(path))
+    }
+
+    /// What the name at a path holds; refused as `NotFound` where none stands there.
+    #[tactic(auto, unfolding(crate::specs::StoreTargets::held_at))]
+    pub(crate) fn held_at(&self, path: &Path) -> Result<Holding, Refusal>
+        ensures answer { Does result self.now (held_at path.now) self.now }
+        ensures memory { NotMemory result }
+    {
+        match self.names.get(path) {
+            None => Err(Refusal::Namespace(NamespaceFault::NotFound)),
+            Some(entry) => Ok(holding_of(&entry.object)),
+        }
+    }
+
+    /// The index of the frame of the control method that runs.
+    #[tactic(auto, unfolding(crate::specs::StoreTargets::latest_frame))]
+    pub(crate) fn latest_frame(&self) -> Result<usize, Refusal>
+        ensures answer { Does result self.now latest_frame self.now }
+        ensures memory { NotMemory result }
+    {
+        match self.frames.len() {
+            0 => Err(Refusal::Evaluation(EvaluationFault::DeadReference)),
+            count => Ok(count - 1),
+        }
+    }
+
+    /// The index of the frame with a number; one that ended is refused as `DeadReference`.
+    #[tactic(auto, unfolding(crate::specs::StoreTargets::frame_found))]
+    pub(crate) fn frame_found(&self, number: u64) -> Result<usize, Refusal>
+        ensures { Does result self.now (frame_found number) self.now }
+    {
+        match frame_index(&self.frames, number) {
+            None => Err(Refusal::Evaluation(EvaluationFault::DeadReference)),
+            Some(index) => Ok(index),
+        }
+    }
+
+    /// What a slot of the frame at an index holds.
+    #[tactic(auto, unfolding(crate::specs::StoreTargets::slot_held))]
+    pub(crate) fn slot_held(&self, index: usize, slot: Slot) -> Result<Value, Refusal>
+        ensures answer { Does result self.now (slot_held index slot) self.now }
+        ensures memory { NotMemory result }
+    {
+        match self.frames.get(index) {
+            None => Err(Refusal::Evaluation(EvaluationFault::DeadReference)),
+            Some(frame) => Ok(frame.slot(slot)),
+        }
+    }
+
+    /// What a slot of the control method that runs holds.
+    #[tactic(auto, using(ar_space::specs::Change::changing), unfolding(crate::specs::StoreTargets::own_slot))]
+    pub(crate) fn own_slot(&self, slot: Slot) -> Result<Value, Refusal>
+        ensures answer { Does result self.now (own_slot slot) self.now }
+        ensures memory { NotMemory result }
+    {
+        let index = self.latest_frame()?;
+        self.slot_held(index, slot)
+    }
+
+    /// The value of a local or an argument; one that is uninitialized is refused as `NoValue`.
+    #[tactic(auto, using(ar_space::specs::Change::changing), unfolding(crate::specs::StoreTargets::slot_read))]
+    pub fn slot_read(&self, slot: Slot) -> Result<Value, Refusal>
+        ensures answer { Does result self.now (slot_read slot) self.now }
+        ensures memory { NotMemory result }
+    {
+        let value = self.own_slot(slot)?;
+        initialized(value)
+    }
+
+    /// What a target holds, for what is stored there next. A target that holds no value is refused as `WrongType`, a buffer
+    /// field as `Unsupported`, and an uninitialized slot as `NoValue`.
+    #[tactic(auto, using(ar_space::specs::Change::changing))]
+    pub fn target_read(&self, target: &StoreTarget) -> Result<Held, Refusal>
+        ensures answer { Does result self.now (target_read target.now) self.now }
+        ensures memory { NotMemory result }
+    {
+        match target {
+            StoreTarget::Nowhere => Err(Refusal::Value(ValueFault::WrongType)),
+            StoreTarget::Slot(slot) => self.held_in_slot(*slot),
+            StoreTarget::Name(path) => self.name_read(path),
+        }
+    }
+
+    #[tactic(auto, using(ar_space::specs::Change::changing), unfolding(crate::specs::StoreTargets::held_in_slot))]
+    fn held_in_slot(&self, slot: Slot) -> Result<Held, Refusal>
+        ensures answer { Does result self.now (held_in_slot slot) self.now }
+        ensures memory { NotMemory result }
+    {
+        let value = self.slot_read(slot)?;
+        Ok(Held::Value(value))
+    }
+
+    #[tactic(auto, using(ar_space::specs::Change::changing), unfolding(crate::specs::StoreTargets::name_read))]
+    fn name_read(&self, path: &Path) -> Result<Held, Refusal>
+        ensures answer { Does result self.now (name_read path.now) self.now }
+        ensures memory { NotMemory result }
+    {
+        let held = self.held_at(path)?;
+        held_in(held)
+    }
+
+    /// The declaration with a number and its path; one that was removed is refused as `DeadReference`.
+    #[tactic(auto, unfolding(crate::specs::StoreTargets::declaration))]
+    pub(crate) fn declaration(&self, number: u64) -> Result<&(Path, Entry), Refusal>
+        ensures answer { Does (seen (λ e. e.now) result) self.now (declaration number) self.now }
+        ensures memory { NotMemory result }
+    {
+        match self.names.numbered(number) {
+            None => Err(Refusal::Evaluation(EvaluationFault::DeadReference)),
+            Some(found) => Ok(found),
+        }
+    }
+}
+
+/// What a named object holds.
+pub(crate) fn holding_of(object: &NamedObject) -> Holding
+    ensures { result ≡ holding_of object.now }
+{
+    match object {
+        NamedObject::Data(value) => Holding::Value(*value),
+        NamedObject::FieldUnit(unit) => Holding::FieldUnit(*unit),
+        NamedObject::BufferField(_) => Holding::BufferField,
+        _ => Holding::Nothing,
+    }
+}
+
+fn initialized(value: Value) -> Result<Value, Refusal>
+    ensures answer { Answers result (initialized value) }
+    ensures memory { NotMemory result }
+{
+    match value {
+        Value::Uninitialized => Err(Refusal::Evaluation(EvaluationFault::NoValue)),
+        Value::Integer(number) => Ok(Value::Integer(number)),
+        Value::String(object) => Ok(Value::String(object)),
+        Value::Buffer(object) => Ok(Value::Buffer(object)),
+        Value::Package(object) => Ok(Value::Package(object)),
+        Value::Reference(reference) => Ok(Value::Reference(reference)),
+    }
+}
+
+fn held_in(held: Holding) -> Result<Held, Refusal>
+    ensures answer { Answers result (held_in held) }
+    ensures memory { NotMemory result }
+{
+    match held {
+        Holding::Value(value) => Ok(Held::Value(value)),
+        Holding::FieldUnit(unit) => Ok(Held::FieldUnit(unit)),
+        Holding::BufferField => Err(Refusal::Evaluation(EvaluationFault::Unsupported(0x5B13))),
+        Holding::Nothing => Err(Refusal::Value(ValueFault::WrongType)),
+    }
+}

@@ -1,0 +1,6 @@
+//! Laws of the grammar of AML (ACPI 6.5, 20.2): how terms are spelled and where faults are found, apart from how bytes are read.
+#![tactic(auto)]
+
+mod laws;
+
+pub use laws::{faults_depend_on_no_later_byte, read_exactly_if_spelled};
