@@ -19,8 +19,8 @@ use Rattle.aml_laws.specs.Outside.{is_method}
 
 -- ---- what is found stands
 
-record StandsThere (m : Map) (f : Found) : Type 0 where
-  there : get m f.0 ≡ Some f.1
+pub record StandsThere (m : Map) (f : Found) : Type 0 where
+  pub there : get m f.0 ≡ Some f.1
 
 at_by : (m : Map) (p : List Seg) (o : Option Entry) (f : Found) → get m p ≡ o → option_map (λ e. (p, e)) o ≡ Some f → StandsThere m f
 at_by m p None f is e = absurd (cc e)
@@ -72,7 +72,7 @@ unfolding ◌>>=◌ through
 found_by m (Ok f) g h e = through_there m f g f.1.object (h f refl) e
 found_by m (Err x) g h e = absurd (cc e)
 
-found_there : (m : Map) (scope : List Seg) (n : Name) (f : Found) → found m scope n ≡ Ok f → StandsThere m f
+pub found_there : (m : Map) (scope : List Seg) (n : Name) (f : Found) → found m scope n ≡ Ok f → StandsThere m f
 unfolding found
 found_there m scope n f e = found_by m (first_found m scope n) f (first_there m scope n) e
 

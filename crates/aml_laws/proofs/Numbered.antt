@@ -128,9 +128,9 @@ behind : (b : Bool) (x y : List Seg) (v w : Entry) (es : List (List Seg × Entry
 behind true x y v w es is h there = absurd (cc (sym there ∙ ap (λ z. find path_cmp z es) (only_equal x y (is_equal (path_cmp x y) is)) ∙ none_below y es h))
 behind false x y v w es is h there = there
 
-record NumberAt (n : ℕ) (es : List (List Seg × Entry)) (x : List Seg × Entry) : Type 0 where
-  there : find path_cmp x.0 es ≡ Some x.1
-  number : x.1.number ≡ n
+pub record NumberAt (n : ℕ) (es : List (List Seg × Entry)) (x : List Seg × Entry) : Type 0 where
+  pub there : find path_cmp x.0 es ≡ Some x.1
+  pub number : x.1.number ≡ n
 
 number_by : (n : ℕ) (b : Bool) (y : List Seg × Entry) (es : List (List Seg × Entry)) (x : List Seg × Entry) → (y.1.number == n) ≡ b → T (below_all path_cmp y.0 es) → (with_number n es ≡ Some x → NumberAt n es x) → (if b then Some y else with_number n es) ≡ Some x → NumberAt n (y ∷ es) x
 number_by n true y es x is h i e =
@@ -138,7 +138,7 @@ number_by n true y es x is h i e =
     subst (NumberAt n (y ∷ es)) same (record { there = ap (λ b. cond b (Some y.1) (find path_cmp y.0 es)) ((eq_by_cmp_equiv path_total).refl y.0); number = eqb-true _ _ is })
 number_by n false y es x is h i e = let r = i e in record { there = behind (is_eq (path_cmp x.0 y.0)) x.0 y.0 y.1 x.1 es refl h r.there; number = r.number }
 
-number_there : (n : ℕ) (es : List (List Seg × Entry)) (x : List Seg × Entry) → T (is_sorted path_cmp es) → with_number n es ≡ Some x → NumberAt n es x
+pub number_there : (n : ℕ) (es : List (List Seg × Entry)) (x : List Seg × Entry) → T (is_sorted path_cmp es) → with_number n es ≡ Some x → NumberAt n es x
 number_there n [] x h e = absurd (cc e)
 number_there n (y ∷ es) x h e = number_by n (y.1.number == n) y es x refl (first_of _ _ h) (number_there n es x (second_of _ _ h)) e
 

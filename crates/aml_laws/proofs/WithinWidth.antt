@@ -51,11 +51,11 @@ ok_is {A} P x y e h = let same : x ≡ y = cc e in subst P same h
 
 -- ---- numbers
 
-few : (width : IntegerWidth) (n : ℕ) → n ≤ 65 → Small width n
+pub few : (width : IntegerWidth) (n : ℕ) → n ≤ 65 → Small width n
 few Bits32 n l = omega arith
 few Bits64 n l = omega arith
 
-cut : (width : IntegerWidth) (n : ℕ) → Small width (truncated width n)
+pub cut : (width : IntegerWidth) (n : ℕ) → Small width (truncated width n)
 cut Bits32 n = mod-lt n (omega arith)
 cut Bits64 n = mod-lt n (omega arith)
 
@@ -66,7 +66,7 @@ all_ones : (width : IntegerWidth) → Small width (ones width)
 all_ones Bits32 = omega arith
 all_ones Bits64 = omega arith
 
-none_or_all : (width : IntegerWidth) (b : Bool) → Small width (truth width b)
+pub none_or_all : (width : IntegerWidth) (b : Bool) → Small width (truth width b)
 none_or_all width true = all_ones width
 none_or_all width false = few width 0 (omega arith)
 
@@ -85,7 +85,7 @@ rest_by : (width : IntegerWidth) (b : Bool) (e : Refusal) (x y r : ℕ) → Smal
 rest_by width true z x y r h e = absurd (cc e)
 rest_by width false z x y r h e = ok_is (Small width) (x % y) r e (no_more width (x % y) x (mod-le x y) h)
 
-of_two : (op : BinaryOperator) (width : IntegerWidth) (x y r : ℕ) → Small width x → Small width y → result_of op width x y ≡ Ok r → Small width r
+pub of_two : (op : BinaryOperator) (width : IntegerWidth) (x y r : ℕ) → Small width x → Small width y → result_of op width x y ≡ Ok r → Small width r
 of_two binary.Add width x y r h i e = ok_is (Small width) _ r e (cut width _)
 of_two binary.Subtract width x y r h i e = ok_is (Small width) _ r e (cut width _)
 of_two binary.Multiply width x y r h i e = ok_is (Small width) _ r e (cut width _)
@@ -102,16 +102,16 @@ lowest_by : (width : IntegerWidth) (b : Bool) (n : ℕ) → Small width (if b th
 lowest_by width true n = few width 0 (omega arith)
 lowest_by width false n = few width (1 + count_trailing_zeros 64 n) (let l = trailing_le 64 n in omega arith)
 
-of_one : (op : UnaryOperator) (width : IntegerWidth) (x : ℕ) → Small width (unary_result_of op width x)
+pub of_one : (op : UnaryOperator) (width : IntegerWidth) (x : ℕ) → Small width (unary_result_of op width x)
 of_one unary.Not width x = turned_bits width x
 of_one unary.FindSetLeftBit width x = few width (64 - count_leading_zeros 64 x) (omega arith)
 of_one unary.FindSetRightBit width x = lowest_by width (x == 0) x
 
-of_logic : (op : LogicalOperator) (width : IntegerWidth) (x y : ℕ) → Small width (logical_result_of op width x y)
+pub of_logic : (op : LogicalOperator) (width : IntegerWidth) (x y : ℕ) → Small width (logical_result_of op width x y)
 of_logic logical.And width x y = none_or_all width _
 of_logic logical.Or width x y = none_or_all width _
 
-quotient_by : (width : IntegerWidth) (b : Bool) (e : Refusal) (x y : ℕ) (d : Division) → Small width x → (if◌then◌else◌ {A = Outcome Division} b (Err e) (Ok (record { quotient = x / y; remainder = x % y }))) ≡ Ok d → Small width d.quotient × Small width d.remainder
+pub quotient_by : (width : IntegerWidth) (b : Bool) (e : Refusal) (x y : ℕ) (d : Division) → Small width x → (if◌then◌else◌ {A = Outcome Division} b (Err e) (Ok (record { quotient = x / y; remainder = x % y }))) ≡ Ok d → Small width d.quotient × Small width d.remainder
 quotient_by width true z x y d h e = absurd (cc e)
 quotient_by width false z x y d h e = ok_is {A = Division} (λ z. Small width z.quotient × Small width z.remainder) (record { quotient = x / y; remainder = x % y }) d e (no_more width (x / y) x (div-le_self x y) h, no_more width (x % y) x (mod-le x y) h)
 
@@ -122,12 +122,12 @@ unfolding leading_number
 of_text width [] n e = absurd (cc e)
 of_text width (c ∷ cs) n e = ok_is (Small width) _ n e (cut width _)
 
-of_bytes : (width : IntegerWidth) (bytes : List ℕ) (n : ℕ) → ((i : ℕ) → slice_index bytes i < 256) → integer_in_buffer width bytes ≡ Ok n → Small width n
+pub of_bytes : (width : IntegerWidth) (bytes : List ℕ) (n : ℕ) → ((i : ℕ) → slice_index bytes i < 256) → integer_in_buffer width bytes ≡ Ok n → Small width n
 of_bytes width [] n h e = absurd (cc e)
 of_bytes Bits32 (b ∷ bs) n h e = ok_is (Small Bits32) _ n e (omega (arith, h 0, h 1, h 2, h 3))
 of_bytes Bits64 (b ∷ bs) n h e = ok_is (Small Bits64) _ n e (omega (arith, h 0, h 1, h 2, h 3, h 4, h 5, h 6, h 7))
 
-of_content : (width : IntegerWidth) (c : Content) (n : ℕ) → WithinContent width c → to_integer_of width c ≡ Ok n → Small width n
+pub of_content : (width : IntegerWidth) (c : Content) (n : ℕ) → WithinContent width c → to_integer_of width c ≡ Ok n → Small width n
 of_content width (Integer m) n h e = ok_is (Small width) m n e h
 of_content width (String s) n h e = of_text width s n e
 of_content width (Buffer b) n h e = of_bytes width b n h e
@@ -143,7 +143,7 @@ of_numeral width [] n e = absurd (cc e)
 of_numeral width (c ∷ []) n e = ok_is (Small width) _ n e (cut width _)
 of_numeral width (c ∷ d ∷ cs) n e = numeral_by width _ _ _ n (cut width _) (cut width _) e
 
-of_explicit : (width : IntegerWidth) (c : Content) (n : ℕ) → WithinContent width c → explicit_integer_of width c ≡ Ok n → Small width n
+pub of_explicit : (width : IntegerWidth) (c : Content) (n : ℕ) → WithinContent width c → explicit_integer_of width c ≡ Ok n → Small width n
 of_explicit width (Integer m) n h e = ok_is (Small width) m n e h
 of_explicit width (String s) n h e = of_numeral width s n e
 of_explicit width (Buffer b) n h e = of_bytes width b n h e
@@ -151,10 +151,10 @@ of_explicit width Other n h e = absurd (cc e)
 
 -- ---- what is formed, one thing after another
 
-value_is : (width : IntegerWidth) (n : ℕ) (v : Value) → ◌≡◌ {A = Outcome Value} (Ok (value.Integer n)) (Ok v) → Small width n → WithinWidth width v
+pub value_is : (width : IntegerWidth) (n : ℕ) (v : Value) → ◌≡◌ {A = Outcome Value} (Ok (value.Integer n)) (Ok v) → Small width n → WithinWidth width v
 value_is width n v e h = ok_is (WithinWidth width) (value.Integer n) v e h
 
-seen_is : (width : IntegerWidth) (r : Outcome ℕ) (v : Value) → ((n : ℕ) → r ≡ Ok n → Small width n) → as_integer r ≡ Ok v → WithinWidth width v
+pub seen_is : (width : IntegerWidth) (r : Outcome ℕ) (v : Value) → ((n : ℕ) → r ≡ Ok n → Small width n) → as_integer r ≡ Ok v → WithinWidth width v
 seen_is width (Ok n) v h e = value_is width n v e (h n refl)
 seen_is width (Err x) v h e = absurd (cc e)
 
@@ -203,7 +203,7 @@ unfolding go_on
 content_then P (Ok c) w k h a e = h c refl a e
 content_then P (Err x) w k h a e = absurd (cc e)
 
-truth_is : (width : IntegerWidth) (c : Comparison) (r : Outcome Ordering) (v : Value) → truth_of width c r ≡ Ok v → WithinWidth width v
+pub truth_is : (width : IntegerWidth) (c : Comparison) (r : Outcome Ordering) (v : Value) → truth_of width c r ≡ Ok v → WithinWidth width v
 truth_is width c (Ok o) v e = value_is width _ v e (none_or_all width (holds c o))
 truth_is width c (Err x) v e = absurd (cc e)
 

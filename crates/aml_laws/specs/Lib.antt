@@ -1,3 +1,4 @@
+pub mod AllWithin
 pub mod Becomes
 pub mod Calls
 pub mod Declares
@@ -6,5 +7,6 @@ pub mod Mutexes
 pub mod Numbers
 pub mod Outside
 pub mod Parts
+pub mod Plain
 pub mod Reached
 pub mod Within

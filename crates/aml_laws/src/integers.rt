@@ -1,6 +1,15 @@
 //! Integers, which are below two to the width.
 ghost use Rattle.std.specs.Prelude.{◌≡◌, ◌<◌, ℕ, List, slice_index, Ok};
+ghost use Rattle.ar_space.specs.Accesses.{Accesses};
+ghost use Rattle.ar_space.specs.declared.integer_width.IntegerWidth.{IntegerWidth};
+ghost use Rattle.aml_path.specs.declared.segment.Seg.{Seg};
+ghost use Rattle.aml_grammar.specs.Tree.{Trees};
 ghost use Rattle.aml_objects.specs.declared.value.Value.{Value};
+ghost use Rattle.aml_meaning.specs.declared.flow.Flow.TheVariants as flow;
+ghost use Rattle.aml_meaning.specs.Tasks.{Task, in_turn};
+ghost use Rattle.aml_meaning.specs.Meaning.{meaning};
+ghost use Rattle.aml_meaning.specs.Calling.{loaded, evaluated};
+ghost use Rattle.aml_meaning.specs.Predefined.{fresh, predefined};
 ghost use Rattle.aml_convert.specs.declared.operators.Division.{Division};
 ghost use Rattle.aml_meaning.specs.declared.term_kind.OneOperand.{OneOperand};
 ghost use Rattle.aml_meaning.specs.declared.term_kind.TwoOperands.{TwoOperands};
@@ -11,7 +20,9 @@ ghost use Rattle.aml_meaning.specs.Readings.{integer_kept, integer_in};
 ghost use Rattle.aml_meaning.specs.Regions.{value_of_bits};
 ghost use Rattle.aml_meaning.specs.Operations.{divided_in, turned};
 ghost use Rattle.aml_meaning.specs.OperatorTerms.{result_of_two, result_of_one, result_of_test, counted_by};
-ghost use Rattle.aml_laws.specs.Within.{Below, Within, FormsWithin};
+ghost use Rattle.aml_laws.specs.AllWithin.{Each, AllWithin};
+ghost use Rattle.aml_laws.specs.Plain.{AreBytes, PlainTree, PlainTrees};
+ghost use Rattle.aml_laws.specs.Within.{Below, Within, WithinWidth, FormsWithin};
 
 /// Each integer that a constant, an operator, a conversion or a field forms is below two to the width, where the operands hold
 /// integers below it, or bytes below 256.
@@ -26,4 +37,18 @@ pub fn operators_form_integers_of_the_width<S>()
     ensures negated { (w : State S) (v : Value) → FormsWithin w (turned v) }
     ensures counted { (w : State S) (k : Count) (n : ℕ) → FormsWithin w (counted_by k n) }
     ensures fields { (w : State S) (count : ℕ) (bytes : List ℕ) → ((i : ℕ) → slice_index bytes i < 256) → FormsWithin w (value_of_bits count bytes) }
+{}
+
+/// Every integer is below two to the width: where those of the world are (in names, objects and frames), and bytes below 256 in
+/// objects, in the bodies of control methods and in the terms, they are after an evaluation, however it ends; and a value that it
+/// gives is. So it is from the predefined names on. A string or a buffer has at most 1,048,576 bytes, a package at most 65,535 elements, a field at most 8,388,608 bits.
+#[tactic(auto, using(crate::proofs::WideRules::term_gives))]
+pub fn integers_stay_below_two_to_the_width<S>()
+    ensures first { (width : IntegerWidth) (osi : List (List ℕ)) (space : S) → AllWithin width (predefined (fresh width osi space)).1 }
+    ensures terms { (width : IntegerWidth) (accesses : Accesses S) (t : Task) (s : State S × ℕ) → PlainTree t.term → AllWithin width s.0 → AllWithin width (meaning accesses t s).1.0 }
+    ensures values { (width : IntegerWidth) (accesses : Accesses S) (t : Task) (s : State S × ℕ) (v : Value) → PlainTree t.term → AllWithin width s.0 → (meaning accesses t s).0 ≡ Ok (flow.Value v) → WithinWidth width v }
+    ensures lists { (width : IntegerWidth) (accesses : Accesses S) (scope : List Seg) (depth : ℕ) (ts : Trees) (s : State S × ℕ) → PlainTrees ts → AllWithin width s.0 → AllWithin width (in_turn (meaning accesses) scope depth ts s).1.0 }
+    ensures tables { (width : IntegerWidth) (accesses : Accesses S) (bytes : List ℕ) (steps : ℕ) (w : State S) → AreBytes bytes → AllWithin width w → AllWithin width (loaded accesses bytes steps w).1 }
+    ensures objects { (width : IntegerWidth) (accesses : Accesses S) (path : List Seg) (arguments : List Value) (steps : ℕ) (w : State S) → Each (WithinWidth width) arguments → AllWithin width w → AllWithin width (evaluated accesses path arguments steps w).1 }
+    ensures object_values { (width : IntegerWidth) (accesses : Accesses S) (path : List Seg) (arguments : List Value) (steps : ℕ) (w : State S) (x : Value × ℕ) → Each (WithinWidth width) arguments → AllWithin width w → (evaluated accesses path arguments steps w).0 ≡ Ok x → WithinWidth width x.0 }
 {}

@@ -8,15 +8,17 @@ mod mutexes;
 mod names;
 mod numbers;
 mod objects;
+mod reading;
 mod space;
 mod steps;
 
 pub use calls::calls_leave_nothing;
 pub use frames::frames_are_balanced;
-pub use integers::operators_form_integers_of_the_width;
+pub use integers::{integers_stay_below_two_to_the_width, operators_form_integers_of_the_width};
 pub use mutexes::no_mutex_stays_acquired;
 pub use names::{declared_names_stand, names_stay, outside_of_control_methods};
 pub use numbers::{numbers_are_given_once, numbers_never_fall, what_is_gone_stays_gone};
 pub use objects::objects_keep_number_and_kind;
+pub use reading::terms_of_bytes_hold_bytes;
 pub use space::space_is_reached_by_accesses;
 pub use steps::no_more_terms_than_steps;

@@ -51,7 +51,7 @@ unfoldable pub package_imported : {S : Type 0} → ℕ → Givens → Change (St
 package_imported zero gs = stop (refusal.Evaluation ObjectLimit)
 package_imported (suc n) gs = elements_imported (package_imported n) gs
 
--- a refused argument makes no object: those that it made are imported back
+-- a refused argument makes no object: those that it made are taken back
 abbrev pub taken_back : {S : Type 0} → ℕ → Outcome Value × State S → Outcome Value × State S
 taken_back count (Ok v, w) = (Ok v, w)
 taken_back count (Err e, w) = (Err e, record w { objects = take count w.objects })

@@ -220,7 +220,7 @@ abbrev pub target_of_code : TermCode → Option StoreTarget
 target_of_code (codes.Opcode op) = target_of_opcode op
 target_of_code _ = None
 
--- an operand that is a number, a term, or a list of terms; the grammar leaves no other where one of them is imported
+-- an operand that is a number, a term, or a list of terms; the grammar leaves no other where one of them is wanted
 abbrev pub number_of : Option Part → Outcome ℕ
 number_of (Some (number n)) = Ok n
 number_of _ = Err (refusal.Name BadName)

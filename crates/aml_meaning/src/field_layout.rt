@@ -71,7 +71,7 @@ pub fn access_width(flags: u64) -> Width
     }
 }
 
-/// The update rule of field flags: their bits 5 and 6. The number 3, which has no meaning, is imported as 0.
+/// The update rule of field flags: their bits 5 and 6. The number 3, which has no meaning, is read as 0.
 pub fn update_rule(flags: u64) -> UpdateRule
     ensures { result ≡ update_rule flags }
 {

@@ -18,7 +18,7 @@ pub enum TermKind {
 /// Data that a term forms.
 #[derive(Clone, Copy, Debug, PartialEq, Eq)]
 pub enum DataKind {
-    /// An integer that the opcode says, imported as wide as integers are.
+    /// An integer that the opcode says, as wide as integers are.
     Constant(u64),
     /// An integer that follows the opcode.
     Integer,
