@@ -18,6 +18,7 @@ pub mod Placing
 pub mod PlainSteps
 pub mod PlainTerms
 pub mod Reaching
+pub mod Refused
 pub mod Rising
 pub mod Safe
 pub mod Standing

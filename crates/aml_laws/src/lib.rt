@@ -2,6 +2,7 @@
 #![tactic(auto)]
 
 mod calls;
+mod declarations;
 mod frames;
 mod integers;
 mod mutexes;
@@ -13,6 +14,7 @@ mod space;
 mod steps;
 
 pub use calls::calls_leave_nothing;
+pub use declarations::refused_declarations_change_nothing;
 pub use frames::frames_are_balanced;
 pub use integers::{integers_stay_below_two_to_the_width, operators_form_integers_of_the_width};
 pub use mutexes::no_mutex_stays_acquired;
