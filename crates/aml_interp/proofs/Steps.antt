@@ -15,7 +15,8 @@ use Rattle.aml_objects.specs.declared.object.Element.{Element}
 use Rattle.aml_meaning.specs.declared.flow.Flow.{Flow}
 use Rattle.aml_meaning.specs.declared.flow.Flow.TheVariants.{Next}
 use Rattle.aml_meaning.specs.State.{State}
-use Rattle.aml_meaning.specs.Run.{Run, running}
+use Rattle.aml_meaning.specs.Run.{Run}
+use Rattle.aml_meaning.proofs.Runs.{running, calling}
 use Rattle.aml_meaning.specs.declared.flow.Flow.TheVariants as flow
 use Rattle.aml_meaning.specs.Tasks.{Task, task, goes_on, in_turn, operand_value}
 use Rattle.aml_meaning.specs.DataTerms.{element_by, elements_in_turn}
@@ -33,7 +34,7 @@ use Rattle.aml_objects.specs.declared.value.Value.{Value}
 use Rattle.aml_meaning.specs.Importing.{all_imported}
 use Rattle.aml_meaning.specs.declared.datum.Datum.{Datum}
 use Rattle.aml_meaning.specs.Given.{Given, given_of}
-use Rattle.aml_meaning.specs.Calling.{ending, with_steps, answer_exported, answered, calling}
+use Rattle.aml_meaning.specs.Calling.{ending, with_steps, answer_exported, answered}
 use Rattle.aml_meaning.specs.Meaning.{meaning}
 use Rattle.aml_meaning.proofs.Meanings.{does_meaning}
 

@@ -10,7 +10,7 @@ ghost use Rattle.aml_meaning.specs.Calling.{called, counted, evaluated, with_res
 use crate::export::exported;
 use crate::field_calls::eval_field_read;
 use crate::invocations::eval_method_value;
-use aml_meaning::{Datum, Invocation, World};
+use aml_meaning::{Datum, Invocation, Running, World};
 use aml_objects::Value;
 use aml_path::{NameString, Path, Prefix};
 use ar_space::{Refusal, Space};
@@ -22,19 +22,19 @@ use std::alloc::Global;
 /// it; reading one costs no step, but what the address of a field calls does. An alias at the path stands for its target.
 /// Refused: `NotFound` where nothing stands at the path, `ArityChanged` where it takes another number of arguments, and as its
 /// evaluation is.
-#[tactic(auto, using(aml_meaning::specs::Calling::calling), unfolding(aml_meaning::specs::Calling::evaluated))]
+#[tactic(auto, using(aml_meaning::proofs::Runs::calling), unfolding(aml_meaning::specs::Calling::evaluated))]
 pub fn eval<S: Space>(
     alloc: Global,
-    world: &mut World<S>,
+    run: &mut Running<S>,
     path: &Path,
     arguments: Vec<Value>,
     budget: u64,
 ) -> Result<(Value, u64), Refusal>
-    ensures { Does result world.new (evaluated S.accesses path.now arguments.items budget) world.old }
+    ensures { Does result run.new.0 (evaluated S.accesses path.now arguments.items budget) run.old.0 }
 {
-    let mut rest = budget;
-    let value = call(alloc, world, &mut rest, path, &arguments);
-    with_rest(value, rest)
+    run.steps = budget;
+    let value = call(alloc, run, path, &arguments);
+    with_rest(value, run.steps)
 }
 
 fn with_rest(value: Result<Value, Refusal>, rest: u64) -> Result<(Value, u64), Refusal>
@@ -54,61 +54,59 @@ fn with_rest(value: Result<Value, Refusal>, rest: u64) -> Result<(Value, u64), R
 #[tactic(auto, using(crate::proofs::Steps::answering))]
 pub fn answer<S: Space>(
     alloc: Global,
-    world: &mut World<S>,
+    run: &mut Running<S>,
     path: &Path,
     arguments: Vec<Datum>,
     budget: u64,
 ) -> Result<Datum, Refusal>
-    ensures { Does (seen given_of result) world.new (answered S.accesses path.now (map given_of arguments.items) budget) world.old }
+    ensures { Does (seen given_of result) run.new.0 (answered S.accesses path.now (map given_of arguments.items) budget) run.old.0 }
 {
-    let outcome = with_steps(alloc, world, path, &arguments, budget);
-    world.release_mutexes();
+    let outcome = with_steps(alloc, run, path, &arguments, budget);
+    run.world.release_mutexes();
     outcome
 }
 
-#[tactic(auto, using(aml_meaning::specs::Calling::calling))]
+#[tactic(auto, using(aml_meaning::proofs::Runs::calling))]
 fn with_steps<S: Space>(
     alloc: Global,
-    world: &mut World<S>,
+    run: &mut Running<S>,
     path: &Path,
     arguments: &[Datum],
     steps: u64,
 ) -> Result<Datum, Refusal>
-    ensures { Does (seen given_of result) world.new (with_steps steps (answer_exported S.accesses path.now (length arguments.now) (map given_of arguments.now))) world.old }
+    ensures { Does (seen given_of result) run.new.0 (with_steps steps (answer_exported S.accesses path.now (length arguments.now) (map given_of arguments.now))) run.old.0 }
 {
-    let mut budget = steps;
-    answer_exported(alloc, world, &mut budget, path, arguments)
+    run.steps = steps;
+    answer_exported(alloc, run, path, arguments)
 }
 
-#[tactic(auto, using(aml_meaning::specs::Calling::calling), unfolding(aml_meaning::specs::Calling::answer_exported))]
+#[tactic(auto, using(aml_meaning::proofs::Runs::calling), unfolding(aml_meaning::specs::Calling::answer_exported))]
 fn answer_exported<S: Space>(
     alloc: Global,
-    world: &mut World<S>,
-    budget: &mut u64,
+    run: &mut Running<S>,
     path: &Path,
     arguments: &[Datum],
 ) -> Result<Datum, Refusal>
-    ensures { Does (seen given_of result) (world.new, budget.new) (answer_exported S.accesses path.now (length arguments.now) (map given_of arguments.now)) (world.old, budget.old) }
+    ensures { Does (seen given_of result) run.new (answer_exported S.accesses path.now (length arguments.now) (map given_of arguments.now)) run.old }
 {
-    let invocation = invocation(alloc, world, path, arguments.len())?;
-    let values = world.import_all(alloc, arguments)?;
-    let value = value_of(alloc, world, budget, invocation, &values)?;
-    exported(alloc, world, budget, value)
+    let invocation = invocation(alloc, &run.world, path, arguments.len())?;
+    let values = run.world.import_all(alloc, arguments)?;
+    let value = value_of(alloc, run, invocation, &values)?;
+    exported(alloc, run, value)
 }
 
 /// The value of the object at a path, with these arguments.
-#[tactic(auto, using(aml_meaning::specs::Calling::calling), unfolding(aml_meaning::specs::Calling::called))]
+#[tactic(auto, using(aml_meaning::proofs::Runs::calling), unfolding(aml_meaning::specs::Calling::called))]
 fn call<S: Space>(
     alloc: Global,
-    world: &mut World<S>,
-    budget: &mut u64,
+    run: &mut Running<S>,
     path: &Path,
     arguments: &[Value],
 ) -> Result<Value, Refusal>
-    ensures { Does result (world.new, budget.new) (called S.accesses path.now arguments.now) (world.old, budget.old) }
+    ensures { Does result run.new (called S.accesses path.now arguments.now) run.old }
 {
-    let invocation = invocation(alloc, world, path, arguments.len())?;
-    value_of(alloc, world, budget, invocation, arguments)
+    let invocation = invocation(alloc, &run.world, path, arguments.len())?;
+    value_of(alloc, run, invocation, arguments)
 }
 
 /// What the object at a path is that is asked for with so many arguments.
@@ -126,22 +124,19 @@ pub(crate) fn invocation<S: Space>(
     }
 }
 
-#[tactic(auto, using(aml_meaning::specs::Calling::calling))]
+#[tactic(auto, using(aml_meaning::proofs::Runs::calling))]
 fn value_of<S: Space>(
     alloc: Global,
-    world: &mut World<S>,
-    budget: &mut u64,
+    run: &mut Running<S>,
     invocation: Invocation,
     arguments: &[Value],
 ) -> Result<Value, Refusal>
-    ensures { Does result (world.new, budget.new) (value_of S.accesses invocation arguments.now) (world.old, budget.old) }
+    ensures { Does result run.new (value_of S.accesses invocation arguments.now) run.old }
 {
     match invocation {
         Invocation::Value(value) => Ok(value),
-        Invocation::FieldUnit(unit) => eval_field_read(alloc, world, budget, 1, unit),
-        Invocation::Method(path, body) => {
-            eval_method_value(alloc, world, budget, 0, &path, &body, arguments)
-        }
+        Invocation::FieldUnit(unit) => eval_field_read(alloc, run, 1, unit),
+        Invocation::Method(path, body) => eval_method_value(alloc, run, 0, &path, &body, arguments),
     }
 }
 

@@ -9,9 +9,10 @@ ghost use Rattle.aml_meaning.specs.Meaning.{meaning};
 ghost use Rattle.aml_meaning.specs.DataTerms.{data_rule, constant_rule, integer_rule, string_rule, buffer_rule, named_element, valued_element, element_by, elements_in_turn, package_of, package_rule, var_package_rule};
 
 use crate::operands::{Reader, bytes, inner, list, number};
-use crate::terms::{charge, eval_operand_integer, eval_value};
+use crate::task::Task;
+use crate::terms::{eval_operand_integer, eval_value};
 use aml_grammar::{TermCode, TermReader};
-use aml_meaning::{DataKind, Flow, World};
+use aml_meaning::{DataKind, Flow, Running};
 use aml_objects::{Element, Elements};
 use aml_path::{NameString, Path};
 use ar_space::{Refusal, Space};
@@ -22,55 +23,52 @@ use std::alloc::Global;
 #[tactic(auto, using(crate::proofs::Steps::evaluating))]
 pub(crate) fn eval_data<S: Space>(
     alloc: Global,
-    world: &mut World<S>,
-    budget: &mut u64,
-    scope: &Path,
-    depth: usize,
-    term: Reader<'_>,
+    run: &mut Running<S>,
+    job: Task<'_>,
     kind: DataKind,
 ) -> Result<Flow, Refusal>
-    ensures spent { budget.new ≤ budget.old }
-    ensures means { Does result (world.new, budget.new) (data_rule (meaning S.accesses) kind scope.now depth (part_tree term.entry)) (world.old, budget.old) }
+    ensures spent { run.new.1 ≤ run.old.1 }
+    ensures means { Does result run.new (data_rule (meaning S.accesses) kind job.entry.scope.now job.entry.depth (part_tree job.entry.term)) run.old }
 {
     match kind {
-        DataKind::Constant(number) => eval_constant(world, *budget, number),
-        DataKind::Integer => eval_integer(world, *budget, term),
-        DataKind::String => eval_string(alloc, world, *budget, term),
-        DataKind::Buffer => eval_buffer(alloc, world, budget, scope, depth, term),
-        DataKind::Package => eval_package(alloc, world, budget, scope, depth, term),
-        DataKind::VarPackage => eval_var_package(alloc, world, budget, scope, depth, term),
+        DataKind::Constant(number) => eval_constant(run, number),
+        DataKind::Integer => eval_integer(run, job.term),
+        DataKind::String => eval_string(alloc, run, job.term),
+        DataKind::Buffer => eval_buffer(alloc, run, job),
+        DataKind::Package => eval_package(alloc, run, job),
+        DataKind::VarPackage => eval_var_package(alloc, run, job),
     }
 }
 
 /// An integer that an opcode says.
 #[tactic(auto, using(crate::proofs::Steps::evaluating), unfolding(aml_meaning::specs::DataTerms::constant_rule))]
-fn eval_constant<S: Space>(world: &World<S>, budget: u64, number: u64) -> Result<Flow, Refusal>
-    ensures { Does result (world.now, budget) (constant_rule (meaning S.accesses) number) (world.now, budget) }
+fn eval_constant<S: Space>(run: &Running<S>, number: u64) -> Result<Flow, Refusal>
+    ensures { Does result run.now (constant_rule (meaning S.accesses) number) run.now }
 {
-    let value = world.integer_kept(number)?;
+    let value = run.world.integer_kept(number)?;
     Ok(Flow::Value(value))
 }
 
 /// An integer that follows its opcode.
 #[tactic(auto, using(crate::proofs::Steps::evaluating), unfolding(aml_meaning::specs::DataTerms::integer_rule))]
-fn eval_integer<S: Space>(world: &World<S>, budget: u64, term: Reader<'_>) -> Result<Flow, Refusal>
-    ensures { Does result (world.now, budget) (integer_rule (meaning S.accesses) (part_tree term.entry)) (world.now, budget) }
+fn eval_integer<S: Space>(run: &Running<S>, term: Reader<'_>) -> Result<Flow, Refusal>
+    ensures { Does result run.now (integer_rule (meaning S.accesses) (part_tree term.entry)) run.now }
 {
     let number = number(term, 0)?;
-    eval_constant(world, budget, number)
+    eval_constant(run, number)
 }
 
 #[tactic(auto, using(crate::proofs::Steps::evaluating), unfolding(aml_meaning::specs::DataTerms::string_rule))]
 fn eval_string<S: Space>(
     alloc: Global,
-    world: &mut World<S>,
-    budget: u64,
+    run: &mut Running<S>,
     term: Reader<'_>,
 ) -> Result<Flow, Refusal>
-    ensures { Does result (world.new, budget) (string_rule (meaning S.accesses) (part_tree term.entry)) (world.old, budget) }
+    ensures spent { run.new.1 ≤ run.old.1 }
+    ensures means { Does result run.new (string_rule (meaning S.accesses) (part_tree term.entry)) run.old }
 {
     let text = bytes(alloc, term, 0)?;
-    let value = world.make_string(text)?;
+    let value = run.world.make_string(text)?;
     Ok(Flow::Value(value))
 }
 
@@ -78,19 +76,16 @@ fn eval_string<S: Space>(
 #[tactic(auto, using(crate::proofs::Steps::evaluating), unfolding(aml_meaning::specs::DataTerms::buffer_rule))]
 fn eval_buffer<S: Space>(
     alloc: Global,
-    world: &mut World<S>,
-    budget: &mut u64,
-    scope: &Path,
-    depth: usize,
-    term: Reader<'_>,
+    run: &mut Running<S>,
+    job: Task<'_>,
 ) -> Result<Flow, Refusal>
-    ensures spent { budget.new ≤ budget.old }
-    ensures means { Does result (world.new, budget.new) (buffer_rule (meaning S.accesses) scope.now depth (part_tree term.entry)) (world.old, budget.old) }
+    ensures spent { run.new.1 ≤ run.old.1 }
+    ensures means { Does result run.new (buffer_rule (meaning S.accesses) job.entry.scope.now job.entry.depth (part_tree job.entry.term)) run.old }
 {
-    let size = inner(term, 0)?;
-    let length = eval_operand_integer(alloc, world, budget, scope, depth, size)?;
-    let bytes = bytes(alloc, term, 1)?;
-    let value = world.new_buffer(length, bytes)?;
+    let size = inner(job.term, 0)?;
+    let length = eval_operand_integer(alloc, run, Task { term: size, ..job })?;
+    let bytes = bytes(alloc, job.term, 1)?;
+    let value = run.world.new_buffer(length, bytes)?;
     Ok(Flow::Value(value))
 }
 
@@ -98,38 +93,48 @@ fn eval_buffer<S: Space>(
 #[tactic(auto, using(crate::proofs::Steps::evaluating), unfolding(aml_meaning::specs::DataTerms::package_rule))]
 fn eval_package<S: Space>(
     alloc: Global,
-    world: &mut World<S>,
-    budget: &mut u64,
-    scope: &Path,
-    depth: usize,
-    term: Reader<'_>,
+    run: &mut Running<S>,
+    job: Task<'_>,
 ) -> Result<Flow, Refusal>
-    ensures spent { budget.new ≤ budget.old }
-    ensures means { Does result (world.new, budget.new) (package_rule (meaning S.accesses) scope.now depth (part_tree term.entry)) (world.old, budget.old) }
+    ensures spent { run.new.1 ≤ run.old.1 }
+    ensures means { Does result run.new (package_rule (meaning S.accesses) job.entry.scope.now job.entry.depth (part_tree job.entry.term)) run.old }
 {
-    let count = number(term, 0)?;
-    let elements = list(term, 1)?;
-    package_of(alloc, world, budget, scope, depth, count as usize, elements)
+    let count = number(job.term, 0)?;
+    let elements = list(job.term, 1)?;
+    package_of(
+        alloc,
+        run,
+        Task {
+            term: elements,
+            ..job
+        },
+        count as usize,
+    )
 }
 
 #[cycle(evaluation)]
 #[tactic(auto, using(crate::proofs::Steps::evaluating), unfolding(aml_meaning::specs::DataTerms::var_package_rule))]
 fn eval_var_package<S: Space>(
     alloc: Global,
-    world: &mut World<S>,
-    budget: &mut u64,
-    scope: &Path,
-    depth: usize,
-    term: Reader<'_>,
+    run: &mut Running<S>,
+    job: Task<'_>,
 ) -> Result<Flow, Refusal>
-    ensures spent { budget.new ≤ budget.old }
-    ensures means { Does result (world.new, budget.new) (var_package_rule (meaning S.accesses) scope.now depth (part_tree term.entry)) (world.old, budget.old) }
+    ensures spent { run.new.1 ≤ run.old.1 }
+    ensures means { Does result run.new (var_package_rule (meaning S.accesses) job.entry.scope.now job.entry.depth (part_tree job.entry.term)) run.old }
 {
-    let size = inner(term, 0)?;
-    let count = eval_operand_integer(alloc, world, budget, scope, depth, size)?;
-    world.few_elements(count)?;
-    let elements = list(term, 1)?;
-    package_of(alloc, world, budget, scope, depth, count as usize, elements)
+    let size = inner(job.term, 0)?;
+    let count = eval_operand_integer(alloc, run, Task { term: size, ..job })?;
+    run.world.few_elements(count)?;
+    let elements = list(job.term, 1)?;
+    package_of(
+        alloc,
+        run,
+        Task {
+            term: elements,
+            ..job
+        },
+        count as usize,
+    )
 }
 
 /// A package of so many elements, the first of which are given.
@@ -137,18 +142,15 @@ fn eval_var_package<S: Space>(
 #[tactic(auto, using(crate::proofs::Steps::evaluating), unfolding(aml_meaning::specs::DataTerms::package_of))]
 fn package_of<S: Space>(
     alloc: Global,
-    world: &mut World<S>,
-    budget: &mut u64,
-    scope: &Path,
-    depth: usize,
+    run: &mut Running<S>,
+    job: Task<'_>,
     count: usize,
-    list: Reader<'_>,
 ) -> Result<Flow, Refusal>
-    ensures spent { budget.new ≤ budget.old }
-    ensures means { Does result (world.new, budget.new) (package_of (meaning S.accesses) scope.now depth count (part_list list.entry)) (world.old, budget.old) }
+    ensures spent { run.new.1 ≤ run.old.1 }
+    ensures means { Does result run.new (package_of (meaning S.accesses) job.entry.scope.now job.entry.depth count (part_list job.entry.term)) run.old }
 {
-    let elements = eval_elements(alloc, world, budget, scope, depth, count, list)?;
-    let value = world.new_package(count, elements)?;
+    let elements = eval_elements(alloc, run, job, count)?;
+    let value = run.world.new_package(count, elements)?;
     Ok(Flow::Value(value))
 }
 
@@ -157,25 +159,30 @@ fn package_of<S: Space>(
 #[tactic(auto, using(crate::proofs::Steps::evaluating))]
 fn eval_elements<S: Space>(
     alloc: Global,
-    world: &mut World<S>,
-    budget: &mut u64,
-    scope: &Path,
-    depth: usize,
+    run: &mut Running<S>,
+    job: Task<'_>,
     count: usize,
-    list: Reader<'_>,
 ) -> Result<Elements, Refusal>
-    ensures spent { budget.new ≤ budget.old }
-    ensures means { Does result (world.new, budget.new) (elements_in_turn (meaning S.accesses) scope.now depth count (part_list list.entry) []) (world.old, budget.old) }
+    ensures spent { run.new.1 ≤ run.old.1 }
+    ensures means { Does result run.new (elements_in_turn (meaning S.accesses) job.entry.scope.now job.entry.depth count (part_list job.entry.term) []) run.old }
 {
     let mut elements = Elements::new(alloc);
     let mut left = count;
-    let mut rest = list;
+    let mut rest = job.term;
     'items: while left > 0 {
         match rest.next() {
             None => return Ok(elements),
             Some(item) => {
                 let code = item.first.code();
-                let element = eval_element(alloc, world, budget, scope, depth, item.first, code)?;
+                let element = eval_element(
+                    alloc,
+                    run,
+                    Task {
+                        term: item.first,
+                        ..job
+                    },
+                    code,
+                )?;
                 elements.push(element)?;
                 left -= 1;
                 rest = item.rest;
@@ -189,26 +196,23 @@ fn eval_elements<S: Space>(
 #[tactic(auto, using(crate::proofs::Steps::evaluating))]
 fn eval_element<S: Space>(
     alloc: Global,
-    world: &mut World<S>,
-    budget: &mut u64,
-    scope: &Path,
-    depth: usize,
-    term: Reader<'_>,
+    run: &mut Running<S>,
+    job: Task<'_>,
     code: TermCode,
 ) -> Result<Element, Refusal>
-    ensures spent { budget.new ≤ budget.old }
-    ensures paid { OnOk result (budget.new < budget.old) }
-    ensures means { Does result (world.new, budget.new) (element_by (meaning S.accesses) code scope.now depth (part_tree term.entry)) (world.old, budget.old) }
+    ensures spent { run.new.1 ≤ run.old.1 }
+    ensures paid { OnOk result (run.new.1 < run.old.1) }
+    ensures means { Does result run.new (element_by (meaning S.accesses) code job.entry.scope.now job.entry.depth (part_tree job.entry.term)) run.old }
 {
     match code {
-        TermCode::Name => named_element(alloc, world, budget, scope, term),
-        TermCode::Opcode(_) => valued_element(alloc, world, budget, scope, depth, term),
-        TermCode::MethodInvocation => valued_element(alloc, world, budget, scope, depth, term),
-        TermCode::NamedField => valued_element(alloc, world, budget, scope, depth, term),
-        TermCode::ReservedField => valued_element(alloc, world, budget, scope, depth, term),
-        TermCode::AccessField => valued_element(alloc, world, budget, scope, depth, term),
-        TermCode::ExtendedAccessField => valued_element(alloc, world, budget, scope, depth, term),
-        TermCode::ConnectField => valued_element(alloc, world, budget, scope, depth, term),
+        TermCode::Name => named_element(alloc, run, job),
+        TermCode::Opcode(_) => valued_element(alloc, run, job),
+        TermCode::MethodInvocation => valued_element(alloc, run, job),
+        TermCode::NamedField => valued_element(alloc, run, job),
+        TermCode::ReservedField => valued_element(alloc, run, job),
+        TermCode::AccessField => valued_element(alloc, run, job),
+        TermCode::ExtendedAccessField => valued_element(alloc, run, job),
+        TermCode::ConnectField => valued_element(alloc, run, job),
     }
 }
 
@@ -216,35 +220,30 @@ fn eval_element<S: Space>(
 #[tactic(auto, using(crate::proofs::Steps::evaluating), unfolding(aml_meaning::specs::DataTerms::named_element))]
 fn named_element<S: Space>(
     alloc: Global,
-    world: &World<S>,
-    budget: &mut u64,
-    scope: &Path,
-    term: Reader<'_>,
+    run: &mut Running<S>,
+    job: Task<'_>,
 ) -> Result<Element, Refusal>
-    ensures spent { budget.new ≤ budget.old }
-    ensures paid { OnOk result (budget.new < budget.old) }
-    ensures means { Does result (world.now, budget.new) (named_element (meaning S.accesses) scope.now (part_tree term.entry)) (world.now, budget.old) }
+    ensures spent { run.new.1 ≤ run.old.1 }
+    ensures paid { OnOk result (run.new.1 < run.old.1) }
+    ensures means { Does result run.new (named_element (meaning S.accesses) job.entry.scope.now (part_tree job.entry.term)) run.old }
 {
-    charge(world, budget)?;
-    let name = term.name(alloc, 0)?;
-    element_of(alloc, name, scope)
+    run.charge()?;
+    let name = job.term.name(alloc, 0)?;
+    element_of(alloc, name, job.scope)
 }
 
 #[cycle(evaluation)]
 #[tactic(auto, using(crate::proofs::Steps::evaluating), unfolding(aml_meaning::specs::DataTerms::valued_element))]
 fn valued_element<S: Space>(
     alloc: Global,
-    world: &mut World<S>,
-    budget: &mut u64,
-    scope: &Path,
-    depth: usize,
-    term: Reader<'_>,
+    run: &mut Running<S>,
+    job: Task<'_>,
 ) -> Result<Element, Refusal>
-    ensures spent { budget.new ≤ budget.old }
-    ensures paid { OnOk result (budget.new < budget.old) }
-    ensures means { Does result (world.new, budget.new) (valued_element (meaning S.accesses) scope.now depth (part_tree term.entry)) (world.old, budget.old) }
+    ensures spent { run.new.1 ≤ run.old.1 }
+    ensures paid { OnOk result (run.new.1 < run.old.1) }
+    ensures means { Does result run.new (valued_element (meaning S.accesses) job.entry.scope.now job.entry.depth (part_tree job.entry.term)) run.old }
 {
-    let value = eval_value(alloc, world, budget, scope, depth, term)?;
+    let value = eval_value(alloc, run, job)?;
     Ok(Element::Value(value))
 }
 

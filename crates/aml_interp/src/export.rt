@@ -7,8 +7,7 @@ ghost use Rattle.aml_meaning.specs.Given as given;
 ghost use Rattle.aml_meaning.specs.Exporting.{text_exported, bytes_exported, reference_exported, value_exported, use_exported, name_exported, held_exported, element_exported, each_exported, elements_exported, package_exported, exported};
 
 use crate::field_calls::field_exported;
-use crate::terms::charge;
-use aml_meaning::{Datum, NameUse, World};
+use aml_meaning::{Datum, NameUse, Running};
 use aml_objects::{Element, Reference, Value};
 use aml_path::{NameString, Path};
 use ar_space::{EvaluationFault, Refusal, Space};
@@ -21,13 +20,12 @@ const MAX_NESTING: usize = 64;
 #[tactic(auto, unfolding(aml_meaning::specs::Exporting::exported))]
 pub(crate) fn exported<S: Space>(
     alloc: Global,
-    world: &mut World<S>,
-    budget: &mut u64,
+    run: &mut Running<S>,
     value: Value,
 ) -> Result<Datum, Refusal>
-    ensures { Does (seen given.given_of result) (world.new, budget.new) (exported S.accesses value) (world.old, budget.old) }
+    ensures { Does (seen given.given_of result) run.new (exported S.accesses value) run.old }
 {
-    value_exported(alloc, world, budget, MAX_NESTING, value)
+    value_exported(alloc, run, MAX_NESTING, value)
 }
 
 /// The value of a package with these elements.
@@ -38,42 +36,35 @@ fn package(list: Vec<Datum>) -> Datum
 }
 
 #[tactic(auto, using(aml_meaning::proofs::Exports::exporting), unfolding(aml_meaning::specs::Exporting::text_exported))]
-fn text_exported<S: Space>(
-    alloc: Global,
-    world: &World<S>,
-    budget: u64,
-    object: usize,
-) -> Result<Datum, Refusal>
-    ensures { Does (seen given.given_of result) (world.now, budget) (text_exported object) (world.now, budget) }
+fn text_exported<S: Space>(alloc: Global, run: &Running<S>, object: usize) -> Result<Datum, Refusal>
+    ensures { Does (seen given.given_of result) run.now (text_exported object) run.now }
 {
-    let bytes = world.string(alloc, object)?;
+    let bytes = run.world.string(alloc, object)?;
     Ok(Datum::Text(bytes))
 }
 
 #[tactic(auto, using(aml_meaning::proofs::Exports::exporting), unfolding(aml_meaning::specs::Exporting::bytes_exported))]
 fn bytes_exported<S: Space>(
     alloc: Global,
-    world: &World<S>,
-    budget: u64,
+    run: &Running<S>,
     object: usize,
 ) -> Result<Datum, Refusal>
-    ensures { Does (seen given.given_of result) (world.now, budget) (bytes_exported object) (world.now, budget) }
+    ensures { Does (seen given.given_of result) run.now (bytes_exported object) run.now }
 {
-    let bytes = world.buffer(alloc, object)?;
+    let bytes = run.world.buffer(alloc, object)?;
     Ok(Datum::Bytes(bytes))
 }
 
 #[tactic(auto, using(aml_meaning::proofs::Exports::exporting), unfolding(aml_meaning::specs::Exporting::reference_exported))]
 fn reference_exported<S: Space>(
     alloc: Global,
-    world: &World<S>,
-    budget: u64,
+    run: &Running<S>,
     reference: Reference,
 ) -> Result<Datum, Refusal>
-    ensures { Does (seen given.given_of result) (world.now, budget) (reference_exported reference) (world.now, budget) }
+    ensures { Does (seen given.given_of result) run.now (reference_exported reference) run.now }
 {
     match reference {
-        Reference::Name(number) => world.path_of(alloc, number),
+        Reference::Name(number) => run.world.path_of(alloc, number),
         Reference::Slot(_, _) => Ok(Datum::Reference),
         Reference::Element(_, _) => Ok(Datum::Reference),
         Reference::Byte(_, _) => Ok(Datum::Reference),
@@ -84,20 +75,19 @@ fn reference_exported<S: Space>(
 #[tactic(auto, using(aml_meaning::proofs::Exports::exporting), unfolding(aml_meaning::specs::Exporting::value_exported))]
 fn value_exported<S: Space>(
     alloc: Global,
-    world: &mut World<S>,
-    budget: &mut u64,
+    run: &mut Running<S>,
     levels: usize,
     value: Value,
 ) -> Result<Datum, Refusal>
-    ensures { Does (seen given.given_of result) (world.new, budget.new) (value_exported S.accesses (package_exported S.accesses levels) value) (world.old, budget.old) }
+    ensures { Does (seen given.given_of result) run.new (value_exported S.accesses (package_exported S.accesses levels) value) run.old }
 {
     match value {
         Value::Uninitialized => Ok(Datum::Nothing),
         Value::Integer(number) => Ok(Datum::Integer(number)),
-        Value::String(object) => text_exported(alloc, world, *budget, object),
-        Value::Buffer(object) => bytes_exported(alloc, world, *budget, object),
-        Value::Package(object) => package_exported(alloc, world, budget, levels, object),
-        Value::Reference(reference) => reference_exported(alloc, world, *budget, reference),
+        Value::String(object) => text_exported(alloc, run, object),
+        Value::Buffer(object) => bytes_exported(alloc, run, object),
+        Value::Package(object) => package_exported(alloc, run, levels, object),
+        Value::Reference(reference) => reference_exported(alloc, run, reference),
     }
 }
 
@@ -105,32 +95,30 @@ fn value_exported<S: Space>(
 #[tactic(auto, using(aml_meaning::proofs::Exports::exporting))]
 fn package_exported<S: Space>(
     alloc: Global,
-    world: &mut World<S>,
-    budget: &mut u64,
+    run: &mut Running<S>,
     levels: usize,
     object: usize,
 ) -> Result<Datum, Refusal>
-    ensures { Does (seen given.given_of result) (world.new, budget.new) (package_exported S.accesses levels object) (world.old, budget.old) }
+    ensures { Does (seen given.given_of result) run.new (package_exported S.accesses levels object) run.old }
 {
     if levels == 0 {
         return Err(Refusal::Evaluation(EvaluationFault::ObjectLimit));
     }
-    elements_exported(alloc, world, budget, levels - 1, object)
+    elements_exported(alloc, run, levels - 1, object)
 }
 
 #[cycle(exporting)]
 #[tactic(auto, using(aml_meaning::proofs::Exports::exporting), unfolding(aml_meaning::specs::Exporting::elements_exported))]
 fn elements_exported<S: Space>(
     alloc: Global,
-    world: &mut World<S>,
-    budget: &mut u64,
+    run: &mut Running<S>,
     levels: usize,
     object: usize,
 ) -> Result<Datum, Refusal>
-    ensures { Does (seen given.given_of result) (world.new, budget.new) (elements_exported S.accesses (package_exported S.accesses levels) object) (world.old, budget.old) }
+    ensures { Does (seen given.given_of result) run.new (elements_exported S.accesses (package_exported S.accesses levels) object) run.old }
 {
-    let elements = world.elements(alloc, object)?;
-    let list = each_exported(alloc, world, budget, levels, elements.as_slice())?;
+    let elements = run.world.elements(alloc, object)?;
+    let list = each_exported(alloc, run, levels, elements.as_slice())?;
     Ok(package(list))
 }
 
@@ -138,16 +126,15 @@ fn elements_exported<S: Space>(
 #[tactic(auto, using(aml_meaning::proofs::Exports::exporting))]
 fn each_exported<S: Space>(
     alloc: Global,
-    world: &mut World<S>,
-    budget: &mut u64,
+    run: &mut Running<S>,
     levels: usize,
     elements: &[Element],
 ) -> Result<Vec<Datum>, Refusal>
-    ensures { Does (seen (λ v. map given.given_of v.items) result) (world.new, budget.new) (each_exported S.accesses (package_exported S.accesses levels) elements.now []) (world.old, budget.old) }
+    ensures { Does (seen (λ v. map given.given_of v.items) result) run.new (each_exported S.accesses (package_exported S.accesses levels) elements.now []) run.old }
 {
     let mut done = Vec::new(alloc);
     for element in elements {
-        let datum = element_exported(alloc, world, budget, levels, element)?;
+        let datum = element_exported(alloc, run, levels, element)?;
         done.push(datum)?;
     }
     Ok(done)
@@ -158,31 +145,29 @@ fn each_exported<S: Space>(
 #[tactic(auto, using(aml_meaning::proofs::Exports::exporting), unfolding(aml_meaning::specs::Exporting::element_exported))]
 fn element_exported<S: Space>(
     alloc: Global,
-    world: &mut World<S>,
-    budget: &mut u64,
+    run: &mut Running<S>,
     levels: usize,
     element: &Element,
 ) -> Result<Datum, Refusal>
-    ensures { Does (seen given.given_of result) (world.new, budget.new) (element_exported S.accesses (package_exported S.accesses levels) element.now) (world.old, budget.old) }
+    ensures { Does (seen given.given_of result) run.new (element_exported S.accesses (package_exported S.accesses levels) element.now) run.old }
 {
-    charge(world, budget)?;
-    held_exported(alloc, world, budget, levels, element)
+    run.charge()?;
+    held_exported(alloc, run, levels, element)
 }
 
 #[cycle(exporting)]
 #[tactic(auto, using(aml_meaning::proofs::Exports::exporting), unfolding(aml_meaning::specs::Exporting::held_exported))]
 fn held_exported<S: Space>(
     alloc: Global,
-    world: &mut World<S>,
-    budget: &mut u64,
+    run: &mut Running<S>,
     levels: usize,
     element: &Element,
 ) -> Result<Datum, Refusal>
-    ensures { Does (seen given.given_of result) (world.new, budget.new) (held_exported S.accesses (package_exported S.accesses levels) element.now) (world.old, budget.old) }
+    ensures { Does (seen given.given_of result) run.new (held_exported S.accesses (package_exported S.accesses levels) element.now) run.old }
 {
     match element {
-        Element::Value(value) => value_exported(alloc, world, budget, levels, *value),
-        Element::Name(name, scope) => name_exported(alloc, world, budget, levels, name, scope),
+        Element::Value(value) => value_exported(alloc, run, levels, *value),
+        Element::Name(name, scope) => name_exported(alloc, run, levels, name, scope),
     }
 }
 
@@ -190,32 +175,30 @@ fn held_exported<S: Space>(
 #[tactic(auto, using(aml_meaning::proofs::Exports::exporting), unfolding(aml_meaning::specs::Exporting::name_exported))]
 fn name_exported<S: Space>(
     alloc: Global,
-    world: &mut World<S>,
-    budget: &mut u64,
+    run: &mut Running<S>,
     levels: usize,
     name: &NameString,
     scope: &Path,
 ) -> Result<Datum, Refusal>
-    ensures { Does (seen given.given_of result) (world.new, budget.new) (name_exported S.accesses (package_exported S.accesses levels) name.now scope.now) (world.old, budget.old) }
+    ensures { Does (seen given.given_of result) run.new (name_exported S.accesses (package_exported S.accesses levels) name.now scope.now) run.old }
 {
-    let found = world.name_use(alloc, name, scope)?;
-    use_exported(alloc, world, budget, levels, found)
+    let found = run.world.name_use(alloc, name, scope)?;
+    use_exported(alloc, run, levels, found)
 }
 
 #[cycle(exporting)]
 #[tactic(auto, using(aml_meaning::proofs::Exports::exporting), unfolding(aml_meaning::specs::Exporting::use_exported))]
 fn use_exported<S: Space>(
     alloc: Global,
-    world: &mut World<S>,
-    budget: &mut u64,
+    run: &mut Running<S>,
     levels: usize,
     found: NameUse,
 ) -> Result<Datum, Refusal>
-    ensures { Does (seen given.given_of result) (world.new, budget.new) (use_exported S.accesses (package_exported S.accesses levels) found) (world.old, budget.old) }
+    ensures { Does (seen given.given_of result) run.new (use_exported S.accesses (package_exported S.accesses levels) found) run.old }
 {
     match found {
-        NameUse::Value(value) => value_exported(alloc, world, budget, levels, value),
-        NameUse::FieldUnit(unit) => field_exported(alloc, world, budget, unit),
+        NameUse::Value(value) => value_exported(alloc, run, levels, value),
+        NameUse::FieldUnit(unit) => field_exported(alloc, run, unit),
         NameUse::Path(path) => Ok(Datum::Named(path)),
     }
 }

@@ -13,7 +13,7 @@ use crate::fields::{
     field_given,
 };
 use crate::invocations::{MAX_DEPTH, eval_method_value};
-use aml_meaning::{Datum, Held, Invocation, Referent, StoreTarget, Stored, World, integer_only};
+use aml_meaning::{Datum, Held, Invocation, Referent, Running, StoreTarget, Stored, integer_only};
 use aml_objects::{Body, FieldUnit, Value};
 use aml_path::Path;
 use ar_space::{EvaluationFault, Refusal, Space};
@@ -31,15 +31,14 @@ fn calls_left(depth: usize) -> usize
 #[tactic(auto, using(crate::proofs::Steps::evaluating))]
 pub(crate) fn eval_field_read<S: Space>(
     alloc: Global,
-    world: &mut World<S>,
-    budget: &mut u64,
+    run: &mut Running<S>,
     depth: usize,
     unit: FieldUnit,
 ) -> Result<Value, Refusal>
-    ensures spent { budget.new ≤ budget.old }
-    ensures means { Does result (world.new, budget.new) (field_read S.accesses (meaning S.accesses) depth unit) (world.old, budget.old) }
+    ensures spent { run.new.1 ≤ run.old.1 }
+    ensures means { Does result run.new (field_read S.accesses (meaning S.accesses) depth unit) run.old }
 {
-    eval_field_value(alloc, world, budget, calls_left(depth), unit)
+    eval_field_value(alloc, run, calls_left(depth), unit)
 }
 
 /// What a target holds, as an integer.
@@ -47,19 +46,16 @@ pub(crate) fn eval_field_read<S: Space>(
 #[tactic(auto, using(crate::proofs::Steps::evaluating))]
 pub(crate) fn eval_held<S: Space>(
     alloc: Global,
-    world: &mut World<S>,
-    budget: &mut u64,
+    run: &mut Running<S>,
     depth: usize,
     held: Held,
 ) -> Result<u64, Refusal>
-    ensures spent { budget.new ≤ budget.old }
-    ensures means { Does result (world.new, budget.new) (held_integer S.accesses (meaning S.accesses) depth held) (world.old, budget.old) }
+    ensures spent { run.new.1 ≤ run.old.1 }
+    ensures means { Does result run.new (held_integer S.accesses (meaning S.accesses) depth held) run.old }
 {
     match held {
-        Held::Value(value) => world.integer_in(value),
-        Held::FieldUnit(unit) => {
-            eval_field_integer(alloc, world, budget, calls_left(depth), unit)
-        }
+        Held::Value(value) => run.world.integer_in(value),
+        Held::FieldUnit(unit) => eval_field_integer(alloc, run, calls_left(depth), unit),
     }
 }
 
@@ -68,20 +64,17 @@ pub(crate) fn eval_held<S: Space>(
 #[tactic(auto, using(crate::proofs::Steps::evaluating))]
 pub(crate) fn eval_referent<S: Space>(
     alloc: Global,
-    world: &mut World<S>,
-    budget: &mut u64,
+    run: &mut Running<S>,
     depth: usize,
     referent: Referent,
 ) -> Result<Referent, Refusal>
-    ensures spent { budget.new ≤ budget.old }
-    ensures means { Does result (world.new, budget.new) (referent_read S.accesses (meaning S.accesses) depth referent) (world.old, budget.old) }
+    ensures spent { run.new.1 ≤ run.old.1 }
+    ensures means { Does result run.new (referent_read S.accesses (meaning S.accesses) depth referent) run.old }
 {
     match referent {
         Referent::Value(value) => Ok(Referent::Value(value)),
         Referent::Object(object_type) => Ok(Referent::Object(object_type)),
-        Referent::FieldUnit(unit) => {
-            eval_field_referent(alloc, world, budget, calls_left(depth), unit)
-        }
+        Referent::FieldUnit(unit) => eval_field_referent(alloc, run, calls_left(depth), unit),
         Referent::Bytes(count) => Ok(Referent::Bytes(count)),
     }
 }
@@ -91,17 +84,16 @@ pub(crate) fn eval_referent<S: Space>(
 #[tactic(auto, using(crate::proofs::Steps::evaluating), unfolding(aml_meaning::specs::FieldCalls::stored_to))]
 pub(crate) fn eval_stored_to<S: Space>(
     alloc: Global,
-    world: &mut World<S>,
-    budget: &mut u64,
+    run: &mut Running<S>,
     depth: usize,
     target: &StoreTarget,
     value: Value,
 ) -> Result<(), Refusal>
-    ensures spent { budget.new ≤ budget.old }
-    ensures means { Does result (world.new, budget.new) (stored_to S.accesses (meaning S.accesses) depth target.now value) (world.old, budget.old) }
+    ensures spent { run.new.1 ≤ run.old.1 }
+    ensures means { Does result run.new (stored_to S.accesses (meaning S.accesses) depth target.now value) run.old }
 {
-    let stored = world.store(alloc, target, value)?;
-    eval_completed(alloc, world, budget, depth, stored, value)
+    let stored = run.world.store(alloc, target, value)?;
+    eval_completed(alloc, run, depth, stored, value)
 }
 
 /// Stores a value to a target whose value was read before: a field unit that was read is the one that is written.
@@ -109,21 +101,18 @@ pub(crate) fn eval_stored_to<S: Space>(
 #[tactic(auto, using(crate::proofs::Steps::evaluating))]
 pub(crate) fn eval_stored_back<S: Space>(
     alloc: Global,
-    world: &mut World<S>,
-    budget: &mut u64,
+    run: &mut Running<S>,
     depth: usize,
     held: Held,
     target: &StoreTarget,
     value: Value,
 ) -> Result<(), Refusal>
-    ensures spent { budget.new ≤ budget.old }
-    ensures means { Does result (world.new, budget.new) (stored_back S.accesses (meaning S.accesses) depth held target.now value) (world.old, budget.old) }
+    ensures spent { run.new.1 ≤ run.old.1 }
+    ensures means { Does result run.new (stored_back S.accesses (meaning S.accesses) depth held target.now value) run.old }
 {
     match held {
-        Held::Value(_) => eval_stored_to(alloc, world, budget, depth, target, value),
-        Held::FieldUnit(unit) => {
-            eval_field_stored(alloc, world, budget, calls_left(depth), unit, value)
-        }
+        Held::Value(_) => eval_stored_to(alloc, run, depth, target, value),
+        Held::FieldUnit(unit) => eval_field_stored(alloc, run, calls_left(depth), unit, value),
     }
 }
 
@@ -132,20 +121,17 @@ pub(crate) fn eval_stored_back<S: Space>(
 #[tactic(auto, using(crate::proofs::Steps::evaluating))]
 pub(crate) fn eval_completed<S: Space>(
     alloc: Global,
-    world: &mut World<S>,
-    budget: &mut u64,
+    run: &mut Running<S>,
     depth: usize,
     stored: Stored,
     value: Value,
 ) -> Result<(), Refusal>
-    ensures spent { budget.new ≤ budget.old }
-    ensures means { Does result (world.new, budget.new) (completed S.accesses (meaning S.accesses) depth stored value) (world.old, budget.old) }
+    ensures spent { run.new.1 ≤ run.old.1 }
+    ensures means { Does result run.new (completed S.accesses (meaning S.accesses) depth stored value) run.old }
 {
     match stored {
         Stored::Done => Ok(()),
-        Stored::FieldUnit(unit) => {
-            eval_field_stored(alloc, world, budget, calls_left(depth), unit, value)
-        }
+        Stored::FieldUnit(unit) => eval_field_stored(alloc, run, calls_left(depth), unit, value),
     }
 }
 
@@ -154,34 +140,32 @@ pub(crate) fn eval_completed<S: Space>(
 #[tactic(auto, using(crate::proofs::Steps::evaluating), unfolding(aml_meaning::specs::FieldCalls::asked))]
 pub(crate) fn eval_asked<S: Space>(
     alloc: Global,
-    world: &mut World<S>,
-    budget: &mut u64,
+    run: &mut Running<S>,
     calls: usize,
     path: &Path,
 ) -> Result<u64, Refusal>
-    ensures spent { budget.new ≤ budget.old }
-    ensures means { Does result (world.new, budget.new) (asked (answer_within S.accesses (meaning S.accesses) calls) path.now) (world.old, budget.old) }
+    ensures spent { run.new.1 ≤ run.old.1 }
+    ensures means { Does result run.new (asked (answer_within S.accesses (meaning S.accesses) calls) path.now) run.old }
 {
-    let found = invocation(alloc, world, path, 0)?;
-    eval_answer(alloc, world, budget, calls, found)
+    let found = invocation(alloc, &run.world, path, 0)?;
+    eval_answer(alloc, run, calls, found)
 }
 
 #[cycle(evaluation)]
 #[tactic(auto, using(crate::proofs::Steps::evaluating))]
 fn eval_answer<S: Space>(
     alloc: Global,
-    world: &mut World<S>,
-    budget: &mut u64,
+    run: &mut Running<S>,
     calls: usize,
     found: Invocation,
 ) -> Result<u64, Refusal>
-    ensures spent { budget.new ≤ budget.old }
-    ensures means { Does result (world.new, budget.new) (answer_within S.accesses (meaning S.accesses) calls found) (world.old, budget.old) }
+    ensures spent { run.new.1 ≤ run.old.1 }
+    ensures means { Does result run.new (answer_within S.accesses (meaning S.accesses) calls found) run.old }
 {
     if calls == 0 {
         return Err(Refusal::Evaluation(EvaluationFault::CallDepth));
     }
-    eval_answer_over(alloc, world, budget, calls - 1, found)
+    eval_answer_over(alloc, run, calls - 1, found)
 }
 
 /// What is found, answered, where so many calls may still be made inside this one.
@@ -189,20 +173,19 @@ fn eval_answer<S: Space>(
 #[tactic(auto, using(crate::proofs::Steps::evaluating))]
 fn eval_answer_over<S: Space>(
     alloc: Global,
-    world: &mut World<S>,
-    budget: &mut u64,
+    run: &mut Running<S>,
     calls: usize,
     found: Invocation,
 ) -> Result<u64, Refusal>
-    ensures spent { budget.new ≤ budget.old }
-    ensures means { Does result (world.new, budget.new) (answer_over S.accesses (meaning S.accesses) calls (asked (answer_within S.accesses (meaning S.accesses) calls)) found) (world.old, budget.old) }
+    ensures spent { run.new.1 ≤ run.old.1 }
+    ensures means { Does result run.new (answer_over S.accesses (meaning S.accesses) calls (asked (answer_within S.accesses (meaning S.accesses) calls)) found) run.old }
 {
     match found {
         Invocation::Value(value) => integer_only(value),
-        Invocation::FieldUnit(unit) => eval_field_part(alloc, world, budget, calls, unit),
+        Invocation::FieldUnit(unit) => eval_field_part(alloc, run, calls, unit),
         Invocation::Method(path, body) => {
             let depth = (MAX_DEPTH - 1).saturating_sub(calls);
-            eval_method_integer(alloc, world, budget, depth, &path, &body)
+            eval_method_integer(alloc, run, depth, &path, &body)
         }
     }
 }
@@ -212,16 +195,15 @@ fn eval_answer_over<S: Space>(
 #[tactic(auto, using(crate::proofs::Steps::evaluating), unfolding(aml_meaning::specs::FieldCalls::method_integer))]
 fn eval_method_integer<S: Space>(
     alloc: Global,
-    world: &mut World<S>,
-    budget: &mut u64,
+    run: &mut Running<S>,
     depth: usize,
     path: &Path,
     body: &Body,
 ) -> Result<u64, Refusal>
-    ensures spent { budget.new ≤ budget.old }
-    ensures means { Does result (world.new, budget.new) (method_integer S.accesses (meaning S.accesses) depth path.now body.now) (world.old, budget.old) }
+    ensures spent { run.new.1 ≤ run.old.1 }
+    ensures means { Does result run.new (method_integer S.accesses (meaning S.accesses) depth path.now body.now) run.old }
 {
-    let value = eval_method_value(alloc, world, budget, depth, path, body, &[])?;
+    let value = eval_method_value(alloc, run, depth, path, body, &[])?;
     integer_only(value)
 }
 
@@ -229,11 +211,10 @@ fn eval_method_integer<S: Space>(
 #[tactic(auto, using(crate::proofs::Steps::evaluating))]
 pub(crate) fn field_exported<S: Space>(
     alloc: Global,
-    world: &mut World<S>,
-    budget: &mut u64,
+    run: &mut Running<S>,
     unit: FieldUnit,
 ) -> Result<Datum, Refusal>
-    ensures { Does (seen given_of result) (world.new, budget.new) (field_given S.accesses (called_at S.accesses (meaning S.accesses) 1) unit) (world.old, budget.old) }
+    ensures { Does (seen given_of result) run.new (field_given S.accesses (called_at S.accesses (meaning S.accesses) 1) unit) run.old }
 {
-    field_given(alloc, world, budget, calls_left(1), unit)
+    field_given(alloc, run, calls_left(1), unit)
 }

@@ -11,7 +11,7 @@ use crate::field_calls::eval_asked;
 use crate::index_fields::{eval_index_bits, eval_index_written};
 use aml_fields::{AddressSpace, Region};
 use aml_meaning::{
-    Datum, Referent, RegionField, RegionSpace, Sought, World, adr, base_bus, pci_space,
+    Datum, Referent, RegionField, RegionSpace, Running, Sought, adr, base_bus, pci_space,
     segment_group, space_numbered,
 };
 use aml_objects::{FieldSource, FieldUnit, Octets, Value};
@@ -24,16 +24,15 @@ use std::alloc::Global;
 #[tactic(auto, using(crate::proofs::Steps::evaluating), unfolding(aml_meaning::specs::Fields::field_value))]
 pub(crate) fn eval_field_value<S: Space>(
     alloc: Global,
-    world: &mut World<S>,
-    budget: &mut u64,
+    run: &mut Running<S>,
     calls: usize,
     unit: FieldUnit,
 ) -> Result<Value, Refusal>
-    ensures spent { budget.new ≤ budget.old }
-    ensures means { Does result (world.new, budget.new) (field_value S.accesses (asked (answer_within S.accesses (meaning S.accesses) calls)) unit) (world.old, budget.old) }
+    ensures spent { run.new.1 ≤ run.old.1 }
+    ensures means { Does result run.new (field_value S.accesses (asked (answer_within S.accesses (meaning S.accesses) calls)) unit) run.old }
 {
-    let bytes = eval_bits_in(alloc, world, budget, calls, unit.source, unit)?;
-    world.value_of_bits(unit.bits, Octets::from_vec(bytes))
+    let bytes = eval_bits_in(alloc, run, calls, unit.source, unit)?;
+    run.world.value_of_bits(unit.bits, Octets::from_vec(bytes))
 }
 
 /// The bits of a field unit, as an integer.
@@ -41,16 +40,15 @@ pub(crate) fn eval_field_value<S: Space>(
 #[tactic(auto, using(crate::proofs::Steps::evaluating), unfolding(aml_meaning::specs::Fields::field_integer))]
 pub(crate) fn eval_field_integer<S: Space>(
     alloc: Global,
-    world: &mut World<S>,
-    budget: &mut u64,
+    run: &mut Running<S>,
     calls: usize,
     unit: FieldUnit,
 ) -> Result<u64, Refusal>
-    ensures spent { budget.new ≤ budget.old }
-    ensures means { Does result (world.new, budget.new) (field_integer S.accesses (asked (answer_within S.accesses (meaning S.accesses) calls)) unit) (world.old, budget.old) }
+    ensures spent { run.new.1 ≤ run.old.1 }
+    ensures means { Does result run.new (field_integer S.accesses (asked (answer_within S.accesses (meaning S.accesses) calls)) unit) run.old }
 {
-    let bytes = eval_bits_in(alloc, world, budget, calls, unit.source, unit)?;
-    world.integer_of_bits(&bytes)
+    let bytes = eval_bits_in(alloc, run, calls, unit.source, unit)?;
+    run.world.integer_of_bits(&bytes)
 }
 
 /// The bits of a field unit, as a part of an address.
@@ -58,16 +56,15 @@ pub(crate) fn eval_field_integer<S: Space>(
 #[tactic(auto, using(crate::proofs::Steps::evaluating), unfolding(aml_meaning::specs::Fields::field_part))]
 pub(crate) fn eval_field_part<S: Space>(
     alloc: Global,
-    world: &mut World<S>,
-    budget: &mut u64,
+    run: &mut Running<S>,
     calls: usize,
     unit: FieldUnit,
 ) -> Result<u64, Refusal>
-    ensures spent { budget.new ≤ budget.old }
-    ensures means { Does result (world.new, budget.new) (field_part S.accesses (asked (answer_within S.accesses (meaning S.accesses) calls)) unit) (world.old, budget.old) }
+    ensures spent { run.new.1 ≤ run.old.1 }
+    ensures means { Does result run.new (field_part S.accesses (asked (answer_within S.accesses (meaning S.accesses) calls)) unit) run.old }
 {
-    let bytes = eval_bits_in(alloc, world, budget, calls, unit.source, unit)?;
-    world.integer_alone(unit.bits, &bytes)
+    let bytes = eval_bits_in(alloc, run, calls, unit.source, unit)?;
+    run.world.integer_alone(unit.bits, &bytes)
 }
 
 /// The bits of a field unit, as what SizeOf and ObjectType speak of.
@@ -75,31 +72,29 @@ pub(crate) fn eval_field_part<S: Space>(
 #[tactic(auto, using(crate::proofs::Steps::evaluating), unfolding(aml_meaning::specs::Fields::field_referent))]
 pub(crate) fn eval_field_referent<S: Space>(
     alloc: Global,
-    world: &mut World<S>,
-    budget: &mut u64,
+    run: &mut Running<S>,
     calls: usize,
     unit: FieldUnit,
 ) -> Result<Referent, Refusal>
-    ensures spent { budget.new ≤ budget.old }
-    ensures means { Does result (world.new, budget.new) (field_referent S.accesses (asked (answer_within S.accesses (meaning S.accesses) calls)) unit) (world.old, budget.old) }
+    ensures spent { run.new.1 ≤ run.old.1 }
+    ensures means { Does result run.new (field_referent S.accesses (asked (answer_within S.accesses (meaning S.accesses) calls)) unit) run.old }
 {
-    let bytes = eval_bits_in(alloc, world, budget, calls, unit.source, unit)?;
-    world.referent_of_bits(unit.bits, &bytes)
+    let bytes = eval_bits_in(alloc, run, calls, unit.source, unit)?;
+    run.world.referent_of_bits(unit.bits, &bytes)
 }
 
 /// The bits of a field unit, as they are handed out.
 #[tactic(auto, using(crate::proofs::Steps::evaluating), unfolding(aml_meaning::specs::Fields::field_given))]
 pub(crate) fn field_given<S: Space>(
     alloc: Global,
-    world: &mut World<S>,
-    budget: &mut u64,
+    run: &mut Running<S>,
     calls: usize,
     unit: FieldUnit,
 ) -> Result<Datum, Refusal>
-    ensures { Does (seen given_of result) (world.new, budget.new) (field_given S.accesses (asked (answer_within S.accesses (meaning S.accesses) calls)) unit) (world.old, budget.old) }
+    ensures { Does (seen given_of result) run.new (field_given S.accesses (asked (answer_within S.accesses (meaning S.accesses) calls)) unit) run.old }
 {
-    let bytes = eval_bits_in(alloc, world, budget, calls, unit.source, unit)?;
-    world.datum_of_bits(unit.bits, Octets::from_vec(bytes))
+    let bytes = eval_bits_in(alloc, run, calls, unit.source, unit)?;
+    run.world.datum_of_bits(unit.bits, Octets::from_vec(bytes))
 }
 
 /// Stores a value to a field unit: its bits, cut or with zeros behind them.
@@ -107,46 +102,36 @@ pub(crate) fn field_given<S: Space>(
 #[tactic(auto, using(crate::proofs::Steps::evaluating), unfolding(aml_meaning::specs::Fields::field_stored))]
 pub(crate) fn eval_field_stored<S: Space>(
     alloc: Global,
-    world: &mut World<S>,
-    budget: &mut u64,
+    run: &mut Running<S>,
     calls: usize,
     unit: FieldUnit,
     value: Value,
 ) -> Result<(), Refusal>
-    ensures spent { budget.new ≤ budget.old }
-    ensures means { Does result (world.new, budget.new) (field_stored S.accesses (asked (answer_within S.accesses (meaning S.accesses) calls)) unit value) (world.old, budget.old) }
+    ensures spent { run.new.1 ≤ run.old.1 }
+    ensures means { Does result run.new (field_stored S.accesses (asked (answer_within S.accesses (meaning S.accesses) calls)) unit value) run.old }
 {
-    let bytes = world.bytes_in(alloc, value)?;
-    eval_written_in(
-        alloc,
-        world,
-        budget,
-        calls,
-        unit.source,
-        unit,
-        bytes.as_slice(),
-    )
+    let bytes = run.world.bytes_in(alloc, value)?;
+    eval_written_in(alloc, run, calls, unit.source, unit, bytes.as_slice())
 }
 
 #[cycle(evaluation)]
 #[tactic(auto, using(crate::proofs::Steps::evaluating))]
 fn eval_bits_in<S: Space>(
     alloc: Global,
-    world: &mut World<S>,
-    budget: &mut u64,
+    run: &mut Running<S>,
     calls: usize,
     source: FieldSource,
     unit: FieldUnit,
 ) -> Result<Vec<u8>, Refusal>
-    ensures spent { budget.new ≤ budget.old }
-    ensures means { Does (seen (λ v. v.items) result) (world.new, budget.new) (bits_in S.accesses (asked (answer_within S.accesses (meaning S.accesses) calls)) source unit) (world.old, budget.old) }
+    ensures spent { run.new.1 ≤ run.old.1 }
+    ensures means { Does (seen (λ v. v.items) result) run.new (bits_in S.accesses (asked (answer_within S.accesses (meaning S.accesses) calls)) source unit) run.old }
 {
     match source {
         FieldSource::Region(region) => {
-            eval_region_bits(alloc, world, budget, calls, RegionField { region, unit })
+            eval_region_bits(alloc, run, calls, RegionField { region, unit })
         }
         FieldSource::Index(index, behind) => {
-            eval_index_bits(alloc, world, budget, calls, index, behind, unit)
+            eval_index_bits(alloc, run, calls, index, behind, unit)
         }
     }
 }
@@ -155,23 +140,22 @@ fn eval_bits_in<S: Space>(
 #[tactic(auto, using(crate::proofs::Steps::evaluating))]
 fn eval_written_in<S: Space>(
     alloc: Global,
-    world: &mut World<S>,
-    budget: &mut u64,
+    run: &mut Running<S>,
     calls: usize,
     source: FieldSource,
     unit: FieldUnit,
     bytes: &[u8],
 ) -> Result<(), Refusal>
-    ensures spent { budget.new ≤ budget.old }
-    ensures means { Does result (world.new, budget.new) (written_in S.accesses (asked (answer_within S.accesses (meaning S.accesses) calls)) source unit bytes.now) (world.old, budget.old) }
+    ensures spent { run.new.1 ≤ run.old.1 }
+    ensures means { Does result run.new (written_in S.accesses (asked (answer_within S.accesses (meaning S.accesses) calls)) source unit bytes.now) run.old }
 {
     match source {
         FieldSource::Region(region) => {
             let field = RegionField { region, unit };
-            eval_region_written(alloc, world, budget, calls, field, bytes)
+            eval_region_written(alloc, run, calls, field, bytes)
         }
         FieldSource::Index(index, behind) => {
-            eval_index_written(alloc, world, budget, calls, index, behind, unit, bytes)
+            eval_index_written(alloc, run, calls, index, behind, unit, bytes)
         }
     }
 }
@@ -181,16 +165,15 @@ fn eval_written_in<S: Space>(
 #[tactic(auto, using(crate::proofs::Steps::evaluating), unfolding(aml_meaning::specs::Fields::region_bits))]
 pub(crate) fn eval_region_bits<S: Space>(
     alloc: Global,
-    world: &mut World<S>,
-    budget: &mut u64,
+    run: &mut Running<S>,
     calls: usize,
     field: RegionField,
 ) -> Result<Vec<u8>, Refusal>
-    ensures spent { budget.new ≤ budget.old }
-    ensures means { Does (seen (λ v. v.items) result) (world.new, budget.new) (region_bits S.accesses (asked (answer_within S.accesses (meaning S.accesses) calls)) field) (world.old, budget.old) }
+    ensures spent { run.new.1 ≤ run.old.1 }
+    ensures means { Does (seen (λ v. v.items) result) run.new (region_bits S.accesses (asked (answer_within S.accesses (meaning S.accesses) calls)) field) run.old }
 {
-    let region = eval_located(alloc, world, budget, calls, field.region)?;
-    world.read_field(alloc, region, field.unit)
+    let region = eval_located(alloc, run, calls, field.region)?;
+    run.world.read_field(alloc, region, field.unit)
 }
 
 /// Writes a field of a region.
@@ -198,17 +181,16 @@ pub(crate) fn eval_region_bits<S: Space>(
 #[tactic(auto, using(crate::proofs::Steps::evaluating), unfolding(aml_meaning::specs::Fields::region_written))]
 pub(crate) fn eval_region_written<S: Space>(
     alloc: Global,
-    world: &mut World<S>,
-    budget: &mut u64,
+    run: &mut Running<S>,
     calls: usize,
     field: RegionField,
     bytes: &[u8],
 ) -> Result<(), Refusal>
-    ensures spent { budget.new ≤ budget.old }
-    ensures means { Does result (world.new, budget.new) (region_written S.accesses (asked (answer_within S.accesses (meaning S.accesses) calls)) field bytes.now) (world.old, budget.old) }
+    ensures spent { run.new.1 ≤ run.old.1 }
+    ensures means { Does result run.new (region_written S.accesses (asked (answer_within S.accesses (meaning S.accesses) calls)) field bytes.now) run.old }
 {
-    let region = eval_located(alloc, world, budget, calls, field.region)?;
-    world.write_field(region, field.unit, bytes)
+    let region = eval_located(alloc, run, calls, field.region)?;
+    run.world.write_field(region, field.unit, bytes)
 }
 
 /// Where the region with the number of a declaration is; its address is asked for.
@@ -216,17 +198,16 @@ pub(crate) fn eval_region_written<S: Space>(
 #[tactic(auto, using(crate::proofs::Steps::evaluating), unfolding(aml_meaning::specs::Fields::located))]
 fn eval_located<S: Space>(
     alloc: Global,
-    world: &mut World<S>,
-    budget: &mut u64,
+    run: &mut Running<S>,
     calls: usize,
     number: u64,
 ) -> Result<Region, Refusal>
-    ensures spent { budget.new ≤ budget.old }
-    ensures means { Does result (world.new, budget.new) (located S.accesses (asked (answer_within S.accesses (meaning S.accesses) calls)) number) (world.old, budget.old) }
+    ensures spent { run.new.1 ≤ run.old.1 }
+    ensures means { Does result run.new (located S.accesses (asked (answer_within S.accesses (meaning S.accesses) calls)) number) run.old }
 {
-    let (scope, region) = world.region_declared(alloc, number)?;
+    let (scope, region) = run.world.region_declared(alloc, number)?;
     let kind = space_numbered(region.space);
-    let space = eval_space_at(alloc, world, budget, calls, kind, &scope)?;
+    let space = eval_space_at(alloc, run, calls, kind, &scope)?;
     Ok(Region {
         space,
         offset: region.offset,
@@ -238,19 +219,18 @@ fn eval_located<S: Space>(
 #[tactic(auto, using(crate::proofs::Steps::evaluating))]
 fn eval_space_at<S: Space>(
     alloc: Global,
-    world: &mut World<S>,
-    budget: &mut u64,
+    run: &mut Running<S>,
     calls: usize,
     kind: RegionSpace,
     scope: &Path,
 ) -> Result<AddressSpace, Refusal>
-    ensures spent { budget.new ≤ budget.old }
-    ensures means { Does result (world.new, budget.new) (space_at S.accesses (asked (answer_within S.accesses (meaning S.accesses) calls)) kind scope.now) (world.old, budget.old) }
+    ensures spent { run.new.1 ≤ run.old.1 }
+    ensures means { Does result run.new (space_at S.accesses (asked (answer_within S.accesses (meaning S.accesses) calls)) kind scope.now) run.old }
 {
     match kind {
         RegionSpace::SystemMemory => Ok(AddressSpace::Memory),
         RegionSpace::SystemIo => Ok(AddressSpace::Io),
-        RegionSpace::PciConfig => eval_pci_address(alloc, world, budget, calls, scope),
+        RegionSpace::PciConfig => eval_pci_address(alloc, run, calls, scope),
         RegionSpace::Other => Err(Refusal::Evaluation(EvaluationFault::SpaceKind)),
     }
 }
@@ -261,19 +241,18 @@ fn eval_space_at<S: Space>(
 #[tactic(auto, using(crate::proofs::Steps::evaluating), unfolding(aml_meaning::specs::Fields::pci_address))]
 fn eval_pci_address<S: Space>(
     alloc: Global,
-    world: &mut World<S>,
-    budget: &mut u64,
+    run: &mut Running<S>,
     calls: usize,
     scope: &Path,
 ) -> Result<AddressSpace, Refusal>
-    ensures spent { budget.new ≤ budget.old }
-    ensures means { Does result (world.new, budget.new) (pci_address S.accesses (asked (answer_within S.accesses (meaning S.accesses) calls)) scope.now) (world.old, budget.old) }
+    ensures spent { run.new.1 ≤ run.old.1 }
+    ensures means { Does result run.new (pci_address S.accesses (asked (answer_within S.accesses (meaning S.accesses) calls)) scope.now) run.old }
 {
-    let device = world.pci_function(alloc, scope)?;
-    let segment = eval_inherited(alloc, world, budget, calls, segment_group(), &device)?;
-    let bus = eval_inherited(alloc, world, budget, calls, base_bus(), &device)?;
+    let device = run.world.pci_function(alloc, scope)?;
+    let segment = eval_inherited(alloc, run, calls, segment_group(), &device)?;
+    let bus = eval_inherited(alloc, run, calls, base_bus(), &device)?;
     let object = device.child(alloc, adr())?;
-    let address = eval_asked(alloc, world, budget, calls, &object)?;
+    let address = eval_asked(alloc, run, calls, &object)?;
     pci_space(segment, bus, address)
 }
 
@@ -282,35 +261,33 @@ fn eval_pci_address<S: Space>(
 #[tactic(auto, using(crate::proofs::Steps::evaluating), unfolding(aml_meaning::specs::Fields::inherited))]
 fn eval_inherited<S: Space>(
     alloc: Global,
-    world: &mut World<S>,
-    budget: &mut u64,
+    run: &mut Running<S>,
     calls: usize,
     name: Seg,
     device: &Path,
 ) -> Result<u64, Refusal>
-    ensures spent { budget.new ≤ budget.old }
-    ensures means { Does result (world.new, budget.new) (inherited S.accesses (asked (answer_within S.accesses (meaning S.accesses) calls)) name device.now) (world.old, budget.old) }
+    ensures spent { run.new.1 ≤ run.old.1 }
+    ensures means { Does result run.new (inherited S.accesses (asked (answer_within S.accesses (meaning S.accesses) calls)) name device.now) run.old }
 {
-    let near = world.nearest(alloc, Sought::Parent(name), device)?;
-    eval_part_in(alloc, world, budget, calls, name, near)
+    let near = run.world.nearest(alloc, Sought::Parent(name), device)?;
+    eval_part_in(alloc, run, calls, name, near)
 }
 
 #[cycle(evaluation)]
 #[tactic(auto, using(crate::proofs::Steps::evaluating))]
 fn eval_part_in<S: Space>(
     alloc: Global,
-    world: &mut World<S>,
-    budget: &mut u64,
+    run: &mut Running<S>,
     calls: usize,
     name: Seg,
     scope: Option<Path>,
 ) -> Result<u64, Refusal>
-    ensures spent { budget.new ≤ budget.old }
-    ensures means { Does result (world.new, budget.new) (part_in S.accesses (asked (answer_within S.accesses (meaning S.accesses) calls)) name scope) (world.old, budget.old) }
+    ensures spent { run.new.1 ≤ run.old.1 }
+    ensures means { Does result run.new (part_in S.accesses (asked (answer_within S.accesses (meaning S.accesses) calls)) name scope) run.old }
 {
     match scope {
         None => Ok(0),
-        Some(scope) => eval_part_below(alloc, world, budget, calls, name, &scope),
+        Some(scope) => eval_part_below(alloc, run, calls, name, &scope),
     }
 }
 
@@ -318,15 +295,14 @@ fn eval_part_in<S: Space>(
 #[tactic(auto, using(crate::proofs::Steps::evaluating))]
 fn eval_part_below<S: Space>(
     alloc: Global,
-    world: &mut World<S>,
-    budget: &mut u64,
+    run: &mut Running<S>,
     calls: usize,
     name: Seg,
     scope: &Path,
 ) -> Result<u64, Refusal>
-    ensures spent { budget.new ≤ budget.old }
-    ensures means { Does result (world.new, budget.new) (asked (answer_within S.accesses (meaning S.accesses) calls) (scope.now ++ name ∷ [])) (world.old, budget.old) }
+    ensures spent { run.new.1 ≤ run.old.1 }
+    ensures means { Does result run.new (asked (answer_within S.accesses (meaning S.accesses) calls) (scope.now ++ name ∷ [])) run.old }
 {
     let object = scope.child(alloc, name)?;
-    eval_asked(alloc, world, budget, calls, &object)
+    eval_asked(alloc, run, calls, &object)
 }

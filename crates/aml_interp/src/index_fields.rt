@@ -12,7 +12,7 @@ ghost use Rattle.aml_meaning.specs.Fields.{unit_bytes, unit_of, index_unit, inde
 
 use crate::fields::{eval_region_bits, eval_region_written};
 use aml_fields::{Unit, bytes_for, bytes_of, copy_from_unit, merge, units};
-use aml_meaning::{RegionField, World};
+use aml_meaning::{RegionField, Running};
 use aml_objects::{FieldUnit, UpdateRule};
 use ar_space::{Refusal, Space, Width};
 use std::alloc::Global;
@@ -22,19 +22,18 @@ use std::alloc::Global;
 #[tactic(auto, using(crate::proofs::Steps::evaluating), unfolding(aml_meaning::specs::Fields::index_bits))]
 pub(crate) fn eval_index_bits<S: Space>(
     alloc: Global,
-    world: &mut World<S>,
-    budget: &mut u64,
+    run: &mut Running<S>,
     calls: usize,
     index: u64,
     behind: u64,
     field: FieldUnit,
 ) -> Result<Vec<u8>, Refusal>
-    ensures spent { budget.new ≤ budget.old }
-    ensures means { Does (seen (λ v. v.items) result) (world.new, budget.new) (index_bits S.accesses (asked (answer_within S.accesses (meaning S.accesses) calls)) index behind field) (world.old, budget.old) }
+    ensures spent { run.new.1 ≤ run.old.1 }
+    ensures means { Does (seen (λ v. v.items) result) run.new (index_bits S.accesses (asked (answer_within S.accesses (meaning S.accesses) calls)) index behind field) run.old }
 {
-    let index = world.field_declared(index)?;
-    let behind = world.field_declared(behind)?;
-    eval_index_reads(alloc, world, budget, calls, index, behind, field)
+    let index = run.world.field_declared(index)?;
+    let behind = run.world.field_declared(behind)?;
+    eval_index_reads(alloc, run, calls, index, behind, field)
 }
 
 /// Writes a field behind the fields with these numbers of declarations.
@@ -42,20 +41,19 @@ pub(crate) fn eval_index_bits<S: Space>(
 #[tactic(auto, using(crate::proofs::Steps::evaluating), unfolding(aml_meaning::specs::Fields::index_written))]
 pub(crate) fn eval_index_written<S: Space>(
     alloc: Global,
-    world: &mut World<S>,
-    budget: &mut u64,
+    run: &mut Running<S>,
     calls: usize,
     index: u64,
     behind: u64,
     field: FieldUnit,
     source: &[u8],
 ) -> Result<(), Refusal>
-    ensures spent { budget.new ≤ budget.old }
-    ensures means { Does result (world.new, budget.new) (index_written S.accesses (asked (answer_within S.accesses (meaning S.accesses) calls)) index behind field source.now) (world.old, budget.old) }
+    ensures spent { run.new.1 ≤ run.old.1 }
+    ensures means { Does result run.new (index_written S.accesses (asked (answer_within S.accesses (meaning S.accesses) calls)) index behind field source.now) run.old }
 {
-    let index = world.field_declared(index)?;
-    let behind = world.field_declared(behind)?;
-    eval_index_writes(alloc, world, budget, calls, index, behind, field, source)
+    let index = run.world.field_declared(index)?;
+    let behind = run.world.field_declared(behind)?;
+    eval_index_writes(alloc, run, calls, index, behind, field, source)
 }
 
 /// Each unit is read, lowest first.
@@ -63,28 +61,18 @@ pub(crate) fn eval_index_written<S: Space>(
 #[tactic(auto, using(crate::proofs::Steps::evaluating))]
 fn eval_index_reads<S: Space>(
     alloc: Global,
-    world: &mut World<S>,
-    budget: &mut u64,
+    run: &mut Running<S>,
     calls: usize,
     index: RegionField,
     behind: RegionField,
     field: FieldUnit,
 ) -> Result<Vec<u8>, Refusal>
-    ensures spent { budget.new ≤ budget.old }
-    ensures means { Does (seen (λ v. v.items) result) (world.new, budget.new) (bits_read (index_unit S.accesses (asked (answer_within S.accesses (meaning S.accesses) calls)) index behind field.access) field) (world.old, budget.old) }
+    ensures spent { run.new.1 ≤ run.old.1 }
+    ensures means { Does (seen (λ v. v.items) result) run.new (bits_read (index_unit S.accesses (asked (answer_within S.accesses (meaning S.accesses) calls)) index behind field.access) field) run.old }
 {
     let mut bits = vec![in alloc; 0; bytes_for(field.bits as usize)]?;
     for unit in units(field.bit_offset, field.bits, field.access) {
-        let value = eval_index_unit(
-            alloc,
-            world,
-            budget,
-            calls,
-            index,
-            behind,
-            field.access,
-            unit,
-        )?;
+        let value = eval_index_unit(alloc, run, calls, index, behind, field.access, unit)?;
         copy_from_unit(&mut bits, unit.position, value, unit.first, unit.count);
     }
     Ok(bits)
@@ -95,21 +83,18 @@ fn eval_index_reads<S: Space>(
 #[tactic(auto, using(crate::proofs::Steps::evaluating))]
 fn eval_index_writes<S: Space>(
     alloc: Global,
-    world: &mut World<S>,
-    budget: &mut u64,
+    run: &mut Running<S>,
     calls: usize,
     index: RegionField,
     behind: RegionField,
     field: FieldUnit,
     source: &[u8],
 ) -> Result<(), Refusal>
-    ensures spent { budget.new ≤ budget.old }
-    ensures means { Does result (world.new, budget.new) (write_units (index_unit_written S.accesses (asked (answer_within S.accesses (meaning S.accesses) calls)) index behind field source.now) (units_of field.bit_offset field.bits field.access)) (world.old, budget.old) }
+    ensures spent { run.new.1 ≤ run.old.1 }
+    ensures means { Does result run.new (write_units (index_unit_written S.accesses (asked (answer_within S.accesses (meaning S.accesses) calls)) index behind field source.now) (units_of field.bit_offset field.bits field.access)) run.old }
 {
     for unit in units(field.bit_offset, field.bits, field.access) {
-        eval_index_unit_written(
-            alloc, world, budget, calls, index, behind, field, source, unit,
-        )?;
+        eval_index_unit_written(alloc, run, calls, index, behind, field, source, unit)?;
     }
     Ok(())
 }
@@ -119,19 +104,18 @@ fn eval_index_writes<S: Space>(
 #[tactic(auto, using(crate::proofs::Steps::evaluating), unfolding(aml_meaning::specs::Fields::index_unit))]
 fn eval_index_unit<S: Space>(
     alloc: Global,
-    world: &mut World<S>,
-    budget: &mut u64,
+    run: &mut Running<S>,
     calls: usize,
     index: RegionField,
     behind: RegionField,
     width: Width,
     unit: Unit,
 ) -> Result<u64, Refusal>
-    ensures spent { budget.new ≤ budget.old }
-    ensures means { Does result (world.new, budget.new) (index_unit S.accesses (asked (answer_within S.accesses (meaning S.accesses) calls)) index behind width unit) (world.old, budget.old) }
+    ensures spent { run.new.1 ≤ run.old.1 }
+    ensures means { Does result run.new (index_unit S.accesses (asked (answer_within S.accesses (meaning S.accesses) calls)) index behind width unit) run.old }
 {
-    eval_region_written(alloc, world, budget, calls, index, &bytes_of(unit.offset))?;
-    let bytes = eval_region_bits(alloc, world, budget, calls, behind)?;
+    eval_region_written(alloc, run, calls, index, &bytes_of(unit.offset))?;
+    let bytes = eval_region_bits(alloc, run, calls, behind)?;
     Ok(unit_of(width, &bytes))
 }
 
@@ -140,8 +124,7 @@ fn eval_index_unit<S: Space>(
 #[tactic(auto, using(crate::proofs::Steps::evaluating), unfolding(aml_meaning::specs::Fields::index_unit_written))]
 fn eval_index_unit_written<S: Space>(
     alloc: Global,
-    world: &mut World<S>,
-    budget: &mut u64,
+    run: &mut Running<S>,
     calls: usize,
     index: RegionField,
     behind: RegionField,
@@ -151,11 +134,11 @@ fn eval_index_unit_written<S: Space>(
 ) -> Result<(), Refusal>
     requires inside { unit.first + unit.count ≤ 64 }
     requires position { unit.position + unit.count < 2 ^ 64 }
-    ensures spent { budget.new ≤ budget.old }
-    ensures means { Does result (world.new, budget.new) (index_unit_written S.accesses (asked (answer_within S.accesses (meaning S.accesses) calls)) index behind field source.now unit) (world.old, budget.old) }
+    ensures spent { run.new.1 ≤ run.old.1 }
+    ensures means { Does result run.new (index_unit_written S.accesses (asked (answer_within S.accesses (meaning S.accesses) calls)) index behind field source.now unit) run.old }
 {
-    let old = eval_index_kept(alloc, world, budget, calls, index, behind, field, unit)?;
-    eval_region_written(alloc, world, budget, calls, index, &bytes_of(unit.offset))?;
+    let old = eval_index_kept(alloc, run, calls, index, behind, field, unit)?;
+    eval_region_written(alloc, run, calls, index, &bytes_of(unit.offset))?;
     let value = merge(
         field.update,
         field.access,
@@ -165,7 +148,7 @@ fn eval_index_unit_written<S: Space>(
         unit.position,
         unit.count,
     );
-    eval_region_written(alloc, world, budget, calls, behind, &bytes_of(value))
+    eval_region_written(alloc, run, calls, behind, &bytes_of(value))
 }
 
 /// What a unit holds that a write keeps: it is read where the field isn't all of it and the update rule is Preserve.
@@ -173,16 +156,15 @@ fn eval_index_unit_written<S: Space>(
 #[tactic(auto, using(crate::proofs::Steps::evaluating), unfolding(aml_fields::specs::UnitByUnit::kept))]
 fn eval_index_kept<S: Space>(
     alloc: Global,
-    world: &mut World<S>,
-    budget: &mut u64,
+    run: &mut Running<S>,
     calls: usize,
     index: RegionField,
     behind: RegionField,
     field: FieldUnit,
     unit: Unit,
 ) -> Result<u64, Refusal>
-    ensures spent { budget.new ≤ budget.old }
-    ensures means { Does result (world.new, budget.new) (kept field unit (index_unit S.accesses (asked (answer_within S.accesses (meaning S.accesses) calls)) index behind field.access unit)) (world.old, budget.old) }
+    ensures spent { run.new.1 ≤ run.old.1 }
+    ensures means { Does result run.new (kept field unit (index_unit S.accesses (asked (answer_within S.accesses (meaning S.accesses) calls)) index behind field.access unit)) run.old }
 {
     if unit.count == usize::from(field.access.bits()) {
         return Ok(0);
@@ -190,8 +172,7 @@ fn eval_index_kept<S: Space>(
     match field.update {
         UpdateRule::Preserve => eval_index_unit(
             alloc,
-            world,
-            budget,
+            run,
             calls,
             index,
             behind,

@@ -14,9 +14,10 @@ ghost use Rattle.aml_meaning.specs.InvocationTerms.{arguments_in_turn, call_rule
 use crate::field_calls::eval_field_read;
 use crate::operands::{Reader, as_many, list};
 use crate::readings::read_body;
+use crate::task::Task;
 use crate::terms::{eval_list, eval_value};
 use aml_grammar::{Term, TermReader};
-use aml_meaning::{Flow, Invocation, World};
+use aml_meaning::{Flow, Invocation, Running};
 use aml_objects::{Body, FieldUnit, Value};
 use aml_path::Path;
 use ar_space::{EvaluationFault, Refusal, Space};
@@ -30,43 +31,43 @@ pub(crate) const MAX_DEPTH: usize = 32;
 #[tactic(auto, using(crate::proofs::Steps::evaluating), unfolding(aml_meaning::specs::InvocationTerms::name_value))]
 pub(crate) fn eval_name_value<S: Space>(
     alloc: Global,
-    world: &mut World<S>,
-    budget: &mut u64,
-    scope: &Path,
-    depth: usize,
-    term: Reader<'_>,
+    run: &mut Running<S>,
+    job: Task<'_>,
 ) -> Result<Flow, Refusal>
-    ensures spent { budget.new ≤ budget.old }
-    ensures means { Does result (world.new, budget.new) (name_value S.accesses (meaning S.accesses) scope.now depth (part_tree term.entry)) (world.old, budget.old) }
+    ensures spent { run.new.1 ≤ run.old.1 }
+    ensures means { Does result run.new (name_value S.accesses (meaning S.accesses) job.entry.scope.now job.entry.depth (part_tree job.entry.term)) run.old }
 {
-    let name = term.name(alloc, 0)?;
-    let arguments = list(term, 1)?;
-    let wanted = world.arguments(scope, &name)?;
+    let name = job.term.name(alloc, 0)?;
+    let arguments = list(job.term, 1)?;
+    let wanted = run.world.arguments(job.scope, &name)?;
     as_many(arguments, wanted)?;
-    let invocation = world.named_use(alloc, scope, &name)?;
-    eval_invocation(alloc, world, budget, scope, depth, arguments, invocation)
+    let invocation = run.world.named_use(alloc, job.scope, &name)?;
+    eval_invocation(
+        alloc,
+        run,
+        Task {
+            term: arguments,
+            ..job
+        },
+        invocation,
+    )
 }
 
 #[cycle(evaluation)]
 #[tactic(auto, using(crate::proofs::Steps::evaluating))]
 fn eval_invocation<S: Space>(
     alloc: Global,
-    world: &mut World<S>,
-    budget: &mut u64,
-    scope: &Path,
-    depth: usize,
-    arguments: Reader<'_>,
+    run: &mut Running<S>,
+    job: Task<'_>,
     invocation: Invocation,
 ) -> Result<Flow, Refusal>
-    ensures spent { budget.new ≤ budget.old }
-    ensures means { Does result (world.new, budget.new) (invocation_rule S.accesses (meaning S.accesses) scope.now depth (part_list arguments.entry) invocation) (world.old, budget.old) }
+    ensures spent { run.new.1 ≤ run.old.1 }
+    ensures means { Does result run.new (invocation_rule S.accesses (meaning S.accesses) job.entry.scope.now job.entry.depth (part_list job.entry.term) invocation) run.old }
 {
     match invocation {
         Invocation::Value(value) => Ok(Flow::Value(value)),
-        Invocation::FieldUnit(unit) => eval_field(alloc, world, budget, depth, unit),
-        Invocation::Method(path, body) => {
-            eval_call(alloc, world, budget, scope, depth, arguments, &path, &body)
-        }
+        Invocation::FieldUnit(unit) => eval_field(alloc, run, job.depth, unit),
+        Invocation::Method(path, body) => eval_call(alloc, run, job, &path, &body),
     }
 }
 
@@ -75,15 +76,14 @@ fn eval_invocation<S: Space>(
 #[tactic(auto, using(crate::proofs::Steps::evaluating), unfolding(aml_meaning::specs::InvocationTerms::field_rule))]
 fn eval_field<S: Space>(
     alloc: Global,
-    world: &mut World<S>,
-    budget: &mut u64,
+    run: &mut Running<S>,
     depth: usize,
     unit: FieldUnit,
 ) -> Result<Flow, Refusal>
-    ensures spent { budget.new ≤ budget.old }
-    ensures means { Does result (world.new, budget.new) (field_rule S.accesses (meaning S.accesses) depth unit) (world.old, budget.old) }
+    ensures spent { run.new.1 ≤ run.old.1 }
+    ensures means { Does result run.new (field_rule S.accesses (meaning S.accesses) depth unit) run.old }
 {
-    let value = eval_field_read(alloc, world, budget, depth, unit)?;
+    let value = eval_field_read(alloc, run, depth, unit)?;
     Ok(Flow::Value(value))
 }
 
@@ -91,19 +91,16 @@ fn eval_field<S: Space>(
 #[tactic(auto, using(crate::proofs::Steps::evaluating), unfolding(aml_meaning::specs::InvocationTerms::call_rule))]
 fn eval_call<S: Space>(
     alloc: Global,
-    world: &mut World<S>,
-    budget: &mut u64,
-    scope: &Path,
-    depth: usize,
-    arguments: Reader<'_>,
+    run: &mut Running<S>,
+    job: Task<'_>,
     path: &Path,
     body: &Body,
 ) -> Result<Flow, Refusal>
-    ensures spent { budget.new ≤ budget.old }
-    ensures means { Does result (world.new, budget.new) (call_rule (meaning S.accesses) scope.now depth (part_list arguments.entry) path.now body.now) (world.old, budget.old) }
+    ensures spent { run.new.1 ≤ run.old.1 }
+    ensures means { Does result run.new (call_rule (meaning S.accesses) job.entry.scope.now job.entry.depth (part_list job.entry.term) path.now body.now) run.old }
 {
-    let values = eval_arguments(alloc, world, budget, scope, depth, arguments)?;
-    eval_invoked(alloc, world, budget, depth, path, body, &values)
+    let values = eval_arguments(alloc, run, job)?;
+    eval_invoked(alloc, run, job.depth, path, body, &values)
 }
 
 /// Arguments one after another.
@@ -111,22 +108,26 @@ fn eval_call<S: Space>(
 #[tactic(auto, using(crate::proofs::Steps::evaluating))]
 fn eval_arguments<S: Space>(
     alloc: Global,
-    world: &mut World<S>,
-    budget: &mut u64,
-    scope: &Path,
-    depth: usize,
-    arguments: Reader<'_>,
+    run: &mut Running<S>,
+    job: Task<'_>,
 ) -> Result<Vec<Value>, Refusal>
-    ensures spent { budget.new ≤ budget.old }
-    ensures means { Does (seen (λ list. list.items) result) (world.new, budget.new) (arguments_in_turn (meaning S.accesses) scope.now depth (part_list arguments.entry) []) (world.old, budget.old) }
+    ensures spent { run.new.1 ≤ run.old.1 }
+    ensures means { Does (seen (λ list. list.items) result) run.new (arguments_in_turn (meaning S.accesses) job.entry.scope.now job.entry.depth (part_list job.entry.term) []) run.old }
 {
     let mut values = Vec::new(alloc);
-    let mut rest = arguments;
+    let mut rest = job.term;
     'items: loop {
         match rest.next() {
             None => return Ok(values),
             Some(item) => {
-                let value = eval_value(alloc, world, budget, scope, depth, item.first)?;
+                let value = eval_value(
+                    alloc,
+                    run,
+                    Task {
+                        term: item.first,
+                        ..job
+                    },
+                )?;
                 values.push(value)?;
                 rest = item.rest;
             }
@@ -139,20 +140,19 @@ fn eval_arguments<S: Space>(
 #[tactic(auto, using(crate::proofs::Steps::evaluating), unfolding(aml_meaning::specs::Invocations::invoked))]
 fn eval_invoked<S: Space>(
     alloc: Global,
-    world: &mut World<S>,
-    budget: &mut u64,
+    run: &mut Running<S>,
     depth: usize,
     path: &Path,
     body: &Body,
     arguments: &[Value],
 ) -> Result<Flow, Refusal>
-    ensures spent { budget.new ≤ budget.old }
-    ensures means { Does result (world.new, budget.new) (invoked (meaning S.accesses) depth path.now body.now arguments.now) (world.old, budget.old) }
+    ensures spent { run.new.1 ≤ run.old.1 }
+    ensures means { Does result run.new (invoked (meaning S.accesses) depth path.now body.now arguments.now) run.old }
 {
     shallow(depth)?;
-    let terms = read_body(alloc, world, path, body)?;
-    world.open_frame(frame_arguments(arguments))?;
-    eval_body(alloc, world, budget, depth + 1, path, &terms)
+    let terms = read_body(alloc, &run.world, path, body)?;
+    run.world.open_frame(frame_arguments(arguments))?;
+    eval_body(alloc, run, depth + 1, path, &terms)
 }
 
 /// The value of a call of the control method at a path.
@@ -160,17 +160,16 @@ fn eval_invoked<S: Space>(
 #[tactic(auto, using(crate::proofs::Steps::evaluating), unfolding(aml_meaning::specs::Invocations::method_value))]
 pub(crate) fn eval_method_value<S: Space>(
     alloc: Global,
-    world: &mut World<S>,
-    budget: &mut u64,
+    run: &mut Running<S>,
     depth: usize,
     path: &Path,
     body: &Body,
     arguments: &[Value],
 ) -> Result<Value, Refusal>
-    ensures spent { budget.new ≤ budget.old }
-    ensures means { Does result (world.new, budget.new) (method_value (meaning S.accesses) depth path.now body.now arguments.now) (world.old, budget.old) }
+    ensures spent { run.new.1 ≤ run.old.1 }
+    ensures means { Does result run.new (method_value (meaning S.accesses) depth path.now body.now arguments.now) run.old }
 {
-    let flow = eval_invoked(alloc, world, budget, depth, path, body, arguments)?;
+    let flow = eval_invoked(alloc, run, depth, path, body, arguments)?;
     Ok(value_of_call(flow))
 }
 
@@ -191,17 +190,24 @@ fn value_of_call(flow: Flow) -> Value
 #[tactic(auto, using(crate::proofs::Steps::evaluating))]
 fn eval_body<S: Space>(
     alloc: Global,
-    world: &mut World<S>,
-    budget: &mut u64,
+    run: &mut Running<S>,
     depth: usize,
     path: &Path,
     terms: &[Term],
 ) -> Result<Flow, Refusal>
-    ensures spent { budget.new ≤ budget.old }
-    ensures means { Does result (world.new, budget.new) (leaving path.now (in_turn (meaning S.accesses) path.now depth (trees_of (map tree_view terms.now)))) (world.old, budget.old) }
+    ensures spent { run.new.1 ≤ run.old.1 }
+    ensures means { Does result run.new (leaving path.now (in_turn (meaning S.accesses) path.now depth (trees_of (map tree_view terms.now)))) run.old }
 {
-    let outcome = eval_list(alloc, world, budget, path, depth, Reader::List(terms));
-    world.leave(path);
+    let outcome = eval_list(
+        alloc,
+        run,
+        Task {
+            scope: path,
+            depth,
+            term: Reader::List(terms),
+        },
+    );
+    run.world.leave(path);
     of_call(outcome)
 }
 

@@ -16,6 +16,7 @@ mod readings;
 mod regions;
 mod statements;
 mod targets;
+mod task;
 mod terms;
 
 pub use answers::{answer, eval};

@@ -8,9 +8,10 @@ ghost use Rattle.aml_meaning.specs.Calling.{loaded, table_run, in_frame, framed,
 
 use crate::operands::Reader;
 use crate::readings::read_table;
+use crate::task::Task;
 use crate::terms::eval_list;
 use aml_grammar::Term;
-use aml_meaning::World;
+use aml_meaning::Running;
 use aml_objects::Value;
 use aml_path::Path;
 use ar_space::{Refusal, Space};
@@ -22,84 +23,84 @@ use std::alloc::Global;
 /// those of reading (`BadName`, `AboveRoot`, and with an offset `BadOpcode`, `BadPkgLength`, `Truncated`, `TooDeep`,
 /// `NotInBody`), and those of evaluation, such as `Exists`, `NotFound`, `OutOfSteps`, `Unsupported` and `ObjectLimit`.
 /// However it ends, all mutexes are free after it.
-#[tactic(auto, using(aml_meaning::specs::Calling::calling), unfolding(aml_meaning::specs::Calling::loaded))]
+#[tactic(auto, using(aml_meaning::proofs::Runs::calling), unfolding(aml_meaning::specs::Calling::loaded))]
 pub fn load<S: Space>(
     alloc: Global,
-    world: &mut World<S>,
+    run: &mut Running<S>,
     table: &[u8],
     steps: u64,
 ) -> Result<(), Refusal>
-    ensures { Does result world.new (loaded S.accesses table.now steps) world.old }
+    ensures { Does result run.new.0 (loaded S.accesses table.now steps) run.old.0 }
 {
-    let outcome = table_run(alloc, world, table, steps);
-    world.release_mutexes();
+    let outcome = table_run(alloc, run, table, steps);
+    run.world.release_mutexes();
     outcome
 }
 
-#[tactic(auto, using(aml_meaning::specs::Calling::calling), unfolding(aml_meaning::specs::Calling::table_run))]
+#[tactic(auto, using(aml_meaning::proofs::Runs::calling), unfolding(aml_meaning::specs::Calling::table_run))]
 fn table_run<S: Space>(
     alloc: Global,
-    world: &mut World<S>,
+    run: &mut Running<S>,
     table: &[u8],
     steps: u64,
 ) -> Result<(), Refusal>
-    ensures { Does result world.new (table_run S.accesses steps table.now) world.old }
+    ensures { Does result run.new.0 (table_run S.accesses steps table.now) run.old.0 }
 {
-    let terms = read_table(alloc, world, table)?;
-    in_frame(alloc, world, &terms, steps)
+    let terms = read_table(alloc, &mut run.world, table)?;
+    in_frame(alloc, run, &terms, steps)
 }
 
 /// The terms, in a frame whose slots are uninitialized.
-#[tactic(auto, using(aml_meaning::specs::Calling::calling), unfolding(aml_meaning::specs::Calling::in_frame))]
+#[tactic(auto, using(aml_meaning::proofs::Runs::calling), unfolding(aml_meaning::specs::Calling::in_frame))]
 fn in_frame<S: Space>(
     alloc: Global,
-    world: &mut World<S>,
+    run: &mut Running<S>,
     terms: &[Term],
     steps: u64,
 ) -> Result<(), Refusal>
-    ensures { Does result world.new (in_frame (replicate 7 Uninitialized) (with_steps steps (at_root S.accesses (trees_of (map tree_view terms.now))))) world.old }
+    ensures { Does result run.new.0 (in_frame (replicate 7 Uninitialized) (with_steps steps (at_root S.accesses (trees_of (map tree_view terms.now))))) run.old.0 }
 {
-    world.open_frame([Value::Uninitialized; 7])?;
-    framed(alloc, world, terms, steps)
+    run.world.open_frame([Value::Uninitialized; 7])?;
+    framed(alloc, run, terms, steps)
 }
 
-#[tactic(auto, using(aml_meaning::specs::Calling::calling))]
+#[tactic(auto, using(aml_meaning::proofs::Runs::calling))]
 fn framed<S: Space>(
     alloc: Global,
-    world: &mut World<S>,
+    run: &mut Running<S>,
     terms: &[Term],
     steps: u64,
 ) -> Result<(), Refusal>
-    ensures { Does result world.new (framed (with_steps steps (at_root S.accesses (trees_of (map tree_view terms.now))))) world.old }
+    ensures { Does result run.new.0 (framed (with_steps steps (at_root S.accesses (trees_of (map tree_view terms.now))))) run.old.0 }
 {
-    let outcome = with_steps(alloc, world, terms, steps);
-    world.close_frame();
+    let outcome = with_steps(alloc, run, terms, steps);
+    run.world.close_frame();
     outcome
 }
 
-#[tactic(auto, using(aml_meaning::specs::Calling::calling))]
+#[tactic(auto, using(aml_meaning::proofs::Runs::calling))]
 fn with_steps<S: Space>(
     alloc: Global,
-    world: &mut World<S>,
+    run: &mut Running<S>,
     terms: &[Term],
     steps: u64,
 ) -> Result<(), Refusal>
-    ensures { Does result world.new (with_steps steps (at_root S.accesses (trees_of (map tree_view terms.now)))) world.old }
+    ensures { Does result run.new.0 (with_steps steps (at_root S.accesses (trees_of (map tree_view terms.now)))) run.old.0 }
 {
-    let mut budget = steps;
-    at_root(alloc, world, &mut budget, terms)
+    run.steps = steps;
+    at_root(alloc, run, terms)
 }
 
-#[tactic(auto, using(aml_meaning::specs::Calling::calling), unfolding(aml_meaning::specs::Calling::at_root))]
-fn at_root<S: Space>(
-    alloc: Global,
-    world: &mut World<S>,
-    budget: &mut u64,
-    terms: &[Term],
-) -> Result<(), Refusal>
-    ensures { Does result (world.new, budget.new) (at_root S.accesses (trees_of (map tree_view terms.now))) (world.old, budget.old) }
+#[tactic(auto, using(aml_meaning::proofs::Runs::calling), unfolding(aml_meaning::specs::Calling::at_root))]
+fn at_root<S: Space>(alloc: Global, run: &mut Running<S>, terms: &[Term]) -> Result<(), Refusal>
+    ensures { Does result run.new (at_root S.accesses (trees_of (map tree_view terms.now))) run.old }
 {
     let root = Path::root(alloc);
-    eval_list(alloc, world, budget, &root, 0, Reader::List(terms))?;
+    let job = Task {
+        scope: &root,
+        depth: 0,
+        term: Reader::List(terms),
+    };
+    eval_list(alloc, run, job)?;
     Ok(())
 }

@@ -6,12 +6,11 @@ ghost use Rattle.aml_meaning.specs.Meaning.{meaning};
 ghost use Rattle.aml_meaning.specs.OperatorTerms.{operator_rule, slot_rule, store_rule, copy_rule, two_rule, divide_rule, one_rule, test_rule, not_rule, count_rule, size_rule, type_rule, acquire_rule};
 
 use crate::field_calls::{eval_completed, eval_held, eval_referent, eval_stored_back};
-use crate::operands::Reader;
 use crate::targets::{eval_target, eval_targeted};
+use crate::task::Task;
 use crate::terms::{eval_two_values, eval_value_at};
-use aml_meaning::{Count, Flow, OneOperand, OperatorKind, Test, TwoOperands, World};
+use aml_meaning::{Count, Flow, OneOperand, OperatorKind, Running, Test, TwoOperands};
 use aml_objects::{Slot, Value};
-use aml_path::Path;
 use ar_space::{Refusal, Space};
 use std::alloc::Global;
 
@@ -20,75 +19,58 @@ use std::alloc::Global;
 #[tactic(auto, using(crate::proofs::Steps::evaluating))]
 pub(crate) fn eval_operator<S: Space>(
     alloc: Global,
-    world: &mut World<S>,
-    budget: &mut u64,
-    scope: &Path,
-    depth: usize,
-    term: Reader<'_>,
+    run: &mut Running<S>,
+    job: Task<'_>,
     kind: OperatorKind,
 ) -> Result<Flow, Refusal>
-    ensures spent { budget.new ≤ budget.old }
-    ensures means { Does result (world.new, budget.new) (operator_rule S.accesses (meaning S.accesses) kind scope.now depth (part_tree term.entry)) (world.old, budget.old) }
+    ensures spent { run.new.1 ≤ run.old.1 }
+    ensures means { Does result run.new (operator_rule S.accesses (meaning S.accesses) kind job.entry.scope.now job.entry.depth (part_tree job.entry.term)) run.old }
 {
     match kind {
-        OperatorKind::Slot(slot) => eval_slot(world, *budget, slot),
-        OperatorKind::Store => eval_store(alloc, world, budget, scope, depth, term),
-        OperatorKind::CopyObject => eval_copy(alloc, world, budget, scope, depth, term),
-        OperatorKind::Two(kind) => eval_two(alloc, world, budget, scope, depth, term, kind),
-        OperatorKind::Divide => eval_divide(alloc, world, budget, scope, depth, term),
-        OperatorKind::One(kind) => eval_one(alloc, world, budget, scope, depth, term, kind),
-        OperatorKind::Test(kind) => eval_test(alloc, world, budget, scope, depth, term, kind),
-        OperatorKind::LogicalNot => eval_not(alloc, world, budget, scope, depth, term),
-        OperatorKind::Count(kind) => eval_count(alloc, world, budget, scope, depth, term, kind),
-        OperatorKind::SizeOf => eval_size(alloc, world, budget, scope, depth, term),
-        OperatorKind::ObjectType => eval_type(alloc, world, budget, scope, depth, term),
-        OperatorKind::Acquire => eval_acquire(alloc, world, budget, scope, depth, term),
+        OperatorKind::Slot(slot) => eval_slot(run, slot),
+        OperatorKind::Store => eval_store(alloc, run, job),
+        OperatorKind::CopyObject => eval_copy(alloc, run, job),
+        OperatorKind::Two(kind) => eval_two(alloc, run, job, kind),
+        OperatorKind::Divide => eval_divide(alloc, run, job),
+        OperatorKind::One(kind) => eval_one(alloc, run, job, kind),
+        OperatorKind::Test(kind) => eval_test(alloc, run, job, kind),
+        OperatorKind::LogicalNot => eval_not(alloc, run, job),
+        OperatorKind::Count(kind) => eval_count(alloc, run, job, kind),
+        OperatorKind::SizeOf => eval_size(alloc, run, job),
+        OperatorKind::ObjectType => eval_type(alloc, run, job),
+        OperatorKind::Acquire => eval_acquire(alloc, run, job),
     }
 }
 
 /// A local or an argument, where a value stands.
 #[tactic(auto, using(crate::proofs::Steps::evaluating), unfolding(aml_meaning::specs::OperatorTerms::slot_rule))]
-fn eval_slot<S: Space>(world: &World<S>, budget: u64, slot: Slot) -> Result<Flow, Refusal>
-    ensures { Does result (world.now, budget) (slot_rule S.accesses (meaning S.accesses) slot) (world.now, budget) }
+fn eval_slot<S: Space>(run: &Running<S>, slot: Slot) -> Result<Flow, Refusal>
+    ensures { Does result run.now (slot_rule S.accesses (meaning S.accesses) slot) run.now }
 {
-    let value = world.slot_read(slot)?;
+    let value = run.world.slot_read(slot)?;
     Ok(Flow::Value(value))
 }
 
 #[cycle(evaluation)]
 #[tactic(auto, using(crate::proofs::Steps::evaluating), unfolding(aml_meaning::specs::OperatorTerms::store_rule))]
-fn eval_store<S: Space>(
-    alloc: Global,
-    world: &mut World<S>,
-    budget: &mut u64,
-    scope: &Path,
-    depth: usize,
-    term: Reader<'_>,
-) -> Result<Flow, Refusal>
-    ensures spent { budget.new ≤ budget.old }
-    ensures means { Does result (world.new, budget.new) (store_rule S.accesses (meaning S.accesses) scope.now depth (part_tree term.entry)) (world.old, budget.old) }
+fn eval_store<S: Space>(alloc: Global, run: &mut Running<S>, job: Task<'_>) -> Result<Flow, Refusal>
+    ensures spent { run.new.1 ≤ run.old.1 }
+    ensures means { Does result run.new (store_rule S.accesses (meaning S.accesses) job.entry.scope.now job.entry.depth (part_tree job.entry.term)) run.old }
 {
-    let value = eval_value_at(alloc, world, budget, scope, depth, term, 0)?;
-    eval_targeted(alloc, world, budget, scope, depth, term, 1, value)
+    let value = eval_value_at(alloc, run, job, 0)?;
+    eval_targeted(alloc, run, job, 1, value)
 }
 
 #[cycle(evaluation)]
 #[tactic(auto, using(crate::proofs::Steps::evaluating), unfolding(aml_meaning::specs::OperatorTerms::copy_rule))]
-fn eval_copy<S: Space>(
-    alloc: Global,
-    world: &mut World<S>,
-    budget: &mut u64,
-    scope: &Path,
-    depth: usize,
-    term: Reader<'_>,
-) -> Result<Flow, Refusal>
-    ensures spent { budget.new ≤ budget.old }
-    ensures means { Does result (world.new, budget.new) (copy_rule S.accesses (meaning S.accesses) scope.now depth (part_tree term.entry)) (world.old, budget.old) }
+fn eval_copy<S: Space>(alloc: Global, run: &mut Running<S>, job: Task<'_>) -> Result<Flow, Refusal>
+    ensures spent { run.new.1 ≤ run.old.1 }
+    ensures means { Does result run.new (copy_rule S.accesses (meaning S.accesses) job.entry.scope.now job.entry.depth (part_tree job.entry.term)) run.old }
 {
-    let value = eval_value_at(alloc, world, budget, scope, depth, term, 0)?;
-    let target = eval_target(alloc, world, budget, scope, depth, term, 1)?;
-    let stored = world.copy_to(alloc, &target, value)?;
-    eval_completed(alloc, world, budget, depth, stored, value)?;
+    let value = eval_value_at(alloc, run, job, 0)?;
+    let target = eval_target(alloc, run, job, 1)?;
+    let stored = run.world.copy_to(alloc, &target, value)?;
+    eval_completed(alloc, run, job.depth, stored, value)?;
     Ok(Flow::Value(value))
 }
 
@@ -97,56 +79,32 @@ fn eval_copy<S: Space>(
 #[tactic(auto, using(crate::proofs::Steps::evaluating), unfolding(aml_meaning::specs::OperatorTerms::two_rule))]
 fn eval_two<S: Space>(
     alloc: Global,
-    world: &mut World<S>,
-    budget: &mut u64,
-    scope: &Path,
-    depth: usize,
-    term: Reader<'_>,
+    run: &mut Running<S>,
+    job: Task<'_>,
     kind: TwoOperands,
 ) -> Result<Flow, Refusal>
-    ensures spent { budget.new ≤ budget.old }
-    ensures means { Does result (world.new, budget.new) (two_rule S.accesses (meaning S.accesses) kind scope.now depth (part_tree term.entry)) (world.old, budget.old) }
+    ensures spent { run.new.1 ≤ run.old.1 }
+    ensures means { Does result run.new (two_rule S.accesses (meaning S.accesses) kind job.entry.scope.now job.entry.depth (part_tree job.entry.term)) run.old }
 {
-    let values = eval_two_values(alloc, world, budget, scope, depth, term)?;
-    let result = world.operate_on_two(alloc, kind, values.0, values.1)?;
-    eval_targeted(alloc, world, budget, scope, depth, term, 2, result)
+    let values = eval_two_values(alloc, run, job)?;
+    let result = run.world.operate_on_two(alloc, kind, values.0, values.1)?;
+    eval_targeted(alloc, run, job, 2, result)
 }
 
 #[cycle(evaluation)]
 #[tactic(auto, using(crate::proofs::Steps::evaluating), unfolding(aml_meaning::specs::OperatorTerms::divide_rule))]
 fn eval_divide<S: Space>(
     alloc: Global,
-    world: &mut World<S>,
-    budget: &mut u64,
-    scope: &Path,
-    depth: usize,
-    term: Reader<'_>,
+    run: &mut Running<S>,
+    job: Task<'_>,
 ) -> Result<Flow, Refusal>
-    ensures spent { budget.new ≤ budget.old }
-    ensures means { Does result (world.new, budget.new) (divide_rule S.accesses (meaning S.accesses) scope.now depth (part_tree term.entry)) (world.old, budget.old) }
+    ensures spent { run.new.1 ≤ run.old.1 }
+    ensures means { Does result run.new (divide_rule S.accesses (meaning S.accesses) job.entry.scope.now job.entry.depth (part_tree job.entry.term)) run.old }
 {
-    let values = eval_two_values(alloc, world, budget, scope, depth, term)?;
-    let division = world.divide(values.0, values.1)?;
-    eval_targeted(
-        alloc,
-        world,
-        budget,
-        scope,
-        depth,
-        term,
-        2,
-        Value::Integer(division.remainder),
-    )?;
-    eval_targeted(
-        alloc,
-        world,
-        budget,
-        scope,
-        depth,
-        term,
-        3,
-        Value::Integer(division.quotient),
-    )
+    let values = eval_two_values(alloc, run, job)?;
+    let division = run.world.divide(values.0, values.1)?;
+    eval_targeted(alloc, run, job, 2, Value::Integer(division.remainder))?;
+    eval_targeted(alloc, run, job, 3, Value::Integer(division.quotient))
 }
 
 /// An operator with an operand and a target.
@@ -154,19 +112,16 @@ fn eval_divide<S: Space>(
 #[tactic(auto, using(crate::proofs::Steps::evaluating), unfolding(aml_meaning::specs::OperatorTerms::one_rule))]
 fn eval_one<S: Space>(
     alloc: Global,
-    world: &mut World<S>,
-    budget: &mut u64,
-    scope: &Path,
-    depth: usize,
-    term: Reader<'_>,
+    run: &mut Running<S>,
+    job: Task<'_>,
     kind: OneOperand,
 ) -> Result<Flow, Refusal>
-    ensures spent { budget.new ≤ budget.old }
-    ensures means { Does result (world.new, budget.new) (one_rule S.accesses (meaning S.accesses) kind scope.now depth (part_tree term.entry)) (world.old, budget.old) }
+    ensures spent { run.new.1 ≤ run.old.1 }
+    ensures means { Does result run.new (one_rule S.accesses (meaning S.accesses) kind job.entry.scope.now job.entry.depth (part_tree job.entry.term)) run.old }
 {
-    let value = eval_value_at(alloc, world, budget, scope, depth, term, 0)?;
-    let result = world.operate_on_one(alloc, kind, value)?;
-    eval_targeted(alloc, world, budget, scope, depth, term, 1, result)
+    let value = eval_value_at(alloc, run, job, 0)?;
+    let result = run.world.operate_on_one(alloc, kind, value)?;
+    eval_targeted(alloc, run, job, 1, result)
 }
 
 /// An operator with two operands whose value is True or False.
@@ -174,36 +129,26 @@ fn eval_one<S: Space>(
 #[tactic(auto, using(crate::proofs::Steps::evaluating), unfolding(aml_meaning::specs::OperatorTerms::test_rule))]
 fn eval_test<S: Space>(
     alloc: Global,
-    world: &mut World<S>,
-    budget: &mut u64,
-    scope: &Path,
-    depth: usize,
-    term: Reader<'_>,
+    run: &mut Running<S>,
+    job: Task<'_>,
     kind: Test,
 ) -> Result<Flow, Refusal>
-    ensures spent { budget.new ≤ budget.old }
-    ensures means { Does result (world.new, budget.new) (test_rule S.accesses (meaning S.accesses) kind scope.now depth (part_tree term.entry)) (world.old, budget.old) }
+    ensures spent { run.new.1 ≤ run.old.1 }
+    ensures means { Does result run.new (test_rule S.accesses (meaning S.accesses) kind job.entry.scope.now job.entry.depth (part_tree job.entry.term)) run.old }
 {
-    let values = eval_two_values(alloc, world, budget, scope, depth, term)?;
-    let result = world.test(alloc, kind, values.0, values.1)?;
+    let values = eval_two_values(alloc, run, job)?;
+    let result = run.world.test(alloc, kind, values.0, values.1)?;
     Ok(Flow::Value(result))
 }
 
 #[cycle(evaluation)]
 #[tactic(auto, using(crate::proofs::Steps::evaluating), unfolding(aml_meaning::specs::OperatorTerms::not_rule))]
-fn eval_not<S: Space>(
-    alloc: Global,
-    world: &mut World<S>,
-    budget: &mut u64,
-    scope: &Path,
-    depth: usize,
-    term: Reader<'_>,
-) -> Result<Flow, Refusal>
-    ensures spent { budget.new ≤ budget.old }
-    ensures means { Does result (world.new, budget.new) (not_rule S.accesses (meaning S.accesses) scope.now depth (part_tree term.entry)) (world.old, budget.old) }
+fn eval_not<S: Space>(alloc: Global, run: &mut Running<S>, job: Task<'_>) -> Result<Flow, Refusal>
+    ensures spent { run.new.1 ≤ run.old.1 }
+    ensures means { Does result run.new (not_rule S.accesses (meaning S.accesses) job.entry.scope.now job.entry.depth (part_tree job.entry.term)) run.old }
 {
-    let value = eval_value_at(alloc, world, budget, scope, depth, term, 0)?;
-    let result = world.logical_not(value)?;
+    let value = eval_value_at(alloc, run, job, 0)?;
+    let result = run.world.logical_not(value)?;
     Ok(Flow::Value(result))
 }
 
@@ -212,60 +157,43 @@ fn eval_not<S: Space>(
 #[tactic(auto, using(crate::proofs::Steps::evaluating), unfolding(aml_meaning::specs::OperatorTerms::count_rule))]
 fn eval_count<S: Space>(
     alloc: Global,
-    world: &mut World<S>,
-    budget: &mut u64,
-    scope: &Path,
-    depth: usize,
-    term: Reader<'_>,
+    run: &mut Running<S>,
+    job: Task<'_>,
     kind: Count,
 ) -> Result<Flow, Refusal>
-    ensures spent { budget.new ≤ budget.old }
-    ensures means { Does result (world.new, budget.new) (count_rule S.accesses (meaning S.accesses) kind scope.now depth (part_tree term.entry)) (world.old, budget.old) }
+    ensures spent { run.new.1 ≤ run.old.1 }
+    ensures means { Does result run.new (count_rule S.accesses (meaning S.accesses) kind job.entry.scope.now job.entry.depth (part_tree job.entry.term)) run.old }
 {
-    let target = eval_target(alloc, world, budget, scope, depth, term, 0)?;
-    let held = world.target_read(&target)?;
-    let number = eval_held(alloc, world, budget, depth, held)?;
-    let result = world.count(kind, number)?;
-    eval_stored_back(alloc, world, budget, depth, held, &target, result)?;
+    let target = eval_target(alloc, run, job, 0)?;
+    let held = run.world.target_read(&target)?;
+    let number = eval_held(alloc, run, job.depth, held)?;
+    let result = run.world.count(kind, number)?;
+    eval_stored_back(alloc, run, job.depth, held, &target, result)?;
     Ok(Flow::Value(result))
 }
 
 #[cycle(evaluation)]
 #[tactic(auto, using(crate::proofs::Steps::evaluating), unfolding(aml_meaning::specs::OperatorTerms::size_rule))]
-fn eval_size<S: Space>(
-    alloc: Global,
-    world: &mut World<S>,
-    budget: &mut u64,
-    scope: &Path,
-    depth: usize,
-    term: Reader<'_>,
-) -> Result<Flow, Refusal>
-    ensures spent { budget.new ≤ budget.old }
-    ensures means { Does result (world.new, budget.new) (size_rule S.accesses (meaning S.accesses) scope.now depth (part_tree term.entry)) (world.old, budget.old) }
+fn eval_size<S: Space>(alloc: Global, run: &mut Running<S>, job: Task<'_>) -> Result<Flow, Refusal>
+    ensures spent { run.new.1 ≤ run.old.1 }
+    ensures means { Does result run.new (size_rule S.accesses (meaning S.accesses) job.entry.scope.now job.entry.depth (part_tree job.entry.term)) run.old }
 {
-    let target = eval_target(alloc, world, budget, scope, depth, term, 0)?;
-    let referent = world.target_referent(alloc, &target)?;
-    let referent = eval_referent(alloc, world, budget, depth, referent)?;
-    let size = world.size(referent)?;
+    let target = eval_target(alloc, run, job, 0)?;
+    let referent = run.world.target_referent(alloc, &target)?;
+    let referent = eval_referent(alloc, run, job.depth, referent)?;
+    let size = run.world.size(referent)?;
     Ok(Flow::Value(size))
 }
 
 #[cycle(evaluation)]
 #[tactic(auto, using(crate::proofs::Steps::evaluating), unfolding(aml_meaning::specs::OperatorTerms::type_rule))]
-fn eval_type<S: Space>(
-    alloc: Global,
-    world: &mut World<S>,
-    budget: &mut u64,
-    scope: &Path,
-    depth: usize,
-    term: Reader<'_>,
-) -> Result<Flow, Refusal>
-    ensures spent { budget.new ≤ budget.old }
-    ensures means { Does result (world.new, budget.new) (type_rule S.accesses (meaning S.accesses) scope.now depth (part_tree term.entry)) (world.old, budget.old) }
+fn eval_type<S: Space>(alloc: Global, run: &mut Running<S>, job: Task<'_>) -> Result<Flow, Refusal>
+    ensures spent { run.new.1 ≤ run.old.1 }
+    ensures means { Does result run.new (type_rule S.accesses (meaning S.accesses) job.entry.scope.now job.entry.depth (part_tree job.entry.term)) run.old }
 {
-    let target = eval_target(alloc, world, budget, scope, depth, term, 0)?;
-    let referent = world.target_referent(alloc, &target)?;
-    let referent = eval_referent(alloc, world, budget, depth, referent)?;
+    let target = eval_target(alloc, run, job, 0)?;
+    let referent = run.world.target_referent(alloc, &target)?;
+    let referent = eval_referent(alloc, run, job.depth, referent)?;
     Ok(Flow::Value(Value::Integer(referent.object_type().number())))
 }
 
@@ -274,16 +202,13 @@ fn eval_type<S: Space>(
 #[tactic(auto, using(crate::proofs::Steps::evaluating), unfolding(aml_meaning::specs::OperatorTerms::acquire_rule))]
 fn eval_acquire<S: Space>(
     alloc: Global,
-    world: &mut World<S>,
-    budget: &mut u64,
-    scope: &Path,
-    depth: usize,
-    term: Reader<'_>,
+    run: &mut Running<S>,
+    job: Task<'_>,
 ) -> Result<Flow, Refusal>
-    ensures spent { budget.new ≤ budget.old }
-    ensures means { Does result (world.new, budget.new) (acquire_rule S.accesses (meaning S.accesses) scope.now depth (part_tree term.entry)) (world.old, budget.old) }
+    ensures spent { run.new.1 ≤ run.old.1 }
+    ensures means { Does result run.new (acquire_rule S.accesses (meaning S.accesses) job.entry.scope.now job.entry.depth (part_tree job.entry.term)) run.old }
 {
-    let target = eval_target(alloc, world, budget, scope, depth, term, 0)?;
-    world.acquire(&target)?;
+    let target = eval_target(alloc, run, job, 0)?;
+    run.world.acquire(&target)?;
     Ok(Flow::Value(Value::Integer(0)))
 }

@@ -9,11 +9,13 @@ ghost use Rattle.aml_meaning.specs.FieldTerms.{region_rule, field_list_rule, ind
 
 use crate::declarations::eval_declaring;
 use crate::operands::{Reader, list, number};
+use crate::task::Task;
 use crate::terms::{eval_value_at, unsupported};
 use aml_grammar::{Opcode, TermCode, TermReader};
-use aml_meaning::{FieldGroup, FieldLayout, Flow, RegionKind, World, access_width, update_rule};
+use aml_meaning::{
+    FieldGroup, FieldLayout, Flow, RegionKind, Running, World, access_width, update_rule,
+};
 use aml_objects::{FieldSource, NamedObject, OperationRegion};
-use aml_path::Path;
 use ar_space::{NameFault, Refusal, Space};
 use std::alloc::Global;
 
@@ -22,20 +24,17 @@ use std::alloc::Global;
 #[tactic(auto, using(crate::proofs::Steps::evaluating))]
 pub(crate) fn eval_region_term<S: Space>(
     alloc: Global,
-    world: &mut World<S>,
-    budget: &mut u64,
-    scope: &Path,
-    depth: usize,
-    term: Reader<'_>,
+    run: &mut Running<S>,
+    job: Task<'_>,
     kind: RegionKind,
 ) -> Result<Flow, Refusal>
-    ensures spent { budget.new ≤ budget.old }
-    ensures means { Does result (world.new, budget.new) (region_term_rule (meaning S.accesses) kind scope.now depth (part_tree term.entry)) (world.old, budget.old) }
+    ensures spent { run.new.1 ≤ run.old.1 }
+    ensures means { Does result run.new (region_term_rule (meaning S.accesses) kind job.entry.scope.now job.entry.depth (part_tree job.entry.term)) run.old }
 {
     match kind {
-        RegionKind::OperationRegion => eval_region(alloc, world, budget, scope, depth, term),
-        RegionKind::Field => eval_field_list(alloc, world, *budget, scope, depth, term),
-        RegionKind::IndexField => eval_index_list(alloc, world, *budget, scope, depth, term),
+        RegionKind::OperationRegion => eval_region(alloc, run, job),
+        RegionKind::Field => eval_field_list(alloc, run, job),
+        RegionKind::IndexField => eval_index_list(alloc, run, job),
     }
 }
 
@@ -44,62 +43,49 @@ pub(crate) fn eval_region_term<S: Space>(
 #[tactic(auto, using(crate::proofs::Steps::evaluating), unfolding(aml_meaning::specs::FieldTerms::region_rule))]
 fn eval_region<S: Space>(
     alloc: Global,
-    world: &mut World<S>,
-    budget: &mut u64,
-    scope: &Path,
-    depth: usize,
-    term: Reader<'_>,
+    run: &mut Running<S>,
+    job: Task<'_>,
 ) -> Result<Flow, Refusal>
-    ensures spent { budget.new ≤ budget.old }
-    ensures means { Does result (world.new, budget.new) (region_rule (meaning S.accesses) scope.now depth (part_tree term.entry)) (world.old, budget.old) }
+    ensures spent { run.new.1 ≤ run.old.1 }
+    ensures means { Does result run.new (region_rule (meaning S.accesses) job.entry.scope.now job.entry.depth (part_tree job.entry.term)) run.old }
 {
-    let space = number(term, 1)?;
-    let offset = eval_value_at(alloc, world, budget, scope, depth, term, 2)?;
-    let length = eval_value_at(alloc, world, budget, scope, depth, term, 3)?;
-    let offset = world.integer_in(offset)?;
-    let length = world.integer_in(length)?;
+    let space = number(job.term, 1)?;
+    let offset = eval_value_at(alloc, run, job, 2)?;
+    let length = eval_value_at(alloc, run, job, 3)?;
+    let offset = run.world.integer_in(offset)?;
+    let length = run.world.integer_in(length)?;
     let region = OperationRegion {
         space: (space % 256) as u8,
         offset,
         length,
     };
-    eval_declaring(
-        alloc,
-        world,
-        *budget,
-        scope,
-        depth,
-        term,
-        NamedObject::OperationRegion(region),
-    )
+    eval_declaring(alloc, run, job, NamedObject::OperationRegion(region))
 }
 
 /// The fields of an operation region.
 #[tactic(auto, using(crate::proofs::Steps::evaluating), unfolding(aml_meaning::specs::FieldTerms::field_list_rule))]
 fn eval_field_list<S: Space>(
     alloc: Global,
-    world: &mut World<S>,
-    budget: u64,
-    scope: &Path,
-    depth: usize,
-    term: Reader<'_>,
+    run: &mut Running<S>,
+    job: Task<'_>,
 ) -> Result<Flow, Refusal>
-    ensures { Does result (world.new, budget) (field_list_rule (meaning S.accesses) scope.now depth (part_tree term.entry)) (world.old, budget) }
+    ensures spent { run.new.1 ≤ run.old.1 }
+    ensures means { Does result run.new (field_list_rule (meaning S.accesses) job.entry.scope.now job.entry.depth (part_tree job.entry.term)) run.old }
 {
-    let elements = list(term, 2)?;
+    let elements = list(job.term, 2)?;
     unconnected(Opcode::Field, elements)?;
-    let name = term.name(alloc, 0)?;
-    let region = world.region_found(scope, &name)?;
-    let flags = number(term, 1)?;
+    let name = job.term.name(alloc, 0)?;
+    let region = run.world.region_found(job.scope, &name)?;
+    let flags = number(job.term, 1)?;
     lay_fields(
         alloc,
-        world,
-        budget,
-        scope,
-        depth,
+        run,
+        Task {
+            term: elements,
+            ..job
+        },
         FieldSource::Region(region),
         flags,
-        elements,
     )
 }
 
@@ -107,30 +93,28 @@ fn eval_field_list<S: Space>(
 #[tactic(auto, using(crate::proofs::Steps::evaluating), unfolding(aml_meaning::specs::FieldTerms::index_list_rule))]
 fn eval_index_list<S: Space>(
     alloc: Global,
-    world: &mut World<S>,
-    budget: u64,
-    scope: &Path,
-    depth: usize,
-    term: Reader<'_>,
+    run: &mut Running<S>,
+    job: Task<'_>,
 ) -> Result<Flow, Refusal>
-    ensures { Does result (world.new, budget) (index_list_rule (meaning S.accesses) scope.now depth (part_tree term.entry)) (world.old, budget) }
+    ensures spent { run.new.1 ≤ run.old.1 }
+    ensures means { Does result run.new (index_list_rule (meaning S.accesses) job.entry.scope.now job.entry.depth (part_tree job.entry.term)) run.old }
 {
-    let elements = list(term, 3)?;
+    let elements = list(job.term, 3)?;
     unconnected(Opcode::IndexField, elements)?;
-    let name = term.name(alloc, 0)?;
-    let index = world.field_found(scope, &name)?;
-    let name = term.name(alloc, 1)?;
-    let behind = world.field_found(scope, &name)?;
-    let flags = number(term, 2)?;
+    let name = job.term.name(alloc, 0)?;
+    let index = run.world.field_found(job.scope, &name)?;
+    let name = job.term.name(alloc, 1)?;
+    let behind = run.world.field_found(job.scope, &name)?;
+    let flags = number(job.term, 2)?;
     lay_fields(
         alloc,
-        world,
-        budget,
-        scope,
-        depth,
+        run,
+        Task {
+            term: elements,
+            ..job
+        },
         FieldSource::Index(index, behind),
         flags,
-        elements,
     )
 }
 
@@ -138,15 +122,13 @@ fn eval_index_list<S: Space>(
 #[tactic(auto, using(crate::proofs::Steps::evaluating), unfolding(aml_meaning::specs::FieldTerms::fields_laid))]
 fn lay_fields<S: Space>(
     alloc: Global,
-    world: &mut World<S>,
-    budget: u64,
-    scope: &Path,
-    depth: usize,
+    run: &mut Running<S>,
+    job: Task<'_>,
     source: FieldSource,
     flags: u64,
-    elements: Reader<'_>,
 ) -> Result<Flow, Refusal>
-    ensures { Does result (world.new, budget) (fields_laid scope.now depth source flags (part_list elements.entry)) (world.old, budget) }
+    ensures spent { run.new.1 ≤ run.old.1 }
+    ensures means { Does result run.new (fields_laid job.entry.scope.now job.entry.depth source flags (part_list job.entry.term)) run.old }
 {
     let group = FieldGroup {
         source,
@@ -156,7 +138,7 @@ fn lay_fields<S: Space>(
         bit_offset: 0,
         access: access_width(flags),
     };
-    lay_elements(alloc, world, group, scope, depth, first, elements)?;
+    lay_elements(alloc, &mut run.world, group, job, first)?;
     Ok(Flow::Next)
 }
 
@@ -165,21 +147,29 @@ fn lay_elements<S: Space>(
     alloc: Global,
     world: &mut World<S>,
     group: FieldGroup,
-    scope: &Path,
-    depth: usize,
+    job: Task<'_>,
     first: FieldLayout,
-    elements: Reader<'_>,
 ) -> Result<(), Refusal>
-    ensures { Does result world.new (elements_laid group scope.now depth first (part_list elements.entry)) world.old }
+    ensures { Does result world.new (elements_laid group job.entry.scope.now job.entry.depth first (part_list job.entry.term)) world.old }
 {
     let mut at = first;
-    let mut rest = elements;
+    let mut rest = job.term;
     'elements: loop {
         match rest.next() {
             None => return Ok(()),
             Some(item) => {
                 let code = item.first.code();
-                at = lay_element(alloc, world, group, scope, depth, code, at, item.first)?;
+                at = lay_element(
+                    alloc,
+                    world,
+                    group,
+                    Task {
+                        term: item.first,
+                        ..job
+                    },
+                    code,
+                    at,
+                )?;
                 rest = item.rest;
             }
         }
@@ -191,19 +181,17 @@ fn lay_element<S: Space>(
     alloc: Global,
     world: &mut World<S>,
     group: FieldGroup,
-    scope: &Path,
-    depth: usize,
+    job: Task<'_>,
     code: TermCode,
     at: FieldLayout,
-    element: Reader<'_>,
 ) -> Result<FieldLayout, Refusal>
-    ensures { Does result world.new (element_laid group scope.now depth code at (part_tree element.entry)) world.old }
+    ensures { Does result world.new (element_laid group job.entry.scope.now job.entry.depth code at (part_tree job.entry.term)) world.old }
 {
     match code {
-        TermCode::NamedField => lay_named(alloc, world, group, scope, depth, at, element),
-        TermCode::ReservedField => lay_reserved(world, group, scope, depth, at, element),
-        TermCode::AccessField => lay_access(world, group, scope, depth, at, element),
-        TermCode::ExtendedAccessField => lay_access(world, group, scope, depth, at, element),
+        TermCode::NamedField => lay_named(alloc, world, group, job, at),
+        TermCode::ReservedField => lay_reserved(world, group, job, at),
+        TermCode::AccessField => lay_access(world, group, job, at),
+        TermCode::ExtendedAccessField => lay_access(world, group, job, at),
         TermCode::ConnectField => Err(Refusal::Name(NameFault::BadName)),
         TermCode::Name => Err(Refusal::Name(NameFault::BadName)),
         TermCode::MethodInvocation => Err(Refusal::Name(NameFault::BadName)),
@@ -217,17 +205,15 @@ fn lay_named<S: Space>(
     alloc: Global,
     world: &mut World<S>,
     group: FieldGroup,
-    scope: &Path,
-    depth: usize,
+    job: Task<'_>,
     at: FieldLayout,
-    element: Reader<'_>,
 ) -> Result<FieldLayout, Refusal>
-    ensures { Does result world.new (named_field group scope.now depth at (part_tree element.entry)) world.old }
+    ensures { Does result world.new (named_field group job.entry.scope.now job.entry.depth at (part_tree job.entry.term)) world.old }
 {
-    let name = element.name(alloc, 0)?;
-    let path = name.resolve_in(alloc, scope)?;
-    let count = number(element, 1)?;
-    world.new_field(alloc, group, depth == 0, path, at, count)
+    let name = job.term.name(alloc, 0)?;
+    let path = name.resolve_in(alloc, job.scope)?;
+    let count = number(job.term, 1)?;
+    world.new_field(alloc, group, job.depth == 0, path, at, count)
 }
 
 /// Bits that are passed over.
@@ -235,14 +221,12 @@ fn lay_named<S: Space>(
 fn lay_reserved<S: Space>(
     world: &World<S>,
     group: FieldGroup,
-    scope: &Path,
-    depth: usize,
+    job: Task<'_>,
     at: FieldLayout,
-    element: Reader<'_>,
 ) -> Result<FieldLayout, Refusal>
-    ensures { Does result world.now (reserved_field group scope.now depth at (part_tree element.entry)) world.now }
+    ensures { Does result world.now (reserved_field group job.entry.scope.now job.entry.depth at (part_tree job.entry.term)) world.now }
 {
-    let count = number(element, 0)?;
+    let count = number(job.term, 0)?;
     at.further(count)
 }
 
@@ -251,14 +235,12 @@ fn lay_reserved<S: Space>(
 fn lay_access<S: Space>(
     world: &World<S>,
     group: FieldGroup,
-    scope: &Path,
-    depth: usize,
+    job: Task<'_>,
     at: FieldLayout,
-    element: Reader<'_>,
 ) -> Result<FieldLayout, Refusal>
-    ensures { Does result world.now (access_field group scope.now depth at (part_tree element.entry)) world.now }
+    ensures { Does result world.now (access_field group job.entry.scope.now job.entry.depth at (part_tree job.entry.term)) world.now }
 {
-    let flags = number(element, 0)?;
+    let flags = number(job.term, 0)?;
     Ok(at.with_access(flags))
 }
 

@@ -10,10 +10,10 @@ ghost use Rattle.aml_meaning.specs.StatementTerms.{otherwise, branch, if_rule, e
 
 use crate::operands::{Reader, else_of, inner, list};
 use crate::targets::eval_target;
+use crate::task::Task;
 use crate::terms::{eval_list, eval_operand_integer, eval_term, eval_value_at};
 use aml_convert::is_true;
-use aml_meaning::{Flow, StatementKind, World};
-use aml_path::Path;
+use aml_meaning::{Flow, Running, StatementKind};
 use ar_space::{EvaluationFault, Refusal, Space};
 use std::alloc::Global;
 
@@ -22,57 +22,45 @@ use std::alloc::Global;
 #[tactic(auto, using(crate::proofs::Steps::evaluating))]
 pub(crate) fn eval_statement<S: Space>(
     alloc: Global,
-    world: &mut World<S>,
-    budget: &mut u64,
-    scope: &Path,
-    depth: usize,
-    term: Reader<'_>,
+    run: &mut Running<S>,
+    job: Task<'_>,
     kind: StatementKind,
 ) -> Result<Flow, Refusal>
-    ensures spent { budget.new ≤ budget.old }
-    ensures means { Does result (world.new, budget.new) (statement_rule (meaning S.accesses) kind scope.now depth (part_tree term.entry)) (world.old, budget.old) }
+    ensures spent { run.new.1 ≤ run.old.1 }
+    ensures means { Does result run.new (statement_rule (meaning S.accesses) kind job.entry.scope.now job.entry.depth (part_tree job.entry.term)) run.old }
 {
     match kind {
-        StatementKind::If => eval_if(alloc, world, budget, scope, depth, term),
-        StatementKind::Else => eval_else(alloc, world, budget, scope, depth, term),
-        StatementKind::While => eval_while(alloc, world, budget, scope, depth, term),
+        StatementKind::If => eval_if(alloc, run, job),
+        StatementKind::Else => eval_else(alloc, run, job),
+        StatementKind::While => eval_while(alloc, run, job),
         StatementKind::Break => Ok(Flow::Break),
         StatementKind::Continue => Ok(Flow::Continue),
         StatementKind::Noop => Ok(Flow::Next),
-        StatementKind::Return => eval_return(alloc, world, budget, scope, depth, term),
-        StatementKind::Release => eval_release(alloc, world, budget, scope, depth, term),
-        StatementKind::Notify => eval_notify(alloc, world, budget, scope, depth, term),
-        StatementKind::Pause => eval_pause(alloc, world, budget, scope, depth, term),
-        StatementKind::Fatal => eval_fatal(alloc, world, budget, scope, depth, term),
+        StatementKind::Return => eval_return(alloc, run, job),
+        StatementKind::Release => eval_release(alloc, run, job),
+        StatementKind::Notify => eval_notify(alloc, run, job),
+        StatementKind::Pause => eval_pause(alloc, run, job),
+        StatementKind::Fatal => eval_fatal(alloc, run, job),
     }
 }
 
 #[cycle(evaluation)]
 #[tactic(auto, using(crate::proofs::Steps::evaluating), unfolding(aml_meaning::specs::StatementTerms::if_rule))]
-fn eval_if<S: Space>(
-    alloc: Global,
-    world: &mut World<S>,
-    budget: &mut u64,
-    scope: &Path,
-    depth: usize,
-    term: Reader<'_>,
-) -> Result<Flow, Refusal>
-    ensures spent { budget.new ≤ budget.old }
-    ensures means { Does result (world.new, budget.new) (if_rule (meaning S.accesses) scope.now depth (part_tree term.entry)) (world.old, budget.old) }
+fn eval_if<S: Space>(alloc: Global, run: &mut Running<S>, job: Task<'_>) -> Result<Flow, Refusal>
+    ensures spent { run.new.1 ≤ run.old.1 }
+    ensures means { Does result run.new (if_rule (meaning S.accesses) job.entry.scope.now job.entry.depth (part_tree job.entry.term)) run.old }
 {
-    let condition = inner(term, 0)?;
-    let items = list(term, 1)?;
-    let number = eval_operand_integer(alloc, world, budget, scope, depth, condition)?;
-    eval_branch(
+    let condition = inner(job.term, 0)?;
+    let items = list(job.term, 1)?;
+    let number = eval_operand_integer(
         alloc,
-        world,
-        budget,
-        scope,
-        depth,
-        items,
-        else_of(term),
-        is_true(number),
-    )
+        run,
+        Task {
+            term: condition,
+            ..job
+        },
+    )?;
+    eval_branch(alloc, run, job, items, is_true(number))
 }
 
 /// The list of an If, or what follows it.
@@ -80,76 +68,65 @@ fn eval_if<S: Space>(
 #[tactic(auto, using(crate::proofs::Steps::evaluating))]
 fn eval_branch<S: Space>(
     alloc: Global,
-    world: &mut World<S>,
-    budget: &mut u64,
-    scope: &Path,
-    depth: usize,
+    run: &mut Running<S>,
+    job: Task<'_>,
     items: Reader<'_>,
-    other: Option<Reader<'_>>,
     holds: bool,
 ) -> Result<Flow, Refusal>
-    ensures spent { budget.new ≤ budget.old }
-    ensures means { Does result (world.new, budget.new) (branch (meaning S.accesses) scope.now depth (part_list items.entry) (option_map part_tree other.entry) holds) (world.old, budget.old) }
+    ensures spent { run.new.1 ≤ run.old.1 }
+    ensures means { Does result run.new (branch (meaning S.accesses) job.entry.scope.now job.entry.depth (part_list items.entry) (else_of (operand_of (part_tree job.entry.term) 2)) holds) run.old }
 {
     if holds {
-        eval_list(alloc, world, budget, scope, depth, items)
+        eval_list(alloc, run, Task { term: items, ..job })
     } else {
-        eval_otherwise(alloc, world, budget, scope, depth, other)
+        eval_otherwise(alloc, run, job)
     }
 }
 
+/// The Else of an If, where it has one.
 #[cycle(evaluation)]
 #[tactic(auto, using(crate::proofs::Steps::evaluating))]
 fn eval_otherwise<S: Space>(
     alloc: Global,
-    world: &mut World<S>,
-    budget: &mut u64,
-    scope: &Path,
-    depth: usize,
-    other: Option<Reader<'_>>,
+    run: &mut Running<S>,
+    job: Task<'_>,
 ) -> Result<Flow, Refusal>
-    ensures spent { budget.new ≤ budget.old }
-    ensures means { Does result (world.new, budget.new) (otherwise (meaning S.accesses) scope.now depth (option_map part_tree other.entry)) (world.old, budget.old) }
+    ensures spent { run.new.1 ≤ run.old.1 }
+    ensures means { Does result run.new (otherwise (meaning S.accesses) job.entry.scope.now job.entry.depth (else_of (operand_of (part_tree job.entry.term) 2))) run.old }
 {
-    match other {
+    match else_of(job.term) {
         None => Ok(Flow::Next),
-        Some(term) => eval_term(alloc, world, budget, scope, depth, term),
+        Some(term) => eval_term(alloc, run, Task { term, ..job }),
     }
 }
 
 #[cycle(evaluation)]
 #[tactic(auto, using(crate::proofs::Steps::evaluating), unfolding(aml_meaning::specs::StatementTerms::else_rule))]
-fn eval_else<S: Space>(
-    alloc: Global,
-    world: &mut World<S>,
-    budget: &mut u64,
-    scope: &Path,
-    depth: usize,
-    term: Reader<'_>,
-) -> Result<Flow, Refusal>
-    ensures spent { budget.new ≤ budget.old }
-    ensures means { Does result (world.new, budget.new) (else_rule (meaning S.accesses) scope.now depth (part_tree term.entry)) (world.old, budget.old) }
+fn eval_else<S: Space>(alloc: Global, run: &mut Running<S>, job: Task<'_>) -> Result<Flow, Refusal>
+    ensures spent { run.new.1 ≤ run.old.1 }
+    ensures means { Does result run.new (else_rule (meaning S.accesses) job.entry.scope.now job.entry.depth (part_tree job.entry.term)) run.old }
 {
-    let items = list(term, 0)?;
-    eval_list(alloc, world, budget, scope, depth, items)
+    let items = list(job.term, 0)?;
+    eval_list(alloc, run, Task { term: items, ..job })
 }
 
 #[cycle(evaluation)]
 #[tactic(auto, using(crate::proofs::Steps::evaluating), unfolding(aml_meaning::specs::StatementTerms::while_rule))]
-fn eval_while<S: Space>(
-    alloc: Global,
-    world: &mut World<S>,
-    budget: &mut u64,
-    scope: &Path,
-    depth: usize,
-    term: Reader<'_>,
-) -> Result<Flow, Refusal>
-    ensures spent { budget.new ≤ budget.old }
-    ensures means { Does result (world.new, budget.new) (while_rule (meaning S.accesses) scope.now depth (part_tree term.entry)) (world.old, budget.old) }
+fn eval_while<S: Space>(alloc: Global, run: &mut Running<S>, job: Task<'_>) -> Result<Flow, Refusal>
+    ensures spent { run.new.1 ≤ run.old.1 }
+    ensures means { Does result run.new (while_rule (meaning S.accesses) job.entry.scope.now job.entry.depth (part_tree job.entry.term)) run.old }
 {
-    let condition = inner(term, 0)?;
-    let items = list(term, 1)?;
-    eval_loop(alloc, world, budget, scope, depth, condition, items)
+    let condition = inner(job.term, 0)?;
+    let items = list(job.term, 1)?;
+    eval_loop(
+        alloc,
+        run,
+        Task {
+            term: condition,
+            ..job
+        },
+        items,
+    )
 }
 
 /// Turns of a While, until one ends it.
@@ -157,18 +134,15 @@ fn eval_while<S: Space>(
 #[tactic(auto, using(crate::proofs::Steps::evaluating))]
 fn eval_loop<S: Space>(
     alloc: Global,
-    world: &mut World<S>,
-    budget: &mut u64,
-    scope: &Path,
-    depth: usize,
-    condition: Reader<'_>,
+    run: &mut Running<S>,
+    job: Task<'_>,
     items: Reader<'_>,
 ) -> Result<Flow, Refusal>
-    ensures spent { budget.new ≤ budget.old }
-    ensures means { Does result (world.new, budget.new) (loop (meaning S.accesses) scope.now depth (part_tree condition.entry) (part_list items.entry)) (world.old, budget.old) }
+    ensures spent { run.new.1 ≤ run.old.1 }
+    ensures means { Does result run.new (loop (meaning S.accesses) job.entry.scope.now job.entry.depth (part_tree job.entry.term) (part_list items.entry)) run.old }
 {
     'turns: loop {
-        let flow = eval_turn(alloc, world, budget, scope, depth, condition, items)?;
+        let flow = eval_turn(alloc, run, job, items)?;
         match flow.loop_end() {
             None => {}
             Some(last) => return Ok(last),
@@ -181,37 +155,31 @@ fn eval_loop<S: Space>(
 #[tactic(auto, using(crate::proofs::Steps::evaluating), unfolding(aml_meaning::specs::StatementTerms::turn))]
 fn eval_turn<S: Space>(
     alloc: Global,
-    world: &mut World<S>,
-    budget: &mut u64,
-    scope: &Path,
-    depth: usize,
-    condition: Reader<'_>,
+    run: &mut Running<S>,
+    job: Task<'_>,
     items: Reader<'_>,
 ) -> Result<Flow, Refusal>
-    ensures spent { budget.new ≤ budget.old }
-    ensures paid { OnOk result (budget.new < budget.old) }
-    ensures means { Does result (world.new, budget.new) (turn (meaning S.accesses) scope.now depth (part_tree condition.entry) (part_list items.entry)) (world.old, budget.old) }
+    ensures spent { run.new.1 ≤ run.old.1 }
+    ensures paid { OnOk result (run.new.1 < run.old.1) }
+    ensures means { Does result run.new (turn (meaning S.accesses) job.entry.scope.now job.entry.depth (part_tree job.entry.term) (part_list items.entry)) run.old }
 {
-    let number = eval_operand_integer(alloc, world, budget, scope, depth, condition)?;
-    eval_turn_of(alloc, world, budget, scope, depth, items, is_true(number))
+    let number = eval_operand_integer(alloc, run, job)?;
+    eval_turn_of(alloc, run, Task { term: items, ..job }, is_true(number))
 }
 
 #[cycle(evaluation)]
 #[tactic(auto, using(crate::proofs::Steps::evaluating))]
 fn eval_turn_of<S: Space>(
     alloc: Global,
-    world: &mut World<S>,
-    budget: &mut u64,
-    scope: &Path,
-    depth: usize,
-    items: Reader<'_>,
+    run: &mut Running<S>,
+    job: Task<'_>,
     holds: bool,
 ) -> Result<Flow, Refusal>
-    ensures spent { budget.new ≤ budget.old }
-    ensures means { Does result (world.new, budget.new) (turn_of (meaning S.accesses) scope.now depth (part_list items.entry) holds) (world.old, budget.old) }
+    ensures spent { run.new.1 ≤ run.old.1 }
+    ensures means { Does result run.new (turn_of (meaning S.accesses) job.entry.scope.now job.entry.depth (part_list job.entry.term) holds) run.old }
 {
     if holds {
-        eval_list(alloc, world, budget, scope, depth, items)
+        eval_list(alloc, run, job)
     } else {
         Ok(Flow::Break)
     }
@@ -221,16 +189,13 @@ fn eval_turn_of<S: Space>(
 #[tactic(auto, using(crate::proofs::Steps::evaluating), unfolding(aml_meaning::specs::StatementTerms::return_rule))]
 fn eval_return<S: Space>(
     alloc: Global,
-    world: &mut World<S>,
-    budget: &mut u64,
-    scope: &Path,
-    depth: usize,
-    term: Reader<'_>,
+    run: &mut Running<S>,
+    job: Task<'_>,
 ) -> Result<Flow, Refusal>
-    ensures spent { budget.new ≤ budget.old }
-    ensures means { Does result (world.new, budget.new) (return_rule (meaning S.accesses) scope.now depth (part_tree term.entry)) (world.old, budget.old) }
+    ensures spent { run.new.1 ≤ run.old.1 }
+    ensures means { Does result run.new (return_rule (meaning S.accesses) job.entry.scope.now job.entry.depth (part_tree job.entry.term)) run.old }
 {
-    let value = eval_value_at(alloc, world, budget, scope, depth, term, 0)?;
+    let value = eval_value_at(alloc, run, job, 0)?;
     Ok(Flow::Return(value))
 }
 
@@ -238,17 +203,14 @@ fn eval_return<S: Space>(
 #[tactic(auto, using(crate::proofs::Steps::evaluating), unfolding(aml_meaning::specs::StatementTerms::release_rule))]
 fn eval_release<S: Space>(
     alloc: Global,
-    world: &mut World<S>,
-    budget: &mut u64,
-    scope: &Path,
-    depth: usize,
-    term: Reader<'_>,
+    run: &mut Running<S>,
+    job: Task<'_>,
 ) -> Result<Flow, Refusal>
-    ensures spent { budget.new ≤ budget.old }
-    ensures means { Does result (world.new, budget.new) (release_rule (meaning S.accesses) scope.now depth (part_tree term.entry)) (world.old, budget.old) }
+    ensures spent { run.new.1 ≤ run.old.1 }
+    ensures means { Does result run.new (release_rule (meaning S.accesses) job.entry.scope.now job.entry.depth (part_tree job.entry.term)) run.old }
 {
-    let target = eval_target(alloc, world, budget, scope, depth, term, 0)?;
-    world.release(&target)?;
+    let target = eval_target(alloc, run, job, 0)?;
+    run.world.release(&target)?;
     Ok(Flow::Next)
 }
 
@@ -257,51 +219,34 @@ fn eval_release<S: Space>(
 #[tactic(auto, using(crate::proofs::Steps::evaluating), unfolding(aml_meaning::specs::StatementTerms::notify_rule))]
 fn eval_notify<S: Space>(
     alloc: Global,
-    world: &mut World<S>,
-    budget: &mut u64,
-    scope: &Path,
-    depth: usize,
-    term: Reader<'_>,
+    run: &mut Running<S>,
+    job: Task<'_>,
 ) -> Result<Flow, Refusal>
-    ensures spent { budget.new ≤ budget.old }
-    ensures means { Does result (world.new, budget.new) (notify_rule (meaning S.accesses) scope.now depth (part_tree term.entry)) (world.old, budget.old) }
+    ensures spent { run.new.1 ≤ run.old.1 }
+    ensures means { Does result run.new (notify_rule (meaning S.accesses) job.entry.scope.now job.entry.depth (part_tree job.entry.term)) run.old }
 {
-    eval_target(alloc, world, budget, scope, depth, term, 0)?;
-    eval_value_at(alloc, world, budget, scope, depth, term, 1)?;
+    eval_target(alloc, run, job, 0)?;
+    eval_value_at(alloc, run, job, 1)?;
     Ok(Flow::Next)
 }
 
 /// Stall and Sleep: no time passes.
 #[cycle(evaluation)]
 #[tactic(auto, using(crate::proofs::Steps::evaluating), unfolding(aml_meaning::specs::StatementTerms::pause_rule))]
-fn eval_pause<S: Space>(
-    alloc: Global,
-    world: &mut World<S>,
-    budget: &mut u64,
-    scope: &Path,
-    depth: usize,
-    term: Reader<'_>,
-) -> Result<Flow, Refusal>
-    ensures spent { budget.new ≤ budget.old }
-    ensures means { Does result (world.new, budget.new) (pause_rule (meaning S.accesses) scope.now depth (part_tree term.entry)) (world.old, budget.old) }
+fn eval_pause<S: Space>(alloc: Global, run: &mut Running<S>, job: Task<'_>) -> Result<Flow, Refusal>
+    ensures spent { run.new.1 ≤ run.old.1 }
+    ensures means { Does result run.new (pause_rule (meaning S.accesses) job.entry.scope.now job.entry.depth (part_tree job.entry.term)) run.old }
 {
-    eval_value_at(alloc, world, budget, scope, depth, term, 0)?;
+    eval_value_at(alloc, run, job, 0)?;
     Ok(Flow::Next)
 }
 
 #[cycle(evaluation)]
 #[tactic(auto, using(crate::proofs::Steps::evaluating), unfolding(aml_meaning::specs::StatementTerms::fatal_rule))]
-fn eval_fatal<S: Space>(
-    alloc: Global,
-    world: &mut World<S>,
-    budget: &mut u64,
-    scope: &Path,
-    depth: usize,
-    term: Reader<'_>,
-) -> Result<Flow, Refusal>
-    ensures spent { budget.new ≤ budget.old }
-    ensures means { Does result (world.new, budget.new) (fatal_rule (meaning S.accesses) scope.now depth (part_tree term.entry)) (world.old, budget.old) }
+fn eval_fatal<S: Space>(alloc: Global, run: &mut Running<S>, job: Task<'_>) -> Result<Flow, Refusal>
+    ensures spent { run.new.1 ≤ run.old.1 }
+    ensures means { Does result run.new (fatal_rule (meaning S.accesses) job.entry.scope.now job.entry.depth (part_tree job.entry.term)) run.old }
 {
-    eval_value_at(alloc, world, budget, scope, depth, term, 2)?;
+    eval_value_at(alloc, run, job, 2)?;
     Err(Refusal::Evaluation(EvaluationFault::Fatal))
 }

@@ -8,12 +8,11 @@ ghost use Rattle.aml_meaning.specs.Terms.{target_of_code};
 ghost use Rattle.aml_meaning.specs.TargetTerms.{referring, target_of_term, name_target, target_at, targeted};
 
 use crate::field_calls::eval_stored_to;
-use crate::operands::Reader;
+use crate::task::Task;
 use crate::terms::eval_term;
 use aml_grammar::{OperandView, TermReader};
-use aml_meaning::{Flow, StoreTarget, World, target_of};
+use aml_meaning::{Flow, Running, StoreTarget, target_of};
 use aml_objects::Value;
-use aml_path::Path;
 use ar_space::{NameFault, Refusal, Space, ValueFault};
 use std::alloc::Global;
 
@@ -22,23 +21,20 @@ use std::alloc::Global;
 #[tactic(auto, using(crate::proofs::Steps::evaluating))]
 pub(crate) fn eval_target<S: Space>(
     alloc: Global,
-    world: &mut World<S>,
-    budget: &mut u64,
-    scope: &Path,
-    depth: usize,
-    term: Reader<'_>,
+    run: &mut Running<S>,
+    job: Task<'_>,
     index: usize,
 ) -> Result<StoreTarget, Refusal>
-    ensures spent { budget.new ≤ budget.old }
-    ensures means { Does result (world.new, budget.new) (target_at (meaning S.accesses) scope.now depth (part_tree term.entry) index) (world.old, budget.old) }
+    ensures spent { run.new.1 ≤ run.old.1 }
+    ensures means { Does result run.new (target_at (meaning S.accesses) job.entry.scope.now job.entry.depth (part_tree job.entry.term) index) run.old }
 {
-    match term.operand(index) {
+    match job.term.operand(index) {
         OperandView::Absent => Err(Refusal::Name(NameFault::BadName)),
         OperandView::Null => Ok(StoreTarget::Nowhere),
-        OperandView::Name => named_target(alloc, world, *budget, scope, term, index),
+        OperandView::Name => named_target(alloc, run, job, index),
         OperandView::Number(_) => Err(Refusal::Name(NameFault::BadName)),
         OperandView::Bytes => Err(Refusal::Name(NameFault::BadName)),
-        OperandView::Term(inner) => eval_inner_target(alloc, world, budget, scope, depth, inner),
+        OperandView::Term(inner) => eval_inner_target(alloc, run, Task { term: inner, ..job }),
         OperandView::List(_) => Err(Refusal::Name(NameFault::BadName)),
     }
 }
@@ -46,16 +42,14 @@ pub(crate) fn eval_target<S: Space>(
 #[tactic(auto, using(crate::proofs::Steps::evaluating), unfolding(aml_meaning::specs::TargetTerms::name_target))]
 fn named_target<S: Space>(
     alloc: Global,
-    world: &World<S>,
-    budget: u64,
-    scope: &Path,
-    term: Reader<'_>,
+    run: &Running<S>,
+    job: Task<'_>,
     index: usize,
 ) -> Result<StoreTarget, Refusal>
-    ensures { Does result (world.now, budget) (name_target (meaning S.accesses) scope.now (part_tree term.entry) index) (world.now, budget) }
+    ensures { Does result run.now (name_target (meaning S.accesses) job.entry.scope.now (part_tree job.entry.term) index) run.now }
 {
-    let name = term.name(alloc, index)?;
-    world.target_named(alloc, scope, &name)
+    let name = job.term.name(alloc, index)?;
+    run.world.target_named(alloc, job.scope, &name)
 }
 
 /// The target that a term is: Debug, a local or an argument, or one that the term refers to.
@@ -63,18 +57,15 @@ fn named_target<S: Space>(
 #[tactic(auto, using(crate::proofs::Steps::evaluating))]
 fn eval_inner_target<S: Space>(
     alloc: Global,
-    world: &mut World<S>,
-    budget: &mut u64,
-    scope: &Path,
-    depth: usize,
-    term: Reader<'_>,
+    run: &mut Running<S>,
+    job: Task<'_>,
 ) -> Result<StoreTarget, Refusal>
-    ensures spent { budget.new ≤ budget.old }
-    ensures means { Does result (world.new, budget.new) (target_of_term (meaning S.accesses) scope.now depth (part_tree term.entry) (target_of_code (code_of (part_tree term.entry)))) (world.old, budget.old) }
+    ensures spent { run.new.1 ≤ run.old.1 }
+    ensures means { Does result run.new (target_of_term (meaning S.accesses) job.entry.scope.now job.entry.depth (part_tree job.entry.term) (target_of_code (code_of (part_tree job.entry.term)))) run.old }
 {
-    match target_of(term.code()) {
+    match target_of(job.term.code()) {
         Some(target) => Ok(target),
-        None => eval_referring(alloc, world, budget, scope, depth, term),
+        None => eval_referring(alloc, run, job),
     }
 }
 
@@ -83,16 +74,13 @@ fn eval_inner_target<S: Space>(
 #[tactic(auto, using(crate::proofs::Steps::evaluating), unfolding(aml_meaning::specs::TargetTerms::referring))]
 fn eval_referring<S: Space>(
     alloc: Global,
-    world: &mut World<S>,
-    budget: &mut u64,
-    scope: &Path,
-    depth: usize,
-    term: Reader<'_>,
+    run: &mut Running<S>,
+    job: Task<'_>,
 ) -> Result<StoreTarget, Refusal>
-    ensures spent { budget.new ≤ budget.old }
-    ensures means { Does result (world.new, budget.new) (referring (meaning S.accesses) scope.now depth (part_tree term.entry)) (world.old, budget.old) }
+    ensures spent { run.new.1 ≤ run.old.1 }
+    ensures means { Does result run.new (referring (meaning S.accesses) job.entry.scope.now job.entry.depth (part_tree job.entry.term)) run.old }
 {
-    eval_term(alloc, world, budget, scope, depth, term)?;
+    eval_term(alloc, run, job)?;
     Err(Refusal::Value(ValueFault::WrongType))
 }
 
@@ -101,18 +89,15 @@ fn eval_referring<S: Space>(
 #[tactic(auto, using(crate::proofs::Steps::evaluating), unfolding(aml_meaning::specs::TargetTerms::targeted))]
 pub(crate) fn eval_targeted<S: Space>(
     alloc: Global,
-    world: &mut World<S>,
-    budget: &mut u64,
-    scope: &Path,
-    depth: usize,
-    term: Reader<'_>,
+    run: &mut Running<S>,
+    job: Task<'_>,
     index: usize,
     value: Value,
 ) -> Result<Flow, Refusal>
-    ensures spent { budget.new ≤ budget.old }
-    ensures means { Does result (world.new, budget.new) (targeted S.accesses (meaning S.accesses) scope.now depth (part_tree term.entry) index value) (world.old, budget.old) }
+    ensures spent { run.new.1 ≤ run.old.1 }
+    ensures means { Does result run.new (targeted S.accesses (meaning S.accesses) job.entry.scope.now job.entry.depth (part_tree job.entry.term) index value) run.old }
 {
-    let target = eval_target(alloc, world, budget, scope, depth, term, index)?;
-    eval_stored_to(alloc, world, budget, depth, &target, value)?;
+    let target = eval_target(alloc, run, job, index)?;
+    eval_stored_to(alloc, run, job.depth, &target, value)?;
     Ok(Flow::Value(value))
 }

@@ -1,13 +1,11 @@
 //! Terms and lists of them, each evaluated by its rule.
 ghost use Rattle.std.specs.Prelude.{◌≡◌, ◌≤◌, ◌<◌, OnOk};
 ghost use Rattle.ar_space.specs.Change.{Does};
-ghost use Rattle.ar_space.specs.Outcome.{NotMemory};
 ghost use Rattle.aml_grammar.specs.PartTree.{part_tree, part_list};
 ghost use Rattle.aml_grammar.specs.Apart.{code_of};
 ghost use Rattle.ar_space.specs.declared.refusal.Refusal.TheVariants.{Evaluation};
 ghost use Rattle.ar_space.specs.declared.refusal.EvaluationFault.TheVariants.{Unsupported};
 ghost use Rattle.aml_grammar.specs.Opcodes.{number_of};
-ghost use Rattle.aml_meaning.specs.Run.{charge};
 ghost use Rattle.aml_meaning.specs.Meaning.{meaning};
 ghost use Rattle.aml_meaning.specs.Tasks.{task, operand_value, value_at, two_values, operand_integer, in_turn};
 ghost use Rattle.aml_meaning.specs.Evaluation.{rule, code_rule, kind_rule};
@@ -16,78 +14,42 @@ ghost use Rattle.aml_meaning.specs.Terms.{kind_of};
 use crate::data::eval_data;
 use crate::declarations::eval_declaration;
 use crate::invocations::eval_name_value;
-use crate::operands::{Reader, inner};
+use crate::operands::inner;
 use crate::operators::eval_operator;
 use crate::regions::eval_region_term;
 use crate::statements::eval_statement;
+use crate::task::Task;
 use aml_grammar::{Opcode, TermCode, TermReader};
-use aml_meaning::{Flow, TermKind, World, kind_of};
+use aml_meaning::{Flow, Running, TermKind, kind_of};
 use aml_objects::Value;
-use aml_path::Path;
 use ar_space::{EvaluationFault, NameFault, Refusal, Space};
 use std::alloc::Global;
-
-/// One step of the budget.
-#[tactic(auto, unfolding(aml_meaning::specs::Run::charge))]
-pub(crate) fn charge<S: Space>(world: &World<S>, budget: &mut u64) -> Result<(), Refusal>
-    ensures does { Does result (world.now, budget.new) charge (world.now, budget.old) }
-    ensures spent { budget.new ≤ budget.old }
-    ensures paid { OnOk result (budget.new < budget.old) }
-    ensures memory { NotMemory result }
-{
-    if *budget == 0 {
-        return Err(Refusal::Evaluation(EvaluationFault::OutOfSteps));
-    }
-    *budget -= 1;
-    Ok(())
-}
 
 /// A term: it costs a step, and is then evaluated by its rule.
 #[cycle(evaluation)]
 #[tactic(auto, using(crate::proofs::Steps::evaluating), unfolding(aml_meaning::specs::Evaluation::rule))]
 pub(crate) fn eval_term<S: Space>(
     alloc: Global,
-    world: &mut World<S>,
-    budget: &mut u64,
-    scope: &Path,
-    depth: usize,
-    term: Reader<'_>,
+    run: &mut Running<S>,
+    job: Task<'_>,
 ) -> Result<Flow, Refusal>
-    ensures spent { budget.new ≤ budget.old }
-    ensures paid { OnOk result (budget.new < budget.old) }
-    ensures means { Does result (world.new, budget.new) (meaning S.accesses (task scope.now depth (part_tree term.entry))) (world.old, budget.old) }
+    ensures spent { run.new.1 ≤ run.old.1 }
+    ensures paid { OnOk result (run.new.1 < run.old.1) }
+    ensures means { Does result run.new (meaning S.accesses (task job.entry.scope.now job.entry.depth (part_tree job.entry.term))) run.old }
 {
-    charge(world, budget)?;
-    eval_code(alloc, world, budget, scope, depth, term)
+    run.charge()?;
+    eval_code(alloc, run, job)
 }
 
 #[cycle(evaluation)]
 #[tactic(auto, using(crate::proofs::Steps::evaluating))]
-fn eval_code<S: Space>(
-    alloc: Global,
-    world: &mut World<S>,
-    budget: &mut u64,
-    scope: &Path,
-    depth: usize,
-    term: Reader<'_>,
-) -> Result<Flow, Refusal>
-    ensures spent { budget.new ≤ budget.old }
-    ensures means { Does result (world.new, budget.new) (code_rule S.accesses (meaning S.accesses) (code_of (part_tree term.entry)) scope.now depth (part_tree term.entry)) (world.old, budget.old) }
+fn eval_code<S: Space>(alloc: Global, run: &mut Running<S>, job: Task<'_>) -> Result<Flow, Refusal>
+    ensures spent { run.new.1 ≤ run.old.1 }
+    ensures means { Does result run.new (code_rule S.accesses (meaning S.accesses) (code_of (part_tree job.entry.term)) job.entry.scope.now job.entry.depth (part_tree job.entry.term)) run.old }
 {
-    match term.code() {
-        TermCode::Opcode(opcode) => {
-            eval_kind(
-                alloc,
-                world,
-                budget,
-                scope,
-                depth,
-                term,
-                opcode,
-                kind_of(opcode),
-            )
-        }
-        TermCode::MethodInvocation => eval_name_value(alloc, world, budget, scope, depth, term),
+    match job.term.code() {
+        TermCode::Opcode(opcode) => eval_kind(alloc, run, job, opcode, kind_of(opcode)),
+        TermCode::MethodInvocation => eval_name_value(alloc, run, job),
         TermCode::Name => Err(Refusal::Name(NameFault::BadName)),
         TermCode::NamedField => Err(Refusal::Name(NameFault::BadName)),
         TermCode::ReservedField => Err(Refusal::Name(NameFault::BadName)),
@@ -101,25 +63,20 @@ fn eval_code<S: Space>(
 #[tactic(auto, using(crate::proofs::Steps::evaluating))]
 fn eval_kind<S: Space>(
     alloc: Global,
-    world: &mut World<S>,
-    budget: &mut u64,
-    scope: &Path,
-    depth: usize,
-    term: Reader<'_>,
+    run: &mut Running<S>,
+    job: Task<'_>,
     opcode: Opcode,
     kind: TermKind,
 ) -> Result<Flow, Refusal>
-    ensures spent { budget.new ≤ budget.old }
-    ensures means { Does result (world.new, budget.new) (kind_rule S.accesses (meaning S.accesses) kind opcode scope.now depth (part_tree term.entry)) (world.old, budget.old) }
+    ensures spent { run.new.1 ≤ run.old.1 }
+    ensures means { Does result run.new (kind_rule S.accesses (meaning S.accesses) kind opcode job.entry.scope.now job.entry.depth (part_tree job.entry.term)) run.old }
 {
     match kind {
-        TermKind::Data(kind) => eval_data(alloc, world, budget, scope, depth, term, kind),
-        TermKind::Declaration(kind) => {
-            eval_declaration(alloc, world, budget, scope, depth, term, kind)
-        }
-        TermKind::Region(kind) => eval_region_term(alloc, world, budget, scope, depth, term, kind),
-        TermKind::Operator(kind) => eval_operator(alloc, world, budget, scope, depth, term, kind),
-        TermKind::Statement(kind) => eval_statement(alloc, world, budget, scope, depth, term, kind),
+        TermKind::Data(kind) => eval_data(alloc, run, job, kind),
+        TermKind::Declaration(kind) => eval_declaration(alloc, run, job, kind),
+        TermKind::Region(kind) => eval_region_term(alloc, run, job, kind),
+        TermKind::Operator(kind) => eval_operator(alloc, run, job, kind),
+        TermKind::Statement(kind) => eval_statement(alloc, run, job, kind),
         TermKind::Unsupported => Err(unsupported(opcode)),
     }
 }
@@ -135,17 +92,14 @@ pub(crate) fn unsupported(opcode: Opcode) -> Refusal
 #[tactic(auto, using(crate::proofs::Steps::evaluating), unfolding(aml_meaning::specs::Tasks::operand_value))]
 pub(crate) fn eval_value<S: Space>(
     alloc: Global,
-    world: &mut World<S>,
-    budget: &mut u64,
-    scope: &Path,
-    depth: usize,
-    term: Reader<'_>,
+    run: &mut Running<S>,
+    job: Task<'_>,
 ) -> Result<Value, Refusal>
-    ensures spent { budget.new ≤ budget.old }
-    ensures paid { OnOk result (budget.new < budget.old) }
-    ensures means { Does result (world.new, budget.new) (operand_value (meaning S.accesses) scope.now depth (part_tree term.entry)) (world.old, budget.old) }
+    ensures spent { run.new.1 ≤ run.old.1 }
+    ensures paid { OnOk result (run.new.1 < run.old.1) }
+    ensures means { Does result run.new (operand_value (meaning S.accesses) job.entry.scope.now job.entry.depth (part_tree job.entry.term)) run.old }
 {
-    let flow = eval_term(alloc, world, budget, scope, depth, term)?;
+    let flow = eval_term(alloc, run, job)?;
     flow.value()
 }
 
@@ -154,18 +108,22 @@ pub(crate) fn eval_value<S: Space>(
 #[tactic(auto, using(crate::proofs::Steps::evaluating), unfolding(aml_meaning::specs::Tasks::value_at))]
 pub(crate) fn eval_value_at<S: Space>(
     alloc: Global,
-    world: &mut World<S>,
-    budget: &mut u64,
-    scope: &Path,
-    depth: usize,
-    term: Reader<'_>,
+    run: &mut Running<S>,
+    job: Task<'_>,
     index: usize,
 ) -> Result<Value, Refusal>
-    ensures spent { budget.new ≤ budget.old }
-    ensures means { Does result (world.new, budget.new) (value_at (meaning S.accesses) scope.now depth (part_tree term.entry) index) (world.old, budget.old) }
+    ensures spent { run.new.1 ≤ run.old.1 }
+    ensures means { Does result run.new (value_at (meaning S.accesses) job.entry.scope.now job.entry.depth (part_tree job.entry.term) index) run.old }
 {
-    let operand = inner(term, index)?;
-    eval_value(alloc, world, budget, scope, depth, operand)
+    let operand = inner(job.term, index)?;
+    eval_value(
+        alloc,
+        run,
+        Task {
+            term: operand,
+            ..job
+        },
+    )
 }
 
 /// The values of the first two operands.
@@ -173,17 +131,14 @@ pub(crate) fn eval_value_at<S: Space>(
 #[tactic(auto, using(crate::proofs::Steps::evaluating), unfolding(aml_meaning::specs::Tasks::two_values))]
 pub(crate) fn eval_two_values<S: Space>(
     alloc: Global,
-    world: &mut World<S>,
-    budget: &mut u64,
-    scope: &Path,
-    depth: usize,
-    term: Reader<'_>,
+    run: &mut Running<S>,
+    job: Task<'_>,
 ) -> Result<(Value, Value), Refusal>
-    ensures spent { budget.new ≤ budget.old }
-    ensures means { Does result (world.new, budget.new) (two_values (meaning S.accesses) scope.now depth (part_tree term.entry)) (world.old, budget.old) }
+    ensures spent { run.new.1 ≤ run.old.1 }
+    ensures means { Does result run.new (two_values (meaning S.accesses) job.entry.scope.now job.entry.depth (part_tree job.entry.term)) run.old }
 {
-    let first = eval_value_at(alloc, world, budget, scope, depth, term, 0)?;
-    let second = eval_value_at(alloc, world, budget, scope, depth, term, 1)?;
+    let first = eval_value_at(alloc, run, job, 0)?;
+    let second = eval_value_at(alloc, run, job, 1)?;
     Ok((first, second))
 }
 
@@ -192,18 +147,15 @@ pub(crate) fn eval_two_values<S: Space>(
 #[tactic(auto, using(crate::proofs::Steps::evaluating), unfolding(aml_meaning::specs::Tasks::operand_integer))]
 pub(crate) fn eval_operand_integer<S: Space>(
     alloc: Global,
-    world: &mut World<S>,
-    budget: &mut u64,
-    scope: &Path,
-    depth: usize,
-    term: Reader<'_>,
+    run: &mut Running<S>,
+    job: Task<'_>,
 ) -> Result<u64, Refusal>
-    ensures spent { budget.new ≤ budget.old }
-    ensures paid { OnOk result (budget.new < budget.old) }
-    ensures means { Does result (world.new, budget.new) (operand_integer (meaning S.accesses) scope.now depth (part_tree term.entry)) (world.old, budget.old) }
+    ensures spent { run.new.1 ≤ run.old.1 }
+    ensures paid { OnOk result (run.new.1 < run.old.1) }
+    ensures means { Does result run.new (operand_integer (meaning S.accesses) job.entry.scope.now job.entry.depth (part_tree job.entry.term)) run.old }
 {
-    let value = eval_value(alloc, world, budget, scope, depth, term)?;
-    world.integer_in(value)
+    let value = eval_value(alloc, run, job)?;
+    run.world.integer_in(value)
 }
 
 /// Items one after another, until one ends the list.
@@ -211,21 +163,25 @@ pub(crate) fn eval_operand_integer<S: Space>(
 #[tactic(auto, using(crate::proofs::Steps::evaluating))]
 pub(crate) fn eval_list<S: Space>(
     alloc: Global,
-    world: &mut World<S>,
-    budget: &mut u64,
-    scope: &Path,
-    depth: usize,
-    list: Reader<'_>,
+    run: &mut Running<S>,
+    job: Task<'_>,
 ) -> Result<Flow, Refusal>
-    ensures spent { budget.new ≤ budget.old }
-    ensures means { Does result (world.new, budget.new) (in_turn (meaning S.accesses) scope.now depth (part_list list.entry)) (world.old, budget.old) }
+    ensures spent { run.new.1 ≤ run.old.1 }
+    ensures means { Does result run.new (in_turn (meaning S.accesses) job.entry.scope.now job.entry.depth (part_list job.entry.term)) run.old }
 {
-    let mut rest = list;
+    let mut rest = job.term;
     'items: loop {
         match rest.next() {
             None => return Ok(Flow::Next),
             Some(item) => {
-                let flow = eval_term(alloc, world, budget, scope, depth, item.first)?;
+                let flow = eval_term(
+                    alloc,
+                    run,
+                    Task {
+                        term: item.first,
+                        ..job
+                    },
+                )?;
                 if !flow.goes_on() {
                     return Ok(flow);
                 }

@@ -19,8 +19,9 @@ use Rattle.aml_meaning.specs.State.{State}
 use Rattle.aml_meaning.specs.Run.{Run, lift}
 use Rattle.aml_meaning.specs.Slots.{opened, closed}
 use Rattle.aml_meaning.specs.Tasks.{Task}
-use Rattle.aml_meaning.specs.Invocations.{body_terms, leaving, invoked}
+use Rattle.aml_meaning.specs.Invocations.{body_terms, leaving, left, invoked}
 use Rattle.aml_laws.specs.Calls.{body_frame, NoneBelow}
+use Rattle.aml_laws.proofs.Outside.{still}
 
 -- ---- the names below a path, removed
 
@@ -85,3 +86,8 @@ none_below_called ev depth p body arguments s n is = (beside p ev depth body arg
 
 pub refused_call : {S : Type 0} (ev : Task → Run S Flow) (depth : ℕ) (p : List Seg) (body : List ℕ) (arguments : List Value) (s : State S × ℕ) (e : Refusal) → (body_frame depth p body arguments s.0).0 ≡ Err e → (invoked ev depth p body arguments s).1.0 ≡ s.0
 refused_call ev depth p body arguments s e is = (beside p ev depth body arguments).refused s e is
+
+-- at the end of a call no name is removed that isn't below its control method
+pub others_stay : {S : Type 0} (w : State S) (p q : List Seg) → is_below p q ≡ false → get (left p w).names.map q ≡ get w.names.map q
+unfolding without_below
+others_stay w p q h = still w.names.map p q h

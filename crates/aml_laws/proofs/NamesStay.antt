@@ -1,11 +1,11 @@
 -- Names that stand outside of control methods stay.
-use Rattle.std.specs.Prelude.{List}
+use Rattle.std.specs.Prelude.{◌≡◌, ℕ, List, Some, refl}
 use Rattle.ar_space.specs.Accesses.{Accesses}
 use Rattle.aml_path.specs.declared.segment.Seg.{Seg}
 use Rattle.aml_namespace.specs.Namespace.{Namespace, with_object, without_below}
 use Rattle.aml_meaning.specs.State.{State}
 use Rattle.aml_laws.specs.Becomes.{Becomes}
-use Rattle.aml_laws.specs.Outside.{OutsideIn, Outside, Stands}
+use Rattle.aml_laws.specs.Outside.{OutsideIn, Outside, Stands, number_at}
 use Rattle.aml_laws.proofs.Outside.{Kept, kept_same, kept_twice, kept_new, kept_replaced, kept_removed, kept_released, method_apart}
 use Rattle.aml_laws.proofs.Callees.{MethodAt}
 use Rattle.aml_laws.proofs.Keeping.{Law}
@@ -23,7 +23,7 @@ names_law accesses p = record {
   twice = λ u v w h i o. kept_twice u.names.map v.names.map w.names.map p (h o) (i (h o).outside);
   objects = λ w h k o. kept_same w.names.map p o;
   declares = λ w q n free o. kept_new w.names.map q _ p free o;
-  replaces = λ w q n e at is o. kept_replaced w.names.map q (with_object n e) p is o;
+  replaces = λ w q n e at is o. kept_replaced w.names.map q e (with_object n e) p at refl is o;
   slots = λ w frames is o. kept_same w.names.map p o;
   between = λ w v vs h o. h o;
   removes = λ u w q at h o. kept_called u.names w.names q p at h o;
@@ -39,3 +39,7 @@ outside_stays accesses w v p h o = (becomes (names_law accesses p) w v h o).outs
 -- and a name that stands there stands there still
 pub names_stay : {S : Type 0} (accesses : Accesses S) (w v : State S) (p : List Seg) → Becomes accesses w v → Outside w p → Stands w p → Stands v p
 names_stay accesses w v p h o st = (becomes (names_law accesses p) w v h o).stands st
+
+-- under the number of its declaration
+pub numbers_stay : {S : Type 0} (accesses : Accesses S) (w v : State S) (p : List Seg) (n : ℕ) → Becomes accesses w v → Outside w p → number_at w p ≡ Some n → number_at v p ≡ Some n
+numbers_stay accesses w v p n h o e = (becomes (names_law accesses p) w v h o).number n e

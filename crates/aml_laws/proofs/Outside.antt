@@ -1,5 +1,5 @@
 -- Paths that are outside of control methods, and what changes of names leave of them.
-use Rattle.std.specs.Prelude.{◌≡◌, ◌≤◌, List, [], ◌∷◌, ◌++◌, length, take, Bool, true, false, not, Option, Some, None, refl, is_some, cond, ◌&&◌, nat_lt}
+use Rattle.std.specs.Prelude.{◌≡◌, ◌≤◌, ℕ, List, [], ◌∷◌, ◌++◌, length, take, Bool, true, false, not, Option, Some, None, refl, is_some, cond, ◌&&◌, nat_lt}
 use Rattle.std.specs.Option.{option_map}
 use Rattle.std.proofs.Common.{ap, sym, ◌∙◌, subst, arith}
 use Rattle.std.proofs.lemmas.Bool.{ltb-true, ltb-false, lt-ltb}
@@ -18,7 +18,7 @@ use Rattle.aml_namespace.proofs.Kept.{path_total, only_equal}
 use Rattle.aml_namespace.proofs.Changes.{released_at}
 use Rattle.aml_namespace.specs.Namespace.{Map, Namespace, released, entry_released, mutexes_released}
 use Rattle.aml_meaning.specs.State.{State}
-use Rattle.aml_laws.specs.Outside.{is_method, is_open, OutsideIn, Outside}
+use Rattle.aml_laws.specs.Outside.{is_method, is_open, OutsideIn, Outside, number_in}
 
 -- ---- paths below paths
 
@@ -73,12 +73,13 @@ outside_root w = record { above = λ q below. let a = ltb-true (length q) 0 (bot
 pub record Kept (m n : Map) (p : List Seg) : Type 0 where
   pub outside : OutsideIn n p
   pub stands : contains_key m p ≡ true → contains_key n p ≡ true
+  pub number : (k : ℕ) → number_in m p ≡ Some k → number_in n p ≡ Some k
 
 pub kept_same : (m : Map) (p : List Seg) → OutsideIn m p → Kept m m p
-kept_same m p h = record { outside = h; stands = λ st. st }
+kept_same m p h = record { outside = h; stands = λ st. st; number = λ k e. e }
 
 pub kept_twice : (m n l : Map) (p : List Seg) → Kept m n p → Kept n l p → Kept m l p
-kept_twice m n l p h i = record { outside = i.outside; stands = λ st. i.stands (h.stands st) }
+kept_twice m n l p h i = record { outside = i.outside; stands = λ st. i.stands (h.stands st); number = λ k e. i.number k (h.number k e) }
 
 either : (b : Bool) (v : Entry) (o : Option Entry) → is_some o ≡ true → is_some (cond b (Some v) o) ≡ true
 either true v o h = refl
@@ -96,10 +97,19 @@ open_by : (b : Bool) (m : Map) (q r : List Seg) (v : Entry) → eq_by_cmp path_c
 open_by true m q r v same free h = absurd (cc (sym free ∙ ap (contains_key m) (sym (same_path r q same)) ∙ open_stands (get m r) h))
 open_by false m q r v same free h = h
 
+number_stands : (o : Option Entry) (k : ℕ) → option_map (λ e. e.number) o ≡ Some k → is_some o ≡ true
+number_stands None k h = absurd (cc h)
+number_stands (Some e) k h = refl
+
+number_by_new : (b : Bool) (m : Map) (q p : List Seg) (v : Entry) (k : ℕ) → eq_by_cmp path_cmp p q ≡ b → contains_key m q ≡ false → number_in m p ≡ Some k → option_map (λ e. e.number) (cond b (Some v) (get m p)) ≡ Some k
+number_by_new true m q p v k same free h = absurd (cc (sym free ∙ ap (contains_key m) (sym (same_path p q same)) ∙ number_stands (get m p) k h))
+number_by_new false m q p v k same free h = h
+
 pub kept_new : (m : Map) (q : List Seg) (v : Entry) (p : List Seg) → contains_key m q ≡ false → OutsideIn m p → Kept m (insert m q v) p
 kept_new m q v p free h = record {
   outside = record { above = λ r below. ap is_open (get-insert path_total m q v r) ∙ open_by (eq_by_cmp path_cmp r q) m q r v refl free (h.above r below) };
   stands = inserted m q p v;
+  number = λ k e. ap (option_map (λ x. x.number)) (get-insert path_total m q v p) ∙ number_by_new (eq_by_cmp path_cmp p q) m q p v k refl free e;
 }
 
 -- another object under the same name, which is no control method
@@ -107,10 +117,15 @@ open_either : (b : Bool) (v : Entry) (o : Option Entry) → is_method v.object �
 open_either true v o is h = ap not is
 open_either false v o is h = h
 
-pub kept_replaced : (m : Map) (q : List Seg) (v : Entry) (p : List Seg) → is_method v.object ≡ false → OutsideIn m p → Kept m (insert m q v) p
-kept_replaced m q v p is h = record {
+number_by_other : (b : Bool) (m : Map) (q p : List Seg) (e v : Entry) (k : ℕ) → eq_by_cmp path_cmp p q ≡ b → get m q ≡ Some e → v.number ≡ e.number → number_in m p ≡ Some k → option_map (λ x. x.number) (cond b (Some v) (get m p)) ≡ Some k
+number_by_other true m q p e v k same at is h = ap Some is ∙ sym (ap (option_map (λ x. x.number)) (ap (get m) (same_path p q same) ∙ at)) ∙ h
+number_by_other false m q p e v k same at is h = h
+
+pub kept_replaced : (m : Map) (q : List Seg) (e v : Entry) (p : List Seg) → get m q ≡ Some e → v.number ≡ e.number → is_method v.object ≡ false → OutsideIn m p → Kept m (insert m q v) p
+kept_replaced m q e v p at same is h = record {
   outside = record { above = λ r below. ap is_open (get-insert path_total m q v r) ∙ open_either (eq_by_cmp path_cmp r q) v (get m r) is (h.above r below) };
   stands = inserted m q p v;
+  number = λ k n. ap (option_map (λ x. x.number)) (get-insert path_total m q v p) ∙ number_by_other (eq_by_cmp path_cmp p q) m q p e v k refl at same n;
 }
 
 -- the names below a path removed, where that is not above
@@ -121,13 +136,14 @@ not_below : (q r p : List Seg) (b : Bool) → is_below q r ≡ b → is_below q 
 not_below q r p true at apart below = absurd (cc (sym apart ∙ below_below q r p at below))
 not_below q r p false at apart below = refl
 
-still : (m : Map) (q r : List Seg) → is_below q r ≡ false → get (retain_keys m (λ x. not (is_below q x))) r ≡ get m r
+pub still : (m : Map) (q r : List Seg) → is_below q r ≡ false → get (retain_keys m (λ x. not (is_below q x))) r ≡ get m r
 still m q r h = get-retain_keys m (λ x. not (is_below q x)) r (alike q r) ∙ ap (λ b. cond (not b) (get m r) None) h
 
 pub kept_removed : (m : Map) (q p : List Seg) → is_below q p ≡ false → OutsideIn m p → Kept m (retain_keys m (λ r. not (is_below q r))) p
 kept_removed m q p apart h = record {
   outside = record { above = λ r below. ap is_open (still m q r (not_below q r p (is_below q r) refl apart below)) ∙ h.above r below };
   stands = λ st. ap is_some (still m q p apart) ∙ st;
+  number = λ k e. ap (option_map (λ x. x.number)) (still m q p apart) ∙ e;
 }
 
 -- a control method that stands is above no path that is outside of control methods
@@ -151,8 +167,13 @@ some_released : (o : Option Entry) → is_some (option_map entry_released o) ≡
 some_released None = refl
 some_released (Some e) = refl
 
+number_released : (o : Option Entry) → option_map (λ e. e.number) (option_map entry_released o) ≡ option_map (λ e. e.number) o
+number_released None = refl
+number_released (Some e) = refl
+
 pub kept_released : (s : Namespace) (p : List Seg) → OutsideIn s.map p → Kept s.map (mutexes_released s).map p
 kept_released s p h = record {
   outside = record { above = λ r below. ap is_open (released_at s r) ∙ open_released (get s.map r) ∙ h.above r below };
   stands = λ st. ap is_some (released_at s p) ∙ some_released (get s.map p) ∙ st;
+  number = λ k e. ap (option_map (λ x. x.number)) (released_at s p) ∙ number_released (get s.map p) ∙ e;
 }

@@ -1,6 +1,6 @@
--- Names that stand outside of control methods. Where a call of a control method ends, the names below it are removed; no other name
--- ever is.
-use Rattle.std.specs.Prelude.{◌≡◌, List, Bool, true, false, not, Option, Some, None}
+-- Names that stand outside of control methods.
+use Rattle.std.specs.Prelude.{◌≡◌, ℕ, List, Bool, true, false, not, Option, Some, None}
+use Rattle.std.specs.Option.{option_map}
 use Rattle.std.specs.FinMap.{get, contains_key}
 use Rattle.aml_path.specs.declared.segment.Seg.{Seg}
 use Rattle.aml_path.specs.Paths.{is_below}
@@ -25,6 +25,13 @@ pub record OutsideIn (names : Map) (p : List Seg) : Type 0 where
 
 abbrev pub Outside : {S : Type 0} → State S → List Seg → Type 0
 Outside w p = OutsideIn w.names.map p
+
+-- the number of the declaration that stands at a path
+abbrev pub number_in : Map → List Seg → Option ℕ
+number_in names p = option_map (λ e. e.number) (get names p)
+
+abbrev pub number_at : {S : Type 0} → State S → List Seg → Option ℕ
+number_at w p = number_in w.names.map p
 
 -- a name stands at a path
 abbrev pub Stands : {S : Type 0} → State S → List Seg → Type 0

@@ -14,8 +14,8 @@ mod space;
 mod steps;
 
 pub use calls::calls_leave_nothing;
-pub use declarations::refused_declarations_change_nothing;
-pub use frames::frames_are_balanced;
+pub use declarations::refused_names_change_nothing;
+pub use frames::{frame_numbers_are_given_once, frames_are_balanced};
 pub use integers::{integers_stay_below_two_to_the_width, operators_form_integers_of_the_width};
 pub use mutexes::no_mutex_stays_acquired;
 pub use names::{declared_names_stand, names_stay, outside_of_control_methods};

@@ -1,5 +1,5 @@
 //! Which names stand after an evaluation.
-ghost use Rattle.std.specs.Prelude.{◌≡◌, ℕ, List, [], ◌∷◌, ◌++◌, true, Ok};
+ghost use Rattle.std.specs.Prelude.{◌≡◌, ℕ, List, [], ◌∷◌, ◌++◌, true, Ok, Some};
 ghost use Rattle.std.specs.FinMap.{get};
 ghost use Rattle.ar_space.specs.Accesses.{Accesses};
 ghost use Rattle.aml_path.specs.declared.segment.Seg.{Seg};
@@ -10,7 +10,7 @@ ghost use Rattle.aml_meaning.specs.State.{State};
 ghost use Rattle.aml_meaning.specs.Tasks.{task, in_turn};
 ghost use Rattle.aml_meaning.specs.Meaning.{meaning};
 ghost use Rattle.aml_laws.specs.Becomes.{Becomes};
-ghost use Rattle.aml_laws.specs.Outside.{Outside, Stands, is_open};
+ghost use Rattle.aml_laws.specs.Outside.{Outside, Stands, is_open, number_at};
 ghost use Rattle.aml_laws.specs.Declares.{Declares, IsItem};
 
 /// A path is outside of control methods where at each path above it stands a name, and that of no control method. So the root
@@ -21,12 +21,13 @@ pub fn outside_of_control_methods<S>()
     ensures below { (w : State S) (path : List Seg) (segment : Seg) → Outside w path → is_open (get w.names.map path) ≡ true → Outside w (path ++ segment ∷ []) }
 {}
 
-/// No evaluation removes a name that stands outside of control methods, nor does it declare a control method above one, however
-/// it ends. At the end of a call the names below its control method are removed.
-#[tactic(auto, using(crate::proofs::NamesStay::outside_stays, crate::proofs::NamesStay::names_stay))]
+/// No evaluation removes a name that stands outside of control methods, or declares it anew, nor does it declare a control method
+/// above one, however it ends. At the end of a call the names below its control method are removed.
+#[tactic(auto, using(crate::proofs::NamesStay::outside_stays, crate::proofs::NamesStay::names_stay, crate::proofs::NamesStay::numbers_stay))]
 pub fn names_stay<S>()
     ensures outside { (accesses : Accesses S) (w v : State S) (path : List Seg) → Becomes accesses w v → Outside w path → Outside v path }
     ensures stands { (accesses : Accesses S) (w v : State S) (path : List Seg) → Becomes accesses w v → Outside w path → Stands w path → Stands v path }
+    ensures numbers { (accesses : Accesses S) (w v : State S) (path : List Seg) (number : ℕ) → Becomes accesses w v → Outside w path → number_at w path ≡ Some number → number_at v path ≡ Some number }
 {}
 
 /// A term that declares a name outside of control methods by one of its operands, and is not refused, leaves it at the path that

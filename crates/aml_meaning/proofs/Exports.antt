@@ -10,7 +10,8 @@ use Rattle.ar_space.specs.Change.{Change, Does, Same, stop, give, ◌>>=◌}
 use Rattle.aml_objects.specs.declared.object.Element.{Element}
 use Rattle.aml_meaning.specs.State.{State}
 use Rattle.aml_meaning.specs.Given.{Given}
-use Rattle.aml_meaning.specs.Run.{Run, running}
+use Rattle.aml_meaning.specs.Run.{Run}
+use Rattle.aml_meaning.proofs.Runs.{running}
 use Rattle.aml_meaning.specs.Exporting.{each_exported, element_exported, elements_exported, package_exported}
 
 out_is : {S : Type 0} (accesses : Accesses S) (n o : ℕ) (s : State S × ℕ) → 0 < n → package_exported accesses n o s ≡ elements_exported accesses (package_exported accesses (n - 1)) o s

@@ -8,3 +8,4 @@ pub mod Imports
 pub mod Lifted
 pub mod Loops
 pub mod Meanings
+pub mod Runs

@@ -51,7 +51,13 @@ meaning_less accesses t s = (same_within accesses s.1 s.1 t s.0 s.1 (omega arith
 pub does_meaning : {S : Type 0} {r : Outcome Flow} {s s1 : State S × ℕ} (accesses : Accesses S) (t : Task) → Does r s1 (charge >> rule accesses (meaning accesses) t) s → Does r s1 (meaning accesses t) s
 does_meaning {s = s} accesses t h = record { is = λ ne. meaning_is accesses t s ∙ h.is ne }
 
--- a term that is not refused leaves fewer
+-- a term that begins leaves fewer, however it ends
+pub meaning_charged : {S : Type 0} (accesses : Accesses S) (t : Task) (s : State S × ℕ) → 0 < s.1 → (meaning accesses t s).1.1 < s.1
+unfolding meaning evaluated_within
+meaning_charged accesses t (w, zero) some = absurd (omega arith)
+meaning_charged accesses t (w, suc b) some = let l = (agree_rule accesses (evaluated_within accesses b) (meaning accesses) (bounded accesses b) t).less (w, b) (omega arith) in omega arith
+
+-- a term that is not refused began
 pub meaning_paid : {S : Type 0} (accesses : Accesses S) (t : Task) (s : State S × ℕ) (f : Flow) → (meaning accesses t s).0 ≡ Ok f → (meaning accesses t s).1.1 < s.1
 unfolding meaning evaluated_within
 meaning_paid accesses t (w, zero) f e = absurd (cc e)

@@ -1,8 +1,8 @@
 -- Loading a table, and what an object answers (ACPI 6.5, 5.4 and 5.5).
-use Rattle.std.specs.Prelude.{◌≡◌, ℕ, List, [], ◌∷◌, ◌++◌, length, replicate, Ok, Err, refl}
+use Rattle.std.specs.Prelude.{ℕ, List, [], length, replicate, Ok, Err}
 use Rattle.ar_space.specs.Accesses.{Accesses}
-use Rattle.ar_space.specs.Outcome.{Outcome, NotMemory, seen}
-use Rattle.ar_space.specs.Change.{Change, Does, give, settle, ◌>>=◌, ◌>>◌}
+use Rattle.ar_space.specs.Outcome.{Outcome, seen}
+use Rattle.ar_space.specs.Change.{Change, give, ◌>>=◌}
 use Rattle.aml_path.specs.declared.segment.Seg.{Seg}
 use Rattle.aml_grammar.specs.declared.arities.Arity.{Arity}
 use Rattle.aml_grammar.specs.Tree.{Tree, Trees}
@@ -17,7 +17,7 @@ use Rattle.aml_meaning.specs.declared.invocation.Invocation.{Invocation}
 use Rattle.aml_meaning.specs.declared.invocation.Invocation.TheVariants as invocation
 use Rattle.aml_meaning.specs.Given.{Given}
 use Rattle.aml_meaning.specs.State.{State}
-use Rattle.aml_meaning.specs.Run.{Run, lift, running}
+use Rattle.aml_meaning.specs.Run.{Run, lift}
 use Rattle.aml_meaning.specs.Slots.{opened, closed}
 use Rattle.aml_meaning.specs.Readings.{absolute}
 use Rattle.aml_meaning.specs.Tasks.{in_turn}
@@ -102,27 +102,3 @@ answer_exported accesses p count arguments = do
 
 unfoldable pub answered : {S : Type 0} → Accesses S → List Seg → List Given → ℕ → Change (State S) Given
 answered accesses p arguments steps = ending (with_steps steps (answer_exported accesses p (length arguments) arguments))
-
--- ---- however the evaluation ended
-
-pub does_ending : {S A : Type 0} {r : Outcome A} {w w1 : State S} (m : Change (State S) A) → Does r w1 m w → Does r (released w1) (ending m) w
-unfolding ending
-does_ending m h = record { is = λ ne. rw (h.is ne) refl }
-
-pub does_framed : {S A : Type 0} {r : Outcome A} {w w1 : State S} (m : Change (State S) A) → Does r w1 m w → Does r (closed w1) (framed m) w
-unfolding framed
-does_framed m h = record { is = λ ne. rw (h.is ne) refl }
-
-pub does_steps : {S A : Type 0} {r : Outcome A} {w w1 : State S} {rest : ℕ} (steps : ℕ) (m : Run S A) → Does r (w1, rest) m (w, steps) → Does r w1 (with_steps steps m) w
-unfolding with_steps
-does_steps steps m h = record { is = λ ne. rw (h.is ne) refl }
-
-counts : (r : Outcome Value) (rest : ℕ) → NotMemory (with_rest r rest) → NotMemory r
-counts (Ok v) rest ne = tt
-counts (Err e) rest ne = ne
-
-pub does_counted : {S : Type 0} {w w1 : State S} (r : Outcome Value) (rest steps : ℕ) (m : Run S Value) → Does r (w1, rest) m (w, steps) → Does (with_rest r rest) w1 (counted steps m) w
-unfolding counted
-does_counted r rest steps m h = record { is = λ ne. rw (h.is (counts r rest ne)) refl }
-
-pub ruleset calling = (running, does_ending, does_framed, does_steps, does_counted)

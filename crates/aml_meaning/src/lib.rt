@@ -23,6 +23,7 @@ mod readings;
 mod references;
 mod referents;
 mod regions;
+mod running;
 mod slots;
 mod store_target;
 mod stores;
@@ -41,6 +42,7 @@ pub use name_use::NameUse;
 pub use object_type::{ObjectType, Referent};
 pub use pci_functions::{Sought, adr, base_bus, segment_group};
 pub use regions::{RegionField, RegionSpace, integer_only, pci_space, space_numbered};
+pub use running::Running;
 pub use store_target::{Held, Holding, StoreTarget, Stored};
 pub use term_kind::{
     Count, DataKind, DeclarationKind, OneOperand, OperatorKind, RegionKind, StatementKind,

@@ -12,307 +12,307 @@ use Rattle.aml_meaning.specs.InvocationTerms.{arguments_in_turn}
 use Rattle.aml_interp.proofs.+evaluation.Given as goal
 
 abbrev pub decreases-terms::eval_term : goal.decreases-terms::eval_term
-decreases-terms::eval_term g l = 40 * (l.budget.now + (32 - l.depth)) + 0
+decreases-terms::eval_term g l = 40 * (l.run.now.1 + (32 - l.job.depth)) + 0
 
 abbrev pub decreases-terms::eval_value : goal.decreases-terms::eval_value
-decreases-terms::eval_value g l = 40 * (l.budget.now + (32 - l.depth)) + 1
+decreases-terms::eval_value g l = 40 * (l.run.now.1 + (32 - l.job.depth)) + 1
 
 abbrev pub decreases-terms::eval_list : goal.decreases-terms::eval_list
-decreases-terms::eval_list g l = 40 * (l.budget.now + (32 - l.depth)) + 1
+decreases-terms::eval_list g l = 40 * (l.run.now.1 + (32 - l.job.depth)) + 1
 
 abbrev pub decreases-terms::eval_value_at : goal.decreases-terms::eval_value_at
-decreases-terms::eval_value_at g l = 40 * (l.budget.now + (32 - l.depth)) + 2
+decreases-terms::eval_value_at g l = 40 * (l.run.now.1 + (32 - l.job.depth)) + 2
 
 abbrev pub decreases-terms::eval_operand_integer : goal.decreases-terms::eval_operand_integer
-decreases-terms::eval_operand_integer g l = 40 * (l.budget.now + (32 - l.depth)) + 2
+decreases-terms::eval_operand_integer g l = 40 * (l.run.now.1 + (32 - l.job.depth)) + 2
 
 abbrev pub decreases-terms::eval_two_values : goal.decreases-terms::eval_two_values
-decreases-terms::eval_two_values g l = 40 * (l.budget.now + (32 - l.depth)) + 3
+decreases-terms::eval_two_values g l = 40 * (l.run.now.1 + (32 - l.job.depth)) + 3
 
 abbrev pub decreases-data::valued_element : goal.decreases-data::valued_element
-decreases-data::valued_element g l = 40 * (l.budget.now + (32 - l.depth)) + 2
+decreases-data::valued_element g l = 40 * (l.run.now.1 + (32 - l.job.depth)) + 2
 
 abbrev pub decreases-data::eval_element : goal.decreases-data::eval_element
-decreases-data::eval_element g l = 40 * (l.budget.now + (32 - l.depth)) + 3
+decreases-data::eval_element g l = 40 * (l.run.now.1 + (32 - l.job.depth)) + 3
 
 abbrev pub decreases-data::eval_elements : goal.decreases-data::eval_elements
-decreases-data::eval_elements g l = 40 * (l.budget.now + (32 - l.depth)) + 4
+decreases-data::eval_elements g l = 40 * (l.run.now.1 + (32 - l.job.depth)) + 4
 
 abbrev pub decreases-data::package_of : goal.decreases-data::package_of
-decreases-data::package_of g l = 40 * (l.budget.now + (32 - l.depth)) + 5
+decreases-data::package_of g l = 40 * (l.run.now.1 + (32 - l.job.depth)) + 5
 
 abbrev pub decreases-data::eval_package : goal.decreases-data::eval_package
-decreases-data::eval_package g l = 40 * (l.budget.now + (32 - l.depth)) + 6
+decreases-data::eval_package g l = 40 * (l.run.now.1 + (32 - l.job.depth)) + 6
 
 abbrev pub decreases-data::eval_var_package : goal.decreases-data::eval_var_package
-decreases-data::eval_var_package g l = 40 * (l.budget.now + (32 - l.depth)) + 6
+decreases-data::eval_var_package g l = 40 * (l.run.now.1 + (32 - l.job.depth)) + 6
 
 abbrev pub decreases-data::eval_buffer : goal.decreases-data::eval_buffer
-decreases-data::eval_buffer g l = 40 * (l.budget.now + (32 - l.depth)) + 3
+decreases-data::eval_buffer g l = 40 * (l.run.now.1 + (32 - l.job.depth)) + 3
 
 abbrev pub decreases-data::eval_data : goal.decreases-data::eval_data
-decreases-data::eval_data g l = 40 * (l.budget.now + (32 - l.depth)) + 28
+decreases-data::eval_data g l = 40 * (l.run.now.1 + (32 - l.job.depth)) + 28
 
 abbrev pub decreases-declarations::eval_name : goal.decreases-declarations::eval_name
-decreases-declarations::eval_name g l = 40 * (l.budget.now + (32 - l.depth)) + 2
+decreases-declarations::eval_name g l = 40 * (l.run.now.1 + (32 - l.job.depth)) + 2
 
 abbrev pub decreases-declarations::eval_scope : goal.decreases-declarations::eval_scope
-decreases-declarations::eval_scope g l = 40 * (l.budget.now + (32 - l.depth)) + 2
+decreases-declarations::eval_scope g l = 40 * (l.run.now.1 + (32 - l.job.depth)) + 2
 
 abbrev pub decreases-declarations::eval_new_scope : goal.decreases-declarations::eval_new_scope
-decreases-declarations::eval_new_scope g l = 40 * (l.budget.now + (32 - l.depth)) + 2
+decreases-declarations::eval_new_scope g l = 40 * (l.run.now.1 + (32 - l.job.depth)) + 2
 
 abbrev pub decreases-declarations::eval_declaration : goal.decreases-declarations::eval_declaration
-decreases-declarations::eval_declaration g l = 40 * (l.budget.now + (32 - l.depth)) + 28
+decreases-declarations::eval_declaration g l = 40 * (l.run.now.1 + (32 - l.job.depth)) + 28
 
 abbrev pub decreases-targets::eval_referring : goal.decreases-targets::eval_referring
-decreases-targets::eval_referring g l = 40 * (l.budget.now + (32 - l.depth)) + 1
+decreases-targets::eval_referring g l = 40 * (l.run.now.1 + (32 - l.job.depth)) + 1
 
 abbrev pub decreases-targets::eval_inner_target : goal.decreases-targets::eval_inner_target
-decreases-targets::eval_inner_target g l = 40 * (l.budget.now + (32 - l.depth)) + 2
+decreases-targets::eval_inner_target g l = 40 * (l.run.now.1 + (32 - l.job.depth)) + 2
 
 abbrev pub decreases-targets::eval_target : goal.decreases-targets::eval_target
-decreases-targets::eval_target g l = 40 * (l.budget.now + (32 - l.depth)) + 3
+decreases-targets::eval_target g l = 40 * (l.run.now.1 + (32 - l.job.depth)) + 3
 
 abbrev pub decreases-targets::eval_targeted : goal.decreases-targets::eval_targeted
-decreases-targets::eval_targeted g l = 40 * (l.budget.now + (32 - l.depth)) + 26
+decreases-targets::eval_targeted g l = 40 * (l.run.now.1 + (32 - l.job.depth)) + 26
 
 abbrev pub decreases-operators::eval_store : goal.decreases-operators::eval_store
-decreases-operators::eval_store g l = 40 * (l.budget.now + (32 - l.depth)) + 27
+decreases-operators::eval_store g l = 40 * (l.run.now.1 + (32 - l.job.depth)) + 27
 
 abbrev pub decreases-operators::eval_copy : goal.decreases-operators::eval_copy
-decreases-operators::eval_copy g l = 40 * (l.budget.now + (32 - l.depth)) + 27
+decreases-operators::eval_copy g l = 40 * (l.run.now.1 + (32 - l.job.depth)) + 27
 
 abbrev pub decreases-operators::eval_two : goal.decreases-operators::eval_two
-decreases-operators::eval_two g l = 40 * (l.budget.now + (32 - l.depth)) + 27
+decreases-operators::eval_two g l = 40 * (l.run.now.1 + (32 - l.job.depth)) + 27
 
 abbrev pub decreases-operators::eval_divide : goal.decreases-operators::eval_divide
-decreases-operators::eval_divide g l = 40 * (l.budget.now + (32 - l.depth)) + 27
+decreases-operators::eval_divide g l = 40 * (l.run.now.1 + (32 - l.job.depth)) + 27
 
 abbrev pub decreases-operators::eval_one : goal.decreases-operators::eval_one
-decreases-operators::eval_one g l = 40 * (l.budget.now + (32 - l.depth)) + 27
+decreases-operators::eval_one g l = 40 * (l.run.now.1 + (32 - l.job.depth)) + 27
 
 abbrev pub decreases-operators::eval_test : goal.decreases-operators::eval_test
-decreases-operators::eval_test g l = 40 * (l.budget.now + (32 - l.depth)) + 5
+decreases-operators::eval_test g l = 40 * (l.run.now.1 + (32 - l.job.depth)) + 5
 
 abbrev pub decreases-operators::eval_not : goal.decreases-operators::eval_not
-decreases-operators::eval_not g l = 40 * (l.budget.now + (32 - l.depth)) + 5
+decreases-operators::eval_not g l = 40 * (l.run.now.1 + (32 - l.job.depth)) + 5
 
 abbrev pub decreases-operators::eval_count : goal.decreases-operators::eval_count
-decreases-operators::eval_count g l = 40 * (l.budget.now + (32 - l.depth)) + 27
+decreases-operators::eval_count g l = 40 * (l.run.now.1 + (32 - l.job.depth)) + 27
 
 abbrev pub decreases-operators::eval_size : goal.decreases-operators::eval_size
-decreases-operators::eval_size g l = 40 * (l.budget.now + (32 - l.depth)) + 26
+decreases-operators::eval_size g l = 40 * (l.run.now.1 + (32 - l.job.depth)) + 26
 
 abbrev pub decreases-operators::eval_type : goal.decreases-operators::eval_type
-decreases-operators::eval_type g l = 40 * (l.budget.now + (32 - l.depth)) + 26
+decreases-operators::eval_type g l = 40 * (l.run.now.1 + (32 - l.job.depth)) + 26
 
 abbrev pub decreases-operators::eval_acquire : goal.decreases-operators::eval_acquire
-decreases-operators::eval_acquire g l = 40 * (l.budget.now + (32 - l.depth)) + 5
+decreases-operators::eval_acquire g l = 40 * (l.run.now.1 + (32 - l.job.depth)) + 5
 
 abbrev pub decreases-operators::eval_operator : goal.decreases-operators::eval_operator
-decreases-operators::eval_operator g l = 40 * (l.budget.now + (32 - l.depth)) + 28
+decreases-operators::eval_operator g l = 40 * (l.run.now.1 + (32 - l.job.depth)) + 28
 
 abbrev pub decreases-statements::eval_otherwise : goal.decreases-statements::eval_otherwise
-decreases-statements::eval_otherwise g l = 40 * (l.budget.now + (32 - l.depth)) + 1
+decreases-statements::eval_otherwise g l = 40 * (l.run.now.1 + (32 - l.job.depth)) + 1
 
 abbrev pub decreases-statements::eval_branch : goal.decreases-statements::eval_branch
-decreases-statements::eval_branch g l = 40 * (l.budget.now + (32 - l.depth)) + 2
+decreases-statements::eval_branch g l = 40 * (l.run.now.1 + (32 - l.job.depth)) + 2
 
 abbrev pub decreases-statements::eval_if : goal.decreases-statements::eval_if
-decreases-statements::eval_if g l = 40 * (l.budget.now + (32 - l.depth)) + 3
+decreases-statements::eval_if g l = 40 * (l.run.now.1 + (32 - l.job.depth)) + 3
 
 abbrev pub decreases-statements::eval_else : goal.decreases-statements::eval_else
-decreases-statements::eval_else g l = 40 * (l.budget.now + (32 - l.depth)) + 2
+decreases-statements::eval_else g l = 40 * (l.run.now.1 + (32 - l.job.depth)) + 2
 
 abbrev pub decreases-statements::eval_turn_of : goal.decreases-statements::eval_turn_of
-decreases-statements::eval_turn_of g l = 40 * (l.budget.now + (32 - l.depth)) + 2
+decreases-statements::eval_turn_of g l = 40 * (l.run.now.1 + (32 - l.job.depth)) + 2
 
 abbrev pub decreases-statements::eval_turn : goal.decreases-statements::eval_turn
-decreases-statements::eval_turn g l = 40 * (l.budget.now + (32 - l.depth)) + 3
+decreases-statements::eval_turn g l = 40 * (l.run.now.1 + (32 - l.job.depth)) + 3
 
 abbrev pub decreases-statements::eval_loop : goal.decreases-statements::eval_loop
-decreases-statements::eval_loop g l = 40 * (l.budget.now + (32 - l.depth)) + 4
+decreases-statements::eval_loop g l = 40 * (l.run.now.1 + (32 - l.job.depth)) + 4
 
 abbrev pub decreases-statements::eval_while : goal.decreases-statements::eval_while
-decreases-statements::eval_while g l = 40 * (l.budget.now + (32 - l.depth)) + 5
+decreases-statements::eval_while g l = 40 * (l.run.now.1 + (32 - l.job.depth)) + 5
 
 abbrev pub decreases-statements::eval_return : goal.decreases-statements::eval_return
-decreases-statements::eval_return g l = 40 * (l.budget.now + (32 - l.depth)) + 3
+decreases-statements::eval_return g l = 40 * (l.run.now.1 + (32 - l.job.depth)) + 3
 
 abbrev pub decreases-statements::eval_release : goal.decreases-statements::eval_release
-decreases-statements::eval_release g l = 40 * (l.budget.now + (32 - l.depth)) + 4
+decreases-statements::eval_release g l = 40 * (l.run.now.1 + (32 - l.job.depth)) + 4
 
 abbrev pub decreases-statements::eval_notify : goal.decreases-statements::eval_notify
-decreases-statements::eval_notify g l = 40 * (l.budget.now + (32 - l.depth)) + 4
+decreases-statements::eval_notify g l = 40 * (l.run.now.1 + (32 - l.job.depth)) + 4
 
 abbrev pub decreases-statements::eval_pause : goal.decreases-statements::eval_pause
-decreases-statements::eval_pause g l = 40 * (l.budget.now + (32 - l.depth)) + 3
+decreases-statements::eval_pause g l = 40 * (l.run.now.1 + (32 - l.job.depth)) + 3
 
 abbrev pub decreases-statements::eval_fatal : goal.decreases-statements::eval_fatal
-decreases-statements::eval_fatal g l = 40 * (l.budget.now + (32 - l.depth)) + 3
+decreases-statements::eval_fatal g l = 40 * (l.run.now.1 + (32 - l.job.depth)) + 3
 
 abbrev pub decreases-statements::eval_statement : goal.decreases-statements::eval_statement
-decreases-statements::eval_statement g l = 40 * (l.budget.now + (32 - l.depth)) + 28
+decreases-statements::eval_statement g l = 40 * (l.run.now.1 + (32 - l.job.depth)) + 28
 
 abbrev pub decreases-invocations::eval_body : goal.decreases-invocations::eval_body
-decreases-invocations::eval_body g l = 40 * (l.budget.now + (32 - l.depth)) + 2
+decreases-invocations::eval_body g l = 40 * (l.run.now.1 + (32 - l.depth)) + 2
 
 abbrev pub decreases-invocations::eval_invoked : goal.decreases-invocations::eval_invoked
-decreases-invocations::eval_invoked g l = 40 * (l.budget.now + (32 - l.depth)) + 3
+decreases-invocations::eval_invoked g l = 40 * (l.run.now.1 + (32 - l.depth)) + 3
 
 abbrev pub decreases-invocations::eval_arguments : goal.decreases-invocations::eval_arguments
-decreases-invocations::eval_arguments g l = 40 * (l.budget.now + (32 - l.depth)) + 2
+decreases-invocations::eval_arguments g l = 40 * (l.run.now.1 + (32 - l.job.depth)) + 2
 
 abbrev pub decreases-invocations::eval_call : goal.decreases-invocations::eval_call
-decreases-invocations::eval_call g l = 40 * (l.budget.now + (32 - l.depth)) + 4
+decreases-invocations::eval_call g l = 40 * (l.run.now.1 + (32 - l.job.depth)) + 4
 
 abbrev pub decreases-invocations::eval_invocation : goal.decreases-invocations::eval_invocation
-decreases-invocations::eval_invocation g l = 40 * (l.budget.now + (32 - l.depth)) + 25
+decreases-invocations::eval_invocation g l = 40 * (l.run.now.1 + (32 - l.job.depth)) + 25
 
 abbrev pub decreases-invocations::eval_name_value : goal.decreases-invocations::eval_name_value
-decreases-invocations::eval_name_value g l = 40 * (l.budget.now + (32 - l.depth)) + 26
+decreases-invocations::eval_name_value g l = 40 * (l.run.now.1 + (32 - l.job.depth)) + 26
 
 abbrev pub decreases-invocations::eval_method_value : goal.decreases-invocations::eval_method_value
-decreases-invocations::eval_method_value g l = 40 * (l.budget.now + (32 - l.depth)) + 4
+decreases-invocations::eval_method_value g l = 40 * (l.run.now.1 + (32 - l.depth)) + 4
 
 abbrev pub decreases-invocations::eval_field : goal.decreases-invocations::eval_field
-decreases-invocations::eval_field g l = 40 * (l.budget.now + (32 - l.depth)) + 24
+decreases-invocations::eval_field g l = 40 * (l.run.now.1 + (32 - l.depth)) + 24
 
 abbrev pub decreases-field_calls::eval_answer_over : goal.decreases-field_calls::eval_answer_over
-decreases-field_calls::eval_answer_over g l = 40 * (l.budget.now + l.calls + 1) + 6
+decreases-field_calls::eval_answer_over g l = 40 * (l.run.now.1 + l.calls + 1) + 6
 
 abbrev pub decreases-field_calls::eval_answer : goal.decreases-field_calls::eval_answer
-decreases-field_calls::eval_answer g l = 40 * (l.budget.now + l.calls) + 7
+decreases-field_calls::eval_answer g l = 40 * (l.run.now.1 + l.calls) + 7
 
 abbrev pub decreases-field_calls::eval_asked : goal.decreases-field_calls::eval_asked
-decreases-field_calls::eval_asked g l = 40 * (l.budget.now + l.calls) + 8
+decreases-field_calls::eval_asked g l = 40 * (l.run.now.1 + l.calls) + 8
 
 abbrev pub decreases-fields::eval_part_below : goal.decreases-fields::eval_part_below
-decreases-fields::eval_part_below g l = 40 * (l.budget.now + l.calls) + 9
+decreases-fields::eval_part_below g l = 40 * (l.run.now.1 + l.calls) + 9
 
 abbrev pub decreases-fields::eval_part_in : goal.decreases-fields::eval_part_in
-decreases-fields::eval_part_in g l = 40 * (l.budget.now + l.calls) + 10
+decreases-fields::eval_part_in g l = 40 * (l.run.now.1 + l.calls) + 10
 
 abbrev pub decreases-fields::eval_inherited : goal.decreases-fields::eval_inherited
-decreases-fields::eval_inherited g l = 40 * (l.budget.now + l.calls) + 11
+decreases-fields::eval_inherited g l = 40 * (l.run.now.1 + l.calls) + 11
 
 abbrev pub decreases-fields::eval_pci_address : goal.decreases-fields::eval_pci_address
-decreases-fields::eval_pci_address g l = 40 * (l.budget.now + l.calls) + 12
+decreases-fields::eval_pci_address g l = 40 * (l.run.now.1 + l.calls) + 12
 
 abbrev pub decreases-fields::eval_space_at : goal.decreases-fields::eval_space_at
-decreases-fields::eval_space_at g l = 40 * (l.budget.now + l.calls) + 13
+decreases-fields::eval_space_at g l = 40 * (l.run.now.1 + l.calls) + 13
 
 abbrev pub decreases-fields::eval_located : goal.decreases-fields::eval_located
-decreases-fields::eval_located g l = 40 * (l.budget.now + l.calls) + 14
+decreases-fields::eval_located g l = 40 * (l.run.now.1 + l.calls) + 14
 
 abbrev pub decreases-fields::eval_region_bits : goal.decreases-fields::eval_region_bits
-decreases-fields::eval_region_bits g l = 40 * (l.budget.now + l.calls) + 15
+decreases-fields::eval_region_bits g l = 40 * (l.run.now.1 + l.calls) + 15
 
 abbrev pub decreases-fields::eval_region_written : goal.decreases-fields::eval_region_written
-decreases-fields::eval_region_written g l = 40 * (l.budget.now + l.calls) + 15
+decreases-fields::eval_region_written g l = 40 * (l.run.now.1 + l.calls) + 15
 
 abbrev pub decreases-index_fields::eval_index_unit : goal.decreases-index_fields::eval_index_unit
-decreases-index_fields::eval_index_unit g l = 40 * (l.budget.now + l.calls) + 16
+decreases-index_fields::eval_index_unit g l = 40 * (l.run.now.1 + l.calls) + 16
 
 abbrev pub decreases-index_fields::eval_index_kept : goal.decreases-index_fields::eval_index_kept
-decreases-index_fields::eval_index_kept g l = 40 * (l.budget.now + l.calls) + 17
+decreases-index_fields::eval_index_kept g l = 40 * (l.run.now.1 + l.calls) + 17
 
 abbrev pub decreases-index_fields::eval_index_unit_written : goal.decreases-index_fields::eval_index_unit_written
-decreases-index_fields::eval_index_unit_written g l = 40 * (l.budget.now + l.calls) + 18
+decreases-index_fields::eval_index_unit_written g l = 40 * (l.run.now.1 + l.calls) + 18
 
 abbrev pub decreases-index_fields::eval_index_reads : goal.decreases-index_fields::eval_index_reads
-decreases-index_fields::eval_index_reads g l = 40 * (l.budget.now + l.calls) + 19
+decreases-index_fields::eval_index_reads g l = 40 * (l.run.now.1 + l.calls) + 19
 
 abbrev pub decreases-index_fields::eval_index_writes : goal.decreases-index_fields::eval_index_writes
-decreases-index_fields::eval_index_writes g l = 40 * (l.budget.now + l.calls) + 19
+decreases-index_fields::eval_index_writes g l = 40 * (l.run.now.1 + l.calls) + 19
 
 abbrev pub decreases-index_fields::eval_index_bits : goal.decreases-index_fields::eval_index_bits
-decreases-index_fields::eval_index_bits g l = 40 * (l.budget.now + l.calls) + 20
+decreases-index_fields::eval_index_bits g l = 40 * (l.run.now.1 + l.calls) + 20
 
 abbrev pub decreases-index_fields::eval_index_written : goal.decreases-index_fields::eval_index_written
-decreases-index_fields::eval_index_written g l = 40 * (l.budget.now + l.calls) + 20
+decreases-index_fields::eval_index_written g l = 40 * (l.run.now.1 + l.calls) + 20
 
 abbrev pub decreases-fields::eval_bits_in : goal.decreases-fields::eval_bits_in
-decreases-fields::eval_bits_in g l = 40 * (l.budget.now + l.calls) + 21
+decreases-fields::eval_bits_in g l = 40 * (l.run.now.1 + l.calls) + 21
 
 abbrev pub decreases-fields::eval_written_in : goal.decreases-fields::eval_written_in
-decreases-fields::eval_written_in g l = 40 * (l.budget.now + l.calls) + 21
+decreases-fields::eval_written_in g l = 40 * (l.run.now.1 + l.calls) + 21
 
 abbrev pub decreases-fields::eval_field_value : goal.decreases-fields::eval_field_value
-decreases-fields::eval_field_value g l = 40 * (l.budget.now + l.calls) + 22
+decreases-fields::eval_field_value g l = 40 * (l.run.now.1 + l.calls) + 22
 
 abbrev pub decreases-fields::eval_field_stored : goal.decreases-fields::eval_field_stored
-decreases-fields::eval_field_stored g l = 40 * (l.budget.now + l.calls) + 22
+decreases-fields::eval_field_stored g l = 40 * (l.run.now.1 + l.calls) + 22
 
 abbrev pub decreases-field_calls::eval_field_read : goal.decreases-field_calls::eval_field_read
-decreases-field_calls::eval_field_read g l = 40 * (l.budget.now + (32 - l.depth)) + 23
+decreases-field_calls::eval_field_read g l = 40 * (l.run.now.1 + (32 - l.depth)) + 23
 
 abbrev pub decreases-field_calls::eval_held : goal.decreases-field_calls::eval_held
-decreases-field_calls::eval_held g l = 40 * (l.budget.now + (32 - l.depth)) + 24
+decreases-field_calls::eval_held g l = 40 * (l.run.now.1 + (32 - l.depth)) + 24
 
 abbrev pub decreases-fields::eval_field_referent : goal.decreases-fields::eval_field_referent
-decreases-fields::eval_field_referent g l = 40 * (l.budget.now + l.calls) + 22
+decreases-fields::eval_field_referent g l = 40 * (l.run.now.1 + l.calls) + 22
 
 abbrev pub decreases-field_calls::eval_referent : goal.decreases-field_calls::eval_referent
-decreases-field_calls::eval_referent g l = 40 * (l.budget.now + (32 - l.depth)) + 25
+decreases-field_calls::eval_referent g l = 40 * (l.run.now.1 + (32 - l.depth)) + 25
 
 abbrev pub decreases-field_calls::eval_completed : goal.decreases-field_calls::eval_completed
-decreases-field_calls::eval_completed g l = 40 * (l.budget.now + (32 - l.depth)) + 24
+decreases-field_calls::eval_completed g l = 40 * (l.run.now.1 + (32 - l.depth)) + 24
 
 abbrev pub decreases-regions::eval_region : goal.decreases-regions::eval_region
-decreases-regions::eval_region g l = 40 * (l.budget.now + (32 - l.depth)) + 5
+decreases-regions::eval_region g l = 40 * (l.run.now.1 + (32 - l.job.depth)) + 5
 
 abbrev pub decreases-regions::eval_region_term : goal.decreases-regions::eval_region_term
-decreases-regions::eval_region_term g l = 40 * (l.budget.now + (32 - l.depth)) + 28
+decreases-regions::eval_region_term g l = 40 * (l.run.now.1 + (32 - l.job.depth)) + 28
 
 abbrev pub decreases-field_calls::eval_method_integer : goal.decreases-field_calls::eval_method_integer
-decreases-field_calls::eval_method_integer g l = 40 * (l.budget.now + (32 - l.depth)) + 5
+decreases-field_calls::eval_method_integer g l = 40 * (l.run.now.1 + (32 - l.depth)) + 5
 
 abbrev pub decreases-fields::eval_field_integer : goal.decreases-fields::eval_field_integer
-decreases-fields::eval_field_integer g l = 40 * (l.budget.now + l.calls) + 22
+decreases-fields::eval_field_integer g l = 40 * (l.run.now.1 + l.calls) + 22
 
 abbrev pub decreases-fields::eval_field_part : goal.decreases-fields::eval_field_part
-decreases-fields::eval_field_part g l = 40 * (l.budget.now + l.calls) + 22
+decreases-fields::eval_field_part g l = 40 * (l.run.now.1 + l.calls) + 22
 
 abbrev pub decreases-field_calls::eval_stored_to : goal.decreases-field_calls::eval_stored_to
-decreases-field_calls::eval_stored_to g l = 40 * (l.budget.now + (32 - l.depth)) + 25
+decreases-field_calls::eval_stored_to g l = 40 * (l.run.now.1 + (32 - l.depth)) + 25
 
 abbrev pub decreases-field_calls::eval_stored_back : goal.decreases-field_calls::eval_stored_back
-decreases-field_calls::eval_stored_back g l = 40 * (l.budget.now + (32 - l.depth)) + 26
+decreases-field_calls::eval_stored_back g l = 40 * (l.run.now.1 + (32 - l.depth)) + 26
 
 abbrev pub decreases-terms::eval_kind : goal.decreases-terms::eval_kind
-decreases-terms::eval_kind g l = 40 * (l.budget.now + (32 - l.depth)) + 29
+decreases-terms::eval_kind g l = 40 * (l.run.now.1 + (32 - l.job.depth)) + 29
 
 abbrev pub decreases-terms::eval_code : goal.decreases-terms::eval_code
-decreases-terms::eval_code g l = 40 * (l.budget.now + (32 - l.depth)) + 30
+decreases-terms::eval_code g l = 40 * (l.run.now.1 + (32 - l.job.depth)) + 30
 
 abbrev pub invariant-terms::eval_list-items : goal.invariant-terms::eval_list-items
-invariant-terms::eval_list-items g l = (l.budget ≤ l.fn.budget) × Same (in_turn (meaning g.S.Space.accesses) l.fn.scope l.fn.depth (part_list l.fn.list)) (l.fn.world, l.fn.budget) (in_turn (meaning g.S.Space.accesses) l.fn.scope l.fn.depth (part_list l.rest)) (l.world, l.budget)
+invariant-terms::eval_list-items g l = (l.run.1 ≤ l.fn.run.1) × Same (in_turn (meaning g.S.Space.accesses) l.fn.job.scope.now l.fn.job.depth (part_list l.fn.job.term)) l.fn.run (in_turn (meaning g.S.Space.accesses) l.fn.job.scope.now l.fn.job.depth (part_list l.rest)) l.run
 
 abbrev pub decreases-terms::eval_list-items : goal.decreases-terms::eval_list-items
-decreases-terms::eval_list-items g l = l.budget
+decreases-terms::eval_list-items g l = l.run.1
 
 abbrev pub invariant-data::eval_elements-items : goal.invariant-data::eval_elements-items
-invariant-data::eval_elements-items g l = (l.budget ≤ l.fn.budget) × Same (elements_in_turn (meaning g.S.Space.accesses) l.fn.scope l.fn.depth l.fn.count (part_list l.fn.list) []) (l.fn.world, l.fn.budget) (elements_in_turn (meaning g.S.Space.accesses) l.fn.scope l.fn.depth l.left (part_list l.rest) l.elements) (l.world, l.budget)
+invariant-data::eval_elements-items g l = (l.run.1 ≤ l.fn.run.1) × Same (elements_in_turn (meaning g.S.Space.accesses) l.fn.job.scope.now l.fn.job.depth l.fn.count (part_list l.fn.job.term) []) l.fn.run (elements_in_turn (meaning g.S.Space.accesses) l.fn.job.scope.now l.fn.job.depth l.left (part_list l.rest) l.elements) l.run
 
 abbrev pub decreases-data::eval_elements-items : goal.decreases-data::eval_elements-items
 decreases-data::eval_elements-items g l = l.left
 
 abbrev pub invariant-invocations::eval_arguments-items : goal.invariant-invocations::eval_arguments-items
-invariant-invocations::eval_arguments-items g l = (l.budget ≤ l.fn.budget) × Same (arguments_in_turn (meaning g.S.Space.accesses) l.fn.scope l.fn.depth (part_list l.fn.arguments) []) (l.fn.world, l.fn.budget) (arguments_in_turn (meaning g.S.Space.accesses) l.fn.scope l.fn.depth (part_list l.rest) l.values.items) (l.world, l.budget)
+invariant-invocations::eval_arguments-items g l = (l.run.1 ≤ l.fn.run.1) × Same (arguments_in_turn (meaning g.S.Space.accesses) l.fn.job.scope.now l.fn.job.depth (part_list l.fn.job.term) []) l.fn.run (arguments_in_turn (meaning g.S.Space.accesses) l.fn.job.scope.now l.fn.job.depth (part_list l.rest) l.values.items) l.run
 
 abbrev pub decreases-invocations::eval_arguments-items : goal.decreases-invocations::eval_arguments-items
-decreases-invocations::eval_arguments-items g l = l.budget
+decreases-invocations::eval_arguments-items g l = l.run.1
 
 abbrev pub invariant-statements::eval_loop-turns : goal.invariant-statements::eval_loop-turns
-invariant-statements::eval_loop-turns g l = (l.budget ≤ l.fn.budget) × Same (loop (meaning g.S.Space.accesses) l.fn.scope l.fn.depth (part_tree l.fn.condition) (part_list l.fn.items)) (l.fn.world, l.fn.budget) (loop (meaning g.S.Space.accesses) l.fn.scope l.fn.depth (part_tree l.fn.condition) (part_list l.fn.items)) (l.world, l.budget)
+invariant-statements::eval_loop-turns g l = (l.run.1 ≤ l.fn.run.1) × Same (loop (meaning g.S.Space.accesses) l.fn.job.scope.now l.fn.job.depth (part_tree l.fn.job.term) (part_list l.fn.items)) l.fn.run (loop (meaning g.S.Space.accesses) l.fn.job.scope.now l.fn.job.depth (part_tree l.fn.job.term) (part_list l.fn.items)) l.run
 
 abbrev pub decreases-statements::eval_loop-turns : goal.decreases-statements::eval_loop-turns
-decreases-statements::eval_loop-turns g l = l.budget
+decreases-statements::eval_loop-turns g l = l.run.1
 
 abbrev pub invariant-index_fields::eval_index_reads-loop-unit : goal.invariant-index_fields::eval_index_reads-loop-unit
-invariant-index_fields::eval_index_reads-loop-unit g l = (l.budget ≤ l.fn.budget) × Reading (index_unit g.S.Space.accesses (asked (answer_within g.S.Space.accesses (meaning g.S.Space.accesses) l.calls)) l.index l.behind l.field.access) l.field (l.fn.world, l.fn.budget) l.bits.items l.unit-iterator (l.world, l.budget)
+invariant-index_fields::eval_index_reads-loop-unit g l = (l.run.1 ≤ l.fn.run.1) × Reading (index_unit g.S.Space.accesses (asked (answer_within g.S.Space.accesses (meaning g.S.Space.accesses) l.calls)) l.index l.behind l.field.access) l.field l.fn.run l.bits.items l.unit-iterator l.run
 
 abbrev pub invariant-index_fields::eval_index_writes-loop-unit : goal.invariant-index_fields::eval_index_writes-loop-unit
-invariant-index_fields::eval_index_writes-loop-unit g l = (l.budget ≤ l.fn.budget) × Writing (index_unit_written g.S.Space.accesses (asked (answer_within g.S.Space.accesses (meaning g.S.Space.accesses) l.calls)) l.index l.behind l.field l.source) l.field (l.fn.world, l.fn.budget) l.unit-iterator (l.world, l.budget)
+invariant-index_fields::eval_index_writes-loop-unit g l = (l.run.1 ≤ l.fn.run.1) × Writing (index_unit_written g.S.Space.accesses (asked (answer_within g.S.Space.accesses (meaning g.S.Space.accesses) l.calls)) l.index l.behind l.field l.source) l.field l.fn.run l.unit-iterator l.run

@@ -29,4 +29,4 @@ abbrev pub decreases-use_exported : goal.decreases-use_exported
 decreases-use_exported g l = 9 * l.levels + 3
 
 abbrev pub invariant-each_exported-loop-element : goal.invariant-each_exported-loop-element
-invariant-each_exported-loop-element g l = Same (each_exported g.S.Space.accesses (package_exported g.S.Space.accesses l.levels) l.elements []) (l.fn.world, l.fn.budget) (each_exported g.S.Space.accesses (package_exported g.S.Space.accesses l.levels) (drop l.element-index l.elements) (map given_of l.done.items)) (l.world, l.budget)
+invariant-each_exported-loop-element g l = Same (each_exported g.S.Space.accesses (package_exported g.S.Space.accesses l.levels) l.elements []) l.fn.run (each_exported g.S.Space.accesses (package_exported g.S.Space.accesses l.levels) (drop l.element-index l.elements) (map given_of l.done.items)) l.run
