@@ -92,7 +92,7 @@ impl<S: Space> Machine<S> {
         ensures answer { Does result self.new (texts_kept texts.items) self.old }
         ensures memory { NotMemory result }
     {
-        self.running.world.set_osi(texts);
+        self.world.set_osi(texts);
         Ok(())
     }
 
@@ -179,7 +179,7 @@ impl<S: Space> Machine<S> {
     fn stands(&self, path: &Path) -> bool
         ensures { result ≡ contains_key self.now.world.names.map path.now }
     {
-        self.running.world.names().get(path).is_some()
+        self.world.names().get(path).is_some()
     }
 
     #[tactic(auto, using(crate::specs::Noticing::worlds))]
@@ -191,7 +191,7 @@ impl<S: Space> Machine<S> {
     ) -> Result<Datum, Refusal>
         ensures { Does (seen given_of result) self.new (object_answered S.accesses path.now (map given_of arguments.items)) self.old }
     {
-        answer(alloc, &mut self.running, path, arguments, self.steps)
+        answer(alloc, &mut self.world, path, arguments, self.steps)
     }
 }
 

@@ -10,7 +10,7 @@ ghost use Rattle.acpi_machine.specs.Loading.{few_texts, each_loaded, all_loaded,
 
 use crate::machine::Machine;
 use aml_interp::load;
-use aml_meaning::{Running, World};
+use aml_meaning::World;
 use aml_objects::Octets;
 use ar_space::{EvaluationFault, Refusal, Space};
 use ar_tables::{Mode, Table, Tables};
@@ -40,20 +40,19 @@ pub fn load_tables<S: Space>(
         Ok(()) => {}
         Err(refusal) => return Err((refusal, space)),
     }
-    let world = match World::new(alloc, tables.width, osi, space) {
+    let mut world = match World::new(alloc, tables.width, osi, space) {
         Ok(world) => world,
         Err(refused) => return Err(refused),
     };
-    let mut running = Running { world, steps };
-    match load_all(alloc, &mut running, &tables, steps) {
+    match load_all(alloc, &mut world, &tables, steps) {
         Ok(()) => Ok(Machine {
-            running,
+            world,
             tables,
             mode: Mode::Apic,
             steps,
             spent: false,
         }),
-        Err(refusal) => Err((refusal, running.world.into_space())),
+        Err(refusal) => Err((refusal, world.into_space())),
     }
 }
 
@@ -73,28 +72,28 @@ pub(crate) fn few_texts(texts: &[Octets]) -> Result<(), Refusal>
 #[tactic(auto, using(ar_space::specs::Change::changing), unfolding(crate::specs::Loading::all_loaded))]
 fn load_all<S: Space>(
     alloc: Global,
-    running: &mut Running<S>,
+    world: &mut World<S>,
     tables: &Tables,
     steps: u64,
 ) -> Result<(), Refusal>
-    ensures { Does result running.new.0 (all_loaded S.accesses tables.now steps) running.old.0 }
+    ensures { Does result world.new (all_loaded S.accesses tables.now steps) world.old }
 {
-    load_table(alloc, running, &tables.dsdt, steps)?;
-    load_each(alloc, running, tables.ssdts.as_slice(), steps)
+    load_table(alloc, world, &tables.dsdt, steps)?;
+    load_each(alloc, world, tables.ssdts.as_slice(), steps)
 }
 
 /// Loads each of some tables.
 #[tactic(auto, using(ar_space::specs::Change::changing, crate::specs::Loading::loading))]
 fn load_each<S: Space>(
     alloc: Global,
-    running: &mut Running<S>,
+    world: &mut World<S>,
     tables: &[Table],
     steps: u64,
 ) -> Result<(), Refusal>
-    ensures { Does result running.new.0 (each_loaded S.accesses steps tables.now) running.old.0 }
+    ensures { Does result world.new (each_loaded S.accesses steps tables.now) world.old }
 {
     for table in tables {
-        load_table(alloc, running, table, steps)?;
+        load_table(alloc, world, table, steps)?;
     }
     Ok(())
 }
@@ -103,11 +102,11 @@ fn load_each<S: Space>(
 #[tactic(auto, unfolding(crate::specs::Loading::table_loaded))]
 fn load_table<S: Space>(
     alloc: Global,
-    running: &mut Running<S>,
+    world: &mut World<S>,
     table: &Table,
     steps: u64,
 ) -> Result<(), Refusal>
-    ensures { Does result running.new.0 (table_loaded S.accesses steps table.now) running.old.0 }
+    ensures { Does result world.new (table_loaded S.accesses steps table.now) world.old }
 {
-    load(alloc, running, table.body(), steps)
+    load(alloc, world, table.body(), steps)
 }

@@ -1,7 +1,7 @@
 //! A machine, and what it shows without evaluating.
 ghost use Rattle.std.specs.Prelude.{◌≡◌, option_map};
 
-use aml_meaning::Running;
+use aml_meaning::World;
 use ar_space::Space;
 use ar_tables::{Madt, Mode, Tables};
 use std::marker::Model;
@@ -13,7 +13,7 @@ use std::marker::Model;
 /// `&self` still return, but nothing is promised of what they show.
 #[derive(Drop)]
 pub struct Machine<S> {
-    pub(crate) running: Running<S>,
+    pub(crate) world: World<S>,
     pub(crate) tables: Tables,
     pub(crate) mode: Mode,
     pub(crate) steps: u64,
@@ -27,7 +27,7 @@ impl<S> Model for Machine<S> {
 
     ghost coded = { machine_code S.code };
 
-    ghost view = { λ m. record { world = m.running.0; tables = m.tables; mode = m.mode; steps = m.steps; spent = m.spent } };
+    ghost view = { λ m. record { world = m.world; tables = m.tables; mode = m.mode; steps = m.steps; spent = m.spent } };
 }
 
 impl<S: Space> Machine<S> {
@@ -52,6 +52,6 @@ impl<S: Space> Machine<S> {
     pub fn space(&self) -> &S
         ensures { result.now ≡ self.now.world.space }
     {
-        self.running.world.space()
+        self.world.space()
     }
 }

@@ -16,7 +16,7 @@ impl<S: Space> Machine<S> {
     pub fn find_node(&self, path: &Path) -> Option<Kind<'_>>
         ensures { option_map kind_seen result ≡ kind_at self.now.world.names.map path.now }
     {
-        kind_at(self.running.world.names(), path)
+        kind_at(self.world.names(), path)
     }
 
     /// All names but the root, in path order, and what stands there. An alias is shown, and not followed.
@@ -24,7 +24,7 @@ impl<S: Space> Machine<S> {
     pub fn walk_namespace(&self, alloc: Global) -> Result<Vec<(Path, Kind<'_>)>, Refusal>
         ensures { Answers (seen (λ list. map (λ node. (node.0, kind_seen node.1)) list.items) result) (Ok (kinds_walked self.now.world.names.map)) }
     {
-        let names = self.running.world.names();
+        let names = self.world.names();
         with_kinds(alloc, names, names.walk(alloc)?)
     }
 }

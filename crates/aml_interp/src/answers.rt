@@ -10,7 +10,7 @@ ghost use Rattle.aml_meaning.specs.Calling.{called, counted, evaluated, with_res
 use crate::export::exported;
 use crate::field_calls::eval_field_read;
 use crate::invocations::eval_method_value;
-use aml_meaning::{Datum, Invocation, Running, World};
+use aml_meaning::{Datum, Invocation, Running, World, WorldState};
 use aml_objects::Value;
 use aml_path::{NameString, Path, Prefix};
 use ar_space::{Refusal, Space};
@@ -25,13 +25,14 @@ use std::alloc::Global;
 #[tactic(auto, using(aml_meaning::proofs::Runs::calling), unfolding(aml_meaning::specs::Calling::evaluated))]
 pub fn eval<S: Space>(
     alloc: Global,
-    run: &mut Running<S>,
+    world: &mut World<S>,
     path: &Path,
     arguments: Vec<Value>,
     budget: u64,
 ) -> Result<(Value, u64), Refusal>
-    ensures { Does result run.new.0 (evaluated S.accesses path.now arguments.items budget) run.old.0 }
+    ensures { Does result world.new (evaluated S.accesses path.now arguments.items budget) world.old }
 {
+    let run = &mut world.running;
     run.steps = budget;
     let value = call(alloc, run, path, &arguments);
     with_rest(value, run.steps)
@@ -54,13 +55,14 @@ fn with_rest(value: Result<Value, Refusal>, rest: u64) -> Result<(Value, u64), R
 #[tactic(auto, using(crate::proofs::Steps::answering))]
 pub fn answer<S: Space>(
     alloc: Global,
-    run: &mut Running<S>,
+    world: &mut World<S>,
     path: &Path,
     arguments: Vec<Datum>,
     budget: u64,
 ) -> Result<Datum, Refusal>
-    ensures { Does (seen given_of result) run.new.0 (answered S.accesses path.now (map given_of arguments.items) budget) run.old.0 }
+    ensures { Does (seen given_of result) world.new (answered S.accesses path.now (map given_of arguments.items) budget) world.old }
 {
+    let run = &mut world.running;
     let outcome = with_steps(alloc, run, path, &arguments, budget);
     run.world.release_mutexes();
     outcome
@@ -112,7 +114,7 @@ fn call<S: Space>(
 /// What the object at a path is that is asked for with so many arguments.
 pub(crate) fn invocation<S: Space>(
     alloc: Global,
-    world: &World<S>,
+    world: &WorldState<S>,
     path: &Path,
     count: usize,
 ) -> Result<Invocation, Refusal>
@@ -137,6 +139,7 @@ fn value_of<S: Space>(
         Invocation::Value(value) => Ok(value),
         Invocation::FieldUnit(unit) => eval_field_read(alloc, run, 1, unit),
         Invocation::Method(path, body) => eval_method_value(alloc, run, 0, &path, &body, arguments),
+        Invocation::Osi => run.world.osi(arguments),
     }
 }
 

@@ -11,7 +11,7 @@ use crate::operands::{bytes, inner, list, number};
 use crate::task::Task;
 use crate::terms::{eval_list, eval_value};
 use aml_grammar::TermReader;
-use aml_meaning::{DeclarationKind, Flow, Running, World};
+use aml_meaning::{DeclarationKind, Flow, Running, WorldState};
 use aml_objects::{MethodFlags, NamedObject};
 use aml_path::Path;
 use ar_space::{Refusal, Space};
@@ -163,7 +163,7 @@ fn eval_new_scope<S: Space>(
 /// Declares a name at a path that is used again.
 fn declare<S: Space>(
     alloc: Global,
-    world: &mut World<S>,
+    world: &mut WorldState<S>,
     depth: usize,
     path: &Path,
     object: NamedObject,

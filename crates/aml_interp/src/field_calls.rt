@@ -16,7 +16,7 @@ use crate::invocations::{MAX_DEPTH, eval_method_value};
 use aml_meaning::{Datum, Held, Invocation, Referent, Running, StoreTarget, Stored, integer_only};
 use aml_objects::{Body, FieldUnit, Value};
 use aml_path::Path;
-use ar_space::{EvaluationFault, Refusal, Space};
+use ar_space::{EvaluationFault, Refusal, Space, ValueFault};
 use std::alloc::Global;
 
 /// How many calls may still be made, one inside another, where so many control methods are being called.
@@ -187,6 +187,7 @@ fn eval_answer_over<S: Space>(
             let depth = (MAX_DEPTH - 1).saturating_sub(calls);
             eval_method_integer(alloc, run, depth, &path, &body)
         }
+        Invocation::Osi => Err(Refusal::Value(ValueFault::WrongType)),
     }
 }
 

@@ -9,7 +9,7 @@ ghost use Rattle.aml_objects.specs.declared.value.Value.TheVariants.{Uninitializ
 ghost use Rattle.aml_meaning.specs.Meaning.{meaning};
 ghost use Rattle.aml_meaning.specs.Tasks.{in_turn};
 ghost use Rattle.aml_meaning.specs.Invocations.{shallow, frame_arguments, returned_by, leaving, invoked, value_of_call, method_value};
-ghost use Rattle.aml_meaning.specs.InvocationTerms.{arguments_in_turn, call_rule, field_rule, invocation_rule, name_value};
+ghost use Rattle.aml_meaning.specs.InvocationTerms.{osi_rule, arguments_in_turn, call_rule, field_rule, invocation_rule, name_value};
 
 use crate::field_calls::eval_field_read;
 use crate::operands::{Reader, as_many, list};
@@ -68,6 +68,7 @@ fn eval_invocation<S: Space>(
         Invocation::Value(value) => Ok(Flow::Value(value)),
         Invocation::FieldUnit(unit) => eval_field(alloc, run, job.depth, unit),
         Invocation::Method(path, body) => eval_call(alloc, run, job, &path, &body),
+        Invocation::Osi => eval_osi(alloc, run, job),
     }
 }
 
@@ -101,6 +102,19 @@ fn eval_call<S: Space>(
 {
     let values = eval_arguments(alloc, run, job)?;
     eval_invoked(alloc, run, job.depth, path, body, &values)
+}
+
+/// A call of `\_OSI`, which has no frame.
+#[cycle(evaluation)]
+#[tactic(auto, using(crate::proofs::Steps::evaluating), unfolding(aml_meaning::specs::InvocationTerms::osi_rule))]
+fn eval_osi<S: Space>(alloc: Global, run: &mut Running<S>, job: Task<'_>) -> Result<Flow, Refusal>
+    ensures spent { run.new.1 ≤ run.old.1 }
+    ensures means { Does result run.new (osi_rule (meaning S.accesses) job.entry.scope.now job.entry.depth (part_list job.entry.term)) run.old }
+{
+    let values = eval_arguments(alloc, run, job)?;
+    shallow(job.depth)?;
+    let answer = run.world.osi(&values)?;
+    Ok(Flow::Value(answer))
 }
 
 /// Arguments one after another.

@@ -11,7 +11,7 @@ use crate::readings::read_table;
 use crate::task::Task;
 use crate::terms::eval_list;
 use aml_grammar::Term;
-use aml_meaning::Running;
+use aml_meaning::{Running, World};
 use aml_objects::Value;
 use aml_path::Path;
 use ar_space::{Refusal, Space};
@@ -26,12 +26,13 @@ use std::alloc::Global;
 #[tactic(auto, using(aml_meaning::proofs::Runs::calling), unfolding(aml_meaning::specs::Calling::loaded))]
 pub fn load<S: Space>(
     alloc: Global,
-    run: &mut Running<S>,
+    world: &mut World<S>,
     table: &[u8],
     steps: u64,
 ) -> Result<(), Refusal>
-    ensures { Does result run.new.0 (loaded S.accesses table.now steps) run.old.0 }
+    ensures { Does result world.new (loaded S.accesses table.now steps) world.old }
 {
+    let run = &mut world.running;
     let outcome = table_run(alloc, run, table, steps);
     run.world.release_mutexes();
     outcome

@@ -8,7 +8,7 @@ ghost use Rattle.aml_meaning.specs.Calling.{table_terms};
 ghost use Rattle.aml_meaning.specs.Invocations.{body_terms};
 
 use aml_grammar::Term;
-use aml_meaning::World;
+use aml_meaning::WorldState;
 use aml_objects::Body;
 use aml_path::Path;
 use aml_terms::{parse_list, parse_table};
@@ -20,7 +20,7 @@ use std::alloc::Global;
 #[tactic(auto, unfolding(aml_meaning::specs::Calling::table_terms))]
 pub(crate) fn read_table<S>(
     alloc: Global,
-    world: &mut World<S>,
+    world: &mut WorldState<S>,
     bytes: &[u8],
 ) -> Result<Vec<Term>, Refusal>
     ensures { Does (seen (λ v. trees_of (map tree_view v.items)) result) world.new (table_terms bytes.now) world.old }
@@ -39,7 +39,7 @@ pub(crate) fn read_table<S>(
 #[tactic(auto, unfolding(aml_meaning::specs::Invocations::body_terms))]
 pub(crate) fn read_body<S>(
     alloc: Global,
-    world: &World<S>,
+    world: &WorldState<S>,
     path: &Path,
     body: &Body,
 ) -> Result<Vec<Term>, Refusal>

@@ -13,7 +13,7 @@ use crate::task::Task;
 use crate::terms::{eval_value_at, unsupported};
 use aml_grammar::{Opcode, TermCode, TermReader};
 use aml_meaning::{
-    FieldGroup, FieldLayout, Flow, RegionKind, Running, World, access_width, update_rule,
+    FieldGroup, FieldLayout, Flow, RegionKind, Running, WorldState, access_width, update_rule,
 };
 use aml_objects::{FieldSource, NamedObject, OperationRegion};
 use ar_space::{NameFault, Refusal, Space};
@@ -145,7 +145,7 @@ fn lay_fields<S: Space>(
 /// Elements of a list of fields, one after another.
 fn lay_elements<S: Space>(
     alloc: Global,
-    world: &mut World<S>,
+    world: &mut WorldState<S>,
     group: FieldGroup,
     job: Task<'_>,
     first: FieldLayout,
@@ -179,7 +179,7 @@ fn lay_elements<S: Space>(
 #[tactic(auto, using(crate::proofs::Steps::evaluating))]
 fn lay_element<S: Space>(
     alloc: Global,
-    world: &mut World<S>,
+    world: &mut WorldState<S>,
     group: FieldGroup,
     job: Task<'_>,
     code: TermCode,
@@ -203,7 +203,7 @@ fn lay_element<S: Space>(
 #[tactic(auto, using(crate::proofs::Steps::evaluating), unfolding(aml_meaning::specs::FieldTerms::named_field))]
 fn lay_named<S: Space>(
     alloc: Global,
-    world: &mut World<S>,
+    world: &mut WorldState<S>,
     group: FieldGroup,
     job: Task<'_>,
     at: FieldLayout,
@@ -219,7 +219,7 @@ fn lay_named<S: Space>(
 /// Bits that are passed over.
 #[tactic(auto, using(crate::proofs::Steps::evaluating), unfolding(aml_meaning::specs::FieldTerms::reserved_field))]
 fn lay_reserved<S: Space>(
-    world: &World<S>,
+    world: &WorldState<S>,
     group: FieldGroup,
     job: Task<'_>,
     at: FieldLayout,
@@ -233,7 +233,7 @@ fn lay_reserved<S: Space>(
 /// Other accesses for the fields that follow.
 #[tactic(auto, using(crate::proofs::Steps::evaluating), unfolding(aml_meaning::specs::FieldTerms::access_field))]
 fn lay_access<S: Space>(
-    world: &World<S>,
+    world: &WorldState<S>,
     group: FieldGroup,
     job: Task<'_>,
     at: FieldLayout,

@@ -14,7 +14,7 @@ use Rattle.aml_objects.specs.declared.object.Object.TheVariants as object
 use Rattle.aml_objects.specs.declared.entry.FieldUnit.{FieldUnit}
 use Rattle.aml_objects.specs.declared.entry.UpdateRule.{UpdateRule}
 use Rattle.aml_objects.specs.declared.entry.UpdateRule.TheVariants.{Preserve, WriteAsOnes, WriteAsZeros}
-use Rattle.aml_objects.specs.Objects.{Objects, make, fits, few, make_string, make_buffer, make_package, string_at, buffer_at, elements_at, with_sized, with_buffer, write_buffer, with_string, write_string, byte_written, with_byte, write_byte, element_at, byte_at, element_written, with_element, write_element}
+use Rattle.aml_objects.specs.Objects.{Objects, make, fits, few, make_string, make_buffer, make_package, string_at, buffer_at, elements_at, with_sized, with_buffer, write_buffer, with_string, write_string, byte_written, with_byte, write_byte, element_at, byte_at, element_there, element_written, with_element, write_element}
 use Rattle.aml_objects.specs.Copies.{copied}
 use Rattle.aml_objects.proofs.Copying.{copy_grows}
 use Rattle.aml_fields.specs.declared.region.Region.{Region}
@@ -177,6 +177,10 @@ holds_elements_at o = record { along = kinds_same }
 pub holds_element_at : (o i : ℕ) → Holds (element_at o i)
 unfolding element_at
 holds_element_at o i = record { along = kinds_same }
+
+pub holds_element_there : (o i : ℕ) → Holds (element_there o i)
+unfolding element_there
+holds_element_there o i = record { along = kinds_same }
 
 pub holds_byte_at : (o i : ℕ) → Holds (byte_at o i)
 unfolding byte_at

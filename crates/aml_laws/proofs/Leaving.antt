@@ -31,6 +31,7 @@ use Rattle.aml_meaning.specs.Declaring.{not_in_method, new_name, new_method}
 use Rattle.aml_meaning.specs.TargetTerms.{target_named}
 use Rattle.aml_objects.specs.Contents.{Content}
 use Rattle.aml_objects.specs.Contents as held
+use Rattle.aml_meaning.specs.Osi.{osi_answered}
 use Rattle.aml_meaning.specs.Operations.{made_of, integers_operated, operated, divided_in, integer_operated, operated_on_one, integers_tested, operated_logically, integer_turned, turned, next_integer, integer_before, compared_in, joined_contents, joined, joined_items, joined_resources, to_integer_in, buffer_bytes, new_buffer_of, to_buffer_in, size_in}
 use Rattle.aml_meaning.specs.OperatorTerms.{result_of_two, result_of_one, result_of_test, counted_by}
 use Rattle.aml_meaning.specs.Invocations.{body_terms, named_use, invocation_found}
@@ -210,6 +211,10 @@ module _ {S : Type 0} {accesses : Accesses S} {law : Law accesses} where
   leaves_counted count.Down n = leaves_before n
 
   -- ---- calls
+
+  pub leaves_osi : (arguments : List Value) → Leaves law (osi_answered arguments)
+  unfolding osi_answered
+  leaves_osi arguments = leaves_same _ (λ w. refl)
 
   pub leaves_terms : (q : List Seg) (body : List ℕ) → Leaves law (body_terms q body)
   unfolding body_terms

@@ -30,7 +30,7 @@ use Rattle.aml_meaning.specs.Slots.{with_slot}
 use Rattle.aml_meaning.specs.Stores.{with_frame, slot_put, copy_into_slot, copy_into_name, copy_into_element, copy_over, text_in, bytes_in, store_integer, store_text, store_bytes, store_package, store_over_value, store_over, byte_in, store_byte, copy_into_declared, store_over_slot, store_in_frame, store_in_frame_numbered, store_at_reference, stored_through, store_in_slot, store_in_name, stored, copy_in_name, copied_to}
 use Rattle.aml_meaning.specs.Mutexes.{mutex_count, acquired, given_back, acquired_at, given_back_at}
 use Rattle.aml_laws.specs.Numbers.{numbers_of}
-use Rattle.aml_laws.proofs.Along.{holds_byte_at, holds_element_at, holds_copy, holds_write_element, holds_write_string, holds_write_buffer, holds_write_byte}
+use Rattle.aml_laws.proofs.Along.{holds_byte_at, holds_element_at, holds_element_there, holds_copy, holds_write_element, holds_write_string, holds_write_buffer, holds_write_byte}
 use Rattle.aml_laws.proofs.Keeping.{Law, Leaves, leaves_same, leaves_give, leaves_stop, leaves_settle, leaves_bind, leaves_objects, leaves_replaced}
 use Rattle.aml_laws.proofs.Leaving.{leaves_read, leaves_entry}
 
@@ -190,7 +190,7 @@ module _ {S : Type 0} {accesses : Accesses S} {law : Law accesses} where
 
   pub leaves_copy_element : (o i : ℕ) (v : Value) → Leaves law (copy_into_element o i v)
   unfolding copy_into_element
-  leaves_copy_element o i v = leaves_bind _ _ (leaves_objects _ (holds_copy v)) (λ c. leaves_bind _ _ (leaves_objects _ (holds_write_element o i _)) (λ put. leaves_give _))
+  leaves_copy_element o i v = leaves_bind _ _ (leaves_objects _ (holds_element_there o i)) (λ there. leaves_bind _ _ (leaves_objects _ (holds_copy v)) (λ c. leaves_bind _ _ (leaves_objects _ (holds_write_element o i _)) (λ put. leaves_give _)))
 
   pub leaves_copy_over : (h : Holding) (q : List Seg) (v : Value) → Leaves law (copy_over h q v)
   leaves_copy_over (holding.Value old) q v = leaves_copy_name q v
@@ -246,7 +246,7 @@ module _ {S : Type 0} {accesses : Accesses S} {law : Law accesses} where
 
   pub leaves_store_byte : (o i : ℕ) (v : Value) → Leaves law (store_byte o i v)
   unfolding store_byte
-  leaves_store_byte o i v = leaves_bind _ _ (leaves_byte v) (λ b. leaves_bind _ _ (leaves_objects _ (holds_write_byte o i b)) (λ put. leaves_give _))
+  leaves_store_byte o i v = leaves_bind _ _ (leaves_objects _ (holds_byte_at o i)) (λ old. leaves_bind _ _ (leaves_byte v) (λ b. leaves_bind _ _ (leaves_objects _ (holds_write_byte o i b)) (λ put. leaves_give _)))
 
   pub leaves_copy_declared : (n : ℕ) (v : Value) → Leaves law (copy_into_declared n v)
   unfolding copy_into_declared

@@ -17,7 +17,7 @@ use Rattle.aml_meaning.specs.Calling.{terms_kept, table_terms, at_root, table_ru
 use Rattle.aml_laws.specs.Becomes.{Becomes, same, term, list, table, value, answer}
 use Rattle.aml_laws.proofs.Along.{holds_string}
 use Rattle.aml_laws.proofs.Keeping.{Law, Leaves, Keeps, Carries, CalledIn, leaves_settle, leaves_bind, leaves_objects, leaves_declared, leaves_in_frame, leaves_steps, leaves_counting, leaves_ending, keeps_give, keeps_lift, keeps_bind, keeps_found, carried, carries_bind}
-use Rattle.aml_laws.proofs.Leaving.{finds_invocation}
+use Rattle.aml_laws.proofs.Leaving.{finds_invocation, leaves_osi}
 use Rattle.aml_laws.proofs.Standing.{keeps_read, carries_method_value, meaning_keeps, list_keeps}
 use Rattle.aml_laws.proofs.Importing.{leaves_all_imported, keeps_exported}
 
@@ -50,6 +50,7 @@ module _ {S : Type 0} {accesses : Accesses S} {law : Law accesses} where
   carries_value_of u (invocations.Value v) arguments at = carried u _ (keeps_give _)
   carries_value_of u (invocations.FieldUnit f) arguments at = carried u _ (keeps_read _ meaning_keeps 1 f)
   carries_value_of u (invocations.Method q body) arguments at = carries_method_value _ meaning_keeps u 0 q body arguments (at q body refl)
+  carries_value_of u invocations.Osi arguments at = carried u _ (keeps_lift _ (leaves_osi arguments))
 
   keeps_called : (p : List Seg) (arguments : List Value) → Keeps law (called accesses p arguments)
   unfolding called

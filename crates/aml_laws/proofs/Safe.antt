@@ -13,7 +13,7 @@ use Rattle.aml_objects.specs.declared.object.Element.{Element}
 use Rattle.aml_objects.specs.declared.object.Element.TheVariants as element
 use Rattle.aml_objects.specs.declared.object.Object.{Object}
 use Rattle.aml_objects.specs.declared.object.Object.TheVariants as object
-use Rattle.aml_objects.specs.Objects.{Objects, make, fits, few, make_string, make_buffer, make_package, string_in, buffer_in, elements_in, string_at, buffer_at, elements_at, fitted_to, with_sized, with_buffer, write_buffer, with_string, write_string, byte_written, with_byte, write_byte, or_dead, element_in, element_at, byte_at, element_written, with_element, write_element}
+use Rattle.aml_objects.specs.Objects.{Objects, make, fits, few, make_string, make_buffer, make_package, string_in, buffer_in, elements_in, string_at, buffer_at, elements_at, fitted_to, with_sized, with_buffer, write_buffer, with_string, write_string, byte_written, with_byte, write_byte, or_dead, element_in, element_at, byte_at, element_there, element_written, with_element, write_element}
 use Rattle.aml_objects.specs.Copies.{string_copy, buffer_copy, value_copy, held_copy, element_copy, copies_of, whole_copy, package_copy, if_whole, whole, copied}
 use Rattle.aml_laws.specs.Plain.{AreBytes}
 use Rattle.aml_laws.specs.Within.{WithinWidth}
@@ -209,6 +209,10 @@ module _ (width : IntegerWidth) where
   pub o_element_at : (o i : ℕ) → Safe (Each (ObjectFits width)) (ElementFits width) (element_at o i)
   unfolding element_at
   o_element_at o i = record { safe = λ h s. good_settled _ h s (λ e is. element_of i (slice_get h o) e (held_there h o _ s refl) is) }
+
+  pub o_element_there : (o i : ℕ) → Safe (Each (ObjectFits width)) Any (element_there o i)
+  unfolding element_there
+  o_element_there o i = record { safe = λ h s. good_settled _ h s (λ e is. tt) }
 
   pub o_byte_at : (o i : ℕ) → Safe (Each (ObjectFits width)) Any (byte_at o i)
   unfolding byte_at

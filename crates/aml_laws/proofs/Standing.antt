@@ -49,7 +49,7 @@ use Rattle.aml_meaning.specs.TargetTerms.{referring, target_of_term, name_target
 use Rattle.aml_meaning.specs.OperatorTerms.{slot_rule, store_rule, copy_rule, two_rule, divide_rule, one_rule, test_rule, not_rule, count_rule, size_rule, type_rule, acquire_rule, operator_rule}
 use Rattle.aml_meaning.specs.StatementTerms.{otherwise, branch, if_rule, else_rule, turn_of, turn, loop_end, after_turn, turns, loop, while_rule, return_rule, release_rule, notify_rule, pause_rule, fatal_rule, statement_rule}
 use Rattle.aml_meaning.specs.Invocations.{invoked, method_value}
-use Rattle.aml_meaning.specs.InvocationTerms.{arguments_in_turn, call_rule, field_rule, invocation_rule, name_value}
+use Rattle.aml_meaning.specs.InvocationTerms.{arguments_in_turn, call_rule, osi_rule, field_rule, invocation_rule, name_value}
 use Rattle.aml_meaning.specs.FieldCalls.{called_at, asked, method_integer, answer_over, answer_within, field_read, held_integer, referent_read, completed, stored_to, stored_back}
 use Rattle.aml_meaning.specs.FieldTerms.{fields_laid, region_rule, field_list_rule, index_list_rule, region_term_rule}
 use Rattle.aml_laws.proofs.KeepingFields.{leaves_elements, leaves_region_found, leaves_field_found, keeps_field_value, keeps_field_integer, keeps_field_part, keeps_field_referent, keeps_field_stored}
@@ -58,7 +58,7 @@ use Rattle.aml_meaning.specs.Meaning.{meaning, evaluated_within}
 use Rattle.aml_laws.proofs.Along.{holds_string}
 use Rattle.aml_laws.proofs.Callees.{MethodAt}
 use Rattle.aml_laws.proofs.Keeping.{Law, Keeps, Carries, CalledIn, Removes, leaves_objects, keeps_give, keeps_stop, keeps_settle, keeps_lift, keeps_charge, keeps_bind, keeps_found, carried, carries_bind, carries_body}
-use Rattle.aml_laws.proofs.Leaving.{finds_use, finds_invocation, leaves_integer, leaves_read, leaves_path, leaves_scope, leaves_target_named, leaves_within, leaves_buffer, leaves_package, leaves_new, leaves_method, leaves_divided, leaves_turned, leaves_size, leaves_two, leaves_one, leaves_test, leaves_counted, leaves_terms, leaves_arguments}
+use Rattle.aml_laws.proofs.Leaving.{finds_use, finds_invocation, leaves_integer, leaves_read, leaves_path, leaves_scope, leaves_target_named, leaves_within, leaves_buffer, leaves_package, leaves_new, leaves_method, leaves_divided, leaves_turned, leaves_size, leaves_two, leaves_one, leaves_test, leaves_counted, leaves_osi, leaves_terms, leaves_arguments}
 use Rattle.aml_laws.proofs.LeavingPlaces.{leaves_slot_read, leaves_target_read, leaves_referent, leaves_stored, leaves_copied, leaves_acquired_at, leaves_given_back_at}
 
 -- ---- parts that go by a law make rules that do
@@ -98,6 +98,7 @@ module _ {S : Type 0} {accesses : Accesses S} {law : Law accesses} (ev : Task �
   carries_over k call each u (invocations.Value v) at = carried u _ (keeps_settle _)
   carries_over k call each u (invocations.FieldUnit f) at = carried u _ (keeps_field_part call each f)
   carries_over k call each u (invocations.Method q body) at = carries_bind u _ _ (carries_method_value u _ q body _ (at q body refl)) (λ v. carried u _ (keeps_settle _))
+  carries_over k call each u invocations.Osi at = carried u _ (keeps_stop _)
 
   carries_answer : (k : ℕ) (u : State S) (i : Invocation) → CalledIn u i → Carries law u (answer_within accesses ev k i)
   unfolding answer_within
@@ -420,11 +421,16 @@ module _ {S : Type 0} {accesses : Accesses S} {law : Law accesses} (ev : Task �
   unfolding call_rule
   carries_call u scope depth ts q body at = carries_bind u _ _ (carried u _ (keeps_arguments scope depth ts _)) (λ arguments. carries_invoked u depth q body arguments (λ v. law.removes u v q at))
 
+  keeps_osi : (scope : List Seg) (depth : ℕ) (ts : Trees) → Keeps law (osi_rule ev scope depth ts)
+  unfolding osi_rule
+  keeps_osi scope depth ts = keeps_bind _ _ (keeps_arguments scope depth ts _) (λ arguments. keeps_bind _ _ (keeps_settle _) (λ few. keeps_bind _ _ (keeps_lift _ (leaves_osi arguments)) (λ v. keeps_give _)))
+
   carries_invocation : (scope : List Seg) (depth : ℕ) (ts : Trees) (u : State S) (i : Invocation) → CalledIn u i → Carries law u (invocation_rule accesses ev scope depth ts i)
   unfolding field_rule
   carries_invocation scope depth ts u (invocations.Value v) at = carried u _ (keeps_give _)
   carries_invocation scope depth ts u (invocations.FieldUnit f) at = carried u _ (keeps_bind _ _ (keeps_read depth f) (λ v. keeps_give _))
   carries_invocation scope depth ts u (invocations.Method q body) at = carries_call u scope depth ts q body (at q body refl)
+  carries_invocation scope depth ts u invocations.Osi at = carried u _ (keeps_osi scope depth ts)
 
   keeps_name_value : (scope : List Seg) (depth : ℕ) (t : Tree) → Keeps law (name_value accesses ev scope depth t)
   unfolding name_value

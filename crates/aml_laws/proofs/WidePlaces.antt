@@ -40,7 +40,7 @@ use Rattle.aml_laws.specs.Within.{WithinWidth}
 use Rattle.aml_laws.specs.AllWithin.{Each, ElementFits, NamedFits, FrameFits, UnitFits}
 use Rattle.aml_laws.proofs.Numbered.{number_there}
 use Rattle.aml_laws.proofs.PlainSteps.{Any}
-use Rattle.aml_laws.proofs.Safe.{Safe, ok_fits, good_settled, s_give, s_stop, s_settle, s_bind, each_at, each_set, o_copied, o_byte_at, o_element_at, o_write_element, o_write_string, o_write_buffer, o_write_byte}
+use Rattle.aml_laws.proofs.Safe.{Safe, ok_fits, good_settled, s_give, s_stop, s_settle, s_bind, each_at, each_set, o_copied, o_byte_at, o_element_there, o_element_at, o_write_element, o_write_string, o_write_buffer, o_write_byte}
 use Rattle.aml_laws.proofs.WideBits.{Holds, text_fits, buffer_fits}
 use Rattle.aml_laws.proofs.WideWorld.{In, FoundFits, w_objects, w_replaced, w_read, w_entry, holds, holding as holding_at, read_fits}
 
@@ -242,7 +242,8 @@ module _ (S : Type 0) (width : IntegerWidth) where
 
   w_copy_element : (o i : ℕ) (v : Value) → WithinWidth width v → Safe (In S width) (StoredFits width) (copy_into_element o i v)
   unfolding copy_into_element
-  w_copy_element o i v f = s_bind _ _ (w_objects S width _ (o_copied width v f)) (λ c g. s_bind _ _ (w_objects S width _ (o_write_element width o i (element.Value c) g)) (λ put u. s_give _ tt))
+  w_copy_element o i v f =
+      s_bind _ _ (w_objects S width _ (o_element_there width o i)) (λ there x. s_bind _ _ (w_objects S width _ (o_copied width v f)) (λ c g. s_bind _ _ (w_objects S width _ (o_write_element width o i (element.Value c) g)) (λ put u. s_give _ tt)))
 
   w_copy_over : (h : Holding) (q : List Seg) (v : Value) → HoldingFits width h → WithinWidth width v → Safe (In S width) (StoredFits width) (copy_over h q v)
   w_copy_over (holding.Value old) q v h f = w_copy_name q v f
@@ -293,7 +294,8 @@ module _ (S : Type 0) (width : IntegerWidth) where
 
   w_store_byte : (o i : ℕ) (v : Value) → WithinWidth width v → Safe (In S width) (StoredFits width) (store_byte o i v)
   unfolding store_byte byte_in
-  w_store_byte o i v f = s_bind {Fit = IsByte} _ _ (record { safe = λ w s. good_settled _ w s (λ b e. byte_fits _ b (holds S width w v s f) e) }) (λ b l. s_bind _ _ (w_objects S width _ (o_write_byte width o i b l)) (λ put u. s_give _ tt))
+  w_store_byte o i v f =
+      s_bind _ _ (w_objects S width _ (o_byte_at width o i)) (λ old x. s_bind {Fit = IsByte} _ _ (record { safe = λ w s. good_settled _ w s (λ b e. byte_fits _ b (holds S width w v s f) e) }) (λ b l. s_bind _ _ (w_objects S width _ (o_write_byte width o i b l)) (λ put u. s_give _ tt)))
 
   module _ (through : Reference → Value → Change (State S) Stored) (goes : (r : Reference) (v : Value) → WithinWidth width v → Safe (In S width) (StoredFits width) (through r v)) where
     w_store_slot : (k : ℕ) (slot : Slot) (old v : Value) → WithinWidth width v → Safe (In S width) (StoredFits width) (store_over_slot through k slot old v)

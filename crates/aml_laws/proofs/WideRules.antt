@@ -40,7 +40,7 @@ use Rattle.aml_meaning.specs.DeclarationTerms.{declaring, name_rule, alias_rule,
 use Rattle.aml_meaning.specs.TargetTerms.{referring, target_of_term, name_target, target_by, target_at, targeted}
 use Rattle.aml_meaning.specs.OperatorTerms.{slot_rule, store_rule, copy_rule, two_rule, divide_rule, one_rule, test_rule, not_rule, count_rule, size_rule, type_rule, acquire_rule, operator_rule}
 use Rattle.aml_meaning.specs.StatementTerms.{otherwise, branch, if_rule, else_rule, turn_of, turn, loop_end, after_turn, turns, loop, while_rule, return_rule, release_rule, notify_rule, pause_rule, fatal_rule, statement_rule}
-use Rattle.aml_meaning.specs.InvocationTerms.{arguments_in_turn, call_rule, field_rule, invocation_rule, name_value}
+use Rattle.aml_meaning.specs.InvocationTerms.{arguments_in_turn, call_rule, osi_rule, field_rule, invocation_rule, name_value}
 use Rattle.aml_meaning.specs.FieldTerms.{fields_laid, region_rule, field_list_rule, index_list_rule, region_term_rule}
 use Rattle.aml_meaning.specs.Evaluation.{kind_rule, code_rule, rule}
 use Rattle.aml_meaning.specs.Meaning.{meaning, evaluated_within}
@@ -61,7 +61,7 @@ use Rattle.aml_laws.specs.AllWithin.{Each, ElementFits, NamedFits, AllWithin}
 use Rattle.aml_laws.proofs.PlainSteps.{Any}
 use Rattle.aml_laws.proofs.Safe.{Good, Safe, good_err, s_give, s_stop, s_bind, each_push, o_string}
 use Rattle.aml_laws.proofs.WithinWidth.{few}
-use Rattle.aml_laws.proofs.WideWorld.{In, w_objects, w_integer, w_read, w_entry, w_path, w_scope, w_arguments, w_at_most, w_buffer, w_package, w_new, w_method, w_operated, w_divided, w_unary, w_logic, w_turned, w_next, w_before, w_compared, w_joined, w_to_buffer, w_to_integer}
+use Rattle.aml_laws.proofs.WideWorld.{In, w_objects, w_integer, w_read, w_entry, w_path, w_scope, w_arguments, w_at_most, w_buffer, w_package, w_new, w_method, w_operated, w_divided, w_unary, w_logic, w_turned, w_next, w_before, w_compared, w_joined, w_to_buffer, w_to_integer, w_osi}
 use Rattle.aml_laws.proofs.WidePlaces.{w_slot_read, w_target_read, w_referent, w_copied_to}
 use Rattle.aml_laws.proofs.WideFields.{RunIn, r_lift, r_charge}
 use Rattle.aml_laws.proofs.WideOthers.{w_resources, w_size, w_acquired_at, w_given_back_at, w_elements_laid}
@@ -266,11 +266,16 @@ module _ (S : Type 0) (width : IntegerWidth) (accesses : Accesses S) (ev : Task 
   u_arguments scope depth no_trees done h g = s_give _ g
   u_arguments scope depth (tree t ts) done h g = s_bind _ _ (t_value S width accesses ev parts scope depth t h.0) (λ v f. u_arguments scope depth ts _ h.1 (each_push (WithinWidth width) done v g f))
 
+  u_osi : (scope : List Seg) (depth : ℕ) (ts : Trees) → PlainTrees ts → Safe (RunIn S width) (FlowFits width) (osi_rule ev scope depth ts)
+  unfolding osi_rule
+  u_osi scope depth ts h = s_bind _ _ (u_arguments scope depth ts [] h tt) (λ vs g. s_bind _ _ (s_any _) (λ few u. r_value _ (w_osi S width vs)))
+
   u_invocation : (scope : List Seg) (depth : ℕ) (ts : Trees) (i : Invocation) → PlainTrees ts → InvocationFits width i → Safe (RunIn S width) (FlowFits width) (invocation_rule accesses ev scope depth ts i)
   unfolding field_rule call_rule
   u_invocation scope depth ts (invocations.Value v) h f = s_give _ f
   u_invocation scope depth ts (invocations.FieldUnit u) h f = s_bind _ _ (t_read S width accesses ev parts depth u f) (λ v g. s_give _ g)
   u_invocation scope depth ts (invocations.Method q body) h f = s_bind _ _ (u_arguments scope depth ts [] h tt) (λ vs g. t_invoked S width accesses ev parts depth q body vs f g)
+  u_invocation scope depth ts invocations.Osi h f = u_osi scope depth ts h
 
   u_name_value : (scope : List Seg) (depth : ℕ) (t : Tree) → PlainTree t → Safe (RunIn S width) (FlowFits width) (name_value accesses ev scope depth t)
   unfolding name_value

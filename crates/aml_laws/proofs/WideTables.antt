@@ -31,7 +31,7 @@ use Rattle.aml_laws.specs.AllWithin.{Each, NamedFits, FrameFits, AllWithin}
 use Rattle.aml_laws.proofs.PlainSteps.{Any}
 use Rattle.aml_laws.proofs.PlainTerms.{read_plain}
 use Rattle.aml_laws.proofs.Safe.{Good, Safe, ok_fits, good_err, good_ok, s_give, s_bind, each_take, each_replicate}
-use Rattle.aml_laws.proofs.WideWorld.{In}
+use Rattle.aml_laws.proofs.WideWorld.{In, w_osi}
 use Rattle.aml_laws.proofs.WideFields.{RunIn, r_lift}
 use Rattle.aml_laws.proofs.WideTerms.{InvocationFits, w_invocation, w_opened, t_turn, t_read, t_method}
 use Rattle.aml_laws.proofs.WideRules.{meaning_safe}
@@ -87,6 +87,7 @@ module _ (S : Type 0) (width : IntegerWidth) (accesses : Accesses S) where
   x_value : (i : Invocation) (arguments : List Value) → InvocationFits width i → Each (WithinWidth width) arguments → Safe (RunIn S width) (WithinWidth width) (value_of accesses i arguments)
   x_value (invocations.Value v) arguments f h = s_give _ f
   x_value (invocations.FieldUnit u) arguments f h = t_read S width accesses (meaning accesses) (meaning_safe S width accesses) 1 u f
+  x_value invocations.Osi arguments f h = r_lift S width _ (w_osi S width arguments)
   x_value (invocations.Method p body) arguments f h = t_method S width accesses (meaning accesses) (meaning_safe S width accesses) 0 p body arguments f h
 
   x_called : (p : List Seg) (arguments : List Value) → Each (WithinWidth width) arguments → Safe (RunIn S width) (WithinWidth width) (called accesses p arguments)

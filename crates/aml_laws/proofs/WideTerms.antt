@@ -101,6 +101,7 @@ module _ (width : IntegerWidth) where
   InvocationFits (invocations.Value v) = WithinWidth width v
   InvocationFits (invocations.FieldUnit u) = UnitFits u
   InvocationFits (invocations.Method p body) = AreBytes body
+  InvocationFits invocations.Osi = Unit {0}
 
   pub value_fits : (f : Flow) (v : Value) → FlowFits f → value_in f ≡ Ok v → WithinWidth width v
   value_fits (flow.Value u) v h e = ok_fits (WithinWidth width) u v e h
@@ -124,7 +125,7 @@ module _ (width : IntegerWidth) where
   call_fits (flow.Return v) h = tt
 
   body_fits : (p : List Seg) (m : MethodBody) (i : Invocation) → NamedFits width (object.Method (record { flags = record { byte = 0 }; body = m })) → invocation_of_body p m ≡ Ok i → InvocationFits i
-  body_fits p Osi i h e = absurd (cc e)
+  body_fits p Osi i h e = ok_fits InvocationFits _ i e tt
   body_fits p (Aml body) i h e = ok_fits InvocationFits _ i e h
 
   object_fits : (S : Type 0) (p : List Seg) (n : ℕ) (o : NamedObject) (i : Invocation) → NamedFits width o → invocation_of_object p n o ≡ Ok i → InvocationFits i
@@ -237,6 +238,7 @@ module _ (S : Type 0) (width : IntegerWidth) (accesses : Accesses S) (ev : Task 
   t_over k call each (invocations.Value v) h = s_any _
   t_over k call each (invocations.FieldUnit u) h = weaken _ (f_part_of S width accesses call each u h)
   t_over k call each (invocations.Method q body) h = s_bind _ _ (t_method _ q body [] h tt) (λ v f. s_any _)
+  t_over k call each invocations.Osi h = s_stop _
 
   t_answer : (k : ℕ) (i : Invocation) → InvocationFits width i → Safe (RunIn S width) Any (answer_within accesses ev k i)
   unfolding answer_within

@@ -40,13 +40,14 @@ use Rattle.aml_laws.proofs.Callees.{StandsThere, found_there}
 use Rattle.aml_laws.proofs.PlainSteps.{Any}
 use Rattle.aml_laws.proofs.Safe.{Good, Safe, ok_fits, good_ok, good_settled, s_give, s_stop, s_settle, s_bind, each_at, each_append, each_replicate, joined_bytes, zeros, o_string, o_buffer, o_package}
 use Rattle.aml_laws.proofs.WideBits.{Holds, within, joined_fits, buffer_fits}
-use Rattle.aml_laws.proofs.WithinWidth.{cut, of_content, of_two, of_one, of_logic, of_explicit, none_or_all, quotient_by, seen_is, value_is, truth_is}
+use Rattle.aml_laws.proofs.WithinWidth.{cut, of_content, of_two, of_one, of_logic, of_explicit, none_or_all, quotient_by, seen_is, value_is, truth_is, osi_is}
 use Rattle.aml_convert.specs.Integers.{truncated}
 use Rattle.aml_convert.specs.Operators.{unary_result_of, logical_result_of, negated}
 use Rattle.aml_convert.specs.declared.operators.BinaryOperator.{BinaryOperator}
 use Rattle.aml_convert.specs.declared.operators.UnaryOperator.{UnaryOperator}
 use Rattle.aml_convert.specs.declared.logic.LogicalOperator.{LogicalOperator}
 use Rattle.aml_convert.specs.declared.logic.Comparison.{Comparison}
+use Rattle.aml_meaning.specs.Osi.{osi_answered}
 use Rattle.aml_meaning.specs.Operations.{integers_operated, operated, divided_in, integer_operated, operated_on_one, integers_tested, operated_logically, integer_turned, turned, next_integer, integer_before, compared_in, made_of, joined_contents, joined, to_integer_in, buffer_bytes, new_buffer_of, to_buffer_in}
 
 alike : (p r x : List Seg) → path_cmp r x ≡ Equal → not (is_below p x) ≡ not (is_below p r)
@@ -242,6 +243,10 @@ module _ (S : Type 0) (width : IntegerWidth) where
   pub w_compared : (c : Comparison) (a b : Value) → Safe In (WithinWidth width) (compared_in c a b)
   unfolding compared_in
   w_compared c a b = record { safe = λ w i. good_settled _ w i (λ v e. result w v i (truth_is w.width c _ v e)) }
+
+  pub w_osi : (arguments : List Value) → Safe In (WithinWidth width) (osi_answered arguments)
+  unfolding osi_answered
+  w_osi arguments = record { safe = λ w i. good_settled _ w i (λ v e. result w v i (osi_is w.width w.osi _ v e)) }
 
   made : (c : Content) → Holds width c → Safe In (WithinWidth width) (on_objects (made_of c))
   made (Integer n) h = w_objects _ (s_give _ h)

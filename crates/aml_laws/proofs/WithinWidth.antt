@@ -39,6 +39,7 @@ use Rattle.aml_meaning.specs.declared.term_kind.Count.TheVariants as count
 use Rattle.aml_meaning.specs.State.{State, on_objects}
 use Rattle.aml_meaning.specs.Readings.{integer_kept, integer_in}
 use Rattle.aml_meaning.specs.Regions.{integer_of_bits, integer_value, value_of_bits}
+use Rattle.aml_meaning.specs.Osi.{is_known, osi_answer}
 use Rattle.aml_meaning.specs.Operations.{as_integer, integers_operated, operated, divided_in, integer_operated, operated_on_one, integers_tested, operated_logically, integer_turned, turned, next_integer, integer_before, truth_of, compared_in, made_of, joined_contents, joined, joined_items, joined_resources, to_integer_in, buffer_bytes, new_buffer_of, to_buffer_in}
 use Rattle.aml_meaning.specs.OperatorTerms.{result_of_two, result_of_one, result_of_test, counted_by}
 use Rattle.aml_laws.specs.Within.{Below, WithinContent, Within, WithinWidth, FormsWithin}
@@ -206,6 +207,12 @@ content_then P (Err x) w k h a e = absurd (cc e)
 pub truth_is : (width : IntegerWidth) (c : Comparison) (r : Outcome Ordering) (v : Value) → truth_of width c r ≡ Ok v → WithinWidth width v
 truth_is width c (Ok o) v e = value_is width _ v e (none_or_all width (holds c o))
 truth_is width c (Err x) v e = absurd (cc e)
+
+pub osi_is : (width : IntegerWidth) (texts : List (List ℕ)) (c : Content) (v : Value) → osi_answer width texts c ≡ Ok v → WithinWidth width v
+osi_is width texts (String text) v e = value_is width _ v e (none_or_all width (is_known texts text))
+osi_is width texts (Integer n) v e = absurd (cc e)
+osi_is width texts (Buffer bytes) v e = absurd (cc e)
+osi_is width texts Other v e = absurd (cc e)
 
 by_width : {S : Type 0} (b : Bool) (width : IntegerWidth) (m k : Outcome Value × State S) (v : Value) → (m.0 ≡ Ok v → WithinWidth width v) → (k.0 ≡ Ok v → WithinWidth width v) → (if b then m else k).0 ≡ Ok v → WithinWidth width v
 by_width true width m k v h i e = h e

@@ -50,7 +50,7 @@ use Rattle.aml_meaning.specs.TargetTerms.{referring, target_of_term, name_target
 use Rattle.aml_meaning.specs.OperatorTerms.{slot_rule, store_rule, copy_rule, two_rule, divide_rule, one_rule, test_rule, not_rule, count_rule, size_rule, type_rule, acquire_rule, operator_rule}
 use Rattle.aml_meaning.specs.StatementTerms.{otherwise, branch, if_rule, else_rule, turn_of, turn, loop_end, after_turn, turns, loop, while_rule, return_rule, release_rule, notify_rule, pause_rule, fatal_rule, statement_rule}
 use Rattle.aml_meaning.specs.Invocations.{leaving, invoked, method_value}
-use Rattle.aml_meaning.specs.InvocationTerms.{arguments_in_turn, call_rule, field_rule, invocation_rule, name_value}
+use Rattle.aml_meaning.specs.InvocationTerms.{arguments_in_turn, call_rule, osi_rule, field_rule, invocation_rule, name_value}
 use Rattle.aml_meaning.specs.FieldCalls.{asked, method_integer, answer_over, answer_within, field_read, held_integer, referent_read, completed, stored_to, stored_back}
 use Rattle.aml_meaning.specs.FieldTerms.{fields_laid, region_rule, field_list_rule, index_list_rule, region_term_rule}
 use Rattle.aml_meaning.proofs.AgreeFields.{agree_field_value, agree_field_integer, agree_field_part, agree_field_referent, agree_field_stored}
@@ -93,6 +93,7 @@ module _ {S : Type 0} {n : ℕ} (accesses : Accesses S) (ev ew : Task → Run S 
   agree_over k call other alike (invocations.Value v) = agree_settle _
   agree_over k call other alike (invocations.FieldUnit u) = agree_field_part accesses call other alike u
   agree_over k call other alike (invocations.Method p body) = agree_bind _ _ _ _ (agree_method_value _ p body _) (λ v. agree_settle _)
+  agree_over k call other alike invocations.Osi = agree_stop _
 
   agree_answer : (k : ℕ) (i : Invocation) → Agree n (answer_within accesses ev k i) (answer_within accesses ew k i)
   unfolding answer_within
@@ -412,11 +413,16 @@ module _ {S : Type 0} {n : ℕ} (accesses : Accesses S) (ev ew : Task → Run S 
   unfolding call_rule
   agree_call scope depth ts p body = agree_bind _ _ _ _ (agree_arguments scope depth ts _) (λ arguments. agree_invoked depth p body arguments)
 
+  agree_osi : (scope : List Seg) (depth : ℕ) (ts : Trees) → Agree n (osi_rule ev scope depth ts) (osi_rule ew scope depth ts)
+  unfolding osi_rule
+  agree_osi scope depth ts = agree_bind _ _ _ _ (agree_arguments scope depth ts _) (λ arguments. agree_bind _ _ _ _ (agree_settle _) (λ few. agree_bind _ _ _ _ (agree_lift _) (λ v. agree_give _)))
+
   agree_invocation : (scope : List Seg) (depth : ℕ) (ts : Trees) (i : Invocation) → Agree n (invocation_rule accesses ev scope depth ts i) (invocation_rule accesses ew scope depth ts i)
   unfolding field_rule
   agree_invocation scope depth ts (invocations.Value v) = agree_give _
   agree_invocation scope depth ts (invocations.FieldUnit u) = agree_bind _ _ _ _ (agree_read depth u) (λ v. agree_give _)
   agree_invocation scope depth ts (invocations.Method p body) = agree_call scope depth ts p body
+  agree_invocation scope depth ts invocations.Osi = agree_osi scope depth ts
 
   agree_name_value : (scope : List Seg) (depth : ℕ) (t : Tree) → Agree n (name_value accesses ev scope depth t) (name_value accesses ew scope depth t)
   unfolding name_value

@@ -22,6 +22,7 @@ use Rattle.aml_meaning.specs.Slots.{opened, closed}
 use Rattle.aml_meaning.specs.Readings.{absolute}
 use Rattle.aml_meaning.specs.Tasks.{in_turn}
 use Rattle.aml_meaning.specs.Invocations.{invocation_found, method_value}
+use Rattle.aml_meaning.specs.Osi.{osi_answered}
 use Rattle.aml_meaning.specs.FieldCalls.{field_read}
 use Rattle.aml_meaning.specs.Importing.{all_imported}
 use Rattle.aml_meaning.specs.Meaning.{meaning}
@@ -75,6 +76,7 @@ abbrev pub value_of : {S : Type 0} → Accesses S → Invocation → List Value 
 value_of accesses (invocation.Value v) arguments = give v
 value_of accesses (invocation.FieldUnit u) arguments = field_read accesses (meaning accesses) 1 u
 value_of accesses (invocation.Method p body) arguments = method_value (meaning accesses) 0 p body arguments
+value_of accesses invocation.Osi arguments = lift (osi_answered arguments)
 
 -- the value of the object at a path, with these arguments
 unfoldable pub called : {S : Type 0} → Accesses S → List Seg → List Value → Run S Value

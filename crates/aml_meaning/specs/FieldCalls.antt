@@ -2,6 +2,7 @@
 use Rattle.std.specs.Prelude.{ℕ, zero, suc, ◌-◌, List, []}
 use Rattle.ar_space.specs.declared.refusal.Refusal.TheVariants as refusal
 use Rattle.ar_space.specs.declared.refusal.EvaluationFault.TheVariants.{CallDepth}
+use Rattle.ar_space.specs.declared.refusal.ValueFault.TheVariants.{WrongType}
 use Rattle.ar_space.specs.Accesses.{Accesses}
 use Rattle.ar_space.specs.Change.{give, stop, settle, ◌>>=◌}
 use Rattle.aml_path.specs.declared.segment.Seg.{Seg}
@@ -38,11 +39,12 @@ module _ {S : Type 0} (accesses : Accesses S) (ev : Task → Run S Flow) where
     v ← method_value ev depth p body []
     settle (integer_only v)
 
-  -- n: how many calls may still be made one inside another, this one aside
+  -- n: how many calls may still be made one inside another, this one aside. \_OSI takes an argument, and is never asked without one
   abbrev pub answer_over : ℕ → (List Seg → Run S ℕ) → Invocation → Run S ℕ
   answer_over n call (invocation.Value v) = settle (integer_only v)
   answer_over n call (invocation.FieldUnit u) = field_part accesses call u
   answer_over n call (invocation.Method p body) = method_integer (31 - n) p body
+  answer_over n call invocation.Osi = stop (refusal.Value WrongType)
 
   unfoldable pub answer_within : ℕ → Invocation → Run S ℕ
   answer_within zero i = stop (refusal.Evaluation CallDepth)

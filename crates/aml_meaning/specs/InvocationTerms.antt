@@ -16,7 +16,8 @@ use Rattle.aml_meaning.specs.Run.{Run, lift}
 use Rattle.aml_meaning.specs.Terms.{list_of, count_of}
 use Rattle.aml_meaning.specs.Readings.{arguments_found, as_many}
 use Rattle.aml_meaning.specs.Tasks.{Task, operand_value}
-use Rattle.aml_meaning.specs.Invocations.{named_use, invoked}
+use Rattle.aml_meaning.specs.Invocations.{named_use, shallow, invoked}
+use Rattle.aml_meaning.specs.Osi.{osi_answered}
 use Rattle.aml_meaning.specs.FieldCalls.{field_read}
 
 module _ {S : Type 0} (ev : Task → Run S Flow) where
@@ -32,6 +33,14 @@ module _ {S : Type 0} (ev : Task → Run S Flow) where
     arguments ← arguments_in_turn scope depth ts []
     invoked ev depth p body arguments
 
+  -- \_OSI: its arguments, whether one more call may be made, and its answer; it has no frame
+  unfoldable pub osi_rule : List Seg → ℕ → Trees → Run S Flow
+  osi_rule scope depth ts = do
+    arguments ← arguments_in_turn scope depth ts []
+    few ← settle (shallow depth)
+    v ← lift (osi_answered arguments)
+    give (flow.Value v)
+
 module _ {S : Type 0} (accesses : Accesses S) (ev : Task → Run S Flow) where
   unfoldable pub field_rule : ℕ → FieldUnit → Run S Flow
   field_rule depth u = do
@@ -42,6 +51,7 @@ module _ {S : Type 0} (accesses : Accesses S) (ev : Task → Run S Flow) where
   invocation_rule scope depth ts (invocation.Value v) = give (flow.Value v)
   invocation_rule scope depth ts (invocation.FieldUnit u) = field_rule depth u
   invocation_rule scope depth ts (invocation.Method p body) = call_rule ev scope depth ts p body
+  invocation_rule scope depth ts invocation.Osi = osi_rule ev scope depth ts
 
   unfoldable pub name_value : List Seg → ℕ → Tree → Run S Flow
   name_value scope depth t = do

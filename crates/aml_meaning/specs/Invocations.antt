@@ -36,7 +36,7 @@ use Rattle.aml_meaning.specs.Tasks.{Task, in_turn}
 -- ---- what a name is where a value stands
 
 abbrev pub invocation_of_body : List Seg → MethodBody → Outcome Invocation
-invocation_of_body p Osi = Err (refusal.Evaluation (Unsupported 0x14))
+invocation_of_body p Osi = Ok invocation.Osi
 invocation_of_body p (Aml body) = Ok (invocation.Method p body)
 
 -- the value that it holds, the bits of a field unit, a call of a control method, or else a reference to it

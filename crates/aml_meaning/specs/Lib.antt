@@ -17,6 +17,7 @@ pub mod Mutexes
 pub mod NewObjects
 pub mod Operations
 pub mod OperatorTerms
+pub mod Osi
 pub mod PciFunctions
 pub mod Predefined
 pub mod Readings

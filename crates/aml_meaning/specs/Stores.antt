@@ -8,7 +8,7 @@ use Rattle.ar_space.specs.Change.{Change, give, stop, settle, ◌>>=◌}
 use Rattle.aml_path.specs.declared.segment.Seg.{Seg}
 use Rattle.aml_objects.specs.Contents.{Content, Integer, String, Buffer, Other, content_in}
 use Rattle.aml_objects.specs.Copies.{copied}
-use Rattle.aml_objects.specs.Objects.{write_string, write_buffer, write_element, write_byte}
+use Rattle.aml_objects.specs.Objects.{write_string, write_buffer, element_there, write_element, byte_at, write_byte}
 use Rattle.aml_objects.specs.declared.value.Value.{Value}
 use Rattle.aml_objects.specs.declared.value.Value.TheVariants as value
 use Rattle.aml_objects.specs.declared.value.Slot.{Slot}
@@ -55,6 +55,7 @@ copy_into_name p v = do
 
 unfoldable pub copy_into_element : {S : Type 0} → ℕ → ℕ → Value → Change (State S) Stored
 copy_into_element o i v = do
+  there ← on_objects (element_there o i)
   c ← on_objects (copied v)
   put ← on_objects (write_element o i (element.Value c))
   give store.Done
@@ -116,7 +117,7 @@ store_over (holding.FieldUnit u) p v = give (store.FieldUnit u)
 store_over holding.BufferField p v = stop (refusal.Evaluation (Unsupported 0x5B13))
 store_over holding.Nothing p v = stop (refusal.Value WrongType)
 
--- ---- stores through references
+-- ---- stores through references: the reference is tested first, then the value is taken, and then it is written
 
 -- what a byte takes of a value: an integer modulo 256, or the first byte
 abbrev pub first_byte : List ℕ → Outcome ℕ
@@ -134,6 +135,7 @@ byte_in v w = (byte_of (content_in w.objects v), w)
 
 unfoldable pub store_byte : {S : Type 0} → ℕ → ℕ → Value → Change (State S) Stored
 store_byte o i v = do
+  old ← on_objects (byte_at o i)
   b ← byte_in v
   put ← on_objects (write_byte o i b)
   give store.Done

@@ -2,14 +2,12 @@
 ghost use Rattle.std.specs.Prelude.{◌≡◌, nat_lt, length};
 ghost use Rattle.aml_meaning.specs.Belonging.{is_object, reference_belongs, value_belongs};
 
-use crate::world::World;
+use crate::world_state::WorldState;
 use aml_objects::{Reference, Value};
 
-impl<S> World<S> {
-    /// Whether a value is one of this world: each object, declaration and frame that it names was given its number by this
-    /// world, though a declaration or a frame may have ended since. Neither the elements of a package are looked at, nor whether
-    /// an object is of the value's kind. It takes no memory.
-    pub fn holds(&self, value: &Value) -> bool
+impl<S> WorldState<S> {
+    /// Whether each object, declaration and frame that a value names was given its number by this world. It takes no memory.
+    pub(crate) fn holds(&self, value: &Value) -> bool
         ensures { result ≡ value_belongs self.now value.now }
     {
         match *value {

@@ -1,18 +1,18 @@
 //! Declarations in the world's namespace (ACPI 6.5, 5.3 and 19.6).
-ghost use Rattle.std.specs.Prelude.{◌≡◌};
+ghost use Rattle.std.specs.Prelude.{◌≡◌, OnErr};
 ghost use Rattle.ar_space.specs.Change.{Does};
 ghost use Rattle.ar_space.specs.Outcome.{Answers, NotMemory};
 ghost use Rattle.aml_namespace.specs.Namespace.{declared, without_below};
 ghost use Rattle.aml_meaning.specs.State.{on_names};
 ghost use Rattle.aml_meaning.specs.Declaring.{not_in_method, no_method, new_name, new_method};
 
-use crate::world::World;
+use crate::world_state::WorldState;
 use aml_objects::{Body, Method, MethodBody, MethodFlags, NamedObject, Octets};
 use aml_path::Path;
 use ar_space::{NamespaceFault, Refusal};
 use std::alloc::Global;
 
-impl<S> World<S> {
+impl<S> WorldState<S> {
     /// Declares a name, and gives the number of the declaration, which is never given again.
     ///
     /// A name whose parent doesn't stand is refused as `NotFound`, one that stands already as `Exists`, and one for which no
@@ -21,6 +21,7 @@ impl<S> World<S> {
     pub fn declare(&mut self, path: Path, object: NamedObject) -> Result<u64, Refusal>
         ensures world { Does result self.new (on_names (declared path object)) self.old }
         ensures space { self.new.space ≡ self.old.space }
+        ensures refused { OnErr result (self.new ≡ self.old) }
     {
         self.names.insert(path, object)
     }
@@ -34,7 +35,8 @@ impl<S> World<S> {
         path: Path,
         object: NamedObject,
     ) -> Result<u64, Refusal>
-        ensures { Does result self.new (new_name module_level path object) self.old }
+        ensures change { Does result self.new (new_name module_level path object) self.old }
+        ensures refused { OnErr result (self.new ≡ self.old) }
     {
         self.not_in_method(alloc, module_level, &path)?;
         self.declare(path, object)
@@ -50,7 +52,8 @@ impl<S> World<S> {
         flags: MethodFlags,
         body: Octets,
     ) -> Result<u64, Refusal>
-        ensures { Does result self.new (new_method module_level path flags body) self.old }
+        ensures change { Does result self.new (new_method module_level path flags body) self.old }
+        ensures refused { OnErr result (self.new ≡ self.old) }
     {
         match Body::new(alloc, body) {
             Ok(body) => {

@@ -4,7 +4,7 @@ ghost use Rattle.ar_space.specs.Change.{Does};
 ghost use Rattle.ar_space.specs.Outcome.{Answers, NotMemory};
 ghost use Rattle.aml_meaning.specs.FieldTerms.{width_numbered, access_width, rule_numbered, update_rule, sized, further, new_field, region_number, region_found, in_region, field_number, field_found};
 
-use crate::world::World;
+use crate::world_state::WorldState;
 use aml_objects::{FieldSource, FieldUnit, NamedObject, UpdateRule};
 use aml_path::{NameString, Path};
 use ar_space::{FieldFault, Refusal, ValueFault, Width};
@@ -85,7 +85,7 @@ pub fn update_rule(flags: u64) -> UpdateRule
     }
 }
 
-impl<S> World<S> {
+impl<S> WorldState<S> {
     /// Declares a field unit of so many bits where a list of fields has come to, and gives where it goes on.
     ///
     /// A field of no bits, or of more than 8,388,608, is refused as `FieldLimit`, and its name as `new_name` refuses it.

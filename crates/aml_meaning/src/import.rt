@@ -9,7 +9,7 @@ ghost use Rattle.aml_meaning.specs.Readings.{absolute};
 ghost use Rattle.aml_meaning.specs.Importing.{reference_to, imported_by, each_imported, elements_imported, package_imported, imported, all_imported};
 
 use crate::datum::Datum;
-use crate::world::World;
+use crate::world_state::WorldState;
 use aml_objects::{Element, Elements, Octets, Reference, Value};
 use aml_path::{NameString, Path, Prefix};
 use ar_space::{EvaluationFault, Refusal, ValueFault};
@@ -18,7 +18,7 @@ use std::alloc::Global;
 /// How deep packages may nest that are handed in.
 const MAX_NESTING: usize = 64;
 
-impl<S> World<S> {
+impl<S> WorldState<S> {
     /// A value that is handed in, as a value of this world.
     ///
     /// An integer is imported as wide as integers are, and a name as a reference to it. Refused: a name that isn't found as
@@ -93,7 +93,7 @@ fn absolute(alloc: Global, path: &Path) -> Result<NameString, Refusal>
 #[tactic(auto, using(crate::proofs::Imports::importing))]
 fn import_by<S>(
     alloc: Global,
-    world: &mut World<S>,
+    world: &mut WorldState<S>,
     levels: usize,
     datum: &Datum,
 ) -> Result<Value, Refusal>
@@ -114,7 +114,7 @@ fn import_by<S>(
 #[tactic(auto, using(crate::proofs::Imports::importing))]
 fn import_package<S>(
     alloc: Global,
-    world: &mut World<S>,
+    world: &mut WorldState<S>,
     levels: usize,
     list: &[Datum],
 ) -> Result<Value, Refusal>
@@ -130,7 +130,7 @@ fn import_package<S>(
 #[tactic(auto, using(ar_space::specs::Change::changing), unfolding(crate::specs::Importing::elements_imported))]
 fn import_elements<S>(
     alloc: Global,
-    world: &mut World<S>,
+    world: &mut WorldState<S>,
     levels: usize,
     list: &[Datum],
 ) -> Result<Value, Refusal>
@@ -144,7 +144,7 @@ fn import_elements<S>(
 #[tactic(auto, using(ar_space::specs::Change::changing))]
 fn import_each<S>(
     alloc: Global,
-    world: &mut World<S>,
+    world: &mut WorldState<S>,
     levels: usize,
     list: &[Datum],
 ) -> Result<Elements, Refusal>

@@ -12,4 +12,6 @@ pub enum Invocation {
     FieldUnit(FieldUnit),
     /// A call of the control method at this path, with this body.
     Method(Path, Body),
+    /// A call of the predefined control method `\_OSI`.
+    Osi,
 }

@@ -9,7 +9,7 @@ ghost use Rattle.aml_meaning.specs.Invocations.{invocation_of_body, invocation_o
 
 use crate::invocation::Invocation;
 use crate::readings::{arguments_of, as_many, read_as};
-use crate::world::World;
+use crate::world_state::WorldState;
 use aml_grammar::{Arities, Arity};
 use aml_namespace::Names;
 use aml_objects::{Entry, MethodBody, NamedObject, Reference, Value};
@@ -17,12 +17,12 @@ use aml_path::{NameString, Path};
 use ar_space::{EvaluationFault, Refusal};
 use std::alloc::Global;
 
-impl<S> World<S> {
+impl<S> WorldState<S> {
     /// What a name is where a value stands, with so many arguments.
     ///
     /// A name that holds a value is that value, a field unit its bits, a control method a call, and anything else a reference
     /// to it; so is a name that holds a reference. Refused: a name that isn't found as `NotFound`, another count than it takes
-    /// as `ArityChanged`, and what is not evaluated, buffer fields and `_OSI`, as `Unsupported`.
+    /// as `ArityChanged`, and buffer fields, which are not evaluated, as `Unsupported`.
     #[tactic(auto, using(ar_space::specs::Change::changing), unfolding(crate::specs::Invocations::invocation_found))]
     pub fn invocation(
         &self,
@@ -94,7 +94,7 @@ fn call_of(alloc: Global, path: &Path, body: &MethodBody) -> Result<Invocation, 
     ensures { Answers result (invocation_of_body path.now body.now) }
 {
     match body {
-        MethodBody::Osi => Err(Refusal::Evaluation(EvaluationFault::Unsupported(0x14))),
+        MethodBody::Osi => Ok(Invocation::Osi),
         MethodBody::Aml(body) => Ok(Invocation::Method(path.copy(alloc)?, body.share()?)),
     }
 }

@@ -17,6 +17,7 @@ mod new_objects;
 mod object_type;
 mod objects;
 mod operations;
+mod osi;
 mod pci_functions;
 mod predefined;
 mod readings;
@@ -31,6 +32,7 @@ mod tables;
 mod targets;
 mod term_kind;
 mod world;
+mod world_state;
 
 pub use datum::Datum;
 pub use field_layout::{FieldGroup, FieldLayout, access_width, update_rule};
@@ -49,3 +51,4 @@ pub use term_kind::{
     TermKind, Test, TwoOperands,
 };
 pub use world::World;
+pub use world_state::WorldState;

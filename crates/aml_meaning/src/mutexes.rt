@@ -8,12 +8,12 @@ ghost use Rattle.aml_meaning.specs.State.{on_names};
 ghost use Rattle.aml_meaning.specs.Mutexes.{count_of_object, mutex_count, once_more, once_less, acquired, given_back, acquired_at, given_back_at};
 
 use crate::store_target::StoreTarget;
-use crate::world::World;
+use crate::world_state::WorldState;
 use aml_objects::NamedObject;
 use aml_path::Path;
 use ar_space::{EvaluationFault, NamespaceFault, Refusal, ValueFault};
 
-impl<S> World<S> {
+impl<S> WorldState<S> {
     /// Acquires the mutex that is named. Anything else is refused as `WrongType`, and as `ObjectLimit` a mutex that is
     /// acquired 2^64 - 1 times.
     #[tactic(auto, using(ar_space::specs::Change::changing))]

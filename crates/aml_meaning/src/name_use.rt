@@ -10,7 +10,7 @@ ghost use Rattle.aml_meaning.specs.Given.{given_of};
 ghost use Rattle.aml_meaning.specs.declared.name_use.NameUse.TheVariants as uses;
 
 use crate::datum::Datum;
-use crate::world::World;
+use crate::world_state::WorldState;
 use aml_objects::{FieldUnit, NamedObject, Value};
 use aml_path::{NameString, Path};
 use ar_space::{EvaluationFault, Refusal};
@@ -27,7 +27,7 @@ pub enum NameUse {
     Path(Path),
 }
 
-impl<S> World<S> {
+impl<S> WorldState<S> {
     /// What an element of a package stands for that is a name, searched for from the scope where the package was made.
     #[tactic(auto, unfolding(crate::specs::Exporting::name_use))]
     pub fn name_use(

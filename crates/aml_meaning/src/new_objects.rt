@@ -6,7 +6,7 @@ ghost use Rattle.aml_objects.specs.Objects.{make_buffer};
 ghost use Rattle.aml_meaning.specs.State.{on_objects};
 ghost use Rattle.aml_meaning.specs.NewObjects.{within, sized, filled, new_buffer, new_package};
 
-use crate::world::World;
+use crate::world_state::WorldState;
 use aml_objects::{Element, Elements, Octets, Value};
 use ar_space::{EvaluationFault, Refusal};
 
@@ -16,7 +16,7 @@ const MAX_BYTES: u64 = 1_048_576;
 /// How many elements a package may have.
 const MAX_ELEMENTS: u64 = 65_535;
 
-impl<S> World<S> {
+impl<S> WorldState<S> {
     /// A new buffer as long as its size says, or as its bytes where they are more, zero-filled; refused as `ObjectLimit`
     /// where it is too long, or one object too many.
     #[tactic(auto, using(ar_space::specs::Change::changing), unfolding(crate::specs::NewObjects::new_buffer))]

@@ -4,15 +4,15 @@ ghost use Rattle.ar_space.specs.Change.{Does};
 ghost use Rattle.ar_space.specs.Outcome.{NotMemory};
 ghost use Rattle.aml_objects.specs.Contents.{content_of, content_in};
 ghost use Rattle.aml_objects.specs.Copies.{copied};
-ghost use Rattle.aml_objects.specs.Objects.{make_string, make_buffer, make_package, string_at, buffer_at, elements_at, element_at, byte_at, write_buffer, write_string, write_element, write_byte};
+ghost use Rattle.aml_objects.specs.Objects.{make_string, make_buffer, make_package, string_at, buffer_at, elements_at, element_at, element_there, byte_at, write_buffer, write_string, write_element, write_byte};
 ghost use Rattle.aml_meaning.specs.State.{on_objects};
 
-use crate::world::World;
+use crate::world_state::WorldState;
 use aml_objects::{Content, Element, Elements, Octets, Value};
 use ar_space::Refusal;
 use std::alloc::Global;
 
-impl<S> World<S> {
+impl<S> WorldState<S> {
     /// What a value holds. It takes no memory.
     pub fn content(&self, value: Value) -> Content<'_>
         ensures { content_of result ≡ content_in self.now.objects value }
@@ -90,7 +90,8 @@ impl<S> World<S> {
     /// Stores bytes into a string, which takes their length. Refused as `Heap::write_string` refuses it.
     #[tactic(auto, using(crate::proofs::Lifted::parts))]
     pub fn write_string(&mut self, object: usize, bytes: Octets) -> Result<(), Refusal>
-        ensures { Does result self.new (on_objects (write_string object bytes)) self.old }
+        ensures change { Does result self.new (on_objects (write_string object bytes)) self.old }
+        ensures memory { NotMemory result }
     {
         self.heap.write_string(object, bytes)
     }
@@ -117,6 +118,15 @@ impl<S> World<S> {
         self.heap.byte(object, index)
     }
 
+    /// Tests that a package has an element there; past its end, and of another kind of object, this is refused as `DeadReference`.
+    #[tactic(auto, using(crate::proofs::Lifted::parts))]
+    pub(crate) fn element_there(&self, object: usize, index: usize) -> Result<(), Refusal>
+        ensures answer { Does result self.now (on_objects (element_there object index)) self.now }
+        ensures memory { NotMemory result }
+    {
+        self.heap.element_there(object, index)
+    }
+
     /// Puts an element in place of one of a package.
     #[tactic(auto, using(crate::proofs::Lifted::parts))]
     pub(crate) fn write_element(
@@ -125,7 +135,8 @@ impl<S> World<S> {
         index: usize,
         element: Element,
     ) -> Result<(), Refusal>
-        ensures { Does result self.new (on_objects (write_element object index element)) self.old }
+        ensures change { Does result self.new (on_objects (write_element object index element)) self.old }
+        ensures memory { NotMemory result }
     {
         self.heap.write_element(object, index, element)
     }

@@ -10,7 +10,7 @@ ghost use Rattle.aml_meaning.specs.OperatorTerms.{result_of_two, result_of_one, 
 
 use crate::object_type::Referent;
 use crate::term_kind::{Count, OneOperand, Test, TwoOperands};
-use crate::world::World;
+use crate::world_state::WorldState;
 use aml_convert::{
     BinaryOperator, Comparison, Division, Joined, LogicalOperator, UnaryOperator, compare, concat,
     concat_resources, divide, explicit_integer, holds, logical_not, operate, operate_logically,
@@ -20,7 +20,7 @@ use aml_objects::{Object, Octets, Value};
 use ar_space::{EvaluationFault, Refusal, ValueFault};
 use std::alloc::Global;
 
-impl<S> World<S> {
+impl<S> WorldState<S> {
     /// What an operator gives of two values. Both are converted first, from left to right, and refused as that is.
     #[tactic(auto, using(ar_space::specs::Change::changing))]
     pub fn operate_on_two(

@@ -5,7 +5,7 @@ ghost use Rattle.ar_space.specs.Outcome.{Answers};
 ghost use Rattle.std.specs.FinMap.{get};
 ghost use Rattle.aml_meaning.specs.PciFunctions.{adr, hid, segment_group, base_bus, is_device_object, is_device, has, is_function, is_bridge, fits, nearest, or_deep, or_behind, pci_function};
 
-use crate::world::World;
+use crate::world_state::WorldState;
 use aml_objects::NamedObject;
 use aml_path::{Path, Seg};
 use ar_space::{EvaluationFault, Refusal};
@@ -54,7 +54,7 @@ pub fn base_bus() -> Seg
     Seg::known(*b"_BBN")
 }
 
-impl<S> World<S> {
+impl<S> WorldState<S> {
     /// The nearest of a scope and those above it that is what is sought.
     #[tactic(auto, unfolding(crate::specs::PciFunctions::nearest))]
     pub fn nearest(

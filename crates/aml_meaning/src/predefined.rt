@@ -7,13 +7,13 @@ ghost use Rattle.aml_meaning.specs.State.{on_objects};
 ghost use Rattle.ar_space.specs.Change.{Does};
 ghost use Rattle.aml_meaning.specs.Predefined.{at_root, predefined, predefined_objects, predefined_scopes, takes};
 
-use crate::world::World;
+use crate::world_state::WorldState;
 use aml_objects::{Method, MethodBody, MethodFlags, NamedObject, Octets, Value};
 use aml_path::{Path, Seg};
 use ar_space::Refusal;
 use std::alloc::Global;
 
-impl<S> World<S> {
+impl<S> WorldState<S> {
     /// The predefined names.
     #[tactic(auto, using(ar_space::specs::Change::changing), unfolding(crate::specs::Predefined::predefined))]
     pub(crate) fn predefine(&mut self, alloc: Global) -> Result<(), Refusal>

@@ -4,14 +4,14 @@ ghost use Rattle.ar_space.specs.Change.{Does};
 ghost use Rattle.ar_space.specs.Outcome.{Answers, NotMemory, seen};
 ghost use Rattle.aml_meaning.specs.Readings.{integer_kept, integer_in, entry_found, path_found, is_scope, scope_or_not, scope_found, arguments_of, arguments_found, as_many, read_as};
 
-use crate::world::World;
+use crate::world_state::WorldState;
 use aml_convert::{to_integer, truncate_integer};
 use aml_objects::{Entry, NamedObject, Reference, Value};
 use aml_path::{NameString, Path};
 use ar_space::{EvaluationFault, Refusal, ValueFault};
 use std::alloc::Global;
 
-impl<S> World<S> {
+impl<S> WorldState<S> {
     /// A number as an integer keeps it: its lowest 32 or 64 bits.
     #[tactic(auto, unfolding(crate::specs::Readings::integer_kept))]
     pub fn integer_kept(&self, number: u64) -> Result<Value, Refusal>

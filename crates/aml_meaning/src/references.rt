@@ -1,13 +1,13 @@
 //! Storing values to what references refer to (ACPI 6.5, 19.3.5.8).
 ghost use Rattle.std.specs.Prelude.{◌≡◌};
 ghost use Rattle.ar_space.specs.Change.{Does};
-ghost use Rattle.ar_space.specs.Outcome.{Answers};
+ghost use Rattle.ar_space.specs.Outcome.{Answers, NotMemory};
 ghost use Rattle.aml_objects.specs.Contents.{content_of};
 ghost use Rattle.aml_meaning.specs.Stores.{first_byte, byte_of, byte_in, store_byte, copy_into_element, copy_into_declared, store_over_slot, store_in_frame, store_in_frame_numbered, store_at_reference, stored_through};
 
 use crate::store_target::Stored;
 use crate::targets::holding_of;
-use crate::world::World;
+use crate::world_state::WorldState;
 use aml_objects::{Content, Element, Reference, Slot, Value};
 use ar_space::{EvaluationFault, Refusal, ValueFault};
 use std::alloc::Global;
@@ -17,7 +17,7 @@ use std::alloc::Global;
 #[tactic(auto, using(ar_space::specs::Change::changing), unfolding(crate::specs::Stores::store_in_frame))]
 pub(crate) fn store_in_frame<S>(
     alloc: Global,
-    world: &mut World<S>,
+    world: &mut WorldState<S>,
     levels: usize,
     frame: usize,
     slot: Slot,
@@ -33,7 +33,7 @@ pub(crate) fn store_in_frame<S>(
 #[tactic(auto, using(ar_space::specs::Change::changing))]
 fn store_over_slot<S>(
     alloc: Global,
-    world: &mut World<S>,
+    world: &mut WorldState<S>,
     levels: usize,
     frame: usize,
     slot: Slot,
@@ -58,7 +58,7 @@ fn store_over_slot<S>(
 #[tactic(auto, using(crate::proofs::Following::following))]
 fn store_through<S>(
     alloc: Global,
-    world: &mut World<S>,
+    world: &mut WorldState<S>,
     levels: usize,
     reference: Reference,
     value: Value,
@@ -75,7 +75,7 @@ fn store_through<S>(
 #[tactic(auto, using(ar_space::specs::Change::changing))]
 fn store_at_reference<S>(
     alloc: Global,
-    world: &mut World<S>,
+    world: &mut WorldState<S>,
     levels: usize,
     reference: Reference,
     value: Value,
@@ -96,7 +96,7 @@ fn store_at_reference<S>(
 #[tactic(auto, using(ar_space::specs::Change::changing), unfolding(crate::specs::Stores::store_in_frame_numbered))]
 fn store_in_frame_numbered<S>(
     alloc: Global,
-    world: &mut World<S>,
+    world: &mut WorldState<S>,
     levels: usize,
     number: u64,
     slot: Slot,
@@ -108,7 +108,7 @@ fn store_in_frame_numbered<S>(
     store_in_frame(alloc, world, levels, frame, slot, value)
 }
 
-impl<S> World<S> {
+impl<S> WorldState<S> {
     /// The name of a declaration holds a copy of a value from now on.
     #[tactic(auto, using(ar_space::specs::Change::changing), unfolding(crate::specs::Stores::copy_into_declared))]
     fn copy_into_declared(
@@ -135,6 +135,7 @@ impl<S> World<S> {
     ) -> Result<Stored, Refusal>
         ensures { Does result self.new (copy_into_element object index value) self.old }
     {
+        self.element_there(object, index)?;
         let copy = self.copy(alloc, value)?;
         self.write_element(object, index, Element::Value(copy))?;
         Ok(Stored::Done)
@@ -144,6 +145,7 @@ impl<S> World<S> {
     fn store_byte(&mut self, object: usize, index: usize, value: Value) -> Result<Stored, Refusal>
         ensures { Does result self.new (store_byte object index value) self.old }
     {
+        self.byte(object, index)?;
         let byte = self.byte_in(value)?;
         self.write_byte(object, index, byte)?;
         Ok(Stored::Done)
@@ -152,14 +154,16 @@ impl<S> World<S> {
     /// What a byte of a string or a buffer takes of a value.
     #[tactic(auto, unfolding(crate::specs::Stores::byte_in))]
     fn byte_in(&self, value: Value) -> Result<u8, Refusal>
-        ensures { Does result self.now (byte_in value) self.now }
+        ensures answer { Does result self.now (byte_in value) self.now }
+        ensures memory { NotMemory result }
     {
         byte_of(self.heap.content(value))
     }
 }
 
 fn byte_of(content: Content<'_>) -> Result<u8, Refusal>
-    ensures { Answers result (byte_of (content_of content.entry)) }
+    ensures answer { Answers result (byte_of (content_of content.entry)) }
+    ensures memory { NotMemory result }
 {
     match content {
         Content::Integer(number) => Ok((number % 256) as u8),
@@ -170,7 +174,8 @@ fn byte_of(content: Content<'_>) -> Result<u8, Refusal>
 }
 
 fn first_byte(bytes: &[u8]) -> Result<u8, Refusal>
-    ensures { Answers result (first_byte bytes.now) }
+    ensures answer { Answers result (first_byte bytes.now) }
+    ensures memory { NotMemory result }
 {
     match bytes {
         [] => Err(Refusal::Value(ValueFault::EmptyValue)),

@@ -6,7 +6,7 @@ ghost use Rattle.aml_meaning.specs.StoreTargets.{referent_of, element_named, val
 use crate::object_type::{ObjectType, Referent};
 use crate::readings::read_as;
 use crate::store_target::StoreTarget;
-use crate::world::World;
+use crate::world_state::WorldState;
 use aml_objects::{Element, NamedObject, Reference, Slot, Value};
 use aml_path::{NameString, Path};
 use ar_space::{EvaluationFault, NamespaceFault, Refusal};
@@ -15,7 +15,7 @@ use std::alloc::Global;
 /// How many references are followed one after another.
 pub(crate) const MOST_REFERENCES: usize = 64;
 
-impl<S> World<S> {
+impl<S> WorldState<S> {
     /// What a target holds when references are followed, at most 64 of them. A field unit that an element of a package names
     /// is handed back, for its value to be read. A reference to what is gone, and a longer chain, are refused as
     /// `DeadReference`.
@@ -81,7 +81,7 @@ fn referent_of(object: &NamedObject) -> Referent
 #[tactic(auto, using(ar_space::specs::Change::changing))]
 fn value_followed<S>(
     alloc: Global,
-    world: &World<S>,
+    world: &WorldState<S>,
     levels: usize,
     value: Value,
 ) -> Result<Referent, Refusal>
@@ -101,7 +101,7 @@ fn value_followed<S>(
 #[tactic(auto, using(ar_space::specs::Change::changing))]
 fn referent_followed<S>(
     alloc: Global,
-    world: &World<S>,
+    world: &WorldState<S>,
     levels: usize,
     referent: Referent,
 ) -> Result<Referent, Refusal>
@@ -120,7 +120,7 @@ fn referent_followed<S>(
 #[tactic(auto, using(crate::proofs::Following::following))]
 fn follow<S>(
     alloc: Global,
-    world: &World<S>,
+    world: &WorldState<S>,
     levels: usize,
     reference: Reference,
 ) -> Result<Referent, Refusal>
@@ -136,7 +136,7 @@ fn follow<S>(
 #[tactic(auto, using(ar_space::specs::Change::changing))]
 fn reference_followed<S>(
     alloc: Global,
-    world: &World<S>,
+    world: &WorldState<S>,
     levels: usize,
     reference: Reference,
 ) -> Result<Referent, Refusal>
@@ -154,7 +154,7 @@ fn reference_followed<S>(
 #[tactic(auto, using(ar_space::specs::Change::changing), unfolding(crate::specs::StoreTargets::declared_followed))]
 fn declared_followed<S>(
     alloc: Global,
-    world: &World<S>,
+    world: &WorldState<S>,
     levels: usize,
     number: u64,
 ) -> Result<Referent, Refusal>
@@ -168,7 +168,7 @@ fn declared_followed<S>(
 #[tactic(auto, using(ar_space::specs::Change::changing), unfolding(crate::specs::StoreTargets::slot_followed))]
 fn slot_followed<S>(
     alloc: Global,
-    world: &World<S>,
+    world: &WorldState<S>,
     levels: usize,
     number: u64,
     slot: Slot,
@@ -184,7 +184,7 @@ fn slot_followed<S>(
 #[tactic(auto, using(ar_space::specs::Change::changing), unfolding(crate::specs::StoreTargets::held_followed))]
 fn held_followed<S>(
     alloc: Global,
-    world: &World<S>,
+    world: &WorldState<S>,
     levels: usize,
     object: usize,
     index: usize,
@@ -199,7 +199,7 @@ fn held_followed<S>(
 #[tactic(auto, using(ar_space::specs::Change::changing))]
 fn element_followed<S>(
     alloc: Global,
-    world: &World<S>,
+    world: &WorldState<S>,
     levels: usize,
     element: &Element,
 ) -> Result<Referent, Refusal>
@@ -215,7 +215,7 @@ fn element_followed<S>(
 #[tactic(auto, using(ar_space::specs::Change::changing), unfolding(crate::specs::StoreTargets::name_followed))]
 fn name_followed<S>(
     alloc: Global,
-    world: &World<S>,
+    world: &WorldState<S>,
     levels: usize,
     name: &NameString,
     scope: &Path,
@@ -231,7 +231,7 @@ fn name_followed<S>(
 #[tactic(auto, using(ar_space::specs::Change::changing))]
 fn element_named<S>(
     alloc: Global,
-    world: &World<S>,
+    world: &WorldState<S>,
     levels: usize,
     number: u64,
     object: &NamedObject,
@@ -246,7 +246,7 @@ fn element_named<S>(
 }
 
 #[tactic(auto, using(ar_space::specs::Change::changing), unfolding(crate::specs::StoreTargets::byte_followed))]
-fn byte_followed<S>(world: &World<S>, object: usize, index: usize) -> Result<Referent, Refusal>
+fn byte_followed<S>(world: &WorldState<S>, object: usize, index: usize) -> Result<Referent, Refusal>
     ensures { Does result world.now (byte_followed object index) world.now }
 {
     world.byte(object, index)?;

@@ -10,7 +10,7 @@ ghost use Rattle.aml_meaning.specs.Given.{given_of};
 
 use crate::datum::Datum;
 use crate::object_type::Referent;
-use crate::world::World;
+use crate::world_state::WorldState;
 use aml_convert::to_integer;
 use aml_fields::{AddressSpace, Region, read_field, write_field};
 use aml_objects::{Content, FieldSource, FieldUnit, NamedObject, Octets, OperationRegion, Value};
@@ -86,7 +86,7 @@ pub fn pci_space(segment: u64, bus: u64, address: u64) -> Result<AddressSpace, R
     }
 }
 
-impl<S> World<S> {
+impl<S> WorldState<S> {
     /// The operation region with the number of a declaration, and the scope that it was declared in; one that is gone is
     /// refused as `DeadReference`.
     #[tactic(auto, using(ar_space::specs::Change::changing), unfolding(crate::specs::Regions::region_declared))]
@@ -152,7 +152,8 @@ impl<S> World<S> {
     /// is made.
     #[tactic(auto, unfolding(crate::specs::Regions::given_of_bits))]
     pub fn datum_of_bits(&self, count: u32, bytes: Octets) -> Result<Datum, Refusal>
-        ensures { Does (seen given_of result) self.now (given_of_bits count bytes) self.now }
+        ensures answer { Does (seen given_of result) self.now (given_of_bits count bytes) self.now }
+        ensures memory { NotMemory result }
     {
         if is_wide(self.width, count) {
             return Ok(Datum::Bytes(bytes));
@@ -189,7 +190,7 @@ impl<S> World<S> {
     }
 }
 
-impl<S: Space> World<S> {
+impl<S: Space> WorldState<S> {
     /// A read of a field of a region that is located: its bits, lowest first, as bytes. Refused as `aml_fields::read_field`
     /// refuses it.
     #[tactic(auto, using(crate::proofs::Lifted::parts))]

@@ -1,20 +1,20 @@
-//! A world, and the steps that are left to evaluation in it.
+//! The state of a world, and the steps that are left to evaluation in it.
 ghost use Rattle.std.specs.Prelude.{◌≡◌, ◌≤◌, ◌<◌, OnOk};
 ghost use Rattle.ar_space.specs.Change.{Does};
 ghost use Rattle.ar_space.specs.Outcome.{NotMemory};
 ghost use Rattle.aml_meaning.specs.Run.{charge};
 
-use crate::world::World;
+use crate::world_state::WorldState;
 use ar_space::{EvaluationFault, Refusal};
 use std::marker::Model;
 
-/// A world, and how many steps are left to what is evaluated in it (ACPI 6.5, 5.5: no evaluation runs for ever).
+/// The state of a world, and how many steps are left to what is evaluated in it (ACPI 6.5, 5.5: no evaluation runs for ever).
 ///
 /// Between two evaluations the steps mean nothing: each call that evaluates is told how many it may take.
 #[derive(Drop)]
 pub struct Running<S> {
-    /// The world.
-    pub world: World<S>,
+    /// The state of the world.
+    pub world: WorldState<S>,
     /// The steps that are left.
     pub steps: u64,
 }

@@ -6,7 +6,7 @@ ghost use Rattle.aml_meaning.specs.Slots.{slot_in, with_slot, slot_of, opened, c
 ghost use Rattle.aml_objects.specs.declared.value.Value.TheVariants.{Uninitialized};
 
 use crate::frame::Frame;
-use crate::world::World;
+use crate::world_state::WorldState;
 use aml_objects::{Slot, Value};
 use ar_space::{EvaluationFault, Refusal};
 
@@ -62,7 +62,7 @@ fn put(values: &mut [Value], index: u8, value: Value)
     }
 }
 
-impl<S> World<S> {
+impl<S> WorldState<S> {
     /// What a slot of the frame with a number holds; a frame that ended is refused as `DeadReference`.
     #[tactic(auto, unfolding(crate::specs::Slots::slot_of))]
     pub fn slot(&self, number: u64, slot: Slot) -> Result<Value, Refusal>

@@ -10,14 +10,14 @@ ghost use Rattle.aml_meaning.specs.Stores.{slot_put, copy_into_slot, copy_into_n
 use crate::references::store_in_frame;
 use crate::referents::MOST_REFERENCES;
 use crate::store_target::{Holding, StoreTarget, Stored};
-use crate::world::World;
+use crate::world_state::WorldState;
 use aml_convert::{to_buffer, to_text};
 use aml_objects::{NamedObject, Octets, Slot, Value};
 use aml_path::Path;
 use ar_space::{EvaluationFault, Refusal, ValueFault};
 use std::alloc::Global;
 
-impl<S> World<S> {
+impl<S> WorldState<S> {
     /// Stores a value to a target.
     ///
     /// A local takes a copy. So does an argument; where it holds a reference, that is followed, at most 64 times

@@ -2,10 +2,10 @@
 ghost use Rattle.std.specs.Prelude.{◌≡◌};
 ghost use Rattle.aml_meaning.specs.Calling.{released};
 
-use crate::world::World;
+use crate::world_state::WorldState;
 use aml_grammar::Arities;
 
-impl<S> World<S> {
+impl<S> WorldState<S> {
     /// The arguments that names take, as the tables so far have declared them, and as Externals told.
     pub fn arities(&self) -> &Arities
         ensures { result.now ≡ self.now.arities }

@@ -7,13 +7,13 @@ ghost use Rattle.aml_meaning.specs.TargetTerms.{target_named};
 
 use crate::slots::frame_index;
 use crate::store_target::{Held, Holding, StoreTarget};
-use crate::world::World;
+use crate::world_state::WorldState;
 use aml_objects::{Entry, NamedObject, Slot, Value};
 use aml_path::{NameString, Path};
 use ar_space::{EvaluationFault, NamespaceFault, Refusal, ValueFault};
 use std::alloc::Global;
 
-impl<S> World<S> {
+impl<S> WorldState<S> {
     /// The target that a name stands for; refused as `Names::locate` refuses it.
     #[tactic(auto, using(ar_space::specs::Change::changing), unfolding(crate::specs::TargetTerms::target_named))]
     pub fn target_named(
@@ -55,7 +55,8 @@ impl<S> World<S> {
     /// The index of the frame with a number; one that ended is refused as `DeadReference`.
     #[tactic(auto, unfolding(crate::specs::StoreTargets::frame_found))]
     pub(crate) fn frame_found(&self, number: u64) -> Result<usize, Refusal>
-        ensures { Does result self.now (frame_found number) self.now }
+        ensures answer { Does result self.now (frame_found number) self.now }
+        ensures memory { NotMemory result }
     {
         match frame_index(&self.frames, number) {
             None => Err(Refusal::Evaluation(EvaluationFault::DeadReference)),

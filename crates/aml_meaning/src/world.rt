@@ -1,28 +1,25 @@
-//! The world that evaluation changes.
+//! A world, as callers have it (ACPI 6.5, 5.3 and 5.5).
 ghost use Rattle.std.specs.Prelude.{◌≡◌, ◌≢◌, Ok, Err, IfOk, IfErr};
 ghost use Rattle.ar_space.specs.declared.refusal.Refusal.TheVariants.{OutOfMemory};
 ghost use Rattle.aml_meaning.specs.Predefined.{fresh, predefined};
+ghost use Rattle.aml_meaning.specs.Belonging.{value_belongs};
 
-use crate::frame::Frame;
-use aml_grammar::Arities;
+use crate::running::Running;
+use crate::world_state::WorldState;
 use aml_namespace::Names;
-use aml_objects::{Heap, Octets};
+use aml_objects::{Octets, Value};
 use ar_space::{IntegerWidth, Refusal};
 use std::alloc::Global;
 use std::marker::Model;
 
-/// What evaluation changes, the register space among it: the namespace, how many arguments its names take, the objects, the
-/// frames of the calls in progress with the number of the next one, the texts that `_OSI` knows, and how wide integers are.
+/// A world: the namespace with its objects, and the register space under it, which evaluation changes.
+///
+/// Tables are loaded into it, and its objects are evaluated, by the calls of `aml_interp`. What changes it without evaluating
+/// are calls of its state, `world.running.world`.
 #[derive(Drop)]
 pub struct World<S> {
-    pub(crate) names: Names,
-    pub(crate) arities: Arities,
-    pub(crate) heap: Heap,
-    pub(crate) frames: Vec<Frame>,
-    pub(crate) started: u64,
-    pub(crate) space: S,
-    pub(crate) osi: Vec<Octets>,
-    pub(crate) width: IntegerWidth,
+    /// The world's state, and the steps of the evaluation in progress.
+    pub running: Running<S>,
 }
 
 impl<S> Model for World<S> {
@@ -32,7 +29,7 @@ impl<S> Model for World<S> {
 
     ghost coded = { state_code S.code };
 
-    ghost view = { λ w. record { names = w.names; arities = w.arities; objects = w.heap; frames = w.frames.items; started = w.started; space = w.space; osi = w.osi.items; width = w.width } };
+    ghost view = { λ w. w.running.0 };
 }
 
 impl<S> World<S> {
@@ -48,23 +45,11 @@ impl<S> World<S> {
         ensures space { IfErr result (λ refused. refused.1 ≡ space) }
         ensures refusal { IfErr result (λ refused. refused.0 ≢ OutOfMemory → (predefined (fresh width osi.items space)).0 ≡ Err refused.0) }
     {
-        let names = match Names::new(alloc) {
-            Ok(names) => names,
-            Err(refusal) => return Err((refusal, space)),
-        };
-        let mut world = World {
-            names,
-            arities: Arities::new(alloc),
-            heap: Heap::new(alloc),
-            frames: Vec::new(alloc),
-            started: 0,
-            space,
-            osi,
-            width,
-        };
-        match world.predefine(alloc) {
-            Ok(()) => Ok(world),
-            Err(refusal) => Err((refusal, world.space)),
+        match WorldState::new(alloc, width, osi, space) {
+            Ok(world) => Ok(World {
+                running: Running { world, steps: 0 },
+            }),
+            Err(refused) => Err(refused),
         }
     }
 
@@ -72,34 +57,43 @@ impl<S> World<S> {
     pub fn into_space(self) -> S
         ensures { result ≡ self.space }
     {
-        self.space
+        self.running.world.into_space()
     }
 
     /// Other texts that `_OSI` knows, in place of those before (ACPI 6.5, 5.7.2). It takes no memory.
     pub fn set_osi(&mut self, osi: Vec<Octets>)
         ensures { self.new ≡ record self.old { osi = osi.items } }
     {
-        self.osi = osi;
+        self.running.world.set_osi(osi);
     }
 
     /// The names that are declared.
     pub fn names(&self) -> &Names
         ensures { result.now ≡ self.now.names }
     {
-        &self.names
+        self.running.world.names()
     }
 
     /// How wide integers are.
     pub fn width(&self) -> IntegerWidth
         ensures { result ≡ self.now.width }
     {
-        self.width
+        self.running.world.width()
     }
 
     /// The register space.
     pub fn space(&self) -> &S
         ensures { result.now ≡ self.now.space }
     {
-        &self.space
+        self.running.world.space()
+    }
+
+    /// Whether a value is one of this world: each object, declaration and frame that it names was given its number by this
+    /// world, though a declaration or a frame may have ended since. Neither the elements of a package are looked at, nor whether
+    /// an object is of the value's kind. It takes no memory.
+    pub fn holds(&self, value: &Value) -> bool
+        ensures { result ≡ value_belongs self.now value.now }
+    {
+        self.running.world.holds(value)
     }
 }

@@ -150,6 +150,14 @@ element_outcome i (object.String bs) = Err (refusal.Evaluation DeadReference)
 element_outcome i (object.Buffer bs) = Err (refusal.Evaluation DeadReference)
 element_outcome i (object.Package es) = if nat_lt i (length es) then Ok tt else Err (refusal.Evaluation DeadReference)
 
+abbrev pub element_stands : ℕ → Option Object → Outcome (Unit {0})
+element_stands i None = Err (refusal.Evaluation DeadReference)
+element_stands i (Some ob) = element_outcome i ob
+
+-- a package has an element there, which is tested before it is stored to
+unfoldable pub element_there : ℕ → ℕ → Change Objects (Unit {0})
+element_there o i h = (element_stands i (slice_get h o), h)
+
 abbrev pub element_written : ℕ → Element → Object → Object
 element_written i e (object.String bs) = object.String bs
 element_written i e (object.Buffer bs) = object.Buffer bs

@@ -2,7 +2,7 @@
 ghost use Rattle.std.specs.Prelude.{◌≡◌, ◌<◌, ◌++◌, ◌∷◌, [], List, length, take, ◌==◌, slice_get, slice_set, nat_lt, if◌then◌else◌, option_map, Ok, Err, OnOk, OnErr};
 ghost use Rattle.ar_space.specs.Outcome.{Answers, NotMemory};
 ghost use Rattle.ar_space.specs.Change.{Does};
-ghost use Rattle.aml_objects.specs.Objects.{make, fits, few, make_string, make_buffer, make_package, string_at, buffer_at, elements_at, write_buffer, write_string, fitted_to, write_byte, byte_outcome, byte_written, or_dead, element_at, byte_at, write_element, element_outcome, element_written};
+ghost use Rattle.aml_objects.specs.Objects.{make, fits, few, make_string, make_buffer, make_package, string_at, buffer_at, elements_at, write_buffer, write_string, fitted_to, write_byte, byte_outcome, byte_written, or_dead, element_at, byte_at, element_there, write_element, element_outcome, element_written};
 
 use crate::object::{Element, Elements, Object, Octets};
 use crate::value::Value;
@@ -227,6 +227,18 @@ impl Heap {
         }
     }
 
+    /// Tests that a package has an element at an index. Past its end, and of another object, this is refused as `DeadReference`.
+    #[tactic(auto, unfolding(crate::specs::Objects::element_there))]
+    pub fn element_there(&self, object: usize, index: usize) -> Result<(), Refusal>
+        ensures answer { Does result self.now (element_there object index) self.now }
+        ensures memory { NotMemory result }
+    {
+        match self.object(object) {
+            None => Err(Refusal::Evaluation(EvaluationFault::DeadReference)),
+            Some(found) => element_stands(found, index),
+        }
+    }
+
     /// Replaces one element of a package. Past its end, and of another object, this is refused as `DeadReference`.
     #[tactic(auto, unfolding(crate::specs::Objects::write_element))]
     pub fn write_element(
@@ -235,7 +247,8 @@ impl Heap {
         index: usize,
         element: Element,
     ) -> Result<(), Refusal>
-        ensures { Does result self.new (write_element object index element) self.old }
+        ensures change { Does result self.new (write_element object index element) self.old }
+        ensures memory { NotMemory result }
     {
         if object >= self.objects.len() {
             return Err(Refusal::Evaluation(EvaluationFault::DeadReference));
@@ -271,7 +284,8 @@ impl Heap {
     /// Another kind of object is refused as `WrongType`, too many bytes as `ObjectLimit`.
     #[tactic(auto, unfolding(crate::specs::Objects::write_string))]
     pub fn write_string(&mut self, object: usize, bytes: Octets) -> Result<(), Refusal>
-        ensures { Does result self.new (write_string object bytes) self.old }
+        ensures change { Does result self.new (write_string object bytes) self.old }
+        ensures memory { NotMemory result }
     {
         if object >= self.objects.len() {
             return Err(Refusal::Value(ValueFault::WrongType));
@@ -308,6 +322,16 @@ fn byte_of(bytes: &Octets, index: usize) -> Result<u8, Refusal>
         return Err(Refusal::Evaluation(EvaluationFault::DeadReference));
     }
     Ok(bytes.as_slice()[index])
+}
+
+fn element_stands(object: &Object, index: usize) -> Result<(), Refusal>
+    ensures { result ≡ element_outcome index object.now }
+{
+    match object {
+        Object::String(_) => Err(Refusal::Evaluation(EvaluationFault::DeadReference)),
+        Object::Buffer(_) => Err(Refusal::Evaluation(EvaluationFault::DeadReference)),
+        Object::Package(elements) => elements.stands(index),
+    }
 }
 
 fn element_into(object: &mut Object, index: usize, element: Element) -> Result<(), Refusal>

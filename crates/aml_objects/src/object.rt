@@ -147,6 +147,16 @@ impl Elements {
         self.list[index].copy(alloc)
     }
 
+    /// Tests that an element stands at an index; a reference past the end is dead.
+    pub(crate) fn stands(&self, index: usize) -> Result<(), Refusal>
+        ensures { result ≡ (if nat_lt index (length self.now) then Ok tt else Err (Evaluation DeadReference)) }
+    {
+        if index >= self.list.len() {
+            return Err(Refusal::Evaluation(EvaluationFault::DeadReference));
+        }
+        Ok(())
+    }
+
     /// Replaces one element; a reference past the end is dead, and nothing changes.
     pub(crate) fn set(&mut self, index: usize, element: Element) -> Result<(), Refusal>
         ensures outcome { result ≡ (if nat_lt index (length self.old) then Ok tt else Err (Evaluation DeadReference)) }

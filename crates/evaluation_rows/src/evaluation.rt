@@ -2,7 +2,7 @@
 use crate::trouble::{Trouble, answer_text};
 use crate::{loading, machines, naming, objects, setting};
 use acpi_machine::Machine;
-use aml_meaning::{Running, World};
+use aml_meaning::World;
 use aml_objects::Octets;
 use ar_space::{IntegerWidth, Sparse};
 use ar_tables::{Image, Tables};
@@ -18,7 +18,7 @@ pub enum Stage {
     /// Registers alone.
     Bare(Sparse),
     /// A world over the registers, which notes each access to them.
-    World(Running<Traced<Sparse>>),
+    World(World<Traced<Sparse>>),
     /// A machine over the registers.
     Machine(Machine<Sparse>),
 }
@@ -47,7 +47,7 @@ impl Evaluation {
     pub fn taken_space(&mut self, alloc: Global) -> Sparse {
         match mem::replace(&mut self.stage, Stage::Bare(Sparse::new(alloc))) {
             Stage::Bare(space) => space,
-            Stage::World(running) => running.world.into_space().into_inner(),
+            Stage::World(world) => world.into_space().into_inner(),
             Stage::Machine(_) => Sparse::new(alloc),
         }
     }
@@ -57,20 +57,15 @@ impl Evaluation {
         mem::replace(&mut self.osi, Vec::new(alloc))
     }
 
-    /// The world with its steps, which is made where none stands.
-    pub fn running(&mut self, alloc: Global) -> Result<&mut Running<Traced<Sparse>>, Trouble> {
+    /// The world, which is made where none stands.
+    pub fn world(&mut self, alloc: Global) -> Result<&mut World<Traced<Sparse>>, Trouble> {
         if !matches!(self.stage, Stage::World(_)) {
             loading::make_world(alloc, self)?;
         }
         match &mut self.stage {
-            Stage::World(running) => Ok(running),
+            Stage::World(world) => Ok(world),
             _ => Err(Trouble::Unread),
         }
-    }
-
-    /// The world, which is made where none stands.
-    pub fn world(&mut self, alloc: Global) -> Result<&mut World<Traced<Sparse>>, Trouble> {
-        Ok(&mut self.running(alloc)?.world)
     }
 
     /// The machine that was made.

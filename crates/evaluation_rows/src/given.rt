@@ -2,7 +2,7 @@
 use crate::loading::valued;
 use crate::reading::{first_word, index, number, value};
 use crate::trouble::Trouble;
-use aml_meaning::{Datum, Running};
+use aml_meaning::{Datum, World};
 use aml_objects::{Reference, Value};
 use aml_path::Path;
 use ar_space::Sparse;
@@ -45,15 +45,11 @@ pub fn data(alloc: Global, text: &str) -> Result<Vec<Datum>, Trouble> {
 }
 
 /// A reference to an element of the package that the name at a path holds: `INDEX of PATH`.
-fn element(
-    alloc: Global,
-    running: &mut Running<Traced<Sparse>>,
-    text: &str,
-) -> Result<Value, Trouble> {
+fn element(alloc: Global, world: &mut World<Traced<Sparse>>, text: &str) -> Result<Value, Trouble> {
     let (place, behind) = first_word(text);
     let (_of, path) = first_word(behind);
     let path = Path::from_text(alloc, path.as_bytes())?;
-    match valued(alloc, running, &path, Vec::new(alloc), 1000)? {
+    match valued(alloc, world, &path, Vec::new(alloc), 1000)? {
         (Value::Package(object), _) => {
             Ok(Value::Reference(Reference::Element(object, index(place)?)))
         }
@@ -64,11 +60,11 @@ fn element(
 /// An argument that is a value of the world: a value, or `element INDEX of PATH`.
 fn argument(
     alloc: Global,
-    running: &mut Running<Traced<Sparse>>,
+    world: &mut World<Traced<Sparse>>,
     text: &str,
 ) -> Result<Value, Trouble> {
     match text.strip_prefix("element ") {
-        Some(behind) => element(alloc, running, behind),
+        Some(behind) => element(alloc, world, behind),
         None => value(text),
     }
 }
@@ -76,7 +72,7 @@ fn argument(
 /// The arguments of a text `with ARGUMENT, ARGUMENT` that are values of the world.
 pub fn values(
     alloc: Global,
-    running: &mut Running<Traced<Sparse>>,
+    world: &mut World<Traced<Sparse>>,
     text: &str,
 ) -> Result<Vec<Value>, Trouble> {
     let mut list = Vec::new(alloc);
@@ -85,7 +81,7 @@ pub fn values(
     }
     let given = text.strip_prefix("with ").ok_or(Trouble::Unread)?;
     for item in given.split(',') {
-        list.push(argument(alloc, running, item.strip_prefix(" ").unwrap_or(item))?)?;
+        list.push(argument(alloc, world, item.strip_prefix(" ").unwrap_or(item))?)?;
     }
     Ok(list)
 }

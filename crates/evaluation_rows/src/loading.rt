@@ -5,7 +5,7 @@ use crate::telling::done;
 use crate::trouble::Trouble;
 use crate::{given, shown, telling};
 use aml_interp::{answer, eval, load};
-use aml_meaning::{Datum, Running, World};
+use aml_meaning::{Datum, World};
 use aml_objects::Value;
 use aml_path::Path;
 use ar_space::{Refusal, Sparse};
@@ -41,7 +41,7 @@ pub fn make_world(alloc: Global, subject: &mut Evaluation) -> Result<(), Trouble
     let texts = subject.taken_texts(alloc);
     match World::new(alloc, subject.width, texts, space) {
         Ok(world) => {
-            subject.stage = Stage::World(Running { world, steps: 0 });
+            subject.stage = Stage::World(world);
             Ok(())
         }
         Err((refusal, space)) => {
@@ -60,11 +60,11 @@ fn new_world(alloc: Global, subject: &mut Evaluation) -> Result<String, Trouble>
 /// Loads a table in so many steps.
 fn loaded(
     alloc: Global,
-    running: &mut Running<Traced<Sparse>>,
+    world: &mut World<Traced<Sparse>>,
     table: &[u8],
     steps: u64,
 ) -> Result<(), Refusal> {
-    load(alloc, running, table, steps)
+    load(alloc, world, table, steps)
 }
 
 /// The AML that a text names or writes.
@@ -80,7 +80,7 @@ fn aml_of(alloc: Global, subject: &Evaluation, text: &str) -> Result<Vec<u8>, Tr
 fn load_bytes(alloc: Global, subject: &mut Evaluation, rest: &str) -> Result<String, Trouble> {
     let (count, text) = steps(rest)?;
     let table = aml_of(alloc, subject, text)?;
-    loaded(alloc, subject.running(alloc)?, table.as_slice(), count)?;
+    loaded(alloc, subject.world(alloc)?, table.as_slice(), count)?;
     done(alloc)
 }
 
@@ -106,8 +106,8 @@ fn load_method(
 ) -> Result<(), Trouble> {
     let body = bytes_of(alloc, text)?;
     let table = method_table(alloc, flags, body.as_slice())?;
-    let running = subject.running(alloc)?;
-    loaded(alloc, running, table.as_slice(), METHOD_STEPS)?;
+    let world = subject.world(alloc)?;
+    loaded(alloc, world, table.as_slice(), METHOD_STEPS)?;
     Ok(())
 }
 
@@ -121,12 +121,12 @@ fn declare_method(alloc: Global, subject: &mut Evaluation, rest: &str) -> Result
 /// What the name at a path answers.
 fn answered(
     alloc: Global,
-    running: &mut Running<Traced<Sparse>>,
+    world: &mut World<Traced<Sparse>>,
     path: &Path,
     arguments: Vec<Datum>,
     steps: u64,
 ) -> Result<Datum, Refusal> {
-    answer(alloc, running, path, arguments, steps)
+    answer(alloc, world, path, arguments, steps)
 }
 
 /// `body [in N steps] BYTES`: loads the control method `M000` that takes no arguments and has this body, and calls it.
@@ -134,8 +134,8 @@ fn call_body(alloc: Global, subject: &mut Evaluation, rest: &str) -> Result<Stri
     let (count, text) = steps(rest)?;
     load_method(alloc, subject, 0, text)?;
     let path = Path::from_text(alloc, b"\\M000")?;
-    let running = subject.running(alloc)?;
-    let datum = answered(alloc, running, &path, Vec::new(alloc), count)?;
+    let world = subject.world(alloc)?;
+    let datum = answered(alloc, world, &path, Vec::new(alloc), count)?;
     telling::datum(alloc, &datum)
 }
 
@@ -145,19 +145,19 @@ fn answer_path(alloc: Global, subject: &mut Evaluation, rest: &str) -> Result<St
     let path = Path::from_text(alloc, path.as_bytes())?;
     let (count, behind) = steps(behind)?;
     let arguments = given::data(alloc, behind)?;
-    let datum = answered(alloc, subject.running(alloc)?, &path, arguments, count)?;
+    let datum = answered(alloc, subject.world(alloc)?, &path, arguments, count)?;
     telling::datum(alloc, &datum)
 }
 
 /// The value of the name at a path, and how many steps are left.
 pub fn valued(
     alloc: Global,
-    running: &mut Running<Traced<Sparse>>,
+    world: &mut World<Traced<Sparse>>,
     path: &Path,
     arguments: Vec<Value>,
     steps: u64,
 ) -> Result<(Value, u64), Refusal> {
-    eval(alloc, running, path, arguments, steps)
+    eval(alloc, world, path, arguments, steps)
 }
 
 /// `value PATH [in N steps] [with VALUES]`: the value of the name at a path, within the world.
@@ -165,9 +165,9 @@ fn value_of_path(alloc: Global, subject: &mut Evaluation, rest: &str) -> Result<
     let (path, behind) = first_word(rest);
     let path = Path::from_text(alloc, path.as_bytes())?;
     let (count, behind) = steps(behind)?;
-    let running = subject.running(alloc)?;
-    let arguments = given::values(alloc, running, behind)?;
-    let (value, left) = valued(alloc, running, &path, arguments, count)?;
+    let world = subject.world(alloc)?;
+    let arguments = given::values(alloc, world, behind)?;
+    let (value, left) = valued(alloc, world, &path, arguments, count)?;
     subject.left = left;
     telling::value(alloc, value)
 }

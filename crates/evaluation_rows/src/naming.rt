@@ -59,7 +59,7 @@ fn declared(
     path: Path,
     object: NamedObject,
 ) -> Result<u64, Refusal> {
-    world.declare(path, object)
+    world.running.world.declare(path, object)
 }
 
 /// `declare device PATH` or `declare mutex COUNT PATH`: declares a name, and gives the number of its declaration.
@@ -86,7 +86,7 @@ fn declare(
 fn remove(alloc: Global, world: &mut World<Traced<Sparse>>, rest: &str) -> Result<String, Trouble> {
     let (_below, path) = first_word(rest);
     let path = Path::from_text(alloc, path.as_bytes())?;
-    world.remove_below(&path);
+    world.running.world.remove_below(&path);
     done(alloc)
 }
 

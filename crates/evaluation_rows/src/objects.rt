@@ -45,7 +45,7 @@ fn new_string(
     world: &mut World<Traced<Sparse>>,
     rest: &str,
 ) -> Result<String, Trouble> {
-    let made = world.make_string(octets(alloc, rest)?)?;
+    let made = world.running.world.make_string(octets(alloc, rest)?)?;
     telling::value(alloc, made)
 }
 
@@ -55,7 +55,7 @@ fn new_buffer(
     world: &mut World<Traced<Sparse>>,
     rest: &str,
 ) -> Result<String, Trouble> {
-    let made = world.make_buffer(octets(alloc, rest)?)?;
+    let made = world.running.world.make_buffer(octets(alloc, rest)?)?;
     telling::value(alloc, made)
 }
 
@@ -67,24 +67,24 @@ fn new_package(
 ) -> Result<String, Trouble> {
     let mut elements = Elements::new(alloc);
     elements.push(Element::Value(value(rest)?))?;
-    let made = world.make_package(elements)?;
+    let made = world.running.world.make_package(elements)?;
     telling::value(alloc, made)
 }
 
 /// `copy VALUE`: a deep copy of a value.
 fn copy(alloc: Global, world: &mut World<Traced<Sparse>>, rest: &str) -> Result<String, Trouble> {
-    let made = world.copy(alloc, value(rest)?)?;
+    let made = world.running.world.copy(alloc, value(rest)?)?;
     telling::value(alloc, made)
 }
 
 /// `contents VALUE`: what a value holds.
 fn contents(alloc: Global, world: &World<Traced<Sparse>>, rest: &str) -> Result<String, Trouble> {
-    telling::content(alloc, world.content(value(rest)?))
+    telling::content(alloc, world.running.world.content(value(rest)?))
 }
 
 /// `count OBJECT`: how many elements the package with this number has.
 fn count(alloc: Global, world: &World<Traced<Sparse>>, rest: &str) -> Result<String, Trouble> {
-    let elements = world.elements(alloc, index(rest)?)?;
+    let elements = world.running.world.elements(alloc, index(rest)?)?;
     let count = elements.as_slice().len();
     Ok(format!(in alloc; "{count}")?)
 }
@@ -95,7 +95,7 @@ fn write_string(
     object: usize,
     bytes: Octets,
 ) -> Result<(), Refusal> {
-    world.write_string(object, bytes)
+    world.running.world.write_string(object, bytes)
 }
 
 /// Stores bytes into a buffer.
@@ -104,7 +104,7 @@ fn write_buffer(
     object: usize,
     bytes: Octets,
 ) -> Result<(), Refusal> {
-    world.write_buffer(object, bytes)
+    world.running.world.write_buffer(object, bytes)
 }
 
 /// `write string OBJECT BYTES` or `write buffer OBJECT BYTES`: stores bytes into an object.
@@ -133,19 +133,19 @@ fn open_frame(
 ) -> Result<String, Trouble> {
     let mut arguments = [Value::Uninitialized; 7];
     arguments[1] = value(rest)?;
-    let number = world.open_frame(arguments)?;
+    let number = world.running.world.open_frame(arguments)?;
     Ok(format!(in alloc; "frame {number}")?)
 }
 
 /// `slot FRAME local N` or `slot FRAME argument N`: what a slot of a frame holds.
 fn slot_value(alloc: Global, world: &World<Traced<Sparse>>, rest: &str) -> Result<String, Trouble> {
     let (frame, behind) = first_word(rest);
-    let held = world.slot(number(frame)?, slot(behind)?)?;
+    let held = world.running.world.slot(number(frame)?, slot(behind)?)?;
     telling::value(alloc, held)
 }
 
 /// `close`: ends the last frame that was opened.
 fn close_frame(alloc: Global, world: &mut World<Traced<Sparse>>) -> Result<String, Trouble> {
-    world.close_frame();
+    world.running.world.close_frame();
     done(alloc)
 }

@@ -97,7 +97,7 @@ fn byte(alloc: Global, subject: &mut Evaluation, rest: &str) -> Result<String, T
     let (at, _behind) = place(word, behind)?;
     let found = match &subject.stage {
         Stage::Bare(space) => space.byte(at),
-        Stage::World(running) => world_byte(&running.world, at),
+        Stage::World(world) => world_byte(world, at),
         Stage::Machine(machine) => machines::byte(machine, at),
     };
     shown::byte(alloc, found)

@@ -161,6 +161,9 @@ decreases-invocations::eval_body g l = 40 * (l.run.now.1 + (32 - l.depth)) + 2
 abbrev pub decreases-invocations::eval_invoked : goal.decreases-invocations::eval_invoked
 decreases-invocations::eval_invoked g l = 40 * (l.run.now.1 + (32 - l.depth)) + 3
 
+abbrev pub decreases-invocations::eval_osi : goal.decreases-invocations::eval_osi
+decreases-invocations::eval_osi g l = 40 * (l.run.now.1 + (32 - l.job.depth)) + 4
+
 abbrev pub decreases-invocations::eval_arguments : goal.decreases-invocations::eval_arguments
 decreases-invocations::eval_arguments g l = 40 * (l.run.now.1 + (32 - l.job.depth)) + 2
 

@@ -1,7 +1,7 @@
 use Rattle.std.proofs.Common.{arith}
 use Rattle.ar_space.specs.Change.{does_same, does_seen_err, same_ok}
 use Rattle.aml_meaning.proofs.Imports.{same_argument, arguments_end}
-use Rattle.aml_meaning.proofs.world.World.import_all.Goals as goal
+use Rattle.aml_meaning.proofs.world_state.WorldState.import_all.Goals as goal
 
 pub loop-datum-preserved : goal.loop-datum-preserved
 loop-datum-preserved g c = rw (c.in_ok-push.ensures.items) (same_ok _ _ (same_argument c.args.arguments.now c.loop-datum.values.items c.loop-datum.datum-index _ c.loop-datum.invariant (omega arith) c.datum-item.is) c.in_ok-value.ensures)

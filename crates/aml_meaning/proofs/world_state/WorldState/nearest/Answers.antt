@@ -1,6 +1,6 @@
 use Rattle.std.proofs.Common.{◌≡◌, ◌<◌, ap, sym, arith, rules}
 use Rattle.aml_meaning.specs.PciFunctions.{found_here, found_nowhere, found_above, nearest_from}
-use Rattle.aml_meaning.proofs.world.World.nearest.Goals as goal
+use Rattle.aml_meaning.proofs.world_state.WorldState.nearest.Goals as goal
 
 pub scopes-init : goal.scopes-init
 scopes-init g c = (let e = c.depth-depth.ensures in omega (arith, e), ap (nearest_from c.args.self.now.names.map c.args.sought c.args.path.now) (sym c.depth-depth.ensures))

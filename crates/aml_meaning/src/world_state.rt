@@ -1,0 +1,105 @@
+//! The state of a world, which evaluation changes.
+ghost use Rattle.std.specs.Prelude.{◌≡◌, ◌≢◌, Ok, Err, IfOk, IfErr};
+ghost use Rattle.ar_space.specs.declared.refusal.Refusal.TheVariants.{OutOfMemory};
+ghost use Rattle.aml_meaning.specs.Predefined.{fresh, predefined};
+
+use crate::frame::Frame;
+use aml_grammar::Arities;
+use aml_namespace::Names;
+use aml_objects::{Heap, Octets};
+use ar_space::{IntegerWidth, Refusal};
+use std::alloc::Global;
+use std::marker::Model;
+
+/// The state of a world: what evaluation changes, the register space among it: the namespace, how many arguments its names take, the objects, the
+/// frames of the calls in progress with the number of the next one, the texts that `_OSI` knows, and how wide integers are.
+#[derive(Drop)]
+pub struct WorldState<S> {
+    pub(crate) names: Names,
+    pub(crate) arities: Arities,
+    pub(crate) heap: Heap,
+    pub(crate) frames: Vec<Frame>,
+    pub(crate) started: u64,
+    pub(crate) space: S,
+    pub(crate) osi: Vec<Octets>,
+    pub(crate) width: IntegerWidth,
+}
+
+impl<S> Model for WorldState<S> {
+    ghost use Rattle.aml_meaning.specs.State.{State, state_code};
+
+    ghost Value = { State S };
+
+    ghost coded = { state_code S.code };
+
+    ghost view = { λ w. record { names = w.names; arities = w.arities; objects = w.heap; frames = w.frames.items; started = w.started; space = w.space; osi = w.osi.items; width = w.width } };
+}
+
+impl<S> WorldState<S> {
+    /// The state with the predefined names alone. Where it is refused, which only want of memory does, the register space comes
+    /// back as it was.
+    pub(crate) fn new(
+        alloc: Global,
+        width: IntegerWidth,
+        osi: Vec<Octets>,
+        space: S,
+    ) -> Result<WorldState<S>, (Refusal, S)>
+        ensures world { IfOk result (λ world. predefined (fresh width osi.items space) ≡ (Ok tt, world)) }
+        ensures space { IfErr result (λ refused. refused.1 ≡ space) }
+        ensures refusal { IfErr result (λ refused. refused.0 ≢ OutOfMemory → (predefined (fresh width osi.items space)).0 ≡ Err refused.0) }
+    {
+        let names = match Names::new(alloc) {
+            Ok(names) => names,
+            Err(refusal) => return Err((refusal, space)),
+        };
+        let mut world = WorldState {
+            names,
+            arities: Arities::new(alloc),
+            heap: Heap::new(alloc),
+            frames: Vec::new(alloc),
+            started: 0,
+            space,
+            osi,
+            width,
+        };
+        match world.predefine(alloc) {
+            Ok(()) => Ok(world),
+            Err(refusal) => Err((refusal, world.space)),
+        }
+    }
+
+    /// The register space, given back.
+    pub(crate) fn into_space(self) -> S
+        ensures { result ≡ self.space }
+    {
+        self.space
+    }
+
+    /// Other texts that `_OSI` knows, in place of those before (ACPI 6.5, 5.7.2). It takes no memory.
+    pub(crate) fn set_osi(&mut self, osi: Vec<Octets>)
+        ensures { self.new ≡ record self.old { osi = osi.items } }
+    {
+        self.osi = osi;
+    }
+
+    /// The names that are declared.
+    pub fn names(&self) -> &Names
+        ensures { result.now ≡ self.now.names }
+    {
+        &self.names
+    }
+
+    /// How wide integers are.
+    pub fn width(&self) -> IntegerWidth
+        ensures { result ≡ self.now.width }
+    {
+        self.width
+    }
+
+    /// The register space.
+    pub fn space(&self) -> &S
+        ensures { result.now ≡ self.now.space }
+    {
+        &self.space
+    }
+}
