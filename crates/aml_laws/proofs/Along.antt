@@ -14,7 +14,7 @@ use Rattle.aml_objects.specs.declared.object.Object.TheVariants as object
 use Rattle.aml_objects.specs.declared.entry.FieldUnit.{FieldUnit}
 use Rattle.aml_objects.specs.declared.entry.UpdateRule.{UpdateRule}
 use Rattle.aml_objects.specs.declared.entry.UpdateRule.TheVariants.{Preserve, WriteAsOnes, WriteAsZeros}
-use Rattle.aml_objects.specs.Objects.{Objects, make, fits, few, make_string, make_buffer, make_package, string_at, buffer_at, elements_at, with_sized, with_buffer, write_buffer, with_string, write_string, byte_written, with_byte, write_byte, element_at, byte_at, element_there, element_written, with_element, write_element}
+use Rattle.aml_objects.specs.Objects.{Objects, make, make_string, make_buffer, make_package, string_at, buffer_at, elements_at, with_sized, with_buffer, write_buffer, with_string, write_string, byte_written, with_byte, write_byte, element_at, byte_at, element_there, element_written, with_element, write_element}
 use Rattle.aml_objects.specs.Copies.{copied}
 use Rattle.aml_objects.proofs.Copying.{copy_grows}
 use Rattle.aml_fields.specs.declared.region.Region.{Region}
@@ -137,25 +137,17 @@ holds_make : (o : Object) → Holds (make o)
 unfolding make
 holds_make o = record { along = λ h. either_way (λ (x : Outcome ℕ × Objects). KeepsKinds h x.1) (nat_le 262144 (length h)) _ _ (kinds_same h) (kinds_added h (o ∷ [])) }
 
-holds_fits : (bs : List ℕ) → Holds (fits bs)
-unfolding fits
-holds_fits bs = record { along = λ h. either_way (λ (x : Outcome (Unit {0}) × Objects). KeepsKinds h x.1) (nat_lt 1048576 (length bs)) _ _ (kinds_same h) (kinds_same h) }
-
-holds_few : (es : List Element) → Holds (few es)
-unfolding few
-holds_few es = record { along = λ h. either_way (λ (x : Outcome (Unit {0}) × Objects). KeepsKinds h x.1) (nat_lt 65535 (length es)) _ _ (kinds_same h) (kinds_same h) }
-
 pub holds_string : (bs : List ℕ) → Holds (make_string bs)
 unfolding make_string
-holds_string bs = along_bind _ _ (holds_fits bs) (λ u. along_bind _ _ (holds_make _) (λ n. along_give _))
+holds_string bs = along_bind _ _ (along_settle _) (λ u. along_bind _ _ (holds_make _) (λ n. along_give _))
 
 pub holds_buffer : (bs : List ℕ) → Holds (make_buffer bs)
 unfolding make_buffer
-holds_buffer bs = along_bind _ _ (holds_fits bs) (λ u. along_bind _ _ (holds_make _) (λ n. along_give _))
+holds_buffer bs = along_bind _ _ (along_settle _) (λ u. along_bind _ _ (holds_make _) (λ n. along_give _))
 
 pub holds_package : (es : List Element) → Holds (make_package es)
 unfolding make_package
-holds_package es = along_bind _ _ (holds_few es) (λ u. along_bind _ _ (holds_make _) (λ n. along_give _))
+holds_package es = along_bind _ _ (along_settle _) (λ u. along_bind _ _ (holds_make _) (λ n. along_give _))
 
 pub holds_copy : (v : Value) → Holds (copied v)
 holds_copy v = record { along = λ h. subst (KeepsKinds h) (sym (copy_grows v h).1) (kinds_added h (copy_grows v h).0) }

@@ -22,6 +22,7 @@ pub mod Refused
 pub mod Rising
 pub mod Safe
 pub mod Standing
+pub mod WideAnswers
 pub mod WideBits
 pub mod WideFields
 pub mod WideFirst

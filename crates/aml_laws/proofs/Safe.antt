@@ -132,18 +132,23 @@ by_room false new zs room h k = joined_bytes (take room new) zs (first room new 
 
 -- ---- objects
 
+-- a count that is not refused
+at_most : (limit count : ℕ) (b : Bool) (e : Refusal) (u : Unit {0}) → nat_lt limit count ≡ b → ◌≡◌ {A = Outcome (Unit {0})} (if b then Err e else Ok tt) (Ok u) → count ≤ limit
+at_most limit count true e u over is = absurd (cc is)
+at_most limit count false e u over is = ltb-false limit count over
+
 module _ (width : IntegerWidth) where
   o_make : (o : Object) → ObjectFits width o → Safe (Each (ObjectFits width)) Any (make o)
   unfolding make
   o_make o f = record { safe = λ h i. good_if (nat_le 262144 (length h)) _ _ (λ b. good_err _ h i) (λ b. good_ok _ _ (each_push _ h o i f) tt) }
 
-  o_fits : (bs : List ℕ) → Safe (Each (ObjectFits width)) (λ u. length bs ≤ 1048576) (fits bs)
+  o_fits : (bs : List ℕ) → Safe (Each (ObjectFits width)) (λ u. length bs ≤ 1048576) (settle (fits bs))
   unfolding fits
-  o_fits bs = record { safe = λ h i. good_if (nat_lt 1048576 (length bs)) _ _ (λ b. good_err _ h i) (λ b. good_ok _ h i (ltb-false 1048576 (length bs) b)) }
+  o_fits bs = s_settle _ (λ u. at_most 1048576 (length bs) _ _ u refl)
 
-  o_few : (es : List Element) → Safe (Each (ObjectFits width)) (λ u. length es ≤ 65535) (few es)
+  o_few : (es : List Element) → Safe (Each (ObjectFits width)) (λ u. length es ≤ 65535) (settle (few es))
   unfolding few
-  o_few es = record { safe = λ h i. good_if (nat_lt 65535 (length es)) _ _ (λ b. good_err _ h i) (λ b. good_ok _ h i (ltb-false 65535 (length es) b)) }
+  o_few es = s_settle _ (λ u. at_most 65535 (length es) _ _ u refl)
 
   pub o_string : (bs : List ℕ) → AreBytes bs → Safe (Each (ObjectFits width)) (WithinWidth width) (make_string bs)
   unfolding make_string
@@ -184,15 +189,15 @@ module _ (width : IntegerWidth) where
   elements_of (Some (object.Buffer b)) es h e = absurd (cc e)
   elements_of (Some (object.Package xs)) es h e = ok_fits (ElementsFit width) xs es e h
 
-  o_string_at : (o : ℕ) → Safe (Each (ObjectFits width)) BytesFit (string_at o)
+  pub o_string_at : (o : ℕ) → Safe (Each (ObjectFits width)) BytesFit (string_at o)
   unfolding string_at
   o_string_at o = record { safe = λ h i. good_settled _ h i (λ bs e. text_of (slice_get h o) bs (held_there h o _ i refl) e) }
 
-  o_buffer_at : (o : ℕ) → Safe (Each (ObjectFits width)) BytesFit (buffer_at o)
+  pub o_buffer_at : (o : ℕ) → Safe (Each (ObjectFits width)) BytesFit (buffer_at o)
   unfolding buffer_at
   o_buffer_at o = record { safe = λ h i. good_settled _ h i (λ bs e. bytes_of (slice_get h o) bs (held_there h o _ i refl) e) }
 
-  o_elements_at : (o : ℕ) → Safe (Each (ObjectFits width)) (ElementsFit width) (elements_at o)
+  pub o_elements_at : (o : ℕ) → Safe (Each (ObjectFits width)) (ElementsFit width) (elements_at o)
   unfolding elements_at
   o_elements_at o = record { safe = λ h i. good_settled _ h i (λ es e. elements_of (slice_get h o) es (held_there h o _ i refl) e) }
 

@@ -30,13 +30,15 @@ use Rattle.aml_meaning.specs.declared.object_type.Referent.TheVariants as refere
 use Rattle.aml_meaning.specs.declared.regions.RegionSpace.{RegionSpace}
 use Rattle.aml_meaning.specs.declared.regions.RegionSpace.TheVariants as kinds
 use Rattle.aml_meaning.specs.declared.regions.RegionField.{RegionField}
+use Rattle.aml_meaning.specs.Given.{Given, Integer, Bytes}
 use Rattle.aml_meaning.specs.State.{State, on_space}
 use Rattle.aml_meaning.specs.Run.{Run, lift, charge}
 use Rattle.aml_meaning.specs.PciFunctions.{nearest, pci_function}
-use Rattle.aml_meaning.specs.Regions.{region_declared, field_declared, integer_of_bits, integer_value, value_of_bits, integer_alone, integer_referent, referent_of_bits}
-use Rattle.aml_meaning.specs.Fields.{part_in, inherited, pci_address, space_at, located, region_bits, region_written, index_unit, index_unit_written, index_bits, index_written, bits_in, written_in, field_value, field_integer, field_part, field_referent, field_stored}
+use Rattle.aml_meaning.specs.Regions.{region_declared, field_declared, integer_of_bits, integer_value, value_of_bits, integer_alone, given_of_bits, integer_referent, referent_of_bits}
+use Rattle.aml_meaning.specs.Fields.{part_in, inherited, pci_address, space_at, located, region_bits, region_written, index_unit, index_unit_written, index_bits, index_written, bits_in, written_in, field_value, field_integer, field_part, field_given, field_referent, field_stored}
 use Rattle.aml_laws.specs.Plain.{AreBytes}
 use Rattle.aml_laws.specs.Within.{WithinWidth}
+use Rattle.aml_laws.specs.Handed.{GivenWithin}
 use Rattle.aml_laws.specs.AllWithin.{Each, UnitFits, AllWithin}
 use Rattle.aml_laws.proofs.PlainSteps.{Any}
 use Rattle.aml_laws.proofs.Safe.{Good, Safe, ok_fits, good_ok, good_err, good_settled, good_if, s_give, s_stop, s_settle, s_bind, o_buffer}
@@ -189,6 +191,14 @@ module _ (S : Type 0) (width : IntegerWidth) where
   unfolding referent_of_bits
   w_referent_of count bytes h = record { safe = λ w i. good_if (nat_lt (bits_of w.width) count) _ _ (λ b. good_ok (referent.Bytes (length bytes)) w i h.1) (λ b. good_settled _ w i (λ x e. seen_referent _ x (λ n is. small S width w n i (of_bytes w.width bytes n h.0 is)) e)) }
 
+  seen_given : (r : Outcome ℕ) (x : Given) → ((n : ℕ) → r ≡ Ok n → Below S width n) → seen Integer r ≡ Ok x → GivenWithin width x
+  seen_given (Ok n) x h e = ok_fits (GivenWithin width) _ x e (h n refl)
+  seen_given (Err y) x h e = absurd (cc e)
+
+  w_given_of : (count : ℕ) (bytes : List ℕ) → AreBytes bytes → Safe (In S width) (GivenWithin width) (given_of_bits count bytes)
+  unfolding given_of_bits
+  w_given_of count bytes h = record { safe = λ w i. good_if (nat_lt (bits_of w.width) count) _ _ (λ b. good_ok (Bytes bytes) w i h) (λ b. good_settled _ w i (λ x e. seen_given _ x (λ n is. small S width w n i (of_bytes w.width bytes n h is)) e)) }
+
 module _ (S : Type 0) (width : IntegerWidth) (accesses : Accesses S) (call : List Seg → Run S ℕ) (each : (q : List Seg) → Safe (RunIn S width) Any (call q)) where
   f_part : (s : Seg) (o : Option (List Seg)) → Safe (RunIn S width) Any (part_in accesses call s o)
   f_part s None = s_give _ tt
@@ -254,6 +264,10 @@ module _ (S : Type 0) (width : IntegerWidth) (accesses : Accesses S) (call : Lis
   pub f_referent : (f : FieldUnit) → UnitFits f → Safe (RunIn S width) (ReferentFits width) (field_referent accesses call f)
   unfolding field_referent
   f_referent f fit = s_bind _ _ (f_bits_in f.source f fit) (λ bytes h. r_lift S width _ (w_referent_of S width f.bits bytes h))
+
+  pub f_given : (f : FieldUnit) → UnitFits f → Safe (RunIn S width) (GivenWithin width) (field_given accesses call f)
+  unfolding field_given
+  f_given f fit = s_bind _ _ (f_bits_in f.source f fit) (λ bytes h. r_lift S width _ (w_given_of S width f.bits bytes h.0))
 
   pub f_stored : (f : FieldUnit) (v : Value) → WithinWidth width v → Safe (RunIn S width) Any (field_stored accesses call f v)
   unfolding field_stored

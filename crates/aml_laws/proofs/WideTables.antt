@@ -48,7 +48,7 @@ released_entry width None e h is = absurd (cc is)
 released_entry width (Some d) e h is = let same : entry_released d ≡ e = cc is in subst (λ (x : Entry). NamedFits width x.object) same (released_fits width d.object (h d refl))
 
 module _ (S : Type 0) (width : IntegerWidth) (accesses : Accesses S) where
-  x_ending : {A : Type 0} (m : Change (State S) A) → Safe (In S width) Any m → Safe (In S width) Any (ending m)
+  pub x_ending : {A : Type 0} (m : Change (State S) A) → Safe (In S width) Any m → Safe (In S width) Any (ending m)
   unfolding ending mutexes_released
   x_ending m h = record {
     safe = λ w a. let g = (h.safe w a).state in record {
@@ -63,7 +63,7 @@ module _ (S : Type 0) (width : IntegerWidth) (accesses : Accesses S) where
     safe = λ w a. let g = (h.safe w a).state in record { state = record { wide = g.wide; names = g.names; objects = g.objects; frames = each_take (FrameFits width) _ (m w).1.frames g.frames }; gives = λ x e. tt };
   }
 
-  x_steps : {A : Type 0} (steps : ℕ) (m : Run S A) → Safe (RunIn S width) Any m → Safe (In S width) Any (with_steps steps m)
+  pub x_steps : {A : Type 0} (steps : ℕ) (m : Run S A) → Safe (RunIn S width) Any m → Safe (In S width) Any (with_steps steps m)
   unfolding with_steps
   x_steps steps m h = record { safe = λ w a. record { state = (h.safe (w, steps) a).state; gives = λ x e. tt } }
 
@@ -84,7 +84,7 @@ module _ (S : Type 0) (width : IntegerWidth) (accesses : Accesses S) where
   x_loaded bytes steps h =
       x_ending _ (s_bind _ _ (x_terms bytes h) (λ ts g. s_bind _ _ (w_opened S width _ (each_replicate (WithinWidth width) 7 value.Uninitialized tt)) (λ n u. x_framed _ (x_steps steps _ (x_root ts g)))))
 
-  x_value : (i : Invocation) (arguments : List Value) → InvocationFits width i → Each (WithinWidth width) arguments → Safe (RunIn S width) (WithinWidth width) (value_of accesses i arguments)
+  pub x_value : (i : Invocation) (arguments : List Value) → InvocationFits width i → Each (WithinWidth width) arguments → Safe (RunIn S width) (WithinWidth width) (value_of accesses i arguments)
   x_value (invocations.Value v) arguments f h = s_give _ f
   x_value (invocations.FieldUnit u) arguments f h = t_read S width accesses (meaning accesses) (meaning_safe S width accesses) 1 u f
   x_value invocations.Osi arguments f h = r_lift S width _ (w_osi S width arguments)

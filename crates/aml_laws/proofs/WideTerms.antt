@@ -36,9 +36,11 @@ use Rattle.aml_meaning.specs.Terms.{inner_of, list_of}
 use Rattle.aml_meaning.specs.Readings.{value_in}
 use Rattle.aml_meaning.specs.Tasks.{Task, task, operand_value, value_at, two_values, operand_integer, goes_on, in_turn}
 use Rattle.aml_meaning.specs.Invocations.{invocation_of_body, invocation_of_object, invocation_of, named_use, invocation_found, body_terms, returned_by, leaving, frame_arguments, value_of_call, invoked, method_value}
+use Rattle.aml_meaning.specs.Fields.{field_given}
 use Rattle.aml_meaning.specs.FieldCalls.{asked, method_integer, answer_over, answer_within, called_at, field_read, held_integer, referent_read, completed, stored_to, stored_back}
 use Rattle.aml_laws.specs.Plain.{AreBytes, PlainTree, PlainPart, PlainParts, PlainTrees}
 use Rattle.aml_laws.specs.Within.{WithinWidth}
+use Rattle.aml_laws.specs.Handed.{GivenWithin}
 use Rattle.aml_laws.specs.AllWithin.{Each, NamedFits, FrameFits, UnitFits}
 use Rattle.aml_laws.proofs.Callees.{StandsThere, found_there}
 use Rattle.aml_laws.proofs.PlainSteps.{Any}
@@ -46,7 +48,7 @@ use Rattle.aml_laws.proofs.PlainTerms.{read_plain}
 use Rattle.aml_laws.proofs.Safe.{Safe, ok_fits, good_ok, good_err, good_settled, good_if, s_give, s_stop, s_settle, s_bind, each_push, each_take, each_replicate}
 use Rattle.aml_laws.proofs.WideWorld.{In, Below, fewer_names, read_fits, w_read, w_arguments}
 use Rattle.aml_laws.proofs.WidePlaces.{HeldFits, ReferentFits, w_stored}
-use Rattle.aml_laws.proofs.WideFields.{RunIn, r_lift, f_value, f_integer, f_part_of, f_referent, f_stored}
+use Rattle.aml_laws.proofs.WideFields.{RunIn, r_lift, f_value, f_integer, f_part_of, f_given, f_referent, f_stored}
 
 -- ---- operands of terms that hold bytes
 
@@ -230,7 +232,7 @@ module _ (S : Type 0) (width : IntegerWidth) (accesses : Accesses S) (ev : Task 
   unfolding asked
   t_asked answer each q = s_bind _ _ (r_lift S width _ (w_invocation S width _ _ _)) each
 
-  weaken : {A : Type 0} {Fit : A → Type 0} (m : Run S A) → Safe (RunIn S width) Fit m → Safe (RunIn S width) Any m
+  pub weaken : {A : Type 0} {Fit : A → Type 0} (m : Run S A) → Safe (RunIn S width) Fit m → Safe (RunIn S width) Any m
   weaken m h = record { safe = λ s a. record { state = (h.safe s a).state; gives = λ x e. tt } }
 
   t_over : (k : ℕ) (call : List Seg → Run S ℕ) → ((q : List Seg) → Safe (RunIn S width) Any (call q)) → (i : Invocation) → InvocationFits width i → Safe (RunIn S width) Any (answer_over accesses ev k call i)
@@ -250,6 +252,9 @@ module _ (S : Type 0) (width : IntegerWidth) (accesses : Accesses S) (ev : Task 
 
   pub t_read : (depth : ℕ) (u : FieldUnit) → UnitFits u → Safe (RunIn S width) (WithinWidth width) (field_read accesses ev depth u)
   t_read depth u h = f_value S width accesses _ (t_called_at depth) u h
+
+  pub t_given : (depth : ℕ) (u : FieldUnit) → UnitFits u → Safe (RunIn S width) (GivenWithin width) (field_given accesses (called_at accesses ev depth) u)
+  t_given depth u h = f_given S width accesses _ (t_called_at depth) u h
 
   pub t_held : (depth : ℕ) (h : Held) → HeldFits width h → Safe (RunIn S width) (Below S width) (held_integer accesses ev depth h)
   t_held depth (held.Value v) f = r_lift S width _ (w_read S width v f)

@@ -2,6 +2,7 @@ pub mod AllWithin
 pub mod Becomes
 pub mod Calls
 pub mod Declares
+pub mod Handed
 pub mod Kinds
 pub mod Mutexes
 pub mod Numbers

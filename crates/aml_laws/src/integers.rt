@@ -8,7 +8,8 @@ ghost use Rattle.aml_objects.specs.declared.value.Value.{Value};
 ghost use Rattle.aml_meaning.specs.declared.flow.Flow.TheVariants as flow;
 ghost use Rattle.aml_meaning.specs.Tasks.{Task, in_turn};
 ghost use Rattle.aml_meaning.specs.Meaning.{meaning};
-ghost use Rattle.aml_meaning.specs.Calling.{loaded, evaluated};
+ghost use Rattle.aml_meaning.specs.Calling.{loaded, evaluated, answered};
+ghost use Rattle.aml_meaning.specs.Given.{Given};
 ghost use Rattle.aml_meaning.specs.Predefined.{fresh, predefined};
 ghost use Rattle.aml_convert.specs.declared.operators.Division.{Division};
 ghost use Rattle.aml_meaning.specs.declared.term_kind.OneOperand.{OneOperand};
@@ -21,6 +22,7 @@ ghost use Rattle.aml_meaning.specs.Regions.{value_of_bits};
 ghost use Rattle.aml_meaning.specs.Operations.{divided_in, turned};
 ghost use Rattle.aml_meaning.specs.OperatorTerms.{result_of_two, result_of_one, result_of_test, counted_by};
 ghost use Rattle.aml_laws.specs.AllWithin.{Each, AllWithin};
+ghost use Rattle.aml_laws.specs.Handed.{PlainGiven, GivenWithin};
 ghost use Rattle.aml_laws.specs.Plain.{AreBytes, PlainTree, PlainTrees};
 ghost use Rattle.aml_laws.specs.Within.{Below, Within, WithinWidth, FormsWithin};
 
@@ -40,8 +42,9 @@ pub fn operators_form_integers_of_the_width<S>()
 {}
 
 /// Every integer is below two to the width: where those of the world are (in names, objects and frames), and bytes below 256 in
-/// objects, in the bodies of control methods and in the terms, they are after an evaluation, however it ends; and a value that it
-/// gives is. So it is from the predefined names on. A string or a buffer has at most 1,048,576 bytes, a package at most 65,535 elements, a field at most 8,388,608 bits.
+/// objects, in the bodies of control methods, in the terms and in what is handed in, they are after an evaluation, however it ends;
+/// and a value that it gives is, or that an answer hands out. Integers that are handed in may be any. So it is from the predefined
+/// names on. A string or a buffer has at most 1,048,576 bytes, a package at most 65,535 elements, a field at most 8,388,608 bits.
 #[tactic(auto, using(crate::proofs::WideRules::term_gives))]
 pub fn integers_stay_below_two_to_the_width<S>()
     ensures first { (width : IntegerWidth) (osi : List (List ℕ)) (space : S) → AllWithin width (predefined (fresh width osi space)).1 }
@@ -51,4 +54,6 @@ pub fn integers_stay_below_two_to_the_width<S>()
     ensures tables { (width : IntegerWidth) (accesses : Accesses S) (bytes : List ℕ) (steps : ℕ) (w : State S) → AreBytes bytes → AllWithin width w → AllWithin width (loaded accesses bytes steps w).1 }
     ensures objects { (width : IntegerWidth) (accesses : Accesses S) (path : List Seg) (arguments : List Value) (steps : ℕ) (w : State S) → Each (WithinWidth width) arguments → AllWithin width w → AllWithin width (evaluated accesses path arguments steps w).1 }
     ensures object_values { (width : IntegerWidth) (accesses : Accesses S) (path : List Seg) (arguments : List Value) (steps : ℕ) (w : State S) (x : Value × ℕ) → Each (WithinWidth width) arguments → AllWithin width w → (evaluated accesses path arguments steps w).0 ≡ Ok x → WithinWidth width x.0 }
+    ensures answers { (width : IntegerWidth) (accesses : Accesses S) (path : List Seg) (arguments : List Given) (steps : ℕ) (w : State S) → Each PlainGiven arguments → AllWithin width w → AllWithin width (answered accesses path arguments steps w).1 }
+    ensures answer_values { (width : IntegerWidth) (accesses : Accesses S) (path : List Seg) (arguments : List Given) (steps : ℕ) (w : State S) (x : Given) → Each PlainGiven arguments → AllWithin width w → (answered accesses path arguments steps w).0 ≡ Ok x → GivenWithin width x }
 {}

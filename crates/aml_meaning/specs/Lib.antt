@@ -3,6 +3,7 @@ pub mod Calling
 pub mod DataTerms
 pub mod DeclarationTerms
 pub mod Declaring
+pub mod Drafted
 pub mod Evaluation
 pub mod Exporting
 pub mod FieldCalls

@@ -2,15 +2,16 @@
 ghost use Rattle.std.specs.Prelude.{◌≡◌, [], map};
 ghost use Rattle.ar_space.specs.Change.{Does};
 ghost use Rattle.ar_space.specs.Outcome.{Answers, seen};
-ghost use Rattle.aml_objects.specs.Objects.{make_string, make_buffer};
+ghost use Rattle.aml_objects.specs.Objects.{make_string, make_buffer, make_package};
 ghost use Rattle.aml_meaning.specs.State.{on_objects};
 ghost use Rattle.aml_meaning.specs.Given.{given_of, givens};
 ghost use Rattle.aml_meaning.specs.Readings.{absolute};
+ghost use Rattle.aml_meaning.specs.Drafted.{drafted};
 ghost use Rattle.aml_meaning.specs.Importing.{reference_to, imported_by, each_imported, elements_imported, package_imported, imported, all_imported};
 
 use crate::datum::Datum;
 use crate::world_state::WorldState;
-use aml_objects::{Element, Elements, Octets, Reference, Value};
+use aml_objects::{Draft, Element, Elements, Octets, Reference, Value};
 use aml_path::{NameString, Path, Prefix};
 use ar_space::{EvaluationFault, Refusal, ValueFault};
 use std::alloc::Global;
@@ -24,18 +25,14 @@ impl<S> WorldState<S> {
     /// An integer is imported as wide as integers are, and a name as a reference to it. Refused: a name that isn't found as
     /// `NotFound`, a reference as `WrongType`, and as `ObjectLimit` what is too large, packages that nest more than 64 deep,
     /// and too many objects. A refused value makes no object.
-    #[tactic(auto, unfolding(crate::specs::Importing::imported))]
+    #[tactic(auto, using(crate::proofs::Imports::appending))]
     pub fn import(&mut self, alloc: Global, datum: &Datum) -> Result<Value, Refusal>
         ensures { Does result self.new (imported (given_of datum.now)) self.old }
     {
-        let before = self.heap.len();
-        match import_by(alloc, self, MAX_NESTING, datum) {
-            Ok(value) => Ok(value),
-            Err(refusal) => {
-                self.heap.truncate(before);
-                Err(refusal)
-            }
-        }
+        let mut draft = Draft::new(alloc);
+        let value = import_by(alloc, self, &mut draft, MAX_NESTING, datum)?;
+        self.heap.append(draft)?;
+        Ok(value)
     }
 
     /// Values that are handed in, one after another, each refused as `import` refuses it; the objects of those before a refused one
@@ -61,24 +58,39 @@ impl<S> WorldState<S> {
         Ok(Value::Reference(Reference::Name(entry.number)))
     }
 
-    /// A new string of these bytes.
-    fn new_text(&mut self, alloc: Global, bytes: &Octets) -> Result<Value, Refusal>
-        ensures { Does result self.new (on_objects (make_string bytes.now)) self.old }
+    /// A new string of these bytes, in a draft.
+    #[tactic(auto, using(crate::proofs::Imports::importing))]
+    fn draft_text(&self, alloc: Global, draft: &mut Draft, bytes: &Octets) -> Result<Value, Refusal>
+        ensures { Does result (drafted self.now draft.new) (on_objects (make_string bytes.now)) (drafted self.now draft.old) }
     {
         match bytes.copy(alloc) {
-            Ok(bytes) => self.make_string(bytes),
+            Ok(bytes) => draft.make_string(&self.heap, bytes),
             Err(refusal) => Err(refusal),
         }
     }
 
-    /// A new buffer of these bytes.
-    fn new_bytes(&mut self, alloc: Global, bytes: &Octets) -> Result<Value, Refusal>
-        ensures { Does result self.new (on_objects (make_buffer bytes.now)) self.old }
+    /// A new buffer of these bytes, in a draft.
+    #[tactic(auto, using(crate::proofs::Imports::importing))]
+    fn draft_bytes(
+        &self,
+        alloc: Global,
+        draft: &mut Draft,
+        bytes: &Octets,
+    ) -> Result<Value, Refusal>
+        ensures { Does result (drafted self.now draft.new) (on_objects (make_buffer bytes.now)) (drafted self.now draft.old) }
     {
         match bytes.copy(alloc) {
-            Ok(bytes) => self.make_buffer(bytes),
+            Ok(bytes) => draft.make_buffer(&self.heap, bytes),
             Err(refusal) => Err(refusal),
         }
+    }
+
+    /// A new package of these elements, in a draft.
+    #[tactic(auto, using(crate::proofs::Imports::importing))]
+    fn draft_package(&self, draft: &mut Draft, elements: Elements) -> Result<Value, Refusal>
+        ensures { Does result (drafted self.now draft.new) (on_objects (make_package elements)) (drafted self.now draft.old) }
+    {
+        draft.make_package(&self.heap, elements)
     }
 }
 
@@ -89,22 +101,24 @@ fn absolute(alloc: Global, path: &Path) -> Result<NameString, Refusal>
     Ok(NameString::new(Prefix::Root, path.copy(alloc)?.into_vec()))
 }
 
+/// A value that is handed in: what it makes stands in the draft, behind the objects of the world.
 #[cycle(importing)]
 #[tactic(auto, using(crate::proofs::Imports::importing))]
 fn import_by<S>(
     alloc: Global,
-    world: &mut WorldState<S>,
+    world: &WorldState<S>,
+    draft: &mut Draft,
     levels: usize,
     datum: &Datum,
 ) -> Result<Value, Refusal>
-    ensures { Does result world.new (imported_by (package_imported levels) (given_of datum.now)) world.old }
+    ensures { Does result (drafted world.now draft.new) (imported_by (package_imported levels) (given_of datum.now)) (drafted world.now draft.old) }
 {
     match datum {
         Datum::Nothing => Ok(Value::Uninitialized),
         Datum::Integer(number) => world.integer_kept(*number),
-        Datum::Text(bytes) => world.new_text(alloc, bytes),
-        Datum::Bytes(bytes) => world.new_bytes(alloc, bytes),
-        Datum::Package(list) => import_package(alloc, world, levels, list),
+        Datum::Text(bytes) => world.draft_text(alloc, draft, bytes),
+        Datum::Bytes(bytes) => world.draft_bytes(alloc, draft, bytes),
+        Datum::Package(list) => import_package(alloc, world, draft, levels, list),
         Datum::Named(path) => world.reference_to(alloc, path),
         Datum::Reference => Err(Refusal::Value(ValueFault::WrongType)),
     }
@@ -114,45 +128,48 @@ fn import_by<S>(
 #[tactic(auto, using(crate::proofs::Imports::importing))]
 fn import_package<S>(
     alloc: Global,
-    world: &mut WorldState<S>,
+    world: &WorldState<S>,
+    draft: &mut Draft,
     levels: usize,
     list: &[Datum],
 ) -> Result<Value, Refusal>
-    ensures { Does result world.new (package_imported levels (givens (map given_of list.now))) world.old }
+    ensures { Does result (drafted world.now draft.new) (package_imported levels (givens (map given_of list.now))) (drafted world.now draft.old) }
 {
     if levels == 0 {
         return Err(Refusal::Evaluation(EvaluationFault::ObjectLimit));
     }
-    import_elements(alloc, world, levels - 1, list)
+    import_elements(alloc, world, draft, levels - 1, list)
 }
 
 #[cycle(importing)]
 #[tactic(auto, using(ar_space::specs::Change::changing), unfolding(crate::specs::Importing::elements_imported))]
 fn import_elements<S>(
     alloc: Global,
-    world: &mut WorldState<S>,
+    world: &WorldState<S>,
+    draft: &mut Draft,
     levels: usize,
     list: &[Datum],
 ) -> Result<Value, Refusal>
-    ensures { Does result world.new (elements_imported (package_imported levels) (givens (map given_of list.now))) world.old }
+    ensures { Does result (drafted world.now draft.new) (elements_imported (package_imported levels) (givens (map given_of list.now))) (drafted world.now draft.old) }
 {
-    let elements = import_each(alloc, world, levels, list)?;
-    world.make_package(elements)
+    let elements = import_each(alloc, world, draft, levels, list)?;
+    world.draft_package(draft, elements)
 }
 
 #[cycle(importing)]
 #[tactic(auto, using(ar_space::specs::Change::changing))]
 fn import_each<S>(
     alloc: Global,
-    world: &mut WorldState<S>,
+    world: &WorldState<S>,
+    draft: &mut Draft,
     levels: usize,
     list: &[Datum],
 ) -> Result<Elements, Refusal>
-    ensures { Does result world.new (each_imported (package_imported levels) (givens (map given_of list.now)) []) world.old }
+    ensures { Does result (drafted world.now draft.new) (each_imported (package_imported levels) (givens (map given_of list.now)) []) (drafted world.now draft.old) }
 {
     let mut done = Elements::new(alloc);
     for datum in list {
-        let value = import_by(alloc, world, levels, datum)?;
+        let value = import_by(alloc, world, draft, levels, datum)?;
         done.push(Element::Value(value))?;
     }
     Ok(done)

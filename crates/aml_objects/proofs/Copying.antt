@@ -1,5 +1,5 @@
 -- What follows of copies.
-use Rattle.std.specs.Prelude.{◌≡◌, ℕ, zero, suc, ◌+◌, ◌-◌, ◌<◌, ◌≤◌, List, [], ◌∷◌, ◌++◌, length, take, drop, get_or, nat_le, nat_lt, Bool, true, false, Ok, Err, if◌then◌else◌}
+use Rattle.std.specs.Prelude.{◌≡◌, ℕ, zero, suc, ◌+◌, ◌-◌, ◌<◌, ◌≤◌, List, [], ◌∷◌, ◌++◌, length, take, drop, get_or, nat_le, Bool, true, false, Ok, Err, if◌then◌else◌}
 use Rattle.std.proofs.Common.{arith, ap, sym, ◌∙◌, sub-one, refl, append_assoc, rules, drop-cons, add-one}
 use Rattle.std.proofs.Math.Seq.{take-append_seam}
 use Rattle.std.proofs.lemmas.List.{drop_all}
@@ -11,7 +11,7 @@ use Rattle.aml_objects.specs.declared.value.Value.TheVariants as value
 use Rattle.aml_objects.specs.declared.object.Element.{Element}
 use Rattle.aml_objects.specs.declared.object.Element.TheVariants as element
 use Rattle.aml_objects.specs.declared.object.Object.{Object}
-use Rattle.ar_space.specs.Change.{Change, Does, Same, give, stop, go_on, ◌>>=◌}
+use Rattle.ar_space.specs.Change.{Change, Does, Same, give, stop, settle, go_on, ◌>>=◌}
 use Rattle.ar_space.specs.Outcome.{Outcome}
 use Rattle.aml_objects.specs.Objects.{Objects, make, fits, make_string, make_buffer, string_at, buffer_at, elements_at}
 use Rattle.aml_objects.specs.Copies.{if_whole, string_copy, buffer_copy, value_copy, held_copy, element_copy, copies_of, whole_copy, package_copy, whole, copied}
@@ -73,21 +73,17 @@ grows_make : (o : Object) → Grows (make o)
 unfolding make
 grows_make o = record { more = λ h. if_grows (nat_le 262144 (length h)) _ _ h (o ∷ []) }
 
-if_stays : (b : Bool) (r s : Outcome (Unit {0})) (h : Objects) → (j : List Object) × ((if◌then◌else◌ {A = Outcome (Unit {0}) × Objects} b (r, h) (s, h)).1 ≡ h ++ j)
-if_stays true r s h = ([], search rules)
-if_stays false r s h = ([], search rules)
-
-grows_fits : (bs : List ℕ) → Grows (fits bs)
-unfolding fits
-grows_fits bs = record { more = λ h. if_stays (nat_lt 1048576 (length bs)) _ _ h }
+grows_settle : {A : Type 0} (r : Outcome A) → Grows (settle r)
+unfolding settle
+grows_settle r = record { more = λ h. ([], search rules) }
 
 grows_make_string : (bs : List ℕ) → Grows (make_string bs)
 unfolding make_string
-grows_make_string bs = grows_bind _ _ (grows_fits bs) (λ _. grows_bind _ _ (grows_make _) (λ n. grows_give _))
+grows_make_string bs = grows_bind _ _ (grows_settle (fits bs)) (λ _. grows_bind _ _ (grows_make _) (λ n. grows_give _))
 
 grows_make_buffer : (bs : List ℕ) → Grows (make_buffer bs)
 unfolding make_buffer
-grows_make_buffer bs = grows_bind _ _ (grows_fits bs) (λ _. grows_bind _ _ (grows_make _) (λ n. grows_give _))
+grows_make_buffer bs = grows_bind _ _ (grows_settle (fits bs)) (λ _. grows_bind _ _ (grows_make _) (λ n. grows_give _))
 
 grows_elements_at : (o : ℕ) → Grows (elements_at o)
 unfolding elements_at

@@ -4,7 +4,7 @@ use Rattle.ar_space.specs.declared.refusal.Refusal.TheVariants as refusal
 use Rattle.ar_space.specs.declared.refusal.EvaluationFault.TheVariants.{DeadReference, ObjectLimit}
 use Rattle.ar_space.specs.declared.refusal.ValueFault.TheVariants.{WrongType}
 use Rattle.ar_space.specs.Outcome.{Outcome}
-use Rattle.ar_space.specs.Change.{Change, give, ◌>>=◌, ◌>>◌}
+use Rattle.ar_space.specs.Change.{Change, give, settle, ◌>>=◌, ◌>>◌}
 use Rattle.aml_objects.specs.declared.value.Value.{Value}
 use Rattle.aml_objects.specs.declared.value.Value.TheVariants as value
 use Rattle.aml_objects.specs.declared.object.Element.{Element}
@@ -19,28 +19,28 @@ unfoldable pub make : Object → Change Objects ℕ
 make o h = if nat_le 262144 (length h) then (Err (refusal.Evaluation ObjectLimit), h) else (Ok (length h), h ++ o ∷ [])
 
 -- a string's or a buffer's bytes: at most 1,048,576
-unfoldable pub fits : List ℕ → Change Objects (Unit {0})
-fits bs h = if nat_lt 1048576 (length bs) then (Err (refusal.Evaluation ObjectLimit), h) else (Ok tt, h)
+unfoldable pub fits : List ℕ → Outcome (Unit {0})
+fits bs = if nat_lt 1048576 (length bs) then Err (refusal.Evaluation ObjectLimit) else Ok tt
 
 -- a string, a buffer, and a package: at most 65,535 elements
 unfoldable pub make_string : List ℕ → Change Objects Value
 make_string bs = do
-  fits bs
+  settle (fits bs)
   n ← make (object.String bs)
   give (value.String n)
 
 unfoldable pub make_buffer : List ℕ → Change Objects Value
 make_buffer bs = do
-  fits bs
+  settle (fits bs)
   n ← make (object.Buffer bs)
   give (value.Buffer n)
 
-unfoldable pub few : List Element → Change Objects (Unit {0})
-few es h = if nat_lt 65535 (length es) then (Err (refusal.Evaluation ObjectLimit), h) else (Ok tt, h)
+unfoldable pub few : List Element → Outcome (Unit {0})
+few es = if nat_lt 65535 (length es) then Err (refusal.Evaluation ObjectLimit) else Ok tt
 
 unfoldable pub make_package : List Element → Change Objects Value
 make_package es = do
-  few es
+  settle (few es)
   n ← make (object.Package es)
   give (value.Package n)
 

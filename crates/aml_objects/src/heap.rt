@@ -1,23 +1,17 @@
 //! The objects, each by its number.
-ghost use Rattle.std.specs.Prelude.{◌≡◌, ◌<◌, ◌++◌, ◌∷◌, [], List, length, take, ◌==◌, slice_get, slice_set, nat_lt, if◌then◌else◌, option_map, Ok, Err, OnOk, OnErr};
+ghost use Rattle.std.specs.Prelude.{◌≡◌, ◌<◌, ◌++◌, ◌∷◌, [], List, length, take, ◌==◌, slice_get, slice_set, nat_lt, if◌then◌else◌, option_map, Ok, Err, OnOk, OnErr, IsOkUnless};
 ghost use Rattle.ar_space.specs.Outcome.{Answers, NotMemory};
+ghost use Rattle.ar_space.specs.declared.refusal.Refusal.TheVariants.{OutOfMemory};
 ghost use Rattle.ar_space.specs.Change.{Does};
-ghost use Rattle.aml_objects.specs.Objects.{make, fits, few, make_string, make_buffer, make_package, string_at, buffer_at, elements_at, write_buffer, write_string, fitted_to, write_byte, byte_outcome, byte_written, or_dead, element_at, byte_at, element_there, write_element, element_outcome, element_written};
+ghost use Rattle.aml_objects.specs.Objects.{make, make_string, make_buffer, make_package, string_at, buffer_at, elements_at, write_buffer, write_string, fitted_to, write_byte, byte_outcome, byte_written, or_dead, element_at, byte_at, element_there, write_element, element_outcome, element_written};
 
+use crate::draft::Draft;
+use crate::making::{MAX_BYTES, make, make_buffer, make_package, make_string};
 use crate::object::{Element, Elements, Object, Octets};
 use crate::value::Value;
 use ar_space::{EvaluationFault, Refusal, ValueFault};
 use std::alloc::Global;
 use std::marker::Model;
-
-/// How many objects a machine may have.
-const MAX_OBJECTS: usize = 262_144;
-
-/// How many bytes a string or a buffer may have.
-const MAX_BYTES: usize = 1_048_576;
-
-/// How many elements a package may have.
-const MAX_ELEMENTS: usize = 65_535;
 
 /// The objects. The list of them only grows: none is given back, and each keeps its number.
 #[derive(Debug, Drop)]
@@ -65,78 +59,59 @@ impl Heap {
         self.objects.get(number)
     }
 
-    /// Takes back the objects from a number on, which something that was refused made. It takes no memory.
-    pub fn truncate(&mut self, count: usize)
+    /// The objects of a draft, behind those that are here. Only want of memory refuses it, and then nothing changes.
+    pub fn append(&mut self, draft: Draft) -> Result<(), Refusal>
+        ensures ok { OnOk result (self.new ≡ self.old ++ draft) }
+        ensures refused { OnErr result (self.new ≡ self.old) }
+        ensures memory { IsOkUnless result OutOfMemory }
+    {
+        let mut made = draft.into_vec();
+        self.objects.append(&mut made)?;
+        Ok(())
+    }
+
+    /// The objects.
+    pub(crate) fn as_slice(&self) -> &[Object]
+        ensures { result.now ≡ self.now }
+    {
+        &self.objects
+    }
+
+    /// Takes back the objects from a number on, which a refused copy made. It takes no memory.
+    pub(crate) fn truncate(&mut self, count: usize)
         ensures { self.new ≡ take count self.old }
     {
         self.objects.truncate(count);
     }
 
     /// A new object, and its number; one too many is refused as `ObjectLimit`.
-    #[tactic(auto, unfolding(crate::specs::Objects::make))]
     pub(crate) fn make(&mut self, object: Object) -> Result<usize, Refusal>
         ensures { Does result self.new (make object) self.old }
     {
-        let number = self.objects.len();
-        if number >= MAX_OBJECTS {
-            return Err(Refusal::Evaluation(EvaluationFault::ObjectLimit));
-        }
-        self.objects.push(object)?;
-        Ok(number)
-    }
-
-    /// A package may have so many elements.
-    #[tactic(auto, unfolding(crate::specs::Objects::few))]
-    fn few(&self, elements: &Elements) -> Result<(), Refusal>
-        ensures { Does result self.now (few elements.now) self.now }
-    {
-        if elements.as_slice().len() > MAX_ELEMENTS {
-            return Err(Refusal::Evaluation(EvaluationFault::ObjectLimit));
-        }
-        Ok(())
-    }
-
-    /// A string or a buffer may have so many bytes.
-    #[tactic(auto, unfolding(crate::specs::Objects::fits))]
-    fn fits(&self, bytes: &Octets) -> Result<(), Refusal>
-        ensures { Does result self.now (fits bytes.now) self.now }
-    {
-        if bytes.as_slice().len() > MAX_BYTES {
-            return Err(Refusal::Evaluation(EvaluationFault::ObjectLimit));
-        }
-        Ok(())
+        make(&[], &mut self.objects, object)
     }
 
     /// A new string.
     ///
     /// Too many bytes, and one object too many, are refused as `ObjectLimit`, and then nothing changes.
-    #[tactic(auto, using(ar_space::specs::Change::changing), unfolding(crate::specs::Objects::make_string))]
     pub fn make_string(&mut self, bytes: Octets) -> Result<Value, Refusal>
         ensures { Does result self.new (make_string bytes) self.old }
     {
-        self.fits(&bytes)?;
-        let number = self.make(Object::String(bytes))?;
-        Ok(Value::String(number))
+        make_string(&[], &mut self.objects, bytes)
     }
 
     /// A new package; too many elements, and one object too many, are refused as `ObjectLimit`, and then nothing changes.
-    #[tactic(auto, using(ar_space::specs::Change::changing), unfolding(crate::specs::Objects::make_package))]
     pub fn make_package(&mut self, elements: Elements) -> Result<Value, Refusal>
         ensures { Does result self.new (make_package elements) self.old }
     {
-        self.few(&elements)?;
-        let number = self.make(Object::Package(elements))?;
-        Ok(Value::Package(number))
+        make_package(&[], &mut self.objects, elements)
     }
 
     /// A new buffer; too many bytes, and one object too many, are refused as `ObjectLimit`, and then nothing changes.
-    #[tactic(auto, using(ar_space::specs::Change::changing), unfolding(crate::specs::Objects::make_buffer))]
     pub fn make_buffer(&mut self, bytes: Octets) -> Result<Value, Refusal>
         ensures { Does result self.new (make_buffer bytes) self.old }
     {
-        self.fits(&bytes)?;
-        let number = self.make(Object::Buffer(bytes))?;
-        Ok(Value::Buffer(number))
+        make_buffer(&[], &mut self.objects, bytes)
     }
 
     /// The bytes of a string; another kind of object is refused as `WrongType`.

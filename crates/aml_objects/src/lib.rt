@@ -5,14 +5,17 @@
 mod body;
 mod content;
 mod copies;
+mod draft;
 mod entry;
 mod heap;
 pub mod laws;
+mod making;
 mod object;
 mod value;
 
 pub use body::Body;
 pub use content::Content;
+pub use draft::Draft;
 pub use entry::{
     BufferField, Entry, FieldSource, FieldUnit, Method, MethodBody, MethodFlags, NamedObject,
     OperationRegion, UpdateRule,

@@ -1,3 +1,4 @@
+use Rattle.aml_laws.proofs.WideAnswers.{answer_within, answer_gives}
 use Rattle.aml_laws.proofs.WideFirst.{first_within}
 use Rattle.aml_laws.proofs.WideRules.{term_within, list_within}
 use Rattle.aml_laws.proofs.WideTables.{table_within, value_within, value_gives}
@@ -20,3 +21,9 @@ returns-clause-objects g c = λ width accesses path arguments steps w. value_wit
 
 pub returns-clause-object_values : goal.returns-clause-object_values
 returns-clause-object_values g c = λ width accesses path arguments steps w x. value_gives width accesses path arguments steps w x
+
+pub returns-clause-answers : goal.returns-clause-answers
+returns-clause-answers g c = λ width accesses path arguments steps w. answer_within width accesses path arguments steps w
+
+pub returns-clause-answer_values : goal.returns-clause-answer_values
+returns-clause-answer_values g c = λ width accesses path arguments steps w x. answer_gives width accesses path arguments steps w x

@@ -1,6 +1,7 @@
 use Rattle.std.proofs.Common.{◌+◌, ◌*◌, [], drop, map}
 use Rattle.ar_space.specs.Change.{Same}
 use Rattle.aml_meaning.specs.Given.{given_of, givens}
+use Rattle.aml_meaning.specs.Drafted.{drafted}
 use Rattle.aml_meaning.specs.Importing.{each_imported, package_imported}
 use Rattle.aml_meaning.proofs.import.+importing.Given as goal
 
@@ -17,4 +18,4 @@ abbrev pub decreases-import_each : goal.decreases-import_each
 decreases-import_each g l = 4 * l.levels + 2
 
 abbrev pub invariant-import_each-loop-datum : goal.invariant-import_each-loop-datum
-invariant-import_each-loop-datum g l = Same (each_imported (package_imported l.levels) (givens (map given_of l.list)) []) l.fn.world (each_imported (package_imported l.levels) (givens (map given_of (drop l.datum-index l.list))) l.done) l.world
+invariant-import_each-loop-datum g l = Same (each_imported (package_imported l.levels) (givens (map given_of l.list)) []) (drafted l.world l.fn.draft) (each_imported (package_imported l.levels) (givens (map given_of (drop l.datum-index l.list))) l.done) (drafted l.world l.draft)
