@@ -1,10 +1,12 @@
 //! Claims: their parts, what they say, and what `check` says of them.
-use crate::faults::Fault;
-use crate::words::{bound, given, number, numbers, pair, parts, path};
+use crate::answers::{say_numbers, say_path};
+use crate::generated::add_links;
+use crate::words::{add, add_give, add_wired, number, numbers, path_of, set_bound};
 use aml_path::Path;
 use route_check::{Bound, Claim, Flaw, check};
 use route_model::Link;
-use std::alloc::{AllocError, Global};
+use std::alloc::Global;
+use test_rows::Exchange;
 
 /// A claim that says nothing.
 pub fn empty_claim(alloc: Global) -> Claim {
@@ -18,35 +20,11 @@ pub fn empty_claim(alloc: Global) -> Claim {
 }
 
 /// `link PATH offers N..`
-pub fn add_link(alloc: Global, claim: &mut Claim, text: &str) -> Result<(), Fault> {
-    let (name, offers) = parts(text, " offers ")?;
-    let link = Link::new(path(alloc, name)?, numbers(alloc, offers)?);
-    claim.links.push(link)?;
-    Ok(())
-}
-
-/// `wired N COUNT`
-pub fn add_wired(claim: &mut Claim, text: &str) -> Result<(), Fault> {
-    claim.wired.push(pair(text)?)?;
-    Ok(())
-}
-
-/// `give PATH N`
-pub fn add_give(alloc: Global, claim: &mut Claim, text: &str) -> Result<(), Fault> {
-    claim.gives.push(given(alloc, text)?)?;
-    Ok(())
-}
-
-/// `busiest COUNT`
-pub fn set_busiest(claim: &mut Claim, text: &str) -> Result<(), Fault> {
-    claim.busiest = number(text)?;
-    Ok(())
-}
-
-/// `bound none`, or `bound PATH.. over N..`
-pub fn set_bound(alloc: Global, claim: &mut Claim, text: &str) -> Result<(), Fault> {
-    claim.bound = bound(alloc, text)?;
-    Ok(())
+fn add_link(asked: &mut Exchange, links: &mut Vec<Link>) {
+    let name = asked.until(" offers ");
+    let path = path_of(asked, name);
+    let offers = numbers(asked);
+    add(asked, links, Link::new(path, offers));
 }
 
 /// A flaw in words.
@@ -62,113 +40,135 @@ fn flaw_word(flaw: Flaw) -> &'static str {
     }
 }
 
-/// What is wrong with a claim, if anything is.
-fn flaw_of(claim: &Claim) -> Option<Flaw> {
-    match check(claim) {
-        Ok(()) => None,
-        Err(flaw) => Some(flaw),
-    }
-}
-
 /// `check`
-pub fn checked(alloc: Global, claim: &Claim) -> Result<String, AllocError> {
-    match flaw_of(claim) {
-        None => String::from_str(alloc, "valid"),
-        Some(flaw) => format!(in alloc; "flaw {} {}", flaw.number(), flaw_word(flaw)),
-    }
-}
-
-/// Puts numbers behind a text, each with a blank before it, and ` -` where there are none.
-pub fn put_numbers(text: &mut String, numbers: &[u32]) -> Result<(), AllocError> {
-    if numbers.is_empty() {
-        text.push_str(" -")?;
-    }
-    for number in numbers {
-        write!(text, " {number}")?;
-    }
-    Ok(())
-}
-
-/// Puts a path behind a text, with a blank before it.
-pub fn put_path(alloc: Global, text: &mut String, path: &Path) -> Result<(), Fault> {
-    let name = path.text(alloc)?;
-    write!(text, " {name}")?;
-    Ok(())
-}
-
-/// The links of a claim.
-fn put_links(alloc: Global, text: &mut String, links: &[Link]) -> Result<(), Fault> {
-    for link in links {
-        text.push_str("link")?;
-        put_path(alloc, text, link.path())?;
-        text.push_str(" offers")?;
-        put_numbers(text, link.offers())?;
-        text.push_str("; ")?;
-    }
-    Ok(())
-}
-
-/// The wired interrupts of a claim.
-fn put_wired(text: &mut String, wired: &[(u32, u32)]) -> Result<(), AllocError> {
-    for (interrupt, count) in wired {
-        write!(text, "wired {interrupt} {count}; ")?;
-    }
-    Ok(())
-}
-
-/// What the links of a claim are given.
-fn put_gives(alloc: Global, text: &mut String, gives: &[(Path, u32)]) -> Result<(), Fault> {
-    for (link, interrupt) in gives {
-        text.push_str("give")?;
-        put_path(alloc, text, link)?;
-        write!(text, " {interrupt}; ")?;
-    }
-    Ok(())
-}
-
-/// Paths, and ` -` where there are none.
-fn put_paths(alloc: Global, text: &mut String, paths: &[Path]) -> Result<(), Fault> {
-    if paths.is_empty() {
-        text.push_str(" -")?;
-    }
-    for path in paths {
-        put_path(alloc, text, path)?;
-    }
-    Ok(())
-}
-
-/// The bound of a claim.
-fn put_bound(alloc: Global, text: &mut String, bound: &Option<Bound>) -> Result<(), Fault> {
-    text.push_str("bound")?;
-    match bound {
-        None => text.push_str(" none")?,
-        Some(bound) => {
-            put_paths(alloc, text, &bound.links)?;
-            text.push_str(" over")?;
-            put_numbers(text, &bound.interrupts)?;
+fn checked(asked: &mut Exchange, claim: &Claim) {
+    match check(claim) {
+        Ok(()) => asked.say("valid"),
+        Err(flaw) => {
+            asked.say("flaw");
+            asked.say_number(u64::from(flaw.number()));
+            asked.say(flaw_word(flaw));
         }
     }
-    Ok(())
+}
+
+/// Answers a link and the interrupts that it offers.
+pub fn say_link(asked: &mut Exchange, path: &Path, offers: &[u32]) {
+    asked.say("link");
+    say_path(asked, path);
+    asked.say("offers");
+    say_numbers(asked, offers);
+}
+
+/// Answers the links of a claim.
+fn say_links(asked: &mut Exchange, links: &[Link]) {
+    for link in links {
+        say_link(asked, link.path(), link.offers());
+        asked.push(";");
+    }
+}
+
+/// Answers the wired interrupts of a claim.
+fn say_wired(asked: &mut Exchange, wired: &[(u32, u32)]) {
+    for (interrupt, count) in wired {
+        asked.say("wired");
+        say_numbers(asked, &[*interrupt, *count]);
+        asked.push(";");
+    }
+}
+
+/// Answers what the links of a claim are given.
+fn say_gives(asked: &mut Exchange, gives: &[(Path, u32)]) {
+    for (link, interrupt) in gives {
+        asked.say("give");
+        say_path(asked, link);
+        asked.say_number(u64::from(*interrupt));
+        asked.push(";");
+    }
+}
+
+/// Answers a set: its links, and its interrupts.
+fn say_set(asked: &mut Exchange, bound: &Bound) {
+    if bound.links.is_empty() {
+        asked.say("-");
+    }
+    for path in bound.links.iter() {
+        say_path(asked, path);
+    }
+    asked.say("over");
+    say_numbers(asked, bound.interrupts.as_slice());
 }
 
 /// `claim`
-pub fn claim_text(alloc: Global, claim: &Claim) -> Result<String, Fault> {
-    let mut text = String::new(alloc);
-    put_links(alloc, &mut text, &claim.links)?;
-    put_wired(&mut text, &claim.wired)?;
-    put_gives(alloc, &mut text, &claim.gives)?;
-    write!(text, "busiest {}; ", claim.busiest)?;
-    put_bound(alloc, &mut text, &claim.bound)?;
-    Ok(text)
+fn say_claim(asked: &mut Exchange, claim: &Claim) {
+    say_links(asked, claim.links.as_slice());
+    say_wired(asked, claim.wired.as_slice());
+    say_gives(asked, claim.gives.as_slice());
+    asked.say("busiest");
+    asked.say_number(u64::from(claim.busiest));
+    asked.push("; bound");
+    match &claim.bound {
+        Some(bound) => say_set(asked, bound),
+        None => asked.say("none"),
+    }
 }
 
 /// `count links`, `count wired` or `count gives`
-pub fn counted(alloc: Global, claim: &Claim, what: &str) -> Result<String, Fault> {
-    let count = match what {
-        "links" => claim.links.len(),
-        "wired" => claim.wired.len(),
-        "gives" => claim.gives.len(),
-        _ => return Err(Fault::NotUnderstood),
-    };
-    Ok(format!(in alloc; "{count}")?)
+fn counted(asked: &mut Exchange, claim: &Claim) {
+    let what = asked.word();
+    match what {
+        "links" => asked.say_number(claim.links.len() as u64),
+        "wired" => asked.say_number(claim.wired.len() as u64),
+        "gives" => asked.say_number(claim.gives.len() as u64),
+        _ => asked.misunderstand(),
+    }
+}
+
+/// `taken-apart`: the path and the offers of the last link, which is taken out of the claim.
+fn taken_apart(asked: &mut Exchange, links: &mut Vec<Link>) {
+    match links.pop() {
+        Some(link) => {
+            let (path, offers) = link.into_parts();
+            say_link(asked, &path, offers.as_slice());
+        }
+        None => asked.misunderstand(),
+    }
+}
+
+/// A question of a claim.
+#[derive(Clone, Copy)]
+pub enum Ask {
+    Link,
+    Links,
+    Wired,
+    Give,
+    Busiest,
+    Bound,
+    Check,
+    Claim,
+    Count,
+    TakenApart,
+}
+
+/// Answers a question of what a claim says.
+fn tell(asked: &mut Exchange, claim: &mut Claim, ask: Ask) {
+    match ask {
+        Ask::Check => checked(asked, claim),
+        Ask::Count => counted(asked, claim),
+        Ask::TakenApart => taken_apart(asked, &mut claim.links),
+        _ => say_claim(asked, claim),
+    }
+}
+
+/// Answers a question of a claim.
+pub fn answer(asked: &mut Exchange, claim: &mut Claim, ask: Ask) {
+    match ask {
+        Ask::Link => add_link(asked, &mut claim.links),
+        Ask::Links => add_links(asked, &mut claim.links),
+        Ask::Wired => add_wired(asked, &mut claim.wired),
+        Ask::Give => add_give(asked, &mut claim.gives),
+        Ask::Busiest => claim.busiest = number(asked),
+        Ask::Bound => set_bound(asked, &mut claim.bound),
+        _ => tell(asked, claim, ask),
+    }
 }

@@ -2,8 +2,8 @@
 //! problem. `data/README.md` says how a row is written.
 #![tactic(auto)]
 
+mod answers;
 mod claims;
-mod faults;
 mod generated;
 mod pins;
 mod problems;

@@ -1,120 +1,135 @@
 //! Problems: the links and the wired interrupts of a row, and what `route_solve` says of them.
-use crate::claims::{put_numbers, put_path};
-use crate::faults::Fault;
-use ar_space::Refusal;
+use crate::answers::{say_numbers, say_path};
 use route_check::Claim;
 use route_model::Link;
 use route_solve::{Answer, Problem, Solver, fits, solve};
 use route_try::first_least;
-use std::alloc::{AllocError, Global};
+use std::alloc::AllocError;
+use std::mem;
+use test_rows::Exchange;
 
-/// The problem of a row's links and wired interrupts.
-fn problem(alloc: Global, claim: &Claim) -> Result<Problem, Refusal> {
-    let mut links = Vec::new(alloc);
-    for link in claim.links.iter() {
-        let path = link.path().copy(alloc)?;
-        links.push(Link::new(path, link.offers().to_vec(alloc)?))?;
+/// What a solver gives, if there was the memory for it.
+fn given<T: Drop>(asked: &mut Exchange, found: Result<T, AllocError>) -> Option<T> {
+    match found {
+        Ok(found) => Some(found),
+        Err(_) => {
+            asked.run_out();
+            None
+        }
     }
-    Ok(Problem {
-        links,
-        wired: claim.wired.as_slice().to_vec(alloc)?,
-    })
-}
-
-/// `fits`
-pub fn fitting(alloc: Global, claim: &Claim) -> Result<String, Fault> {
-    let word = if fits(&problem(alloc, claim)?) {
-        "yes"
-    } else {
-        "no"
-    };
-    Ok(String::from_str(alloc, word)?)
 }
 
 /// What `solve` answers, where the problem fits.
-fn solved(alloc: Global, problem: &Problem) -> Result<Option<Answer>, AllocError> {
+pub fn solved(asked: &mut Exchange, problem: &Problem) -> Option<Answer> {
     if !fits(problem) {
-        return Ok(None);
+        return None;
     }
-    Ok(Some(solve(alloc, problem)?))
+    let found = solve(asked.alloc(), problem);
+    given(asked, found)
 }
 
 /// What a `Solver` finds, where the problem fits.
-fn searched(alloc: Global, problem: &Problem) -> Result<Option<Answer>, AllocError> {
+fn searched(asked: &mut Exchange, problem: &Problem) -> Option<Answer> {
     if !fits(problem) {
-        return Ok(None);
+        return None;
     }
-    Ok(Some(Solver::new(alloc, problem)?.search()))
+    match Solver::new(asked.alloc(), problem) {
+        Ok(solver) => Some(solver.search()),
+        Err(_) => {
+            asked.run_out();
+            None
+        }
+    }
 }
 
-/// Puts the paths of the links at these places behind a text, and ` -` where there are none.
-fn put_places(
-    alloc: Global,
-    text: &mut String,
-    links: &[Link],
-    places: &[usize],
-) -> Result<(), Fault> {
+/// The first least assignment, found by trying all of them, where the problem fits.
+pub fn tried(asked: &mut Exchange, problem: &Problem) -> Option<Vec<u32>> {
+    if !fits(problem) {
+        return None;
+    }
+    let found = first_least(asked.alloc(), problem);
+    given(asked, found)
+}
+
+/// Answers the paths of the links at these places, and `-` where there are none.
+fn say_places(asked: &mut Exchange, links: &[Link], places: &[usize]) {
     if places.is_empty() {
-        text.push_str(" -")?;
+        asked.say("-");
     }
     for place in places {
         match links.get(*place) {
-            Some(link) => put_path(alloc, text, link.path())?,
-            None => write!(text, " {place}")?,
+            Some(link) => say_path(asked, link.path()),
+            None => asked.say_number(*place as u64),
         }
     }
-    Ok(())
 }
 
-/// An answer of the solver: the interrupts of the links in their order, and the set.
-fn answer_text(alloc: Global, links: &[Link], answer: &Option<Answer>) -> Result<String, Fault> {
-    let Some(answer) = answer else {
-        return Ok(String::from_str(alloc, "does not fit")?);
-    };
-    let mut text = format!(in alloc; "busiest {}; give", answer.busiest)?;
-    put_numbers(&mut text, &answer.choice)?;
-    text.push_str("; bound")?;
-    put_places(alloc, &mut text, links, &answer.links)?;
-    text.push_str(" over")?;
-    put_numbers(&mut text, &answer.interrupts)?;
-    Ok(text)
+/// Answers the interrupts of the links in their order.
+fn say_choice(asked: &mut Exchange, choice: &[u32]) {
+    asked.say("give");
+    say_numbers(asked, choice);
 }
 
-/// `solve`
-pub fn solve_text(alloc: Global, claim: &Claim) -> Result<String, Fault> {
-    let problem = problem(alloc, claim)?;
-    let answer = solved(alloc, &problem)?;
-    answer_text(alloc, &problem.links, &answer)
+/// Answers what a solver found: the interrupts of the links in their order, and the set.
+fn say_found(asked: &mut Exchange, problem: &Problem, answer: &Answer) {
+    asked.say("busiest");
+    asked.say_number(u64::from(answer.busiest));
+    asked.push(";");
+    say_choice(asked, answer.choice.as_slice());
+    asked.push("; bound");
+    say_places(asked, problem.links.as_slice(), answer.links.as_slice());
+    asked.say("over");
+    say_numbers(asked, answer.interrupts.as_slice());
 }
 
-/// `search`
-pub fn search_text(alloc: Global, claim: &Claim) -> Result<String, Fault> {
-    let problem = problem(alloc, claim)?;
-    let answer = searched(alloc, &problem)?;
-    answer_text(alloc, &problem.links, &answer)
-}
-
-/// `try`: the first least assignment, found by trying all of them, where the problem fits.
-pub fn try_text(alloc: Global, claim: &Claim) -> Result<String, Fault> {
-    let problem = problem(alloc, claim)?;
-    if !fits(&problem) {
-        return Ok(String::from_str(alloc, "does not fit")?);
+/// `solve` and `search`: what a solver found, if it found anything.
+fn say_answer(asked: &mut Exchange, problem: &Problem, answer: Option<Answer>) {
+    match answer {
+        Some(answer) => say_found(asked, problem, &answer),
+        None => asked.say("does not fit"),
     }
-    let mut text = String::from_str(alloc, "give")?;
-    let choice = first_least(alloc, &problem)?;
-    put_numbers(&mut text, &choice)?;
-    Ok(text)
 }
 
-/// `taken-apart`: the path and the offers of the last link, which is taken out of the claim.
-pub fn taken_apart(alloc: Global, claim: &mut Claim) -> Result<String, Fault> {
-    let Some(link) = claim.links.pop() else {
-        return Err(Fault::NotUnderstood);
+/// `try`: the interrupts of the links, found by trying all.
+fn say_tried(asked: &mut Exchange, problem: &Problem) {
+    match tried(asked, problem) {
+        Some(choice) => say_choice(asked, choice.as_slice()),
+        None => asked.say("does not fit"),
+    }
+}
+
+/// A question of a problem.
+#[derive(Clone, Copy)]
+pub enum Ask {
+    Fits,
+    Solve,
+    Search,
+    Try,
+}
+
+/// Answers a question of a problem.
+fn of_problem(asked: &mut Exchange, problem: &Problem, ask: Ask) {
+    match ask {
+        Ask::Fits => asked.say_whether(fits(problem)),
+        Ask::Solve => {
+            let answer = solved(asked, problem);
+            say_answer(asked, problem, answer);
+        }
+        Ask::Search => {
+            let answer = searched(asked, problem);
+            say_answer(asked, problem, answer);
+        }
+        Ask::Try => say_tried(asked, problem),
+    }
+}
+
+/// Answers a question of the problem that a claim's links and wired interrupts are.
+pub fn answer(asked: &mut Exchange, claim: &mut Claim, ask: Ask) {
+    let problem = Problem {
+        links: mem::replace(&mut claim.links, Vec::new(asked.alloc())),
+        wired: mem::replace(&mut claim.wired, Vec::new(asked.alloc())),
     };
-    let (path, offers) = link.into_parts();
-    let mut text = String::from_str(alloc, "link")?;
-    put_path(alloc, &mut text, &path)?;
-    text.push_str(" offers")?;
-    put_numbers(&mut text, &offers)?;
-    Ok(text)
+    of_problem(asked, &problem, ask);
+    claim.links = problem.links;
+    claim.wired = problem.wired;
 }

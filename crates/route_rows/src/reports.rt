@@ -1,11 +1,20 @@
 //! Reports that are put together line by line, each line in the words in which it is printed.
-use crate::faults::Fault;
 use crate::pins::{add_after, add_pin, add_set};
 use crate::words::{
-    bound, byte_number, given, hexadecimal_number, number, numbers, pair, parts, path, words,
+    add, add_give, add_wired, named, number, numbers, numbers_of, pass, path, set_bound,
 };
 use route_report::{Form, IoApicLine, LinkLine, Mode, OverrideLine, Polarity, Report};
 use std::alloc::Global;
+use test_rows::Exchange;
+
+/// The modes of interrupt controllers.
+const MODES: [(&str, Mode); 2] = [("apic", Mode::Apic), ("pic", Mode::Pic)];
+
+/// The descriptors that an offer may be.
+const FORMS: [(&str, Form); 2] = [("small", Form::Small), ("extended", Form::Extended)];
+
+/// The levels at which interrupts are signaled.
+const POLARITIES: [(&str, Polarity); 2] = [("low", Polarity::Low), ("high", Polarity::High)];
 
 /// A report of a machine that has nothing.
 pub fn empty_report(alloc: Global) -> Report {
@@ -24,112 +33,121 @@ pub fn empty_report(alloc: Global) -> Report {
     }
 }
 
-/// `apic` or `pic`
-fn mode(word: &str) -> Result<Mode, Fault> {
-    match word {
-        "apic" => Ok(Mode::Apic),
-        "pic" => Ok(Mode::Pic),
-        _ => Err(Fault::NotUnderstood),
-    }
-}
-
-/// `small` or `extended`
-fn form(word: &str) -> Result<Form, Fault> {
-    match word {
-        "small" => Ok(Form::Small),
-        "extended" => Ok(Form::Extended),
-        _ => Err(Fault::NotUnderstood),
-    }
-}
-
-/// `low` or `high`
-fn polarity(word: &str) -> Result<Polarity, Fault> {
-    match word {
-        "low" => Ok(Polarity::Low),
-        "high" => Ok(Polarity::High),
-        _ => Err(Fault::NotUnderstood),
-    }
-}
-
 /// What a link is set to: `none` without `_CRS`, `-` for no interrupt, or interrupts.
-pub fn setting(alloc: Global, text: &str) -> Result<Option<Vec<u32>>, Fault> {
-    if text == "none" {
-        return Ok(None);
-    }
-    Ok(Some(numbers(alloc, text)?))
-}
-
-/// `I at A base G`
-fn io_apic(alloc: Global, text: &str) -> Result<IoApicLine, Fault> {
-    match words(alloc, text)?.as_slice() {
-        [id, "at", address, "base", base] => Ok(IoApicLine {
-            id: byte_number(id)?,
-            address: hexadecimal_number(address)?,
-            gsi_base: number(base)?,
-        }),
-        _ => Err(Fault::NotUnderstood),
+pub fn setting(asked: &mut Exchange) -> Option<Vec<u32>> {
+    if asked.takes("none") {
+        None
+    } else {
+        Some(numbers(asked))
     }
 }
 
-/// Sixteen flags in hexadecimal digits.
-fn flags(word: &str) -> Result<u16, Fault> {
-    match u16::try_from(hexadecimal_number(word)?) {
-        Ok(flags) => Ok(flags),
-        Err(_) => Err(Fault::NotUnderstood),
-    }
+/// `ioapic I at A base G`
+fn add_io_apic(asked: &mut Exchange, report: &mut Report) {
+    let id = asked.number(0xFF) as u8;
+    pass(asked, "at");
+    let address = asked.hexadecimal(0xFFFF_FFFF) as u32;
+    pass(asked, "base");
+    let gsi_base = number(asked);
+    add(
+        asked,
+        &mut report.io_apics,
+        IoApicLine {
+            id,
+            address,
+            gsi_base,
+        },
+    );
 }
 
-/// `S to G flags F`
-fn source_override(alloc: Global, text: &str) -> Result<OverrideLine, Fault> {
-    match words(alloc, text)?.as_slice() {
-        [source, "to", gsi, "flags", bits] => Ok(OverrideLine {
-            source: byte_number(source)?,
-            gsi: number(gsi)?,
-            flags: flags(bits)?,
-        }),
-        _ => Err(Fault::NotUnderstood),
-    }
+/// `override S to G flags F`
+fn add_override(asked: &mut Exchange, report: &mut Report) {
+    let source = asked.number(0xFF) as u8;
+    pass(asked, "to");
+    let gsi = number(asked);
+    pass(asked, "flags");
+    let flags = asked.hexadecimal(0xFFFF) as u16;
+    add(
+        asked,
+        &mut report.overrides,
+        OverrideLine { source, gsi, flags },
+    );
 }
 
-/// `P small low offers N.. now V`
-fn link(alloc: Global, text: &str) -> Result<LinkLine, Fault> {
-    let (before, now) = parts(text, " now ")?;
-    let (head, offers) = parts(before, " offers ")?;
-    match words(alloc, head)?.as_slice() {
-        [name, form_word, polarity_word] => Ok(LinkLine {
-            path: path(alloc, name)?,
-            form: form(form_word)?,
-            polarity: polarity(polarity_word)?,
-            offers: numbers(alloc, offers)?,
-            now: setting(alloc, now)?,
-        }),
-        _ => Err(Fault::NotUnderstood),
-    }
+/// `link P small low offers N.. now V`
+fn add_link(asked: &mut Exchange, report: &mut Report) {
+    let path = path(asked);
+    let form = named(asked, &FORMS, Form::Small);
+    let polarity = named(asked, &POLARITIES, Polarity::Low);
+    pass(asked, "offers");
+    let offers = asked.until(" now ");
+    let offers = numbers_of(asked, offers);
+    let now = setting(asked);
+    add(
+        asked,
+        &mut report.links,
+        LinkLine {
+            path,
+            form,
+            polarity,
+            offers,
+            now,
+        },
+    );
 }
 
-/// A line of what was found.
-fn add_found(alloc: Global, report: &mut Report, word: &str, text: &str) -> Result<(), Fault> {
-    match word {
-        "mode" => report.mode = mode(text)?,
-        "ioapic" => report.io_apics.push(io_apic(alloc, text)?)?,
-        "override" => report.overrides.push(source_override(alloc, text)?)?,
-        "link" => report.links.push(link(alloc, text)?)?,
-        "wired" => report.wired.push(pair(text)?)?,
-        _ => return add_pin(alloc, report, word, text),
+/// A line of a report.
+#[derive(Clone, Copy)]
+enum Line {
+    Mode,
+    IoApic,
+    Override,
+    Link,
+    Wired,
+    Pin,
+    Give,
+    Busiest,
+    Bound,
+    Set,
+    After,
+}
+
+/// The lines of a report, by their first words.
+const LINES: [(&str, Line); 11] = [
+    ("mode", Line::Mode),
+    ("ioapic", Line::IoApic),
+    ("override", Line::Override),
+    ("link", Line::Link),
+    ("wired", Line::Wired),
+    ("pin", Line::Pin),
+    ("give", Line::Give),
+    ("busiest", Line::Busiest),
+    ("bound", Line::Bound),
+    ("set", Line::Set),
+    ("after", Line::After),
+];
+
+/// Adds a line of what was found.
+fn add_found(asked: &mut Exchange, report: &mut Report, line: Line) {
+    match line {
+        Line::IoApic => add_io_apic(asked, report),
+        Line::Override => add_override(asked, report),
+        Line::Link => add_link(asked, report),
+        Line::Wired => add_wired(asked, &mut report.wired),
+        Line::Pin => add_pin(asked, report),
+        _ => report.mode = named(asked, &MODES, Mode::Apic),
     }
-    Ok(())
 }
 
 /// `report LINE`
-pub fn add_line(alloc: Global, report: &mut Report, line: &str) -> Result<(), Fault> {
-    let (word, text) = parts(line, " ")?;
-    match word {
-        "give" => report.gives.push(given(alloc, text)?)?,
-        "busiest" => report.busiest = number(text)?,
-        "bound" => report.bound = bound(alloc, text)?,
-        "set" => return add_set(alloc, report, text),
-        "after" => return add_after(alloc, report, text),
-        _ => return add_found(alloc, report, word, text),
+pub fn add_line(asked: &mut Exchange, report: &mut Report) {
+    let line = named(asked, &LINES, Line::Mode);
+    match line {
+        Line::Give => add_give(asked, &mut report.gives),
+        Line::Busiest => report.busiest = number(asked),
+        Line::Bound => set_bound(asked, &mut report.bound),
+        Line::Set => add_set(asked, report),
+        Line::After => add_after(asked, report),
+        _ => add_found(asked, report, line),
     }
-    Ok(())
 }

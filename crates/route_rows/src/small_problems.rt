@@ -1,86 +1,94 @@
 //! Both solvers on all small problems: up to three links that offer some of three interrupts each, and up to two sources wired to
 //! these or to a fourth one.
-use crate::faults::Fault;
-use aml_path::{Path, Seg};
-use ar_space::Refusal;
+use crate::problems::{solved, tried};
+use crate::words::{add, path_of};
 use route_model::Link;
-use route_solve::{Problem, fits, solve};
-use route_try::first_least;
-use std::alloc::Global;
+use route_solve::{Answer, Problem};
+use test_rows::Exchange;
 
 /// Those of three interrupts whose bits are set.
-fn interrupts(alloc: Global, bits: usize) -> Result<Vec<u32>, Refusal> {
-    let mut numbers: Vec<u32> = Vec::new(alloc);
-    for (bit, n) in [(1, 5), (2, 10), (4, 11)] {
+fn interrupts(asked: &mut Exchange, bits: usize) -> Vec<u32> {
+    let mut numbers: Vec<u32> = Vec::new(asked.alloc());
+    for (bit, number) in [(1, 5), (2, 10), (4, 11)] {
         if bits & bit != 0 {
-            numbers.push(n)?;
+            add(asked, &mut numbers, number);
         }
     }
-    Ok(numbers)
+    numbers
 }
 
 /// Up to two sources wired to three interrupts that links may offer and one that none offers: two
 /// numbers of 0 for none and 1 to 4, the first of them not the smaller.
-fn wired(alloc: Global, one: usize, other: usize) -> Result<Vec<(u32, u32)>, Refusal> {
-    let mut counts: Vec<(u32, u32)> = Vec::new(alloc);
-    for (place, n) in [(1, 5), (2, 10), (3, 11), (4, 12)] {
+fn wired(asked: &mut Exchange, one: usize, other: usize) -> Vec<(u32, u32)> {
+    let mut counts: Vec<(u32, u32)> = Vec::new(asked.alloc());
+    for (place, number) in [(1, 5), (2, 10), (3, 11), (4, 12)] {
         let sources = u32::from(one == place) + u32::from(other == place);
         if sources > 0 {
-            counts.push((n, sources))?;
+            add(asked, &mut counts, (number, sources));
         }
     }
-    Ok(counts)
+    counts
 }
 
-/// The links with the offers of these bits, none for 0.
-fn links(alloc: Global, bits: [usize; 3]) -> Result<Vec<Link>, Refusal> {
-    let mut links = Vec::new(alloc);
-    for (name, offers) in [
-        (*b"LNKA", bits[0]),
-        (*b"LNKB", bits[1]),
-        (*b"LNKC", bits[2]),
-    ] {
-        if offers != 0 {
-            let path = Path::root(alloc).child(alloc, Seg::new(name)?)?;
-            links.push(Link::new(path, interrupts(alloc, offers)?))?;
-        }
+/// Adds a link with the offers of these bits, none for 0.
+fn add_link(asked: &mut Exchange, links: &mut Vec<Link>, name: &str, bits: usize) {
+    if bits != 0 {
+        let path = path_of(asked, name);
+        let offers = interrupts(asked, bits);
+        add(asked, links, Link::new(path, offers));
     }
-    Ok(links)
+}
+
+/// The links with the offers of these bits.
+fn links(asked: &mut Exchange, bits: usize) -> Vec<Link> {
+    let mut links = Vec::new(asked.alloc());
+    add_link(asked, &mut links, "\\LNKA", bits / 64 % 8);
+    add_link(asked, &mut links, "\\LNKB", bits / 8 % 8);
+    add_link(asked, &mut links, "\\LNKC", bits % 8);
+    links
+}
+
+/// Whether two solvers gave the same assignment, and both gave one.
+fn is_same(answer: &Option<Answer>, choice: &Option<Vec<u32>>) -> bool {
+    match (answer, choice) {
+        (Some(answer), Some(choice)) => answer.choice.as_slice() == choice.as_slice(),
+        _ => false,
+    }
 }
 
 /// Whether both solvers give the same assignment, where the problem fits.
-fn agree_on(alloc: Global, problem: &Problem) -> Result<bool, Refusal> {
-    if !fits(problem) {
-        return Ok(false);
-    }
-    let answer = solve(alloc, problem)?;
-    let tried = first_least(alloc, problem)?;
-    Ok(answer.choice.as_slice() == tried.as_slice())
+fn agree_on(asked: &mut Exchange, problem: &Problem) -> bool {
+    let answer = solved(asked, problem);
+    let choice = tried(asked, problem);
+    is_same(&answer, &choice)
 }
 
-/// Whether they agree on these links with all ways to wire up to two sources.
-fn agree_on_links(alloc: Global, bits: [usize; 3]) -> Result<bool, Refusal> {
+/// Whether they agree on links with all ways to wire up to two sources.
+fn agree_on_links(asked: &mut Exchange, bits: usize) -> bool {
+    let mut problem = Problem {
+        links: links(asked, bits),
+        wired: Vec::new(asked.alloc()),
+    };
+    let mut agree = true;
     for one in 0..5usize {
         for other in 0..one + 1 {
-            let problem = Problem {
-                links: links(alloc, bits)?,
-                wired: wired(alloc, one, other)?,
-            };
-            if !agree_on(alloc, &problem)? {
-                return Ok(false);
-            }
+            problem.wired = wired(asked, one, other);
+            agree = agree_on(asked, &problem) && agree;
         }
     }
-    Ok(true)
+    agree
 }
 
 /// `both-solvers`: `agree`, or the offers of the first links on which they don't, as bits.
-pub fn both_solvers(alloc: Global) -> Result<String, Fault> {
+pub fn both_solvers(asked: &mut Exchange) {
     for bits in 0..512usize {
-        let (first, second, third) = (bits / 64 % 8, bits / 8 % 8, bits % 8);
-        if !agree_on_links(alloc, [first, second, third])? {
-            return Ok(format!(in alloc; "differ at {first} {second} {third}")?);
+        if !agree_on_links(asked, bits) {
+            asked.say("differ at");
+            asked.say_number((bits / 64 % 8) as u64);
+            asked.say_number((bits / 8 % 8) as u64);
+            asked.say_number((bits % 8) as u64);
+            return;
         }
     }
-    Ok(String::from_str(alloc, "agree")?)
+    asked.say("agree");
 }

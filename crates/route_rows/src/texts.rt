@@ -1,57 +1,59 @@
 //! Texts of reports: written by a row or printed, and read.
-use crate::faults::Fault;
-use crate::words::{number, parts};
+use crate::answers::refuse;
+use crate::generated::crowd;
+use crate::words::number;
 use route_check::Claim;
 use route_report::{Report, print, read};
-use std::alloc::{AllocError, Global};
-use test_rows::bytes_of;
+use test_rows::Exchange;
 
-/// `text LINE`: the line and its line feed.
-pub fn add_text(text: &mut Vec<u8>, line: &str) -> Result<(), Fault> {
-    text.extend_from_slice(line.as_bytes())?;
-    text.push(b'\n')?;
-    Ok(())
+/// Puts bytes behind a text.
+pub fn put(asked: &mut Exchange, text: &mut Vec<u8>, bytes: &[u8]) {
+    if text.extend_from_slice(bytes).is_err() {
+        asked.run_out();
+    }
 }
 
-/// `bytes BYTES`
-pub fn add_bytes(alloc: Global, text: &mut Vec<u8>, bytes: &str) -> Result<(), Fault> {
-    text.extend_from_slice(bytes_of(alloc, bytes)?.as_slice())?;
-    Ok(())
+/// Puts a line and its line feed behind a text, so many times.
+fn put_lines(asked: &mut Exchange, text: &mut Vec<u8>, count: u32) {
+    let line = asked.rest();
+    for _ in 0..count {
+        put(asked, text, line.as_bytes());
+        put(asked, text, b"\n");
+    }
 }
 
 /// `repeat COUNT LINE`
-pub fn repeat(text: &mut Vec<u8>, question: &str) -> Result<(), Fault> {
-    let (count, line) = parts(question, " ")?;
-    for _ in 0..number(count)? {
-        add_text(text, line)?;
-    }
-    Ok(())
+fn repeat(asked: &mut Exchange, text: &mut Vec<u8>) {
+    let count = number(asked);
+    put_lines(asked, text, count);
+}
+
+/// `bytes BYTES`
+fn put_bytes(asked: &mut Exchange, text: &mut Vec<u8>) {
+    let bytes = asked.bytes();
+    put(asked, text, bytes.as_slice());
 }
 
 /// `read`: the text's claim becomes the row's.
-pub fn read_text(alloc: Global, claim: &mut Claim, text: &[u8]) -> Result<(), Fault> {
-    *claim = read(alloc, text)?;
-    Ok(())
+pub fn read_text(asked: &mut Exchange, claim: &mut Claim, text: &[u8]) {
+    match read(asked.alloc(), text) {
+        Ok(said) => *claim = said,
+        Err(refusal) => refuse(asked, refusal),
+    }
 }
 
-/// The five lines of a report of which the third is these bytes.
-fn around(alloc: Global, bytes: &str) -> Result<Vec<u8>, AllocError> {
-    let mut text = Vec::new(alloc);
-    text.extend_from_slice(b"acpiroute 1\nmode apic\n")?;
-    text.extend_from_slice(bytes_of(alloc, bytes)?.as_slice())?;
-    text.extend_from_slice(b"\nbusiest 0\nbound none\n")?;
-    Ok(text)
-}
-
-/// `third BYTES`: reads a report whose third line is these bytes.
-pub fn read_third(alloc: Global, claim: &mut Claim, bytes: &str) -> Result<(), Fault> {
-    let text = around(alloc, bytes)?;
-    read_text(alloc, claim, text.as_slice())
+/// `third BYTES`: reads a report of five lines of which the third is these bytes.
+pub fn read_third(asked: &mut Exchange, claim: &mut Claim) {
+    let mut text = Vec::new(asked.alloc());
+    put(asked, &mut text, b"acpiroute 1\nmode apic\n");
+    put_bytes(asked, &mut text);
+    put(asked, &mut text, b"\nbusiest 0\nbound none\n");
+    read_text(asked, claim, text.as_slice());
 }
 
 /// How many line feeds a text has.
-fn lines(text: &[u8]) -> usize {
-    let mut lines: usize = 0;
+fn lines(text: &[u8]) -> u64 {
+    let mut lines = 0u64;
     for byte in text {
         if *byte == b'\n' {
             lines = lines.saturating_add(1);
@@ -61,24 +63,61 @@ fn lines(text: &[u8]) -> usize {
 }
 
 /// `print`: the text of the row's report becomes the row's text.
-pub fn print_report(alloc: Global, text: &mut Vec<u8>, report: &Report) -> Result<String, Fault> {
-    *text = print(alloc, report)?;
-    let count = lines(text);
-    let end = if text.ends_with(b"\n") {
-        ""
-    } else {
-        " and no line feed"
-    };
-    Ok(format!(in alloc; "{count} lines{end}")?)
+pub fn print_report(asked: &mut Exchange, text: &mut Vec<u8>, report: &Report) {
+    match print(asked.alloc(), report) {
+        Ok(printed) => *text = printed,
+        Err(refusal) => refuse(asked, refusal),
+    }
+    asked.say_number(lines(text.as_slice()));
+    asked.say("lines");
+    if !text.ends_with(b"\n") {
+        asked.say("and no line feed");
+    }
 }
 
-/// `line N`: the line of this number, from 1 on.
-pub fn line(alloc: Global, text: &[u8], question: &str) -> Result<String, Fault> {
-    let wanted = number(question)? as usize;
-    for (before, line) in text.split(|byte| *byte == b'\n').enumerate() {
-        if before.saturating_add(1) == wanted {
-            return Ok(String::from_utf8_lossy(alloc, line)?);
+/// The bytes of the line of a number, from 1 on; none where there is no such line.
+fn line_of(asked: &mut Exchange, text: &[u8], wanted: u32) -> Vec<u8> {
+    let mut line = Vec::new(asked.alloc());
+    let mut number = 1u32;
+    for byte in text {
+        if *byte == b'\n' {
+            number = number.saturating_add(1);
+        } else if number == wanted {
+            put(asked, &mut line, &[*byte]);
         }
     }
-    Ok(String::from_str(alloc, "no such line")?)
+    line
+}
+
+/// `line N`: the line of this number, from 1 on, and `nothing` where it is empty or there is none.
+fn line(asked: &mut Exchange, text: &[u8]) {
+    let wanted = number(asked);
+    let line = line_of(asked, text, wanted);
+    if line.is_empty() {
+        asked.say("nothing");
+    } else {
+        let text = String::from_utf8_lossy(asked.alloc(), line.as_slice());
+        asked.say_text(text);
+    }
+}
+
+/// A question of a text.
+#[derive(Clone, Copy)]
+pub enum Ask {
+    Text,
+    Bytes,
+    Repeat,
+    Crowd,
+    Line,
+}
+
+/// Answers a question of a text.
+pub fn answer(asked: &mut Exchange, text: &mut Vec<u8>, ask: Ask) {
+    match ask {
+        Ask::Text => put_lines(asked, text, 1),
+        Ask::Bytes => put_bytes(asked, text),
+        Ask::Repeat => repeat(asked, text),
+        Ask::Crowd => crowd(asked, text),
+        Ask::Line => line(asked, text.as_slice()),
+    }
 }

@@ -1,113 +1,123 @@
 //! The words of a question: numbers, paths, and lists of them.
-use crate::faults::Fault;
+use crate::answers::refuse;
 use aml_path::Path;
 use route_check::Bound;
-use std::alloc::Global;
+use test_rows::Exchange;
 
-/// What stands before and after the first of these.
-pub fn parts<'a>(text: &'a str, between: &str) -> Result<(&'a str, &'a str), Fault> {
-    match text.split_once(between) {
-        Some(parts) => Ok(parts),
-        None => Err(Fault::NotUnderstood),
+/// Passes over a word.
+pub fn pass(asked: &mut Exchange, word: &str) {
+    if asked.word() != word {
+        asked.misunderstand();
     }
 }
 
-/// The words between single blanks.
-pub fn words<'a>(alloc: Global, text: &'a str) -> Result<Vec<&'a str>, Fault> {
-    Ok(text.split(' ').collect(alloc)?)
+/// What the next word stands for, and `other` where it is none of these names.
+pub fn named<T: Copy>(asked: &mut Exchange, names: &[(&str, T)], other: T) -> T {
+    let name = asked.word();
+    asked.one_of(names, name, other)
+}
+
+/// Adds to a list, where all was understood so far.
+pub fn add<T: Drop>(asked: &mut Exchange, items: &mut Vec<T>, item: T) {
+    if asked.is_well() && items.push(item).is_err() {
+        asked.run_out();
+    }
 }
 
 /// A number below 2^32.
-pub fn number(word: &str) -> Result<u32, Fault> {
-    match word.parse::<u32>() {
-        Ok(number) => Ok(number),
-        Err(_) => Err(Fault::NotUnderstood),
-    }
+pub fn number_of(asked: &mut Exchange, text: &str) -> u32 {
+    asked.digits(text, 10, 0xFFFF_FFFF) as u32
 }
 
-/// A number below 2^16.
-pub fn short_number(word: &str) -> Result<u16, Fault> {
-    match word.parse::<u16>() {
-        Ok(number) => Ok(number),
-        Err(_) => Err(Fault::NotUnderstood),
-    }
+/// The next word as a number below 2^32.
+pub fn number(asked: &mut Exchange) -> u32 {
+    asked.number(0xFFFF_FFFF) as u32
 }
 
-/// A number below 2^8.
-pub fn byte_number(word: &str) -> Result<u8, Fault> {
-    match word.parse::<u8>() {
-        Ok(number) => Ok(number),
-        Err(_) => Err(Fault::NotUnderstood),
-    }
-}
-
-/// A number below 2^32 in hexadecimal digits.
-pub fn hexadecimal_number(word: &str) -> Result<u32, Fault> {
-    match u32::from_str_radix(word, 16) {
-        Ok(number) => Ok(number),
-        Err(_) => Err(Fault::NotUnderstood),
-    }
-}
-
-/// Adds a number, or all from `FIRST..LAST`.
-fn add_numbers(numbers: &mut Vec<u32>, word: &str) -> Result<(), Fault> {
+/// Adds a number, or all of `FIRST..LAST`.
+fn add_numbers(asked: &mut Exchange, numbers: &mut Vec<u32>, word: &str) {
     let (first, last) = word.split_once("..").unwrap_or((word, word));
-    let (first, last) = (number(first)?, number(last)?);
-    for n in first..=last {
-        numbers.push(n)?;
+    let first = number_of(asked, first);
+    let last = number_of(asked, last);
+    for number in first..=last {
+        add(asked, numbers, number);
     }
-    Ok(())
 }
 
 /// Numbers and ranges of them; `-` for none.
-pub fn numbers(alloc: Global, text: &str) -> Result<Vec<u32>, Fault> {
-    let mut numbers = Vec::new(alloc);
-    if text == "-" {
-        return Ok(numbers);
+pub fn numbers_of(asked: &mut Exchange, text: &str) -> Vec<u32> {
+    let mut numbers = Vec::new(asked.alloc());
+    if text != "-" {
+        for word in text.split(' ') {
+            add_numbers(asked, &mut numbers, word);
+        }
     }
-    for word in text.split(' ') {
-        add_numbers(&mut numbers, word)?;
-    }
-    Ok(numbers)
+    numbers
 }
 
-/// An interrupt with a number of sources.
-pub fn pair(text: &str) -> Result<(u32, u32), Fault> {
-    let (first, second) = parts(text, " ")?;
-    Ok((number(first)?, number(second)?))
+/// The numbers that are left.
+pub fn numbers(asked: &mut Exchange) -> Vec<u32> {
+    let text = asked.rest();
+    numbers_of(asked, text)
 }
 
 /// An absolute path.
-pub fn path(alloc: Global, word: &str) -> Result<Path, Fault> {
-    Ok(Path::from_text(alloc, word.as_bytes())?)
+pub fn path_of(asked: &mut Exchange, text: &str) -> Path {
+    match Path::from_text(asked.alloc(), text.as_bytes()) {
+        Ok(path) => path,
+        Err(refusal) => {
+            refuse(asked, refusal);
+            Path::root(asked.alloc())
+        }
+    }
+}
+
+/// The next word as an absolute path.
+pub fn path(asked: &mut Exchange) -> Path {
+    let text = asked.word();
+    path_of(asked, text)
 }
 
 /// Absolute paths; `-` for none.
-fn paths(alloc: Global, text: &str) -> Result<Vec<Path>, Fault> {
-    let mut paths = Vec::new(alloc);
-    if text == "-" {
-        return Ok(paths);
+fn paths_of(asked: &mut Exchange, text: &str) -> Vec<Path> {
+    let mut paths = Vec::new(asked.alloc());
+    if text != "-" {
+        for word in text.split(' ') {
+            let path = path_of(asked, word);
+            add(asked, &mut paths, path);
+        }
     }
-    for word in text.split(' ') {
-        paths.push(path(alloc, word)?)?;
-    }
-    Ok(paths)
+    paths
 }
 
-/// A link with the interrupt that it is given.
-pub fn given(alloc: Global, text: &str) -> Result<(Path, u32), Fault> {
-    let (link, interrupt) = parts(text, " ")?;
-    Ok((path(alloc, link)?, number(interrupt)?))
+/// `N COUNT`: adds an interrupt with a number of sources.
+pub fn add_wired(asked: &mut Exchange, wired: &mut Vec<(u32, u32)>) {
+    let interrupt = number(asked);
+    let count = number(asked);
+    add(asked, wired, (interrupt, count));
 }
 
-/// `none`, or `LINKS over INTERRUPTS`.
-pub fn bound(alloc: Global, text: &str) -> Result<Option<Bound>, Fault> {
-    if text == "none" {
-        return Ok(None);
+/// `PATH N`: adds a link with the interrupt that it is given.
+pub fn add_give(asked: &mut Exchange, gives: &mut Vec<(Path, u32)>) {
+    let link = path(asked);
+    let interrupt = number(asked);
+    add(asked, gives, (link, interrupt));
+}
+
+/// A set: `LINKS over INTERRUPTS`.
+fn set(asked: &mut Exchange) -> Bound {
+    let links = asked.until(" over ");
+    Bound {
+        links: paths_of(asked, links),
+        interrupts: numbers(asked),
     }
-    let (links, interrupts) = parts(text, " over ")?;
-    Ok(Some(Bound {
-        links: paths(alloc, links)?,
-        interrupts: numbers(alloc, interrupts)?,
-    }))
+}
+
+/// `none`, or `LINKS over INTERRUPTS`: makes this the set.
+pub fn set_bound(asked: &mut Exchange, bound: &mut Option<Bound>) {
+    *bound = if asked.takes("none") {
+        None
+    } else {
+        Some(set(asked))
+    };
 }

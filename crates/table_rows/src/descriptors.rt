@@ -1,6 +1,6 @@
 //! Questions of resource descriptors: what a link device may be set to, and what it is set to.
 
-use crate::answers::{refuse, say_numbers};
+use crate::answers::{given, refuse, say_numbers};
 use crate::row::Row;
 use acpi_resources::{Form, InterruptNumbers, Offer, Polarity, current, possible, setting};
 use test_rows::Exchange;
@@ -11,17 +11,11 @@ fn interrupt(asked: &mut Exchange) -> u32 {
 }
 
 /// `possible BYTES`: the offer of possible resources; `possible text`: that of the text.
-fn offered(asked: &mut Exchange, row: &mut Row) {
-    let offer = if asked.takes("text") {
-        possible(asked.alloc(), row.text.as_slice())
-    } else {
-        let bytes = asked.bytes();
-        possible(asked.alloc(), bytes.as_slice())
-    };
-    match offer {
-        Ok(offer) => row.offer = Some(offer),
-        Err(refusal) => refuse(asked, refusal),
-    }
+fn offered(asked: &mut Exchange, offer: &mut Option<Offer>, text: &[u8]) {
+    let is_text = asked.takes("text");
+    let bytes = asked.bytes();
+    let outcome = possible(asked.alloc(), if is_text { text } else { bytes.as_slice() });
+    *offer = given(asked, outcome);
 }
 
 /// `setting N`: the bytes that set a link device to an interrupt of the offer.
@@ -53,64 +47,87 @@ fn polarity(offer: &Offer) -> &'static str {
     }
 }
 
+/// A question of an offer.
+#[derive(Clone, Copy)]
+pub enum OfferAsk {
+    Numbers,
+    Form,
+    Polarity,
+    Flags,
+    Contains,
+    Setting,
+}
+
+/// `contains N`: whether an offer has an interrupt.
+fn contains(asked: &mut Exchange, offer: &Offer) {
+    let number = interrupt(asked);
+    asked.say_whether(offer.contains(number));
+}
+
 /// Answers a question of an offer.
-fn of_offer(asked: &mut Exchange, offer: &Offer, word: &str) {
-    match word {
-        "numbers" => say_numbers(asked, offer.numbers()),
-        "form" => asked.say(form(offer)),
-        "polarity" => asked.say(polarity(offer)),
-        "flags" => asked.say_bytes(&[offer.flags()]),
-        "contains" => {
-            let number = interrupt(asked);
-            asked.say_whether(offer.contains(number));
-        }
-        _ => setting_to(asked, offer),
+fn of_offer(asked: &mut Exchange, offer: &Offer, ask: OfferAsk) {
+    match ask {
+        OfferAsk::Numbers => say_numbers(asked, offer.numbers()),
+        OfferAsk::Form => asked.say(form(offer)),
+        OfferAsk::Polarity => asked.say(polarity(offer)),
+        OfferAsk::Flags => asked.say_bytes(&[offer.flags()]),
+        OfferAsk::Contains => contains(asked, offer),
+        OfferAsk::Setting => setting_to(asked, offer),
+    }
+}
+
+/// Answers a question of the offer that was read.
+pub fn answer_of_offer(asked: &mut Exchange, offer: &Option<Offer>, ask: OfferAsk) {
+    match offer {
+        Some(offer) => of_offer(asked, offer, ask),
+        None => asked.misunderstand(),
     }
 }
 
 /// `current BYTES`: the interrupts that a link device is set to.
-fn set_to(asked: &mut Exchange, row: &mut Row) {
+fn set_to(asked: &mut Exchange, set: &mut Option<InterruptNumbers>) {
     let bytes = asked.bytes();
-    match current(asked.alloc(), bytes.as_slice()) {
-        Ok(numbers) => {
-            say_numbers(asked, numbers.as_slice());
-            row.set = Some(numbers);
-        }
-        Err(refusal) => refuse(asked, refusal),
+    let outcome = current(asked.alloc(), bytes.as_slice());
+    *set = given(asked, outcome);
+    if let Some(numbers) = set {
+        say_numbers(asked, numbers.as_slice());
     }
 }
 
-/// Answers a question of what a link device is set to.
-fn of_set(asked: &mut Exchange, set: &InterruptNumbers, word: &str) {
-    match word {
-        "set-count" => asked.say_number(set.len() as u64),
-        _ => asked.say_whether(set.is_empty()),
+/// `set-count` and `set-empty`: how many interrupts a link device is set to, and whether to none.
+fn set_count(asked: &mut Exchange, set: &Option<InterruptNumbers>, is_count: bool) {
+    match set {
+        Some(set) if is_count => asked.say_number(set.len() as u64),
+        Some(set) => asked.say_whether(set.is_empty()),
+        None => asked.misunderstand(),
     }
 }
 
 /// `set-taken`: the interrupts that the list gives up when it is taken apart.
-fn set_taken(asked: &mut Exchange, row: &mut Row) {
-    match row.set.take() {
+fn set_taken(asked: &mut Exchange, set: &mut Option<InterruptNumbers>) {
+    match set.take() {
         Some(set) => say_numbers(asked, set.into_vec().as_slice()),
         None => asked.misunderstand(),
     }
 }
 
-/// Answers a question of resource descriptors, and says whether it is one.
-pub fn answer(asked: &mut Exchange, row: &mut Row, word: &str) -> bool {
-    match word {
-        "possible" => offered(asked, row),
-        "numbers" | "form" | "polarity" | "flags" | "contains" | "setting" => match &row.offer {
-            Some(offer) => of_offer(asked, offer, word),
-            None => asked.misunderstand(),
-        },
-        "current" => set_to(asked, row),
-        "set-count" | "set-empty" => match &row.set {
-            Some(set) => of_set(asked, set, word),
-            None => asked.misunderstand(),
-        },
-        "set-taken" => set_taken(asked, row),
-        _ => return false,
+/// A question of resource descriptors.
+#[derive(Clone, Copy)]
+pub enum Ask {
+    Possible,
+    Current,
+    SetCount,
+    SetEmpty,
+    SetTaken,
+}
+
+/// Answers a question of resource descriptors.
+pub fn answer(asked: &mut Exchange, row: &mut Row, ask: Ask) {
+    match ask {
+        Ask::Possible => offered(asked, &mut row.offer, row.text.as_slice()),
+        Ask::Current => set_to(asked, &mut row.set),
+        Ask::SetCount => set_count(asked, &row.set, true),
+        Ask::SetEmpty => set_count(asked, &row.set, false),
+        Ask::SetTaken => set_taken(asked, &mut row.set),
     }
-    true
 }

@@ -99,24 +99,32 @@ const INPUT: [(&str, InputFault); 3] = [
     ("text too long", InputFault::TextTooLong),
 ];
 
+/// What all that is left stands for, and `other` where it is none of these names.
+fn fault<T: Copy>(asked: &mut Exchange, names: &[(&str, T)], other: T) -> T {
+    let name = asked.rest();
+    asked.one_of(names, name, other)
+}
+
 /// A fault of AML bytes, with its offset: `bad opcode 7`.
-fn term(asked: &mut Exchange, text: &str) -> Refusal {
+fn term(asked: &mut Exchange) -> Refusal {
+    let text = asked.rest();
     let (name, offset) = text.rsplit_once(' ').unwrap_or((text, ""));
     let fault = asked.one_of(&TERM, name, TermFault::Truncated);
     Refusal::Term(fault, asked.digits(offset, 10, u64::MAX) as usize)
 }
 
 /// A fault of an evaluation: a name, or `unsupported` and an opcode.
-fn evaluation(asked: &mut Exchange, name: &str) -> EvaluationFault {
-    match name.strip_prefix("unsupported ") {
-        Some(opcode) => EvaluationFault::Unsupported(asked.digits(opcode, 16, 0xFFFF) as u16),
-        None => asked.one_of(&EVALUATION, name, EvaluationFault::Fatal),
+fn evaluation(asked: &mut Exchange) -> EvaluationFault {
+    if asked.takes("unsupported ") {
+        EvaluationFault::Unsupported(asked.hexadecimal(0xFFFF) as u16)
+    } else {
+        fault(asked, &EVALUATION, EvaluationFault::Fatal)
     }
 }
 
 /// A fault of a whole machine.
-fn machine(asked: &mut Exchange, name: &str) -> Refusal {
-    match name {
+fn machine(asked: &mut Exchange) -> Refusal {
+    match asked.rest() {
         "spent" => Refusal::Machine(MachineFault::Spent),
         "out of memory" => Refusal::OutOfMemory,
         _ => {
@@ -127,85 +135,131 @@ fn machine(asked: &mut Exchange, name: &str) -> Refusal {
 }
 
 /// A fault of resource descriptors: a name, or `descriptor` and a tag.
-fn resource(asked: &mut Exchange, name: &str) -> ResourceFault {
-    match name.strip_prefix("descriptor ") {
-        Some(tag) => ResourceFault::Descriptor(asked.digits(tag, 10, 0xFF) as u8),
-        None => asked.one_of(&RESOURCE, name, ResourceFault::Edge),
+fn resource(asked: &mut Exchange) -> ResourceFault {
+    if asked.takes("descriptor ") {
+        ResourceFault::Descriptor(asked.number(0xFF) as u8)
+    } else {
+        fault(asked, &RESOURCE, ResourceFault::Edge)
     }
 }
 
 /// The text of a path.
-fn path_text(asked: &mut Exchange, text: &str) -> PathText {
-    match text.to_string(asked.alloc()) {
-        Ok(text) => PathText::new(text),
+pub fn path_text(asked: &mut Exchange, text: &str) -> PathText {
+    let text = match text.to_string(asked.alloc()) {
+        Ok(text) => text,
         Err(_) => {
             asked.run_out();
-            PathText::new(String::new(asked.alloc()))
+            String::new(asked.alloc())
+        }
+    };
+    PathText::new(text)
+}
+
+/// A fault of routing that names a path: `no offer PATH`, `avoided PATH`.
+fn routing_of_path(asked: &mut Exchange, text: &str) -> RoutingFault {
+    let (name, path) = text.rsplit_once(' ').unwrap_or((text, ""));
+    let path = path_text(asked, path);
+    match name {
+        "no offer" => RoutingFault::NoOffer(path),
+        "avoided" => RoutingFault::Avoided(path),
+        _ => {
+            asked.misunderstand();
+            RoutingFault::Avoided(path)
         }
     }
 }
 
-/// A fault of routing: a name, or `no offer` or `avoided` and a path.
-fn routing(asked: &mut Exchange, name: &str) -> RoutingFault {
-    if let Some(path) = name.strip_prefix("no offer ") {
-        return RoutingFault::NoOffer(path_text(asked, path));
+/// A fault of routing.
+fn routing(asked: &mut Exchange) -> RoutingFault {
+    match asked.rest() {
+        "mixed polarity" => RoutingFault::MixedPolarity,
+        "too many" => RoutingFault::TooMany,
+        text => routing_of_path(asked, text),
     }
-    if let Some(path) = name.strip_prefix("avoided ") {
-        return RoutingFault::Avoided(path_text(asked, path));
-    }
-    if name == "mixed polarity" {
-        return RoutingFault::MixedPolarity;
-    }
-    if name != "too many" {
-        asked.misunderstand();
-    }
-    RoutingFault::TooMany
 }
 
 /// A fault of a report, with its line: `bad line 4`.
-fn report(asked: &mut Exchange, name: &str) -> ReportFault {
-    let line = name.strip_prefix("bad line ").unwrap_or("");
-    ReportFault::BadLine(asked.digits(line, 10, u64::MAX) as usize)
+fn report(asked: &mut Exchange) -> ReportFault {
+    if !asked.takes("bad line ") {
+        asked.misunderstand();
+    }
+    ReportFault::BadLine(asked.number(u64::MAX) as usize)
 }
 
 /// A fault of input or output: a name, or `machine line` and its number.
-fn input(asked: &mut Exchange, name: &str) -> InputFault {
-    match name.strip_prefix("machine line ") {
-        Some(line) => InputFault::MachineLine(asked.digits(line, 10, u64::MAX) as usize),
-        None => asked.one_of(&INPUT, name, InputFault::ReadFault),
+fn input(asked: &mut Exchange) -> InputFault {
+    if asked.takes("machine line ") {
+        InputFault::MachineLine(asked.number(u64::MAX) as usize)
+    } else {
+        fault(asked, &INPUT, InputFault::ReadFault)
     }
 }
 
-/// The refusal `KIND: FAULT`, of the kinds of the firmware's bytes and of what is computed from them.
-fn firmware_refusal(asked: &mut Exchange, kind: &str, fault: &str) -> Refusal {
+/// The kind of a refusal.
+#[derive(Clone, Copy)]
+enum Kind {
+    Space,
+    Table,
+    Name,
+    Term,
+    Value,
+    Field,
+    Namespace,
+    Evaluation,
+    Machine,
+    Resource,
+    RoutingTable,
+    Routing,
+    Report,
+    Input,
+}
+
+/// The kinds of refusals.
+const KINDS: [(&str, Kind); 14] = [
+    ("space", Kind::Space),
+    ("table", Kind::Table),
+    ("name", Kind::Name),
+    ("term", Kind::Term),
+    ("value", Kind::Value),
+    ("field", Kind::Field),
+    ("namespace", Kind::Namespace),
+    ("evaluation", Kind::Evaluation),
+    ("machine", Kind::Machine),
+    ("resource", Kind::Resource),
+    ("routing table", Kind::RoutingTable),
+    ("routing", Kind::Routing),
+    ("report", Kind::Report),
+    ("input", Kind::Input),
+];
+
+/// The refusal of a kind whose faults are names alone.
+fn named(asked: &mut Exchange, kind: Kind) -> Refusal {
     match kind {
-        "space" => Refusal::Space(asked.one_of(&SPACE, fault, SpaceFault::Device)),
-        "table" => Refusal::Table(asked.one_of(&TABLE, fault, TableFault::BadLength)),
-        "name" => Refusal::Name(asked.one_of(&NAME, fault, NameFault::BadName)),
-        "value" => Refusal::Value(asked.one_of(&VALUE, fault, ValueFault::WrongType)),
-        "field" => Refusal::Field(asked.one_of(&FIELD, fault, FieldFault::FieldLimit)),
-        "namespace" => {
-            Refusal::Namespace(asked.one_of(&NAMESPACE, fault, NamespaceFault::Exists))
+        Kind::Space => Refusal::Space(fault(asked, &SPACE, SpaceFault::Device)),
+        Kind::Table => Refusal::Table(fault(asked, &TABLE, TableFault::BadLength)),
+        Kind::Name => Refusal::Name(fault(asked, &NAME, NameFault::BadName)),
+        Kind::Value => Refusal::Value(fault(asked, &VALUE, ValueFault::WrongType)),
+        Kind::Field => Refusal::Field(fault(asked, &FIELD, FieldFault::FieldLimit)),
+        Kind::Namespace => Refusal::Namespace(fault(asked, &NAMESPACE, NamespaceFault::Exists)),
+        Kind::RoutingTable => {
+            Refusal::RoutingTable(fault(asked, &ROUTING_TABLE, RoutingTableFault::BadPin))
         }
-        "term" => term(asked, fault),
-        _ => machine(asked, fault),
+        _ => machine(asked),
     }
 }
 
 /// The refusal `KIND: FAULT`.
 fn refusal(asked: &mut Exchange) -> Refusal {
     let kind = asked.until(": ");
-    let fault = asked.rest();
+    let kind = asked.one_of(&KINDS, kind, Kind::Machine);
     match kind {
-        "evaluation" => Refusal::Evaluation(evaluation(asked, fault)),
-        "resource" => Refusal::Resource(resource(asked, fault)),
-        "routing table" => {
-            Refusal::RoutingTable(asked.one_of(&ROUTING_TABLE, fault, RoutingTableFault::BadPin))
-        }
-        "routing" => Refusal::Routing(routing(asked, fault)),
-        "report" => Refusal::Report(report(asked, fault)),
-        "input" => Refusal::Input(input(asked, fault)),
-        _ => firmware_refusal(asked, kind, fault),
+        Kind::Term => term(asked),
+        Kind::Evaluation => Refusal::Evaluation(evaluation(asked)),
+        Kind::Resource => Refusal::Resource(resource(asked)),
+        Kind::Routing => Refusal::Routing(routing(asked)),
+        Kind::Report => Refusal::Report(report(asked)),
+        Kind::Input => Refusal::Input(input(asked)),
+        _ => named(asked, kind),
     }
 }
 

@@ -1,104 +1,82 @@
 //! Questions of the machine text: how it is written, and what it says.
 
-use crate::answers::{count, hexadecimal, refuse};
+use crate::answers::{add, count, extend, extend_times, hexadecimal, refuse, say_done};
 use crate::distinct::Distinct;
 use crate::row::Row;
-use crate::tables::number_of;
-use ar_space::{Place, Sparse};
-use machine_text::{OsiTexts, read_machine};
-use std::alloc::{AllocError, Global};
+use crate::tables::number_of_tables;
+use ar_space::Place;
+use machine_text::{MachineText, OsiTexts, read_machine};
 use std::mem;
 use test_rows::Exchange;
-
-/// Adds bytes to the text, so many times.
-fn add(asked: &mut Exchange, text: &mut Vec<u8>, bytes: &[u8], times: usize) {
-    for _ in 0..times {
-        if text.extend_from_slice(bytes).is_err() {
-            asked.run_out();
-        }
-    }
-}
 
 /// `line TEXT`: adds a line to the text.
 fn line(asked: &mut Exchange, text: &mut Vec<u8>) {
     let line = asked.rest();
-    add(asked, text, line.as_bytes(), 1);
-    add(asked, text, b"\n", 1);
+    extend(asked, text, line.as_bytes());
+    extend(asked, text, b"\n");
 }
 
 /// `text BYTES`: adds bytes to the text.
 fn bytes(asked: &mut Exchange, text: &mut Vec<u8>) {
     let bytes = asked.bytes();
-    add(asked, text, bytes.as_slice(), 1);
+    extend(asked, text, bytes.as_slice());
 }
 
 /// `times N BYTES`: adds bytes to the text, so many times.
 fn times(asked: &mut Exchange, text: &mut Vec<u8>) {
     let times = count(asked);
     let bytes = asked.bytes();
-    add(asked, text, bytes.as_slice(), times);
+    extend_times(asked, text, bytes.as_slice(), times);
 }
 
 /// The text with another line of this number, counted from 1.
-fn with_line(alloc: Global, text: &[u8], at: usize, line: &str) -> Result<Vec<u8>, AllocError> {
-    let mut changed = Vec::new(alloc);
+fn with_line(asked: &mut Exchange, text: &[u8], at: usize, line: &str) -> Vec<u8> {
+    let mut changed = Vec::new(asked.alloc());
     let mut number = 1usize;
-    if at == 1 {
-        changed.extend_from_slice(line.as_bytes())?;
-    }
     for byte in text {
         let is_end = *byte == b'\n';
+        if is_end && number == at {
+            extend(asked, &mut changed, line.as_bytes());
+        }
         if is_end || number != at {
-            changed.push(*byte)?;
+            extend(asked, &mut changed, &[*byte]);
         }
-        if is_end {
-            number = number.saturating_add(1);
-            if number == at {
-                changed.extend_from_slice(line.as_bytes())?;
-            }
-        }
+        number = number.saturating_add(usize::from(is_end));
     }
-    Ok(changed)
+    changed
 }
 
 /// `change N TEXT`: another line in place of the text's line of this number.
 fn change(asked: &mut Exchange, text: &mut Vec<u8>) {
     let number = count(asked);
     let line = asked.rest();
-    match with_line(asked.alloc(), text.as_slice(), number, line) {
-        Ok(changed) => *text = changed,
-        Err(_) => asked.run_out(),
-    }
+    *text = with_line(asked, text.as_slice(), number, line);
 }
 
-/// Reads a machine text, and keeps what it says.
-fn read_text(asked: &mut Exchange, row: &mut Row, text: &[u8]) {
-    match read_machine(asked.alloc(), text) {
-        Ok(machine) => {
-            row.space = machine.space;
-            row.rsdp = machine.rsdp;
-            row.osi = machine.osi;
-        }
-        Err(refusal) => refuse(asked, refusal),
-    }
+/// `cut N`: drops so many bytes at the end of the text.
+fn cut(asked: &mut Exchange, text: &mut Vec<u8>) {
+    let dropped = count(asked);
+    text.truncate(text.len().saturating_sub(dropped));
 }
 
 /// `read`: the machine of the text; `read BYTES`: that of these bytes.
-fn read(asked: &mut Exchange, row: &mut Row) {
+fn read(asked: &mut Exchange, machine: &mut MachineText, text: &[u8]) {
     let bytes = asked.bytes();
-    if bytes.is_empty() {
-        let text = mem::replace(&mut row.text, bytes);
-        read_text(asked, row, text.as_slice());
-        row.text = text;
+    let read = if bytes.is_empty() {
+        text
     } else {
-        read_text(asked, row, bytes.as_slice());
+        bytes.as_slice()
+    };
+    match read_machine(asked.alloc(), read) {
+        Ok(said) => *machine = said,
+        Err(refusal) => refuse(asked, refusal),
     }
 }
 
 /// The number of the refusal of a text, or of the tables of its machine, or 0.
 fn number_of_text(asked: &Exchange, text: &[u8]) -> u8 {
     match read_machine(asked.alloc(), text) {
-        Ok(machine) => number_of(asked, machine.space.memory(), machine.rsdp),
+        Ok(machine) => number_of_tables(asked, machine.space.memory(), machine.rsdp),
         Err(refusal) => refusal.number(),
     }
 }
@@ -113,44 +91,37 @@ fn cuts(asked: &mut Exchange, text: &[u8]) {
     answers.say(asked);
 }
 
-/// Puts a byte of memory.
-fn put(asked: &mut Exchange, space: &mut Sparse, place: Place, byte: u8) {
-    if space.put(place, byte).is_err() {
-        asked.run_out();
-    }
-}
-
 /// The number of the refusal of the tables while a byte of memory is higher by one.
-fn number_raised(asked: &mut Exchange, space: &mut Sparse, rsdp: u64, place: Place) -> u8 {
-    let Some(byte) = space.byte(place) else {
+fn number_raised(asked: &mut Exchange, machine: &mut MachineText, place: Place) -> u8 {
+    let Some(byte) = machine.space.byte(place) else {
         asked.misunderstand();
         return 0;
     };
-    put(asked, space, place, byte.wrapping_add(1));
-    let number = number_of(asked, space.memory(), rsdp);
-    put(asked, space, place, byte);
+    say_done(asked, machine.space.put(place, byte.wrapping_add(1)));
+    let number = number_of_tables(asked, machine.space.memory(), machine.rsdp);
+    say_done(asked, machine.space.put(place, byte));
     number
 }
 
 /// `raise ADDRESS N`: the answers of the search for tables while one of so many bytes from an address on is higher by one.
-fn raise(asked: &mut Exchange, space: &mut Sparse, rsdp: u64) {
+fn raise(asked: &mut Exchange, machine: &mut MachineText) {
     let address = hexadecimal(asked);
     let mut answers = Distinct::new();
     for place in 0..asked.number(u64::MAX) {
         let place = Place::Memory(address.wrapping_add(place));
-        answers.note(number_raised(asked, space, rsdp, place));
+        answers.note(number_raised(asked, machine, place));
     }
     answers.say(asked);
 }
 
 /// `osi-of BYTES`: a list of one text; `osi-of`: the list of no texts.
-fn osi_of(asked: &mut Exchange) -> OsiTexts {
+fn osi_of(asked: &mut Exchange, osi: &mut OsiTexts) {
     let text = asked.bytes();
     let mut texts = Vec::new(asked.alloc());
-    if !text.is_empty() && texts.push(text).is_err() {
-        asked.run_out();
+    if !text.is_empty() {
+        add(asked, &mut texts, text);
     }
-    OsiTexts::from_vec(texts)
+    *osi = OsiTexts::from_vec(texts);
 }
 
 /// `osi-text N`: a text that `_OSI` knows, counted from 0.
@@ -163,41 +134,70 @@ fn osi_text(asked: &mut Exchange, osi: &OsiTexts) {
 
 /// `osi-taken`: the texts that the list gives up when it is taken apart.
 fn osi_taken(asked: &mut Exchange, osi: &mut OsiTexts) {
-    let taken = mem::replace(osi, OsiTexts::new(asked.alloc()));
-    for text in taken.into_vec() {
+    let taken = mem::replace(osi, OsiTexts::new(asked.alloc())).into_vec();
+    for text in taken.iter() {
         asked.separate(",");
         asked.say_quoted(text.as_slice());
     }
 }
 
-/// Answers a question of the texts that `_OSI` knows, and says whether it is one.
-fn answer_osi(asked: &mut Exchange, osi: &mut OsiTexts, word: &str) -> bool {
-    match word {
-        "osi-of" => *osi = osi_of(asked),
-        "osi-texts" => asked.say_number(osi.len() as u64),
-        "osi-empty" => asked.say_whether(osi.is_empty()),
-        "osi-text" => osi_text(asked, osi),
-        "osi-taken" => osi_taken(asked, osi),
-        _ => return false,
-    }
-    true
+/// A question of the texts that `_OSI` knows.
+#[derive(Clone, Copy)]
+pub enum OsiAsk {
+    Of,
+    Texts,
+    Empty,
+    Text,
+    Taken,
 }
 
-/// Answers a question of the machine text, and says whether it is one.
-pub fn answer(asked: &mut Exchange, row: &mut Row, word: &str) -> bool {
-    match word {
-        "line" => line(asked, &mut row.text),
-        "text" => bytes(asked, &mut row.text),
-        "times" => times(asked, &mut row.text),
-        "change" => change(asked, &mut row.text),
-        "cut" => row
-            .text
-            .truncate(row.text.len().saturating_sub(count(asked))),
-        "read" => read(asked, row),
-        "rsdp" => asked.say_hexadecimal(row.rsdp),
-        "text-cuts" => cuts(asked, row.text.as_slice()),
-        "raise" => raise(asked, &mut row.space, row.rsdp),
-        _ => return answer_osi(asked, &mut row.osi, word),
+/// Answers a question of the texts that `_OSI` knows.
+pub fn answer_of_osi(asked: &mut Exchange, osi: &mut OsiTexts, ask: OsiAsk) {
+    match ask {
+        OsiAsk::Of => osi_of(asked, osi),
+        OsiAsk::Texts => asked.say_number(osi.len() as u64),
+        OsiAsk::Empty => asked.say_whether(osi.is_empty()),
+        OsiAsk::Text => osi_text(asked, osi),
+        OsiAsk::Taken => osi_taken(asked, osi),
     }
-    true
+}
+
+/// A question that writes the machine text.
+#[derive(Clone, Copy)]
+pub enum TextAsk {
+    Line,
+    Text,
+    Times,
+    Change,
+    Cut,
+}
+
+/// Answers a question that writes the machine text.
+pub fn write(asked: &mut Exchange, text: &mut Vec<u8>, ask: TextAsk) {
+    match ask {
+        TextAsk::Line => line(asked, text),
+        TextAsk::Text => bytes(asked, text),
+        TextAsk::Times => times(asked, text),
+        TextAsk::Change => change(asked, text),
+        TextAsk::Cut => cut(asked, text),
+    }
+}
+
+/// A question of what the machine text says.
+#[derive(Clone, Copy)]
+pub enum Ask {
+    Read,
+    Rsdp,
+    TextCuts,
+    Raise,
+}
+
+/// Answers a question of what the machine text says.
+pub fn answer(asked: &mut Exchange, row: &mut Row, ask: Ask) {
+    match ask {
+        Ask::Read => read(asked, &mut row.machine, row.text.as_slice()),
+        Ask::Rsdp => asked.say_hexadecimal(row.machine.rsdp),
+        Ask::TextCuts => cuts(asked, row.text.as_slice()),
+        Ask::Raise => raise(asked, &mut row.machine),
+    }
 }

@@ -40,31 +40,36 @@ pub fn place(asked: &mut Exchange) -> Place {
     }
 }
 
+/// Answers a word and numbers in hexadecimal digits.
+fn say_of(asked: &mut Exchange, word: &str, numbers: &[u64]) {
+    asked.say(word);
+    for number in numbers {
+        asked.say_hexadecimal(*number);
+    }
+}
+
 /// Answers a place.
 pub fn say_place(asked: &mut Exchange, place: Place) {
     match place {
-        Place::Memory(address) => {
-            asked.say("memory");
-            asked.say_hexadecimal(address);
-        }
-        Place::Io(port) => {
-            asked.say("port");
-            asked.say_hexadecimal(u64::from(port));
-        }
+        Place::Memory(address) => say_of(asked, "memory", &[address]),
+        Place::Io(port) => say_of(asked, "port", &[u64::from(port)]),
         Place::Pci {
             seg,
             bus,
             dev,
             func,
             reg,
-        } => {
-            asked.say("pci");
-            asked.say_hexadecimal(u64::from(seg));
-            asked.say_hexadecimal(u64::from(bus));
-            asked.say_hexadecimal(u64::from(dev));
-            asked.say_hexadecimal(u64::from(func));
-            asked.say_hexadecimal(u64::from(reg));
-        }
+        } => say_of(
+            asked,
+            "pci",
+            &[
+                u64::from(seg),
+                u64::from(bus),
+                u64::from(dev),
+                u64::from(func),
+                u64::from(reg),
+            ],
+        ),
     }
 }
 

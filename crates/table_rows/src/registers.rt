@@ -1,8 +1,9 @@
 //! Questions of the register space, of an access's width, and of path texts.
 
 use crate::answers::{hexadecimal, refuse, say_byte, say_done};
+use crate::faults::path_text;
 use crate::places::{place, say_place, width};
-use ar_space::{PathText, Refusal, Space, SpaceFault, Sparse};
+use ar_space::{Refusal, Space, SpaceFault, Sparse};
 use test_rows::Exchange;
 
 /// `put PLACE: BYTES`: puts bytes from a place on.
@@ -79,29 +80,38 @@ fn bytes_and_bits(asked: &mut Exchange) {
 /// `path lent TEXT` and `path taken TEXT`: the text of a path, as its two calls give it.
 fn path(asked: &mut Exchange) {
     let call = asked.word();
-    match asked.rest().to_string(asked.alloc()) {
-        Ok(text) => {
-            let path = PathText::new(text);
-            match call {
-                "lent" => asked.say(path.as_str()),
-                _ => asked.say(path.into_string().as_str()),
-            }
-        }
-        Err(_) => asked.run_out(),
+    let text = asked.rest();
+    let path = path_text(asked, text);
+    if call == "lent" {
+        asked.say(path.as_str());
+    } else {
+        asked.say(path.into_string().as_str());
     }
 }
 
+/// A question of the register space.
+#[derive(Clone, Copy)]
+pub enum Ask {
+    Put,
+    Byte,
+    Memory,
+    Load,
+    Store,
+    Beyond,
+    Width,
+    Path,
+}
+
 /// Answers a question of the register space.
-pub fn answer(asked: &mut Exchange, space: &mut Sparse, word: &str) {
-    match word {
-        "put" => put(asked, space),
-        "byte" => byte(asked, space),
-        "memory" => memory(asked, space),
-        "load" => load(asked, space),
-        "store" => store(asked, space),
-        "beyond" => beyond(asked),
-        "width" => bytes_and_bits(asked),
-        "path" => path(asked),
-        _ => asked.misunderstand(),
+pub fn answer(asked: &mut Exchange, space: &mut Sparse, ask: Ask) {
+    match ask {
+        Ask::Put => put(asked, space),
+        Ask::Byte => byte(asked, space),
+        Ask::Memory => memory(asked, space),
+        Ask::Load => load(asked, space),
+        Ask::Store => store(asked, space),
+        Ask::Beyond => beyond(asked),
+        Ask::Width => bytes_and_bits(asked),
+        Ask::Path => path(asked),
     }
 }

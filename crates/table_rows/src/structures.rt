@@ -1,9 +1,7 @@
 //! Structures in the memory of a machine: what stands at which address, and the image of it all.
 
-use crate::answers::hexadecimal;
-use ar_space::Refusal;
+use crate::answers::{add, extend, extend_times, hexadecimal, say_done};
 use ar_tables::Image;
-use std::alloc::{AllocError, Global};
 use test_rows::Exchange;
 
 /// The bytes of a structure, and where it stands.
@@ -13,12 +11,12 @@ pub struct Structure {
     pub bytes: Vec<u8>,
 }
 
-/// Puts the first bytes of a structure from its address on.
-fn lay(image: &mut Image, structure: &Structure, count: usize) -> Result<(), Refusal> {
-    for (place, byte) in structure.bytes.iter().take(count).enumerate() {
-        image.put(structure.address.wrapping_add(place as u64), *byte)?;
+/// Puts bytes into an image, from an address on.
+fn lay(asked: &mut Exchange, image: &mut Image, address: u64, bytes: &[u8]) {
+    for (place, byte) in bytes.iter().enumerate() {
+        let outcome = image.put(address.wrapping_add(place as u64), *byte);
+        say_done(asked, outcome);
     }
-    Ok(())
 }
 
 /// The image of these structures, with no more than so many bytes of the one at an address.
@@ -30,34 +28,21 @@ pub fn image_of(
 ) -> Image {
     let mut image = Image::new(asked.alloc());
     for structure in structures {
+        let bytes = structure.bytes.as_slice();
         let kept = if structure.address == address {
-            count
+            bytes.get(..count).unwrap_or(bytes)
         } else {
-            usize::MAX
+            bytes
         };
-        if lay(&mut image, structure, kept).is_err() {
-            asked.run_out();
-        }
+        lay(asked, &mut image, structure.address, kept);
     }
     image
 }
 
 /// Notes a structure, in place of the one that stands at its address, if one does.
-fn note(
-    asked: &mut Exchange,
-    structures: &mut Vec<Structure>,
-    address: u64,
-    bytes: Result<Vec<u8>, AllocError>,
-) {
+fn note(asked: &mut Exchange, structures: &mut Vec<Structure>, address: u64, bytes: Vec<u8>) {
     structures.retain(|structure| structure.address != address);
-    match bytes {
-        Ok(bytes) => {
-            if structures.push(Structure { address, bytes }).is_err() {
-                asked.run_out();
-            }
-        }
-        Err(_) => asked.run_out(),
-    }
+    add(asked, structures, Structure { address, bytes });
 }
 
 /// The sum of bytes, as a checksum counts it.
@@ -71,24 +56,24 @@ fn sum_of(bytes: &[u8]) -> u8 {
 
 /// A table of a signature, a revision and a length, with a right checksum and these bytes behind its header.
 fn table_of(
-    alloc: Global,
+    asked: &mut Exchange,
     signature: &str,
     revision: u8,
     length: u32,
     body: &[u8],
-) -> Result<Vec<u8>, AllocError> {
+) -> Vec<u8> {
     let length = length.to_le_bytes();
     let sum = sum_of(signature.as_bytes())
         .wrapping_add(sum_of(&length))
         .wrapping_add(revision)
         .wrapping_add(sum_of(body));
-    let mut bytes = Vec::from_slice(alloc, signature.as_bytes())?;
-    bytes.extend_from_slice(&length)?;
-    bytes.push(revision)?;
-    bytes.push(0u8.wrapping_sub(sum))?;
-    bytes.extend_from_slice(&[0; 26])?;
-    bytes.extend_from_slice(body)?;
-    Ok(bytes)
+    let mut bytes = Vec::new(asked.alloc());
+    extend(asked, &mut bytes, signature.as_bytes());
+    extend(asked, &mut bytes, &length);
+    extend(asked, &mut bytes, &[revision, 0u8.wrapping_sub(sum)]);
+    extend(asked, &mut bytes, &[0; 26]);
+    extend(asked, &mut bytes, body);
+    bytes
 }
 
 /// The length of a table with a body of so many bytes.
@@ -100,7 +85,7 @@ fn length_with(body: &[u8]) -> u32 {
 fn put_structure(asked: &mut Exchange, structures: &mut Vec<Structure>) {
     let address = hexadecimal(asked);
     let bytes = asked.bytes();
-    note(asked, structures, address, Ok(bytes));
+    note(asked, structures, address, bytes);
 }
 
 /// `table ADDRESS: SIGNATURE REVISION BODY`: a table whose length and checksum are right.
@@ -110,7 +95,7 @@ fn put_table(asked: &mut Exchange, structures: &mut Vec<Structure>) {
     let revision = asked.number(0xFF) as u8;
     let body = asked.bytes();
     let length = length_with(body.as_slice());
-    let bytes = table_of(asked.alloc(), signature, revision, length, body.as_slice());
+    let bytes = table_of(asked, signature, revision, length, body.as_slice());
     note(asked, structures, address, bytes);
 }
 
@@ -120,27 +105,16 @@ fn put_header(asked: &mut Exchange, structures: &mut Vec<Structure>) {
     let signature = asked.word();
     let revision = asked.number(0xFF) as u8;
     let length = asked.number(0xFFFF_FFFF) as u32;
-    let bytes = table_of(asked.alloc(), signature, revision, length, &[]);
+    let bytes = table_of(asked, signature, revision, length, &[]);
     note(asked, structures, address, bytes);
-}
-
-/// Adds an address of a list so many times.
-fn add_address(body: &mut Vec<u8>, address: u64, times: u64) -> Result<(), AllocError> {
-    let address = address.to_le_bytes();
-    for _ in 0..times {
-        body.extend_from_slice(&address)?;
-    }
-    Ok(())
 }
 
 /// Adds an address of a list as often as is written: `4000`, or `4000*256`.
 fn add_addresses(asked: &mut Exchange, body: &mut Vec<u8>, word: &str) {
     let (address, times) = word.split_once('*').unwrap_or((word, "1"));
-    let address = asked.digits(address, 16, u64::MAX);
+    let address = asked.digits(address, 16, u64::MAX).to_le_bytes();
     let times = asked.digits(times, 10, u64::MAX);
-    if add_address(body, address, times).is_err() {
-        asked.run_out();
-    }
+    extend_times(asked, body, &address, times as usize);
 }
 
 /// `list ADDRESS: ADDRESSES`: an XSDT of these addresses.
@@ -151,18 +125,25 @@ fn put_list(asked: &mut Exchange, structures: &mut Vec<Structure>) {
         add_addresses(asked, &mut body, word);
     }
     let length = length_with(body.as_slice());
-    let bytes = table_of(asked.alloc(), "XSDT", 1, length, body.as_slice());
+    let bytes = table_of(asked, "XSDT", 1, length, body.as_slice());
     note(asked, structures, address, bytes);
 }
 
-/// Answers a question that makes a structure, and says whether it is one.
-pub fn answer(asked: &mut Exchange, structures: &mut Vec<Structure>, word: &str) -> bool {
-    match word {
-        "structure" => put_structure(asked, structures),
-        "table" => put_table(asked, structures),
-        "header" => put_header(asked, structures),
-        "list" => put_list(asked, structures),
-        _ => return false,
+/// A question that makes a structure.
+#[derive(Clone, Copy)]
+pub enum Ask {
+    Structure,
+    Table,
+    Header,
+    List,
+}
+
+/// Answers a question that makes a structure.
+pub fn answer(asked: &mut Exchange, structures: &mut Vec<Structure>, ask: Ask) {
+    match ask {
+        Ask::Structure => put_structure(asked, structures),
+        Ask::Table => put_table(asked, structures),
+        Ask::Header => put_header(asked, structures),
+        Ask::List => put_list(asked, structures),
     }
-    true
 }

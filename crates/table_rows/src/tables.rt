@@ -1,6 +1,6 @@
 //! Questions of the tables that are found in memory.
 
-use crate::answers::{count, hexadecimal, refuse, say_byte, say_done};
+use crate::answers::{add, count, given, hexadecimal, number_of, say_byte, say_done};
 use crate::distinct::Distinct;
 use crate::row::Row;
 use crate::structures::{Structure, image_of};
@@ -20,30 +20,22 @@ fn image_byte(asked: &mut Exchange, image: &Image) {
     say_byte(asked, image.byte(address));
 }
 
-/// The tables of an image, from an RSDP on.
-fn find(asked: &mut Exchange, image: &Image, rsdp: u64) -> Option<Tables> {
-    match find_tables(asked.alloc(), image, rsdp) {
-        Ok(tables) => Some(tables),
-        Err(refusal) => {
-            refuse(asked, refusal);
-            None
-        }
-    }
+/// Finds the tables of an image, from an RSDP on.
+fn find(asked: &mut Exchange, tables: &mut Option<Tables>, image: &Image, rsdp: u64) {
+    let outcome = find_tables(asked.alloc(), image, rsdp);
+    *tables = given(asked, outcome);
 }
 
 /// `tables RSDP`: the tables of the structures.
-fn find_at(asked: &mut Exchange, structures: &[Structure]) -> Option<Tables> {
+fn find_at(asked: &mut Exchange, tables: &mut Option<Tables>, structures: &[Structure]) {
     let rsdp = hexadecimal(asked);
     let image = image_of(asked, structures, 0, usize::MAX);
-    find(asked, &image, rsdp)
+    find(asked, tables, &image, rsdp);
 }
 
 /// The number of the refusal of the tables of an image, or 0.
-pub fn number_of(asked: &Exchange, image: &Image, rsdp: u64) -> u8 {
-    match find_tables(asked.alloc(), image, rsdp) {
-        Ok(_) => 0,
-        Err(refusal) => refusal.number(),
-    }
+pub fn number_of_tables(asked: &Exchange, image: &Image, rsdp: u64) -> u8 {
+    number_of(find_tables(asked.alloc(), image, rsdp))
 }
 
 /// How many bytes the structure at an address has.
@@ -59,39 +51,40 @@ fn length_at(structures: &[Structure], address: u64) -> usize {
 /// `cuts ADDRESS from RSDP`: the answers of all searches in which the structure at that address is cut before one of its
 /// bytes.
 fn cuts(asked: &mut Exchange, structures: &[Structure]) {
-    let address = hexadecimal(asked);
-    if asked.word() != "from" {
-        asked.misunderstand();
-    }
+    let address = asked.until(" from ");
+    let address = asked.digits(address, 16, u64::MAX);
     let rsdp = hexadecimal(asked);
     let mut answers = Distinct::new();
     for count in 0..length_at(structures, address) {
         let image = image_of(asked, structures, address, count);
-        answers.note(number_of(asked, &image, rsdp));
+        answers.note(number_of_tables(asked, &image, rsdp));
     }
     answers.say(asked);
 }
 
 /// A table by its name: `dsdt`, or `ssdt` and its place in the list, from 0 on.
-fn named<'a>(asked: &mut Exchange, tables: &'a Tables) -> Option<&'a Table> {
-    match asked.word() {
+fn named<'a>(asked: &mut Exchange, tables: &'a Tables) -> &'a Table {
+    let found = match asked.word() {
         "dsdt" => Some(&tables.dsdt),
         "ssdt" => tables.ssdts.as_slice().get(count(asked)),
         _ => None,
+    };
+    if found.is_none() {
+        asked.misunderstand();
     }
+    found.unwrap_or(&tables.dsdt)
 }
 
-/// Answers a question of a DSDT or SSDT: its bytes, those behind its header, or how many it has.
-fn of_table(asked: &mut Exchange, tables: &Tables, word: &str) {
-    let Some(table) = named(asked, tables) else {
-        asked.misunderstand();
-        return;
-    };
-    match word {
-        "bytes" => asked.say_bytes(table.as_slice()),
-        "body" => asked.say_bytes(table.body()),
-        _ => asked.say_number(table.as_slice().len() as u64),
-    }
+/// `body TABLE`: the bytes behind the header of a table.
+fn body(asked: &mut Exchange, tables: &Tables) {
+    let table = named(asked, tables);
+    asked.say_bytes(table.body());
+}
+
+/// `length TABLE`: how many bytes a table has.
+fn length(asked: &mut Exchange, tables: &Tables) {
+    let table = named(asked, tables);
+    asked.say_number(table.as_slice().len() as u64);
 }
 
 /// `bytes madt`: the bytes of the MADT, or `none`.
@@ -109,7 +102,8 @@ fn bytes_of_table(asked: &mut Exchange, tables: &Tables) {
     } else if asked.takes("madt") {
         bytes_of_madt(asked, tables);
     } else {
-        of_table(asked, tables, "bytes");
+        let table = named(asked, tables);
+        asked.say_bytes(table.as_slice());
     }
 }
 
@@ -163,19 +157,23 @@ fn madt_entry(asked: &mut Exchange, tables: &Tables) {
     }
 }
 
+/// Answers the bytes that a list of one SSDT gives back.
+fn say_given_back(asked: &mut Exchange, table: Table) {
+    let mut list = Vec::new(asked.alloc());
+    add(asked, &mut list, table);
+    match Ssdts::from_vec(list).into_vec().pop() {
+        Some(table) => asked.say_bytes(table.into_vec().as_slice()),
+        None => asked.say("none"),
+    }
+}
+
 /// `ssdt-of BYTES`: the bytes that a list of one SSDT, made of these bytes, gives back.
 fn given_back(asked: &mut Exchange) {
     let bytes = asked.bytes();
     if bytes.len() < 36 {
         asked.misunderstand();
-        return;
-    }
-    let mut list = Vec::new(asked.alloc());
-    if list.push(Table::from_vec(bytes)).is_err() {
-        asked.run_out();
-    }
-    for table in Ssdts::from_vec(list).into_vec() {
-        asked.say_bytes(table.into_vec().as_slice());
+    } else {
+        say_given_back(asked, Table::from_vec(bytes));
     }
 }
 
@@ -187,36 +185,65 @@ fn integers(width: IntegerWidth) -> &'static str {
     }
 }
 
-/// Answers a question of tables that were found, and says whether it is one.
-fn of_found(asked: &mut Exchange, tables: &Tables, word: &str) -> bool {
-    match word {
-        "bytes" => bytes_of_table(asked, tables),
-        "body" | "length" => of_table(asked, tables, word),
-        "ssdts" => asked.say_number(tables.ssdts.as_slice().len() as u64),
-        "dsdt-address" => asked.say_hexadecimal(tables.fadt.dsdt_address()),
-        "system-control-interrupt" => asked.say_number(u64::from(tables.fadt.sci_interrupt())),
-        "integers" => asked.say(integers(tables.width)),
-        "madt-entry" => madt_entry(asked, tables),
-        _ => return false,
-    }
-    true
+/// A question of tables that were found.
+#[derive(Clone, Copy)]
+pub enum FoundAsk {
+    Bytes,
+    Body,
+    Length,
+    Ssdts,
+    DsdtAddress,
+    SystemControlInterrupt,
+    Integers,
+    MadtEntry,
 }
 
-/// Answers a question of tables, and says whether it is one.
-pub fn answer(asked: &mut Exchange, row: &mut Row, word: &str) -> bool {
-    match word {
-        "image-put" => image_put(asked, &mut row.image),
-        "image-byte" => image_byte(asked, &row.image),
-        "tables" => row.tables = find_at(asked, row.structures.as_slice()),
-        "machine-tables" => row.tables = find(asked, row.space.memory(), row.rsdp),
-        "cuts" => cuts(asked, row.structures.as_slice()),
-        "ssdt-of" => given_back(asked),
-        _ => {
-            return match &row.tables {
-                Some(tables) => of_found(asked, tables, word),
-                None => false,
-            };
+/// Answers a question of tables that were found.
+fn of_found(asked: &mut Exchange, tables: &Tables, ask: FoundAsk) {
+    match ask {
+        FoundAsk::Bytes => bytes_of_table(asked, tables),
+        FoundAsk::Body => body(asked, tables),
+        FoundAsk::Length => length(asked, tables),
+        FoundAsk::Ssdts => asked.say_number(tables.ssdts.as_slice().len() as u64),
+        FoundAsk::DsdtAddress => asked.say_hexadecimal(tables.fadt.dsdt_address()),
+        FoundAsk::SystemControlInterrupt => {
+            asked.say_number(u64::from(tables.fadt.sci_interrupt()));
         }
+        FoundAsk::Integers => asked.say(integers(tables.width)),
+        FoundAsk::MadtEntry => madt_entry(asked, tables),
     }
-    true
+}
+
+/// Answers a question of the tables that were found.
+pub fn answer_of_found(asked: &mut Exchange, tables: &Option<Tables>, ask: FoundAsk) {
+    match tables {
+        Some(tables) => of_found(asked, tables, ask),
+        None => asked.misunderstand(),
+    }
+}
+
+/// A question of an image, or one that finds tables.
+#[derive(Clone, Copy)]
+pub enum Ask {
+    ImagePut,
+    ImageByte,
+    Tables,
+    MachineTables,
+    Cuts,
+    SsdtOf,
+}
+
+/// Answers a question of an image, or one that finds tables.
+pub fn answer(asked: &mut Exchange, row: &mut Row, ask: Ask) {
+    match ask {
+        Ask::ImagePut => image_put(asked, &mut row.image),
+        Ask::ImageByte => image_byte(asked, &row.image),
+        Ask::Tables => find_at(asked, &mut row.tables, row.structures.as_slice()),
+        Ask::MachineTables => {
+            let machine = &row.machine;
+            find(asked, &mut row.tables, machine.space.memory(), machine.rsdp);
+        }
+        Ask::Cuts => cuts(asked, row.structures.as_slice()),
+        Ask::SsdtOf => given_back(asked),
+    }
 }

@@ -12,10 +12,10 @@ use test_rows::Exchange;
 type Trace = Traced<Sparse>;
 
 /// `trace of PLACE: BYTES`: a new space with these bytes.
-fn trace_of(asked: &mut Exchange) -> Trace {
+fn trace_of(asked: &mut Exchange, trace: &mut Trace) {
     let mut space = Sparse::new(asked.alloc());
     put(asked, &mut space);
-    Traced::new(space)
+    *trace = Traced::new(space);
 }
 
 /// `trace loads N`: reads of a byte at each of so many addresses of memory from 0 on, whatever they answer.
@@ -27,19 +27,16 @@ fn loads(asked: &mut Exchange, trace: &mut Trace) {
 
 /// Answers an access.
 fn say_access(asked: &mut Exchange, access: Access) {
-    match access {
-        Access::Read(at, width) => {
-            asked.say("load");
-            asked.say_number(u64::from(width.bits()));
-            say_place(asked, at);
-        }
-        Access::Write(at, width, value) => {
-            asked.say("store");
-            asked.say_number(u64::from(width.bits()));
-            say_place(asked, at);
-            asked.push(":");
-            asked.say_hexadecimal(value);
-        }
+    let (word, at, width) = match access {
+        Access::Read(at, width) => ("load", at, width),
+        Access::Write(at, width, _) => ("store", at, width),
+    };
+    asked.say(word);
+    asked.say_number(u64::from(width.bits()));
+    say_place(asked, at);
+    if let Access::Write(_, _, value) = access {
+        asked.push(":");
+        asked.say_hexadecimal(value);
     }
 }
 
@@ -65,18 +62,45 @@ fn taken(asked: &mut Exchange, trace: &mut Trace) {
     byte(asked, &space);
 }
 
+/// A question that begins with `trace`.
+#[derive(Clone, Copy)]
+enum Ask {
+    Of,
+    Load,
+    Store,
+    Loads,
+    Accesses,
+    Access,
+    Count,
+    Byte,
+    Taken,
+}
+
+/// The questions that begin with `trace`, by their second words.
+const QUESTIONS: [(&str, Ask); 9] = [
+    ("of", Ask::Of),
+    ("load", Ask::Load),
+    ("store", Ask::Store),
+    ("loads", Ask::Loads),
+    ("accesses", Ask::Accesses),
+    ("access", Ask::Access),
+    ("count", Ask::Count),
+    ("byte", Ask::Byte),
+    ("taken", Ask::Taken),
+];
+
 /// Answers a question that begins with `trace`.
 pub fn answer(asked: &mut Exchange, trace: &mut Trace) {
-    match asked.word() {
-        "of" => *trace = trace_of(asked),
-        "load" => load(asked, trace),
-        "store" => store(asked, trace),
-        "loads" => loads(asked, trace),
-        "accesses" => accesses(asked, trace),
-        "access" => access(asked, trace),
-        "count" => asked.say_number(trace.count() as u64),
-        "byte" => byte(asked, trace.inner()),
-        "taken" => taken(asked, trace),
-        _ => asked.misunderstand(),
+    let word = asked.word();
+    match asked.one_of(&QUESTIONS, word, Ask::Count) {
+        Ask::Of => trace_of(asked, trace),
+        Ask::Load => load(asked, trace),
+        Ask::Store => store(asked, trace),
+        Ask::Loads => loads(asked, trace),
+        Ask::Accesses => accesses(asked, trace),
+        Ask::Access => access(asked, trace),
+        Ask::Count => asked.say_number(trace.count() as u64),
+        Ask::Byte => byte(asked, trace.inner()),
+        Ask::Taken => taken(asked, trace),
     }
 }
