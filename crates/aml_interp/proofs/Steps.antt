@@ -37,6 +37,7 @@ use Rattle.aml_meaning.specs.Given.{Given, given_of}
 use Rattle.aml_meaning.specs.Calling.{ending, with_steps, answer_exported, answered}
 use Rattle.aml_meaning.specs.Meaning.{meaning}
 use Rattle.aml_meaning.proofs.Meanings.{does_meaning}
+use Rattle.aml_meaning.proofs.TargetKinds.{does_target_of}
 
 -- ---- a list is its first item and the others
 
@@ -156,7 +157,7 @@ does_answer accesses n i s l h = record { is = λ ne. answer_is accesses n i s l
 pub does_not_answer : {S : Type 0} (accesses : Accesses S) (n : ℕ) (i : Invocation) {s : State S × ℕ} → n ≡ 0 → Does (Err (refusal.Evaluation CallDepth)) s (answer_within accesses (meaning accesses) n i) s
 does_not_answer accesses n i {s} e = record { is = λ _. answer_none accesses n i s e }
 
-pub ruleset evaluating = (running, does_meaning, does_leaving, does_answer, does_not_answer)
+pub ruleset evaluating = (running, does_meaning, does_target_of, does_leaving, does_answer, does_not_answer)
 
 -- arguments are counted before they are looked at
 pub does_answered : {S : Type 0} {r : Outcome Given} {w w1 : State S} (accesses : Accesses S) (p : List Seg) (arguments : List Datum) (steps : ℕ) → Does r w1 (ending (with_steps steps (answer_exported accesses p (length arguments) (map given_of arguments)))) w → Does r w1 (answered accesses p (map given_of arguments) steps) w

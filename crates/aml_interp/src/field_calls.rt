@@ -5,7 +5,7 @@ ghost use Rattle.ar_space.specs.Outcome.{seen};
 ghost use Rattle.aml_meaning.specs.Given.{given_of};
 ghost use Rattle.aml_meaning.specs.Fields.{field_given};
 ghost use Rattle.aml_meaning.specs.Meaning.{meaning};
-ghost use Rattle.aml_meaning.specs.FieldCalls.{asked, method_integer, answer_over, answer_within, field_read, held_integer, referent_read, called_at, completed, stored_to, stored_back};
+ghost use Rattle.aml_meaning.specs.FieldCalls.{asked, method_integer, answer_over, answer_within, field_read, held_integer, referent_read, called_at, completed, stored_to, back_to, stored_back, held_value};
 
 use crate::answers::invocation;
 use crate::fields::{
@@ -96,7 +96,8 @@ pub(crate) fn eval_stored_to<S: Space>(
     eval_completed(alloc, run, depth, stored, value)
 }
 
-/// Stores a value to a target whose value was read before: a field unit that was read is the one that is written.
+/// A store to a target whose value was read before; a field unit that was read is the one that is written, unless an element of a
+/// package named it: then the element is replaced.
 #[cycle(evaluation)]
 #[tactic(auto, using(crate::proofs::Steps::evaluating))]
 pub(crate) fn eval_stored_back<S: Space>(
@@ -110,9 +111,47 @@ pub(crate) fn eval_stored_back<S: Space>(
     ensures spent { run.new.1 ≤ run.old.1 }
     ensures means { Does result run.new (stored_back S.accesses (meaning S.accesses) depth held target.now value) run.old }
 {
+    eval_back_to(alloc, run, depth, target.is_element(), held, target, value)
+}
+
+#[cycle(evaluation)]
+#[tactic(auto, using(crate::proofs::Steps::evaluating))]
+fn eval_back_to<S: Space>(
+    alloc: Global,
+    run: &mut Running<S>,
+    depth: usize,
+    of_element: bool,
+    held: Held,
+    target: &StoreTarget,
+    value: Value,
+) -> Result<(), Refusal>
+    ensures spent { run.new.1 ≤ run.old.1 }
+    ensures means { Does result run.new (back_to S.accesses (meaning S.accesses) of_element depth held target.now value) run.old }
+{
+    if of_element {
+        return eval_stored_to(alloc, run, depth, target, value);
+    }
     match held {
         Held::Value(_) => eval_stored_to(alloc, run, depth, target, value),
         Held::FieldUnit(unit) => eval_field_stored(alloc, run, calls_left(depth), unit, value),
+    }
+}
+
+/// What a target holds, as a value.
+#[cycle(evaluation)]
+#[tactic(auto, using(crate::proofs::Steps::evaluating))]
+pub(crate) fn eval_held_value<S: Space>(
+    alloc: Global,
+    run: &mut Running<S>,
+    depth: usize,
+    held: Held,
+) -> Result<Value, Refusal>
+    ensures spent { run.new.1 ≤ run.old.1 }
+    ensures means { Does result run.new (held_value S.accesses (meaning S.accesses) depth held) run.old }
+{
+    match held {
+        Held::Value(value) => Ok(value),
+        Held::FieldUnit(unit) => eval_field_read(alloc, run, depth, unit),
     }
 }
 

@@ -13,6 +13,7 @@ mod loading;
 mod operands;
 mod operators;
 mod readings;
+mod references;
 mod regions;
 mod statements;
 mod targets;

@@ -6,6 +6,9 @@ ghost use Rattle.aml_meaning.specs.Meaning.{meaning};
 ghost use Rattle.aml_meaning.specs.OperatorTerms.{operator_rule, slot_rule, store_rule, copy_rule, two_rule, divide_rule, one_rule, test_rule, not_rule, count_rule, size_rule, type_rule, acquire_rule};
 
 use crate::field_calls::{eval_completed, eval_held, eval_referent, eval_stored_back};
+use crate::references::{
+    eval_conditional_reference, eval_dereference, eval_operand_referent, eval_reference,
+};
 use crate::targets::{eval_target, eval_targeted};
 use crate::task::Task;
 use crate::terms::{eval_two_values, eval_value_at};
@@ -39,6 +42,9 @@ pub(crate) fn eval_operator<S: Space>(
         OperatorKind::SizeOf => eval_size(alloc, run, job),
         OperatorKind::ObjectType => eval_type(alloc, run, job),
         OperatorKind::Acquire => eval_acquire(alloc, run, job),
+        OperatorKind::RefOf => eval_reference(alloc, run, job),
+        OperatorKind::CondRefOf => eval_conditional_reference(alloc, run, job),
+        OperatorKind::DerefOf => eval_dereference(alloc, run, job),
     }
 }
 
@@ -178,8 +184,7 @@ fn eval_size<S: Space>(alloc: Global, run: &mut Running<S>, job: Task<'_>) -> Re
     ensures spent { run.new.1 ≤ run.old.1 }
     ensures means { Does result run.new (size_rule S.accesses (meaning S.accesses) job.entry.scope.now job.entry.depth (part_tree job.entry.term)) run.old }
 {
-    let target = eval_target(alloc, run, job, 0)?;
-    let referent = run.world.target_referent(alloc, &target)?;
+    let referent = eval_operand_referent(alloc, run, job)?;
     let referent = eval_referent(alloc, run, job.depth, referent)?;
     let size = run.world.size(referent)?;
     Ok(Flow::Value(size))
@@ -191,8 +196,7 @@ fn eval_type<S: Space>(alloc: Global, run: &mut Running<S>, job: Task<'_>) -> Re
     ensures spent { run.new.1 ≤ run.old.1 }
     ensures means { Does result run.new (type_rule S.accesses (meaning S.accesses) job.entry.scope.now job.entry.depth (part_tree job.entry.term)) run.old }
 {
-    let target = eval_target(alloc, run, job, 0)?;
-    let referent = run.world.target_referent(alloc, &target)?;
+    let referent = eval_operand_referent(alloc, run, job)?;
     let referent = eval_referent(alloc, run, job.depth, referent)?;
     Ok(Flow::Value(Value::Integer(referent.object_type().number())))
 }
@@ -209,6 +213,6 @@ fn eval_acquire<S: Space>(
     ensures means { Does result run.new (acquire_rule S.accesses (meaning S.accesses) job.entry.scope.now job.entry.depth (part_tree job.entry.term)) run.old }
 {
     let target = eval_target(alloc, run, job, 0)?;
-    run.world.acquire(&target)?;
+    run.world.acquire(alloc, &target)?;
     Ok(Flow::Value(Value::Integer(0)))
 }

@@ -210,7 +210,7 @@ fn eval_release<S: Space>(
     ensures means { Does result run.new (release_rule (meaning S.accesses) job.entry.scope.now job.entry.depth (part_tree job.entry.term)) run.old }
 {
     let target = eval_target(alloc, run, job, 0)?;
-    run.world.release(&target)?;
+    run.world.release(alloc, &target)?;
     Ok(Flow::Next)
 }
 

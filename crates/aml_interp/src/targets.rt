@@ -2,18 +2,16 @@
 ghost use Rattle.std.specs.Prelude.{◌≡◌, ◌≤◌, ◌<◌};
 ghost use Rattle.ar_space.specs.Change.{Does};
 ghost use Rattle.aml_grammar.specs.PartTree.{part_tree};
-ghost use Rattle.aml_grammar.specs.Apart.{code_of};
 ghost use Rattle.aml_meaning.specs.Meaning.{meaning};
-ghost use Rattle.aml_meaning.specs.Terms.{target_of_code};
-ghost use Rattle.aml_meaning.specs.TargetTerms.{referring, target_of_term, name_target, target_at, targeted};
+ghost use Rattle.aml_meaning.specs.TargetTerms.{operand_target, indexed_target, dereferenced_target, target_by_kind, target_of, name_target, target_at, targeted};
 
 use crate::field_calls::eval_stored_to;
 use crate::task::Task;
-use crate::terms::eval_term;
+use crate::terms::{eval_value, eval_value_at};
 use aml_grammar::{OperandView, TermReader};
-use aml_meaning::{Flow, Running, StoreTarget, target_of};
+use aml_meaning::{Flow, Running, StoreTarget, TargetKind, reference_in, target_kind};
 use aml_objects::Value;
-use ar_space::{NameFault, Refusal, Space, ValueFault};
+use ar_space::{NameFault, Refusal, Space};
 use std::alloc::Global;
 
 /// The target that the operand at a position names.
@@ -52,7 +50,7 @@ fn named_target<S: Space>(
     run.world.target_named(alloc, job.scope, &name)
 }
 
-/// The target that a term is: Debug, a local or an argument, or one that the term refers to.
+/// The target that a term is: Debug, a local or an argument, or what it refers to.
 #[cycle(evaluation)]
 #[tactic(auto, using(crate::proofs::Steps::evaluating))]
 fn eval_inner_target<S: Space>(
@@ -61,27 +59,79 @@ fn eval_inner_target<S: Space>(
     job: Task<'_>,
 ) -> Result<StoreTarget, Refusal>
     ensures spent { run.new.1 ≤ run.old.1 }
-    ensures means { Does result run.new (target_of_term (meaning S.accesses) job.entry.scope.now job.entry.depth (part_tree job.entry.term) (target_of_code (code_of (part_tree job.entry.term)))) run.old }
+    ensures means { Does result run.new (target_of (meaning S.accesses) job.entry.scope.now job.entry.depth (part_tree job.entry.term)) run.old }
 {
-    match target_of(job.term.code()) {
-        Some(target) => Ok(target),
-        None => eval_referring(alloc, run, job),
+    eval_target_by_kind(alloc, run, job, target_kind(job.term.code()))
+}
+
+#[cycle(evaluation)]
+#[tactic(auto, using(crate::proofs::Steps::evaluating))]
+fn eval_target_by_kind<S: Space>(
+    alloc: Global,
+    run: &mut Running<S>,
+    job: Task<'_>,
+    kind: TargetKind,
+) -> Result<StoreTarget, Refusal>
+    ensures spent { run.new.1 ≤ run.old.1 }
+    ensures means { Does result run.new (target_by_kind (meaning S.accesses) job.entry.scope.now job.entry.depth (part_tree job.entry.term) (target_at (meaning S.accesses) job.entry.scope.now job.entry.depth (part_tree job.entry.term) 0) kind) run.old }
+{
+    match kind {
+        TargetKind::Nowhere => Ok(StoreTarget::Nowhere),
+        TargetKind::Slot(slot) => Ok(StoreTarget::Slot(slot)),
+        TargetKind::RefOf => eval_operand_target(alloc, run, job),
+        TargetKind::DerefOf => eval_dereferenced_target(alloc, run, job),
+        TargetKind::Index => eval_indexed_target(alloc, run, job),
+        TargetKind::Other => Err(Refusal::Name(NameFault::BadName)),
     }
 }
 
-/// A term that refers to a target; none is evaluated yet, so that it is refused.
+/// RefOf is what its operand names.
 #[cycle(evaluation)]
-#[tactic(auto, using(crate::proofs::Steps::evaluating), unfolding(aml_meaning::specs::TargetTerms::referring))]
-fn eval_referring<S: Space>(
+#[tactic(auto, using(crate::proofs::Steps::evaluating))]
+fn eval_operand_target<S: Space>(
     alloc: Global,
     run: &mut Running<S>,
     job: Task<'_>,
 ) -> Result<StoreTarget, Refusal>
     ensures spent { run.new.1 ≤ run.old.1 }
-    ensures means { Does result run.new (referring (meaning S.accesses) job.entry.scope.now job.entry.depth (part_tree job.entry.term)) run.old }
+    ensures means { Does result run.new (operand_target (meaning S.accesses) job.entry.scope.now job.entry.depth (part_tree job.entry.term)) run.old }
 {
-    eval_term(alloc, run, job)?;
-    Err(Refusal::Value(ValueFault::WrongType))
+    run.charge()?;
+    eval_target(alloc, run, job, 0)
+}
+
+/// DerefOf is what its operand refers to, which has to stand there and isn't read.
+#[cycle(evaluation)]
+#[tactic(auto, using(crate::proofs::Steps::evaluating), unfolding(aml_meaning::specs::TargetTerms::dereferenced_target))]
+fn eval_dereferenced_target<S: Space>(
+    alloc: Global,
+    run: &mut Running<S>,
+    job: Task<'_>,
+) -> Result<StoreTarget, Refusal>
+    ensures spent { run.new.1 ≤ run.old.1 }
+    ensures means { Does result run.new (dereferenced_target (meaning S.accesses) job.entry.scope.now job.entry.depth (part_tree job.entry.term)) run.old }
+{
+    run.charge()?;
+    let value = eval_value_at(alloc, run, job, 0)?;
+    let reference = reference_in(value)?;
+    run.world.test_reference(reference)?;
+    Ok(StoreTarget::Refers(reference))
+}
+
+/// Index is what its value refers to.
+#[cycle(evaluation)]
+#[tactic(auto, using(crate::proofs::Steps::evaluating), unfolding(aml_meaning::specs::TargetTerms::indexed_target))]
+fn eval_indexed_target<S: Space>(
+    alloc: Global,
+    run: &mut Running<S>,
+    job: Task<'_>,
+) -> Result<StoreTarget, Refusal>
+    ensures spent { run.new.1 ≤ run.old.1 }
+    ensures means { Does result run.new (indexed_target (meaning S.accesses) job.entry.scope.now job.entry.depth (part_tree job.entry.term)) run.old }
+{
+    let value = eval_value(alloc, run, job)?;
+    let reference = reference_in(value)?;
+    Ok(StoreTarget::Refers(reference))
 }
 
 /// Stores a value to a target; it is the value of the term.

@@ -32,12 +32,12 @@ use Rattle.aml_meaning.specs.TargetTerms.{target_named}
 use Rattle.aml_objects.specs.Contents.{Content}
 use Rattle.aml_objects.specs.Contents as held
 use Rattle.aml_meaning.specs.Osi.{osi_answered}
-use Rattle.aml_meaning.specs.Operations.{made_of, integers_operated, operated, divided_in, integer_operated, operated_on_one, integers_tested, operated_logically, integer_turned, turned, next_integer, integer_before, compared_in, joined_contents, joined, joined_items, joined_resources, to_integer_in, buffer_bytes, new_buffer_of, to_buffer_in, size_in}
+use Rattle.aml_meaning.specs.Operations.{made_of, integers_operated, operated, divided_in, integer_operated, operated_on_one, integers_tested, operated_logically, integer_turned, turned, next_integer, integer_before, compared_in, joined_contents, joined, joined_items, joined_resources, to_integer_in, buffer_bytes, new_buffer_of, to_buffer_in, size_held, element_indexed, byte_indexed, indexed, size_in}
 use Rattle.aml_meaning.specs.OperatorTerms.{result_of_two, result_of_one, result_of_test, counted_by}
 use Rattle.aml_meaning.specs.Invocations.{body_terms, named_use, invocation_found}
 use Rattle.aml_laws.proofs.Along.{Holds, along_give, along_stop, holds_string, holds_buffer, holds_package}
 use Rattle.aml_laws.proofs.Callees.{callee_stands}
-use Rattle.aml_laws.proofs.Keeping.{Law, Leaves, Finds, finds_after, leaves_same, leaves_give, leaves_settle, leaves_bind, leaves_objects, leaves_declared}
+use Rattle.aml_laws.proofs.Keeping.{Law, Leaves, Finds, finds_after, leaves_same, leaves_give, leaves_settle, leaves_bind, leaves_objects, leaves_declared, leaves_stop}
 
 holds_made : (c : Content) → Holds (made_of c)
 holds_made (held.Integer n) = along_give _
@@ -192,10 +192,24 @@ module _ {S : Type 0} {accesses : Accesses S} {law : Law accesses} where
   unfolding size_in
   leaves_size r = leaves_same _ (λ w. refl)
 
+  leaves_size_held : (v : Value) → Leaves law (size_held v)
+  unfolding size_held
+  leaves_size_held v = leaves_same _ (λ w. refl)
+
+  leaves_indexed : (v u : Value) → Leaves law (indexed v u)
+  unfolding element_indexed byte_indexed
+  leaves_indexed (value.Package o) u = leaves_bind _ _ (leaves_read u) (λ i. leaves_bind _ _ (leaves_size_held _) (λ n. leaves_settle _))
+  leaves_indexed (value.String o) u = leaves_bind _ _ (leaves_read u) (λ i. leaves_bind _ _ (leaves_size_held _) (λ n. leaves_settle _))
+  leaves_indexed (value.Buffer o) u = leaves_bind _ _ (leaves_read u) (λ i. leaves_bind _ _ (leaves_size_held _) (λ n. leaves_settle _))
+  leaves_indexed value.Uninitialized u = leaves_stop _
+  leaves_indexed (value.Integer n) u = leaves_stop _
+  leaves_indexed (value.Reference r) u = leaves_stop _
+
   pub leaves_two : (k : TwoOperands) (v u : Value) → Leaves law (result_of_two k v u)
   leaves_two (two.Integers op) v u = leaves_operated op v u
   leaves_two two.Concatenate v u = leaves_joined v u
   leaves_two two.ConcatenateResources v u = leaves_resources v u
+  leaves_two two.Index v u = leaves_indexed v u
 
   pub leaves_one : (k : OneOperand) (v : Value) → Leaves law (result_of_one k v)
   leaves_one (one.Integer op) v = leaves_operated_on_one op v

@@ -24,11 +24,11 @@ use Rattle.aml_meaning.specs.declared.object_type.Referent.{Referent}
 use Rattle.aml_meaning.specs.declared.object_type.Referent.TheVariants as referent
 use Rattle.aml_meaning.specs.State.{State}
 use Rattle.aml_meaning.specs.Readings.{read_as}
-use Rattle.aml_meaning.specs.StoreTargets.{held_at, latest_frame, frame_found, slot_held, own_slot, slot_read, name_read, held_in_slot, target_read, declaration, byte_followed, value_followed, referent_followed, declared_followed, slot_followed, element_named, name_followed, element_followed, held_followed, reference_followed, followed, slot_referent, declared_referent, name_referent, target_referent}
+use Rattle.aml_meaning.specs.StoreTargets.{held_at, latest_frame, frame_found, slot_held, own_slot, slot_read, name_read, held_in_slot, target_read, declaration, byte_followed, value_followed, referent_followed, declared_followed, slot_followed, element_named, name_followed, element_followed, held_followed, reference_followed, followed, slot_referent, declared_referent, name_referent, target_referent, name_tested, frame_tested, byte_tested, tested, declared_once, value_once, slot_once, name_once, element_once, held_once, byte_once, dereferenced, frame_number, slot_reference, declared_number, name_reference, reference_of, slot_initialized, element_initialized, if_initialized, reference_if_found, most_references}
 use Rattle.aml_meaning.specs.declared.frame.Frame.{Frame}
 use Rattle.aml_meaning.specs.Slots.{with_slot}
-use Rattle.aml_meaning.specs.Stores.{with_frame, slot_put, copy_into_slot, copy_into_name, copy_into_element, copy_over, text_in, bytes_in, store_integer, store_text, store_bytes, store_package, store_over_value, store_over, byte_in, store_byte, copy_into_declared, store_over_slot, store_in_frame, store_in_frame_numbered, store_at_reference, stored_through, store_in_slot, store_in_name, stored, copy_in_name, copied_to}
-use Rattle.aml_meaning.specs.Mutexes.{mutex_count, acquired, given_back, acquired_at, given_back_at}
+use Rattle.aml_meaning.specs.Stores.{with_frame, slot_put, copy_into_slot, copy_into_name, copy_into_element, copy_over, text_in, bytes_in, store_integer, store_text, store_bytes, store_package, store_over_value, store_over, byte_in, store_byte, copy_into_declared, store_over_slot, store_in_declared, store_to, store_in_frame, store_in_frame_numbered, store_at_reference, stored_through, store_in_slot, store_in_name, stored, copy_in_name, copied_to}
+use Rattle.aml_meaning.specs.Mutexes.{mutex_count, acquired, given_back, acquired_by_number, given_back_by_number, acquired_by, given_back_by, acquired_at, given_back_at}
 use Rattle.aml_laws.specs.Numbers.{numbers_of}
 use Rattle.aml_laws.proofs.Along.{holds_byte_at, holds_element_at, holds_element_there, holds_copy, holds_write_element, holds_write_string, holds_write_buffer, holds_write_byte}
 use Rattle.aml_laws.proofs.Keeping.{Law, Leaves, leaves_same, leaves_give, leaves_stop, leaves_settle, leaves_bind, leaves_objects, leaves_replaced}
@@ -83,14 +83,64 @@ module _ {S : Type 0} {accesses : Accesses S} {law : Law accesses} where
   unfolding held_in_slot
   leaves_held_in_slot slot = leaves_bind _ _ (leaves_slot_read slot) (λ v. leaves_give _)
 
+  pub leaves_declaration : (n : ℕ) → Leaves law (declaration n)
+  unfolding declaration
+  leaves_declaration n = leaves_same _ (λ w. refl)
+
+  pub leaves_tested : (r : Reference) → Leaves law (tested r)
+  unfolding name_tested frame_tested byte_tested
+  leaves_tested (reference.Name n) = leaves_bind _ _ (leaves_declaration n) (λ e. leaves_give _)
+  leaves_tested (reference.Slot n slot) = leaves_bind _ _ (leaves_frame n) (λ k. leaves_give _)
+  leaves_tested (reference.Element o i) = leaves_objects _ (holds_element_there o i)
+  leaves_tested (reference.Byte o i) = leaves_bind _ _ (leaves_objects _ (holds_byte_at o i)) (λ b. leaves_give _)
+
+  leaves_value_once : (v : Value) → Leaves law (value_once v)
+  unfolding value_once
+  leaves_value_once v = leaves_bind _ _ (leaves_settle _) (λ x. leaves_give _)
+
+  leaves_element_once : (e : Element) → Leaves law (element_once e)
+  unfolding name_once
+  leaves_element_once (element.Value v) = leaves_value_once v
+  leaves_element_once (element.Name n scope) = leaves_bind _ _ (leaves_entry scope n) (λ e. leaves_settle _)
+
+  pub leaves_dereferenced : (r : Reference) → Leaves law (dereferenced r)
+  unfolding declared_once slot_once held_once byte_once
+  leaves_dereferenced (reference.Name n) = leaves_bind _ _ (leaves_declaration n) (λ e. leaves_settle _)
+  leaves_dereferenced (reference.Slot n slot) = leaves_bind _ _ (leaves_frame n) (λ k. leaves_bind _ _ (leaves_slot k slot) (λ v. leaves_value_once v))
+  leaves_dereferenced (reference.Element o i) = leaves_bind _ _ (leaves_objects _ (holds_element_at o i)) (λ e. leaves_element_once e)
+  leaves_dereferenced (reference.Byte o i) = leaves_bind _ _ (leaves_objects _ (holds_byte_at o i)) (λ b. leaves_give _)
+
   pub leaves_target_read : (at : StoreTarget) → Leaves law (target_read at)
   leaves_target_read targets.Nowhere = leaves_stop _
   leaves_target_read (targets.Slot slot) = leaves_held_in_slot slot
   leaves_target_read (targets.Name q) = leaves_name_read q
+  leaves_target_read (targets.Refers r) = leaves_dereferenced r
 
-  pub leaves_declaration : (n : ℕ) → Leaves law (declaration n)
-  unfolding declaration
-  leaves_declaration n = leaves_same _ (λ w. refl)
+  leaves_frame_number : (k : ℕ) → Leaves law (frame_number k)
+  unfolding frame_number
+  leaves_frame_number k = leaves_same _ (λ w. refl)
+
+  leaves_declared_number : (q : List Seg) → Leaves law (declared_number q)
+  unfolding declared_number
+  leaves_declared_number q = leaves_same _ (λ w. refl)
+
+  pub leaves_reference_of : (at : StoreTarget) → Leaves law (reference_of at)
+  unfolding slot_reference name_reference
+  leaves_reference_of targets.Nowhere = leaves_stop _
+  leaves_reference_of (targets.Slot slot) = leaves_bind _ _ leaves_latest (λ k. leaves_bind _ _ (leaves_frame_number k) (λ n. leaves_give _))
+  leaves_reference_of (targets.Name q) = leaves_bind _ _ (leaves_declared_number q) (λ n. leaves_give _)
+  leaves_reference_of (targets.Refers r) = leaves_give _
+
+  pub leaves_if_initialized : (r : Reference) → Leaves law (if_initialized r)
+  unfolding slot_initialized element_initialized
+  leaves_if_initialized (reference.Name n) = leaves_give _
+  leaves_if_initialized (reference.Slot n slot) = leaves_bind _ _ (leaves_frame n) (λ k. leaves_bind _ _ (leaves_slot k slot) (λ v. leaves_give _))
+  leaves_if_initialized (reference.Element o i) = leaves_bind _ _ (leaves_objects _ (holds_element_at o i)) (λ e. leaves_give _)
+  leaves_if_initialized (reference.Byte o i) = leaves_give _
+
+  pub leaves_reference_if_found : (scope : List Seg) (n : Name) → Leaves law (reference_if_found scope n)
+  unfolding reference_if_found
+  leaves_reference_if_found scope n = leaves_same _ (λ w. refl)
 
   pub leaves_byte_followed : (o i : ℕ) → Leaves law (byte_followed o i)
   unfolding byte_followed
@@ -173,6 +223,10 @@ module _ {S : Type 0} {accesses : Accesses S} {law : Law accesses} where
   leaves_referent targets.Nowhere = leaves_give _
   leaves_referent (targets.Slot slot) = leaves_slot_referent slot
   leaves_referent (targets.Name q) = leaves_name_referent q
+  leaves_referent (targets.Refers r) = leaves_followed _ r
+
+  pub leaves_value_referent : (v : Value) → Leaves law (value_followed (followed most_references) v)
+  leaves_value_referent v = leaves_value_followed _ (leaves_followed _) v
 
   -- ---- stores
 
@@ -289,10 +343,18 @@ module _ {S : Type 0} {accesses : Accesses S} {law : Law accesses} where
   unfolding store_in_name
   leaves_store_in_name q v = leaves_bind _ _ (leaves_held q) (λ h. leaves_store_over h q v)
 
+  leaves_store_to : (r : Reference) (v : Value) → Leaves law (store_to r v)
+  unfolding store_in_declared
+  leaves_store_to (reference.Name n) v = leaves_bind _ _ (leaves_declaration n) (λ e. leaves_store_over _ e.0 v)
+  leaves_store_to (reference.Slot n slot) v = leaves_store_numbered _ (leaves_through _) n slot v
+  leaves_store_to (reference.Element o i) v = leaves_copy_element o i v
+  leaves_store_to (reference.Byte o i) v = leaves_store_byte o i v
+
   pub leaves_stored : (at : StoreTarget) (v : Value) → Leaves law (stored at v)
   leaves_stored targets.Nowhere v = leaves_give _
   leaves_stored (targets.Slot slot) v = leaves_store_in_slot slot v
   leaves_stored (targets.Name q) v = leaves_store_in_name q v
+  leaves_stored (targets.Refers r) v = leaves_store_to r v
 
   pub leaves_copy_in_name : (q : List Seg) (v : Value) → Leaves law (copy_in_name q v)
   unfolding copy_in_name
@@ -302,6 +364,7 @@ module _ {S : Type 0} {accesses : Accesses S} {law : Law accesses} where
   leaves_copied targets.Nowhere v = leaves_give _
   leaves_copied (targets.Slot slot) v = leaves_store_in_slot slot v
   leaves_copied (targets.Name q) v = leaves_copy_in_name q v
+  leaves_copied (targets.Refers r) v = leaves_through _ r v
 
   -- ---- mutexes
 
@@ -313,16 +376,32 @@ module _ {S : Type 0} {accesses : Accesses S} {law : Law accesses} where
   unfolding acquired
   leaves_acquired q = leaves_bind _ _ (leaves_count q) (λ n. leaves_bind _ _ (leaves_settle _) (λ m. leaves_replaced q _ refl))
 
+  leaves_acquired_by : (r : Reference) → Leaves law (acquired_by r)
+  unfolding acquired_by_number
+  leaves_acquired_by (reference.Name n) = leaves_bind _ _ (leaves_declaration n) (λ e. leaves_acquired e.0)
+  leaves_acquired_by (reference.Slot n slot) = leaves_stop _
+  leaves_acquired_by (reference.Element o i) = leaves_stop _
+  leaves_acquired_by (reference.Byte o i) = leaves_stop _
+
   pub leaves_acquired_at : (at : StoreTarget) → Leaves law (acquired_at at)
   leaves_acquired_at targets.Nowhere = leaves_stop _
   leaves_acquired_at (targets.Slot slot) = leaves_stop _
   leaves_acquired_at (targets.Name q) = leaves_acquired q
+  leaves_acquired_at (targets.Refers r) = leaves_acquired_by r
 
   pub leaves_given_back : (q : List Seg) → Leaves law (given_back q)
   unfolding given_back
   leaves_given_back q = leaves_bind _ _ (leaves_count q) (λ n. leaves_bind _ _ (leaves_settle _) (λ m. leaves_replaced q _ refl))
 
+  leaves_given_back_by : (r : Reference) → Leaves law (given_back_by r)
+  unfolding given_back_by_number
+  leaves_given_back_by (reference.Name n) = leaves_bind _ _ (leaves_declaration n) (λ e. leaves_given_back e.0)
+  leaves_given_back_by (reference.Slot n slot) = leaves_stop _
+  leaves_given_back_by (reference.Element o i) = leaves_stop _
+  leaves_given_back_by (reference.Byte o i) = leaves_stop _
+
   pub leaves_given_back_at : (at : StoreTarget) → Leaves law (given_back_at at)
   leaves_given_back_at targets.Nowhere = leaves_stop _
   leaves_given_back_at (targets.Slot slot) = leaves_stop _
   leaves_given_back_at (targets.Name q) = leaves_given_back q
+  leaves_given_back_at (targets.Refers r) = leaves_given_back_by r

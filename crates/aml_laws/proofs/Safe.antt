@@ -13,7 +13,7 @@ use Rattle.aml_objects.specs.declared.object.Element.{Element}
 use Rattle.aml_objects.specs.declared.object.Element.TheVariants as element
 use Rattle.aml_objects.specs.declared.object.Object.{Object}
 use Rattle.aml_objects.specs.declared.object.Object.TheVariants as object
-use Rattle.aml_objects.specs.Objects.{Objects, make, fits, few, make_string, make_buffer, make_package, string_in, buffer_in, elements_in, string_at, buffer_at, elements_at, fitted_to, with_sized, with_buffer, write_buffer, with_string, write_string, byte_written, with_byte, write_byte, or_dead, element_in, element_at, byte_at, element_there, element_written, with_element, write_element}
+use Rattle.aml_objects.specs.Objects.{Objects, make, fits, few, make_string, make_buffer, make_package, string_in, buffer_in, elements_in, string_at, buffer_at, elements_at, fitted_to, with_sized, with_buffer, write_buffer, with_string, write_string, byte_written, with_byte, write_byte, or_dead, element_in, element_at, byte_in, byte_at, element_there, element_written, with_element, write_element}
 use Rattle.aml_objects.specs.Copies.{string_copy, buffer_copy, value_copy, held_copy, element_copy, copies_of, whole_copy, package_copy, if_whole, whole, copied}
 use Rattle.aml_laws.specs.Plain.{AreBytes}
 use Rattle.aml_laws.specs.Within.{WithinWidth}
@@ -222,6 +222,25 @@ module _ (width : IntegerWidth) where
   pub o_byte_at : (o i : ℕ) → Safe (Each (ObjectFits width)) Any (byte_at o i)
   unfolding byte_at
   o_byte_at o i = record { safe = λ h s. good_settled _ h s (λ e is. tt) }
+
+  byte_there : (bs : List ℕ) (i b : ℕ) → AreBytes bs → slice_get bs i ≡ Some b → b < 256
+  byte_there [] i b h e = absurd (cc e)
+  byte_there (c ∷ bs) zero b h e = let same : c ≡ b = cc e in subst (λ (x : ℕ). x < 256) same (h 0)
+  byte_there (c ∷ bs) (suc i) b h e = byte_there bs i b (λ j. h (suc j)) e
+
+  byte_by : (x : Option ℕ) (bs : List ℕ) (i b : ℕ) → AreBytes bs → slice_get bs i ≡ x → or_dead x ≡ Ok b → b < 256
+  byte_by None bs i b h at is = absurd (cc is)
+  byte_by (Some c) bs i b h at is = ok_fits (λ (y : ℕ). y < 256) c b is (byte_there bs i c h at)
+
+  byte_of : (i : ℕ) (o : Option Object) (b : ℕ) → Held o → byte_in i o ≡ Ok b → b < 256
+  byte_of i None b h is = absurd (cc is)
+  byte_of i (Some (object.String bs)) b h is = byte_by (slice_get bs i) bs i b h.0 refl is
+  byte_of i (Some (object.Buffer bs)) b h is = byte_by (slice_get bs i) bs i b h.0 refl is
+  byte_of i (Some (object.Package es)) b h is = absurd (cc is)
+
+  pub o_byte_below : (o i : ℕ) → Safe (Each (ObjectFits width)) (λ b. b < 256) (byte_at o i)
+  unfolding byte_at
+  o_byte_below o i = record { safe = λ h s. good_settled _ h s (λ b is. byte_of i (slice_get h o) b (held_there h o _ s refl) is) }
 
   -- ---- objects that are written to
 

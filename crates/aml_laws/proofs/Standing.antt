@@ -6,7 +6,7 @@ use Rattle.aml_path.specs.declared.segment.Seg.{Seg}
 use Rattle.aml_grammar.specs.declared.opcode.Opcode.{Opcode}
 use Rattle.aml_grammar.specs.declared.opcode.TermCode.{TermCode}
 use Rattle.aml_grammar.specs.declared.opcode.TermCode.TheVariants as codes
-use Rattle.aml_grammar.specs.Tree.{Tree, Trees, no_trees, tree, Part, null, name, number, bytes, inner, list}
+use Rattle.aml_grammar.specs.Tree.{Tree, term, Trees, no_trees, tree, Part, null, name, number, bytes, inner, list, Parts, no_parts, part}
 use Rattle.aml_grammar.specs.Apart.{code_of, operand_of}
 use Rattle.aml_objects.specs.declared.value.Value.{Value}
 use Rattle.aml_objects.specs.declared.value.Slot.{Slot}
@@ -30,6 +30,9 @@ use Rattle.aml_meaning.specs.declared.term_kind.StatementKind.TheVariants as sta
 use Rattle.aml_meaning.specs.declared.invocation.Invocation.{Invocation}
 use Rattle.aml_meaning.specs.declared.invocation.Invocation.TheVariants as invocations
 use Rattle.aml_meaning.specs.declared.store_target.StoreTarget.{StoreTarget}
+use Rattle.aml_meaning.specs.declared.store_target.TargetKind.{TargetKind}
+use Rattle.aml_meaning.specs.declared.store_target.TargetKind.TheVariants as target
+use Rattle.aml_objects.specs.declared.value.Reference.{Reference}
 use Rattle.aml_meaning.specs.declared.store_target.Held.{Held}
 use Rattle.aml_meaning.specs.declared.object_type.Referent.{Referent}
 use Rattle.aml_meaning.specs.declared.object_type.Referent.TheVariants as referent
@@ -41,16 +44,16 @@ use Rattle.aml_meaning.specs.declared.term_kind.RegionKind.TheVariants as region
 use Rattle.aml_objects.specs.declared.entry.FieldUnit.{FieldUnit}
 use Rattle.aml_meaning.specs.State.{State}
 use Rattle.aml_meaning.specs.Run.{Run}
-use Rattle.aml_meaning.specs.Terms.{kind_of}
+use Rattle.aml_meaning.specs.Terms.{kind_of, target_kind}
 use Rattle.aml_meaning.specs.Tasks.{Task, operand_value, value_at, two_values, operand_integer, goes_on, in_turn}
 use Rattle.aml_meaning.specs.DataTerms.{constant_rule, integer_rule, string_rule, buffer_rule, named_element, valued_element, element_by, elements_in_turn, package_of, package_rule, var_package_rule, data_rule}
 use Rattle.aml_meaning.specs.DeclarationTerms.{declaring, name_rule, alias_rule, method_rule, scope_rule, new_scope, declaration_rule}
-use Rattle.aml_meaning.specs.TargetTerms.{referring, target_of_term, name_target, target_by, target_at, targeted}
-use Rattle.aml_meaning.specs.OperatorTerms.{slot_rule, store_rule, copy_rule, two_rule, divide_rule, one_rule, test_rule, not_rule, count_rule, size_rule, type_rule, acquire_rule, operator_rule}
+use Rattle.aml_meaning.specs.TargetTerms.{indexed_target, dereferenced_target, target_by_kind, target_of, first_target, part_target, name_target, target_by, target_at, targeted}
+use Rattle.aml_meaning.specs.OperatorTerms.{slot_rule, store_rule, copy_rule, two_rule, divide_rule, one_rule, test_rule, not_rule, count_rule, referent_of_value, referent_of_target, referent_by_kind, referent_by, size_rule, type_rule, acquire_rule, reference_rule, dereference_rule, sought_name, sought_target, sought, reference_stored, reference_found, conditional_rule, operator_rule}
 use Rattle.aml_meaning.specs.StatementTerms.{otherwise, branch, if_rule, else_rule, turn_of, turn, loop_end, after_turn, turns, loop, while_rule, return_rule, release_rule, notify_rule, pause_rule, fatal_rule, statement_rule}
 use Rattle.aml_meaning.specs.Invocations.{invoked, method_value}
 use Rattle.aml_meaning.specs.InvocationTerms.{arguments_in_turn, call_rule, osi_rule, field_rule, invocation_rule, name_value}
-use Rattle.aml_meaning.specs.FieldCalls.{called_at, asked, method_integer, answer_over, answer_within, field_read, held_integer, referent_read, completed, stored_to, stored_back}
+use Rattle.aml_meaning.specs.FieldCalls.{called_at, asked, method_integer, answer_over, answer_within, field_read, held_value, held_integer, referent_read, completed, stored_to, is_element, back_to, stored_back}
 use Rattle.aml_meaning.specs.FieldTerms.{fields_laid, region_rule, field_list_rule, index_list_rule, region_term_rule}
 use Rattle.aml_laws.proofs.KeepingFields.{leaves_elements, leaves_region_found, leaves_field_found, keeps_field_value, keeps_field_integer, keeps_field_part, keeps_field_referent, keeps_field_stored}
 use Rattle.aml_meaning.specs.Evaluation.{kind_rule, code_rule, rule}
@@ -59,7 +62,7 @@ use Rattle.aml_laws.proofs.Along.{holds_string}
 use Rattle.aml_laws.proofs.Callees.{MethodAt}
 use Rattle.aml_laws.proofs.Keeping.{Law, Keeps, Carries, CalledIn, Removes, leaves_objects, keeps_give, keeps_stop, keeps_settle, keeps_lift, keeps_charge, keeps_bind, keeps_found, carried, carries_bind, carries_body}
 use Rattle.aml_laws.proofs.Leaving.{finds_use, finds_invocation, leaves_integer, leaves_read, leaves_path, leaves_scope, leaves_target_named, leaves_within, leaves_buffer, leaves_package, leaves_new, leaves_method, leaves_divided, leaves_turned, leaves_size, leaves_two, leaves_one, leaves_test, leaves_counted, leaves_osi, leaves_terms, leaves_arguments}
-use Rattle.aml_laws.proofs.LeavingPlaces.{leaves_slot_read, leaves_target_read, leaves_referent, leaves_stored, leaves_copied, leaves_acquired_at, leaves_given_back_at}
+use Rattle.aml_laws.proofs.LeavingPlaces.{leaves_slot_read, leaves_tested, leaves_dereferenced, leaves_target_read, leaves_reference_of, leaves_if_initialized, leaves_reference_if_found, leaves_referent, leaves_value_referent, leaves_stored, leaves_copied, leaves_acquired_at, leaves_given_back_at}
 
 -- ---- parts that go by a law make rules that do
 
@@ -129,9 +132,17 @@ module _ {S : Type 0} {accesses : Accesses S} {law : Law accesses} (ev : Task �
   unfolding stored_to
   keeps_stored_to depth q v = keeps_bind _ _ (keeps_lift _ (leaves_stored q v)) (λ s. keeps_completed depth s v)
 
+  keeps_held_value : (depth : ℕ) (h : Held) → Keeps law (held_value accesses ev depth h)
+  keeps_held_value depth (held.Value v) = keeps_give _
+  keeps_held_value depth (held.FieldUnit u) = keeps_read depth u
+
+  keeps_back_to : (b : Bool) (depth : ℕ) (h : Held) (q : StoreTarget) (v : Value) → Keeps law (back_to accesses ev b depth h q v)
+  keeps_back_to true depth h q v = keeps_stored_to depth q v
+  keeps_back_to false depth (held.Value old) q v = keeps_stored_to depth q v
+  keeps_back_to false depth (held.FieldUnit u) q v = keeps_field_stored _ (keeps_called_at depth) u v
+
   keeps_stored_back : (depth : ℕ) (h : Held) (q : StoreTarget) (v : Value) → Keeps law (stored_back accesses ev depth h q v)
-  keeps_stored_back depth (held.Value old) q v = keeps_stored_to depth q v
-  keeps_stored_back depth (held.FieldUnit u) q v = keeps_field_stored _ (keeps_called_at depth) u v
+  keeps_stored_back depth h q v = keeps_back_to (is_element q) depth h q v
 
   keeps_constant : (k : ℕ) → Keeps law (constant_rule ev k)
   unfolding constant_rule
@@ -244,13 +255,39 @@ module _ {S : Type 0} {accesses : Accesses S} {law : Law accesses} (ev : Task �
   unfolding two_values
   keeps_two_values scope depth t = keeps_bind _ _ (keeps_value_at scope depth t 0) (λ v. keeps_bind _ _ (keeps_value_at scope depth t 1) (λ u. keeps_give _))
 
-  keeps_referring : (scope : List Seg) (depth : ℕ) (t : Tree) → Keeps law (referring ev scope depth t)
-  unfolding referring
-  keeps_referring scope depth t = keeps_bind _ _ (parts _) (λ f. keeps_stop _)
+  keeps_indexed : (scope : List Seg) (depth : ℕ) (t : Tree) → Keeps law (indexed_target ev scope depth t)
+  unfolding indexed_target
+  keeps_indexed scope depth t = keeps_bind _ _ (keeps_value scope depth t) (λ v. keeps_bind _ _ (keeps_settle _) (λ r. keeps_give _))
 
-  keeps_target_of_term : (scope : List Seg) (depth : ℕ) (t : Tree) (at : Option StoreTarget) → Keeps law (target_of_term ev scope depth t at)
-  keeps_target_of_term scope depth t None = keeps_referring scope depth t
-  keeps_target_of_term scope depth t (Some at) = keeps_give _
+  keeps_dereferenced : (scope : List Seg) (depth : ℕ) (t : Tree) → Keeps law (dereferenced_target ev scope depth t)
+  unfolding dereferenced_target
+  keeps_dereferenced scope depth t = keeps_bind _ _ keeps_charge (λ u. keeps_bind _ _ (keeps_value_at scope depth t 0) (λ v. keeps_bind _ _ (keeps_settle _) (λ r. keeps_bind _ _ (keeps_lift _ (leaves_tested r)) (λ there. keeps_give _))))
+
+  keeps_by_kind : (scope : List Seg) (depth : ℕ) (t : Tree) (m : Run S StoreTarget) (kind : TargetKind) → Keeps law m → Keeps law (target_by_kind ev scope depth t m kind)
+  keeps_by_kind scope depth t m target.Nowhere h = keeps_give _
+  keeps_by_kind scope depth t m (target.Slot slot) h = keeps_give _
+  keeps_by_kind scope depth t m target.RefOf h = keeps_bind _ _ keeps_charge (λ u. h)
+  keeps_by_kind scope depth t m target.DerefOf h = keeps_dereferenced scope depth t
+  keeps_by_kind scope depth t m target.Index h = keeps_indexed scope depth t
+  keeps_by_kind scope depth t m target.Other h = keeps_stop _
+
+  mutual
+    unfolding target_of
+
+    keeps_target_of : (scope : List Seg) (depth : ℕ) (t : Tree) → Keeps law (target_of ev scope depth t)
+    keeps_target_of scope depth (term c ps) = keeps_by_kind scope depth (term c ps) _ (target_kind c) (keeps_first scope depth ps)
+
+    keeps_first : (scope : List Seg) (depth : ℕ) (ps : Parts) → Keeps law (first_target ev scope depth ps)
+    keeps_first scope depth no_parts = keeps_stop _
+    keeps_first scope depth (part p ps) = keeps_part scope depth p
+
+    keeps_part : (scope : List Seg) (depth : ℕ) (p : Part) → Keeps law (part_target ev scope depth p)
+    keeps_part scope depth null = keeps_give _
+    keeps_part scope depth (name x) = keeps_lift _ (leaves_target_named scope x)
+    keeps_part scope depth (number k) = keeps_stop _
+    keeps_part scope depth (bytes bs) = keeps_stop _
+    keeps_part scope depth (inner u) = keeps_target_of scope depth u
+    keeps_part scope depth (list ts) = keeps_stop _
 
   keeps_name_target : (scope : List Seg) (t : Tree) (i : ℕ) → Keeps law (name_target ev scope t i)
   unfolding name_target
@@ -262,7 +299,7 @@ module _ {S : Type 0} {accesses : Accesses S} {law : Law accesses} (ev : Task �
   keeps_target_by scope depth t i (Some (name x)) = keeps_name_target scope t i
   keeps_target_by scope depth t i (Some (number k)) = keeps_stop _
   keeps_target_by scope depth t i (Some (bytes bs)) = keeps_stop _
-  keeps_target_by scope depth t i (Some (inner u)) = keeps_target_of_term scope depth u _
+  keeps_target_by scope depth t i (Some (inner u)) = keeps_target_of scope depth u
   keeps_target_by scope depth t i (Some (list ts)) = keeps_stop _
 
   keeps_target : (scope : List Seg) (depth : ℕ) (t : Tree) (i : ℕ) → Keeps law (target_at ev scope depth t i)
@@ -308,13 +345,72 @@ module _ {S : Type 0} {accesses : Accesses S} {law : Law accesses} (ev : Task �
   unfolding count_rule
   keeps_count k scope depth t = keeps_bind _ _ (keeps_target scope depth t 0) (λ q. keeps_bind _ _ (keeps_lift _ (leaves_target_read q)) (λ h. keeps_bind _ _ (keeps_held depth h) (λ x. keeps_bind _ _ (keeps_lift _ (leaves_counted k x)) (λ r. keeps_bind _ _ (keeps_stored_back depth h q r) (λ done. keeps_give _)))))
 
+  keeps_referent_of_value : (scope : List Seg) (depth : ℕ) (u : Tree) → Keeps law (referent_of_value accesses ev scope depth u)
+  unfolding referent_of_value
+  keeps_referent_of_value scope depth u = keeps_bind _ _ (keeps_value scope depth u) (λ v. keeps_lift _ (leaves_value_referent v))
+
+  keeps_referent_of_target : (scope : List Seg) (depth : ℕ) (t : Tree) → Keeps law (referent_of_target accesses ev scope depth t)
+  unfolding referent_of_target
+  keeps_referent_of_target scope depth t = keeps_bind _ _ (keeps_target scope depth t 0) (λ q. keeps_lift _ (leaves_referent q))
+
+  keeps_referent_by_kind : (scope : List Seg) (depth : ℕ) (t u : Tree) (k : TargetKind) → Keeps law (referent_by_kind accesses ev scope depth t u k)
+  keeps_referent_by_kind scope depth t u target.RefOf = keeps_referent_of_value scope depth u
+  keeps_referent_by_kind scope depth t u target.DerefOf = keeps_referent_of_value scope depth u
+  keeps_referent_by_kind scope depth t u target.Index = keeps_referent_of_value scope depth u
+  keeps_referent_by_kind scope depth t u target.Nowhere = keeps_referent_of_target scope depth t
+  keeps_referent_by_kind scope depth t u (target.Slot slot) = keeps_referent_of_target scope depth t
+  keeps_referent_by_kind scope depth t u target.Other = keeps_referent_of_target scope depth t
+
+  keeps_referent_by : (scope : List Seg) (depth : ℕ) (t : Tree) (o : Option Part) → Keeps law (referent_by accesses ev scope depth t o)
+  keeps_referent_by scope depth t None = keeps_referent_of_target scope depth t
+  keeps_referent_by scope depth t (Some null) = keeps_referent_of_target scope depth t
+  keeps_referent_by scope depth t (Some (name x)) = keeps_referent_of_target scope depth t
+  keeps_referent_by scope depth t (Some (number k)) = keeps_referent_of_target scope depth t
+  keeps_referent_by scope depth t (Some (bytes bs)) = keeps_referent_of_target scope depth t
+  keeps_referent_by scope depth t (Some (inner u)) = keeps_referent_by_kind scope depth t u _
+  keeps_referent_by scope depth t (Some (list ts)) = keeps_referent_of_target scope depth t
+
   keeps_size : (scope : List Seg) (depth : ℕ) (t : Tree) → Keeps law (size_rule accesses ev scope depth t)
   unfolding size_rule
-  keeps_size scope depth t = keeps_bind _ _ (keeps_target scope depth t 0) (λ q. keeps_bind _ _ (keeps_lift _ (leaves_referent q)) (λ r. keeps_bind _ _ (keeps_referent_read depth r) (λ s. keeps_bind _ _ (keeps_lift _ (leaves_size s)) (λ v. keeps_give _))))
+  keeps_size scope depth t = keeps_bind _ _ (keeps_referent_by scope depth t _) (λ r. keeps_bind _ _ (keeps_referent_read depth r) (λ s. keeps_bind _ _ (keeps_lift _ (leaves_size s)) (λ v. keeps_give _)))
 
   keeps_type : (scope : List Seg) (depth : ℕ) (t : Tree) → Keeps law (type_rule accesses ev scope depth t)
   unfolding type_rule
-  keeps_type scope depth t = keeps_bind _ _ (keeps_target scope depth t 0) (λ q. keeps_bind _ _ (keeps_lift _ (leaves_referent q)) (λ r. keeps_bind _ _ (keeps_referent_read depth r) (λ s. keeps_give _)))
+  keeps_type scope depth t = keeps_bind _ _ (keeps_referent_by scope depth t _) (λ r. keeps_bind _ _ (keeps_referent_read depth r) (λ s. keeps_give _))
+
+  keeps_reference : (scope : List Seg) (depth : ℕ) (t : Tree) → Keeps law (reference_rule accesses ev scope depth t)
+  unfolding reference_rule
+  keeps_reference scope depth t = keeps_bind _ _ (keeps_target scope depth t 0) (λ q. keeps_bind _ _ (keeps_lift _ (leaves_reference_of q)) (λ r. keeps_give _))
+
+  keeps_dereference : (scope : List Seg) (depth : ℕ) (t : Tree) → Keeps law (dereference_rule accesses ev scope depth t)
+  unfolding dereference_rule
+  keeps_dereference scope depth t = keeps_bind _ _ (keeps_value_at scope depth t 0) (λ v. keeps_bind _ _ (keeps_settle _) (λ r. keeps_bind _ _ (keeps_lift _ (leaves_dereferenced r)) (λ h. keeps_bind _ _ (keeps_held_value depth h) (λ x. keeps_give _))))
+
+  keeps_sought_name : (scope : List Seg) (t : Tree) → Keeps law (sought_name accesses ev scope t)
+  unfolding sought_name
+  keeps_sought_name scope t = keeps_bind _ _ (keeps_settle _) (λ x. keeps_lift _ (leaves_reference_if_found scope x))
+
+  keeps_sought_target : (scope : List Seg) (depth : ℕ) (t : Tree) → Keeps law (sought_target accesses ev scope depth t)
+  unfolding sought_target
+  keeps_sought_target scope depth t = keeps_bind _ _ (keeps_target scope depth t 0) (λ q. keeps_bind _ _ (keeps_lift _ (leaves_reference_of q)) (λ r. keeps_lift _ (leaves_if_initialized r)))
+
+  keeps_sought : (scope : List Seg) (depth : ℕ) (t : Tree) (o : Option Part) → Keeps law (sought accesses ev scope depth t o)
+  keeps_sought scope depth t None = keeps_sought_target scope depth t
+  keeps_sought scope depth t (Some null) = keeps_sought_target scope depth t
+  keeps_sought scope depth t (Some (name x)) = keeps_sought_name scope t
+  keeps_sought scope depth t (Some (number k)) = keeps_sought_target scope depth t
+  keeps_sought scope depth t (Some (bytes bs)) = keeps_sought_target scope depth t
+  keeps_sought scope depth t (Some (inner u)) = keeps_sought_target scope depth t
+  keeps_sought scope depth t (Some (list ts)) = keeps_sought_target scope depth t
+
+  keeps_reference_found : (scope : List Seg) (depth : ℕ) (t : Tree) (o : Option Reference) → Keeps law (reference_found accesses ev scope depth t o)
+  unfolding reference_stored
+  keeps_reference_found scope depth t None = keeps_give _
+  keeps_reference_found scope depth t (Some r) = keeps_bind _ _ (keeps_targeted scope depth t 1 _) (λ done. keeps_bind _ _ (keeps_lift _ (leaves_integer _)) (λ v. keeps_give _))
+
+  keeps_conditional : (scope : List Seg) (depth : ℕ) (t : Tree) → Keeps law (conditional_rule accesses ev scope depth t)
+  unfolding conditional_rule
+  keeps_conditional scope depth t = keeps_bind _ _ (keeps_sought scope depth t _) (λ o. keeps_reference_found scope depth t o)
 
   keeps_acquire : (scope : List Seg) (depth : ℕ) (t : Tree) → Keeps law (acquire_rule accesses ev scope depth t)
   unfolding acquire_rule
@@ -333,6 +429,9 @@ module _ {S : Type 0} {accesses : Accesses S} {law : Law accesses} (ev : Task �
   keeps_operator operators.SizeOf scope depth t = keeps_size scope depth t
   keeps_operator operators.ObjectType scope depth t = keeps_type scope depth t
   keeps_operator operators.Acquire scope depth t = keeps_acquire scope depth t
+  keeps_operator operators.RefOf scope depth t = keeps_reference scope depth t
+  keeps_operator operators.CondRefOf scope depth t = keeps_conditional scope depth t
+  keeps_operator operators.DerefOf scope depth t = keeps_dereference scope depth t
 
   -- ---- statements
 

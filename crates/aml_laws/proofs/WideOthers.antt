@@ -5,6 +5,8 @@ use Rattle.std.proofs.lemmas.Bool.{ltb-false}
 use Rattle.ar_space.specs.declared.integer_width.IntegerWidth.{IntegerWidth}
 use Rattle.ar_space.specs.declared.integer_width.IntegerWidth.TheVariants.{Bits32, Bits64}
 use Rattle.ar_space.specs.declared.refusal.Refusal.{Refusal}
+use Rattle.ar_space.specs.declared.refusal.Refusal.TheVariants as refusal
+use Rattle.ar_space.specs.declared.refusal.EvaluationFault.TheVariants.{IndexLimit}
 use Rattle.ar_space.specs.Outcome.{Outcome}
 use Rattle.ar_space.specs.Outcome as outcome
 use Rattle.aml_path.specs.declared.segment.Seg.{Seg}
@@ -17,6 +19,8 @@ use Rattle.aml_objects.specs.declared.object.Object.{Object}
 use Rattle.aml_objects.specs.declared.object.Object.TheVariants as object
 use Rattle.aml_objects.specs.declared.value.Value.{Value}
 use Rattle.aml_objects.specs.declared.value.Value.TheVariants as value
+use Rattle.aml_objects.specs.declared.value.Reference.{Reference}
+use Rattle.aml_objects.specs.declared.value.Reference.TheVariants as reference
 use Rattle.aml_convert.specs.Concatenation.{front_of, before_end, buffer_bytes, resources_joined}
 use Rattle.aml_meaning.specs.declared.field_layout.FieldLayout.{FieldLayout}
 use Rattle.aml_meaning.specs.declared.field_layout.FieldGroup.{FieldGroup}
@@ -24,8 +28,8 @@ use Rattle.aml_meaning.specs.declared.object_type.Referent.{Referent}
 use Rattle.aml_meaning.specs.declared.object_type.Referent.TheVariants as referent
 use Rattle.aml_meaning.specs.declared.store_target.StoreTarget.{StoreTarget}
 use Rattle.aml_meaning.specs.declared.store_target.StoreTarget.TheVariants as targets
-use Rattle.aml_meaning.specs.Operations.{joined_items, joined_resources, size_of_object, size_of_value, size_of_referent, size_in}
-use Rattle.aml_meaning.specs.Mutexes.{mutex_count, acquired, given_back, acquired_at, given_back_at}
+use Rattle.aml_meaning.specs.Operations.{joined_items, joined_resources, size_of_object, size_of_value, size_of_referent, size_in, size_held, element_indexed, byte_indexed, indexed}
+use Rattle.aml_meaning.specs.Mutexes.{mutex_count, acquired, given_back, acquired_by_number, given_back_by_number, acquired_at, given_back_at}
 use Rattle.aml_meaning.specs.FieldTerms.{new_field, named_field, reserved_field, access_field, element_laid, elements_laid}
 use Rattle.aml_laws.specs.Plain.{AreBytes}
 use Rattle.aml_laws.specs.Within.{WithinWidth}
@@ -34,8 +38,8 @@ use Rattle.aml_laws.proofs.PlainSteps.{Any, first, no_bytes}
 use Rattle.aml_laws.proofs.Safe.{Safe, ok_fits, good_settled, s_give, s_stop, s_settle, s_bind, each_at, joined_bytes, byte_more, o_buffer}
 use Rattle.aml_laws.proofs.WithinWidth.{seen_is}
 use Rattle.aml_laws.proofs.WideBits.{Holds}
-use Rattle.aml_laws.proofs.WideWorld.{In, holds, w_objects, w_replaced, w_new}
-use Rattle.aml_laws.proofs.WidePlaces.{ReferentFits}
+use Rattle.aml_laws.proofs.WideWorld.{In, holds, w_objects, w_read, w_replaced, w_new}
+use Rattle.aml_laws.proofs.WidePlaces.{ReferentFits, w_declaration}
 
 some_bytes : {A B : Type 0} (Fit : A → Type 0) (Fits : B → Type 0) (r : Outcome A) (k : A → Outcome B) (b : B) → ((a : A) → r ≡ Ok a → Fit a) → ((a : A) → Fit a → (x : B) → k a ≡ Ok x → Fits x) → outcome.◌>>=◌ r k ≡ Ok b → Fits b
 unfolding outcome.◌>>=◌
@@ -95,6 +99,23 @@ module _ (S : Type 0) (width : IntegerWidth) where
   unfolding joined_resources joined_items
   w_resources a b f g = s_bind {Fit = AreBytes} _ _ (record { safe = λ w i. good_settled _ w i (λ bs e. resources_fit width _ _ bs (holds S width w a i f) (holds S width w b i g) e) }) (λ bs h. w_objects S width _ (o_buffer width bs h))
 
+  below_is : (b : Bool) (r : Reference) (v : Value) → (if b then Ok (value.Reference r) else Err (refusal.Evaluation IndexLimit)) ≡ Ok v → WithinWidth width v
+  below_is true r v e = ok_fits (WithinWidth width) _ v e tt
+  below_is false r v e = absurd (cc e)
+
+  w_size_held : (v : Value) → Safe (In S width) Any (size_held v)
+  unfolding size_held
+  w_size_held v = record { safe = λ w i. good_settled _ w i (λ n e. tt) }
+
+  pub w_indexed : (a b : Value) → WithinWidth width b → Safe (In S width) (WithinWidth width) (indexed a b)
+  unfolding element_indexed byte_indexed
+  w_indexed (value.Package o) b g = s_bind _ _ (w_read S width b g) (λ i x. s_bind _ _ (w_size_held _) (λ n y. s_settle _ (λ v e. below_is (nat_lt i n) _ v e)))
+  w_indexed (value.String o) b g = s_bind _ _ (w_read S width b g) (λ i x. s_bind _ _ (w_size_held _) (λ n y. s_settle _ (λ v e. below_is (nat_lt i n) _ v e)))
+  w_indexed (value.Buffer o) b g = s_bind _ _ (w_read S width b g) (λ i x. s_bind _ _ (w_size_held _) (λ n y. s_settle _ (λ v e. below_is (nat_lt i n) _ v e)))
+  w_indexed value.Uninitialized b g = s_stop _
+  w_indexed (value.Integer n) b g = s_stop _
+  w_indexed (value.Reference r) b g = s_stop _
+
   pub w_size : (r : Referent) → ReferentFits width r → Safe (In S width) (WithinWidth width) (size_in r)
   unfolding size_in
   w_size r f = record { safe = λ w i. good_settled _ w i (λ v e. seen_is width _ v (λ n is. referent_size width w.objects r n i.objects f is) e) }
@@ -104,15 +125,23 @@ module _ (S : Type 0) (width : IntegerWidth) where
   w_count q = record { safe = λ w i. good_settled _ w i (λ n e. tt) }
 
   pub w_acquired_at : (at : StoreTarget) → Safe (In S width) Any (acquired_at at)
-  unfolding acquired
+  unfolding acquired acquired_by_number
   w_acquired_at targets.Nowhere = s_stop _
   w_acquired_at (targets.Slot slot) = s_stop _
+  w_acquired_at (targets.Refers (reference.Slot n slot)) = s_stop _
+  w_acquired_at (targets.Refers (reference.Element o i)) = s_stop _
+  w_acquired_at (targets.Refers (reference.Byte o i)) = s_stop _
+  w_acquired_at (targets.Refers (reference.Name n)) = s_bind _ _ (w_declaration S width n) (λ e f. s_bind _ _ (w_count e.0) (λ m u. s_bind {Fit = Any} _ _ (s_settle _ (λ a x. tt)) (λ k v. w_replaced S width e.0 _ tt)))
   w_acquired_at (targets.Name q) = s_bind _ _ (w_count q) (λ n u. s_bind {Fit = Any} _ _ (s_settle _ (λ a e. tt)) (λ m v. w_replaced S width q _ tt))
 
   pub w_given_back_at : (at : StoreTarget) → Safe (In S width) Any (given_back_at at)
-  unfolding given_back
+  unfolding given_back given_back_by_number
   w_given_back_at targets.Nowhere = s_stop _
   w_given_back_at (targets.Slot slot) = s_stop _
+  w_given_back_at (targets.Refers (reference.Slot n slot)) = s_stop _
+  w_given_back_at (targets.Refers (reference.Element o i)) = s_stop _
+  w_given_back_at (targets.Refers (reference.Byte o i)) = s_stop _
+  w_given_back_at (targets.Refers (reference.Name n)) = s_bind _ _ (w_declaration S width n) (λ e f. s_bind _ _ (w_count e.0) (λ m u. s_bind {Fit = Any} _ _ (s_settle _ (λ a x. tt)) (λ k v. w_replaced S width e.0 _ tt)))
   w_given_back_at (targets.Name q) = s_bind _ _ (w_count q) (λ n u. s_bind {Fit = Any} _ _ (s_settle _ (λ a e. tt)) (λ m v. w_replaced S width q _ tt))
 
   abbrev FewBits : ℕ → Type 0

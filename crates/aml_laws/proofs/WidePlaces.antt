@@ -1,11 +1,12 @@
 -- Reading and storing at a target keeps integers below two to the width.
 use Rattle.std.specs.Prelude.{◌≡◌, ◌<◌, ℕ, zero, suc, List, [], ◌∷◌, Option, Some, None, Ok, refl, slice_get, slice_index_or}
-use Rattle.std.proofs.Common.{arith, ◌∙◌}
+use Rattle.std.proofs.Common.{arith, ◌∙◌, sym, subst}
 use Rattle.std.proofs.Math.Nat.{mod-lt}
 use Rattle.std.specs.FinMap.{get, entries, entries_sorted, get-entries}
 use Rattle.ar_space.specs.declared.integer_width.IntegerWidth.{IntegerWidth}
 use Rattle.ar_space.specs.Change.{Change}
 use Rattle.aml_path.specs.declared.segment.Seg.{Seg}
+use Rattle.aml_path.specs.Paths.{Name}
 use Rattle.aml_objects.specs.Contents.{Content, Integer, String, Buffer, Other}
 use Rattle.aml_objects.specs.declared.value.Value.{Value}
 use Rattle.aml_objects.specs.declared.value.Value.TheVariants as value
@@ -33,14 +34,15 @@ use Rattle.aml_meaning.specs.declared.object_type.Referent.TheVariants as refere
 use Rattle.aml_meaning.specs.State.{State}
 use Rattle.aml_meaning.specs.Slots.{slot_in, slot_found, with_slot}
 use Rattle.aml_meaning.specs.Readings.{read_as}
-use Rattle.aml_meaning.specs.StoreTargets.{holding_of, holding_in, held_at, latest_frame, frame_found, slot_held, own_slot, initialized, slot_read, held_in, name_read, held_in_slot, target_read, referent_of, or_gone, declaration, byte_followed, value_followed, referent_followed, declared_followed, slot_followed, element_named, name_followed, element_followed, held_followed, reference_followed, followed, most_references, slot_referent, referent_in, declared_referent, name_referent, target_referent}
-use Rattle.aml_meaning.specs.Stores.{with_frame, slot_put, copy_into_slot, copy_into_name, copy_into_element, copy_over, text_in, bytes_in, store_integer, store_text, store_bytes, store_over_value, store_over, first_byte, byte_of, byte_in, store_byte, copy_into_declared, store_over_slot, store_in_frame, store_in_frame_numbered, store_at_reference, stored_through, store_in_slot, store_in_name, stored, copy_in_name, copied_to}
+use Rattle.aml_meaning.specs.StoreTargets.{holding_of, holding_in, held_at, latest_frame, frame_found, slot_held, own_slot, initialized, slot_read, held_in, name_read, held_in_slot, target_read, referent_of, or_gone, declaration, byte_followed, value_followed, referent_followed, declared_followed, slot_followed, element_named, name_followed, element_followed, held_followed, reference_followed, followed, most_references, slot_referent, referent_in, declared_referent, name_referent, target_referent, name_tested, frame_tested, byte_tested, tested, once, declared_once, value_once, slot_once, named_once, name_once, element_once, held_once, byte_once, dereferenced, frame_number, slot_reference, declared_number, name_reference, reference_of, slot_initialized, element_initialized, if_initialized, reference_if_found}
+use Rattle.aml_meaning.specs.Stores.{with_frame, slot_put, copy_into_slot, copy_into_name, copy_into_element, copy_over, text_in, bytes_in, store_integer, store_text, store_bytes, store_over_value, store_over, first_byte, byte_of, byte_in, store_byte, copy_into_declared, store_over_slot, store_in_declared, store_to, store_in_frame, store_in_frame_numbered, store_at_reference, stored_through, store_in_slot, store_in_name, stored, copy_in_name, copied_to}
 use Rattle.aml_laws.specs.Plain.{AreBytes}
 use Rattle.aml_laws.specs.Within.{WithinWidth}
+use Rattle.aml_laws.proofs.WithinWidth.{byte_small}
 use Rattle.aml_laws.specs.AllWithin.{Each, ElementFits, NamedFits, FrameFits, UnitFits}
 use Rattle.aml_laws.proofs.Numbered.{number_there}
 use Rattle.aml_laws.proofs.PlainSteps.{Any}
-use Rattle.aml_laws.proofs.Safe.{Safe, ok_fits, good_settled, s_give, s_stop, s_settle, s_bind, each_at, each_set, o_copied, o_byte_at, o_element_there, o_element_at, o_write_element, o_write_string, o_write_buffer, o_write_byte}
+use Rattle.aml_laws.proofs.Safe.{Safe, ok_fits, good_settled, s_give, s_stop, s_settle, s_bind, each_at, each_set, o_copied, o_byte_at, o_byte_below, o_element_there, o_element_at, o_write_element, o_write_string, o_write_buffer, o_write_byte}
 use Rattle.aml_laws.proofs.WideBits.{Holds, text_fits, buffer_fits}
 use Rattle.aml_laws.proofs.WideWorld.{In, FoundFits, w_objects, w_replaced, w_read, w_entry, holds, holding as holding_at, read_fits}
 
@@ -158,14 +160,75 @@ module _ (S : Type 0) (width : IntegerWidth) where
   unfolding held_in_slot
   w_held_slot slot = s_bind _ _ (w_slot_read slot) (λ v f. s_give _ f)
 
+  pub w_declaration : (n : ℕ) → Safe (In S width) (FoundFits width) (declaration n)
+  unfolding declaration
+  w_declaration n = record { safe = λ w i. good_settled _ w i (λ x e. gone_fits width w.names.map (numbered n w.names.map) n x refl i.names e) }
+
+  pub w_tested : (r : Reference) → Safe (In S width) Any (tested r)
+  unfolding name_tested frame_tested byte_tested
+  w_tested (reference.Name n) = s_bind _ _ (w_declaration n) (λ e f. s_give _ tt)
+  w_tested (reference.Slot n slot) = s_bind _ _ (w_frame n) (λ k u. s_give _ tt)
+  w_tested (reference.Element o i) = w_objects S width _ (o_element_there width o i)
+  w_tested (reference.Byte o i) = s_bind _ _ (w_objects S width _ (o_byte_at width o i)) (λ b u. s_give _ tt)
+
+  once_fits : (n : ℕ) (o : NamedObject) (h : Held) → NamedFits width o → once n o ≡ Ok h → HeldFits width h
+  once_fits n (object.Data v) h f e = ok_fits (HeldFits width) _ h e f
+  once_fits n (object.FieldUnit u) h f e = ok_fits (HeldFits width) _ h e f
+  once_fits n (object.BufferField b) h f e = absurd (cc e)
+  once_fits n _ h f e = ok_fits (HeldFits width) _ h e tt
+
+  named_fits : (n : ℕ) (o : NamedObject) (h : Held) → NamedFits width o → named_once n o ≡ Ok h → HeldFits width h
+  named_fits n (object.Data v) h f e = ok_fits (HeldFits width) _ h e (read_fits S width n v f)
+  named_fits n (object.FieldUnit u) h f e = ok_fits (HeldFits width) _ h e f
+  named_fits n (object.BufferField b) h f e = absurd (cc e)
+  named_fits n _ h f e = ok_fits (HeldFits width) _ h e tt
+
+  w_value_once : (v : Value) → WithinWidth width v → Safe (In S width) (HeldFits width) (value_once v)
+  unfolding value_once
+  w_value_once v f = s_bind _ _ (s_settle {Fit = WithinWidth width} _ (λ u e. init_fits width v u f e)) (λ x g. s_give _ g)
+
+  w_element_once : (e : Element) → ElementFits width e → Safe (In S width) (HeldFits width) (element_once e)
+  unfolding name_once
+  w_element_once (element.Value v) f = w_value_once v f
+  w_element_once (element.Name n scope) f = s_bind _ _ (w_entry S width scope n) (λ e g. s_settle _ (λ h is. named_fits e.number e.object h g is))
+
+  w_byte_once : (o i : ℕ) → Safe (In S width) (HeldFits width) (byte_once o i)
+  unfolding byte_once
+  w_byte_once o i = s_bind _ _ (w_objects S width _ (o_byte_below width o i)) (λ b l. s_give _ (byte_small width b l))
+
+  pub w_dereferenced : (r : Reference) → Safe (In S width) (HeldFits width) (dereferenced r)
+  unfolding declared_once slot_once held_once
+  w_dereferenced (reference.Name n) = s_bind _ _ (w_declaration n) (λ e f. s_settle _ (λ h is. once_fits n e.1.object h f is))
+  w_dereferenced (reference.Slot n slot) = s_bind _ _ (w_frame n) (λ k u. s_bind _ _ (w_slot k slot) (λ v f. w_value_once v f))
+  w_dereferenced (reference.Element o i) = s_bind _ _ (w_objects S width _ (o_element_at width o i)) (λ e f. w_element_once e f)
+  w_dereferenced (reference.Byte o i) = w_byte_once o i
+
   pub w_target_read : (at : StoreTarget) → Safe (In S width) (HeldFits width) (target_read at)
   w_target_read targets.Nowhere = s_stop _
   w_target_read (targets.Slot slot) = w_held_slot slot
   w_target_read (targets.Name q) = w_name_read q
+  w_target_read (targets.Refers r) = w_dereferenced r
 
-  pub w_declaration : (n : ℕ) → Safe (In S width) (FoundFits width) (declaration n)
-  unfolding declaration
-  w_declaration n = record { safe = λ w i. good_settled _ w i (λ x e. gone_fits width w.names.map (numbered n w.names.map) n x refl i.names e) }
+  w_any : {A : Type 0} (m : Change (State S) A) → ((w : State S) → (m w).1 ≡ w) → Safe (In S width) Any m
+  w_any m h = record { safe = λ w i. record { state = subst (In S width) (sym (h w)) i; gives = λ a e. tt } }
+
+  pub w_reference_of : (at : StoreTarget) → Safe (In S width) Any (reference_of at)
+  unfolding slot_reference name_reference frame_number declared_number
+  w_reference_of targets.Nowhere = s_stop _
+  w_reference_of (targets.Slot slot) = s_bind _ _ w_latest (λ k u. s_bind {Fit = Any} _ _ (w_any _ (λ w. refl)) (λ n v. s_give _ tt))
+  w_reference_of (targets.Name q) = s_bind {Fit = Any} _ _ (w_any _ (λ w. refl)) (λ n v. s_give _ tt)
+  w_reference_of (targets.Refers r) = s_give _ tt
+
+  pub w_if_initialized : (r : Reference) → Safe (In S width) Any (if_initialized r)
+  unfolding slot_initialized element_initialized
+  w_if_initialized (reference.Name n) = s_give _ tt
+  w_if_initialized (reference.Slot n slot) = s_bind _ _ (w_frame n) (λ k u. s_bind _ _ (w_slot k slot) (λ v f. s_give _ tt))
+  w_if_initialized (reference.Element o i) = s_bind _ _ (w_objects S width _ (o_element_at width o i)) (λ e f. s_give _ tt)
+  w_if_initialized (reference.Byte o i) = s_give _ tt
+
+  pub w_reference_if_found : (scope : List Seg) (n : Name) → Safe (In S width) Any (reference_if_found scope n)
+  unfolding reference_if_found
+  w_reference_if_found scope n = w_any _ (λ w. refl)
 
   w_byte_followed : (o i : ℕ) → Safe (In S width) (ReferentFits width) (byte_followed o i)
   unfolding byte_followed
@@ -225,6 +288,10 @@ module _ (S : Type 0) (width : IntegerWidth) where
   w_referent targets.Nowhere = s_give _ tt
   w_referent (targets.Slot slot) = s_bind _ _ (w_own slot) (λ v f. w_value_followed _ (w_followed most_references) v f)
   w_referent (targets.Name q) = s_bind _ _ (w_declared_referent q) (λ r f. w_referent_followed _ (w_followed most_references) r f)
+  w_referent (targets.Refers r) = w_followed most_references r
+
+  pub w_value_referent : (v : Value) → WithinWidth width v → Safe (In S width) (ReferentFits width) (value_followed (followed most_references) v)
+  w_value_referent v f = w_value_followed _ (w_followed most_references) v f
 
   -- ---- stores
 
@@ -327,14 +394,23 @@ module _ (S : Type 0) (width : IntegerWidth) where
   unfolding store_in_slot
   w_in_slot slot v f = s_bind _ _ w_latest (λ k u. w_store_frame _ (w_through most_references) k slot v f)
 
+  w_store_to : (r : Reference) (v : Value) → WithinWidth width v → Safe (In S width) (StoredFits width) (store_to r v)
+  unfolding store_in_declared store_in_frame_numbered
+  w_store_to (reference.Name n) v f = s_bind _ _ (w_declaration n) (λ e g. w_store_over _ e.0 v (hold_fits width e.1.object g) f)
+  w_store_to (reference.Slot n slot) v f = s_bind _ _ (w_frame n) (λ k u. w_store_frame _ (w_through most_references) k slot v f)
+  w_store_to (reference.Element o i) v f = w_copy_element o i v f
+  w_store_to (reference.Byte o i) v f = w_store_byte o i v f
+
   pub w_stored : (at : StoreTarget) (v : Value) → WithinWidth width v → Safe (In S width) (StoredFits width) (stored at v)
   unfolding store_in_name
   w_stored targets.Nowhere v f = s_give _ tt
   w_stored (targets.Slot slot) v f = w_in_slot slot v f
   w_stored (targets.Name q) v f = s_bind _ _ (w_held q) (λ h g. w_store_over h q v g f)
+  w_stored (targets.Refers r) v f = w_store_to r v f
 
   pub w_copied_to : (at : StoreTarget) (v : Value) → WithinWidth width v → Safe (In S width) (StoredFits width) (copied_to at v)
   unfolding copy_in_name
   w_copied_to targets.Nowhere v f = s_give _ tt
   w_copied_to (targets.Slot slot) v f = w_in_slot slot v f
   w_copied_to (targets.Name q) v f = s_bind _ _ (w_held q) (λ h g. w_copy_over h q v g f)
+  w_copied_to (targets.Refers r) v f = w_through most_references r v f

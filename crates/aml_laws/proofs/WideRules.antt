@@ -1,13 +1,13 @@
 -- Every rule keeps integers below two to the width.
 use Rattle.std.specs.Prelude.{◌≡◌, ◌≤◌, ℕ, zero, suc, List, [], Bool, true, false, Option, Some, None, Ok}
-use Rattle.ar_space.specs.Change.{Change, give, ◌>>=◌}
+use Rattle.ar_space.specs.Change.{Change, give, settle, ◌>>=◌}
 use Rattle.aml_meaning.specs.Run.{Run, lift}
 use Rattle.ar_space.specs.Accesses.{Accesses}
 use Rattle.aml_path.specs.declared.segment.Seg.{Seg}
 use Rattle.aml_grammar.specs.declared.opcode.Opcode.{Opcode}
 use Rattle.aml_grammar.specs.declared.opcode.TermCode.{TermCode}
 use Rattle.aml_grammar.specs.declared.opcode.TermCode.TheVariants as codes
-use Rattle.aml_grammar.specs.Tree.{Tree, Trees, no_trees, tree, Part, null, name, number, bytes, inner, list}
+use Rattle.aml_grammar.specs.Tree.{Tree, term, Trees, no_trees, tree, Part, null, name, number, bytes, inner, list, Parts, no_parts, part}
 use Rattle.aml_grammar.specs.Apart.{code_of, operand_of}
 use Rattle.aml_objects.specs.declared.value.Value.{Value}
 use Rattle.aml_objects.specs.declared.object.Element.{Element}
@@ -29,16 +29,20 @@ use Rattle.aml_meaning.specs.declared.term_kind.StatementKind.{StatementKind}
 use Rattle.aml_meaning.specs.declared.term_kind.StatementKind.TheVariants as statements
 use Rattle.aml_meaning.specs.declared.invocation.Invocation.{Invocation}
 use Rattle.aml_meaning.specs.declared.invocation.Invocation.TheVariants as invocations
+use Rattle.aml_objects.specs.declared.value.Reference.{Reference}
+use Rattle.aml_path.specs.Paths.{Name}
 use Rattle.aml_meaning.specs.declared.store_target.StoreTarget.{StoreTarget}
+use Rattle.aml_meaning.specs.declared.store_target.TargetKind.{TargetKind}
+use Rattle.aml_meaning.specs.declared.store_target.TargetKind.TheVariants as target
 use Rattle.aml_meaning.specs.declared.term_kind.RegionKind.{RegionKind}
 use Rattle.aml_meaning.specs.declared.term_kind.RegionKind.TheVariants as regions
 use Rattle.aml_meaning.specs.State.{State}
-use Rattle.aml_meaning.specs.Terms.{kind_of}
+use Rattle.aml_meaning.specs.Terms.{kind_of, target_kind}
 use Rattle.aml_meaning.specs.Tasks.{Task, in_turn}
 use Rattle.aml_meaning.specs.DataTerms.{constant_rule, integer_rule, string_rule, buffer_rule, named_element, valued_element, element_by, elements_in_turn, package_of, package_rule, var_package_rule, data_rule}
 use Rattle.aml_meaning.specs.DeclarationTerms.{declaring, name_rule, alias_rule, method_rule, scope_rule, new_scope, declaration_rule}
-use Rattle.aml_meaning.specs.TargetTerms.{referring, target_of_term, name_target, target_by, target_at, targeted}
-use Rattle.aml_meaning.specs.OperatorTerms.{slot_rule, store_rule, copy_rule, two_rule, divide_rule, one_rule, test_rule, not_rule, count_rule, size_rule, type_rule, acquire_rule, operator_rule}
+use Rattle.aml_meaning.specs.TargetTerms.{reference_in, indexed_target, dereferenced_target, target_by_kind, target_of, first_target, part_target, name_target, target_by, target_at, targeted}
+use Rattle.aml_meaning.specs.OperatorTerms.{slot_rule, store_rule, copy_rule, two_rule, divide_rule, one_rule, test_rule, not_rule, count_rule, referent_of_value, referent_of_target, referent_by_kind, referent_by, size_rule, type_rule, acquire_rule, reference_rule, dereference_rule, sought_name, sought_target, sought, reference_stored, reference_found, conditional_rule, operator_rule}
 use Rattle.aml_meaning.specs.StatementTerms.{otherwise, branch, if_rule, else_rule, turn_of, turn, loop_end, after_turn, turns, loop, while_rule, return_rule, release_rule, notify_rule, pause_rule, fatal_rule, statement_rule}
 use Rattle.aml_meaning.specs.InvocationTerms.{arguments_in_turn, call_rule, osi_rule, field_rule, invocation_rule, name_value}
 use Rattle.aml_meaning.specs.FieldTerms.{fields_laid, region_rule, field_list_rule, index_list_rule, region_term_rule}
@@ -55,17 +59,17 @@ use Rattle.aml_meaning.specs.declared.term_kind.Count.TheVariants as count
 use Rattle.aml_objects.specs.declared.value.Value.TheVariants as value
 use Rattle.aml_meaning.specs.Operations.{type_number, type_of_referent}
 use Rattle.aml_meaning.specs.OperatorTerms.{result_of_two, result_of_one, result_of_test, counted_by}
-use Rattle.aml_laws.specs.Plain.{PlainTree, PlainTrees}
+use Rattle.aml_laws.specs.Plain.{PlainTree, PlainTrees, PlainPart, PlainParts}
 use Rattle.aml_laws.specs.Within.{WithinWidth}
 use Rattle.aml_laws.specs.AllWithin.{Each, ElementFits, NamedFits, AllWithin}
 use Rattle.aml_laws.proofs.PlainSteps.{Any}
 use Rattle.aml_laws.proofs.Safe.{Good, Safe, good_err, s_give, s_stop, s_bind, each_push, o_string}
 use Rattle.aml_laws.proofs.WithinWidth.{few}
 use Rattle.aml_laws.proofs.WideWorld.{In, w_objects, w_integer, w_read, w_entry, w_path, w_scope, w_arguments, w_at_most, w_buffer, w_package, w_new, w_method, w_operated, w_divided, w_unary, w_logic, w_turned, w_next, w_before, w_compared, w_joined, w_to_buffer, w_to_integer, w_osi}
-use Rattle.aml_laws.proofs.WidePlaces.{w_slot_read, w_target_read, w_referent, w_copied_to}
+use Rattle.aml_laws.proofs.WidePlaces.{ReferentFits, w_slot_read, w_tested, w_dereferenced, w_target_read, w_reference_of, w_if_initialized, w_reference_if_found, w_referent, w_value_referent, w_copied_to}
 use Rattle.aml_laws.proofs.WideFields.{RunIn, r_lift, r_charge}
-use Rattle.aml_laws.proofs.WideOthers.{w_resources, w_size, w_acquired_at, w_given_back_at, w_elements_laid}
-use Rattle.aml_laws.proofs.WideTerms.{PlainOperand, at_operand, s_inner, s_list, s_bytes, s_any, FlowFits, InvocationFits, w_use, t_value, t_value_at, t_two, t_integer, t_turn, t_invoked, t_read, t_held, t_referent, t_completed, t_stored_to, t_stored_back}
+use Rattle.aml_laws.proofs.WideOthers.{w_resources, w_indexed, w_size, w_acquired_at, w_given_back_at, w_elements_laid}
+use Rattle.aml_laws.proofs.WideTerms.{PlainOperand, at_operand, s_inner, s_list, s_bytes, s_any, FlowFits, InvocationFits, w_use, t_value, t_value_at, t_two, t_integer, t_turn, t_invoked, t_read, t_held, t_referent, t_completed, t_stored_to, t_stored_back, t_held_value}
 use Rattle.aml_meaning.specs.FieldTerms.{region_found, field_found}
 use Rattle.aml_meaning.specs.TargetTerms.{target_named}
 use Rattle.aml_meaning.specs.declared.flow.Flow.TheVariants as flow
@@ -139,21 +143,59 @@ module _ (S : Type 0) (width : IntegerWidth) (accesses : Accesses S) (ev : Task 
 
   -- ---- targets and operators
 
+  u_reference_in : (v : Value) → Safe (RunIn S width) Any (settle (reference_in v))
+  u_reference_in v = s_any _
+
+  u_indexed : (scope : List Seg) (depth : ℕ) (t : Tree) → PlainTree t → Safe (RunIn S width) Any (indexed_target ev scope depth t)
+  unfolding indexed_target
+  u_indexed scope depth t h = s_bind _ _ (t_value S width accesses ev parts scope depth t h) (λ v f. s_bind _ _ (u_reference_in v) (λ r u. s_give _ tt))
+
+  u_dereferenced : (scope : List Seg) (depth : ℕ) (t : Tree) → PlainTree t → Safe (RunIn S width) Any (dereferenced_target ev scope depth t)
+  unfolding dereferenced_target
+  u_dereferenced scope depth t h =
+      s_bind _ _ (r_charge S width) (λ step x. s_bind _ _ (t_value_at S width accesses ev parts scope depth t 0 h) (λ v f. s_bind _ _ (u_reference_in v) (λ r u. s_bind _ _ (r_lift S width _ (w_tested S width r)) (λ there y. s_give _ tt))))
+
+  u_by_kind : (scope : List Seg) (depth : ℕ) (t : Tree) (m : Run S StoreTarget) (kind : TargetKind) → PlainTree t → Safe (RunIn S width) Any m → Safe (RunIn S width) Any (target_by_kind ev scope depth t m kind)
+  u_by_kind scope depth t m target.Nowhere h k = s_give _ tt
+  u_by_kind scope depth t m (target.Slot slot) h k = s_give _ tt
+  u_by_kind scope depth t m target.RefOf h k = s_bind _ _ (r_charge S width) (λ step x. k)
+  u_by_kind scope depth t m target.DerefOf h k = u_dereferenced scope depth t h
+  u_by_kind scope depth t m target.Index h k = u_indexed scope depth t h
+  u_by_kind scope depth t m target.Other h k = s_stop _
+
+  u_target_named : (scope : List Seg) (n : Name) → Safe (In S width) Any (target_named scope n)
+  unfolding target_named
+  u_target_named scope n = s_bind _ _ (w_path S width scope n) (λ p v. s_give _ tt)
+
+  mutual
+    unfolding target_of
+
+    u_target_of : (scope : List Seg) (depth : ℕ) (t : Tree) → PlainTree t → Safe (RunIn S width) Any (target_of ev scope depth t)
+    u_target_of scope depth (term c ps) h = u_by_kind scope depth (term c ps) _ (target_kind c) h (u_first scope depth ps h)
+
+    u_first : (scope : List Seg) (depth : ℕ) (ps : Parts) → PlainParts ps → Safe (RunIn S width) Any (first_target ev scope depth ps)
+    u_first scope depth no_parts h = s_stop _
+    u_first scope depth (part p ps) h = u_part scope depth p h.0
+
+    u_part : (scope : List Seg) (depth : ℕ) (p : Part) → PlainPart p → Safe (RunIn S width) Any (part_target ev scope depth p)
+    u_part scope depth null h = s_give _ tt
+    u_part scope depth (name n) h = r_lift S width _ (u_target_named scope n)
+    u_part scope depth (number n) h = s_stop _
+    u_part scope depth (bytes bs) h = s_stop _
+    u_part scope depth (inner u) h = u_target_of scope depth u h
+    u_part scope depth (list ts) h = s_stop _
+
   u_target : (scope : List Seg) (depth : ℕ) (t : Tree) (i : ℕ) → PlainTree t → Safe (RunIn S width) Any (target_at ev scope depth t i)
-  unfolding name_target target_named referring
+  unfolding name_target
   u_target scope depth t i h = by_part (operand_of t i) (at_operand t i h)
     where
-      by_term : (u : Tree) (at : Option StoreTarget) → PlainTree u → Safe (RunIn S width) Any (target_of_term ev scope depth u at)
-      by_term u (Some p) g = s_give _ tt
-      by_term u None g = s_bind _ _ (parts (task scope depth u) g) (λ f k. s_stop _)
-
       by_part : (o : Option Part) → PlainOperand o → Safe (RunIn S width) Any (target_by ev scope depth t i o)
       by_part None g = s_stop _
       by_part (Some null) g = s_give _ tt
-      by_part (Some (name n)) g = s_bind _ _ (s_any _) (λ x u. r_lift S width _ (s_bind _ _ (w_path S width scope x) (λ p v. s_give _ tt)))
+      by_part (Some (name n)) g = s_bind _ _ (s_any _) (λ x u. r_lift S width _ (u_target_named scope x))
       by_part (Some (number n)) g = s_stop _
       by_part (Some (bytes bs)) g = s_stop _
-      by_part (Some (inner u)) g = by_term u _ g
+      by_part (Some (inner u)) g = u_target_of scope depth u g
       by_part (Some (list ts)) g = s_stop _
 
   u_targeted : (scope : List Seg) (depth : ℕ) (t : Tree) (i : ℕ) (v : Value) → PlainTree t → WithinWidth width v → Safe (RunIn S width) (FlowFits width) (targeted accesses ev scope depth t i v)
@@ -164,6 +206,7 @@ module _ (S : Type 0) (width : IntegerWidth) (accesses : Accesses S) (ev : Task 
   u_two (two.Integers op) v u f g = w_operated S width op v u f g
   u_two two.Concatenate v u f g = w_joined S width v u f g
   u_two two.ConcatenateResources v u f g = w_resources S width v u f g
+  u_two two.Index v u f g = w_indexed S width v u g
 
   u_one : (k : OneOperand) (v : Value) → WithinWidth width v → Safe (In S width) (WithinWidth width) (result_of_one k v)
   u_one (one.Integer op) v f = w_unary S width op v f
@@ -199,8 +242,52 @@ module _ (S : Type 0) (width : IntegerWidth) (accesses : Accesses S) (ev : Task 
       by types.BufferField = omega arith
       by types.DebugObject = omega arith
 
+  u_of_value : (scope : List Seg) (depth : ℕ) (u : Tree) → PlainTree u → Safe (RunIn S width) (ReferentFits width) (referent_of_value accesses ev scope depth u)
+  unfolding referent_of_value
+  u_of_value scope depth u h = s_bind _ _ (t_value S width accesses ev parts scope depth u h) (λ v f. r_lift S width _ (w_value_referent S width v f))
+
+  u_of_target : (scope : List Seg) (depth : ℕ) (t : Tree) → PlainTree t → Safe (RunIn S width) (ReferentFits width) (referent_of_target accesses ev scope depth t)
+  unfolding referent_of_target
+  u_of_target scope depth t h = s_bind _ _ (u_target scope depth t 0 h) (λ p u. r_lift S width _ (w_referent S width p))
+
+  u_referent_by_kind : (scope : List Seg) (depth : ℕ) (t u : Tree) (k : TargetKind) → PlainTree t → PlainTree u → Safe (RunIn S width) (ReferentFits width) (referent_by_kind accesses ev scope depth t u k)
+  u_referent_by_kind scope depth t u target.RefOf h g = u_of_value scope depth u g
+  u_referent_by_kind scope depth t u target.DerefOf h g = u_of_value scope depth u g
+  u_referent_by_kind scope depth t u target.Index h g = u_of_value scope depth u g
+  u_referent_by_kind scope depth t u target.Nowhere h g = u_of_target scope depth t h
+  u_referent_by_kind scope depth t u (target.Slot slot) h g = u_of_target scope depth t h
+  u_referent_by_kind scope depth t u target.Other h g = u_of_target scope depth t h
+
+  u_referent_by : (scope : List Seg) (depth : ℕ) (t : Tree) (o : Option Part) → PlainTree t → PlainOperand o → Safe (RunIn S width) (ReferentFits width) (referent_by accesses ev scope depth t o)
+  u_referent_by scope depth t None h g = u_of_target scope depth t h
+  u_referent_by scope depth t (Some null) h g = u_of_target scope depth t h
+  u_referent_by scope depth t (Some (name n)) h g = u_of_target scope depth t h
+  u_referent_by scope depth t (Some (number n)) h g = u_of_target scope depth t h
+  u_referent_by scope depth t (Some (bytes bs)) h g = u_of_target scope depth t h
+  u_referent_by scope depth t (Some (inner u)) h g = u_referent_by_kind scope depth t u _ h g
+  u_referent_by scope depth t (Some (list ts)) h g = u_of_target scope depth t h
+
+  u_sought_target : (scope : List Seg) (depth : ℕ) (t : Tree) → PlainTree t → Safe (RunIn S width) Any (sought_target accesses ev scope depth t)
+  unfolding sought_target
+  u_sought_target scope depth t h = s_bind _ _ (u_target scope depth t 0 h) (λ p u. s_bind _ _ (r_lift S width _ (w_reference_of S width p)) (λ r x. r_lift S width _ (w_if_initialized S width r)))
+
+  u_sought : (scope : List Seg) (depth : ℕ) (t : Tree) (o : Option Part) → PlainTree t → Safe (RunIn S width) Any (sought accesses ev scope depth t o)
+  unfolding sought_name
+  u_sought scope depth t None h = u_sought_target scope depth t h
+  u_sought scope depth t (Some null) h = u_sought_target scope depth t h
+  u_sought scope depth t (Some (name n)) h = s_bind _ _ (s_any _) (λ x u. r_lift S width _ (w_reference_if_found S width scope x))
+  u_sought scope depth t (Some (number n)) h = u_sought_target scope depth t h
+  u_sought scope depth t (Some (bytes bs)) h = u_sought_target scope depth t h
+  u_sought scope depth t (Some (inner u)) h = u_sought_target scope depth t h
+  u_sought scope depth t (Some (list ts)) h = u_sought_target scope depth t h
+
+  u_found : (scope : List Seg) (depth : ℕ) (t : Tree) (o : Option Reference) → PlainTree t → Safe (RunIn S width) (FlowFits width) (reference_found accesses ev scope depth t o)
+  unfolding reference_stored
+  u_found scope depth t None h = s_give _ (few width 0 (omega arith))
+  u_found scope depth t (Some r) h = s_bind _ _ (u_targeted scope depth t 1 (value.Reference r) h tt) (λ done u. r_value _ (w_integer S width _))
+
   u_operator : (k : OperatorKind) (scope : List Seg) (depth : ℕ) (t : Tree) → PlainTree t → Safe (RunIn S width) (FlowFits width) (operator_rule accesses ev k scope depth t)
-  unfolding slot_rule store_rule copy_rule two_rule divide_rule one_rule test_rule not_rule count_rule size_rule type_rule acquire_rule
+  unfolding slot_rule store_rule copy_rule two_rule divide_rule one_rule test_rule not_rule count_rule size_rule type_rule acquire_rule reference_rule dereference_rule conditional_rule
   u_operator (operators.Slot slot) scope depth t h = r_value _ (w_slot_read S width slot)
   u_operator operators.Store scope depth t h = s_bind _ _ (t_value_at S width accesses ev parts scope depth t 0 h) (λ v f. u_targeted scope depth t 1 v h f)
   u_operator operators.CopyObject scope depth t h = s_bind _ _ (t_value_at S width accesses ev parts scope depth t 0 h) (λ v f. s_bind _ _ (u_target scope depth t 1 h) (λ p u. s_bind _ _ (r_lift S width _ (w_copied_to S width p v f)) (λ s g. s_bind _ _ (t_completed S width accesses ev parts depth s v f) (λ done x. s_give _ f))))
@@ -211,9 +298,13 @@ module _ (S : Type 0) (width : IntegerWidth) (accesses : Accesses S) (ev : Task 
   u_operator operators.LogicalNot scope depth t h = s_bind _ _ (t_value_at S width accesses ev parts scope depth t 0 h) (λ v f. r_value _ (w_turned S width v f))
   u_operator (operators.Count k) scope depth t h =
       s_bind _ _ (u_target scope depth t 0 h) (λ p u. s_bind _ _ (r_lift S width _ (w_target_read S width p)) (λ x f. s_bind _ _ (t_held S width accesses ev parts depth x f) (λ n g. s_bind _ _ (r_lift S width _ (u_counted k n)) (λ r k. s_bind _ _ (t_stored_back S width accesses ev parts depth x p r k) (λ done v. s_give _ k)))))
-  u_operator operators.SizeOf scope depth t h = s_bind _ _ (u_target scope depth t 0 h) (λ p u. s_bind _ _ (r_lift S width _ (w_referent S width p)) (λ r f. s_bind _ _ (t_referent S width accesses ev parts depth r f) (λ s g. r_value _ (w_size S width s g))))
-  u_operator operators.ObjectType scope depth t h = s_bind _ _ (u_target scope depth t 0 h) (λ p u. s_bind _ _ (r_lift S width _ (w_referent S width p)) (λ r f. s_bind _ _ (t_referent S width accesses ev parts depth r f) (λ s g. s_give _ (small_number (type_of_referent s)))))
+  u_operator operators.SizeOf scope depth t h = s_bind _ _ (u_referent_by scope depth t (operand_of t 0) h (at_operand t 0 h)) (λ r f. s_bind _ _ (t_referent S width accesses ev parts depth r f) (λ s g. r_value _ (w_size S width s g)))
+  u_operator operators.ObjectType scope depth t h = s_bind _ _ (u_referent_by scope depth t (operand_of t 0) h (at_operand t 0 h)) (λ r f. s_bind _ _ (t_referent S width accesses ev parts depth r f) (λ s g. s_give _ (small_number (type_of_referent s))))
   u_operator operators.Acquire scope depth t h = s_bind _ _ (u_target scope depth t 0 h) (λ p u. s_bind _ _ (r_lift S width _ (w_acquired_at S width p)) (λ done v. s_give _ (few width 0 (omega arith))))
+  u_operator operators.RefOf scope depth t h = s_bind _ _ (u_target scope depth t 0 h) (λ p u. s_bind _ _ (r_lift S width _ (w_reference_of S width p)) (λ r v. s_give _ tt))
+  u_operator operators.CondRefOf scope depth t h = s_bind _ _ (u_sought scope depth t (operand_of t 0) h) (λ o u. u_found scope depth t o h)
+  u_operator operators.DerefOf scope depth t h =
+      s_bind _ _ (t_value_at S width accesses ev parts scope depth t 0 h) (λ v f. s_bind _ _ (u_reference_in v) (λ r u. s_bind _ _ (r_lift S width _ (w_dereferenced S width r)) (λ x g. s_bind _ _ (t_held_value S width accesses ev parts depth x g) (λ y k. s_give _ k))))
 
   -- ---- statements
 

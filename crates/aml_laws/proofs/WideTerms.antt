@@ -37,7 +37,7 @@ use Rattle.aml_meaning.specs.Readings.{value_in}
 use Rattle.aml_meaning.specs.Tasks.{Task, task, operand_value, value_at, two_values, operand_integer, goes_on, in_turn}
 use Rattle.aml_meaning.specs.Invocations.{invocation_of_body, invocation_of_object, invocation_of, named_use, invocation_found, body_terms, returned_by, leaving, frame_arguments, value_of_call, invoked, method_value}
 use Rattle.aml_meaning.specs.Fields.{field_given}
-use Rattle.aml_meaning.specs.FieldCalls.{asked, method_integer, answer_over, answer_within, called_at, field_read, held_integer, referent_read, completed, stored_to, stored_back}
+use Rattle.aml_meaning.specs.FieldCalls.{asked, method_integer, answer_over, answer_within, called_at, field_read, held_integer, referent_read, completed, stored_to, stored_back, is_element, back_to, held_value}
 use Rattle.aml_laws.specs.Plain.{AreBytes, PlainTree, PlainPart, PlainParts, PlainTrees}
 use Rattle.aml_laws.specs.Within.{WithinWidth}
 use Rattle.aml_laws.specs.Handed.{GivenWithin}
@@ -274,6 +274,14 @@ module _ (S : Type 0) (width : IntegerWidth) (accesses : Accesses S) (ev : Task 
   unfolding stored_to
   t_stored_to depth q v f = s_bind _ _ (r_lift S width _ (w_stored S width q v f)) (λ s g. t_completed depth s v f)
 
+  t_back_to : (b : Bool) (depth : ℕ) (h : Held) (q : StoreTarget) (v : Value) → WithinWidth width v → Safe (RunIn S width) Any (back_to accesses ev b depth h q v)
+  t_back_to true depth h q v f = t_stored_to depth q v f
+  t_back_to false depth (held.Value old) q v f = t_stored_to depth q v f
+  t_back_to false depth (held.FieldUnit u) q v f = f_stored S width accesses _ (t_called_at depth) u v f
+
   pub t_stored_back : (depth : ℕ) (h : Held) (q : StoreTarget) (v : Value) → WithinWidth width v → Safe (RunIn S width) Any (stored_back accesses ev depth h q v)
-  t_stored_back depth (held.Value old) q v f = t_stored_to depth q v f
-  t_stored_back depth (held.FieldUnit u) q v f = f_stored S width accesses _ (t_called_at depth) u v f
+  t_stored_back depth h q v f = t_back_to (is_element q) depth h q v f
+
+  pub t_held_value : (depth : ℕ) (h : Held) → HeldFits width h → Safe (RunIn S width) (WithinWidth width) (held_value accesses ev depth h)
+  t_held_value depth (held.Value v) f = s_give _ f
+  t_held_value depth (held.FieldUnit u) f = t_read depth u f

@@ -8,13 +8,17 @@ use Rattle.std.specs.Int.Count.{count_leading_zeros, count_trailing_zeros, trail
 use Rattle.ar_space.specs.declared.integer_width.IntegerWidth.{IntegerWidth}
 use Rattle.ar_space.specs.declared.integer_width.IntegerWidth.TheVariants.{Bits32, Bits64}
 use Rattle.ar_space.specs.declared.refusal.Refusal.{Refusal}
+use Rattle.ar_space.specs.declared.refusal.Refusal.TheVariants as refusal
+use Rattle.ar_space.specs.declared.refusal.EvaluationFault.TheVariants.{IndexLimit}
 use Rattle.ar_space.specs.Outcome.{Outcome, seen}
 use Rattle.ar_space.specs.Outcome as outcome
-use Rattle.ar_space.specs.Change.{Change, give, settle, go_on, ◌>>=◌}
+use Rattle.ar_space.specs.Change.{Change, give, stop, settle, go_on, ◌>>=◌}
 use Rattle.aml_objects.specs.Contents.{Content, Integer, String, Buffer, Other, content_in}
 use Rattle.aml_objects.specs.Objects.{Objects, make_string, make_buffer}
 use Rattle.aml_objects.specs.declared.value.Value.{Value}
 use Rattle.aml_objects.specs.declared.value.Value.TheVariants as value
+use Rattle.aml_objects.specs.declared.value.Reference.{Reference}
+use Rattle.aml_objects.specs.declared.value.Reference.TheVariants as reference
 use Rattle.aml_convert.specs.declared.operators.BinaryOperator.{BinaryOperator}
 use Rattle.aml_convert.specs.declared.operators.BinaryOperator.TheVariants as binary
 use Rattle.aml_convert.specs.declared.operators.UnaryOperator.{UnaryOperator}
@@ -40,7 +44,7 @@ use Rattle.aml_meaning.specs.State.{State, on_objects}
 use Rattle.aml_meaning.specs.Readings.{integer_kept, integer_in}
 use Rattle.aml_meaning.specs.Regions.{integer_of_bits, integer_value, value_of_bits}
 use Rattle.aml_meaning.specs.Osi.{is_known, osi_answer}
-use Rattle.aml_meaning.specs.Operations.{as_integer, integers_operated, operated, divided_in, integer_operated, operated_on_one, integers_tested, operated_logically, integer_turned, turned, next_integer, integer_before, truth_of, compared_in, made_of, joined_contents, joined, joined_items, joined_resources, to_integer_in, buffer_bytes, new_buffer_of, to_buffer_in}
+use Rattle.aml_meaning.specs.Operations.{as_integer, integers_operated, operated, divided_in, integer_operated, operated_on_one, integers_tested, operated_logically, integer_turned, turned, next_integer, integer_before, truth_of, compared_in, made_of, joined_contents, joined, joined_items, joined_resources, to_integer_in, buffer_bytes, new_buffer_of, to_buffer_in, below, size_held, element_indexed, byte_indexed, indexed}
 use Rattle.aml_meaning.specs.OperatorTerms.{result_of_two, result_of_one, result_of_test, counted_by}
 use Rattle.aml_laws.specs.Within.{Below, WithinContent, Within, WithinWidth, FormsWithin}
 
@@ -51,6 +55,10 @@ ok_is : {A : Type 0} (P : A → Type 0) (x y : A) → ◌≡◌ {A = Outcome A} 
 ok_is {A} P x y e h = let same : x ≡ y = cc e in subst P same h
 
 -- ---- numbers
+
+pub byte_small : (width : IntegerWidth) (n : ℕ) → n < 256 → Small width n
+byte_small Bits32 n l = omega arith
+byte_small Bits64 n l = omega arith
 
 pub few : (width : IntegerWidth) (n : ℕ) → n ≤ 65 → Small width n
 few Bits32 n l = omega arith
@@ -245,10 +253,27 @@ module _ {S : Type 0} (w : State S) where
   unfolding joined_resources joined_items on_objects ◌>>=◌
   resources_within a b v e = gives_on (WithinWidth w.width) _ w _ (λ bytes i u eu. buffer_made w.width bytes i.objects u eu) v e
 
+  below_within : (n i : ℕ) (r : Reference) (v : Value) → below n i r ≡ Ok v → WithinWidth w.width v
+  below_within n i r v e = below_by (nat_lt i n) r v e
+    where
+      below_by : (b : Bool) (r : Reference) (v : Value) → (if b then Ok (value.Reference r) else Err (refusal.Evaluation IndexLimit)) ≡ Ok v → WithinWidth w.width v
+      below_by true r v e = ok_is (WithinWidth w.width) (value.Reference r) v e tt
+      below_by false r v e = absurd (cc e)
+
+  indexed_within : (a b : Value) → FormsWithin w (indexed a b)
+  unfolding element_indexed byte_indexed settle stop ◌>>=◌
+  indexed_within (value.Package o) b v e = gives_on (WithinWidth w.width) _ _ _ (λ i x u eu. gives_on (WithinWidth w.width) _ _ _ (λ n y t et. below_within n i _ t et) u eu) v e
+  indexed_within (value.String o) b v e = gives_on (WithinWidth w.width) _ _ _ (λ i x u eu. gives_on (WithinWidth w.width) _ _ _ (λ n y t et. below_within n i _ t et) u eu) v e
+  indexed_within (value.Buffer o) b v e = gives_on (WithinWidth w.width) _ _ _ (λ i x u eu. gives_on (WithinWidth w.width) _ _ _ (λ n y t et. below_within n i _ t et) u eu) v e
+  indexed_within value.Uninitialized b v e = absurd (cc e)
+  indexed_within (value.Integer n) b v e = absurd (cc e)
+  indexed_within (value.Reference r) b v e = absurd (cc e)
+
   pub two_within : (k : TwoOperands) (a b : Value) → Within w a → Within w b → FormsWithin w (result_of_two k a b)
   two_within (two.Integers op) a b h i = operated_within op a b h i
   two_within two.Concatenate a b h i = joined_within a b
   two_within two.ConcatenateResources a b h i = resources_within a b
+  two_within two.Index a b h i = indexed_within a b
 
   unary_within : (op : UnaryOperator) (a : Value) → FormsWithin w (operated_on_one op a)
   unfolding operated_on_one integer_in integer_operated ◌>>=◌

@@ -7,7 +7,7 @@ use Rattle.aml_path.specs.declared.segment.Seg.{Seg}
 use Rattle.aml_grammar.specs.declared.opcode.Opcode.{Opcode}
 use Rattle.aml_grammar.specs.declared.opcode.TermCode.{TermCode}
 use Rattle.aml_grammar.specs.declared.opcode.TermCode.TheVariants as codes
-use Rattle.aml_grammar.specs.Tree.{Tree, Trees, no_trees, tree, Part, null, name, number, bytes, inner, list}
+use Rattle.aml_grammar.specs.Tree.{Tree, term, Part, null, name, number, bytes, inner, list, Parts, no_parts, part, Trees, no_trees, tree}
 use Rattle.aml_grammar.specs.Apart.{code_of, operand_of}
 use Rattle.aml_objects.specs.declared.value.Value.{Value}
 use Rattle.aml_objects.specs.declared.value.Slot.{Slot}
@@ -18,7 +18,7 @@ use Rattle.aml_meaning.specs.declared.term_kind.TermKind.{TermKind}
 use Rattle.aml_meaning.specs.declared.term_kind.TermKind.TheVariants as kinds
 use Rattle.aml_meaning.specs.Run.{Run}
 use Rattle.aml_meaning.proofs.Agree.{Agree, agree_give, agree_stop, agree_settle, agree_lift, agree_charge, agree_bind}
-use Rattle.aml_meaning.specs.Terms.{kind_of}
+use Rattle.aml_meaning.specs.Terms.{kind_of, target_kind}
 use Rattle.aml_meaning.specs.declared.term_kind.DataKind.{DataKind}
 use Rattle.aml_meaning.specs.declared.term_kind.DataKind.TheVariants as datas
 use Rattle.aml_meaning.specs.declared.term_kind.DeclarationKind.{DeclarationKind}
@@ -34,6 +34,9 @@ use Rattle.aml_meaning.specs.declared.term_kind.StatementKind.TheVariants as sta
 use Rattle.aml_meaning.specs.declared.invocation.Invocation.{Invocation}
 use Rattle.aml_meaning.specs.declared.invocation.Invocation.TheVariants as invocations
 use Rattle.aml_meaning.specs.declared.store_target.StoreTarget.{StoreTarget}
+use Rattle.aml_meaning.specs.declared.store_target.TargetKind.{TargetKind}
+use Rattle.aml_meaning.specs.declared.store_target.TargetKind.TheVariants as target
+use Rattle.aml_objects.specs.declared.value.Reference.{Reference}
 use Rattle.aml_meaning.specs.declared.store_target.Held.{Held}
 use Rattle.aml_meaning.specs.declared.object_type.Referent.{Referent}
 use Rattle.aml_meaning.specs.declared.object_type.Referent.TheVariants as referent
@@ -46,12 +49,12 @@ use Rattle.aml_objects.specs.declared.entry.FieldUnit.{FieldUnit}
 use Rattle.aml_meaning.specs.Tasks.{Task, operand_value, value_at, two_values, operand_integer, goes_on, in_turn}
 use Rattle.aml_meaning.specs.DataTerms.{constant_rule, integer_rule, string_rule, buffer_rule, named_element, valued_element, element_by, elements_in_turn, package_of, package_rule, var_package_rule, data_rule}
 use Rattle.aml_meaning.specs.DeclarationTerms.{declaring, name_rule, alias_rule, method_rule, scope_rule, new_scope, declaration_rule}
-use Rattle.aml_meaning.specs.TargetTerms.{referring, target_of_term, name_target, target_by, target_at, targeted}
-use Rattle.aml_meaning.specs.OperatorTerms.{slot_rule, store_rule, copy_rule, two_rule, divide_rule, one_rule, test_rule, not_rule, count_rule, size_rule, type_rule, acquire_rule, operator_rule}
+use Rattle.aml_meaning.specs.TargetTerms.{name_target, indexed_target, dereferenced_target, target_by_kind, target_of, first_target, part_target, target_by, target_at, targeted}
+use Rattle.aml_meaning.specs.OperatorTerms.{slot_rule, store_rule, copy_rule, two_rule, divide_rule, one_rule, test_rule, not_rule, count_rule, referent_of_value, referent_of_target, referent_by_kind, referent_by, size_rule, type_rule, acquire_rule, reference_rule, dereference_rule, sought_name, sought_target, sought, reference_stored, reference_found, conditional_rule, operator_rule}
 use Rattle.aml_meaning.specs.StatementTerms.{otherwise, branch, if_rule, else_rule, turn_of, turn, loop_end, after_turn, turns, loop, while_rule, return_rule, release_rule, notify_rule, pause_rule, fatal_rule, statement_rule}
 use Rattle.aml_meaning.specs.Invocations.{leaving, invoked, method_value}
 use Rattle.aml_meaning.specs.InvocationTerms.{arguments_in_turn, call_rule, osi_rule, field_rule, invocation_rule, name_value}
-use Rattle.aml_meaning.specs.FieldCalls.{asked, method_integer, answer_over, answer_within, field_read, held_integer, referent_read, completed, stored_to, stored_back}
+use Rattle.aml_meaning.specs.FieldCalls.{asked, method_integer, answer_over, answer_within, field_read, held_value, held_integer, referent_read, completed, stored_to, is_element, back_to, stored_back}
 use Rattle.aml_meaning.specs.FieldTerms.{fields_laid, region_rule, field_list_rule, index_list_rule, region_term_rule}
 use Rattle.aml_meaning.proofs.AgreeFields.{agree_field_value, agree_field_integer, agree_field_part, agree_field_referent, agree_field_stored}
 use Rattle.aml_meaning.specs.Evaluation.{kind_rule, code_rule, rule}
@@ -121,9 +124,17 @@ module _ {S : Type 0} {n : ℕ} (accesses : Accesses S) (ev ew : Task → Run S 
   unfolding stored_to
   agree_stored_to depth p v = agree_bind _ _ _ _ (agree_lift _) (λ s. agree_completed depth s v)
 
+  agree_back_to : (b : Bool) (depth : ℕ) (h : Held) (p : StoreTarget) (v : Value) → Agree n (back_to accesses ev b depth h p v) (back_to accesses ew b depth h p v)
+  agree_back_to true depth h p v = agree_stored_to depth p v
+  agree_back_to false depth (held.Value old) p v = agree_stored_to depth p v
+  agree_back_to false depth (held.FieldUnit u) p v = agree_field_stored accesses _ _ (agree_asked _ _ (agree_answer (32 - depth))) u v
+
   agree_stored_back : (depth : ℕ) (h : Held) (p : StoreTarget) (v : Value) → Agree n (stored_back accesses ev depth h p v) (stored_back accesses ew depth h p v)
-  agree_stored_back depth (held.Value old) p v = agree_stored_to depth p v
-  agree_stored_back depth (held.FieldUnit u) p v = agree_field_stored accesses _ _ (agree_asked _ _ (agree_answer (32 - depth))) u v
+  agree_stored_back depth h p v = agree_back_to (is_element p) depth h p v
+
+  agree_held_value : (depth : ℕ) (h : Held) → Agree n (held_value accesses ev depth h) (held_value accesses ew depth h)
+  agree_held_value depth (held.Value v) = agree_give _
+  agree_held_value depth (held.FieldUnit u) = agree_read depth u
 
   agree_constant : (k : ℕ) → Agree n (constant_rule ev k) (constant_rule ew k)
   unfolding constant_rule
@@ -236,13 +247,39 @@ module _ {S : Type 0} {n : ℕ} (accesses : Accesses S) (ev ew : Task → Run S 
   unfolding two_values
   agree_two_values scope depth t = agree_bind _ _ _ _ (agree_value_at scope depth t 0) (λ v. agree_bind _ _ _ _ (agree_value_at scope depth t 1) (λ u. agree_give _))
 
-  agree_referring : (scope : List Seg) (depth : ℕ) (t : Tree) → Agree n (referring ev scope depth t) (referring ew scope depth t)
-  unfolding referring
-  agree_referring scope depth t = agree_bind _ _ _ _ (parts _) (λ f. agree_stop _)
+  agree_indexed : (scope : List Seg) (depth : ℕ) (t : Tree) → Agree n (indexed_target ev scope depth t) (indexed_target ew scope depth t)
+  unfolding indexed_target
+  agree_indexed scope depth t = agree_bind _ _ _ _ (agree_value scope depth t) (λ v. agree_bind _ _ _ _ (agree_settle _) (λ r. agree_give _))
 
-  agree_target_of_term : (scope : List Seg) (depth : ℕ) (t : Tree) (p : Option StoreTarget) → Agree n (target_of_term ev scope depth t p) (target_of_term ew scope depth t p)
-  agree_target_of_term scope depth t None = agree_referring scope depth t
-  agree_target_of_term scope depth t (Some p) = agree_give _
+  agree_dereferenced : (scope : List Seg) (depth : ℕ) (t : Tree) → Agree n (dereferenced_target ev scope depth t) (dereferenced_target ew scope depth t)
+  unfolding dereferenced_target
+  agree_dereferenced scope depth t = agree_bind _ _ _ _ agree_charge (λ u. agree_bind _ _ _ _ (agree_value_at scope depth t 0) (λ v. agree_bind _ _ _ _ (agree_settle _) (λ r. agree_bind _ _ _ _ (agree_lift _) (λ there. agree_give _))))
+
+  agree_by_kind : (scope : List Seg) (depth : ℕ) (t : Tree) (m k : Run S StoreTarget) (kind : TargetKind) → Agree n m k → Agree n (target_by_kind ev scope depth t m kind) (target_by_kind ew scope depth t k kind)
+  agree_by_kind scope depth t m k target.Nowhere h = agree_give _
+  agree_by_kind scope depth t m k (target.Slot slot) h = agree_give _
+  agree_by_kind scope depth t m k target.RefOf h = agree_bind _ _ _ _ agree_charge (λ u. h)
+  agree_by_kind scope depth t m k target.DerefOf h = agree_dereferenced scope depth t
+  agree_by_kind scope depth t m k target.Index h = agree_indexed scope depth t
+  agree_by_kind scope depth t m k target.Other h = agree_stop _
+
+  mutual
+    unfolding target_of
+
+    agree_target_of : (scope : List Seg) (depth : ℕ) (t : Tree) → Agree n (target_of ev scope depth t) (target_of ew scope depth t)
+    agree_target_of scope depth (term c ps) = agree_by_kind scope depth (term c ps) _ _ (target_kind c) (agree_first scope depth ps)
+
+    agree_first : (scope : List Seg) (depth : ℕ) (ps : Parts) → Agree n (first_target ev scope depth ps) (first_target ew scope depth ps)
+    agree_first scope depth no_parts = agree_stop _
+    agree_first scope depth (part p ps) = agree_part scope depth p
+
+    agree_part : (scope : List Seg) (depth : ℕ) (p : Part) → Agree n (part_target ev scope depth p) (part_target ew scope depth p)
+    agree_part scope depth null = agree_give _
+    agree_part scope depth (name x) = agree_lift _
+    agree_part scope depth (number k) = agree_stop _
+    agree_part scope depth (bytes bs) = agree_stop _
+    agree_part scope depth (inner u) = agree_target_of scope depth u
+    agree_part scope depth (list ts) = agree_stop _
 
   agree_name_target : (scope : List Seg) (t : Tree) (i : ℕ) → Agree n (name_target ev scope t i) (name_target ew scope t i)
   unfolding name_target
@@ -254,7 +291,7 @@ module _ {S : Type 0} {n : ℕ} (accesses : Accesses S) (ev ew : Task → Run S 
   agree_target_by scope depth t i (Some (name x)) = agree_name_target scope t i
   agree_target_by scope depth t i (Some (number k)) = agree_stop _
   agree_target_by scope depth t i (Some (bytes bs)) = agree_stop _
-  agree_target_by scope depth t i (Some (inner u)) = agree_target_of_term scope depth u _
+  agree_target_by scope depth t i (Some (inner u)) = agree_target_of scope depth u
   agree_target_by scope depth t i (Some (list ts)) = agree_stop _
 
   agree_target : (scope : List Seg) (depth : ℕ) (t : Tree) (i : ℕ) → Agree n (target_at ev scope depth t i) (target_at ew scope depth t i)
@@ -300,13 +337,72 @@ module _ {S : Type 0} {n : ℕ} (accesses : Accesses S) (ev ew : Task → Run S 
   unfolding count_rule
   agree_count k scope depth t = agree_bind _ _ _ _ (agree_target scope depth t 0) (λ p. agree_bind _ _ _ _ (agree_lift _) (λ h. agree_bind _ _ _ _ (agree_held depth h) (λ x. agree_bind _ _ _ _ (agree_lift _) (λ r. agree_bind _ _ _ _ (agree_stored_back depth h p r) (λ done. agree_give _)))))
 
+  agree_referent_of_value : (scope : List Seg) (depth : ℕ) (u : Tree) → Agree n (referent_of_value accesses ev scope depth u) (referent_of_value accesses ew scope depth u)
+  unfolding referent_of_value
+  agree_referent_of_value scope depth u = agree_bind _ _ _ _ (agree_value scope depth u) (λ v. agree_lift _)
+
+  agree_referent_of_target : (scope : List Seg) (depth : ℕ) (t : Tree) → Agree n (referent_of_target accesses ev scope depth t) (referent_of_target accesses ew scope depth t)
+  unfolding referent_of_target
+  agree_referent_of_target scope depth t = agree_bind _ _ _ _ (agree_target scope depth t 0) (λ p. agree_lift _)
+
+  agree_referent_by_kind : (scope : List Seg) (depth : ℕ) (t u : Tree) (k : TargetKind) → Agree n (referent_by_kind accesses ev scope depth t u k) (referent_by_kind accesses ew scope depth t u k)
+  agree_referent_by_kind scope depth t u target.RefOf = agree_referent_of_value scope depth u
+  agree_referent_by_kind scope depth t u target.DerefOf = agree_referent_of_value scope depth u
+  agree_referent_by_kind scope depth t u target.Index = agree_referent_of_value scope depth u
+  agree_referent_by_kind scope depth t u target.Nowhere = agree_referent_of_target scope depth t
+  agree_referent_by_kind scope depth t u (target.Slot slot) = agree_referent_of_target scope depth t
+  agree_referent_by_kind scope depth t u target.Other = agree_referent_of_target scope depth t
+
+  agree_referent_by : (scope : List Seg) (depth : ℕ) (t : Tree) (o : Option Part) → Agree n (referent_by accesses ev scope depth t o) (referent_by accesses ew scope depth t o)
+  agree_referent_by scope depth t None = agree_referent_of_target scope depth t
+  agree_referent_by scope depth t (Some null) = agree_referent_of_target scope depth t
+  agree_referent_by scope depth t (Some (name x)) = agree_referent_of_target scope depth t
+  agree_referent_by scope depth t (Some (number k)) = agree_referent_of_target scope depth t
+  agree_referent_by scope depth t (Some (bytes bs)) = agree_referent_of_target scope depth t
+  agree_referent_by scope depth t (Some (inner u)) = agree_referent_by_kind scope depth t u _
+  agree_referent_by scope depth t (Some (list ts)) = agree_referent_of_target scope depth t
+
   agree_size : (scope : List Seg) (depth : ℕ) (t : Tree) → Agree n (size_rule accesses ev scope depth t) (size_rule accesses ew scope depth t)
   unfolding size_rule
-  agree_size scope depth t = agree_bind _ _ _ _ (agree_target scope depth t 0) (λ p. agree_bind _ _ _ _ (agree_lift _) (λ r. agree_bind _ _ _ _ (agree_referent_read depth r) (λ s. agree_bind _ _ _ _ (agree_lift _) (λ v. agree_give _))))
+  agree_size scope depth t = agree_bind _ _ _ _ (agree_referent_by scope depth t _) (λ r. agree_bind _ _ _ _ (agree_referent_read depth r) (λ s. agree_bind _ _ _ _ (agree_lift _) (λ v. agree_give _)))
 
   agree_type : (scope : List Seg) (depth : ℕ) (t : Tree) → Agree n (type_rule accesses ev scope depth t) (type_rule accesses ew scope depth t)
   unfolding type_rule
-  agree_type scope depth t = agree_bind _ _ _ _ (agree_target scope depth t 0) (λ p. agree_bind _ _ _ _ (agree_lift _) (λ r. agree_bind _ _ _ _ (agree_referent_read depth r) (λ s. agree_give _)))
+  agree_type scope depth t = agree_bind _ _ _ _ (agree_referent_by scope depth t _) (λ r. agree_bind _ _ _ _ (agree_referent_read depth r) (λ s. agree_give _))
+
+  agree_reference : (scope : List Seg) (depth : ℕ) (t : Tree) → Agree n (reference_rule accesses ev scope depth t) (reference_rule accesses ew scope depth t)
+  unfolding reference_rule
+  agree_reference scope depth t = agree_bind _ _ _ _ (agree_target scope depth t 0) (λ p. agree_bind _ _ _ _ (agree_lift _) (λ r. agree_give _))
+
+  agree_dereference : (scope : List Seg) (depth : ℕ) (t : Tree) → Agree n (dereference_rule accesses ev scope depth t) (dereference_rule accesses ew scope depth t)
+  unfolding dereference_rule
+  agree_dereference scope depth t = agree_bind _ _ _ _ (agree_value_at scope depth t 0) (λ v. agree_bind _ _ _ _ (agree_settle _) (λ r. agree_bind _ _ _ _ (agree_lift _) (λ h. agree_bind _ _ _ _ (agree_held_value depth h) (λ x. agree_give _))))
+
+  agree_sought_name : (scope : List Seg) (t : Tree) → Agree n (sought_name accesses ev scope t) (sought_name accesses ew scope t)
+  unfolding sought_name
+  agree_sought_name scope t = agree_bind _ _ _ _ (agree_settle _) (λ x. agree_lift _)
+
+  agree_sought_target : (scope : List Seg) (depth : ℕ) (t : Tree) → Agree n (sought_target accesses ev scope depth t) (sought_target accesses ew scope depth t)
+  unfolding sought_target
+  agree_sought_target scope depth t = agree_bind _ _ _ _ (agree_target scope depth t 0) (λ p. agree_bind _ _ _ _ (agree_lift _) (λ r. agree_lift _))
+
+  agree_sought : (scope : List Seg) (depth : ℕ) (t : Tree) (o : Option Part) → Agree n (sought accesses ev scope depth t o) (sought accesses ew scope depth t o)
+  agree_sought scope depth t None = agree_sought_target scope depth t
+  agree_sought scope depth t (Some null) = agree_sought_target scope depth t
+  agree_sought scope depth t (Some (name x)) = agree_sought_name scope t
+  agree_sought scope depth t (Some (number k)) = agree_sought_target scope depth t
+  agree_sought scope depth t (Some (bytes bs)) = agree_sought_target scope depth t
+  agree_sought scope depth t (Some (inner u)) = agree_sought_target scope depth t
+  agree_sought scope depth t (Some (list ts)) = agree_sought_target scope depth t
+
+  agree_reference_found : (scope : List Seg) (depth : ℕ) (t : Tree) (o : Option Reference) → Agree n (reference_found accesses ev scope depth t o) (reference_found accesses ew scope depth t o)
+  unfolding reference_stored
+  agree_reference_found scope depth t None = agree_give _
+  agree_reference_found scope depth t (Some r) = agree_bind _ _ _ _ (agree_targeted scope depth t 1 _) (λ done. agree_bind _ _ _ _ (agree_lift _) (λ v. agree_give _))
+
+  agree_conditional : (scope : List Seg) (depth : ℕ) (t : Tree) → Agree n (conditional_rule accesses ev scope depth t) (conditional_rule accesses ew scope depth t)
+  unfolding conditional_rule
+  agree_conditional scope depth t = agree_bind _ _ _ _ (agree_sought scope depth t _) (λ o. agree_reference_found scope depth t o)
 
   agree_acquire : (scope : List Seg) (depth : ℕ) (t : Tree) → Agree n (acquire_rule accesses ev scope depth t) (acquire_rule accesses ew scope depth t)
   unfolding acquire_rule
@@ -325,6 +421,9 @@ module _ {S : Type 0} {n : ℕ} (accesses : Accesses S) (ev ew : Task → Run S 
   agree_operator operators.SizeOf scope depth t = agree_size scope depth t
   agree_operator operators.ObjectType scope depth t = agree_type scope depth t
   agree_operator operators.Acquire scope depth t = agree_acquire scope depth t
+  agree_operator operators.RefOf scope depth t = agree_reference scope depth t
+  agree_operator operators.CondRefOf scope depth t = agree_conditional scope depth t
+  agree_operator operators.DerefOf scope depth t = agree_dereference scope depth t
 
   -- ---- statements
 

@@ -9,3 +9,4 @@ pub mod Lifted
 pub mod Loops
 pub mod Meanings
 pub mod Runs
+pub mod TargetKinds

@@ -1,5 +1,5 @@
 -- Field units where terms read them and store to them. The objects of an address (`_SEG`, `_BBN`, `_ADR`) are called, one call deeper.
-use Rattle.std.specs.Prelude.{ℕ, zero, suc, ◌-◌, List, []}
+use Rattle.std.specs.Prelude.{ℕ, zero, suc, ◌-◌, List, [], Bool, true, false}
 use Rattle.ar_space.specs.declared.refusal.Refusal.TheVariants as refusal
 use Rattle.ar_space.specs.declared.refusal.EvaluationFault.TheVariants.{CallDepth}
 use Rattle.ar_space.specs.declared.refusal.ValueFault.TheVariants.{WrongType}
@@ -13,7 +13,9 @@ use Rattle.aml_meaning.specs.declared.invocation.Invocation.{Invocation}
 use Rattle.aml_meaning.specs.declared.invocation.Invocation.TheVariants as invocation
 use Rattle.aml_meaning.specs.declared.object_type.Referent.{Referent}
 use Rattle.aml_meaning.specs.declared.object_type.Referent.TheVariants as referent
+use Rattle.aml_objects.specs.declared.value.Reference.TheVariants as reference
 use Rattle.aml_meaning.specs.declared.store_target.StoreTarget.{StoreTarget}
+use Rattle.aml_meaning.specs.declared.store_target.StoreTarget.TheVariants as targets
 use Rattle.aml_meaning.specs.declared.store_target.Held.{Held}
 use Rattle.aml_meaning.specs.declared.store_target.Held.TheVariants as held
 use Rattle.aml_meaning.specs.declared.store_target.Stored.{Stored}
@@ -32,6 +34,16 @@ unfoldable pub asked : {S : Type 0} → (Invocation → Run S ℕ) → List Seg 
 asked answer p = do
   i ← lift (invocation_found [] (absolute p) 0)
   answer i
+
+-- whether a target is an element of a package
+abbrev pub is_element : StoreTarget → Bool
+is_element (targets.Refers (reference.Element o i)) = true
+is_element (targets.Refers (reference.Name n)) = false
+is_element (targets.Refers (reference.Slot n slot)) = false
+is_element (targets.Refers (reference.Byte o i)) = false
+is_element targets.Nowhere = false
+is_element (targets.Slot slot) = false
+is_element (targets.Name p) = false
 
 module _ {S : Type 0} (accesses : Accesses S) (ev : Task → Run S Flow) where
   unfoldable pub method_integer : ℕ → List Seg → List ℕ → Run S ℕ
@@ -84,7 +96,17 @@ module _ {S : Type 0} (accesses : Accesses S) (ev : Task → Run S Flow) where
     s ← lift (stored p v)
     completed depth s v
 
-  -- a store to a target whose value was read before; a field unit that was read is the one that is written
+  -- what a target holds, as a value
+  abbrev pub held_value : ℕ → Held → Run S Value
+  held_value depth (held.Value v) = give v
+  held_value depth (held.FieldUnit u) = field_read depth u
+
+  -- a store to a target whose value was read before; a field unit that was read is the one that is written, unless an element of a
+  -- package named it: then the element is replaced
+  abbrev pub back_to : Bool → ℕ → Held → StoreTarget → Value → Run S (Unit {0})
+  back_to true depth h p v = stored_to depth p v
+  back_to false depth (held.Value old) p v = stored_to depth p v
+  back_to false depth (held.FieldUnit u) p v = field_written depth u v
+
   abbrev pub stored_back : ℕ → Held → StoreTarget → Value → Run S (Unit {0})
-  stored_back depth (held.Value old) p v = stored_to depth p v
-  stored_back depth (held.FieldUnit u) p v = field_written depth u v
+  stored_back depth h p v = back_to (is_element p) depth h p v

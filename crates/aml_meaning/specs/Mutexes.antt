@@ -14,7 +14,10 @@ use Rattle.aml_objects.specs.declared.entry.NamedObject.TheVariants as object
 use Rattle.aml_namespace.specs.Namespace.{replaced}
 use Rattle.aml_meaning.specs.declared.store_target.StoreTarget.{StoreTarget}
 use Rattle.aml_meaning.specs.declared.store_target.StoreTarget.TheVariants as targets
+use Rattle.aml_objects.specs.declared.value.Reference.{Reference}
+use Rattle.aml_objects.specs.declared.value.Reference.TheVariants as reference
 use Rattle.aml_meaning.specs.State.{State, on_names}
+use Rattle.aml_meaning.specs.StoreTargets.{declaration}
 
 -- how often a mutex is acquired
 abbrev pub count_of_object : NamedObject → Outcome ℕ
@@ -46,13 +49,37 @@ given_back p = do
   m ← settle (once_less n)
   on_names (replaced p (object.Mutex m))
 
--- a mutex is given by its own name
+-- a mutex is given by its own name, or by a reference to its declaration
+unfoldable pub acquired_by_number : {S : Type 0} → ℕ → Change (State S) (Unit {0})
+acquired_by_number n = do
+  e ← declaration n
+  acquired e.0
+
+unfoldable pub given_back_by_number : {S : Type 0} → ℕ → Change (State S) (Unit {0})
+given_back_by_number n = do
+  e ← declaration n
+  given_back e.0
+
+abbrev pub acquired_by : {S : Type 0} → Reference → Change (State S) (Unit {0})
+acquired_by (reference.Name n) = acquired_by_number n
+acquired_by (reference.Slot n slot) = stop (refusal.Value WrongType)
+acquired_by (reference.Element o i) = stop (refusal.Value WrongType)
+acquired_by (reference.Byte o i) = stop (refusal.Value WrongType)
+
+abbrev pub given_back_by : {S : Type 0} → Reference → Change (State S) (Unit {0})
+given_back_by (reference.Name n) = given_back_by_number n
+given_back_by (reference.Slot n slot) = stop (refusal.Value WrongType)
+given_back_by (reference.Element o i) = stop (refusal.Value WrongType)
+given_back_by (reference.Byte o i) = stop (refusal.Value WrongType)
+
 abbrev pub acquired_at : {S : Type 0} → StoreTarget → Change (State S) (Unit {0})
 acquired_at targets.Nowhere = stop (refusal.Value WrongType)
 acquired_at (targets.Slot slot) = stop (refusal.Value WrongType)
 acquired_at (targets.Name p) = acquired p
+acquired_at (targets.Refers r) = acquired_by r
 
 abbrev pub given_back_at : {S : Type 0} → StoreTarget → Change (State S) (Unit {0})
 given_back_at targets.Nowhere = stop (refusal.Value WrongType)
 given_back_at (targets.Slot slot) = stop (refusal.Value WrongType)
 given_back_at (targets.Name p) = given_back p
+given_back_at (targets.Refers r) = given_back_by r

@@ -1,9 +1,9 @@
 -- Operators over the values of a world (ACPI 6.5, 19.6).
-use Rattle.std.specs.Prelude.{ℕ, ◌+◌, ◌-◌, ◌^◌, List, length, Bool, Option, Some, None, Ok, Err, slice_get}
+use Rattle.std.specs.Prelude.{ℕ, ◌+◌, ◌-◌, ◌^◌, List, length, Bool, Option, Some, None, Ok, Err, slice_get, nat_lt, if◌then◌else◌}
 use Rattle.std.specs.declared.cmp.Ordering.{Ordering}
 use Rattle.ar_space.specs.declared.integer_width.IntegerWidth.{IntegerWidth}
 use Rattle.ar_space.specs.declared.refusal.Refusal.TheVariants as refusal
-use Rattle.ar_space.specs.declared.refusal.EvaluationFault.TheVariants.{NoValue}
+use Rattle.ar_space.specs.declared.refusal.EvaluationFault.TheVariants.{NoValue, IndexLimit}
 use Rattle.ar_space.specs.declared.refusal.ValueFault.TheVariants.{WrongType}
 use Rattle.ar_space.specs.Outcome.{Outcome, seen}
 use Rattle.ar_space.specs.Change.{Change, give, stop, settle, ◌>>=◌}
@@ -14,6 +14,8 @@ use Rattle.aml_objects.specs.declared.object.Object.{Object}
 use Rattle.aml_objects.specs.declared.object.Object.TheVariants as object
 use Rattle.aml_objects.specs.declared.value.Value.{Value}
 use Rattle.aml_objects.specs.declared.value.Value.TheVariants as value
+use Rattle.aml_objects.specs.declared.value.Reference.{Reference}
+use Rattle.aml_objects.specs.declared.value.Reference.TheVariants as reference
 use Rattle.aml_convert.specs.Integers.{bits_of, truncated, truth}
 use Rattle.aml_convert.specs.Conversions.{explicit_integer_of, to_buffer_of, compared}
 use Rattle.aml_convert.specs.Operators.{result_of, unary_result_of, logical_result_of, negated, holds, divided}
@@ -160,6 +162,38 @@ size_of_referent objects (referent.Bytes n) = Ok n
 
 unfoldable pub size_in : {S : Type 0} → Referent → Change (State S) Value
 size_in r w = (as_integer (size_of_referent w.objects r), w)
+
+-- ---- Index
+
+-- a reference that an index gives, where it is below a count
+abbrev pub below : ℕ → ℕ → Reference → Outcome Value
+below n i r = if nat_lt i n then Ok (value.Reference r) else Err (refusal.Evaluation IndexLimit)
+
+-- a reference to an element of a package, or to a byte of a string or a buffer
+unfoldable pub size_held : {S : Type 0} → Value → Change (State S) ℕ
+size_held v w = (size_of_value w.objects v, w)
+
+unfoldable pub element_indexed : {S : Type 0} → ℕ → Value → Change (State S) Value
+element_indexed o u = do
+  i ← integer_in u
+  n ← size_held (value.Package o)
+  settle (below n i (reference.Element o i))
+
+unfoldable pub byte_indexed : {S : Type 0} → Value → ℕ → Value → Change (State S) Value
+byte_indexed v o u = do
+  i ← integer_in u
+  n ← size_held v
+  settle (below n i (reference.Byte o i))
+
+abbrev pub indexed : {S : Type 0} → Value → Value → Change (State S) Value
+indexed (value.Package o) u = element_indexed o u
+indexed (value.String o) u = byte_indexed (value.String o) o u
+indexed (value.Buffer o) u = byte_indexed (value.Buffer o) o u
+indexed value.Uninitialized u = stop (refusal.Value WrongType)
+indexed (value.Integer n) u = stop (refusal.Value WrongType)
+indexed (value.Reference r) u = stop (refusal.Value WrongType)
+
+-- ---- ObjectType
 
 abbrev pub type_number : ObjectType → ℕ
 type_number types.Uninitialized = 0

@@ -1,15 +1,20 @@
 -- Terms that have a value: operators, stores, and what is asked of objects (ACPI 6.5, 19.6). Operands are evaluated first, then the
 -- value is formed, and then it is stored to the targets.
-use Rattle.std.specs.Prelude.{ℕ, List}
+use Rattle.std.specs.Prelude.{ℕ, List, Option, Some, None}
 use Rattle.ar_space.specs.Accesses.{Accesses}
 use Rattle.ar_space.specs.Change.{Change, give, settle, ◌>>=◌}
 use Rattle.aml_path.specs.declared.segment.Seg.{Seg}
-use Rattle.aml_grammar.specs.Tree.{Tree}
+use Rattle.aml_grammar.specs.Tree.{Tree, Part, null, name, number, bytes, inner, list}
+use Rattle.aml_grammar.specs.Apart.{code_of, operand_of, name_of}
 use Rattle.aml_objects.specs.declared.value.Value.{Value}
 use Rattle.aml_objects.specs.declared.value.Value.TheVariants as value
 use Rattle.aml_meaning.specs.declared.flow.Flow.{Flow}
 use Rattle.aml_meaning.specs.declared.flow.Flow.TheVariants as flow
 use Rattle.aml_meaning.specs.declared.store_target.StoreTarget.{StoreTarget}
+use Rattle.aml_meaning.specs.declared.store_target.TargetKind.{TargetKind}
+use Rattle.aml_meaning.specs.declared.store_target.TargetKind.TheVariants as targets
+use Rattle.aml_meaning.specs.declared.object_type.Referent.{Referent}
+use Rattle.aml_objects.specs.declared.value.Reference.{Reference}
 use Rattle.aml_objects.specs.declared.value.Slot.{Slot}
 use Rattle.aml_meaning.specs.declared.term_kind.OperatorKind.{OperatorKind}
 use Rattle.aml_meaning.specs.declared.term_kind.OperatorKind.TheVariants as kinds
@@ -23,13 +28,15 @@ use Rattle.aml_meaning.specs.declared.term_kind.Count.{Count}
 use Rattle.aml_meaning.specs.declared.term_kind.Count.TheVariants as count
 use Rattle.aml_meaning.specs.State.{State}
 use Rattle.aml_meaning.specs.Run.{Run, lift}
-use Rattle.aml_meaning.specs.StoreTargets.{slot_read, target_read, target_referent}
+use Rattle.aml_meaning.specs.Terms.{target_kind}
+use Rattle.aml_meaning.specs.Readings.{integer_kept}
+use Rattle.aml_meaning.specs.StoreTargets.{slot_read, dereferenced, target_read, reference_of, if_initialized, reference_if_found, value_followed, followed, most_references, target_referent}
 use Rattle.aml_meaning.specs.Stores.{copied_to}
 use Rattle.aml_meaning.specs.Mutexes.{acquired_at}
-use Rattle.aml_meaning.specs.Operations.{operated, divided_in, operated_on_one, operated_logically, turned, next_integer, integer_before, compared_in, joined, joined_resources, to_integer_in, to_buffer_in, size_in, type_of_referent, type_number}
-use Rattle.aml_meaning.specs.Tasks.{Task, value_at, two_values}
-use Rattle.aml_meaning.specs.TargetTerms.{target_at, targeted}
-use Rattle.aml_meaning.specs.FieldCalls.{completed, held_integer, referent_read, stored_back}
+use Rattle.aml_meaning.specs.Operations.{operated, divided_in, operated_on_one, operated_logically, turned, next_integer, integer_before, compared_in, joined, joined_resources, indexed, to_integer_in, to_buffer_in, size_in, type_of_referent, type_number}
+use Rattle.aml_meaning.specs.Tasks.{Task, operand_value, value_at, two_values}
+use Rattle.aml_meaning.specs.TargetTerms.{reference_in, target_at, targeted}
+use Rattle.aml_meaning.specs.FieldCalls.{completed, held_value, held_integer, referent_read, stored_back}
 
 -- ---- what operators give of values
 
@@ -37,6 +44,7 @@ abbrev pub result_of_two : {S : Type 0} → TwoOperands → Value → Value → 
 result_of_two (two.Integers op) v u = operated op v u
 result_of_two two.Concatenate v u = joined v u
 result_of_two two.ConcatenateResources v u = joined_resources v u
+result_of_two two.Index v u = indexed v u
 
 abbrev pub result_of_one : {S : Type 0} → OneOperand → Value → Change (State S) Value
 result_of_one (one.Integer op) v = operated_on_one op v
@@ -113,18 +121,47 @@ module _ {S : Type 0} (accesses : Accesses S) (ev : Task → Run S Flow) where
     done ← stored_back accesses ev depth h p r
     give (flow.Value r)
 
+  -- what the operand of SizeOf and ObjectType refers to in the end: of a term that refers, what its value does
+  unfoldable pub referent_of_value : List Seg → ℕ → Tree → Run S Referent
+  referent_of_value scope depth u = do
+    v ← operand_value ev scope depth u
+    lift (value_followed (followed most_references) v)
+
+  unfoldable pub referent_of_target : List Seg → ℕ → Tree → Run S Referent
+  referent_of_target scope depth t = do
+    p ← target_at ev scope depth t 0
+    lift (target_referent p)
+
+  abbrev pub referent_by_kind : List Seg → ℕ → Tree → Tree → TargetKind → Run S Referent
+  referent_by_kind scope depth t u targets.RefOf = referent_of_value scope depth u
+  referent_by_kind scope depth t u targets.DerefOf = referent_of_value scope depth u
+  referent_by_kind scope depth t u targets.Index = referent_of_value scope depth u
+  referent_by_kind scope depth t u targets.Nowhere = referent_of_target scope depth t
+  referent_by_kind scope depth t u (targets.Slot slot) = referent_of_target scope depth t
+  referent_by_kind scope depth t u targets.Other = referent_of_target scope depth t
+
+  abbrev pub referent_by : List Seg → ℕ → Tree → Option Part → Run S Referent
+  referent_by scope depth t None = referent_of_target scope depth t
+  referent_by scope depth t (Some null) = referent_of_target scope depth t
+  referent_by scope depth t (Some (name n)) = referent_of_target scope depth t
+  referent_by scope depth t (Some (number n)) = referent_of_target scope depth t
+  referent_by scope depth t (Some (bytes bs)) = referent_of_target scope depth t
+  referent_by scope depth t (Some (inner u)) = referent_by_kind scope depth t u (target_kind (code_of u))
+  referent_by scope depth t (Some (list ts)) = referent_of_target scope depth t
+
+  abbrev pub referent_at : List Seg → ℕ → Tree → Run S Referent
+  referent_at scope depth t = referent_by scope depth t (operand_of t 0)
+
   unfoldable pub size_rule : List Seg → ℕ → Tree → Run S Flow
   size_rule scope depth t = do
-    p ← target_at ev scope depth t 0
-    r ← lift (target_referent p)
+    r ← referent_at scope depth t
     s ← referent_read accesses ev depth r
     v ← lift (size_in s)
     give (flow.Value v)
 
   unfoldable pub type_rule : List Seg → ℕ → Tree → Run S Flow
   type_rule scope depth t = do
-    p ← target_at ev scope depth t 0
-    r ← lift (target_referent p)
+    r ← referent_at scope depth t
     s ← referent_read accesses ev depth r
     give (flow.Value (value.Integer (type_number (type_of_referent s))))
 
@@ -134,6 +171,59 @@ module _ {S : Type 0} (accesses : Accesses S) (ev : Task → Run S Flow) where
     p ← target_at ev scope depth t 0
     done ← lift (acquired_at p)
     give (flow.Value (value.Integer 0))
+
+  -- RefOf: a reference to what its operand names, which is not read
+  unfoldable pub reference_rule : List Seg → ℕ → Tree → Run S Flow
+  reference_rule scope depth t = do
+    p ← target_at ev scope depth t 0
+    r ← lift (reference_of p)
+    give (flow.Value (value.Reference r))
+
+  -- DerefOf: what its operand refers to, one step on
+  unfoldable pub dereference_rule : List Seg → ℕ → Tree → Run S Flow
+  dereference_rule scope depth t = do
+    v ← value_at ev scope depth t 0
+    r ← settle (reference_in v)
+    h ← lift (dereferenced r)
+    x ← held_value accesses ev depth h
+    give (flow.Value x)
+
+  -- CondRefOf: a reference to a name that is found, or to what holds a value
+  unfoldable pub sought_name : List Seg → Tree → Run S (Option Reference)
+  sought_name scope t = do
+    n ← settle (name_of (operand_of t 0))
+    lift (reference_if_found scope n)
+
+  unfoldable pub sought_target : List Seg → ℕ → Tree → Run S (Option Reference)
+  sought_target scope depth t = do
+    p ← target_at ev scope depth t 0
+    r ← lift (reference_of p)
+    lift (if_initialized r)
+
+  abbrev pub sought : List Seg → ℕ → Tree → Option Part → Run S (Option Reference)
+  sought scope depth t None = sought_target scope depth t
+  sought scope depth t (Some null) = sought_target scope depth t
+  sought scope depth t (Some (name n)) = sought_name scope t
+  sought scope depth t (Some (number n)) = sought_target scope depth t
+  sought scope depth t (Some (bytes bs)) = sought_target scope depth t
+  sought scope depth t (Some (inner u)) = sought_target scope depth t
+  sought scope depth t (Some (list ts)) = sought_target scope depth t
+
+  unfoldable pub reference_stored : List Seg → ℕ → Tree → Reference → Run S Flow
+  reference_stored scope depth t r = do
+    done ← targeted accesses ev scope depth t 1 (value.Reference r)
+    v ← lift (integer_kept 18446744073709551615)
+    give (flow.Value v)
+
+  -- it is stored and gives True, or nothing is stored and it gives False
+  abbrev pub reference_found : List Seg → ℕ → Tree → Option Reference → Run S Flow
+  reference_found scope depth t None = give (flow.Value (value.Integer 0))
+  reference_found scope depth t (Some r) = reference_stored scope depth t r
+
+  unfoldable pub conditional_rule : List Seg → ℕ → Tree → Run S Flow
+  conditional_rule scope depth t = do
+    o ← sought scope depth t (operand_of t 0)
+    reference_found scope depth t o
 
   abbrev pub operator_rule : OperatorKind → List Seg → ℕ → Tree → Run S Flow
   operator_rule (kinds.Slot slot) scope depth t = slot_rule slot
@@ -148,3 +238,6 @@ module _ {S : Type 0} (accesses : Accesses S) (ev : Task → Run S Flow) where
   operator_rule kinds.SizeOf scope depth t = size_rule scope depth t
   operator_rule kinds.ObjectType scope depth t = type_rule scope depth t
   operator_rule kinds.Acquire scope depth t = acquire_rule scope depth t
+  operator_rule kinds.RefOf scope depth t = reference_rule scope depth t
+  operator_rule kinds.CondRefOf scope depth t = conditional_rule scope depth t
+  operator_rule kinds.DerefOf scope depth t = dereference_rule scope depth t

@@ -5,7 +5,7 @@ use Rattle.ar_space.specs.declared.refusal.Refusal.TheVariants as refusal
 use Rattle.ar_space.specs.declared.refusal.EvaluationFault.TheVariants.{DeadReference, NoValue, Unsupported}
 use Rattle.ar_space.specs.declared.refusal.NamespaceFault.TheVariants.{NotFound}
 use Rattle.ar_space.specs.declared.refusal.ValueFault.TheVariants.{WrongType}
-use Rattle.ar_space.specs.Outcome.{Outcome}
+use Rattle.ar_space.specs.Outcome.{Outcome, seen}
 use Rattle.ar_space.specs.Change.{Change, give, stop, settle, ◌>>=◌}
 use Rattle.aml_path.specs.declared.segment.Seg.{Seg}
 use Rattle.aml_path.specs.Paths.{Name}
@@ -19,8 +19,9 @@ use Rattle.aml_objects.specs.declared.object.Element.TheVariants as element
 use Rattle.aml_objects.specs.declared.entry.Entry.{Entry}
 use Rattle.aml_objects.specs.declared.entry.NamedObject.{NamedObject}
 use Rattle.aml_objects.specs.declared.entry.NamedObject.TheVariants as object
-use Rattle.aml_objects.specs.Objects.{element_at, byte_at}
+use Rattle.aml_objects.specs.Objects.{element_there, element_at, byte_at}
 use Rattle.aml_namespace.specs.Namespace.{numbered}
+use Rattle.aml_namespace.specs.Search.{found}
 use Rattle.aml_meaning.specs.declared.frame.Frame.{Frame}
 use Rattle.aml_meaning.specs.declared.store_target.StoreTarget.{StoreTarget}
 use Rattle.aml_meaning.specs.declared.store_target.StoreTarget.TheVariants as targets
@@ -93,6 +94,94 @@ slot_read slot = do
   v ← own_slot slot
   settle (initialized v)
 
+-- ---- what a reference refers to
+
+-- the declaration with a number, while it stands
+abbrev pub or_gone : Option (List Seg × Entry) → Outcome (List Seg × Entry)
+or_gone None = Err (refusal.Evaluation DeadReference)
+or_gone (Some e) = Ok e
+
+unfoldable pub declaration : {S : Type 0} → ℕ → Change (State S) (List Seg × Entry)
+declaration n w = (or_gone (numbered n w.names.map), w)
+
+-- what it refers to still stands: a name, a frame, an element of a package, a byte of a string or a buffer
+unfoldable pub name_tested : {S : Type 0} → ℕ → Change (State S) (Unit {0})
+name_tested n = do
+  e ← declaration n
+  give tt
+
+unfoldable pub frame_tested : {S : Type 0} → ℕ → Change (State S) (Unit {0})
+frame_tested n = do
+  k ← frame_found n
+  give tt
+
+unfoldable pub byte_tested : {S : Type 0} → ℕ → ℕ → Change (State S) (Unit {0})
+byte_tested o i = do
+  b ← on_objects (byte_at o i)
+  give tt
+
+abbrev pub tested : {S : Type 0} → Reference → Change (State S) (Unit {0})
+tested (reference.Name n) = name_tested n
+tested (reference.Slot n slot) = frame_tested n
+tested (reference.Element o i) = on_objects (element_there o i)
+tested (reference.Byte o i) = byte_tested o i
+
+-- what a name holds, one step on: a reference that it holds is the value, and a name without a value is a reference to it again
+abbrev pub once : ℕ → NamedObject → Outcome Held
+once n (object.Data v) = Ok (held.Value v)
+once n (object.FieldUnit u) = Ok (held.FieldUnit u)
+once n (object.BufferField b) = Err (refusal.Evaluation (Unsupported 0x5B13))
+once n _ = Ok (held.Value (value.Reference (reference.Name n)))
+
+unfoldable pub declared_once : {S : Type 0} → ℕ → Change (State S) Held
+declared_once n = do
+  e ← declaration n
+  settle (once n e.1.object)
+
+unfoldable pub value_once : {S : Type 0} → Value → Change (State S) Held
+value_once v = do
+  x ← settle (initialized v)
+  give (held.Value x)
+
+unfoldable pub slot_once : {S : Type 0} → ℕ → Slot → Change (State S) Held
+slot_once n slot = do
+  k ← frame_found n
+  v ← slot_held k slot
+  value_once v
+
+-- a name in a package is searched for at each use: its data or its field, and else a reference to it
+abbrev pub named_once : ℕ → NamedObject → Outcome Held
+named_once n (object.Data v) = Ok (held.Value (read_as n v))
+named_once n (object.FieldUnit u) = Ok (held.FieldUnit u)
+named_once n (object.BufferField b) = Err (refusal.Evaluation (Unsupported 0x5B13))
+named_once n _ = Ok (held.Value (value.Reference (reference.Name n)))
+
+unfoldable pub name_once : {S : Type 0} → Name → List Seg → Change (State S) Held
+name_once n scope = do
+  e ← entry_found scope n
+  settle (named_once e.number e.object)
+
+abbrev pub element_once : {S : Type 0} → Element → Change (State S) Held
+element_once (element.Value v) = value_once v
+element_once (element.Name n scope) = name_once n scope
+
+unfoldable pub held_once : {S : Type 0} → ℕ → ℕ → Change (State S) Held
+held_once o i = do
+  e ← on_objects (element_at o i)
+  element_once e
+
+unfoldable pub byte_once : {S : Type 0} → ℕ → ℕ → Change (State S) Held
+byte_once o i = do
+  b ← on_objects (byte_at o i)
+  give (held.Value (value.Integer b))
+
+-- what a reference refers to, one step on (DerefOf)
+abbrev pub dereferenced : {S : Type 0} → Reference → Change (State S) Held
+dereferenced (reference.Name n) = declared_once n
+dereferenced (reference.Slot n slot) = slot_once n slot
+dereferenced (reference.Element o i) = held_once o i
+dereferenced (reference.Byte o i) = byte_once o i
+
 -- ---- what a target holds (Increment and Decrement read there and store there)
 
 abbrev pub held_in : Holding → Outcome Held
@@ -115,6 +204,80 @@ abbrev pub target_read : {S : Type 0} → StoreTarget → Change (State S) Held
 target_read targets.Nowhere = stop (refusal.Value WrongType)
 target_read (targets.Slot slot) = held_in_slot slot
 target_read (targets.Name p) = name_read p
+target_read (targets.Refers r) = dereferenced r
+
+-- ---- references to targets (RefOf, CondRefOf)
+
+abbrev pub number_in_frame : Option Frame → Outcome ℕ
+number_in_frame None = Err (refusal.Evaluation DeadReference)
+number_in_frame (Some f) = Ok f.number
+
+unfoldable pub frame_number : {S : Type 0} → ℕ → Change (State S) ℕ
+frame_number k w = (number_in_frame (slice_get w.frames k), w)
+
+unfoldable pub slot_reference : {S : Type 0} → Slot → Change (State S) Reference
+slot_reference slot = do
+  k ← latest_frame
+  n ← frame_number k
+  give (reference.Slot n slot)
+
+abbrev pub number_in_entry : Option Entry → Outcome ℕ
+number_in_entry None = Err (refusal.Namespace NotFound)
+number_in_entry (Some e) = Ok e.number
+
+unfoldable pub declared_number : {S : Type 0} → List Seg → Change (State S) ℕ
+declared_number p w = (number_in_entry (get w.names.map p), w)
+
+unfoldable pub name_reference : {S : Type 0} → List Seg → Change (State S) Reference
+name_reference p = do
+  n ← declared_number p
+  give (reference.Name n)
+
+-- a reference to what a target names; Debug has none
+abbrev pub reference_of : {S : Type 0} → StoreTarget → Change (State S) Reference
+reference_of targets.Nowhere = stop (refusal.Value WrongType)
+reference_of (targets.Slot slot) = slot_reference slot
+reference_of (targets.Name p) = name_reference p
+reference_of (targets.Refers r) = give r
+
+-- a reference, unless what it refers to holds no value yet
+abbrev pub unless_empty : Value → Reference → Option Reference
+unless_empty value.Uninitialized r = None
+unless_empty (value.Integer n) r = Some r
+unless_empty (value.String o) r = Some r
+unless_empty (value.Buffer o) r = Some r
+unless_empty (value.Package o) r = Some r
+unless_empty (value.Reference x) r = Some r
+
+unfoldable pub slot_initialized : {S : Type 0} → ℕ → Slot → Change (State S) (Option Reference)
+slot_initialized n slot = do
+  k ← frame_found n
+  v ← slot_held k slot
+  give (unless_empty v (reference.Slot n slot))
+
+abbrev pub unless_empty_element : Element → Reference → Option Reference
+unless_empty_element (element.Value v) r = unless_empty v r
+unless_empty_element (element.Name n scope) r = Some r
+
+unfoldable pub element_initialized : {S : Type 0} → ℕ → ℕ → Change (State S) (Option Reference)
+element_initialized o i = do
+  e ← on_objects (element_at o i)
+  give (unless_empty_element e (reference.Element o i))
+
+abbrev pub if_initialized : {S : Type 0} → Reference → Change (State S) (Option Reference)
+if_initialized (reference.Name n) = give (Some (reference.Name n))
+if_initialized (reference.Slot n slot) = slot_initialized n slot
+if_initialized (reference.Element o i) = element_initialized o i
+if_initialized (reference.Byte o i) = give (Some (reference.Byte o i))
+
+-- a reference to the name that is found; none where it isn't, and any other refusal stays
+abbrev pub where_found : Outcome Entry → Outcome (Option Reference)
+where_found (Ok e) = Ok (Some (reference.Name e.number))
+where_found (Err (refusal.Namespace NotFound)) = Ok None
+where_found (Err e) = Err e
+
+unfoldable pub reference_if_found : {S : Type 0} → List Seg → Name → Change (State S) (Option Reference)
+reference_if_found scope n w = (where_found (seen (λ f. f.1) (found w.names.map scope n)), w)
 
 -- ---- what a reference refers to in the end (SizeOf and ObjectType)
 
@@ -133,14 +296,6 @@ referent_of (object.BufferField b) = referent.Object types.BufferField
 referent_of (object.Mutex n) = referent.Object types.Mutex
 referent_of object.Event = referent.Object types.Event
 referent_of (object.Alias p) = referent.Object types.Uninitialized
-
--- the declaration with a number, while it stands
-abbrev pub or_gone : Option (List Seg × Entry) → Outcome (List Seg × Entry)
-or_gone None = Err (refusal.Evaluation DeadReference)
-or_gone (Some e) = Ok e
-
-unfoldable pub declaration : {S : Type 0} → ℕ → Change (State S) (List Seg × Entry)
-declaration n w = (or_gone (numbered n w.names.map), w)
 
 -- a byte of a string or a buffer is a buffer field
 unfoldable pub byte_followed : {S : Type 0} → ℕ → ℕ → Change (State S) Referent
@@ -232,3 +387,4 @@ abbrev pub target_referent : {S : Type 0} → StoreTarget → Change (State S) R
 target_referent targets.Nowhere = give (referent.Object types.DebugObject)
 target_referent (targets.Slot slot) = slot_referent slot
 target_referent (targets.Name p) = name_referent p
+target_referent (targets.Refers r) = followed most_references r

@@ -146,6 +146,12 @@ copy_into_declared n v = do
   e ← declaration n
   copy_over (holding_of e.1.object) e.0 v
 
+-- with conversion to what the name holds
+unfoldable pub store_in_declared : {S : Type 0} → ℕ → Value → Change (State S) Stored
+store_in_declared n v = do
+  e ← declaration n
+  store_over (holding_of e.1.object) e.0 v
+
 -- through: how a value is stored to what a reference refers to
 module _ {S : Type 0} (through : Reference → Value → Change (State S) Stored) where
   -- an argument that holds a reference stands for what that refers to
@@ -179,6 +185,13 @@ unfoldable pub stored_through : {S : Type 0} → ℕ → Reference → Value →
 stored_through zero r v = stop (refusal.Evaluation DeadReference)
 stored_through (suc n) r v = store_at_reference (stored_through n) r v
 
+-- a store to what a reference refers to converts; only an argument that is met on the way copies without conversion
+abbrev pub store_to : {S : Type 0} → Reference → Value → Change (State S) Stored
+store_to (reference.Name n) v = store_in_declared n v
+store_to (reference.Slot n slot) v = store_in_frame_numbered (stored_through most_references) n slot v
+store_to (reference.Element o i) v = copy_into_element o i v
+store_to (reference.Byte o i) v = store_byte o i v
+
 -- ---- stores to targets
 
 unfoldable pub store_in_slot : {S : Type 0} → Slot → Value → Change (State S) Stored
@@ -196,6 +209,7 @@ abbrev pub stored : {S : Type 0} → StoreTarget → Value → Change (State S) 
 stored targets.Nowhere v = give store.Done
 stored (targets.Slot slot) v = store_in_slot slot v
 stored (targets.Name p) v = store_in_name p v
+stored (targets.Refers r) v = store_to r v
 
 -- CopyObject: a name that holds a value takes a copy
 unfoldable pub copy_in_name : {S : Type 0} → List Seg → Value → Change (State S) Stored
@@ -207,3 +221,4 @@ abbrev pub copied_to : {S : Type 0} → StoreTarget → Value → Change (State 
 copied_to targets.Nowhere v = give store.Done
 copied_to (targets.Slot slot) v = store_in_slot slot v
 copied_to (targets.Name p) v = copy_in_name p v
+copied_to (targets.Refers r) v = stored_through most_references r v

@@ -15,8 +15,8 @@ use Rattle.aml_convert.specs.declared.operators.BinaryOperator.TheVariants as in
 use Rattle.aml_convert.specs.declared.operators.UnaryOperator.TheVariants as unary
 use Rattle.aml_convert.specs.declared.logic.LogicalOperator.TheVariants as logical
 use Rattle.aml_convert.specs.declared.logic.Comparison.TheVariants as comparisons
-use Rattle.aml_meaning.specs.declared.store_target.StoreTarget.{StoreTarget}
-use Rattle.aml_meaning.specs.declared.store_target.StoreTarget.TheVariants as targets
+use Rattle.aml_meaning.specs.declared.store_target.TargetKind.{TargetKind}
+use Rattle.aml_meaning.specs.declared.store_target.TargetKind.TheVariants as targets
 use Rattle.aml_meaning.specs.declared.term_kind.TermKind.{TermKind}
 use Rattle.aml_meaning.specs.declared.term_kind.TermKind.TheVariants as kinds
 use Rattle.aml_meaning.specs.declared.term_kind.DataKind.{DataKind}
@@ -130,6 +130,7 @@ integer_operator _ = None
 abbrev pub two_operands : Opcode → Option TwoOperands
 two_operands opcodes.Concat = Some two.Concatenate
 two_operands opcodes.ConcatRes = Some two.ConcatenateResources
+two_operands opcodes.Index = Some two.Index
 two_operands _ = None
 
 -- operators with an operand and a target
@@ -161,6 +162,9 @@ other_operator opcodes.Decrement = Some (operators.Count counts.Down)
 other_operator opcodes.SizeOf = Some operators.SizeOf
 other_operator opcodes.ObjectType = Some operators.ObjectType
 other_operator opcodes.Acquire = Some operators.Acquire
+other_operator opcodes.RefOf = Some operators.RefOf
+other_operator opcodes.CondRefOf = Some operators.CondRefOf
+other_operator opcodes.DerefOf = Some operators.DerefOf
 other_operator _ = None
 
 -- the kind of a term: one of those above, or it is not evaluated
@@ -207,18 +211,21 @@ data_or op None = declaration_or op (declaration_kind op)
 abbrev pub kind_of : Opcode → TermKind
 kind_of op = data_or op (data_kind op)
 
--- the target that a local, an argument or Debug is
-abbrev pub slot_target : Option Slot → Option StoreTarget
-slot_target None = None
-slot_target (Some slot) = Some (targets.Slot slot)
+-- how a term names a target: it is Debug, a local or an argument, or it refers to one
+abbrev pub slot_target : Option Slot → TargetKind
+slot_target None = targets.Other
+slot_target (Some slot) = targets.Slot slot
 
-abbrev pub target_of_opcode : Opcode → Option StoreTarget
-target_of_opcode opcodes.Debug = Some targets.Nowhere
-target_of_opcode op = slot_target (slot_kind op)
+abbrev pub target_kind_of : Opcode → TargetKind
+target_kind_of opcodes.Debug = targets.Nowhere
+target_kind_of opcodes.RefOf = targets.RefOf
+target_kind_of opcodes.DerefOf = targets.DerefOf
+target_kind_of opcodes.Index = targets.Index
+target_kind_of op = slot_target (slot_kind op)
 
-abbrev pub target_of_code : TermCode → Option StoreTarget
-target_of_code (codes.Opcode op) = target_of_opcode op
-target_of_code _ = None
+abbrev pub target_kind : TermCode → TargetKind
+target_kind (codes.Opcode op) = target_kind_of op
+target_kind _ = targets.Other
 
 -- an operand that is a number, a term, or a list of terms; the grammar leaves no other where one of them is wanted
 abbrev pub number_of : Option Part → Outcome ℕ

@@ -1,8 +1,8 @@
 //! The rule by which a term with an opcode is evaluated.
 ghost use Rattle.std.specs.Prelude.{◌≡◌};
-ghost use Rattle.aml_meaning.specs.Terms.{data_kind, declaration_kind, region_kind, statement_kind, slot_kind, integer_operator, two_operands, one_operand, test_kind, other_operator, kind_of, declaration_or, region_or, statement_or, slot_or, integers_or, two_or, one_or, test_or, other_or, slot_target, target_of_opcode, target_of_code};
+ghost use Rattle.aml_meaning.specs.Terms.{data_kind, declaration_kind, region_kind, statement_kind, slot_kind, integer_operator, two_operands, one_operand, test_kind, other_operator, kind_of, declaration_or, region_or, statement_or, slot_or, integers_or, two_or, one_or, test_or, other_or, slot_target, target_kind_of, target_kind};
 
-use crate::store_target::StoreTarget;
+use crate::store_target::TargetKind;
 use crate::term_kind::{
     Count, DataKind, DeclarationKind, OneOperand, OperatorKind, RegionKind, StatementKind,
     TermKind, Test, TwoOperands,
@@ -134,6 +134,7 @@ fn two_operands(opcode: Opcode) -> Option<TwoOperands>
     match opcode {
         Opcode::Concat => Some(TwoOperands::Concatenate),
         Opcode::ConcatRes => Some(TwoOperands::ConcatenateResources),
+        Opcode::Index => Some(TwoOperands::Index),
         _ => None,
     }
 }
@@ -180,6 +181,9 @@ fn other_operator(opcode: Opcode) -> Option<OperatorKind>
         Opcode::SizeOf => Some(OperatorKind::SizeOf),
         Opcode::ObjectType => Some(OperatorKind::ObjectType),
         Opcode::Acquire => Some(OperatorKind::Acquire),
+        Opcode::RefOf => Some(OperatorKind::RefOf),
+        Opcode::CondRefOf => Some(OperatorKind::CondRefOf),
+        Opcode::DerefOf => Some(OperatorKind::DerefOf),
         _ => None,
     }
 }
@@ -274,30 +278,33 @@ fn other_kind(opcode: Opcode) -> TermKind
     }
 }
 
-/// The target that a term is which stands where a target is named: Debug, a local or an argument.
-pub fn target_of(code: TermCode) -> Option<StoreTarget>
-    ensures { result ≡ target_of_code code }
+/// How a term names a target where one is wanted.
+pub fn target_kind(code: TermCode) -> TargetKind
+    ensures { result ≡ target_kind code }
 {
     match code {
-        TermCode::Opcode(opcode) => target_of_opcode(opcode),
-        _ => None,
+        TermCode::Opcode(opcode) => target_kind_of(opcode),
+        _ => TargetKind::Other,
     }
 }
 
-fn target_of_opcode(opcode: Opcode) -> Option<StoreTarget>
-    ensures { result ≡ target_of_opcode opcode }
+fn target_kind_of(opcode: Opcode) -> TargetKind
+    ensures { result ≡ target_kind_of opcode }
 {
     match opcode {
-        Opcode::Debug => Some(StoreTarget::Nowhere),
+        Opcode::Debug => TargetKind::Nowhere,
+        Opcode::RefOf => TargetKind::RefOf,
+        Opcode::DerefOf => TargetKind::DerefOf,
+        Opcode::Index => TargetKind::Index,
         _ => slot_target(slot_kind(opcode)),
     }
 }
 
-fn slot_target(slot: Option<Slot>) -> Option<StoreTarget>
+fn slot_target(slot: Option<Slot>) -> TargetKind
     ensures { result ≡ slot_target slot }
 {
     match slot {
-        None => None,
-        Some(slot) => Some(StoreTarget::Slot(slot)),
+        None => TargetKind::Other,
+        Some(slot) => TargetKind::Slot(slot),
     }
 }

@@ -4,6 +4,7 @@
 mod belonging;
 mod datum;
 mod declarations;
+mod dereferences;
 mod field_layout;
 mod flow;
 mod frame;
@@ -35,17 +36,18 @@ mod world;
 mod world_state;
 
 pub use datum::Datum;
+pub use dereferences::reference_in;
 pub use field_layout::{FieldGroup, FieldLayout, access_width, update_rule};
 pub use flow::Flow;
 pub use frame::Frame;
 pub use invocation::Invocation;
-pub use kinds::{kind_of, target_of};
+pub use kinds::{kind_of, target_kind};
 pub use name_use::NameUse;
 pub use object_type::{ObjectType, Referent};
 pub use pci_functions::{Sought, adr, base_bus, segment_group};
 pub use regions::{RegionField, RegionSpace, integer_only, pci_space, space_numbered};
 pub use running::Running;
-pub use store_target::{Held, Holding, StoreTarget, Stored};
+pub use store_target::{Held, Holding, StoreTarget, Stored, TargetKind};
 pub use term_kind::{
     Count, DataKind, DeclarationKind, OneOperand, OperatorKind, RegionKind, StatementKind,
     TermKind, Test, TwoOperands,

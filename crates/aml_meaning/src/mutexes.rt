@@ -5,41 +5,86 @@ ghost use Rattle.ar_space.specs.Outcome.{Answers, NotMemory};
 ghost use Rattle.aml_objects.specs.declared.entry.NamedObject.TheVariants as object;
 ghost use Rattle.aml_namespace.specs.Namespace.{replaced};
 ghost use Rattle.aml_meaning.specs.State.{on_names};
-ghost use Rattle.aml_meaning.specs.Mutexes.{count_of_object, mutex_count, once_more, once_less, acquired, given_back, acquired_at, given_back_at};
+ghost use Rattle.aml_meaning.specs.Mutexes.{count_of_object, mutex_count, once_more, once_less, acquired, given_back, acquired_by_number, given_back_by_number, acquired_by, given_back_by, acquired_at, given_back_at};
 
 use crate::store_target::StoreTarget;
 use crate::world_state::WorldState;
-use aml_objects::NamedObject;
+use aml_objects::{NamedObject, Reference};
 use aml_path::Path;
 use ar_space::{EvaluationFault, NamespaceFault, Refusal, ValueFault};
+use std::alloc::Global;
 
 impl<S> WorldState<S> {
     /// Acquires the mutex that is named. Anything else is refused as `WrongType`, and as `ObjectLimit` a mutex that is
     /// acquired 2^64 - 1 times.
     #[tactic(auto, using(ar_space::specs::Change::changing))]
-    pub fn acquire(&mut self, target: &StoreTarget) -> Result<(), Refusal>
-        ensures change { Does result self.new (acquired_at target.now) self.old }
-        ensures memory { NotMemory result }
+    pub fn acquire(&mut self, alloc: Global, target: &StoreTarget) -> Result<(), Refusal>
+        ensures { Does result self.new (acquired_at target.now) self.old }
     {
         match target {
             StoreTarget::Nowhere => Err(Refusal::Value(ValueFault::WrongType)),
             StoreTarget::Slot(_) => Err(Refusal::Value(ValueFault::WrongType)),
             StoreTarget::Name(path) => self.acquire_at(path),
+            StoreTarget::Refers(reference) => self.acquire_by(alloc, *reference),
         }
     }
 
     /// Releases the mutex that is named. Anything else is refused as `WrongType`, and as `NotAcquired` a mutex that nobody
     /// has acquired.
     #[tactic(auto, using(ar_space::specs::Change::changing))]
-    pub fn release(&mut self, target: &StoreTarget) -> Result<(), Refusal>
-        ensures change { Does result self.new (given_back_at target.now) self.old }
-        ensures memory { NotMemory result }
+    pub fn release(&mut self, alloc: Global, target: &StoreTarget) -> Result<(), Refusal>
+        ensures { Does result self.new (given_back_at target.now) self.old }
     {
         match target {
             StoreTarget::Nowhere => Err(Refusal::Value(ValueFault::WrongType)),
             StoreTarget::Slot(_) => Err(Refusal::Value(ValueFault::WrongType)),
             StoreTarget::Name(path) => self.release_at(path),
+            StoreTarget::Refers(reference) => self.release_by(alloc, *reference),
         }
+    }
+
+    /// Acquires the mutex that a reference refers to; a reference to anything but a name is refused as `WrongType`.
+    #[tactic(auto, using(ar_space::specs::Change::changing))]
+    fn acquire_by(&mut self, alloc: Global, reference: Reference) -> Result<(), Refusal>
+        ensures { Does result self.new (acquired_by reference) self.old }
+    {
+        match reference {
+            Reference::Name(number) => self.acquire_numbered(alloc, number),
+            Reference::Slot(_, _) => Err(Refusal::Value(ValueFault::WrongType)),
+            Reference::Element(_, _) => Err(Refusal::Value(ValueFault::WrongType)),
+            Reference::Byte(_, _) => Err(Refusal::Value(ValueFault::WrongType)),
+        }
+    }
+
+    #[tactic(auto, using(ar_space::specs::Change::changing), unfolding(crate::specs::Mutexes::acquired_by_number))]
+    fn acquire_numbered(&mut self, alloc: Global, number: u64) -> Result<(), Refusal>
+        ensures { Does result self.new (acquired_by_number number) self.old }
+    {
+        let found = self.declaration(number)?;
+        let path = found.0.copy(alloc)?;
+        self.acquire_at(&path)
+    }
+
+    /// Releases the mutex that a reference refers to; a reference to anything but a name is refused as `WrongType`.
+    #[tactic(auto, using(ar_space::specs::Change::changing))]
+    fn release_by(&mut self, alloc: Global, reference: Reference) -> Result<(), Refusal>
+        ensures { Does result self.new (given_back_by reference) self.old }
+    {
+        match reference {
+            Reference::Name(number) => self.release_numbered(alloc, number),
+            Reference::Slot(_, _) => Err(Refusal::Value(ValueFault::WrongType)),
+            Reference::Element(_, _) => Err(Refusal::Value(ValueFault::WrongType)),
+            Reference::Byte(_, _) => Err(Refusal::Value(ValueFault::WrongType)),
+        }
+    }
+
+    #[tactic(auto, using(ar_space::specs::Change::changing), unfolding(crate::specs::Mutexes::given_back_by_number))]
+    fn release_numbered(&mut self, alloc: Global, number: u64) -> Result<(), Refusal>
+        ensures { Does result self.new (given_back_by_number number) self.old }
+    {
+        let found = self.declaration(number)?;
+        let path = found.0.copy(alloc)?;
+        self.release_at(&path)
     }
 
     #[tactic(auto, using(ar_space::specs::Change::changing), unfolding(crate::specs::Mutexes::acquired))]

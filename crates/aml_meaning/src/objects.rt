@@ -1,7 +1,7 @@
 //! Objects of the world: made, read and copied (ACPI 6.5, 19.3.5).
 ghost use Rattle.std.specs.Prelude.{◌≡◌};
 ghost use Rattle.ar_space.specs.Change.{Does};
-ghost use Rattle.ar_space.specs.Outcome.{NotMemory};
+ghost use Rattle.ar_space.specs.Outcome.{NotMemory, seen};
 ghost use Rattle.aml_objects.specs.Contents.{content_of, content_in};
 ghost use Rattle.aml_objects.specs.Copies.{copied};
 ghost use Rattle.aml_objects.specs.Objects.{make_string, make_buffer, make_package, string_at, buffer_at, elements_at, element_at, element_there, byte_at, write_buffer, write_string, write_element, write_byte};
@@ -98,15 +98,11 @@ impl<S> WorldState<S> {
 
     /// An element of a package; past its end, and of another kind of object, this is refused as `DeadReference`.
     #[tactic(auto, using(crate::proofs::Lifted::parts))]
-    pub(crate) fn element(
-        &self,
-        alloc: Global,
-        object: usize,
-        index: usize,
-    ) -> Result<Element, Refusal>
-        ensures { Does result self.now (on_objects (element_at object index)) self.now }
+    pub(crate) fn element(&self, object: usize, index: usize) -> Result<&Element, Refusal>
+        ensures answer { Does (seen (λ e. e.now) result) self.now (on_objects (element_at object index)) self.now }
+        ensures memory { NotMemory result }
     {
-        self.heap.element(alloc, object, index)
+        self.heap.element(object, index)
     }
 
     /// A byte of a string or a buffer; past its end this is refused as `DeadReference`.

@@ -5,7 +5,7 @@ ghost use Rattle.ar_space.specs.Outcome.{Answers, NotMemory, seen};
 ghost use Rattle.aml_convert.specs.Joined.{joined_content};
 ghost use Rattle.aml_objects.specs.Contents as held;
 ghost use Rattle.aml_meaning.specs.State.{on_objects};
-ghost use Rattle.aml_meaning.specs.Operations.{operated, integers_operated, divided_in, operated_on_one, integer_operated, operated_logically, integers_tested, turned, integer_turned, next_integer, integer_before, compared_in, truth_of, joined_contents, joined, made_of, joined_items, joined_resources, to_integer_in, buffer_bytes, new_buffer_of, to_buffer_in, size_in, size_of_referent, size_of_value, size_of_object, as_integer};
+ghost use Rattle.aml_meaning.specs.Operations.{operated, integers_operated, divided_in, operated_on_one, integer_operated, operated_logically, integers_tested, turned, integer_turned, next_integer, integer_before, compared_in, truth_of, joined_contents, joined, made_of, joined_items, joined_resources, to_integer_in, buffer_bytes, new_buffer_of, to_buffer_in, size_in, size_of_referent, size_of_value, size_of_object, as_integer, below, size_held, element_indexed, byte_indexed, indexed};
 ghost use Rattle.aml_meaning.specs.OperatorTerms.{result_of_two, result_of_one, result_of_test, counted_by};
 
 use crate::object_type::Referent;
@@ -16,7 +16,7 @@ use aml_convert::{
     concat_resources, divide, explicit_integer, holds, logical_not, operate, operate_logically,
     operate_on_one, to_buffer, truncate, truth,
 };
-use aml_objects::{Object, Octets, Value};
+use aml_objects::{Object, Octets, Reference, Value};
 use ar_space::{EvaluationFault, Refusal, ValueFault};
 use std::alloc::Global;
 
@@ -36,6 +36,7 @@ impl<S> WorldState<S> {
             TwoOperands::Integers(operator) => self.operate(operator, first, second),
             TwoOperands::Concatenate => self.join(alloc, first, second),
             TwoOperands::ConcatenateResources => self.join_resources(alloc, first, second),
+            TwoOperands::Index => self.index(first, second),
         }
     }
 
@@ -118,6 +119,52 @@ impl<S> WorldState<S> {
             Ok(size) => Ok(Value::Integer(size)),
             Err(refusal) => Err(refusal),
         }
+    }
+
+    /// A reference to an element of a package, or to a byte of a string or a buffer. Another source is refused as `WrongType`, and
+    /// an index past the end as `IndexLimit`.
+    #[tactic(auto, using(ar_space::specs::Change::changing))]
+    fn index(&self, source: Value, index: Value) -> Result<Value, Refusal>
+        ensures answer { Does result self.now (indexed source index) self.now }
+        ensures memory { NotMemory result }
+    {
+        match source {
+            Value::Package(object) => self.index_element(object, index),
+            Value::String(object) => self.index_byte(source, object, index),
+            Value::Buffer(object) => self.index_byte(source, object, index),
+            Value::Uninitialized => Err(Refusal::Value(ValueFault::WrongType)),
+            Value::Integer(_) => Err(Refusal::Value(ValueFault::WrongType)),
+            Value::Reference(_) => Err(Refusal::Value(ValueFault::WrongType)),
+        }
+    }
+
+    #[tactic(auto, using(ar_space::specs::Change::changing), unfolding(crate::specs::Operations::element_indexed))]
+    fn index_element(&self, object: usize, index: Value) -> Result<Value, Refusal>
+        ensures answer { Does result self.now (element_indexed object index) self.now }
+        ensures memory { NotMemory result }
+    {
+        let index = self.integer_in(index)?;
+        let count = self.size_held(Value::Package(object))?;
+        below(count, index, Reference::Element(object, index as usize))
+    }
+
+    #[tactic(auto, using(ar_space::specs::Change::changing), unfolding(crate::specs::Operations::byte_indexed))]
+    fn index_byte(&self, source: Value, object: usize, index: Value) -> Result<Value, Refusal>
+        ensures answer { Does result self.now (byte_indexed source object index) self.now }
+        ensures memory { NotMemory result }
+    {
+        let index = self.integer_in(index)?;
+        let count = self.size_held(source)?;
+        below(count, index, Reference::Byte(object, index as usize))
+    }
+
+    /// How many bytes or elements a value has.
+    #[tactic(auto, unfolding(crate::specs::Operations::size_held))]
+    fn size_held(&self, value: Value) -> Result<u64, Refusal>
+        ensures answer { Does result self.now (size_held value) self.now }
+        ensures memory { NotMemory result }
+    {
+        self.size_of_value(value)
     }
 
     #[tactic(auto, using(ar_space::specs::Change::changing), unfolding(crate::specs::Operations::operated))]
@@ -333,6 +380,18 @@ impl<S> WorldState<S> {
             Value::Integer(_) => Err(Refusal::Value(ValueFault::WrongType)),
             Value::Reference(_) => Err(Refusal::Value(ValueFault::WrongType)),
         }
+    }
+}
+
+/// A reference whose index is below a count; another is refused as `IndexLimit`.
+fn below(count: u64, index: u64, reference: Reference) -> Result<Value, Refusal>
+    ensures answer { Answers result (below count index reference) }
+    ensures memory { NotMemory result }
+{
+    if index < count {
+        Ok(Value::Reference(reference))
+    } else {
+        Err(Refusal::Evaluation(EvaluationFault::IndexLimit))
     }
 }
 

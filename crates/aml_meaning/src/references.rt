@@ -3,8 +3,9 @@ ghost use Rattle.std.specs.Prelude.{◌≡◌};
 ghost use Rattle.ar_space.specs.Change.{Does};
 ghost use Rattle.ar_space.specs.Outcome.{Answers, NotMemory};
 ghost use Rattle.aml_objects.specs.Contents.{content_of};
-ghost use Rattle.aml_meaning.specs.Stores.{first_byte, byte_of, byte_in, store_byte, copy_into_element, copy_into_declared, store_over_slot, store_in_frame, store_in_frame_numbered, store_at_reference, stored_through};
+ghost use Rattle.aml_meaning.specs.Stores.{first_byte, byte_of, byte_in, store_byte, copy_into_element, copy_into_declared, store_in_declared, store_to, store_over_slot, store_in_frame, store_in_frame_numbered, store_at_reference, stored_through};
 
+use crate::referents::MOST_REFERENCES;
 use crate::store_target::Stored;
 use crate::targets::holding_of;
 use crate::world_state::WorldState;
@@ -56,7 +57,7 @@ fn store_over_slot<S>(
 /// Stores a value to what a reference refers to, at most so many followed one after another.
 #[cycle(through)]
 #[tactic(auto, using(crate::proofs::Following::following))]
-fn store_through<S>(
+pub(crate) fn store_through<S>(
     alloc: Global,
     world: &mut WorldState<S>,
     levels: usize,
@@ -149,6 +150,44 @@ impl<S> WorldState<S> {
         let byte = self.byte_in(value)?;
         self.write_byte(object, index, byte)?;
         Ok(Stored::Done)
+    }
+
+    /// The name of a declaration takes a value, converted to what it holds.
+    #[tactic(auto, using(ar_space::specs::Change::changing), unfolding(crate::specs::Stores::store_in_declared))]
+    fn store_in_declared(
+        &mut self,
+        alloc: Global,
+        number: u64,
+        value: Value,
+    ) -> Result<Stored, Refusal>
+        ensures { Does result self.new (store_in_declared number value) self.old }
+    {
+        let found = self.declaration(number)?;
+        let held = holding_of(&found.1.object);
+        let path = found.0.copy(alloc)?;
+        self.store_over(alloc, held, &path, value)
+    }
+
+    /// Stores a value to what a reference refers to, with conversion; an argument that is met on the way takes a copy.
+    #[tactic(auto, using(ar_space::specs::Change::changing))]
+    pub(crate) fn store_to(
+        &mut self,
+        alloc: Global,
+        reference: Reference,
+        value: Value,
+    ) -> Result<Stored, Refusal>
+        ensures { Does result self.new (store_to reference value) self.old }
+    {
+        match reference {
+            Reference::Name(number) => self.store_in_declared(alloc, number, value),
+            Reference::Slot(number, slot) => {
+                store_in_frame_numbered(alloc, self, MOST_REFERENCES, number, slot, value)
+            }
+            Reference::Element(object, index) => {
+                self.copy_into_element(alloc, object, index, value)
+            }
+            Reference::Byte(object, index) => self.store_byte(object, index, value),
+        }
     }
 
     /// What a byte of a string or a buffer takes of a value.

@@ -27,7 +27,15 @@ impl<S> WorldState<S> {
             StoreTarget::Nowhere => Ok(Referent::Object(ObjectType::DebugObject)),
             StoreTarget::Slot(slot) => self.slot_referent(alloc, *slot),
             StoreTarget::Name(path) => self.name_referent(alloc, path),
+            StoreTarget::Refers(reference) => follow(alloc, self, MOST_REFERENCES, *reference),
         }
+    }
+
+    /// What a value refers to when references are followed, at most 64 of them; itself where it is no reference.
+    pub fn value_referent(&self, alloc: Global, value: Value) -> Result<Referent, Refusal>
+        ensures { Does result self.now (value_followed (followed most_references) value) self.now }
+    {
+        value_followed(alloc, self, MOST_REFERENCES, value)
     }
 
     #[tactic(auto, using(ar_space::specs::Change::changing), unfolding(crate::specs::StoreTargets::slot_referent))]
@@ -191,8 +199,8 @@ fn held_followed<S>(
 ) -> Result<Referent, Refusal>
     ensures { Does result world.now (held_followed (followed levels) object index) world.now }
 {
-    let element = world.element(alloc, object, index)?;
-    element_followed(alloc, world, levels, &element)
+    let element = world.element(object, index)?;
+    element_followed(alloc, world, levels, element)
 }
 
 #[cycle(following)]

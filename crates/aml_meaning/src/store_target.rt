@@ -1,6 +1,8 @@
 //! Where values are stored.
+ghost use Rattle.std.specs.Prelude.{◌≡◌};
+ghost use Rattle.aml_meaning.specs.FieldCalls.{is_element};
 
-use aml_objects::{FieldUnit, Slot, Value};
+use aml_objects::{FieldUnit, Reference, Slot, Value};
 use aml_path::Path;
 
 /// Where a value is read or stored to: the operand of Store, a target, and what Increment counts.
@@ -12,6 +14,19 @@ pub enum StoreTarget {
     Slot(Slot),
     /// The name at a path.
     Name(Path),
+    /// What a reference refers to.
+    Refers(Reference),
+}
+
+/// How a term names a target: it is Debug, a local or an argument, or it refers to one. No other term stands there.
+#[derive(Clone, Copy, Debug, PartialEq, Eq)]
+pub enum TargetKind {
+    Nowhere,
+    Slot(Slot),
+    RefOf,
+    DerefOf,
+    Index,
+    Other,
 }
 
 /// What a name holds.
@@ -36,4 +51,21 @@ pub enum Held {
 pub enum Stored {
     Done,
     FieldUnit(FieldUnit),
+}
+
+impl StoreTarget {
+    /// Whether it is an element of a package.
+    pub fn is_element(&self) -> bool
+        ensures { result ≡ is_element self.now }
+    {
+        match self {
+            StoreTarget::Refers(Reference::Element(_, _)) => true,
+            StoreTarget::Refers(Reference::Name(_)) => false,
+            StoreTarget::Refers(Reference::Slot(_, _)) => false,
+            StoreTarget::Refers(Reference::Byte(_, _)) => false,
+            StoreTarget::Nowhere => false,
+            StoreTarget::Slot(_) => false,
+            StoreTarget::Name(_) => false,
+        }
+    }
 }

@@ -7,7 +7,7 @@ ghost use Rattle.aml_namespace.specs.Namespace.{replaced};
 ghost use Rattle.aml_meaning.specs.State.{on_names};
 ghost use Rattle.aml_meaning.specs.Stores.{slot_put, copy_into_slot, copy_into_name, copy_over, text_in, bytes_in, store_integer, store_text, store_bytes, store_package, store_over_value, store_over, store_in_slot, store_in_name, stored, copy_in_name, copied_to};
 
-use crate::references::store_in_frame;
+use crate::references::{store_in_frame, store_through};
 use crate::referents::MOST_REFERENCES;
 use crate::store_target::{Holding, StoreTarget, Stored};
 use crate::world_state::WorldState;
@@ -38,6 +38,7 @@ impl<S> WorldState<S> {
             StoreTarget::Nowhere => Ok(Stored::Done),
             StoreTarget::Slot(slot) => self.store_in_slot(alloc, *slot, value),
             StoreTarget::Name(path) => self.store_in_name(alloc, path, value),
+            StoreTarget::Refers(reference) => self.store_to(alloc, *reference, value),
         }
     }
 
@@ -56,6 +57,9 @@ impl<S> WorldState<S> {
             StoreTarget::Nowhere => Ok(Stored::Done),
             StoreTarget::Slot(slot) => self.store_in_slot(alloc, *slot, value),
             StoreTarget::Name(path) => self.copy_in_name(alloc, path, value),
+            StoreTarget::Refers(reference) => {
+                store_through(alloc, self, MOST_REFERENCES, *reference, value)
+            }
         }
     }
 
@@ -84,7 +88,7 @@ impl<S> WorldState<S> {
     }
 
     #[tactic(auto, using(ar_space::specs::Change::changing))]
-    fn store_over(
+    pub(crate) fn store_over(
         &mut self,
         alloc: Global,
         held: Holding,

@@ -107,6 +107,7 @@ impl<S> WorldState<S> {
             StoreTarget::Nowhere => Err(Refusal::Value(ValueFault::WrongType)),
             StoreTarget::Slot(slot) => self.held_in_slot(*slot),
             StoreTarget::Name(path) => self.name_read(path),
+            StoreTarget::Refers(reference) => self.dereference(*reference),
         }
     }
 
@@ -153,7 +154,7 @@ pub(crate) fn holding_of(object: &NamedObject) -> Holding
     }
 }
 
-fn initialized(value: Value) -> Result<Value, Refusal>
+pub(crate) fn initialized(value: Value) -> Result<Value, Refusal>
     ensures answer { Answers result (initialized value) }
     ensures memory { NotMemory result }
 {

@@ -72,6 +72,9 @@ pub enum OperatorKind {
     SizeOf,
     ObjectType,
     Acquire,
+    RefOf,
+    CondRefOf,
+    DerefOf,
 }
 
 /// A term with two operands and a target.
@@ -80,6 +83,7 @@ pub enum TwoOperands {
     Integers(BinaryOperator),
     Concatenate,
     ConcatenateResources,
+    Index,
 }
 
 /// A term with an operand and a target.

@@ -1,6 +1,6 @@
 //! The objects, each by its number.
 ghost use Rattle.std.specs.Prelude.{◌≡◌, ◌<◌, ◌++◌, ◌∷◌, [], List, length, take, ◌==◌, slice_get, slice_set, nat_lt, if◌then◌else◌, option_map, Ok, Err, OnOk, OnErr, IsOkUnless};
-ghost use Rattle.ar_space.specs.Outcome.{Answers, NotMemory};
+ghost use Rattle.ar_space.specs.Outcome.{Answers, NotMemory, seen};
 ghost use Rattle.ar_space.specs.declared.refusal.Refusal.TheVariants.{OutOfMemory};
 ghost use Rattle.ar_space.specs.Change.{Does};
 ghost use Rattle.aml_objects.specs.Objects.{make, make_string, make_buffer, make_package, string_at, buffer_at, elements_at, write_buffer, write_string, fitted_to, write_byte, byte_outcome, byte_written, or_dead, element_at, byte_at, element_there, write_element, element_outcome, element_written};
@@ -173,14 +173,15 @@ impl Heap {
 
     /// One element of a package. Past its end, and of another object, this is refused as `DeadReference`.
     #[tactic(auto, unfolding(crate::specs::Objects::element_at))]
-    pub fn element(&self, alloc: Global, object: usize, index: usize) -> Result<Element, Refusal>
-        ensures { Does result self.now (element_at object index) self.now }
+    pub fn element(&self, object: usize, index: usize) -> Result<&Element, Refusal>
+        ensures answer { Does (seen (λ e. e.now) result) self.now (element_at object index) self.now }
+        ensures memory { NotMemory result }
     {
         if object >= self.objects.len() {
             return Err(Refusal::Evaluation(EvaluationFault::DeadReference));
         }
         match &self.objects[object] {
-            Object::Package(elements) => elements.at(alloc, index),
+            Object::Package(elements) => elements.at(index),
             Object::String(_) => Err(Refusal::Evaluation(EvaluationFault::DeadReference)),
             Object::Buffer(_) => Err(Refusal::Evaluation(EvaluationFault::DeadReference)),
         }

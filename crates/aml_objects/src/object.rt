@@ -1,6 +1,6 @@
 //! Objects: strings, buffers and packages.
 ghost use Rattle.std.specs.Prelude.{◌≡◌, ◌++◌, ◌∷◌, [], OnOk, OnErr, IsOkUnless, Ok, Err, length, slice_get, slice_set, nat_lt, if◌then◌else◌};
-ghost use Rattle.ar_space.specs.Outcome.{Answers};
+ghost use Rattle.ar_space.specs.Outcome.{Answers, NotMemory, seen};
 ghost use Rattle.ar_space.specs.declared.refusal.Refusal.TheVariants.{OutOfMemory, Evaluation};
 ghost use Rattle.ar_space.specs.declared.refusal.EvaluationFault.TheVariants.{DeadReference};
 ghost use Rattle.aml_objects.specs.Objects.{or_dead};
@@ -138,13 +138,14 @@ impl Elements {
     }
 
     /// One element; a reference past the end is dead.
-    pub(crate) fn at(&self, alloc: Global, index: usize) -> Result<Element, Refusal>
-        ensures { Answers result (or_dead (slice_get self.now index)) }
+    pub(crate) fn at(&self, index: usize) -> Result<&Element, Refusal>
+        ensures answer { Answers (seen (λ e. e.now) result) (or_dead (slice_get self.now index)) }
+        ensures memory { NotMemory result }
     {
-        if index >= self.list.len() {
-            return Err(Refusal::Evaluation(EvaluationFault::DeadReference));
+        match self.list.get(index) {
+            None => Err(Refusal::Evaluation(EvaluationFault::DeadReference)),
+            Some(element) => Ok(element),
         }
-        self.list[index].copy(alloc)
     }
 
     /// Tests that an element stands at an index; a reference past the end is dead.

@@ -161,8 +161,8 @@ impl Objects {
     fn element(&self, asked: &mut Exchange) {
         let object = count(asked);
         let index = count(asked);
-        match self.heap.element(asked.alloc(), object, index) {
-            Ok(element) => show_element(asked, &element),
+        match self.heap.element(object, index) {
+            Ok(element) => show_element(asked, element),
             Err(refusal) => refuse(asked, refusal),
         }
     }

@@ -51,7 +51,7 @@ abbrev pub decreases-data::eval_buffer : goal.decreases-data::eval_buffer
 decreases-data::eval_buffer g l = 40 * (l.run.now.1 + (32 - l.job.depth)) + 3
 
 abbrev pub decreases-data::eval_data : goal.decreases-data::eval_data
-decreases-data::eval_data g l = 40 * (l.run.now.1 + (32 - l.job.depth)) + 28
+decreases-data::eval_data g l = 40 * (l.run.now.1 + (32 - l.job.depth)) + 32
 
 abbrev pub decreases-declarations::eval_name : goal.decreases-declarations::eval_name
 decreases-declarations::eval_name g l = 40 * (l.run.now.1 + (32 - l.job.depth)) + 2
@@ -63,16 +63,13 @@ abbrev pub decreases-declarations::eval_new_scope : goal.decreases-declarations:
 decreases-declarations::eval_new_scope g l = 40 * (l.run.now.1 + (32 - l.job.depth)) + 2
 
 abbrev pub decreases-declarations::eval_declaration : goal.decreases-declarations::eval_declaration
-decreases-declarations::eval_declaration g l = 40 * (l.run.now.1 + (32 - l.job.depth)) + 28
-
-abbrev pub decreases-targets::eval_referring : goal.decreases-targets::eval_referring
-decreases-targets::eval_referring g l = 40 * (l.run.now.1 + (32 - l.job.depth)) + 1
+decreases-declarations::eval_declaration g l = 40 * (l.run.now.1 + (32 - l.job.depth)) + 32
 
 abbrev pub decreases-targets::eval_inner_target : goal.decreases-targets::eval_inner_target
-decreases-targets::eval_inner_target g l = 40 * (l.run.now.1 + (32 - l.job.depth)) + 2
+decreases-targets::eval_inner_target g l = 40 * (l.run.now.1 + (32 - l.job.depth)) + 4
 
 abbrev pub decreases-targets::eval_target : goal.decreases-targets::eval_target
-decreases-targets::eval_target g l = 40 * (l.run.now.1 + (32 - l.job.depth)) + 3
+decreases-targets::eval_target g l = 40 * (l.run.now.1 + (32 - l.job.depth)) + 5
 
 abbrev pub decreases-targets::eval_targeted : goal.decreases-targets::eval_targeted
 decreases-targets::eval_targeted g l = 40 * (l.run.now.1 + (32 - l.job.depth)) + 26
@@ -99,7 +96,7 @@ abbrev pub decreases-operators::eval_not : goal.decreases-operators::eval_not
 decreases-operators::eval_not g l = 40 * (l.run.now.1 + (32 - l.job.depth)) + 5
 
 abbrev pub decreases-operators::eval_count : goal.decreases-operators::eval_count
-decreases-operators::eval_count g l = 40 * (l.run.now.1 + (32 - l.job.depth)) + 27
+decreases-operators::eval_count g l = 40 * (l.run.now.1 + (32 - l.job.depth)) + 28
 
 abbrev pub decreases-operators::eval_size : goal.decreases-operators::eval_size
 decreases-operators::eval_size g l = 40 * (l.run.now.1 + (32 - l.job.depth)) + 26
@@ -108,10 +105,10 @@ abbrev pub decreases-operators::eval_type : goal.decreases-operators::eval_type
 decreases-operators::eval_type g l = 40 * (l.run.now.1 + (32 - l.job.depth)) + 26
 
 abbrev pub decreases-operators::eval_acquire : goal.decreases-operators::eval_acquire
-decreases-operators::eval_acquire g l = 40 * (l.run.now.1 + (32 - l.job.depth)) + 5
+decreases-operators::eval_acquire g l = 40 * (l.run.now.1 + (32 - l.job.depth)) + 6
 
 abbrev pub decreases-operators::eval_operator : goal.decreases-operators::eval_operator
-decreases-operators::eval_operator g l = 40 * (l.run.now.1 + (32 - l.job.depth)) + 28
+decreases-operators::eval_operator g l = 40 * (l.run.now.1 + (32 - l.job.depth)) + 32
 
 abbrev pub decreases-statements::eval_otherwise : goal.decreases-statements::eval_otherwise
 decreases-statements::eval_otherwise g l = 40 * (l.run.now.1 + (32 - l.job.depth)) + 1
@@ -141,10 +138,10 @@ abbrev pub decreases-statements::eval_return : goal.decreases-statements::eval_r
 decreases-statements::eval_return g l = 40 * (l.run.now.1 + (32 - l.job.depth)) + 3
 
 abbrev pub decreases-statements::eval_release : goal.decreases-statements::eval_release
-decreases-statements::eval_release g l = 40 * (l.run.now.1 + (32 - l.job.depth)) + 4
+decreases-statements::eval_release g l = 40 * (l.run.now.1 + (32 - l.job.depth)) + 6
 
 abbrev pub decreases-statements::eval_notify : goal.decreases-statements::eval_notify
-decreases-statements::eval_notify g l = 40 * (l.run.now.1 + (32 - l.job.depth)) + 4
+decreases-statements::eval_notify g l = 40 * (l.run.now.1 + (32 - l.job.depth)) + 6
 
 abbrev pub decreases-statements::eval_pause : goal.decreases-statements::eval_pause
 decreases-statements::eval_pause g l = 40 * (l.run.now.1 + (32 - l.job.depth)) + 3
@@ -153,7 +150,7 @@ abbrev pub decreases-statements::eval_fatal : goal.decreases-statements::eval_fa
 decreases-statements::eval_fatal g l = 40 * (l.run.now.1 + (32 - l.job.depth)) + 3
 
 abbrev pub decreases-statements::eval_statement : goal.decreases-statements::eval_statement
-decreases-statements::eval_statement g l = 40 * (l.run.now.1 + (32 - l.job.depth)) + 28
+decreases-statements::eval_statement g l = 40 * (l.run.now.1 + (32 - l.job.depth)) + 32
 
 abbrev pub decreases-invocations::eval_body : goal.decreases-invocations::eval_body
 decreases-invocations::eval_body g l = 40 * (l.run.now.1 + (32 - l.depth)) + 2
@@ -267,7 +264,7 @@ abbrev pub decreases-regions::eval_region : goal.decreases-regions::eval_region
 decreases-regions::eval_region g l = 40 * (l.run.now.1 + (32 - l.job.depth)) + 5
 
 abbrev pub decreases-regions::eval_region_term : goal.decreases-regions::eval_region_term
-decreases-regions::eval_region_term g l = 40 * (l.run.now.1 + (32 - l.job.depth)) + 28
+decreases-regions::eval_region_term g l = 40 * (l.run.now.1 + (32 - l.job.depth)) + 32
 
 abbrev pub decreases-field_calls::eval_method_integer : goal.decreases-field_calls::eval_method_integer
 decreases-field_calls::eval_method_integer g l = 40 * (l.run.now.1 + (32 - l.depth)) + 5
@@ -282,13 +279,64 @@ abbrev pub decreases-field_calls::eval_stored_to : goal.decreases-field_calls::e
 decreases-field_calls::eval_stored_to g l = 40 * (l.run.now.1 + (32 - l.depth)) + 25
 
 abbrev pub decreases-field_calls::eval_stored_back : goal.decreases-field_calls::eval_stored_back
-decreases-field_calls::eval_stored_back g l = 40 * (l.run.now.1 + (32 - l.depth)) + 26
+decreases-field_calls::eval_stored_back g l = 40 * (l.run.now.1 + (32 - l.depth)) + 27
 
 abbrev pub decreases-terms::eval_kind : goal.decreases-terms::eval_kind
-decreases-terms::eval_kind g l = 40 * (l.run.now.1 + (32 - l.job.depth)) + 29
+decreases-terms::eval_kind g l = 40 * (l.run.now.1 + (32 - l.job.depth)) + 33
 
 abbrev pub decreases-terms::eval_code : goal.decreases-terms::eval_code
-decreases-terms::eval_code g l = 40 * (l.run.now.1 + (32 - l.job.depth)) + 30
+decreases-terms::eval_code g l = 40 * (l.run.now.1 + (32 - l.job.depth)) + 34
+
+abbrev pub decreases-targets::eval_target_by_kind : goal.decreases-targets::eval_target_by_kind
+decreases-targets::eval_target_by_kind g l = 40 * (l.run.now.1 + (32 - l.job.depth)) + 3
+
+abbrev pub decreases-targets::eval_operand_target : goal.decreases-targets::eval_operand_target
+decreases-targets::eval_operand_target g l = 40 * (l.run.now.1 + (32 - l.job.depth)) + 1
+
+abbrev pub decreases-targets::eval_dereferenced_target : goal.decreases-targets::eval_dereferenced_target
+decreases-targets::eval_dereferenced_target g l = 40 * (l.run.now.1 + (32 - l.job.depth)) + 1
+
+abbrev pub decreases-targets::eval_indexed_target : goal.decreases-targets::eval_indexed_target
+decreases-targets::eval_indexed_target g l = 40 * (l.run.now.1 + (32 - l.job.depth)) + 2
+
+abbrev pub decreases-references::eval_operand_referent : goal.decreases-references::eval_operand_referent
+decreases-references::eval_operand_referent g l = 40 * (l.run.now.1 + (32 - l.job.depth)) + 8
+
+abbrev pub decreases-references::eval_referent_by_kind : goal.decreases-references::eval_referent_by_kind
+decreases-references::eval_referent_by_kind g l = 40 * (l.run.now.1 + (32 - l.job.depth)) + 7
+
+abbrev pub decreases-references::eval_value_referent : goal.decreases-references::eval_value_referent
+decreases-references::eval_value_referent g l = 40 * (l.run.now.1 + (32 - l.job.depth)) + 2
+
+abbrev pub decreases-references::eval_target_referent : goal.decreases-references::eval_target_referent
+decreases-references::eval_target_referent g l = 40 * (l.run.now.1 + (32 - l.job.depth)) + 6
+
+abbrev pub decreases-references::eval_reference : goal.decreases-references::eval_reference
+decreases-references::eval_reference g l = 40 * (l.run.now.1 + (32 - l.job.depth)) + 6
+
+abbrev pub decreases-references::eval_dereference : goal.decreases-references::eval_dereference
+decreases-references::eval_dereference g l = 40 * (l.run.now.1 + (32 - l.job.depth)) + 27
+
+abbrev pub decreases-references::eval_conditional_reference : goal.decreases-references::eval_conditional_reference
+decreases-references::eval_conditional_reference g l = 40 * (l.run.now.1 + (32 - l.job.depth)) + 29
+
+abbrev pub decreases-references::eval_sought : goal.decreases-references::eval_sought
+decreases-references::eval_sought g l = 40 * (l.run.now.1 + (32 - l.job.depth)) + 7
+
+abbrev pub decreases-references::eval_sought_target : goal.decreases-references::eval_sought_target
+decreases-references::eval_sought_target g l = 40 * (l.run.now.1 + (32 - l.job.depth)) + 6
+
+abbrev pub decreases-references::eval_reference_found : goal.decreases-references::eval_reference_found
+decreases-references::eval_reference_found g l = 40 * (l.run.now.1 + (32 - l.job.depth)) + 28
+
+abbrev pub decreases-references::eval_reference_stored : goal.decreases-references::eval_reference_stored
+decreases-references::eval_reference_stored g l = 40 * (l.run.now.1 + (32 - l.job.depth)) + 27
+
+abbrev pub decreases-field_calls::eval_held_value : goal.decreases-field_calls::eval_held_value
+decreases-field_calls::eval_held_value g l = 40 * (l.run.now.1 + (32 - l.depth)) + 24
+
+abbrev pub decreases-field_calls::eval_back_to : goal.decreases-field_calls::eval_back_to
+decreases-field_calls::eval_back_to g l = 40 * (l.run.now.1 + (32 - l.depth)) + 26
 
 abbrev pub invariant-terms::eval_list-items : goal.invariant-terms::eval_list-items
 invariant-terms::eval_list-items g l = (l.run.1 ≤ l.fn.run.1) × Same (in_turn (meaning g.S.Space.accesses) l.fn.job.scope.now l.fn.job.depth (part_list l.fn.job.term)) l.fn.run (in_turn (meaning g.S.Space.accesses) l.fn.job.scope.now l.fn.job.depth (part_list l.rest)) l.run

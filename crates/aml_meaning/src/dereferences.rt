@@ -1,0 +1,316 @@
+//! What references refer to, one step on, and references to what targets name (ACPI 6.5, 19.6: DerefOf, RefOf, CondRefOf).
+ghost use Rattle.std.specs.Prelude.{◌≡◌, option_map};
+ghost use Rattle.ar_space.specs.Change.{Does};
+ghost use Rattle.ar_space.specs.Outcome.{Answers, NotMemory, seen};
+ghost use Rattle.aml_namespace.specs.Search.{found};
+ghost use Rattle.aml_meaning.specs.StoreTargets.{name_tested, frame_tested, byte_tested, tested, once, declared_once, value_once, slot_once, named_once, name_once, element_once, held_once, byte_once, dereferenced, number_in_frame, frame_number, slot_reference, number_in_entry, declared_number, name_reference, reference_of, unless_empty, slot_initialized, unless_empty_element, element_initialized, if_initialized, where_found, reference_if_found};
+ghost use Rattle.aml_meaning.specs.TargetTerms.{reference_in};
+
+use crate::readings::read_as;
+use crate::store_target::{Held, StoreTarget};
+use crate::targets::initialized;
+use crate::world_state::WorldState;
+use aml_objects::{Element, NamedObject, Reference, Slot, Value};
+use aml_path::{NameString, Path};
+use ar_space::{EvaluationFault, NamespaceFault, Refusal, ValueFault};
+
+impl<S> WorldState<S> {
+    /// Tests that what a reference refers to still stands: the name, the frame, the element or the byte. Refused as
+    /// `DeadReference`.
+    #[tactic(auto, using(ar_space::specs::Change::changing))]
+    pub fn test_reference(&self, reference: Reference) -> Result<(), Refusal>
+        ensures answer { Does result self.now (tested reference) self.now }
+        ensures memory { NotMemory result }
+    {
+        match reference {
+            Reference::Name(number) => self.test_name(number),
+            Reference::Slot(number, _) => self.test_frame(number),
+            Reference::Element(object, index) => self.element_there(object, index),
+            Reference::Byte(object, index) => self.test_byte(object, index),
+        }
+    }
+
+    #[tactic(auto, using(ar_space::specs::Change::changing), unfolding(crate::specs::StoreTargets::name_tested))]
+    fn test_name(&self, number: u64) -> Result<(), Refusal>
+        ensures answer { Does result self.now (name_tested number) self.now }
+        ensures memory { NotMemory result }
+    {
+        self.declaration(number)?;
+        Ok(())
+    }
+
+    #[tactic(auto, using(ar_space::specs::Change::changing), unfolding(crate::specs::StoreTargets::frame_tested))]
+    fn test_frame(&self, number: u64) -> Result<(), Refusal>
+        ensures answer { Does result self.now (frame_tested number) self.now }
+        ensures memory { NotMemory result }
+    {
+        self.frame_found(number)?;
+        Ok(())
+    }
+
+    #[tactic(auto, using(ar_space::specs::Change::changing), unfolding(crate::specs::StoreTargets::byte_tested))]
+    fn test_byte(&self, object: usize, index: usize) -> Result<(), Refusal>
+        ensures answer { Does result self.now (byte_tested object index) self.now }
+        ensures memory { NotMemory result }
+    {
+        self.byte(object, index)?;
+        Ok(())
+    }
+
+    /// What a reference refers to, one step on: a value, or a field unit, whose bits are read next. A name that holds no value
+    /// is a reference to it again. Refused: what is gone as `DeadReference`, what is uninitialized as `NoValue`, and a name in a
+    /// package that isn't found as `NotFound`.
+    #[tactic(auto, using(ar_space::specs::Change::changing))]
+    pub fn dereference(&self, reference: Reference) -> Result<Held, Refusal>
+        ensures answer { Does result self.now (dereferenced reference) self.now }
+        ensures memory { NotMemory result }
+    {
+        match reference {
+            Reference::Name(number) => self.declared_once(number),
+            Reference::Slot(number, slot) => self.slot_once(number, slot),
+            Reference::Element(object, index) => self.held_once(object, index),
+            Reference::Byte(object, index) => self.byte_once(object, index),
+        }
+    }
+
+    #[tactic(auto, using(ar_space::specs::Change::changing), unfolding(crate::specs::StoreTargets::declared_once))]
+    fn declared_once(&self, number: u64) -> Result<Held, Refusal>
+        ensures answer { Does result self.now (declared_once number) self.now }
+        ensures memory { NotMemory result }
+    {
+        let found = self.declaration(number)?;
+        once(number, &found.1.object)
+    }
+
+    #[tactic(auto, using(ar_space::specs::Change::changing), unfolding(crate::specs::StoreTargets::value_once))]
+    fn value_once(&self, value: Value) -> Result<Held, Refusal>
+        ensures answer { Does result self.now (value_once value) self.now }
+        ensures memory { NotMemory result }
+    {
+        let value = initialized(value)?;
+        Ok(Held::Value(value))
+    }
+
+    #[tactic(auto, using(ar_space::specs::Change::changing), unfolding(crate::specs::StoreTargets::slot_once))]
+    fn slot_once(&self, number: u64, slot: Slot) -> Result<Held, Refusal>
+        ensures answer { Does result self.now (slot_once number slot) self.now }
+        ensures memory { NotMemory result }
+    {
+        let index = self.frame_found(number)?;
+        let value = self.slot_held(index, slot)?;
+        self.value_once(value)
+    }
+
+    #[tactic(auto, using(ar_space::specs::Change::changing), unfolding(crate::specs::StoreTargets::held_once))]
+    fn held_once(&self, object: usize, index: usize) -> Result<Held, Refusal>
+        ensures answer { Does result self.now (held_once object index) self.now }
+        ensures memory { NotMemory result }
+    {
+        let element = self.element(object, index)?;
+        self.element_once(element)
+    }
+
+    #[tactic(auto, using(ar_space::specs::Change::changing))]
+    fn element_once(&self, element: &Element) -> Result<Held, Refusal>
+        ensures answer { Does result self.now (element_once element.now) self.now }
+        ensures memory { NotMemory result }
+    {
+        match element {
+            Element::Value(value) => self.value_once(*value),
+            Element::Name(name, scope) => self.name_once(name, scope),
+        }
+    }
+
+    #[tactic(auto, using(ar_space::specs::Change::changing), unfolding(crate::specs::StoreTargets::name_once))]
+    fn name_once(&self, name: &NameString, scope: &Path) -> Result<Held, Refusal>
+        ensures answer { Does result self.now (name_once name.now scope.now) self.now }
+        ensures memory { NotMemory result }
+    {
+        let entry = self.entry(scope, name)?;
+        named_once(entry.number, &entry.object)
+    }
+
+    #[tactic(auto, using(ar_space::specs::Change::changing), unfolding(crate::specs::StoreTargets::byte_once))]
+    fn byte_once(&self, object: usize, index: usize) -> Result<Held, Refusal>
+        ensures answer { Does result self.now (byte_once object index) self.now }
+        ensures memory { NotMemory result }
+    {
+        let byte = self.byte(object, index)?;
+        Ok(Held::Value(Value::Integer(u64::from(byte))))
+    }
+
+    /// A reference to what a target names; Debug has none, which is refused as `WrongType`.
+    #[tactic(auto, using(ar_space::specs::Change::changing))]
+    pub fn reference_of(&self, target: &StoreTarget) -> Result<Reference, Refusal>
+        ensures answer { Does result self.now (reference_of target.now) self.now }
+        ensures memory { NotMemory result }
+    {
+        match target {
+            StoreTarget::Nowhere => Err(Refusal::Value(ValueFault::WrongType)),
+            StoreTarget::Slot(slot) => self.slot_reference(*slot),
+            StoreTarget::Name(path) => self.name_reference(path),
+            StoreTarget::Refers(reference) => Ok(*reference),
+        }
+    }
+
+    #[tactic(auto, using(ar_space::specs::Change::changing), unfolding(crate::specs::StoreTargets::slot_reference))]
+    fn slot_reference(&self, slot: Slot) -> Result<Reference, Refusal>
+        ensures answer { Does result self.now (slot_reference slot) self.now }
+        ensures memory { NotMemory result }
+    {
+        let index = self.latest_frame()?;
+        let number = self.frame_number(index)?;
+        Ok(Reference::Slot(number, slot))
+    }
+
+    /// The number of the frame at an index.
+    #[tactic(auto, unfolding(crate::specs::StoreTargets::frame_number))]
+    fn frame_number(&self, index: usize) -> Result<u64, Refusal>
+        ensures answer { Does result self.now (frame_number index) self.now }
+        ensures memory { NotMemory result }
+    {
+        match self.frames.get(index) {
+            None => Err(Refusal::Evaluation(EvaluationFault::DeadReference)),
+            Some(frame) => Ok(frame.number),
+        }
+    }
+
+    #[tactic(auto, using(ar_space::specs::Change::changing), unfolding(crate::specs::StoreTargets::name_reference))]
+    fn name_reference(&self, path: &Path) -> Result<Reference, Refusal>
+        ensures answer { Does result self.now (name_reference path.now) self.now }
+        ensures memory { NotMemory result }
+    {
+        let number = self.declared_number(path)?;
+        Ok(Reference::Name(number))
+    }
+
+    /// The number of the declaration at a path.
+    #[tactic(auto, unfolding(crate::specs::StoreTargets::declared_number))]
+    fn declared_number(&self, path: &Path) -> Result<u64, Refusal>
+        ensures answer { Does result self.now (declared_number path.now) self.now }
+        ensures memory { NotMemory result }
+    {
+        match self.names.get(path) {
+            None => Err(Refusal::Namespace(NamespaceFault::NotFound)),
+            Some(entry) => Ok(entry.number),
+        }
+    }
+
+    /// A reference, unless it refers to a slot or an element that holds no value yet. Refused as `DeadReference` where what it
+    /// refers to is gone.
+    #[tactic(auto, using(ar_space::specs::Change::changing))]
+    pub fn if_initialized(&self, reference: Reference) -> Result<Option<Reference>, Refusal>
+        ensures answer { Does result self.now (if_initialized reference) self.now }
+        ensures memory { NotMemory result }
+    {
+        match reference {
+            Reference::Name(number) => Ok(Some(Reference::Name(number))),
+            Reference::Slot(number, slot) => self.slot_initialized(number, slot),
+            Reference::Element(object, index) => self.element_initialized(object, index),
+            Reference::Byte(object, index) => Ok(Some(Reference::Byte(object, index))),
+        }
+    }
+
+    #[tactic(auto, using(ar_space::specs::Change::changing), unfolding(crate::specs::StoreTargets::slot_initialized))]
+    fn slot_initialized(&self, number: u64, slot: Slot) -> Result<Option<Reference>, Refusal>
+        ensures answer { Does result self.now (slot_initialized number slot) self.now }
+        ensures memory { NotMemory result }
+    {
+        let index = self.frame_found(number)?;
+        let value = self.slot_held(index, slot)?;
+        Ok(unless_empty(value, Reference::Slot(number, slot)))
+    }
+
+    #[tactic(auto, using(ar_space::specs::Change::changing), unfolding(crate::specs::StoreTargets::element_initialized))]
+    fn element_initialized(&self, object: usize, index: usize) -> Result<Option<Reference>, Refusal>
+        ensures answer { Does result self.now (element_initialized object index) self.now }
+        ensures memory { NotMemory result }
+    {
+        let element = self.element(object, index)?;
+        Ok(unless_empty_element(element, Reference::Element(object, index)))
+    }
+
+    /// A reference to the name that is found, and none where none is; `AboveRoot` is refused.
+    #[tactic(auto, unfolding(crate::specs::StoreTargets::reference_if_found))]
+    pub fn reference_if_found(
+        &self,
+        scope: &Path,
+        name: &NameString,
+    ) -> Result<Option<Reference>, Refusal>
+        ensures answer { Does result self.now (reference_if_found scope.now name.now) self.now }
+        ensures memory { NotMemory result }
+    {
+        match self.names.lookup(scope, name) {
+            Ok(entry) => Ok(Some(Reference::Name(entry.number))),
+            Err(Refusal::Namespace(NamespaceFault::NotFound)) => Ok(None),
+            Err(refusal) => Err(refusal),
+        }
+    }
+}
+
+/// The reference that a value is; any other value is refused as `WrongType`.
+pub fn reference_in(value: Value) -> Result<Reference, Refusal>
+    ensures answer { Answers result (reference_in value) }
+    ensures memory { NotMemory result }
+{
+    match value {
+        Value::Reference(reference) => Ok(reference),
+        Value::Uninitialized => Err(Refusal::Value(ValueFault::WrongType)),
+        Value::Integer(_) => Err(Refusal::Value(ValueFault::WrongType)),
+        Value::String(_) => Err(Refusal::Value(ValueFault::WrongType)),
+        Value::Buffer(_) => Err(Refusal::Value(ValueFault::WrongType)),
+        Value::Package(_) => Err(Refusal::Value(ValueFault::WrongType)),
+    }
+}
+
+/// What a named object holds, one step on; a name that holds no value is a reference to it again.
+fn once(number: u64, object: &NamedObject) -> Result<Held, Refusal>
+    ensures answer { Answers result (once number object.now) }
+    ensures memory { NotMemory result }
+{
+    match object {
+        NamedObject::Data(value) => Ok(Held::Value(*value)),
+        NamedObject::FieldUnit(unit) => Ok(Held::FieldUnit(*unit)),
+        NamedObject::BufferField(_) => {
+            Err(Refusal::Evaluation(EvaluationFault::Unsupported(0x5B13)))
+        }
+        _ => Ok(Held::Value(Value::Reference(Reference::Name(number)))),
+    }
+}
+
+/// What the name in an element of a package stands for: its data or its field, and else a reference to it.
+fn named_once(number: u64, object: &NamedObject) -> Result<Held, Refusal>
+    ensures answer { Answers result (named_once number object.now) }
+    ensures memory { NotMemory result }
+{
+    match object {
+        NamedObject::Data(value) => Ok(Held::Value(read_as(number, *value))),
+        NamedObject::FieldUnit(unit) => Ok(Held::FieldUnit(*unit)),
+        NamedObject::BufferField(_) => {
+            Err(Refusal::Evaluation(EvaluationFault::Unsupported(0x5B13)))
+        }
+        _ => Ok(Held::Value(Value::Reference(Reference::Name(number)))),
+    }
+}
+
+fn unless_empty(value: Value, reference: Reference) -> Option<Reference>
+    ensures { result ≡ unless_empty value reference }
+{
+    match value {
+        Value::Uninitialized => None,
+        Value::Integer(_) => Some(reference),
+        Value::String(_) => Some(reference),
+        Value::Buffer(_) => Some(reference),
+        Value::Package(_) => Some(reference),
+        Value::Reference(_) => Some(reference),
+    }
+}
+
+fn unless_empty_element(element: &Element, reference: Reference) -> Option<Reference>
+    ensures { result ≡ unless_empty_element element.now reference }
+{
+    match element {
+        Element::Value(value) => unless_empty(*value, reference),
+        Element::Name(_, _) => Some(reference),
+    }
+}
