@@ -1,4 +1,5 @@
 pub mod BitLists
+pub mod BufferWrites
 pub mod Cells
 pub mod Covers
 pub mod FieldWrites

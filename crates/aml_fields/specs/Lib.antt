@@ -1,4 +1,5 @@
 pub mod Bits
+pub mod BufferFields
 pub mod Covering
 pub mod Regions
 pub mod SpaceBits

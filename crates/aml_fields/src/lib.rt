@@ -3,6 +3,7 @@
 
 mod accesses;
 mod bits;
+mod buffer_fields;
 mod field_units;
 pub mod laws;
 mod region;
@@ -10,6 +11,7 @@ mod unit;
 
 pub use accesses::{read_field, write_field};
 pub use bits::{bytes_for, copy_bits, get_bits};
+pub use buffer_fields::{new_buffer_field, read_buffer_field, write_buffer_field};
 pub use field_units::{FieldUnits, Unit, units};
 pub use region::{AddressSpace, Region};
 pub use unit::{bytes_of, copy_from_unit, merge};

@@ -18,7 +18,7 @@ use std::alloc::Global;
 
 /// The value of the object at a path, and how many of the steps are left.
 ///
-/// A control method is called. A name that holds a value has that value, a field unit its bits, any other is a reference to
+/// A control method is called. A name that holds a value has that value, a field its bits, any other is a reference to
 /// it; reading one costs no step, but what the address of a field calls does. An alias at the path stands for its target.
 /// Refused: `NotFound` where nothing stands at the path, `ArityChanged` where it takes another number of arguments, and as its
 /// evaluation is.
@@ -137,7 +137,7 @@ fn value_of<S: Space>(
 {
     match invocation {
         Invocation::Value(value) => Ok(value),
-        Invocation::FieldUnit(unit) => eval_field_read(alloc, run, 1, unit),
+        Invocation::Field(field) => eval_field_read(alloc, run, 1, field),
         Invocation::Method(path, body) => eval_method_value(alloc, run, 0, &path, &body, arguments),
         Invocation::Osi => run.world.osi(arguments),
     }

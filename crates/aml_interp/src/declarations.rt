@@ -43,23 +43,24 @@ pub(crate) fn eval_declaration<S: Space>(
         DeclarationKind::Alias => eval_alias(alloc, run, job),
         DeclarationKind::External => Ok(Flow::Next),
         DeclarationKind::Method => eval_method(alloc, run, job),
-        DeclarationKind::Mutex => eval_declaring(alloc, run, job, NamedObject::Mutex(0)),
-        DeclarationKind::Event => eval_declaring(alloc, run, job, NamedObject::Event),
+        DeclarationKind::Mutex => eval_declaring(alloc, run, job, 0, NamedObject::Mutex(0)),
+        DeclarationKind::Event => eval_declaring(alloc, run, job, 0, NamedObject::Event),
     }
 }
 
-/// A name that the term's first operand declares.
+/// A name that the term's operand at a position declares.
 #[tactic(auto, using(crate::proofs::Steps::evaluating), unfolding(aml_meaning::specs::DeclarationTerms::declaring))]
 pub(crate) fn eval_declaring<S: Space>(
     alloc: Global,
     run: &mut Running<S>,
     job: Task<'_>,
+    position: usize,
     object: NamedObject,
 ) -> Result<Flow, Refusal>
     ensures spent { run.new.1 ≤ run.old.1 }
-    ensures means { Does result run.new (declaring (meaning S.accesses) job.entry.scope.now job.entry.depth (part_tree job.entry.term) object) run.old }
+    ensures means { Does result run.new (declaring (meaning S.accesses) job.entry.scope.now job.entry.depth (part_tree job.entry.term) position object) run.old }
 {
-    let name = job.term.name(alloc, 0)?;
+    let name = job.term.name(alloc, position)?;
     let path = name.resolve_in(alloc, job.scope)?;
     run.world.new_name(alloc, job.depth == 0, path, object)?;
     Ok(Flow::Next)
@@ -73,7 +74,7 @@ fn eval_name<S: Space>(alloc: Global, run: &mut Running<S>, job: Task<'_>) -> Re
 {
     let datum = inner(job.term, 1)?;
     let value = eval_value(alloc, run, Task { term: datum, ..job })?;
-    eval_declaring(alloc, run, job, NamedObject::Data(value))
+    eval_declaring(alloc, run, job, 0, NamedObject::Data(value))
 }
 
 #[tactic(auto, using(crate::proofs::Steps::evaluating), unfolding(aml_meaning::specs::DeclarationTerms::alias_rule))]

@@ -198,7 +198,7 @@ fn use_exported<S: Space>(
 {
     match found {
         NameUse::Value(value) => value_exported(alloc, run, levels, value),
-        NameUse::FieldUnit(unit) => field_exported(alloc, run, unit),
+        NameUse::Field(field) => field_exported(alloc, run, field),
         NameUse::Path(path) => Ok(Datum::Named(path)),
     }
 }

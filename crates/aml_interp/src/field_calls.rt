@@ -1,4 +1,4 @@
-//! Field units where terms read them and store to them, and the calls that their addresses take (ACPI 6.5, 5.5.2.4).
+//! Fields where terms read them and store to them, and the calls that their addresses take (ACPI 6.5, 5.5.2.4).
 ghost use Rattle.std.specs.Prelude.{◌≡◌, ◌≤◌, ◌+◌, ◌<◌, ◌^◌, ◌-◌};
 ghost use Rattle.ar_space.specs.Change.{Does};
 ghost use Rattle.ar_space.specs.Outcome.{seen};
@@ -14,7 +14,7 @@ use crate::fields::{
 };
 use crate::invocations::{MAX_DEPTH, eval_method_value};
 use aml_meaning::{Datum, Held, Invocation, Referent, Running, StoreTarget, Stored, integer_only};
-use aml_objects::{Body, FieldUnit, Value};
+use aml_objects::{Body, Field, Value};
 use aml_path::Path;
 use ar_space::{EvaluationFault, Refusal, Space, ValueFault};
 use std::alloc::Global;
@@ -26,19 +26,19 @@ fn calls_left(depth: usize) -> usize
     MAX_DEPTH.saturating_sub(depth)
 }
 
-/// The value of a field unit, where so many control methods are being called.
+/// The value of a field, where so many control methods are being called.
 #[cycle(evaluation)]
 #[tactic(auto, using(crate::proofs::Steps::evaluating))]
 pub(crate) fn eval_field_read<S: Space>(
     alloc: Global,
     run: &mut Running<S>,
     depth: usize,
-    unit: FieldUnit,
+    field: Field,
 ) -> Result<Value, Refusal>
     ensures spent { run.new.1 ≤ run.old.1 }
-    ensures means { Does result run.new (field_read S.accesses (meaning S.accesses) depth unit) run.old }
+    ensures means { Does result run.new (field_read S.accesses (meaning S.accesses) depth field) run.old }
 {
-    eval_field_value(alloc, run, calls_left(depth), unit)
+    eval_field_value(alloc, run, calls_left(depth), field)
 }
 
 /// What a target holds, as an integer.
@@ -55,7 +55,7 @@ pub(crate) fn eval_held<S: Space>(
 {
     match held {
         Held::Value(value) => run.world.integer_in(value),
-        Held::FieldUnit(unit) => eval_field_integer(alloc, run, calls_left(depth), unit),
+        Held::Field(field) => eval_field_integer(alloc, run, calls_left(depth), field),
     }
 }
 
@@ -74,7 +74,7 @@ pub(crate) fn eval_referent<S: Space>(
     match referent {
         Referent::Value(value) => Ok(Referent::Value(value)),
         Referent::Object(object_type) => Ok(Referent::Object(object_type)),
-        Referent::FieldUnit(unit) => eval_field_referent(alloc, run, calls_left(depth), unit),
+        Referent::Field(field) => eval_field_referent(alloc, run, calls_left(depth), field),
         Referent::Bytes(count) => Ok(Referent::Bytes(count)),
     }
 }
@@ -96,7 +96,7 @@ pub(crate) fn eval_stored_to<S: Space>(
     eval_completed(alloc, run, depth, stored, value)
 }
 
-/// A store to a target whose value was read before; a field unit that was read is the one that is written, unless an element of a
+/// A store to a target whose value was read before; a field that was read is the one that is written, unless an element of a
 /// package named it: then the element is replaced.
 #[cycle(evaluation)]
 #[tactic(auto, using(crate::proofs::Steps::evaluating))]
@@ -133,7 +133,7 @@ fn eval_back_to<S: Space>(
     }
     match held {
         Held::Value(_) => eval_stored_to(alloc, run, depth, target, value),
-        Held::FieldUnit(unit) => eval_field_stored(alloc, run, calls_left(depth), unit, value),
+        Held::Field(field) => eval_field_stored(alloc, run, calls_left(depth), field, value),
     }
 }
 
@@ -151,11 +151,11 @@ pub(crate) fn eval_held_value<S: Space>(
 {
     match held {
         Held::Value(value) => Ok(value),
-        Held::FieldUnit(unit) => eval_field_read(alloc, run, depth, unit),
+        Held::Field(field) => eval_field_read(alloc, run, depth, field),
     }
 }
 
-/// A store is done, or a field unit is written next.
+/// A store is done, or a field is written next.
 #[cycle(evaluation)]
 #[tactic(auto, using(crate::proofs::Steps::evaluating))]
 pub(crate) fn eval_completed<S: Space>(
@@ -170,7 +170,7 @@ pub(crate) fn eval_completed<S: Space>(
 {
     match stored {
         Stored::Done => Ok(()),
-        Stored::FieldUnit(unit) => eval_field_stored(alloc, run, calls_left(depth), unit, value),
+        Stored::Field(field) => eval_field_stored(alloc, run, calls_left(depth), field, value),
     }
 }
 
@@ -221,7 +221,7 @@ fn eval_answer_over<S: Space>(
 {
     match found {
         Invocation::Value(value) => integer_only(value),
-        Invocation::FieldUnit(unit) => eval_field_part(alloc, run, calls, unit),
+        Invocation::Field(field) => eval_field_part(alloc, run, calls, field),
         Invocation::Method(path, body) => {
             let depth = (MAX_DEPTH - 1).saturating_sub(calls);
             eval_method_integer(alloc, run, depth, &path, &body)
@@ -247,14 +247,14 @@ fn eval_method_integer<S: Space>(
     integer_only(value)
 }
 
-/// A field unit as it is handed out, read as in a call of its own.
+/// A field as it is handed out, read as in a call of its own.
 #[tactic(auto, using(crate::proofs::Steps::evaluating))]
 pub(crate) fn field_exported<S: Space>(
     alloc: Global,
     run: &mut Running<S>,
-    unit: FieldUnit,
+    field: Field,
 ) -> Result<Datum, Refusal>
-    ensures { Does (seen given_of result) run.new (field_given S.accesses (called_at S.accesses (meaning S.accesses) 1) unit) run.old }
+    ensures { Does (seen given_of result) run.new (field_given S.accesses (called_at S.accesses (meaning S.accesses) 1) field) run.old }
 {
-    field_given(alloc, run, calls_left(1), unit)
+    field_given(alloc, run, calls_left(1), field)
 }

@@ -1,10 +1,10 @@
-//! Field units, read and written (ACPI 6.5, 5.5.2.4 and 19.6: OperationRegion, Field).
+//! Fields, read and written (ACPI 6.5, 5.5.2.4 and 19.6: OperationRegion, Field, CreateField).
 ghost use Rattle.std.specs.Prelude.{◌≡◌, ◌≤◌, ◌+◌, ◌<◌, ◌^◌, ◌-◌, ◌++◌, ◌∷◌, []};
 ghost use Rattle.ar_space.specs.Change.{Does};
 ghost use Rattle.ar_space.specs.Outcome.{seen};
 ghost use Rattle.aml_meaning.specs.Meaning.{meaning};
 ghost use Rattle.aml_meaning.specs.FieldCalls.{asked, answer_within};
-ghost use Rattle.aml_meaning.specs.Fields.{part_in, inherited, pci_address, space_at, located, region_bits, region_written, bits_in, written_in, field_value, field_integer, field_part, field_referent, field_given, field_stored};
+ghost use Rattle.aml_meaning.specs.Fields.{part_in, inherited, pci_address, space_at, located, region_bits, region_written, field_unit_bits, field_unit_written, bits_in, written_in, field_value, field_integer, field_part, field_referent, field_given, field_stored};
 ghost use Rattle.aml_meaning.specs.Given.{given_of};
 
 use crate::field_calls::eval_asked;
@@ -14,104 +14,106 @@ use aml_meaning::{
     Datum, Referent, RegionField, RegionSpace, Running, Sought, adr, base_bus, pci_space,
     segment_group, space_numbered,
 };
-use aml_objects::{FieldSource, FieldUnit, Octets, Value};
+use aml_objects::{Field, FieldSource, FieldUnit, Octets, Value};
 use aml_path::{Path, Seg};
 use ar_space::{EvaluationFault, Refusal, Space};
 use std::alloc::Global;
 
-/// The bits of a field unit, as a value.
+/// The bits of a field, as a value.
 #[cycle(evaluation)]
 #[tactic(auto, using(crate::proofs::Steps::evaluating), unfolding(aml_meaning::specs::Fields::field_value))]
 pub(crate) fn eval_field_value<S: Space>(
     alloc: Global,
     run: &mut Running<S>,
     calls: usize,
-    unit: FieldUnit,
+    field: Field,
 ) -> Result<Value, Refusal>
     ensures spent { run.new.1 ≤ run.old.1 }
-    ensures means { Does result run.new (field_value S.accesses (asked (answer_within S.accesses (meaning S.accesses) calls)) unit) run.old }
+    ensures means { Does result run.new (field_value S.accesses (asked (answer_within S.accesses (meaning S.accesses) calls)) field) run.old }
 {
-    let bytes = eval_bits_in(alloc, run, calls, unit.source, unit)?;
-    run.world.value_of_bits(unit.bits, Octets::from_vec(bytes))
+    let bytes = eval_bits_in(alloc, run, calls, field)?;
+    run.world
+        .value_of_bits(field.bits(), Octets::from_vec(bytes))
 }
 
-/// The bits of a field unit, as an integer.
+/// The bits of a field, as an integer.
 #[cycle(evaluation)]
 #[tactic(auto, using(crate::proofs::Steps::evaluating), unfolding(aml_meaning::specs::Fields::field_integer))]
 pub(crate) fn eval_field_integer<S: Space>(
     alloc: Global,
     run: &mut Running<S>,
     calls: usize,
-    unit: FieldUnit,
+    field: Field,
 ) -> Result<u64, Refusal>
     ensures spent { run.new.1 ≤ run.old.1 }
-    ensures means { Does result run.new (field_integer S.accesses (asked (answer_within S.accesses (meaning S.accesses) calls)) unit) run.old }
+    ensures means { Does result run.new (field_integer S.accesses (asked (answer_within S.accesses (meaning S.accesses) calls)) field) run.old }
 {
-    let bytes = eval_bits_in(alloc, run, calls, unit.source, unit)?;
+    let bytes = eval_bits_in(alloc, run, calls, field)?;
     run.world.integer_of_bits(&bytes)
 }
 
-/// The bits of a field unit, as a part of an address.
+/// The bits of a field, as a part of an address.
 #[cycle(evaluation)]
 #[tactic(auto, using(crate::proofs::Steps::evaluating), unfolding(aml_meaning::specs::Fields::field_part))]
 pub(crate) fn eval_field_part<S: Space>(
     alloc: Global,
     run: &mut Running<S>,
     calls: usize,
-    unit: FieldUnit,
+    field: Field,
 ) -> Result<u64, Refusal>
     ensures spent { run.new.1 ≤ run.old.1 }
-    ensures means { Does result run.new (field_part S.accesses (asked (answer_within S.accesses (meaning S.accesses) calls)) unit) run.old }
+    ensures means { Does result run.new (field_part S.accesses (asked (answer_within S.accesses (meaning S.accesses) calls)) field) run.old }
 {
-    let bytes = eval_bits_in(alloc, run, calls, unit.source, unit)?;
-    run.world.integer_alone(unit.bits, &bytes)
+    let bytes = eval_bits_in(alloc, run, calls, field)?;
+    run.world.integer_alone(field.bits(), &bytes)
 }
 
-/// The bits of a field unit, as what SizeOf and ObjectType speak of.
+/// The bits of a field, as what SizeOf and ObjectType speak of.
 #[cycle(evaluation)]
 #[tactic(auto, using(crate::proofs::Steps::evaluating), unfolding(aml_meaning::specs::Fields::field_referent))]
 pub(crate) fn eval_field_referent<S: Space>(
     alloc: Global,
     run: &mut Running<S>,
     calls: usize,
-    unit: FieldUnit,
+    field: Field,
 ) -> Result<Referent, Refusal>
     ensures spent { run.new.1 ≤ run.old.1 }
-    ensures means { Does result run.new (field_referent S.accesses (asked (answer_within S.accesses (meaning S.accesses) calls)) unit) run.old }
+    ensures means { Does result run.new (field_referent S.accesses (asked (answer_within S.accesses (meaning S.accesses) calls)) field) run.old }
 {
-    let bytes = eval_bits_in(alloc, run, calls, unit.source, unit)?;
-    run.world.referent_of_bits(unit.bits, &bytes)
+    let bytes = eval_bits_in(alloc, run, calls, field)?;
+    run.world.referent_of_bits(field.bits(), &bytes)
 }
 
-/// The bits of a field unit, as they are handed out.
+/// The bits of a field, as they are handed out.
 #[tactic(auto, using(crate::proofs::Steps::evaluating), unfolding(aml_meaning::specs::Fields::field_given))]
 pub(crate) fn field_given<S: Space>(
     alloc: Global,
     run: &mut Running<S>,
     calls: usize,
-    unit: FieldUnit,
+    field: Field,
 ) -> Result<Datum, Refusal>
-    ensures { Does (seen given_of result) run.new (field_given S.accesses (asked (answer_within S.accesses (meaning S.accesses) calls)) unit) run.old }
+    ensures { Does (seen given_of result) run.new (field_given S.accesses (asked (answer_within S.accesses (meaning S.accesses) calls)) field) run.old }
 {
-    let bytes = eval_bits_in(alloc, run, calls, unit.source, unit)?;
-    run.world.datum_of_bits(unit.bits, Octets::from_vec(bytes))
+    let bytes = eval_bits_in(alloc, run, calls, field)?;
+    run.world
+        .datum_of_bits(field.bits(), Octets::from_vec(bytes))
 }
 
-/// Stores a value to a field unit: its bits, cut or with zeros behind them.
+/// Stores a value to a field: its bits, cut or with zeros behind them.
 #[cycle(evaluation)]
 #[tactic(auto, using(crate::proofs::Steps::evaluating), unfolding(aml_meaning::specs::Fields::field_stored))]
 pub(crate) fn eval_field_stored<S: Space>(
     alloc: Global,
     run: &mut Running<S>,
     calls: usize,
-    unit: FieldUnit,
+    field: Field,
     value: Value,
 ) -> Result<(), Refusal>
     ensures spent { run.new.1 ≤ run.old.1 }
-    ensures means { Does result run.new (field_stored S.accesses (asked (answer_within S.accesses (meaning S.accesses) calls)) unit value) run.old }
+    ensures means { Does result run.new (field_stored S.accesses (asked (answer_within S.accesses (meaning S.accesses) calls)) field value) run.old }
 {
     let bytes = run.world.bytes_in(alloc, value)?;
-    eval_written_in(alloc, run, calls, unit.source, unit, bytes.as_slice())
+    eval_written_in(alloc, run, calls, field, bytes.as_slice())
 }
 
 #[cycle(evaluation)]
@@ -120,11 +122,46 @@ fn eval_bits_in<S: Space>(
     alloc: Global,
     run: &mut Running<S>,
     calls: usize,
+    field: Field,
+) -> Result<Vec<u8>, Refusal>
+    ensures spent { run.new.1 ≤ run.old.1 }
+    ensures means { Does (seen (λ v. v.items) result) run.new (bits_in S.accesses (asked (answer_within S.accesses (meaning S.accesses) calls)) field) run.old }
+{
+    match field {
+        Field::Unit(unit) => eval_unit_bits(alloc, run, calls, unit.source, unit),
+        Field::Buffer(field) => run.world.read_buffer_field(alloc, field),
+    }
+}
+
+#[cycle(evaluation)]
+#[tactic(auto, using(crate::proofs::Steps::evaluating))]
+fn eval_written_in<S: Space>(
+    alloc: Global,
+    run: &mut Running<S>,
+    calls: usize,
+    field: Field,
+    bytes: &[u8],
+) -> Result<(), Refusal>
+    ensures spent { run.new.1 ≤ run.old.1 }
+    ensures means { Does result run.new (written_in S.accesses (asked (answer_within S.accesses (meaning S.accesses) calls)) field bytes.now) run.old }
+{
+    match field {
+        Field::Unit(unit) => eval_unit_written(alloc, run, calls, unit.source, unit, bytes),
+        Field::Buffer(field) => run.world.write_buffer_field(alloc, field, bytes),
+    }
+}
+
+#[cycle(evaluation)]
+#[tactic(auto, using(crate::proofs::Steps::evaluating))]
+fn eval_unit_bits<S: Space>(
+    alloc: Global,
+    run: &mut Running<S>,
+    calls: usize,
     source: FieldSource,
     unit: FieldUnit,
 ) -> Result<Vec<u8>, Refusal>
     ensures spent { run.new.1 ≤ run.old.1 }
-    ensures means { Does (seen (λ v. v.items) result) run.new (bits_in S.accesses (asked (answer_within S.accesses (meaning S.accesses) calls)) source unit) run.old }
+    ensures means { Does (seen (λ v. v.items) result) run.new (field_unit_bits S.accesses (asked (answer_within S.accesses (meaning S.accesses) calls)) source unit) run.old }
 {
     match source {
         FieldSource::Region(region) => {
@@ -138,7 +175,7 @@ fn eval_bits_in<S: Space>(
 
 #[cycle(evaluation)]
 #[tactic(auto, using(crate::proofs::Steps::evaluating))]
-fn eval_written_in<S: Space>(
+fn eval_unit_written<S: Space>(
     alloc: Global,
     run: &mut Running<S>,
     calls: usize,
@@ -147,7 +184,7 @@ fn eval_written_in<S: Space>(
     bytes: &[u8],
 ) -> Result<(), Refusal>
     ensures spent { run.new.1 ≤ run.old.1 }
-    ensures means { Does result run.new (written_in S.accesses (asked (answer_within S.accesses (meaning S.accesses) calls)) source unit bytes.now) run.old }
+    ensures means { Does result run.new (field_unit_written S.accesses (asked (answer_within S.accesses (meaning S.accesses) calls)) source unit bytes.now) run.old }
 {
     match source {
         FieldSource::Region(region) => {

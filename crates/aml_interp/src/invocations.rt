@@ -18,7 +18,7 @@ use crate::task::Task;
 use crate::terms::{eval_list, eval_value};
 use aml_grammar::{Term, TermReader};
 use aml_meaning::{Flow, Invocation, Running};
-use aml_objects::{Body, FieldUnit, Value};
+use aml_objects::{Body, Field, Value};
 use aml_path::Path;
 use ar_space::{EvaluationFault, Refusal, Space};
 use std::alloc::Global;
@@ -66,25 +66,25 @@ fn eval_invocation<S: Space>(
 {
     match invocation {
         Invocation::Value(value) => Ok(Flow::Value(value)),
-        Invocation::FieldUnit(unit) => eval_field(alloc, run, job.depth, unit),
+        Invocation::Field(field) => eval_field(alloc, run, job.depth, field),
         Invocation::Method(path, body) => eval_call(alloc, run, job, &path, &body),
         Invocation::Osi => eval_osi(alloc, run, job),
     }
 }
 
-/// The bits of a field unit, as a value.
+/// The bits of a field, as a value.
 #[cycle(evaluation)]
 #[tactic(auto, using(crate::proofs::Steps::evaluating), unfolding(aml_meaning::specs::InvocationTerms::field_rule))]
 fn eval_field<S: Space>(
     alloc: Global,
     run: &mut Running<S>,
     depth: usize,
-    unit: FieldUnit,
+    field: Field,
 ) -> Result<Flow, Refusal>
     ensures spent { run.new.1 ≤ run.old.1 }
-    ensures means { Does result run.new (field_rule S.accesses (meaning S.accesses) depth unit) run.old }
+    ensures means { Does result run.new (field_rule S.accesses (meaning S.accesses) depth field) run.old }
 {
-    let value = eval_field_read(alloc, run, depth, unit)?;
+    let value = eval_field_read(alloc, run, depth, field)?;
     Ok(Flow::Value(value))
 }
 

@@ -2,6 +2,7 @@
 #![tactic(auto)]
 
 mod answers;
+mod buffer_fields;
 mod data;
 mod declarations;
 mod export;

@@ -7,6 +7,7 @@ ghost use Rattle.aml_grammar.specs.PartTree.{part_tree, part_list};
 ghost use Rattle.aml_meaning.specs.Meaning.{meaning};
 ghost use Rattle.aml_meaning.specs.FieldTerms.{region_rule, field_list_rule, index_list_rule, region_term_rule, fields_laid, elements_laid, element_laid, named_field, reserved_field, access_field, is_connection, has_connection, unconnected};
 
+use crate::buffer_fields::{eval_bits_field, eval_sized_field};
 use crate::declarations::eval_declaring;
 use crate::operands::{Reader, list, number};
 use crate::task::Task;
@@ -19,7 +20,7 @@ use aml_objects::{FieldSource, NamedObject, OperationRegion};
 use ar_space::{NameFault, Refusal, Space};
 use std::alloc::Global;
 
-/// An operation region or a list of fields, by its kind.
+/// An operation region, a list of fields or a buffer field, by its kind.
 #[cycle(evaluation)]
 #[tactic(auto, using(crate::proofs::Steps::evaluating))]
 pub(crate) fn eval_region_term<S: Space>(
@@ -35,6 +36,8 @@ pub(crate) fn eval_region_term<S: Space>(
         RegionKind::OperationRegion => eval_region(alloc, run, job),
         RegionKind::Field => eval_field_list(alloc, run, job),
         RegionKind::IndexField => eval_index_list(alloc, run, job),
+        RegionKind::SizedBufferField(size) => eval_sized_field(alloc, run, job, size),
+        RegionKind::BufferField => eval_bits_field(alloc, run, job),
     }
 }
 
@@ -59,7 +62,7 @@ fn eval_region<S: Space>(
         offset,
         length,
     };
-    eval_declaring(alloc, run, job, NamedObject::OperationRegion(region))
+    eval_declaring(alloc, run, job, 0, NamedObject::OperationRegion(region))
 }
 
 /// The fields of an operation region.

@@ -11,14 +11,16 @@ use Rattle.aml_objects.specs.declared.value.Value.{Value}
 use Rattle.aml_objects.specs.declared.object.Element.{Element}
 use Rattle.aml_objects.specs.declared.object.Object.{Object}
 use Rattle.aml_objects.specs.declared.object.Object.TheVariants as object
+use Rattle.aml_objects.specs.declared.entry.BufferField.{BufferField}
 use Rattle.aml_objects.specs.declared.entry.FieldUnit.{FieldUnit}
 use Rattle.aml_objects.specs.declared.entry.UpdateRule.{UpdateRule}
 use Rattle.aml_objects.specs.declared.entry.UpdateRule.TheVariants.{Preserve, WriteAsOnes, WriteAsZeros}
-use Rattle.aml_objects.specs.Objects.{Objects, make, make_string, make_buffer, make_package, string_at, buffer_at, elements_at, with_sized, with_buffer, write_buffer, with_string, write_string, byte_written, with_byte, write_byte, element_at, byte_at, element_there, element_written, with_element, write_element}
+use Rattle.aml_objects.specs.Objects.{Objects, make, make_string, make_buffer, make_package, string_at, buffer_at, elements_at, with_sized, with_buffer, write_buffer, with_string, write_string, byte_written, with_byte, write_byte, exchanged_with, with_exchanged, exchange_buffer, element_at, byte_at, element_there, element_written, with_element, write_element}
 use Rattle.aml_objects.specs.Copies.{copied}
 use Rattle.aml_objects.proofs.Copying.{copy_grows}
 use Rattle.aml_fields.specs.declared.region.Region.{Region}
 use Rattle.aml_fields.specs.declared.field_units.Unit.{Unit as Access}
+use Rattle.aml_fields.specs.BufferFields.{new_buffer_field, read_buffer_field, write_buffer_field}
 use Rattle.aml_fields.specs.Units.{units_of}
 use Rattle.aml_fields.specs.UnitByUnit.{read_units, bits_read, write_units, kept_by, kept}
 use Rattle.aml_fields.specs.Regions.{read_access, read_unit, read_field, write_access, write_unit, write_field}
@@ -228,6 +230,31 @@ element_kinds (Some ob) o i e h at = kinds_set h o ob _ at (element_kind i e ob)
 pub holds_write_element : (o i : ℕ) (e : Element) → Holds (write_element o i e)
 unfolding write_element
 holds_write_element o i e = record { along = λ h. element_kinds (slice_get h o) o i e h refl }
+
+exchanged_kind : (new : List ℕ) (ob : Object) → kind_of (exchanged_with new ob) ≡ kind_of ob
+exchanged_kind new (object.String bs) = refl
+exchanged_kind new (object.Buffer bs) = refl
+exchanged_kind new (object.Package es) = refl
+
+exchanged_kinds : (ob : Option Object) (o : ℕ) (new : List ℕ) (h : Objects) → slice_get h o ≡ ob → KeepsKinds h (with_exchanged ob o new h).1
+exchanged_kinds None o new h at = kinds_same h
+exchanged_kinds (Some ob) o new h at = kinds_set h o ob _ at (exchanged_kind new ob)
+
+holds_exchange : (o : ℕ) (new : List ℕ) → Holds (exchange_buffer o new)
+unfolding exchange_buffer
+holds_exchange o new = record { along = λ h. exchanged_kinds (slice_get h o) o new h refl }
+
+pub holds_new_buffer_field : (o offset count : ℕ) → Holds (new_buffer_field o offset count)
+unfolding new_buffer_field
+holds_new_buffer_field o offset count = along_bind _ _ (holds_buffer_at o) (λ bytes. along_settle _)
+
+pub holds_read_buffer_field : (f : BufferField) → Holds (read_buffer_field f)
+unfolding read_buffer_field
+holds_read_buffer_field f = along_bind _ _ (holds_buffer_at f.buffer) (λ bytes. along_bind _ _ (along_settle _) (λ whole. along_give _))
+
+pub holds_write_buffer_field : (f : BufferField) (source : List ℕ) → Holds (write_buffer_field f source)
+unfolding write_buffer_field
+holds_write_buffer_field f source = along_bind _ _ (holds_buffer_at f.buffer) (λ bytes. along_bind _ _ (along_settle _) (λ whole. along_bind _ _ (holds_exchange f.buffer _) (λ old. along_give _)))
 
 -- ---- what is taken back: the first so many objects, where some were added
 

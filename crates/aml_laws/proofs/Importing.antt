@@ -132,7 +132,7 @@ module _ {S : Type 0} {accesses : Accesses S} {law : Law accesses} (out : ℕ �
   keeps_use_out : (u : NameUse) → Keeps law (use_exported accesses out u)
   unfolding use_exported
   keeps_use_out (uses.Value v) = keeps_value_out v
-  keeps_use_out (uses.FieldUnit u) = keeps_field_given _ (keeps_called_at _ meaning_keeps 1) u
+  keeps_use_out (uses.Field u) = keeps_field_given _ (keeps_called_at _ meaning_keeps 1) u
   keeps_use_out (uses.Path p) = keeps_give _
 
   keeps_name_out : (n : Name) (scope : List Seg) → Keeps law (name_exported accesses out n scope)

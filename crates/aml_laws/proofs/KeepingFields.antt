@@ -1,4 +1,4 @@
--- Reading and writing field units, and declaring them, goes by every law.
+-- Reading and writing fields, and declaring them, goes by every law.
 use Rattle.std.specs.Prelude.{ℕ, nat_lt, List, Bool, Option, Some, None, refl}
 use Rattle.ar_space.specs.Accesses.{Accesses}
 use Rattle.ar_space.specs.Outcome.{Outcome}
@@ -11,6 +11,8 @@ use Rattle.aml_grammar.specs.Tree.{Tree, Trees, no_trees, tree}
 use Rattle.aml_grammar.specs.Apart.{code_of}
 use Rattle.aml_objects.specs.Objects.{make_buffer}
 use Rattle.aml_objects.specs.declared.value.Value.{Value}
+use Rattle.aml_objects.specs.declared.entry.Field.{Field}
+use Rattle.aml_objects.specs.declared.entry.Field.TheVariants as field
 use Rattle.aml_objects.specs.declared.entry.FieldUnit.{FieldUnit}
 use Rattle.aml_objects.specs.declared.entry.FieldSource.{FieldSource}
 use Rattle.aml_objects.specs.declared.entry.FieldSource.TheVariants as sources
@@ -30,9 +32,9 @@ use Rattle.aml_meaning.specs.Run.{Run}
 use Rattle.aml_meaning.specs.Given.{Given}
 use Rattle.aml_meaning.specs.PciFunctions.{nearest, pci_function}
 use Rattle.aml_meaning.specs.Regions.{region_declared, field_declared, integer_of_bits, integer_value, value_of_bits, integer_alone, referent_of_bits, given_of_bits}
-use Rattle.aml_meaning.specs.Fields.{part_in, inherited, pci_address, space_at, located, region_bits, region_written, index_unit, index_unit_written, index_bits, index_written, bits_in, written_in, field_value, field_integer, field_part, field_referent, field_stored, field_given}
+use Rattle.aml_meaning.specs.Fields.{part_in, inherited, pci_address, space_at, located, region_bits, region_written, index_unit, index_unit_written, index_bits, index_written, field_unit_bits, field_unit_written, bits_in, written_in, field_value, field_integer, field_part, field_referent, field_stored, field_given}
 use Rattle.aml_meaning.specs.FieldTerms.{new_field, named_field, reserved_field, access_field, element_laid, elements_laid, region_found, field_found}
-use Rattle.aml_laws.proofs.Along.{either_way, along_bits, along_writes, along_kept, holds_buffer, reaches_field, reaches_field_written}
+use Rattle.aml_laws.proofs.Along.{either_way, along_bits, along_writes, along_kept, holds_buffer, holds_read_buffer_field, holds_write_buffer_field, reaches_field, reaches_field_written}
 use Rattle.aml_laws.proofs.Keeping.{Law, Leaves, Keeps, of_along, as_along, leaves_same, leaves_give, leaves_stop, leaves_settle, leaves_bind, leaves_objects, leaves_space, keeps_give, keeps_stop, keeps_settle, keeps_lift, keeps_bind}
 use Rattle.aml_laws.proofs.Leaving.{leaves_entry, leaves_new}
 use Rattle.aml_laws.proofs.LeavingPlaces.{leaves_declaration, leaves_bytes}
@@ -173,36 +175,44 @@ module _ {S : Type 0} {accesses : Accesses S} {law : Law accesses} (call : List 
   unfolding index_unit_written
   keeps_index_written index behind f bytes u = keeps_bind _ _ (keeps_kept f u _ (keeps_index_unit index behind f.access u)) (λ old. keeps_bind _ _ (keeps_region_written index _) (λ chosen. keeps_region_written behind _))
 
-  keeps_bits_in : (source : FieldSource) (f : FieldUnit) → Keeps law (bits_in accesses call source f)
+  keeps_unit_bits : (source : FieldSource) (f : FieldUnit) → Keeps law (field_unit_bits accesses call source f)
   unfolding index_bits
-  keeps_bits_in (sources.Region n) f = keeps_region_bits _
-  keeps_bits_in (sources.Index i d) f = keeps_bind _ _ (keeps_lift _ (leaves_field_declared i)) (λ index. keeps_bind _ _ (keeps_lift _ (leaves_field_declared d)) (λ behind. keeps_bits _ (keeps_index_unit index behind f.access) f))
+  keeps_unit_bits (sources.Region n) f = keeps_region_bits _
+  keeps_unit_bits (sources.Index i d) f = keeps_bind _ _ (keeps_lift _ (leaves_field_declared i)) (λ index. keeps_bind _ _ (keeps_lift _ (leaves_field_declared d)) (λ behind. keeps_bits _ (keeps_index_unit index behind f.access) f))
 
-  keeps_written_in : (source : FieldSource) (f : FieldUnit) (bytes : List ℕ) → Keeps law (written_in accesses call source f bytes)
+  keeps_unit_written : (source : FieldSource) (f : FieldUnit) (bytes : List ℕ) → Keeps law (field_unit_written accesses call source f bytes)
   unfolding index_written
-  keeps_written_in (sources.Region n) f bytes = keeps_region_written _ bytes
-  keeps_written_in (sources.Index i d) f bytes = keeps_bind _ _ (keeps_lift _ (leaves_field_declared i)) (λ index. keeps_bind _ _ (keeps_lift _ (leaves_field_declared d)) (λ behind. keeps_writes _ (keeps_index_written index behind f bytes) (units_of f.bit_offset f.bits f.access)))
+  keeps_unit_written (sources.Region n) f bytes = keeps_region_written _ bytes
+  keeps_unit_written (sources.Index i d) f bytes = keeps_bind _ _ (keeps_lift _ (leaves_field_declared i)) (λ index. keeps_bind _ _ (keeps_lift _ (leaves_field_declared d)) (λ behind. keeps_writes _ (keeps_index_written index behind f bytes) (units_of f.bit_offset f.bits f.access)))
 
-  pub keeps_field_value : (f : FieldUnit) → Keeps law (field_value accesses call f)
+  keeps_bits_in : (f : Field) → Keeps law (bits_in accesses call f)
+  keeps_bits_in (field.Unit u) = keeps_unit_bits u.source u
+  keeps_bits_in (field.Buffer b) = keeps_lift _ (leaves_objects _ (holds_read_buffer_field b))
+
+  keeps_written_in : (f : Field) (bytes : List ℕ) → Keeps law (written_in accesses call f bytes)
+  keeps_written_in (field.Unit u) bytes = keeps_unit_written u.source u bytes
+  keeps_written_in (field.Buffer b) bytes = keeps_lift _ (leaves_objects _ (holds_write_buffer_field b bytes))
+
+  pub keeps_field_value : (f : Field) → Keeps law (field_value accesses call f)
   unfolding field_value
-  keeps_field_value f = keeps_bind _ _ (keeps_bits_in f.source f) (λ bytes. keeps_lift _ (leaves_value_of_bits _ bytes))
+  keeps_field_value f = keeps_bind _ _ (keeps_bits_in f) (λ bytes. keeps_lift _ (leaves_value_of_bits _ bytes))
 
-  pub keeps_field_stored : (f : FieldUnit) (v : Value) → Keeps law (field_stored accesses call f v)
+  pub keeps_field_stored : (f : Field) (v : Value) → Keeps law (field_stored accesses call f v)
   unfolding field_stored
-  keeps_field_stored f v = keeps_bind _ _ (keeps_lift _ (leaves_bytes v)) (λ bytes. keeps_written_in f.source f bytes)
+  keeps_field_stored f v = keeps_bind _ _ (keeps_lift _ (leaves_bytes v)) (λ bytes. keeps_written_in f bytes)
 
-  pub keeps_field_integer : (f : FieldUnit) → Keeps law (field_integer accesses call f)
+  pub keeps_field_integer : (f : Field) → Keeps law (field_integer accesses call f)
   unfolding field_integer
-  keeps_field_integer f = keeps_bind _ _ (keeps_bits_in f.source f) (λ bytes. keeps_lift _ (leaves_integer_of_bits bytes))
+  keeps_field_integer f = keeps_bind _ _ (keeps_bits_in f) (λ bytes. keeps_lift _ (leaves_integer_of_bits bytes))
 
-  pub keeps_field_referent : (f : FieldUnit) → Keeps law (field_referent accesses call f)
+  pub keeps_field_referent : (f : Field) → Keeps law (field_referent accesses call f)
   unfolding field_referent
-  keeps_field_referent f = keeps_bind _ _ (keeps_bits_in f.source f) (λ bytes. keeps_lift _ (leaves_referent_of_bits _ bytes))
+  keeps_field_referent f = keeps_bind _ _ (keeps_bits_in f) (λ bytes. keeps_lift _ (leaves_referent_of_bits _ bytes))
 
-  pub keeps_field_part : (f : FieldUnit) → Keeps law (field_part accesses call f)
+  pub keeps_field_part : (f : Field) → Keeps law (field_part accesses call f)
   unfolding field_part
-  keeps_field_part f = keeps_bind _ _ (keeps_bits_in f.source f) (λ bytes. keeps_lift _ (leaves_integer_alone _ bytes))
+  keeps_field_part f = keeps_bind _ _ (keeps_bits_in f) (λ bytes. keeps_lift _ (leaves_integer_alone _ bytes))
 
-  pub keeps_field_given : (f : FieldUnit) → Keeps law (field_given accesses call f)
+  pub keeps_field_given : (f : Field) → Keeps law (field_given accesses call f)
   unfolding field_given
-  keeps_field_given f = keeps_bind _ _ (keeps_bits_in f.source f) (λ bytes. keeps_lift _ (leaves_given_of_bits _ bytes))
+  keeps_field_given f = keeps_bind _ _ (keeps_bits_in f) (λ bytes. keeps_lift _ (leaves_given_of_bits _ bytes))

@@ -101,11 +101,11 @@ module _ {S : Type 0} {accesses : Accesses S} {law : Law accesses} where
   leaves_element_once : (e : Element) → Leaves law (element_once e)
   unfolding name_once
   leaves_element_once (element.Value v) = leaves_value_once v
-  leaves_element_once (element.Name n scope) = leaves_bind _ _ (leaves_entry scope n) (λ e. leaves_settle _)
+  leaves_element_once (element.Name n scope) = leaves_bind _ _ (leaves_entry scope n) (λ e. leaves_give _)
 
   pub leaves_dereferenced : (r : Reference) → Leaves law (dereferenced r)
   unfolding declared_once slot_once held_once byte_once
-  leaves_dereferenced (reference.Name n) = leaves_bind _ _ (leaves_declaration n) (λ e. leaves_settle _)
+  leaves_dereferenced (reference.Name n) = leaves_bind _ _ (leaves_declaration n) (λ e. leaves_give _)
   leaves_dereferenced (reference.Slot n slot) = leaves_bind _ _ (leaves_frame n) (λ k. leaves_bind _ _ (leaves_slot k slot) (λ v. leaves_value_once v))
   leaves_dereferenced (reference.Element o i) = leaves_bind _ _ (leaves_objects _ (holds_element_at o i)) (λ e. leaves_element_once e)
   leaves_dereferenced (reference.Byte o i) = leaves_bind _ _ (leaves_objects _ (holds_byte_at o i)) (λ b. leaves_give _)
@@ -158,7 +158,7 @@ module _ {S : Type 0} {accesses : Accesses S} {law : Law accesses} where
     leaves_referent_followed : (r : Referent) → Leaves law (referent_followed follow r)
     leaves_referent_followed (referent.Value v) = leaves_value_followed v
     leaves_referent_followed (referent.Object t) = leaves_give _
-    leaves_referent_followed (referent.FieldUnit u) = leaves_give _
+    leaves_referent_followed (referent.Field u) = leaves_give _
     leaves_referent_followed (referent.Bytes n) = leaves_give _
 
     leaves_declared_followed : (n : ℕ) → Leaves law (declared_followed follow n)
@@ -179,7 +179,7 @@ module _ {S : Type 0} {accesses : Accesses S} {law : Law accesses} where
     leaves_element_named n object.ThermalZone = follows (reference.Name n)
     leaves_element_named n (object.Method m) = follows (reference.Name n)
     leaves_element_named n (object.OperationRegion r) = follows (reference.Name n)
-    leaves_element_named n (object.BufferField b) = follows (reference.Name n)
+    leaves_element_named n (object.BufferField b) = leaves_give _
     leaves_element_named n (object.Mutex c) = follows (reference.Name n)
     leaves_element_named n object.Event = follows (reference.Name n)
     leaves_element_named n (object.Alias q) = follows (reference.Name n)
@@ -248,8 +248,7 @@ module _ {S : Type 0} {accesses : Accesses S} {law : Law accesses} where
 
   pub leaves_copy_over : (h : Holding) (q : List Seg) (v : Value) → Leaves law (copy_over h q v)
   leaves_copy_over (holding.Value old) q v = leaves_copy_name q v
-  leaves_copy_over (holding.FieldUnit u) q v = leaves_give _
-  leaves_copy_over holding.BufferField q v = leaves_stop _
+  leaves_copy_over (holding.Field f) q v = leaves_give _
   leaves_copy_over holding.Nothing q v = leaves_stop _
 
   pub leaves_text : (v : Value) → Leaves law (text_in v)
@@ -290,8 +289,7 @@ module _ {S : Type 0} {accesses : Accesses S} {law : Law accesses} where
 
   pub leaves_store_over : (h : Holding) (q : List Seg) (v : Value) → Leaves law (store_over h q v)
   leaves_store_over (holding.Value old) q v = leaves_store_value old q v
-  leaves_store_over (holding.FieldUnit u) q v = leaves_give _
-  leaves_store_over holding.BufferField q v = leaves_stop _
+  leaves_store_over (holding.Field f) q v = leaves_give _
   leaves_store_over holding.Nothing q v = leaves_stop _
 
   pub leaves_byte : (v : Value) → Leaves law (byte_in v)

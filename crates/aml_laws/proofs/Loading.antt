@@ -48,7 +48,7 @@ module _ {S : Type 0} {accesses : Accesses S} {law : Law accesses} where
 
   carries_value_of : (u : State S) (i : Invocation) (arguments : List Value) → CalledIn u i → Carries law u (value_of accesses i arguments)
   carries_value_of u (invocations.Value v) arguments at = carried u _ (keeps_give _)
-  carries_value_of u (invocations.FieldUnit f) arguments at = carried u _ (keeps_read _ meaning_keeps 1 f)
+  carries_value_of u (invocations.Field f) arguments at = carried u _ (keeps_read _ meaning_keeps 1 f)
   carries_value_of u (invocations.Method q body) arguments at = carries_method_value _ meaning_keeps u 0 q body arguments (at q body refl)
   carries_value_of u invocations.Osi arguments at = carried u _ (keeps_lift _ (leaves_osi arguments))
 

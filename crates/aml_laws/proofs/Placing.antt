@@ -30,7 +30,7 @@ use Rattle.aml_meaning.specs.declared.term_kind.DeclarationKind.{DeclarationKind
 use Rattle.aml_meaning.specs.declared.term_kind.DeclarationKind.TheVariants as declarations
 use Rattle.aml_meaning.specs.declared.term_kind.RegionKind.{RegionKind}
 use Rattle.aml_meaning.specs.declared.term_kind.RegionKind.TheVariants as regions
-use Rattle.aml_meaning.specs.FieldTerms.{region_rule, region_term_rule}
+use Rattle.aml_meaning.specs.FieldTerms.{region_rule, sized_field_rule, bits_field_rule, region_term_rule}
 use Rattle.aml_meaning.specs.State.{State, on_names}
 use Rattle.aml_meaning.specs.Run.{Run, lift, charge}
 use Rattle.aml_meaning.specs.Terms.{kind_of}
@@ -42,10 +42,11 @@ use Rattle.aml_meaning.specs.Meaning.{meaning}
 use Rattle.aml_meaning.proofs.Meanings.{meaning_is}
 use Rattle.aml_laws.specs.Outside.{Outside, Stands}
 use Rattle.aml_laws.specs.Declares.{declared_place, region_place, place_of_kind, place_in, Declares, IsItem, first, later}
-use Rattle.aml_laws.proofs.Keeping.{Leaves, Keeps, keeps_give, keeps_settle, keeps_charge, keeps_lift, keeps_bind}
+use Rattle.aml_laws.proofs.Along.{holds_new_buffer_field}
+use Rattle.aml_laws.proofs.Keeping.{Leaves, Keeps, leaves_objects, keeps_give, keeps_settle, keeps_charge, keeps_lift, keeps_bind}
 use Rattle.aml_laws.proofs.Leaving.{leaves_read, leaves_path, leaves_new, leaves_method}
 use Rattle.aml_laws.proofs.NamesStay.{names_law}
-use Rattle.aml_laws.proofs.Standing.{keeps_after, keeps_value, keeps_value_at, meaning_keeps, list_keeps}
+use Rattle.aml_laws.proofs.Standing.{keeps_after, keeps_value, keeps_value_at, keeps_two_values, meaning_keeps, list_keeps}
 
 -- ---- evaluations that leave a name outside of control methods, where they are not refused
 
@@ -131,13 +132,13 @@ module _ {S : Type 0} (accesses : Accesses S) (scope : List Seg) (depth : ℕ) (
   sets_declared : {A B : Type 0} (m : Change (State S) A) (k : A → Run S B) → Leaves (names_law accesses p) m → Sets (lift m) p → ((a : A) → Keeps (names_law accesses p) (k a)) → Sets (lift m >>= k) p
   sets_declared m k h set i = sets_first accesses (lift m) k p (keeps_lift m h) set i
 
-  sets_declaring : (o : NamedObject) → name_of (operand_of t 0) ≡ Ok n → resolved n scope ≡ Ok p → Sets (declaring (meaning accesses) scope depth t o) p
+  sets_declaring : (position : ℕ) (o : NamedObject) → name_of (operand_of t position) ≡ Ok n → resolved n scope ≡ Ok p → Sets (declaring (meaning accesses) scope depth t position o) p
   unfolding declaring
-  sets_declaring o named at = sets_known _ n _ p named (sets_known _ p _ p at (sets_declared _ _ (leaves_new _ p o) (sets_name _ p o) (λ number. keeps_give _)))
+  sets_declaring position o named at = sets_known _ n _ p named (sets_known _ p _ p at (sets_declared _ _ (leaves_new _ p o) (sets_name _ p o) (λ number. keeps_give _)))
 
   sets_datum : name_of (operand_of t 0) ≡ Ok n → resolved n scope ≡ Ok p → Sets (name_rule (meaning accesses) scope depth t) p
   unfolding name_rule
-  sets_datum named at = sets_then accesses _ _ p (keeps_settle _) (λ datum. sets_then accesses _ _ p (keeps_value (meaning accesses) meaning_keeps scope depth datum) (λ v. sets_declaring _ named at))
+  sets_datum named at = sets_then accesses _ _ p (keeps_settle _) (λ datum. sets_then accesses _ _ p (keeps_value (meaning accesses) meaning_keeps scope depth datum) (λ v. sets_declaring _ _ named at))
 
   sets_alias : name_of (operand_of t 1) ≡ Ok n → resolved n scope ≡ Ok p → Sets (alias_rule (meaning accesses) scope depth t) p
   unfolding alias_rule
@@ -158,18 +159,24 @@ module _ {S : Type 0} (accesses : Accesses S) (scope : List Seg) (depth : ℕ) (
   sets_declaration declarations.PowerResource i e named at = sets_scope _ _ (at_place t n i 0 e named) at
   sets_declaration declarations.ThermalZone i e named at = sets_scope _ _ (at_place t n i 0 e named) at
   sets_declaration declarations.Method i e named at = sets_procedure (at_place t n i 0 e named) at
-  sets_declaration declarations.Mutex i e named at = sets_declaring _ (at_place t n i 0 e named) at
-  sets_declaration declarations.Event i e named at = sets_declaring _ (at_place t n i 0 e named) at
+  sets_declaration declarations.Mutex i e named at = sets_declaring _ _ (at_place t n i 0 e named) at
+  sets_declaration declarations.Event i e named at = sets_declaring _ _ (at_place t n i 0 e named) at
   sets_declaration declarations.Alias i e named at = sets_alias (at_place t n i 1 e named) at
   sets_declaration declarations.Scope i e named at = absurd (cc e)
   sets_declaration declarations.External i e named at = absurd (cc e)
 
   sets_region_term : (k : RegionKind) (i : ℕ) → region_place k ≡ Some i → name_of (operand_of t i) ≡ Ok n → resolved n scope ≡ Ok p → Sets (region_term_rule (meaning accesses) k scope depth t) p
-  unfolding region_rule
+  unfolding region_rule sized_field_rule bits_field_rule
   sets_region_term regions.OperationRegion i e named at =
-      sets_then accesses _ _ p (keeps_settle _) (λ space. sets_then accesses _ _ p (keeps_value_at (meaning accesses) meaning_keeps scope depth t 2) (λ offset. sets_then accesses _ _ p (keeps_value_at (meaning accesses) meaning_keeps scope depth t 3) (λ size. sets_then accesses _ _ p (keeps_lift _ (leaves_read offset)) (λ x. sets_then accesses _ _ p (keeps_lift _ (leaves_read size)) (λ y. sets_declaring _ (at_place t n i 0 e named) at)))))
+      sets_then accesses _ _ p (keeps_settle _) (λ space. sets_then accesses _ _ p (keeps_value_at (meaning accesses) meaning_keeps scope depth t 2) (λ offset. sets_then accesses _ _ p (keeps_value_at (meaning accesses) meaning_keeps scope depth t 3) (λ size. sets_then accesses _ _ p (keeps_lift _ (leaves_read offset)) (λ x. sets_then accesses _ _ p (keeps_lift _ (leaves_read size)) (λ y. sets_declaring _ _ (at_place t n i 0 e named) at)))))
   sets_region_term regions.Field i e named at = absurd (cc e)
   sets_region_term regions.IndexField i e named at = absurd (cc e)
+  sets_region_term (regions.SizedBufferField size) i e named at =
+      sets_then accesses _ _ p (keeps_two_values (meaning accesses) meaning_keeps scope depth t) (λ x. sets_then accesses _ _ p (keeps_settle _) (λ o. sets_then accesses _ _ p (keeps_lift _ (leaves_read x.1)) (λ j. sets_then accesses _ _ p (keeps_lift _ (leaves_objects _ (holds_new_buffer_field o _ _))) (λ b. sets_declaring _ _ (at_place t n i 2 e named) at))))
+  sets_region_term regions.BufferField i e named at =
+      sets_then accesses _ _ p (keeps_value_at (meaning accesses) meaning_keeps scope depth t 0) (λ source. sets_then accesses _ _ p (keeps_value_at (meaning accesses) meaning_keeps scope depth t 1) (λ index. sets_then accesses _ _ p (keeps_value_at (meaning accesses) meaning_keeps scope depth t 2) (λ count.
+      sets_then accesses _ _ p (keeps_settle _) (λ o. sets_then accesses _ _ p (keeps_lift _ (leaves_read index)) (λ j. sets_then accesses _ _ p (keeps_lift _ (leaves_read count)) (λ k. sets_then accesses _ _ p (keeps_settle _) (λ bits.
+      sets_then accesses _ _ p (keeps_lift _ (leaves_objects _ (holds_new_buffer_field o j bits))) (λ b. sets_declaring _ _ (at_place t n i 3 e named) at))))))))
 
   sets_kind : (k : TermKind) (op : Opcode) (i : ℕ) → place_of_kind k ≡ Some i → name_of (operand_of t i) ≡ Ok n → resolved n scope ≡ Ok p → Sets (kind_rule accesses (meaning accesses) k op scope depth t) p
   sets_kind (kinds.Declaration k) op i e named at = sets_declaration k i e named at

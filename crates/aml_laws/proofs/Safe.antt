@@ -13,7 +13,7 @@ use Rattle.aml_objects.specs.declared.object.Element.{Element}
 use Rattle.aml_objects.specs.declared.object.Element.TheVariants as element
 use Rattle.aml_objects.specs.declared.object.Object.{Object}
 use Rattle.aml_objects.specs.declared.object.Object.TheVariants as object
-use Rattle.aml_objects.specs.Objects.{Objects, make, fits, few, make_string, make_buffer, make_package, string_in, buffer_in, elements_in, string_at, buffer_at, elements_at, fitted_to, with_sized, with_buffer, write_buffer, with_string, write_string, byte_written, with_byte, write_byte, or_dead, element_in, element_at, byte_in, byte_at, element_there, element_written, with_element, write_element}
+use Rattle.aml_objects.specs.Objects.{Objects, make, fits, few, make_string, make_buffer, make_package, string_in, buffer_in, elements_in, string_at, buffer_at, elements_at, fitted_to, with_sized, with_buffer, write_buffer, with_string, write_string, byte_written, with_byte, write_byte, exchanged_with, with_exchanged, exchange_buffer, or_dead, element_in, element_at, byte_in, byte_at, element_there, element_written, with_element, write_element}
 use Rattle.aml_objects.specs.Copies.{string_copy, buffer_copy, value_copy, held_copy, element_copy, copies_of, whole_copy, package_copy, if_whole, whole, copied}
 use Rattle.aml_laws.specs.Plain.{AreBytes}
 use Rattle.aml_laws.specs.Within.{WithinWidth}
@@ -300,6 +300,19 @@ module _ (width : IntegerWidth) where
   pub o_write_element : (o i : ℕ) (e : Element) → ElementFits width e → Safe (Each (ObjectFits width)) Any (write_element o i e)
   unfolding write_element
   o_write_element o i e f = record { safe = λ h s. element_good (slice_get h o) o i e h s f (held_there h o _ s refl) }
+
+  exchanged_fits : (new : List ℕ) (o : Object) → AreBytes new → length new ≤ 1048576 → ObjectFits width o → ObjectFits width (exchanged_with new o)
+  exchanged_fits new (object.String bs) b l h = h
+  exchanged_fits new (object.Buffer bs) b l h = (b, l)
+  exchanged_fits new (object.Package es) b l h = h
+
+  exchanged_good : (ob : Option Object) (o : ℕ) (new : List ℕ) (h : Objects) → Each (ObjectFits width) h → AreBytes new → length new ≤ 1048576 → Held ob → Good (Each (ObjectFits width)) Any (with_exchanged ob o new h)
+  exchanged_good None o new h i b l k = good_err _ h i
+  exchanged_good (Some ob) o new h i b l k = good_settled _ _ (each_set _ h o _ i (exchanged_fits new ob b l k)) (λ a e. tt)
+
+  pub o_exchange : (o : ℕ) (new : List ℕ) → AreBytes new → length new ≤ 1048576 → Safe (Each (ObjectFits width)) Any (exchange_buffer o new)
+  unfolding exchange_buffer
+  o_exchange o new b l = record { safe = λ h i. exchanged_good (slice_get h o) o new h i b l (held_there h o _ i refl) }
 
   -- ---- copies
 

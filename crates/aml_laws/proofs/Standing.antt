@@ -41,7 +41,7 @@ use Rattle.aml_meaning.specs.declared.store_target.Stored.{Stored}
 use Rattle.aml_meaning.specs.declared.store_target.Stored.TheVariants as store
 use Rattle.aml_meaning.specs.declared.term_kind.RegionKind.{RegionKind}
 use Rattle.aml_meaning.specs.declared.term_kind.RegionKind.TheVariants as regions
-use Rattle.aml_objects.specs.declared.entry.FieldUnit.{FieldUnit}
+use Rattle.aml_objects.specs.declared.entry.Field.{Field}
 use Rattle.aml_meaning.specs.State.{State}
 use Rattle.aml_meaning.specs.Run.{Run}
 use Rattle.aml_meaning.specs.Terms.{kind_of, target_kind}
@@ -54,11 +54,11 @@ use Rattle.aml_meaning.specs.StatementTerms.{otherwise, branch, if_rule, else_ru
 use Rattle.aml_meaning.specs.Invocations.{invoked, method_value}
 use Rattle.aml_meaning.specs.InvocationTerms.{arguments_in_turn, call_rule, osi_rule, field_rule, invocation_rule, name_value}
 use Rattle.aml_meaning.specs.FieldCalls.{called_at, asked, method_integer, answer_over, answer_within, field_read, held_value, held_integer, referent_read, completed, stored_to, is_element, back_to, stored_back}
-use Rattle.aml_meaning.specs.FieldTerms.{fields_laid, region_rule, field_list_rule, index_list_rule, region_term_rule}
+use Rattle.aml_meaning.specs.FieldTerms.{fields_laid, region_rule, field_list_rule, index_list_rule, sized_field_rule, bits_field_rule, region_term_rule}
 use Rattle.aml_laws.proofs.KeepingFields.{leaves_elements, leaves_region_found, leaves_field_found, keeps_field_value, keeps_field_integer, keeps_field_part, keeps_field_referent, keeps_field_stored}
 use Rattle.aml_meaning.specs.Evaluation.{kind_rule, code_rule, rule}
 use Rattle.aml_meaning.specs.Meaning.{meaning, evaluated_within}
-use Rattle.aml_laws.proofs.Along.{holds_string}
+use Rattle.aml_laws.proofs.Along.{holds_string, holds_new_buffer_field}
 use Rattle.aml_laws.proofs.Callees.{MethodAt}
 use Rattle.aml_laws.proofs.Keeping.{Law, Keeps, Carries, CalledIn, Removes, leaves_objects, keeps_give, keeps_stop, keeps_settle, keeps_lift, keeps_charge, keeps_bind, keeps_found, carried, carries_bind, carries_body}
 use Rattle.aml_laws.proofs.Leaving.{finds_use, finds_invocation, leaves_integer, leaves_read, leaves_path, leaves_scope, leaves_target_named, leaves_within, leaves_buffer, leaves_package, leaves_new, leaves_method, leaves_divided, leaves_turned, leaves_size, leaves_two, leaves_one, leaves_test, leaves_counted, leaves_osi, leaves_terms, leaves_arguments}
@@ -99,7 +99,7 @@ module _ {S : Type 0} {accesses : Accesses S} {law : Law accesses} (ev : Task �
   carries_over : (k : ℕ) (call : List Seg → Run S ℕ) → ((q : List Seg) → Keeps law (call q)) → (u : State S) (i : Invocation) → CalledIn u i → Carries law u (answer_over accesses ev k call i)
   unfolding method_integer
   carries_over k call each u (invocations.Value v) at = carried u _ (keeps_settle _)
-  carries_over k call each u (invocations.FieldUnit f) at = carried u _ (keeps_field_part call each f)
+  carries_over k call each u (invocations.Field f) at = carried u _ (keeps_field_part call each f)
   carries_over k call each u (invocations.Method q body) at = carries_bind u _ _ (carries_method_value u _ q body _ (at q body refl)) (λ v. carried u _ (keeps_settle _))
   carries_over k call each u invocations.Osi at = carried u _ (keeps_stop _)
 
@@ -111,22 +111,22 @@ module _ {S : Type 0} {accesses : Accesses S} {law : Law accesses} (ev : Task �
   pub keeps_called_at : (depth : ℕ) (q : List Seg) → Keeps law (called_at accesses ev depth q)
   keeps_called_at depth q = keeps_asked _ (carries_answer _) q
 
-  pub keeps_read : (depth : ℕ) (u : FieldUnit) → Keeps law (field_read accesses ev depth u)
+  pub keeps_read : (depth : ℕ) (u : Field) → Keeps law (field_read accesses ev depth u)
   keeps_read depth u = keeps_field_value _ (keeps_called_at depth) u
 
   keeps_held : (depth : ℕ) (h : Held) → Keeps law (held_integer accesses ev depth h)
   keeps_held depth (held.Value v) = keeps_lift _ (leaves_read v)
-  keeps_held depth (held.FieldUnit u) = keeps_field_integer _ (keeps_called_at depth) u
+  keeps_held depth (held.Field u) = keeps_field_integer _ (keeps_called_at depth) u
 
   keeps_referent_read : (depth : ℕ) (r : Referent) → Keeps law (referent_read accesses ev depth r)
   keeps_referent_read depth (referent.Value v) = keeps_give _
   keeps_referent_read depth (referent.Object t) = keeps_give _
-  keeps_referent_read depth (referent.FieldUnit u) = keeps_field_referent _ (keeps_called_at depth) u
+  keeps_referent_read depth (referent.Field u) = keeps_field_referent _ (keeps_called_at depth) u
   keeps_referent_read depth (referent.Bytes n) = keeps_give _
 
   keeps_completed : (depth : ℕ) (s : Stored) (v : Value) → Keeps law (completed accesses ev depth s v)
   keeps_completed depth store.Done v = keeps_give _
-  keeps_completed depth (store.FieldUnit u) v = keeps_field_stored _ (keeps_called_at depth) u v
+  keeps_completed depth (store.Field u) v = keeps_field_stored _ (keeps_called_at depth) u v
 
   keeps_stored_to : (depth : ℕ) (q : StoreTarget) (v : Value) → Keeps law (stored_to accesses ev depth q v)
   unfolding stored_to
@@ -134,12 +134,12 @@ module _ {S : Type 0} {accesses : Accesses S} {law : Law accesses} (ev : Task �
 
   keeps_held_value : (depth : ℕ) (h : Held) → Keeps law (held_value accesses ev depth h)
   keeps_held_value depth (held.Value v) = keeps_give _
-  keeps_held_value depth (held.FieldUnit u) = keeps_read depth u
+  keeps_held_value depth (held.Field u) = keeps_read depth u
 
   keeps_back_to : (b : Bool) (depth : ℕ) (h : Held) (q : StoreTarget) (v : Value) → Keeps law (back_to accesses ev b depth h q v)
   keeps_back_to true depth h q v = keeps_stored_to depth q v
   keeps_back_to false depth (held.Value old) q v = keeps_stored_to depth q v
-  keeps_back_to false depth (held.FieldUnit u) q v = keeps_field_stored _ (keeps_called_at depth) u v
+  keeps_back_to false depth (held.Field u) q v = keeps_field_stored _ (keeps_called_at depth) u v
 
   keeps_stored_back : (depth : ℕ) (h : Held) (q : StoreTarget) (v : Value) → Keeps law (stored_back accesses ev depth h q v)
   keeps_stored_back depth h q v = keeps_back_to (is_element q) depth h q v
@@ -192,13 +192,13 @@ module _ {S : Type 0} {accesses : Accesses S} {law : Law accesses} (ev : Task �
   unfolding var_package_rule
   keeps_var_package scope depth t = keeps_bind _ _ (keeps_settle _) (λ size. keeps_bind _ _ (keeps_integer scope depth size) (λ k. keeps_bind _ _ (keeps_lift _ (leaves_within _ k)) (λ u. keeps_bind _ _ (keeps_settle _) (λ ts. keeps_package_of scope depth k ts))))
 
-  keeps_declaring : (scope : List Seg) (depth : ℕ) (t : Tree) (o : NamedObject) → Keeps law (declaring ev scope depth t o)
+  pub keeps_declaring : (scope : List Seg) (depth : ℕ) (t : Tree) (position : ℕ) (o : NamedObject) → Keeps law (declaring ev scope depth t position o)
   unfolding declaring
-  keeps_declaring scope depth t o = keeps_bind _ _ (keeps_settle _) (λ x. keeps_bind _ _ (keeps_settle _) (λ q. keeps_bind _ _ (keeps_lift _ (leaves_new _ q o)) (λ u. keeps_give _)))
+  keeps_declaring scope depth t position o = keeps_bind _ _ (keeps_settle _) (λ x. keeps_bind _ _ (keeps_settle _) (λ q. keeps_bind _ _ (keeps_lift _ (leaves_new _ q o)) (λ u. keeps_give _)))
 
   keeps_name : (scope : List Seg) (depth : ℕ) (t : Tree) → Keeps law (name_rule ev scope depth t)
   unfolding name_rule
-  keeps_name scope depth t = keeps_bind _ _ (keeps_settle _) (λ d. keeps_bind _ _ (keeps_value scope depth d) (λ v. keeps_declaring scope depth t _))
+  keeps_name scope depth t = keeps_bind _ _ (keeps_settle _) (λ d. keeps_bind _ _ (keeps_value scope depth d) (λ v. keeps_declaring scope depth t _ _))
 
   keeps_new_scope : (o : NamedObject) (place : ℕ) (scope : List Seg) (depth : ℕ) (t : Tree) → Keeps law (new_scope ev o place scope depth t)
   unfolding new_scope
@@ -242,8 +242,8 @@ module _ {S : Type 0} {accesses : Accesses S} {law : Law accesses} (ev : Task �
   keeps_declaration declarations.Alias scope depth t = keeps_alias scope depth t
   keeps_declaration declarations.External scope depth t = keeps_give _
   keeps_declaration declarations.Method scope depth t = keeps_method scope depth t
-  keeps_declaration declarations.Mutex scope depth t = keeps_declaring scope depth t _
-  keeps_declaration declarations.Event scope depth t = keeps_declaring scope depth t _
+  keeps_declaration declarations.Mutex scope depth t = keeps_declaring scope depth t _ _
+  keeps_declaration declarations.Event scope depth t = keeps_declaring scope depth t _ _
 
   -- ---- places and operators
 
@@ -251,7 +251,7 @@ module _ {S : Type 0} {accesses : Accesses S} {law : Law accesses} (ev : Task �
   unfolding value_at
   keeps_value_at scope depth t i = keeps_bind _ _ (keeps_settle _) (λ x. keeps_value scope depth x)
 
-  keeps_two_values : (scope : List Seg) (depth : ℕ) (t : Tree) → Keeps law (two_values ev scope depth t)
+  pub keeps_two_values : (scope : List Seg) (depth : ℕ) (t : Tree) → Keeps law (two_values ev scope depth t)
   unfolding two_values
   keeps_two_values scope depth t = keeps_bind _ _ (keeps_value_at scope depth t 0) (λ v. keeps_bind _ _ (keeps_value_at scope depth t 1) (λ u. keeps_give _))
 
@@ -527,7 +527,7 @@ module _ {S : Type 0} {accesses : Accesses S} {law : Law accesses} (ev : Task �
   carries_invocation : (scope : List Seg) (depth : ℕ) (ts : Trees) (u : State S) (i : Invocation) → CalledIn u i → Carries law u (invocation_rule accesses ev scope depth ts i)
   unfolding field_rule
   carries_invocation scope depth ts u (invocations.Value v) at = carried u _ (keeps_give _)
-  carries_invocation scope depth ts u (invocations.FieldUnit f) at = carried u _ (keeps_bind _ _ (keeps_read depth f) (λ v. keeps_give _))
+  carries_invocation scope depth ts u (invocations.Field f) at = carried u _ (keeps_bind _ _ (keeps_read depth f) (λ v. keeps_give _))
   carries_invocation scope depth ts u (invocations.Method q body) at = carries_call u scope depth ts q body (at q body refl)
   carries_invocation scope depth ts u invocations.Osi at = carried u _ (keeps_osi scope depth ts)
 
@@ -540,15 +540,20 @@ module _ {S : Type 0} {accesses : Accesses S} {law : Law accesses} (ev : Task �
   pub keeps_region : (scope : List Seg) (depth : ℕ) (t : Tree) → Keeps law (region_rule ev scope depth t)
   unfolding region_rule
   keeps_region scope depth t =
-      keeps_bind _ _ (keeps_settle _) (λ space. keeps_bind _ _ (keeps_value_at scope depth t 2) (λ offset. keeps_bind _ _ (keeps_value_at scope depth t 3) (λ size. keeps_bind _ _ (keeps_lift _ (leaves_read offset)) (λ x. keeps_bind _ _ (keeps_lift _ (leaves_read size)) (λ y. keeps_declaring scope depth t _)))))
+      keeps_bind _ _ (keeps_settle _) (λ space. keeps_bind _ _ (keeps_value_at scope depth t 2) (λ offset. keeps_bind _ _ (keeps_value_at scope depth t 3) (λ size. keeps_bind _ _ (keeps_lift _ (leaves_read offset)) (λ x. keeps_bind _ _ (keeps_lift _ (leaves_read size)) (λ y. keeps_declaring scope depth t _ _)))))
 
   keeps_region_term : (k : RegionKind) (scope : List Seg) (depth : ℕ) (t : Tree) → Keeps law (region_term_rule ev k scope depth t)
-  unfolding field_list_rule index_list_rule fields_laid
+  unfolding field_list_rule index_list_rule fields_laid sized_field_rule bits_field_rule
   keeps_region_term regions.OperationRegion scope depth t = keeps_region scope depth t
   keeps_region_term regions.Field scope depth t =
       keeps_bind _ _ (keeps_settle _) (λ ts. keeps_bind _ _ (keeps_settle _) (λ plain. keeps_bind _ _ (keeps_settle _) (λ x. keeps_bind _ _ (keeps_lift _ (leaves_region_found scope x)) (λ region. keeps_bind _ _ (keeps_settle _) (λ flags. keeps_bind _ _ (keeps_lift _ (leaves_elements _ scope depth _ ts)) (λ laid. keeps_give _))))))
   keeps_region_term regions.IndexField scope depth t =
       keeps_bind _ _ (keeps_settle _) (λ ts. keeps_bind _ _ (keeps_settle _) (λ plain. keeps_bind _ _ (keeps_settle _) (λ x. keeps_bind _ _ (keeps_lift _ (leaves_field_found scope x)) (λ index. keeps_bind _ _ (keeps_settle _) (λ y. keeps_bind _ _ (keeps_lift _ (leaves_field_found scope y)) (λ behind. keeps_bind _ _ (keeps_settle _) (λ flags. keeps_bind _ _ (keeps_lift _ (leaves_elements _ scope depth _ ts)) (λ laid. keeps_give _))))))))
+  keeps_region_term (regions.SizedBufferField size) scope depth t =
+      keeps_bind _ _ (keeps_two_values scope depth t) (λ x. keeps_bind _ _ (keeps_settle _) (λ o. keeps_bind _ _ (keeps_lift _ (leaves_read _)) (λ i. keeps_bind _ _ (keeps_lift _ (leaves_objects _ (holds_new_buffer_field o _ _))) (λ b. keeps_declaring scope depth t _ _))))
+  keeps_region_term regions.BufferField scope depth t =
+      keeps_bind _ _ (keeps_value_at scope depth t 0) (λ source. keeps_bind _ _ (keeps_value_at scope depth t 1) (λ index. keeps_bind _ _ (keeps_value_at scope depth t 2) (λ count. keeps_bind _ _ (keeps_settle _) (λ o. keeps_bind _ _ (keeps_lift _ (leaves_read index)) (λ i. keeps_bind _ _ (keeps_lift _ (leaves_read count)) (λ n.
+      keeps_bind _ _ (keeps_settle _) (λ bits. keeps_bind _ _ (keeps_lift _ (leaves_objects _ (holds_new_buffer_field o i bits))) (λ b. keeps_declaring scope depth t _ _))))))))
 
   -- ---- which rule
 

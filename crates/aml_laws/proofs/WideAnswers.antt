@@ -28,8 +28,9 @@ use Rattle.aml_meaning.specs.Meaning.{meaning}
 use Rattle.aml_meaning.specs.Importing.{reference_to, imported_by, each_imported, elements_imported, package_imported, taken_back, imported, all_imported}
 use Rattle.aml_meaning.specs.Exporting.{text_exported, bytes_exported, standing, path_of, reference_exported, value_or_path, held_or_path, use_of, name_use, value_exported, use_exported, name_exported, held_exported, element_exported, each_exported, elements_exported, package_exported, exported}
 use Rattle.aml_meaning.specs.Calling.{ending, with_steps, answer_exported, answered}
+use Rattle.aml_objects.specs.Fields.{bits_of_field}
 use Rattle.aml_laws.specs.Within.{WithinWidth}
-use Rattle.aml_laws.specs.AllWithin.{Each, ElementFits, ObjectFits, NamedFits, UnitFits, AllWithin}
+use Rattle.aml_laws.specs.AllWithin.{Each, ElementFits, ObjectFits, NamedFits, FewBits, AllWithin}
 use Rattle.aml_laws.specs.Handed.{AllHanded, PlainGiven, GivenWithin}
 use Rattle.aml_laws.proofs.Callees.{StandsThere, found_there}
 use Rattle.aml_laws.proofs.Safe.{Good, Safe, ok_fits, good_ok, good_err, good_settled, s_give, s_stop, s_bind, each_push, each_take, o_string, o_buffer, o_package, o_string_at, o_buffer_at, o_elements_at}
@@ -92,7 +93,7 @@ module _ (S : Type 0) (width : IntegerWidth) where
 module _ (width : IntegerWidth) where
   abbrev UseFits : NameUse → Type 0
   UseFits (uses.Value v) = WithinWidth width v
-  UseFits (uses.FieldUnit u) = UnitFits u
+  UseFits (uses.Field f) = FewBits (bits_of_field f)
   UseFits (uses.Path p) = Unit {0}
 
   path_use : (p : Outcome (List Seg)) (u : NameUse) → seen uses.Path p ≡ Ok u → UseFits u
@@ -110,7 +111,7 @@ module _ (width : IntegerWidth) where
   held_use : (o : NamedObject) (p : Outcome (List Seg)) (u : NameUse) → NamedFits width o → held_or_path o p ≡ Ok u → UseFits u
   held_use (object.Data v) p u h e = value_use v p u h e
   held_use (object.FieldUnit f) p u h e = ok_fits UseFits _ u e h
-  held_use (object.BufferField b) p u h e = absurd (cc e)
+  held_use (object.BufferField b) p u h e = ok_fits UseFits _ u e h
   held_use _ p u h e = path_use p u e
 
 module _ (S : Type 0) (width : IntegerWidth) where
@@ -165,7 +166,7 @@ module _ (S : Type 0) (width : IntegerWidth) (accesses : Accesses S) where
     e_use : (u : NameUse) → UseFits width u → Safe (RunIn S width) (GivenWithin width) (use_exported accesses out u)
     unfolding use_exported
     e_use (uses.Value v) f = e_value v f
-    e_use (uses.FieldUnit u) f = t_given S width accesses (meaning accesses) (meaning_safe S width accesses) 1 u f
+    e_use (uses.Field u) f = t_given S width accesses (meaning accesses) (meaning_safe S width accesses) 1 u f
     e_use (uses.Path p) f = s_give _ tt
 
     e_held : (e : Element) → ElementFits width e → Safe (RunIn S width) (GivenWithin width) (held_exported accesses out e)

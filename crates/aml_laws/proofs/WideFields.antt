@@ -1,4 +1,4 @@
--- Reading and writing field units keeps integers below two to the width.
+-- Reading and writing fields keeps integers below two to the width.
 use Rattle.std.specs.Prelude.{◌≡◌, ◌≤◌, ◌+◌, ◌-◌, ◌*◌, ◌/◌, ◌==◌, min, max, ℕ, zero, suc, nat_lt, List, [], ◌∷◌, length, drop, Bool, true, false, Option, Some, None, Ok, Err, refl, if◌then◌else◌}
 use Rattle.std.proofs.Common.{arith, ap, length-append}
 use Rattle.ar_space.specs.declared.integer_width.IntegerWidth.{IntegerWidth}
@@ -6,12 +6,17 @@ use Rattle.ar_space.specs.declared.integer_width.IntegerWidth.TheVariants.{Bits3
 use Rattle.ar_space.specs.declared.space.Width.{Width}
 use Rattle.ar_space.specs.declared.space.Width.TheVariants.{W8, W16, W32, W64}
 use Rattle.ar_space.specs.Accesses.{Accesses, bit_count}
+use Rattle.ar_space.specs.declared.refusal.Refusal.{Refusal}
 use Rattle.ar_space.specs.Outcome.{Outcome, seen}
 use Rattle.ar_space.specs.Change.{Change}
 use Rattle.aml_path.specs.declared.segment.Seg.{Seg}
 use Rattle.aml_objects.specs.Objects.{make_buffer}
 use Rattle.aml_objects.specs.declared.value.Value.{Value}
 use Rattle.aml_objects.specs.declared.value.Value.TheVariants as value
+use Rattle.aml_objects.specs.Fields.{bits_of_field}
+use Rattle.aml_objects.specs.declared.entry.BufferField.{BufferField}
+use Rattle.aml_objects.specs.declared.entry.Field.{Field}
+use Rattle.aml_objects.specs.declared.entry.Field.TheVariants as field
 use Rattle.aml_objects.specs.declared.entry.FieldUnit.{FieldUnit}
 use Rattle.aml_objects.specs.declared.entry.FieldSource.{FieldSource}
 use Rattle.aml_objects.specs.declared.entry.FieldSource.TheVariants as sources
@@ -20,7 +25,8 @@ use Rattle.aml_objects.specs.declared.entry.UpdateRule.TheVariants.{Preserve, Wr
 use Rattle.aml_convert.specs.Integers.{bits_of}
 use Rattle.aml_fields.specs.declared.region.Region.{Region}
 use Rattle.aml_fields.specs.declared.field_units.Unit.{Unit as Access}
-use Rattle.aml_fields.specs.Bits.{extended, bits_from, byte_count}
+use Rattle.aml_fields.specs.Bits.{extended, bits_from, byte_count, packed, field_bits, put, bits_of as field_bits_of}
+use Rattle.aml_fields.specs.BufferFields.{lies_within, new_buffer_field, read_buffer_field, with_field, write_buffer_field}
 use Rattle.aml_fields.specs.Units.{units_from, units_up_to, units_of}
 use Rattle.aml_fields.specs.UnitByUnit.{read_units, bits_read, write_units, kept_by, kept}
 use Rattle.aml_fields.specs.Regions.{read_access, read_unit, read_field}
@@ -35,13 +41,13 @@ use Rattle.aml_meaning.specs.State.{State, on_space}
 use Rattle.aml_meaning.specs.Run.{Run, lift, charge}
 use Rattle.aml_meaning.specs.PciFunctions.{nearest, pci_function}
 use Rattle.aml_meaning.specs.Regions.{region_declared, field_declared, integer_of_bits, integer_value, value_of_bits, integer_alone, given_of_bits, integer_referent, referent_of_bits}
-use Rattle.aml_meaning.specs.Fields.{part_in, inherited, pci_address, space_at, located, region_bits, region_written, index_unit, index_unit_written, index_bits, index_written, bits_in, written_in, field_value, field_integer, field_part, field_given, field_referent, field_stored}
+use Rattle.aml_meaning.specs.Fields.{part_in, inherited, pci_address, space_at, located, region_bits, region_written, index_unit, index_unit_written, index_bits, index_written, field_unit_bits, field_unit_written, bits_in, written_in, field_value, field_integer, field_part, field_given, field_referent, field_stored}
 use Rattle.aml_laws.specs.Plain.{AreBytes}
 use Rattle.aml_laws.specs.Within.{WithinWidth}
 use Rattle.aml_laws.specs.Handed.{GivenWithin}
-use Rattle.aml_laws.specs.AllWithin.{Each, UnitFits, AllWithin}
+use Rattle.aml_laws.specs.AllWithin.{Each, ObjectFits, FewBits, AllWithin}
 use Rattle.aml_laws.proofs.PlainSteps.{Any}
-use Rattle.aml_laws.proofs.Safe.{Good, Safe, ok_fits, good_ok, good_err, good_settled, good_if, s_give, s_stop, s_settle, s_bind, o_buffer}
+use Rattle.aml_laws.proofs.Safe.{Good, Safe, ok_fits, good_ok, good_err, good_settled, good_if, s_give, s_stop, s_settle, s_bind, o_buffer, o_buffer_at, o_exchange}
 use Rattle.aml_laws.proofs.WithinWidth.{of_bytes}
 use Rattle.aml_laws.proofs.WideBits.{bits_are_bytes, bytes_many}
 use Rattle.aml_laws.proofs.WideWorld.{In, Below, w_objects, small}
@@ -100,7 +106,7 @@ module _ {H : Type 0} {I : H → Type 0} where
       s_bind _ _ (each u) (λ unit v. s_bind _ _ (r_units read each us h.1) (λ bits l. s_give _
       (let e = length-append (extended u.count (drop u.first (bits_from unit 0 64))) bits in let k = length_extended u.count (drop u.first (bits_from unit 0 64)) in let n = h.0 in omega arith)))
 
-  pub r_bits : (width : IntegerWidth) (read : Access → Change H ℕ) → ((u : Access) → Safe I Any (read u)) → (f : FieldUnit) → UnitFits f → Safe I (FieldFits width) (bits_read read f)
+  pub r_bits : (width : IntegerWidth) (read : Access → Change H ℕ) → ((u : Access) → Safe I Any (read u)) → (f : FieldUnit) → FewBits f.bits → Safe I (FieldFits width) (bits_read read f)
   unfolding bits_read
   r_bits width read each f fit =
       let us = units_by (f.bits == 0) f.bit_offset f.bits f.access in
@@ -121,6 +127,28 @@ module _ {H : Type 0} {I : H → Type 0} where
   unfolding kept
   r_kept f u read g = record { safe = λ h i. good_if (u.count == bit_count f.access) _ _ (λ b. good_ok 0 h i tt) (λ b. kept_good f.update read g h i) }
 
+-- ---- a field of a buffer
+
+within_fits : (c : Bool) (x b : BufferField) (e : Refusal) → FewBits x.bits → (if c then Ok x else Err e) ≡ Ok b → FewBits b.bits
+within_fits true x b e fit is = ok_fits (λ (y : BufferField). FewBits y.bits) x b is fit
+within_fits false x b e fit is = absurd (cc is)
+
+module _ (width : IntegerWidth) where
+  pub o_new_field : (o offset count : ℕ) → FewBits count → Safe (Each (ObjectFits width)) (λ b. FewBits b.bits) (new_buffer_field o offset count)
+  unfolding new_buffer_field
+  o_new_field o offset count fit = s_bind _ _ (o_buffer_at width o) (λ bytes h. s_settle _ (λ b e. within_fits (lies_within offset count bytes) (record { buffer = o; bit_offset = offset; bits = count }) b _ fit e))
+
+  o_read_field : (b : BufferField) → FewBits b.bits → Safe (Each (ObjectFits width)) (FieldFits width) (read_buffer_field b)
+  unfolding read_buffer_field
+  o_read_field b fit = s_bind _ _ (o_buffer_at width b.buffer) (λ bytes h. s_bind {Fit = Any} _ _ (s_settle _ (λ a e. tt)) (λ whole u. s_give _ (packed_fits (field_bits bytes b.bit_offset b.bits) (let e = length_extended b.bits (drop b.bit_offset (field_bits_of bytes)) in omega arith))))
+    where
+      packed_fits : (bits : List Bool) → length bits ≤ 64 * (8388608 + 1) → FieldFits width (packed bits)
+      packed_fits bits l = (bits_are_bytes (byte_count (length bits)) bits, few_bytes width (length bits) _ l (bytes_many (byte_count (length bits)) bits))
+
+  o_write_field : (b : BufferField) (source : List ℕ) → Safe (Each (ObjectFits width)) Any (write_buffer_field b source)
+  unfolding write_buffer_field
+  o_write_field b source = s_bind _ _ (o_buffer_at width b.buffer) (λ bytes h. s_bind {Fit = Any} _ _ (s_settle _ (λ a e. tt)) (λ whole u. s_bind _ _ (o_exchange width b.buffer (with_field b source bytes) (bits_are_bytes (length bytes) _) (let e = bytes_many (length bytes) (put b.bit_offset (field_bits source 0 b.bits) (field_bits_of bytes)) in let l = h.1 in omega arith)) (λ old v. s_give _ tt)))
+
 -- ---- a field of a region
 
 module _ {S : Type 0} (accesses : Accesses S) (width : IntegerWidth) where
@@ -131,7 +159,7 @@ module _ {S : Type 0} (accesses : Accesses S) (width : IntegerWidth) where
   unfolding read_unit read_access
   p_unit r w u = s_bind {Fit = Any} _ _ (s_settle _ (λ a e. tt)) (λ p v. record { safe = λ s i. good_settled _ _ tt (λ a e. tt) })
 
-  p_field : (r : Region) (f : FieldUnit) → UnitFits f → Safe AnySpace (FieldFits width) (read_field accesses r f)
+  p_field : (r : Region) (f : FieldUnit) → FewBits f.bits → Safe AnySpace (FieldFits width) (read_field accesses r f)
   p_field r f fit = r_bits width _ (p_unit r f.access) f fit
 
 module _ (S : Type 0) (width : IntegerWidth) where
@@ -219,7 +247,7 @@ module _ (S : Type 0) (width : IntegerWidth) (accesses : Accesses S) (call : Lis
   unfolding located
   f_located n = s_bind _ _ (r_lift S width _ (w_region S width n)) (λ d u. s_bind _ _ (f_space _ d.0) (λ space v. s_give _ tt))
 
-  f_region_bits : (f : RegionField) → UnitFits f.unit → Safe (RunIn S width) (FieldFits width) (region_bits accesses call f)
+  f_region_bits : (f : RegionField) → FewBits f.unit.bits → Safe (RunIn S width) (FieldFits width) (region_bits accesses call f)
   unfolding region_bits
   f_region_bits f fit = s_bind _ _ (f_located f.region) (λ r u. r_lift S width _ (w_in_space S width _ (p_field accesses width r f.unit fit)))
 
@@ -239,36 +267,44 @@ module _ (S : Type 0) (width : IntegerWidth) (accesses : Accesses S) (call : Lis
   unfolding index_unit_written
   f_index_written index behind f bytes u = s_bind _ _ (r_kept f u _ (f_index_unit index behind f.access u)) (λ old v. s_bind _ _ (f_region_written index _) (λ chosen x. f_region_written behind _))
 
-  f_bits_in : (source : FieldSource) (f : FieldUnit) → UnitFits f → Safe (RunIn S width) (FieldFits width) (bits_in accesses call source f)
+  f_unit_bits : (source : FieldSource) (f : FieldUnit) → FewBits f.bits → Safe (RunIn S width) (FieldFits width) (field_unit_bits accesses call source f)
   unfolding index_bits
-  f_bits_in (sources.Region n) f fit = f_region_bits _ fit
-  f_bits_in (sources.Index i d) f fit = s_bind _ _ (r_lift S width _ (w_field S width i)) (λ index u. s_bind _ _ (r_lift S width _ (w_field S width d)) (λ behind v. r_bits width _ (f_index_unit index behind f.access) f fit))
+  f_unit_bits (sources.Region n) f fit = f_region_bits _ fit
+  f_unit_bits (sources.Index i d) f fit = s_bind _ _ (r_lift S width _ (w_field S width i)) (λ index u. s_bind _ _ (r_lift S width _ (w_field S width d)) (λ behind v. r_bits width _ (f_index_unit index behind f.access) f fit))
 
-  f_written_in : (source : FieldSource) (f : FieldUnit) (bytes : List ℕ) → Safe (RunIn S width) Any (written_in accesses call source f bytes)
+  f_unit_written : (source : FieldSource) (f : FieldUnit) (bytes : List ℕ) → Safe (RunIn S width) Any (field_unit_written accesses call source f bytes)
   unfolding index_written
-  f_written_in (sources.Region n) f bytes = f_region_written _ bytes
-  f_written_in (sources.Index i d) f bytes = s_bind _ _ (r_lift S width _ (w_field S width i)) (λ index u. s_bind _ _ (r_lift S width _ (w_field S width d)) (λ behind v. r_writes _ (f_index_written index behind f bytes) (units_of f.bit_offset f.bits f.access)))
+  f_unit_written (sources.Region n) f bytes = f_region_written _ bytes
+  f_unit_written (sources.Index i d) f bytes = s_bind _ _ (r_lift S width _ (w_field S width i)) (λ index u. s_bind _ _ (r_lift S width _ (w_field S width d)) (λ behind v. r_writes _ (f_index_written index behind f bytes) (units_of f.bit_offset f.bits f.access)))
 
-  pub f_value : (f : FieldUnit) → UnitFits f → Safe (RunIn S width) (WithinWidth width) (field_value accesses call f)
+  f_bits_in : (f : Field) → FewBits (bits_of_field f) → Safe (RunIn S width) (FieldFits width) (bits_in accesses call f)
+  f_bits_in (field.Unit u) fit = f_unit_bits u.source u fit
+  f_bits_in (field.Buffer b) fit = r_lift S width _ (w_objects S width _ (o_read_field width b fit))
+
+  f_written_in : (f : Field) (bytes : List ℕ) → Safe (RunIn S width) Any (written_in accesses call f bytes)
+  f_written_in (field.Unit u) bytes = f_unit_written u.source u bytes
+  f_written_in (field.Buffer b) bytes = r_lift S width _ (w_objects S width _ (o_write_field width b bytes))
+
+  pub f_value : (f : Field) → FewBits (bits_of_field f) → Safe (RunIn S width) (WithinWidth width) (field_value accesses call f)
   unfolding field_value
-  f_value f fit = s_bind _ _ (f_bits_in f.source f fit) (λ bytes h. r_lift S width _ (w_value_of S width f.bits bytes h.0))
+  f_value f fit = s_bind _ _ (f_bits_in f fit) (λ bytes h. r_lift S width _ (w_value_of S width (bits_of_field f) bytes h.0))
 
-  pub f_integer : (f : FieldUnit) → UnitFits f → Safe (RunIn S width) (Below S width) (field_integer accesses call f)
+  pub f_integer : (f : Field) → FewBits (bits_of_field f) → Safe (RunIn S width) (Below S width) (field_integer accesses call f)
   unfolding field_integer
-  f_integer f fit = s_bind _ _ (f_bits_in f.source f fit) (λ bytes h. r_lift S width _ (w_of_bits S width bytes h.0))
+  f_integer f fit = s_bind _ _ (f_bits_in f fit) (λ bytes h. r_lift S width _ (w_of_bits S width bytes h.0))
 
-  pub f_part_of : (f : FieldUnit) → UnitFits f → Safe (RunIn S width) (Below S width) (field_part accesses call f)
+  pub f_part_of : (f : Field) → FewBits (bits_of_field f) → Safe (RunIn S width) (Below S width) (field_part accesses call f)
   unfolding field_part
-  f_part_of f fit = s_bind _ _ (f_bits_in f.source f fit) (λ bytes h. r_lift S width _ (w_alone S width f.bits bytes h.0))
+  f_part_of f fit = s_bind _ _ (f_bits_in f fit) (λ bytes h. r_lift S width _ (w_alone S width (bits_of_field f) bytes h.0))
 
-  pub f_referent : (f : FieldUnit) → UnitFits f → Safe (RunIn S width) (ReferentFits width) (field_referent accesses call f)
+  pub f_referent : (f : Field) → FewBits (bits_of_field f) → Safe (RunIn S width) (ReferentFits width) (field_referent accesses call f)
   unfolding field_referent
-  f_referent f fit = s_bind _ _ (f_bits_in f.source f fit) (λ bytes h. r_lift S width _ (w_referent_of S width f.bits bytes h))
+  f_referent f fit = s_bind _ _ (f_bits_in f fit) (λ bytes h. r_lift S width _ (w_referent_of S width (bits_of_field f) bytes h))
 
-  pub f_given : (f : FieldUnit) → UnitFits f → Safe (RunIn S width) (GivenWithin width) (field_given accesses call f)
+  pub f_given : (f : Field) → FewBits (bits_of_field f) → Safe (RunIn S width) (GivenWithin width) (field_given accesses call f)
   unfolding field_given
-  f_given f fit = s_bind _ _ (f_bits_in f.source f fit) (λ bytes h. r_lift S width _ (w_given_of S width f.bits bytes h.0))
+  f_given f fit = s_bind _ _ (f_bits_in f fit) (λ bytes h. r_lift S width _ (w_given_of S width (bits_of_field f) bytes h.0))
 
-  pub f_stored : (f : FieldUnit) (v : Value) → WithinWidth width v → Safe (RunIn S width) Any (field_stored accesses call f v)
+  pub f_stored : (f : Field) (v : Value) → WithinWidth width v → Safe (RunIn S width) Any (field_stored accesses call f v)
   unfolding field_stored
-  f_stored f v fit = s_bind _ _ (r_lift S width _ (w_bytes_in S width v fit)) (λ bytes h. f_written_in f.source f bytes)
+  f_stored f v fit = s_bind _ _ (r_lift S width _ (w_bytes_in S width v fit)) (λ bytes h. f_written_in f bytes)

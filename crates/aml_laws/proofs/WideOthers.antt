@@ -33,7 +33,7 @@ use Rattle.aml_meaning.specs.Mutexes.{mutex_count, acquired, given_back, acquire
 use Rattle.aml_meaning.specs.FieldTerms.{new_field, named_field, reserved_field, access_field, element_laid, elements_laid}
 use Rattle.aml_laws.specs.Plain.{AreBytes}
 use Rattle.aml_laws.specs.Within.{WithinWidth}
-use Rattle.aml_laws.specs.AllWithin.{Each, ObjectFits}
+use Rattle.aml_laws.specs.AllWithin.{Each, ObjectFits, FewBits}
 use Rattle.aml_laws.proofs.PlainSteps.{Any, first, no_bytes}
 use Rattle.aml_laws.proofs.Safe.{Safe, ok_fits, good_settled, s_give, s_stop, s_settle, s_bind, each_at, joined_bytes, byte_more, o_buffer}
 use Rattle.aml_laws.proofs.WithinWidth.{seen_is}
@@ -91,7 +91,7 @@ module _ (width : IntegerWidth) where
   referent_size : (objects : List Object) (r : Referent) (n : ℕ) → Each (ObjectFits width) objects → ReferentFits width r → size_of_referent objects r ≡ Ok n → Small n
   referent_size objects (referent.Value v) n h f e = value_size objects v n h e
   referent_size objects (referent.Object t) n h f e = absurd (cc e)
-  referent_size objects (referent.FieldUnit u) n h f e = absurd (cc e)
+  referent_size objects (referent.Field u) n h f e = absurd (cc e)
   referent_size objects (referent.Bytes m) n h f e = ok_fits Small m n e f
 
 module _ (S : Type 0) (width : IntegerWidth) where
@@ -144,10 +144,7 @@ module _ (S : Type 0) (width : IntegerWidth) where
   w_given_back_at (targets.Refers (reference.Name n)) = s_bind _ _ (w_declaration S width n) (λ e f. s_bind _ _ (w_count e.0) (λ m u. s_bind {Fit = Any} _ _ (s_settle _ (λ a x. tt)) (λ k v. w_replaced S width e.0 _ tt)))
   w_given_back_at (targets.Name q) = s_bind _ _ (w_count q) (λ n u. s_bind {Fit = Any} _ _ (s_settle _ (λ a e. tt)) (λ m v. w_replaced S width q _ tt))
 
-  abbrev FewBits : ℕ → Type 0
-  FewBits n = n ≤ 8388608
-
-  few_bits : (a : Bool) (count : ℕ) (e : Refusal) (n : ℕ) → (if◌then◌else◌ {A = Outcome ℕ} (a || nat_lt 8388608 count) (Err e) (Ok count)) ≡ Ok n → FewBits n
+  pub few_bits : (a : Bool) (count : ℕ) (e : Refusal) (n : ℕ) → (if◌then◌else◌ {A = Outcome ℕ} (a || nat_lt 8388608 count) (Err e) (Ok count)) ≡ Ok n → FewBits n
   few_bits true count e n is = absurd (cc is)
   few_bits false count e n is = by (nat_lt 8388608 count) refl is
     where

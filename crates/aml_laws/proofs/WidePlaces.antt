@@ -37,9 +37,10 @@ use Rattle.aml_meaning.specs.Readings.{read_as}
 use Rattle.aml_meaning.specs.StoreTargets.{holding_of, holding_in, held_at, latest_frame, frame_found, slot_held, own_slot, initialized, slot_read, held_in, name_read, held_in_slot, target_read, referent_of, or_gone, declaration, byte_followed, value_followed, referent_followed, declared_followed, slot_followed, element_named, name_followed, element_followed, held_followed, reference_followed, followed, most_references, slot_referent, referent_in, declared_referent, name_referent, target_referent, name_tested, frame_tested, byte_tested, tested, once, declared_once, value_once, slot_once, named_once, name_once, element_once, held_once, byte_once, dereferenced, frame_number, slot_reference, declared_number, name_reference, reference_of, slot_initialized, element_initialized, if_initialized, reference_if_found}
 use Rattle.aml_meaning.specs.Stores.{with_frame, slot_put, copy_into_slot, copy_into_name, copy_into_element, copy_over, text_in, bytes_in, store_integer, store_text, store_bytes, store_over_value, store_over, first_byte, byte_of, byte_in, store_byte, copy_into_declared, store_over_slot, store_in_declared, store_to, store_in_frame, store_in_frame_numbered, store_at_reference, stored_through, store_in_slot, store_in_name, stored, copy_in_name, copied_to}
 use Rattle.aml_laws.specs.Plain.{AreBytes}
+use Rattle.aml_objects.specs.Fields.{bits_of_field}
 use Rattle.aml_laws.specs.Within.{WithinWidth}
 use Rattle.aml_laws.proofs.WithinWidth.{byte_small}
-use Rattle.aml_laws.specs.AllWithin.{Each, ElementFits, NamedFits, FrameFits, UnitFits}
+use Rattle.aml_laws.specs.AllWithin.{Each, ElementFits, NamedFits, FrameFits, FewBits}
 use Rattle.aml_laws.proofs.Numbered.{number_there}
 use Rattle.aml_laws.proofs.PlainSteps.{Any}
 use Rattle.aml_laws.proofs.Safe.{Safe, ok_fits, good_settled, s_give, s_stop, s_settle, s_bind, each_at, each_set, o_copied, o_byte_at, o_byte_below, o_element_there, o_element_at, o_write_element, o_write_string, o_write_buffer, o_write_byte}
@@ -49,28 +50,27 @@ use Rattle.aml_laws.proofs.WideWorld.{In, FoundFits, w_objects, w_replaced, w_re
 module _ (width : IntegerWidth) where
   abbrev pub HoldingFits : Holding → Type 0
   HoldingFits (holding.Value v) = WithinWidth width v
-  HoldingFits (holding.FieldUnit u) = UnitFits u
-  HoldingFits holding.BufferField = Unit {0}
+  HoldingFits (holding.Field f) = FewBits (bits_of_field f)
   HoldingFits holding.Nothing = Unit {0}
 
   abbrev pub HeldFits : Held → Type 0
   HeldFits (held.Value v) = WithinWidth width v
-  HeldFits (held.FieldUnit u) = UnitFits u
+  HeldFits (held.Field f) = FewBits (bits_of_field f)
 
   abbrev pub StoredFits : Stored → Type 0
   StoredFits store.Done = Unit {0}
-  StoredFits (store.FieldUnit u) = UnitFits u
+  StoredFits (store.Field f) = FewBits (bits_of_field f)
 
   abbrev pub ReferentFits : Referent → Type 0
   ReferentFits (referent.Value v) = WithinWidth width v
   ReferentFits (referent.Object t) = Unit {0}
-  ReferentFits (referent.FieldUnit u) = UnitFits u
+  ReferentFits (referent.Field f) = FewBits (bits_of_field f)
   ReferentFits (referent.Bytes n) = WithinWidth width (value.Integer n)
 
   hold_fits : (o : NamedObject) → NamedFits width o → HoldingFits (holding_of o)
   hold_fits (object.Data v) f = f
   hold_fits (object.FieldUnit u) f = f
-  hold_fits (object.BufferField b) f = tt
+  hold_fits (object.BufferField b) f = f
   hold_fits _ f = tt
 
   refer_fits : (o : NamedObject) → NamedFits width o → ReferentFits (referent_of o)
@@ -95,8 +95,7 @@ module _ (width : IntegerWidth) where
 
   held_fits : (h : Holding) (k : Held) → HoldingFits h → held_in h ≡ Ok k → HeldFits k
   held_fits (holding.Value v) k f e = ok_fits HeldFits _ k e f
-  held_fits (holding.FieldUnit u) k f e = ok_fits HeldFits _ k e f
-  held_fits holding.BufferField k f e = absurd (cc e)
+  held_fits (holding.Field x) k f e = ok_fits HeldFits _ k e f
   held_fits holding.Nothing k f e = absurd (cc e)
 
   gone_fits : (m : Map) (o : Option (List Seg × Entry)) (n : ℕ) (x : List Seg × Entry) → numbered n m ≡ o → ((path : List Seg) (e : Entry) → get m path ≡ Some e → NamedFits width e.object) → or_gone o ≡ Ok x → NamedFits width x.1.object
@@ -171,17 +170,17 @@ module _ (S : Type 0) (width : IntegerWidth) where
   w_tested (reference.Element o i) = w_objects S width _ (o_element_there width o i)
   w_tested (reference.Byte o i) = s_bind _ _ (w_objects S width _ (o_byte_at width o i)) (λ b u. s_give _ tt)
 
-  once_fits : (n : ℕ) (o : NamedObject) (h : Held) → NamedFits width o → once n o ≡ Ok h → HeldFits width h
-  once_fits n (object.Data v) h f e = ok_fits (HeldFits width) _ h e f
-  once_fits n (object.FieldUnit u) h f e = ok_fits (HeldFits width) _ h e f
-  once_fits n (object.BufferField b) h f e = absurd (cc e)
-  once_fits n _ h f e = ok_fits (HeldFits width) _ h e tt
+  once_fits : (n : ℕ) (o : NamedObject) → NamedFits width o → HeldFits width (once n o)
+  once_fits n (object.Data v) f = f
+  once_fits n (object.FieldUnit u) f = f
+  once_fits n (object.BufferField b) f = f
+  once_fits n _ f = tt
 
-  named_fits : (n : ℕ) (o : NamedObject) (h : Held) → NamedFits width o → named_once n o ≡ Ok h → HeldFits width h
-  named_fits n (object.Data v) h f e = ok_fits (HeldFits width) _ h e (read_fits S width n v f)
-  named_fits n (object.FieldUnit u) h f e = ok_fits (HeldFits width) _ h e f
-  named_fits n (object.BufferField b) h f e = absurd (cc e)
-  named_fits n _ h f e = ok_fits (HeldFits width) _ h e tt
+  named_fits : (n : ℕ) (o : NamedObject) → NamedFits width o → HeldFits width (named_once n o)
+  named_fits n (object.Data v) f = read_fits S width n v f
+  named_fits n (object.FieldUnit u) f = f
+  named_fits n (object.BufferField b) f = f
+  named_fits n _ f = tt
 
   w_value_once : (v : Value) → WithinWidth width v → Safe (In S width) (HeldFits width) (value_once v)
   unfolding value_once
@@ -190,7 +189,7 @@ module _ (S : Type 0) (width : IntegerWidth) where
   w_element_once : (e : Element) → ElementFits width e → Safe (In S width) (HeldFits width) (element_once e)
   unfolding name_once
   w_element_once (element.Value v) f = w_value_once v f
-  w_element_once (element.Name n scope) f = s_bind _ _ (w_entry S width scope n) (λ e g. s_settle _ (λ h is. named_fits e.number e.object h g is))
+  w_element_once (element.Name n scope) f = s_bind _ _ (w_entry S width scope n) (λ e g. s_give _ (named_fits e.number e.object g))
 
   w_byte_once : (o i : ℕ) → Safe (In S width) (HeldFits width) (byte_once o i)
   unfolding byte_once
@@ -198,7 +197,7 @@ module _ (S : Type 0) (width : IntegerWidth) where
 
   pub w_dereferenced : (r : Reference) → Safe (In S width) (HeldFits width) (dereferenced r)
   unfolding declared_once slot_once held_once
-  w_dereferenced (reference.Name n) = s_bind _ _ (w_declaration n) (λ e f. s_settle _ (λ h is. once_fits n e.1.object h f is))
+  w_dereferenced (reference.Name n) = s_bind _ _ (w_declaration n) (λ e f. s_give _ (once_fits n e.1.object f))
   w_dereferenced (reference.Slot n slot) = s_bind _ _ (w_frame n) (λ k u. s_bind _ _ (w_slot k slot) (λ v f. w_value_once v f))
   w_dereferenced (reference.Element o i) = s_bind _ _ (w_objects S width _ (o_element_at width o i)) (λ e f. w_element_once e f)
   w_dereferenced (reference.Byte o i) = w_byte_once o i
@@ -246,7 +245,7 @@ module _ (S : Type 0) (width : IntegerWidth) where
     w_referent_followed : (r : Referent) → ReferentFits width r → Safe (In S width) (ReferentFits width) (referent_followed follow r)
     w_referent_followed (referent.Value v) f = w_value_followed v f
     w_referent_followed (referent.Object t) f = s_give _ tt
-    w_referent_followed (referent.FieldUnit u) f = s_give _ f
+    w_referent_followed (referent.Field x) f = s_give _ f
     w_referent_followed (referent.Bytes n) f = s_give _ f
 
     w_declared_followed : (n : ℕ) → Safe (In S width) (ReferentFits width) (declared_followed follow n)
@@ -260,6 +259,7 @@ module _ (S : Type 0) (width : IntegerWidth) where
     w_element_named : (n : ℕ) (o : NamedObject) → NamedFits width o → Safe (In S width) (ReferentFits width) (element_named follow n o)
     w_element_named n (object.Data v) f = w_value_followed (read_as n v) (read_fits S width n v f)
     w_element_named n (object.FieldUnit u) f = s_give _ f
+    w_element_named n (object.BufferField b) f = s_give _ f
     w_element_named n _ f = follows (reference.Name n)
 
     w_element_followed : (e : Element) → ElementFits width e → Safe (In S width) (ReferentFits width) (element_followed follow e)
@@ -314,8 +314,7 @@ module _ (S : Type 0) (width : IntegerWidth) where
 
   w_copy_over : (h : Holding) (q : List Seg) (v : Value) → HoldingFits width h → WithinWidth width v → Safe (In S width) (StoredFits width) (copy_over h q v)
   w_copy_over (holding.Value old) q v h f = w_copy_name q v f
-  w_copy_over (holding.FieldUnit u) q v h f = s_give _ h
-  w_copy_over holding.BufferField q v h f = s_stop _
+  w_copy_over (holding.Field x) q v h f = s_give _ h
   w_copy_over holding.Nothing q v h f = s_stop _
 
   w_text : (v : Value) → WithinWidth width v → Safe (In S width) AreBytes (text_in v)
@@ -342,8 +341,7 @@ module _ (S : Type 0) (width : IntegerWidth) where
 
   w_store_over : (h : Holding) (q : List Seg) (v : Value) → HoldingFits width h → WithinWidth width v → Safe (In S width) (StoredFits width) (store_over h q v)
   w_store_over (holding.Value old) q v h f = w_store_value old q v f
-  w_store_over (holding.FieldUnit u) q v h f = s_give _ h
-  w_store_over holding.BufferField q v h f = s_stop _
+  w_store_over (holding.Field x) q v h f = s_give _ h
   w_store_over holding.Nothing q v h f = s_stop _
 
   abbrev IsByte : ℕ → Type 0

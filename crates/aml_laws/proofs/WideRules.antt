@@ -1,5 +1,5 @@
 -- Every rule keeps integers below two to the width.
-use Rattle.std.specs.Prelude.{◌≡◌, ◌≤◌, ℕ, zero, suc, List, [], Bool, true, false, Option, Some, None, Ok}
+use Rattle.std.specs.Prelude.{◌≡◌, ◌==◌, ◌≤◌, ℕ, zero, suc, List, [], Bool, true, false, Option, Some, None, Ok}
 use Rattle.ar_space.specs.Change.{Change, give, settle, ◌>>=◌}
 use Rattle.aml_meaning.specs.Run.{Run, lift}
 use Rattle.ar_space.specs.Accesses.{Accesses}
@@ -36,6 +36,8 @@ use Rattle.aml_meaning.specs.declared.store_target.TargetKind.{TargetKind}
 use Rattle.aml_meaning.specs.declared.store_target.TargetKind.TheVariants as target
 use Rattle.aml_meaning.specs.declared.term_kind.RegionKind.{RegionKind}
 use Rattle.aml_meaning.specs.declared.term_kind.RegionKind.TheVariants as regions
+use Rattle.aml_meaning.specs.declared.term_kind.BufferFieldSize.{BufferFieldSize}
+use Rattle.aml_meaning.specs.declared.term_kind.BufferFieldSize.TheVariants as sizes
 use Rattle.aml_meaning.specs.State.{State}
 use Rattle.aml_meaning.specs.Terms.{kind_of, target_kind}
 use Rattle.aml_meaning.specs.Tasks.{Task, in_turn}
@@ -45,7 +47,7 @@ use Rattle.aml_meaning.specs.TargetTerms.{reference_in, indexed_target, derefere
 use Rattle.aml_meaning.specs.OperatorTerms.{slot_rule, store_rule, copy_rule, two_rule, divide_rule, one_rule, test_rule, not_rule, count_rule, referent_of_value, referent_of_target, referent_by_kind, referent_by, size_rule, type_rule, acquire_rule, reference_rule, dereference_rule, sought_name, sought_target, sought, reference_stored, reference_found, conditional_rule, operator_rule}
 use Rattle.aml_meaning.specs.StatementTerms.{otherwise, branch, if_rule, else_rule, turn_of, turn, loop_end, after_turn, turns, loop, while_rule, return_rule, release_rule, notify_rule, pause_rule, fatal_rule, statement_rule}
 use Rattle.aml_meaning.specs.InvocationTerms.{arguments_in_turn, call_rule, osi_rule, field_rule, invocation_rule, name_value}
-use Rattle.aml_meaning.specs.FieldTerms.{fields_laid, region_rule, field_list_rule, index_list_rule, region_term_rule}
+use Rattle.aml_meaning.specs.FieldTerms.{fields_laid, region_rule, field_list_rule, index_list_rule, bits_of_size, sized_field_rule, bits_field_rule, region_term_rule}
 use Rattle.aml_meaning.specs.Evaluation.{kind_rule, code_rule, rule}
 use Rattle.aml_meaning.specs.Meaning.{meaning, evaluated_within}
 use Rattle.std.proofs.Common.{arith}
@@ -61,14 +63,14 @@ use Rattle.aml_meaning.specs.Operations.{type_number, type_of_referent}
 use Rattle.aml_meaning.specs.OperatorTerms.{result_of_two, result_of_one, result_of_test, counted_by}
 use Rattle.aml_laws.specs.Plain.{PlainTree, PlainTrees, PlainPart, PlainParts}
 use Rattle.aml_laws.specs.Within.{WithinWidth}
-use Rattle.aml_laws.specs.AllWithin.{Each, ElementFits, NamedFits, AllWithin}
+use Rattle.aml_laws.specs.AllWithin.{Each, ElementFits, NamedFits, FewBits, AllWithin}
 use Rattle.aml_laws.proofs.PlainSteps.{Any}
-use Rattle.aml_laws.proofs.Safe.{Good, Safe, good_err, s_give, s_stop, s_bind, each_push, o_string}
+use Rattle.aml_laws.proofs.Safe.{Good, Safe, good_err, s_give, s_stop, s_settle, s_bind, each_push, o_string}
 use Rattle.aml_laws.proofs.WithinWidth.{few}
 use Rattle.aml_laws.proofs.WideWorld.{In, w_objects, w_integer, w_read, w_entry, w_path, w_scope, w_arguments, w_at_most, w_buffer, w_package, w_new, w_method, w_operated, w_divided, w_unary, w_logic, w_turned, w_next, w_before, w_compared, w_joined, w_to_buffer, w_to_integer, w_osi}
 use Rattle.aml_laws.proofs.WidePlaces.{ReferentFits, w_slot_read, w_tested, w_dereferenced, w_target_read, w_reference_of, w_if_initialized, w_reference_if_found, w_referent, w_value_referent, w_copied_to}
-use Rattle.aml_laws.proofs.WideFields.{RunIn, r_lift, r_charge}
-use Rattle.aml_laws.proofs.WideOthers.{w_resources, w_indexed, w_size, w_acquired_at, w_given_back_at, w_elements_laid}
+use Rattle.aml_laws.proofs.WideFields.{RunIn, r_lift, r_charge, o_new_field}
+use Rattle.aml_laws.proofs.WideOthers.{few_bits, w_resources, w_indexed, w_size, w_acquired_at, w_given_back_at, w_elements_laid}
 use Rattle.aml_laws.proofs.WideTerms.{PlainOperand, at_operand, s_inner, s_list, s_bytes, s_any, FlowFits, InvocationFits, w_use, t_value, t_value_at, t_two, t_integer, t_turn, t_invoked, t_read, t_held, t_referent, t_completed, t_stored_to, t_stored_back, t_held_value}
 use Rattle.aml_meaning.specs.FieldTerms.{region_found, field_found}
 use Rattle.aml_meaning.specs.TargetTerms.{target_named}
@@ -119,9 +121,9 @@ module _ (S : Type 0) (width : IntegerWidth) (accesses : Accesses S) (ev : Task 
 
   -- ---- declarations
 
-  u_declaring : (scope : List Seg) (depth : ℕ) (t : Tree) (o : NamedObject) → NamedFits width o → Safe (RunIn S width) (FlowFits width) (declaring ev scope depth t o)
+  u_declaring : (scope : List Seg) (depth : ℕ) (t : Tree) (position : ℕ) (o : NamedObject) → NamedFits width o → Safe (RunIn S width) (FlowFits width) (declaring ev scope depth t position o)
   unfolding declaring
-  u_declaring scope depth t o f = s_bind _ _ (s_any _) (λ n u. s_bind _ _ (s_any _) (λ p v. s_bind _ _ (r_lift S width _ (w_new S width _ p o f)) (λ k x. s_give _ tt)))
+  u_declaring scope depth t position o f = s_bind _ _ (s_any _) (λ n u. s_bind _ _ (s_any _) (λ p v. s_bind _ _ (r_lift S width _ (w_new S width _ p o f)) (λ k x. s_give _ tt)))
 
   u_scope : (o : NamedObject) → NamedFits width o → (place : ℕ) (scope : List Seg) (depth : ℕ) (t : Tree) → PlainTree t → Safe (RunIn S width) (FlowFits width) (new_scope ev o place scope depth t)
   unfolding new_scope
@@ -134,12 +136,12 @@ module _ (S : Type 0) (width : IntegerWidth) (accesses : Accesses S) (ev : Task 
   u_declaration declarations.Processor scope depth t h = u_scope _ tt _ scope depth t h
   u_declaration declarations.PowerResource scope depth t h = u_scope _ tt _ scope depth t h
   u_declaration declarations.ThermalZone scope depth t h = u_scope _ tt _ scope depth t h
-  u_declaration declarations.Name scope depth t h = s_bind _ _ (s_inner t 1 h) (λ d f. s_bind _ _ (t_value S width accesses ev parts scope depth d f) (λ v g. u_declaring scope depth t _ g))
+  u_declaration declarations.Name scope depth t h = s_bind _ _ (s_inner t 1 h) (λ d f. s_bind _ _ (t_value S width accesses ev parts scope depth d f) (λ v g. u_declaring scope depth t _ _ g))
   u_declaration declarations.Alias scope depth t h = s_bind _ _ (s_any _) (λ n u. s_bind _ _ (r_lift S width _ (w_path S width scope n)) (λ target v. s_bind _ _ (s_any _) (λ m x. s_bind _ _ (s_any _) (λ p y. s_bind _ _ (r_lift S width _ (w_new S width _ p _ tt)) (λ k z. s_give _ tt)))))
   u_declaration declarations.External scope depth t h = s_give _ tt
   u_declaration declarations.Method scope depth t h = s_bind _ _ (s_any _) (λ n u. s_bind _ _ (s_any _) (λ p v. s_bind _ _ (s_any _) (λ flags x. s_bind _ _ (s_bytes t 2 h) (λ body f. s_bind _ _ (r_lift S width _ (w_method S width _ p _ body f)) (λ k y. s_give _ tt)))))
-  u_declaration declarations.Mutex scope depth t h = u_declaring scope depth t _ tt
-  u_declaration declarations.Event scope depth t h = u_declaring scope depth t _ tt
+  u_declaration declarations.Mutex scope depth t h = u_declaring scope depth t _ _ tt
+  u_declaration declarations.Event scope depth t h = u_declaring scope depth t _ _ tt
 
   -- ---- targets and operators
 
@@ -364,7 +366,7 @@ module _ (S : Type 0) (width : IntegerWidth) (accesses : Accesses S) (ev : Task 
   u_invocation : (scope : List Seg) (depth : ℕ) (ts : Trees) (i : Invocation) → PlainTrees ts → InvocationFits width i → Safe (RunIn S width) (FlowFits width) (invocation_rule accesses ev scope depth ts i)
   unfolding field_rule call_rule
   u_invocation scope depth ts (invocations.Value v) h f = s_give _ f
-  u_invocation scope depth ts (invocations.FieldUnit u) h f = s_bind _ _ (t_read S width accesses ev parts depth u f) (λ v g. s_give _ g)
+  u_invocation scope depth ts (invocations.Field u) h f = s_bind _ _ (t_read S width accesses ev parts depth u f) (λ v g. s_give _ g)
   u_invocation scope depth ts (invocations.Method q body) h f = s_bind _ _ (u_arguments scope depth ts [] h tt) (λ vs g. t_invoked S width accesses ev parts depth q body vs f g)
   u_invocation scope depth ts invocations.Osi h f = u_osi scope depth ts h
 
@@ -374,17 +376,31 @@ module _ (S : Type 0) (width : IntegerWidth) (accesses : Accesses S) (ev : Task 
 
   -- ---- regions and fields
 
+  size_few : (size : BufferFieldSize) → FewBits (bits_of_size size)
+  size_few sizes.Bit = omega arith
+  size_few sizes.Byte = omega arith
+  size_few sizes.Word = omega arith
+  size_few sizes.DWord = omega arith
+  size_few sizes.QWord = omega arith
+
   u_region : (k : RegionKind) (scope : List Seg) (depth : ℕ) (t : Tree) → PlainTree t → Safe (RunIn S width) (FlowFits width) (region_term_rule ev k scope depth t)
-  unfolding region_rule field_list_rule index_list_rule fields_laid region_found field_found
+  unfolding region_rule field_list_rule index_list_rule fields_laid region_found field_found sized_field_rule bits_field_rule
   u_region regions.OperationRegion scope depth t h =
       s_bind _ _ (s_any _) (λ space u. s_bind _ _ (t_value_at S width accesses ev parts scope depth t 2 h) (λ offset f. s_bind _ _ (t_value_at S width accesses ev parts scope depth t 3 h) (λ size g.
-      s_bind _ _ (r_lift S width _ (w_read S width offset f)) (λ x v. s_bind _ _ (r_lift S width _ (w_read S width size g)) (λ y z. u_declaring scope depth t _ tt)))))
+      s_bind _ _ (r_lift S width _ (w_read S width offset f)) (λ x v. s_bind _ _ (r_lift S width _ (w_read S width size g)) (λ y z. u_declaring scope depth t _ _ tt)))))
   u_region regions.Field scope depth t h =
       s_bind _ _ (s_any _) (λ ts u. s_bind _ _ (s_any _) (λ plain v. s_bind _ _ (s_any _) (λ n x. s_bind _ _ (r_lift S width _ (s_bind _ _ (w_entry S width scope n) (λ e f. s_any _))) (λ region y. s_bind _ _ (s_any _) (λ flags z.
       s_bind _ _ (r_lift S width _ (w_elements_laid S width _ scope depth _ ts)) (λ laid a. s_give _ tt))))))
   u_region regions.IndexField scope depth t h =
       s_bind _ _ (s_any _) (λ ts u. s_bind _ _ (s_any _) (λ plain v. s_bind _ _ (s_any _) (λ m x. s_bind _ _ (r_lift S width _ (s_bind _ _ (w_entry S width scope m) (λ e f. s_any _))) (λ index y. s_bind _ _ (s_any _) (λ n z.
       s_bind _ _ (r_lift S width _ (s_bind _ _ (w_entry S width scope n) (λ e f. s_any _))) (λ behind a. s_bind _ _ (s_any _) (λ flags b. s_bind _ _ (r_lift S width _ (w_elements_laid S width _ scope depth _ ts)) (λ laid c. s_give _ tt))))))))
+  u_region (regions.SizedBufferField size) scope depth t h =
+      s_bind _ _ (t_two S width accesses ev parts scope depth t h) (λ x f. s_bind _ _ (s_any _) (λ o u. s_bind _ _ (r_lift S width _ (w_read S width x.1 f.1)) (λ i v.
+      s_bind _ _ (r_lift S width _ (w_objects S width _ (o_new_field width o _ _ (size_few size)))) (λ b fit. u_declaring scope depth t _ _ fit))))
+  u_region regions.BufferField scope depth t h =
+      s_bind _ _ (t_value_at S width accesses ev parts scope depth t 0 h) (λ source f. s_bind _ _ (t_value_at S width accesses ev parts scope depth t 1 h) (λ index g. s_bind _ _ (t_value_at S width accesses ev parts scope depth t 2 h) (λ count k.
+      s_bind _ _ (s_any _) (λ o u. s_bind _ _ (r_lift S width _ (w_read S width index g)) (λ i v. s_bind _ _ (r_lift S width _ (w_read S width count k)) (λ n x. s_bind {Fit = FewBits} _ _ (s_settle _ (λ m e. few_bits S width (n == 0) n _ m e)) (λ bits l.
+      s_bind _ _ (r_lift S width _ (w_objects S width _ (o_new_field width o i bits l))) (λ b fit. u_declaring scope depth t _ _ fit))))))))
 
   u_kind : (k : TermKind) (op : Opcode) (scope : List Seg) (depth : ℕ) (t : Tree) → PlainTree t → Safe (RunIn S width) (FlowFits width) (kind_rule accesses ev k op scope depth t)
   u_kind (kinds.Data k) op scope depth t h = u_data k scope depth t h

@@ -40,6 +40,7 @@ released_fits : (width : IntegerWidth) (o : NamedObject) → NamedFits width o �
 released_fits width (object.Mutex n) h = tt
 released_fits width (object.Data v) h = h
 released_fits width (object.FieldUnit u) h = h
+released_fits width (object.BufferField b) h = h
 released_fits width (object.Method m) h = h
 released_fits width _ h = tt
 
@@ -86,7 +87,7 @@ module _ (S : Type 0) (width : IntegerWidth) (accesses : Accesses S) where
 
   pub x_value : (i : Invocation) (arguments : List Value) → InvocationFits width i → Each (WithinWidth width) arguments → Safe (RunIn S width) (WithinWidth width) (value_of accesses i arguments)
   x_value (invocations.Value v) arguments f h = s_give _ f
-  x_value (invocations.FieldUnit u) arguments f h = t_read S width accesses (meaning accesses) (meaning_safe S width accesses) 1 u f
+  x_value (invocations.Field u) arguments f h = t_read S width accesses (meaning accesses) (meaning_safe S width accesses) 1 u f
   x_value invocations.Osi arguments f h = r_lift S width _ (w_osi S width arguments)
   x_value (invocations.Method p body) arguments f h = t_method S width accesses (meaning accesses) (meaning_safe S width accesses) 0 p body arguments f h
 

@@ -11,7 +11,7 @@ use Rattle.aml_grammar.specs.Apart.{part_at, operand_of, bytes_of}
 use Rattle.aml_grammar.specs.Shape.{trees_of}
 use Rattle.aml_objects.specs.declared.value.Value.{Value}
 use Rattle.aml_objects.specs.declared.value.Value.TheVariants as value
-use Rattle.aml_objects.specs.declared.entry.FieldUnit.{FieldUnit}
+use Rattle.aml_objects.specs.declared.entry.Field.{Field}
 use Rattle.aml_objects.specs.declared.entry.MethodBody.{MethodBody}
 use Rattle.aml_objects.specs.declared.entry.MethodBody.TheVariants.{Osi, Aml}
 use Rattle.aml_objects.specs.declared.entry.NamedObject.{NamedObject}
@@ -39,9 +39,10 @@ use Rattle.aml_meaning.specs.Invocations.{invocation_of_body, invocation_of_obje
 use Rattle.aml_meaning.specs.Fields.{field_given}
 use Rattle.aml_meaning.specs.FieldCalls.{asked, method_integer, answer_over, answer_within, called_at, field_read, held_integer, referent_read, completed, stored_to, stored_back, is_element, back_to, held_value}
 use Rattle.aml_laws.specs.Plain.{AreBytes, PlainTree, PlainPart, PlainParts, PlainTrees}
+use Rattle.aml_objects.specs.Fields.{bits_of_field}
 use Rattle.aml_laws.specs.Within.{WithinWidth}
 use Rattle.aml_laws.specs.Handed.{GivenWithin}
-use Rattle.aml_laws.specs.AllWithin.{Each, NamedFits, FrameFits, UnitFits}
+use Rattle.aml_laws.specs.AllWithin.{Each, NamedFits, FrameFits, FewBits}
 use Rattle.aml_laws.proofs.Callees.{StandsThere, found_there}
 use Rattle.aml_laws.proofs.PlainSteps.{Any}
 use Rattle.aml_laws.proofs.PlainTerms.{read_plain}
@@ -101,7 +102,7 @@ module _ (width : IntegerWidth) where
 
   abbrev pub InvocationFits : Invocation → Type 0
   InvocationFits (invocations.Value v) = WithinWidth width v
-  InvocationFits (invocations.FieldUnit u) = UnitFits u
+  InvocationFits (invocations.Field f) = FewBits (bits_of_field f)
   InvocationFits (invocations.Method p body) = AreBytes body
   InvocationFits invocations.Osi = Unit {0}
 
@@ -134,7 +135,7 @@ module _ (width : IntegerWidth) where
   object_fits S p n (object.Data v) i h e = ok_fits InvocationFits _ i e (read_fits S width n v h)
   object_fits S p n (object.Method m) i h e = body_fits p m.body i h e
   object_fits S p n (object.FieldUnit u) i h e = ok_fits InvocationFits _ i e h
-  object_fits S p n (object.BufferField b) i h e = absurd (cc e)
+  object_fits S p n (object.BufferField b) i h e = ok_fits InvocationFits _ i e h
   object_fits S p n _ i h e = ok_fits InvocationFits _ i e tt
 
   pub arguments_fit : (vs : List Value) → Each (WithinWidth width) vs → Each (WithinWidth width) (frame_arguments vs)
@@ -238,7 +239,7 @@ module _ (S : Type 0) (width : IntegerWidth) (accesses : Accesses S) (ev : Task 
   t_over : (k : ℕ) (call : List Seg → Run S ℕ) → ((q : List Seg) → Safe (RunIn S width) Any (call q)) → (i : Invocation) → InvocationFits width i → Safe (RunIn S width) Any (answer_over accesses ev k call i)
   unfolding method_integer
   t_over k call each (invocations.Value v) h = s_any _
-  t_over k call each (invocations.FieldUnit u) h = weaken _ (f_part_of S width accesses call each u h)
+  t_over k call each (invocations.Field u) h = weaken _ (f_part_of S width accesses call each u h)
   t_over k call each (invocations.Method q body) h = s_bind _ _ (t_method _ q body [] h tt) (λ v f. s_any _)
   t_over k call each invocations.Osi h = s_stop _
 
@@ -250,25 +251,25 @@ module _ (S : Type 0) (width : IntegerWidth) (accesses : Accesses S) (ev : Task 
   t_called_at : (depth : ℕ) (q : List Seg) → Safe (RunIn S width) Any (called_at accesses ev depth q)
   t_called_at depth q = t_asked _ (t_answer _) q
 
-  pub t_read : (depth : ℕ) (u : FieldUnit) → UnitFits u → Safe (RunIn S width) (WithinWidth width) (field_read accesses ev depth u)
+  pub t_read : (depth : ℕ) (u : Field) → FewBits (bits_of_field u) → Safe (RunIn S width) (WithinWidth width) (field_read accesses ev depth u)
   t_read depth u h = f_value S width accesses _ (t_called_at depth) u h
 
-  pub t_given : (depth : ℕ) (u : FieldUnit) → UnitFits u → Safe (RunIn S width) (GivenWithin width) (field_given accesses (called_at accesses ev depth) u)
+  pub t_given : (depth : ℕ) (u : Field) → FewBits (bits_of_field u) → Safe (RunIn S width) (GivenWithin width) (field_given accesses (called_at accesses ev depth) u)
   t_given depth u h = f_given S width accesses _ (t_called_at depth) u h
 
   pub t_held : (depth : ℕ) (h : Held) → HeldFits width h → Safe (RunIn S width) (Below S width) (held_integer accesses ev depth h)
   t_held depth (held.Value v) f = r_lift S width _ (w_read S width v f)
-  t_held depth (held.FieldUnit u) f = f_integer S width accesses _ (t_called_at depth) u f
+  t_held depth (held.Field u) f = f_integer S width accesses _ (t_called_at depth) u f
 
   pub t_referent : (depth : ℕ) (r : Referent) → ReferentFits width r → Safe (RunIn S width) (ReferentFits width) (referent_read accesses ev depth r)
   t_referent depth (referent.Value v) f = s_give _ f
   t_referent depth (referent.Object t) f = s_give _ tt
-  t_referent depth (referent.FieldUnit u) f = f_referent S width accesses _ (t_called_at depth) u f
+  t_referent depth (referent.Field u) f = f_referent S width accesses _ (t_called_at depth) u f
   t_referent depth (referent.Bytes n) f = s_give _ f
 
   pub t_completed : (depth : ℕ) (s : Stored) (v : Value) → WithinWidth width v → Safe (RunIn S width) Any (completed accesses ev depth s v)
   t_completed depth store.Done v f = s_give _ tt
-  t_completed depth (store.FieldUnit u) v f = f_stored S width accesses _ (t_called_at depth) u v f
+  t_completed depth (store.Field u) v f = f_stored S width accesses _ (t_called_at depth) u v f
 
   pub t_stored_to : (depth : ℕ) (q : StoreTarget) (v : Value) → WithinWidth width v → Safe (RunIn S width) Any (stored_to accesses ev depth q v)
   unfolding stored_to
@@ -277,11 +278,11 @@ module _ (S : Type 0) (width : IntegerWidth) (accesses : Accesses S) (ev : Task 
   t_back_to : (b : Bool) (depth : ℕ) (h : Held) (q : StoreTarget) (v : Value) → WithinWidth width v → Safe (RunIn S width) Any (back_to accesses ev b depth h q v)
   t_back_to true depth h q v f = t_stored_to depth q v f
   t_back_to false depth (held.Value old) q v f = t_stored_to depth q v f
-  t_back_to false depth (held.FieldUnit u) q v f = f_stored S width accesses _ (t_called_at depth) u v f
+  t_back_to false depth (held.Field u) q v f = f_stored S width accesses _ (t_called_at depth) u v f
 
   pub t_stored_back : (depth : ℕ) (h : Held) (q : StoreTarget) (v : Value) → WithinWidth width v → Safe (RunIn S width) Any (stored_back accesses ev depth h q v)
   t_stored_back depth h q v f = t_back_to (is_element q) depth h q v f
 
   pub t_held_value : (depth : ℕ) (h : Held) → HeldFits width h → Safe (RunIn S width) (WithinWidth width) (held_value accesses ev depth h)
   t_held_value depth (held.Value v) f = s_give _ f
-  t_held_value depth (held.FieldUnit u) f = t_read depth u f
+  t_held_value depth (held.Field u) f = t_read depth u f

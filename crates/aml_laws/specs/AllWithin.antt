@@ -8,7 +8,6 @@ use Rattle.aml_objects.specs.declared.object.Element.TheVariants as element
 use Rattle.aml_objects.specs.declared.object.Object.{Object}
 use Rattle.aml_objects.specs.declared.object.Object.TheVariants as object
 use Rattle.aml_objects.specs.declared.entry.Entry.{Entry}
-use Rattle.aml_objects.specs.declared.entry.FieldUnit.{FieldUnit}
 use Rattle.aml_objects.specs.declared.entry.MethodBody.{MethodBody}
 use Rattle.aml_objects.specs.declared.entry.MethodBody.TheVariants.{Osi, Aml}
 use Rattle.aml_objects.specs.declared.entry.NamedObject.{NamedObject}
@@ -26,8 +25,8 @@ Each Fit (x ∷ xs) = Fit x × Each Fit xs
 abbrev pub BytesFit : List ℕ → Type 0
 BytesFit bytes = AreBytes bytes × (length bytes ≤ 1048576)
 
-abbrev pub UnitFits : FieldUnit → Type 0
-UnitFits u = u.bits ≤ 8388608
+abbrev pub FewBits : ℕ → Type 0
+FewBits bits = bits ≤ 8388608
 
 abbrev pub BodyFits : MethodBody → Type 0
 BodyFits Osi = Unit {0}
@@ -48,7 +47,8 @@ module _ (width : IntegerWidth) where
 
   abbrev pub NamedFits : NamedObject → Type 0
   NamedFits (named.Data v) = WithinWidth width v
-  NamedFits (named.FieldUnit u) = UnitFits u
+  NamedFits (named.FieldUnit u) = FewBits u.bits
+  NamedFits (named.BufferField b) = FewBits b.bits
   NamedFits (named.Method m) = BodyFits m.body
   NamedFits _ = Unit {0}
 

@@ -33,6 +33,8 @@ abbrev pub region_place : RegionKind → Option ℕ
 region_place regions.OperationRegion = Some 0
 region_place regions.Field = None
 region_place regions.IndexField = None
+region_place (regions.SizedBufferField size) = Some 2
+region_place regions.BufferField = Some 3
 
 abbrev pub place_of_kind : TermKind → Option ℕ
 place_of_kind (kinds.Declaration k) = declared_place k

@@ -5,6 +5,8 @@ use Rattle.ar_space.specs.declared.space.Width.{Width}
 use Rattle.ar_space.specs.Change.{give}
 use Rattle.aml_path.specs.declared.segment.Seg.{Seg}
 use Rattle.aml_objects.specs.declared.value.Value.{Value}
+use Rattle.aml_objects.specs.declared.entry.Field.{Field}
+use Rattle.aml_objects.specs.declared.entry.Field.TheVariants as field
 use Rattle.aml_objects.specs.declared.entry.FieldUnit.{FieldUnit}
 use Rattle.aml_objects.specs.declared.entry.FieldSource.{FieldSource}
 use Rattle.aml_objects.specs.declared.entry.FieldSource.TheVariants as sources
@@ -19,7 +21,7 @@ use Rattle.aml_meaning.specs.declared.regions.RegionField.{RegionField}
 use Rattle.aml_meaning.specs.State.{State}
 use Rattle.aml_meaning.specs.Run.{Run}
 use Rattle.aml_meaning.proofs.Agree.{Agree, agree_give, agree_stop, agree_settle, agree_lift, agree_bind}
-use Rattle.aml_meaning.specs.Fields.{part_in, inherited, pci_address, space_at, located, region_bits, region_written, index_unit, index_unit_written, index_bits, index_written, bits_in, written_in, field_value, field_integer, field_part, field_referent, field_stored}
+use Rattle.aml_meaning.specs.Fields.{part_in, inherited, pci_address, space_at, located, region_bits, region_written, index_unit, index_unit_written, index_bits, index_written, field_unit_bits, field_unit_written, bits_in, written_in, field_value, field_integer, field_part, field_referent, field_stored}
 
 -- ---- unit by unit
 
@@ -91,32 +93,40 @@ module _ {S : Type 0} {n : ℕ} (accesses : Accesses S) (call other : List Seg �
   agree_index_written index behind f bytes u =
       agree_bind _ _ _ _ (agree_kept f u _ _ (agree_index_unit index behind f.access u)) (λ old. agree_bind _ _ _ _ (agree_region_written index _) (λ chosen. agree_region_written behind _))
 
-  agree_bits_in : (source : FieldSource) (f : FieldUnit) → Agree n (bits_in accesses call source f) (bits_in accesses other source f)
+  agree_unit_bits : (source : FieldSource) (f : FieldUnit) → Agree n (field_unit_bits accesses call source f) (field_unit_bits accesses other source f)
   unfolding index_bits
-  agree_bits_in (sources.Region k) f = agree_region_bits _
-  agree_bits_in (sources.Index i d) f = agree_bind _ _ _ _ (agree_lift _) (λ index. agree_bind _ _ _ _ (agree_lift _) (λ behind. agree_bits _ _ (agree_index_unit index behind f.access) f))
+  agree_unit_bits (sources.Region k) f = agree_region_bits _
+  agree_unit_bits (sources.Index i d) f = agree_bind _ _ _ _ (agree_lift _) (λ index. agree_bind _ _ _ _ (agree_lift _) (λ behind. agree_bits _ _ (agree_index_unit index behind f.access) f))
 
-  agree_written_in : (source : FieldSource) (f : FieldUnit) (bytes : List ℕ) → Agree n (written_in accesses call source f bytes) (written_in accesses other source f bytes)
+  agree_unit_written : (source : FieldSource) (f : FieldUnit) (bytes : List ℕ) → Agree n (field_unit_written accesses call source f bytes) (field_unit_written accesses other source f bytes)
   unfolding index_written
-  agree_written_in (sources.Region k) f bytes = agree_region_written _ bytes
-  agree_written_in (sources.Index i d) f bytes = agree_bind _ _ _ _ (agree_lift _) (λ index. agree_bind _ _ _ _ (agree_lift _) (λ behind. agree_writes _ _ (agree_index_written index behind f bytes) (units_of f.bit_offset f.bits f.access)))
+  agree_unit_written (sources.Region k) f bytes = agree_region_written _ bytes
+  agree_unit_written (sources.Index i d) f bytes = agree_bind _ _ _ _ (agree_lift _) (λ index. agree_bind _ _ _ _ (agree_lift _) (λ behind. agree_writes _ _ (agree_index_written index behind f bytes) (units_of f.bit_offset f.bits f.access)))
 
-  pub agree_field_value : (f : FieldUnit) → Agree n (field_value accesses call f) (field_value accesses other f)
+  agree_bits_in : (f : Field) → Agree n (bits_in accesses call f) (bits_in accesses other f)
+  agree_bits_in (field.Unit u) = agree_unit_bits u.source u
+  agree_bits_in (field.Buffer b) = agree_lift _
+
+  agree_written_in : (f : Field) (bytes : List ℕ) → Agree n (written_in accesses call f bytes) (written_in accesses other f bytes)
+  agree_written_in (field.Unit u) bytes = agree_unit_written u.source u bytes
+  agree_written_in (field.Buffer b) bytes = agree_lift _
+
+  pub agree_field_value : (f : Field) → Agree n (field_value accesses call f) (field_value accesses other f)
   unfolding field_value
-  agree_field_value f = agree_bind _ _ _ _ (agree_bits_in f.source f) (λ bytes. agree_lift _)
+  agree_field_value f = agree_bind _ _ _ _ (agree_bits_in f) (λ bytes. agree_lift _)
 
-  pub agree_field_stored : (f : FieldUnit) (v : Value) → Agree n (field_stored accesses call f v) (field_stored accesses other f v)
+  pub agree_field_stored : (f : Field) (v : Value) → Agree n (field_stored accesses call f v) (field_stored accesses other f v)
   unfolding field_stored
-  agree_field_stored f v = agree_bind _ _ _ _ (agree_lift _) (λ bytes. agree_written_in f.source f bytes)
+  agree_field_stored f v = agree_bind _ _ _ _ (agree_lift _) (λ bytes. agree_written_in f bytes)
 
-  pub agree_field_integer : (f : FieldUnit) → Agree n (field_integer accesses call f) (field_integer accesses other f)
+  pub agree_field_integer : (f : Field) → Agree n (field_integer accesses call f) (field_integer accesses other f)
   unfolding field_integer
-  agree_field_integer f = agree_bind _ _ _ _ (agree_bits_in f.source f) (λ bytes. agree_lift _)
+  agree_field_integer f = agree_bind _ _ _ _ (agree_bits_in f) (λ bytes. agree_lift _)
 
-  pub agree_field_referent : (f : FieldUnit) → Agree n (field_referent accesses call f) (field_referent accesses other f)
+  pub agree_field_referent : (f : Field) → Agree n (field_referent accesses call f) (field_referent accesses other f)
   unfolding field_referent
-  agree_field_referent f = agree_bind _ _ _ _ (agree_bits_in f.source f) (λ bytes. agree_lift _)
+  agree_field_referent f = agree_bind _ _ _ _ (agree_bits_in f) (λ bytes. agree_lift _)
 
-  pub agree_field_part : (f : FieldUnit) → Agree n (field_part accesses call f) (field_part accesses other f)
+  pub agree_field_part : (f : Field) → Agree n (field_part accesses call f) (field_part accesses other f)
   unfolding field_part
-  agree_field_part f = agree_bind _ _ _ _ (agree_bits_in f.source f) (λ bytes. agree_lift _)
+  agree_field_part f = agree_bind _ _ _ _ (agree_bits_in f) (λ bytes. agree_lift _)

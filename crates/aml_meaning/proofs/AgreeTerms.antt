@@ -45,7 +45,7 @@ use Rattle.aml_meaning.specs.declared.store_target.Stored.{Stored}
 use Rattle.aml_meaning.specs.declared.store_target.Stored.TheVariants as store
 use Rattle.aml_meaning.specs.declared.term_kind.RegionKind.{RegionKind}
 use Rattle.aml_meaning.specs.declared.term_kind.RegionKind.TheVariants as regions
-use Rattle.aml_objects.specs.declared.entry.FieldUnit.{FieldUnit}
+use Rattle.aml_objects.specs.declared.entry.Field.{Field}
 use Rattle.aml_meaning.specs.Tasks.{Task, operand_value, value_at, two_values, operand_integer, goes_on, in_turn}
 use Rattle.aml_meaning.specs.DataTerms.{constant_rule, integer_rule, string_rule, buffer_rule, named_element, valued_element, element_by, elements_in_turn, package_of, package_rule, var_package_rule, data_rule}
 use Rattle.aml_meaning.specs.DeclarationTerms.{declaring, name_rule, alias_rule, method_rule, scope_rule, new_scope, declaration_rule}
@@ -55,7 +55,7 @@ use Rattle.aml_meaning.specs.StatementTerms.{otherwise, branch, if_rule, else_ru
 use Rattle.aml_meaning.specs.Invocations.{leaving, invoked, method_value}
 use Rattle.aml_meaning.specs.InvocationTerms.{arguments_in_turn, call_rule, osi_rule, field_rule, invocation_rule, name_value}
 use Rattle.aml_meaning.specs.FieldCalls.{asked, method_integer, answer_over, answer_within, field_read, held_value, held_integer, referent_read, completed, stored_to, is_element, back_to, stored_back}
-use Rattle.aml_meaning.specs.FieldTerms.{fields_laid, region_rule, field_list_rule, index_list_rule, region_term_rule}
+use Rattle.aml_meaning.specs.FieldTerms.{fields_laid, region_rule, field_list_rule, index_list_rule, sized_field_rule, bits_field_rule, region_term_rule}
 use Rattle.aml_meaning.proofs.AgreeFields.{agree_field_value, agree_field_integer, agree_field_part, agree_field_referent, agree_field_stored}
 use Rattle.aml_meaning.specs.Evaluation.{kind_rule, code_rule, rule}
 
@@ -94,7 +94,7 @@ module _ {S : Type 0} {n : ℕ} (accesses : Accesses S) (ev ew : Task → Run S 
   agree_over : (k : ℕ) (call other : List Seg → Run S ℕ) → ((p : List Seg) → Agree n (call p) (other p)) → (i : Invocation) → Agree n (answer_over accesses ev k call i) (answer_over accesses ew k other i)
   unfolding method_integer
   agree_over k call other alike (invocations.Value v) = agree_settle _
-  agree_over k call other alike (invocations.FieldUnit u) = agree_field_part accesses call other alike u
+  agree_over k call other alike (invocations.Field u) = agree_field_part accesses call other alike u
   agree_over k call other alike (invocations.Method p body) = agree_bind _ _ _ _ (agree_method_value _ p body _) (λ v. agree_settle _)
   agree_over k call other alike invocations.Osi = agree_stop _
 
@@ -103,22 +103,22 @@ module _ {S : Type 0} {n : ℕ} (accesses : Accesses S) (ev ew : Task → Run S 
   agree_answer zero i = agree_stop _
   agree_answer (suc k) i = agree_over k _ _ (agree_asked _ _ (agree_answer k)) i
 
-  agree_read : (depth : ℕ) (u : FieldUnit) → Agree n (field_read accesses ev depth u) (field_read accesses ew depth u)
+  agree_read : (depth : ℕ) (u : Field) → Agree n (field_read accesses ev depth u) (field_read accesses ew depth u)
   agree_read depth u = agree_field_value accesses _ _ (agree_asked _ _ (agree_answer (32 - depth))) u
 
   agree_held : (depth : ℕ) (h : Held) → Agree n (held_integer accesses ev depth h) (held_integer accesses ew depth h)
   agree_held depth (held.Value v) = agree_lift _
-  agree_held depth (held.FieldUnit u) = agree_field_integer accesses _ _ (agree_asked _ _ (agree_answer (32 - depth))) u
+  agree_held depth (held.Field u) = agree_field_integer accesses _ _ (agree_asked _ _ (agree_answer (32 - depth))) u
 
   agree_referent_read : (depth : ℕ) (r : Referent) → Agree n (referent_read accesses ev depth r) (referent_read accesses ew depth r)
   agree_referent_read depth (referent.Value v) = agree_give _
   agree_referent_read depth (referent.Object t) = agree_give _
-  agree_referent_read depth (referent.FieldUnit u) = agree_field_referent accesses _ _ (agree_asked _ _ (agree_answer (32 - depth))) u
+  agree_referent_read depth (referent.Field u) = agree_field_referent accesses _ _ (agree_asked _ _ (agree_answer (32 - depth))) u
   agree_referent_read depth (referent.Bytes n) = agree_give _
 
   agree_completed : (depth : ℕ) (s : Stored) (v : Value) → Agree n (completed accesses ev depth s v) (completed accesses ew depth s v)
   agree_completed depth store.Done v = agree_give _
-  agree_completed depth (store.FieldUnit u) v = agree_field_stored accesses _ _ (agree_asked _ _ (agree_answer (32 - depth))) u v
+  agree_completed depth (store.Field u) v = agree_field_stored accesses _ _ (agree_asked _ _ (agree_answer (32 - depth))) u v
 
   agree_stored_to : (depth : ℕ) (p : StoreTarget) (v : Value) → Agree n (stored_to accesses ev depth p v) (stored_to accesses ew depth p v)
   unfolding stored_to
@@ -127,14 +127,14 @@ module _ {S : Type 0} {n : ℕ} (accesses : Accesses S) (ev ew : Task → Run S 
   agree_back_to : (b : Bool) (depth : ℕ) (h : Held) (p : StoreTarget) (v : Value) → Agree n (back_to accesses ev b depth h p v) (back_to accesses ew b depth h p v)
   agree_back_to true depth h p v = agree_stored_to depth p v
   agree_back_to false depth (held.Value old) p v = agree_stored_to depth p v
-  agree_back_to false depth (held.FieldUnit u) p v = agree_field_stored accesses _ _ (agree_asked _ _ (agree_answer (32 - depth))) u v
+  agree_back_to false depth (held.Field u) p v = agree_field_stored accesses _ _ (agree_asked _ _ (agree_answer (32 - depth))) u v
 
   agree_stored_back : (depth : ℕ) (h : Held) (p : StoreTarget) (v : Value) → Agree n (stored_back accesses ev depth h p v) (stored_back accesses ew depth h p v)
   agree_stored_back depth h p v = agree_back_to (is_element p) depth h p v
 
   agree_held_value : (depth : ℕ) (h : Held) → Agree n (held_value accesses ev depth h) (held_value accesses ew depth h)
   agree_held_value depth (held.Value v) = agree_give _
-  agree_held_value depth (held.FieldUnit u) = agree_read depth u
+  agree_held_value depth (held.Field u) = agree_read depth u
 
   agree_constant : (k : ℕ) → Agree n (constant_rule ev k) (constant_rule ew k)
   unfolding constant_rule
@@ -184,13 +184,13 @@ module _ {S : Type 0} {n : ℕ} (accesses : Accesses S) (ev ew : Task → Run S 
   unfolding var_package_rule
   agree_var_package scope depth t = agree_bind _ _ _ _ (agree_settle _) (λ size. agree_bind _ _ _ _ (agree_integer scope depth size) (λ k. agree_bind _ _ _ _ (agree_lift _) (λ u. agree_bind _ _ _ _ (agree_settle _) (λ ts. agree_package_of scope depth k ts))))
 
-  agree_declaring : (scope : List Seg) (depth : ℕ) (t : Tree) (o : NamedObject) → Agree n (declaring ev scope depth t o) (declaring ew scope depth t o)
+  agree_declaring : (scope : List Seg) (depth : ℕ) (t : Tree) (position : ℕ) (o : NamedObject) → Agree n (declaring ev scope depth t position o) (declaring ew scope depth t position o)
   unfolding declaring
-  agree_declaring scope depth t o = agree_bind _ _ _ _ (agree_settle _) (λ x. agree_bind _ _ _ _ (agree_settle _) (λ p. agree_bind _ _ _ _ (agree_lift _) (λ u. agree_give _)))
+  agree_declaring scope depth t position o = agree_bind _ _ _ _ (agree_settle _) (λ x. agree_bind _ _ _ _ (agree_settle _) (λ p. agree_bind _ _ _ _ (agree_lift _) (λ u. agree_give _)))
 
   agree_name : (scope : List Seg) (depth : ℕ) (t : Tree) → Agree n (name_rule ev scope depth t) (name_rule ew scope depth t)
   unfolding name_rule
-  agree_name scope depth t = agree_bind _ _ _ _ (agree_settle _) (λ d. agree_bind _ _ _ _ (agree_value scope depth d) (λ v. agree_declaring scope depth t _))
+  agree_name scope depth t = agree_bind _ _ _ _ (agree_settle _) (λ d. agree_bind _ _ _ _ (agree_value scope depth d) (λ v. agree_declaring scope depth t _ _))
 
   agree_new_scope : (o : NamedObject) (place : ℕ) (scope : List Seg) (depth : ℕ) (t : Tree) → Agree n (new_scope ev o place scope depth t) (new_scope ew o place scope depth t)
   unfolding new_scope
@@ -234,8 +234,8 @@ module _ {S : Type 0} {n : ℕ} (accesses : Accesses S) (ev ew : Task → Run S 
   agree_declaration declarations.Alias scope depth t = agree_alias scope depth t
   agree_declaration declarations.External scope depth t = agree_give _
   agree_declaration declarations.Method scope depth t = agree_method scope depth t
-  agree_declaration declarations.Mutex scope depth t = agree_declaring scope depth t _
-  agree_declaration declarations.Event scope depth t = agree_declaring scope depth t _
+  agree_declaration declarations.Mutex scope depth t = agree_declaring scope depth t _ _
+  agree_declaration declarations.Event scope depth t = agree_declaring scope depth t _ _
 
   -- ---- places and operators
 
@@ -519,7 +519,7 @@ module _ {S : Type 0} {n : ℕ} (accesses : Accesses S) (ev ew : Task → Run S 
   agree_invocation : (scope : List Seg) (depth : ℕ) (ts : Trees) (i : Invocation) → Agree n (invocation_rule accesses ev scope depth ts i) (invocation_rule accesses ew scope depth ts i)
   unfolding field_rule
   agree_invocation scope depth ts (invocations.Value v) = agree_give _
-  agree_invocation scope depth ts (invocations.FieldUnit u) = agree_bind _ _ _ _ (agree_read depth u) (λ v. agree_give _)
+  agree_invocation scope depth ts (invocations.Field u) = agree_bind _ _ _ _ (agree_read depth u) (λ v. agree_give _)
   agree_invocation scope depth ts (invocations.Method p body) = agree_call scope depth ts p body
   agree_invocation scope depth ts invocations.Osi = agree_osi scope depth ts
 
@@ -532,15 +532,19 @@ module _ {S : Type 0} {n : ℕ} (accesses : Accesses S) (ev ew : Task → Run S 
   agree_region : (scope : List Seg) (depth : ℕ) (t : Tree) → Agree n (region_rule ev scope depth t) (region_rule ew scope depth t)
   unfolding region_rule
   agree_region scope depth t =
-      agree_bind _ _ _ _ (agree_settle _) (λ space. agree_bind _ _ _ _ (agree_value_at scope depth t 2) (λ offset. agree_bind _ _ _ _ (agree_value_at scope depth t 3) (λ size. agree_bind _ _ _ _ (agree_lift _) (λ x. agree_bind _ _ _ _ (agree_lift _) (λ y. agree_declaring scope depth t _)))))
+      agree_bind _ _ _ _ (agree_settle _) (λ space. agree_bind _ _ _ _ (agree_value_at scope depth t 2) (λ offset. agree_bind _ _ _ _ (agree_value_at scope depth t 3) (λ size. agree_bind _ _ _ _ (agree_lift _) (λ x. agree_bind _ _ _ _ (agree_lift _) (λ y. agree_declaring scope depth t _ _)))))
 
   agree_region_term : (k : RegionKind) (scope : List Seg) (depth : ℕ) (t : Tree) → Agree n (region_term_rule ev k scope depth t) (region_term_rule ew k scope depth t)
-  unfolding field_list_rule index_list_rule fields_laid
+  unfolding field_list_rule index_list_rule fields_laid sized_field_rule bits_field_rule
   agree_region_term regions.OperationRegion scope depth t = agree_region scope depth t
   agree_region_term regions.Field scope depth t =
       agree_bind _ _ _ _ (agree_settle _) (λ ts. agree_bind _ _ _ _ (agree_settle _) (λ plain. agree_bind _ _ _ _ (agree_settle _) (λ x. agree_bind _ _ _ _ (agree_lift _) (λ region. agree_bind _ _ _ _ (agree_settle _) (λ flags. agree_bind _ _ _ _ (agree_lift _) (λ laid. agree_give _))))))
   agree_region_term regions.IndexField scope depth t =
       agree_bind _ _ _ _ (agree_settle _) (λ ts. agree_bind _ _ _ _ (agree_settle _) (λ plain. agree_bind _ _ _ _ (agree_settle _) (λ x. agree_bind _ _ _ _ (agree_lift _) (λ index. agree_bind _ _ _ _ (agree_settle _) (λ y. agree_bind _ _ _ _ (agree_lift _) (λ behind. agree_bind _ _ _ _ (agree_settle _) (λ flags. agree_bind _ _ _ _ (agree_lift _) (λ laid. agree_give _))))))))
+  agree_region_term (regions.SizedBufferField size) scope depth t =
+      agree_bind _ _ _ _ (agree_two_values scope depth t) (λ x. agree_bind _ _ _ _ (agree_settle _) (λ o. agree_bind _ _ _ _ (agree_lift _) (λ i. agree_bind _ _ _ _ (agree_lift _) (λ b. agree_declaring scope depth t _ _))))
+  agree_region_term regions.BufferField scope depth t =
+      agree_bind _ _ _ _ (agree_value_at scope depth t 0) (λ source. agree_bind _ _ _ _ (agree_value_at scope depth t 1) (λ index. agree_bind _ _ _ _ (agree_value_at scope depth t 2) (λ count. agree_bind _ _ _ _ (agree_settle _) (λ o. agree_bind _ _ _ _ (agree_lift _) (λ i. agree_bind _ _ _ _ (agree_lift _) (λ k. agree_bind _ _ _ _ (agree_settle _) (λ bits. agree_bind _ _ _ _ (agree_lift _) (λ b. agree_declaring scope depth t _ _))))))))
 
   -- ---- which rule
 

@@ -74,7 +74,7 @@ loaded accesses bytes steps = ending (table_run accesses steps bytes)
 -- a name that is no control method is read; this counts as one call
 abbrev pub value_of : {S : Type 0} → Accesses S → Invocation → List Value → Run S Value
 value_of accesses (invocation.Value v) arguments = give v
-value_of accesses (invocation.FieldUnit u) arguments = field_read accesses (meaning accesses) 1 u
+value_of accesses (invocation.Field f) arguments = field_read accesses (meaning accesses) 1 f
 value_of accesses (invocation.Method p body) arguments = method_value (meaning accesses) 0 p body arguments
 value_of accesses invocation.Osi arguments = lift (osi_answered arguments)
 

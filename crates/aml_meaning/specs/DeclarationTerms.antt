@@ -19,10 +19,10 @@ use Rattle.aml_meaning.specs.Declaring.{new_name, new_method}
 use Rattle.aml_meaning.specs.Tasks.{Task, module_level, operand_value, in_turn}
 
 module _ {S : Type 0} (ev : Task → Run S Flow) where
-  -- a name that the term's first operand declares
-  unfoldable pub declaring : List Seg → ℕ → Tree → NamedObject → Run S Flow
-  declaring scope depth t o = do
-    n ← settle (name_of (operand_of t 0))
+  -- a name that the term's operand at a position declares
+  unfoldable pub declaring : List Seg → ℕ → Tree → ℕ → NamedObject → Run S Flow
+  declaring scope depth t position o = do
+    n ← settle (name_of (operand_of t position))
     p ← settle (resolved n scope)
     number ← lift (new_name (module_level depth) p o)
     give flow.Next
@@ -31,7 +31,7 @@ module _ {S : Type 0} (ev : Task → Run S Flow) where
   name_rule scope depth t = do
     datum ← settle (inner_of (operand_of t 1))
     v ← operand_value ev scope depth datum
-    declaring scope depth t (object.Data v)
+    declaring scope depth t 0 (object.Data v)
 
   unfoldable pub alias_rule : List Seg → ℕ → Tree → Run S Flow
   alias_rule scope depth t = do
@@ -79,5 +79,5 @@ module _ {S : Type 0} (ev : Task → Run S Flow) where
   declaration_rule kinds.Alias scope depth t = alias_rule scope depth t
   declaration_rule kinds.External scope depth t = give flow.Next
   declaration_rule kinds.Method scope depth t = method_rule scope depth t
-  declaration_rule kinds.Mutex scope depth t = declaring scope depth t (object.Mutex 0)
-  declaration_rule kinds.Event scope depth t = declaring scope depth t object.Event
+  declaration_rule kinds.Mutex scope depth t = declaring scope depth t 0 (object.Mutex 0)
+  declaration_rule kinds.Event scope depth t = declaring scope depth t 0 object.Event

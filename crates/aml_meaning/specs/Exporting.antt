@@ -2,7 +2,7 @@
 use Rattle.std.specs.Prelude.{◌≡◌, ℕ, zero, suc, ◌+◌, ◌-◌, ◌==◌, List, [], ◌∷◌, ◌++◌, Option, Some, None, Ok, Err, if◌then◌else◌}
 use Rattle.ar_space.specs.declared.refusal.Refusal.{Refusal}
 use Rattle.ar_space.specs.declared.refusal.Refusal.TheVariants as refusal
-use Rattle.ar_space.specs.declared.refusal.EvaluationFault.TheVariants.{ObjectLimit, Unsupported}
+use Rattle.ar_space.specs.declared.refusal.EvaluationFault.TheVariants.{ObjectLimit}
 use Rattle.ar_space.specs.Outcome.{Outcome, seen}
 use Rattle.ar_space.specs.Accesses.{Accesses}
 use Rattle.ar_space.specs.Change.{Change, give, stop, settle, ◌>>=◌, ◌>>◌}
@@ -15,7 +15,8 @@ use Rattle.aml_objects.specs.declared.value.Reference.TheVariants as reference
 use Rattle.aml_objects.specs.declared.object.Element.{Element}
 use Rattle.aml_objects.specs.declared.object.Element.TheVariants as element
 use Rattle.aml_objects.specs.declared.entry.Entry.{Entry}
-use Rattle.aml_objects.specs.declared.entry.FieldUnit.{FieldUnit}
+use Rattle.aml_objects.specs.declared.entry.Field.{Field}
+use Rattle.aml_objects.specs.declared.entry.Field.TheVariants as field
 use Rattle.aml_objects.specs.declared.entry.NamedObject.{NamedObject}
 use Rattle.aml_objects.specs.declared.entry.NamedObject.TheVariants as object
 use Rattle.aml_objects.specs.Objects.{string_at, buffer_at, elements_at}
@@ -66,8 +67,8 @@ value_or_path (value.Reference r) p = seen uses.Path p
 
 abbrev pub held_or_path : NamedObject → Outcome (List Seg) → Outcome NameUse
 held_or_path (object.Data v) p = value_or_path v p
-held_or_path (object.FieldUnit u) p = Ok (uses.FieldUnit u)
-held_or_path (object.BufferField b) p = Err (refusal.Evaluation (Unsupported 0x5B13))
+held_or_path (object.FieldUnit u) p = Ok (uses.Field (field.Unit u))
+held_or_path (object.BufferField b) p = Ok (uses.Field (field.Buffer b))
 held_or_path _ p = seen uses.Path p
 
 abbrev pub use_of : Outcome Entry → Outcome (List Seg) → Outcome (List Seg) → Outcome NameUse
@@ -87,13 +88,13 @@ module _ {S : Type 0} (accesses : Accesses S) (package_exported : ℕ → Run S 
   value_exported (value.Package o) = package_exported o
   value_exported (value.Reference r) = reference_exported r
 
-  -- a field unit is read as in a call of its own
-  abbrev pub field_exported : FieldUnit → Run S given.Given
-  field_exported u = field_given accesses (called_at accesses (meaning accesses) 1) u
+  -- a field is read as in a call of its own
+  abbrev pub field_exported : Field → Run S given.Given
+  field_exported f = field_given accesses (called_at accesses (meaning accesses) 1) f
 
   unfoldable pub use_exported : NameUse → Run S given.Given
   use_exported (uses.Value v) = value_exported v
-  use_exported (uses.FieldUnit u) = field_exported u
+  use_exported (uses.Field f) = field_exported f
   use_exported (uses.Path p) = give (given.Named p)
 
   unfoldable pub name_exported : Name → List Seg → Run S given.Given

@@ -1,4 +1,4 @@
--- Field units where terms read them and store to them. The objects of an address (`_SEG`, `_BBN`, `_ADR`) are called, one call deeper.
+-- Fields where terms read them and store to them. The objects of an address (`_SEG`, `_BBN`, `_ADR`) are called, one call deeper.
 use Rattle.std.specs.Prelude.{ℕ, zero, suc, ◌-◌, List, [], Bool, true, false}
 use Rattle.ar_space.specs.declared.refusal.Refusal.TheVariants as refusal
 use Rattle.ar_space.specs.declared.refusal.EvaluationFault.TheVariants.{CallDepth}
@@ -7,7 +7,7 @@ use Rattle.ar_space.specs.Accesses.{Accesses}
 use Rattle.ar_space.specs.Change.{give, stop, settle, ◌>>=◌}
 use Rattle.aml_path.specs.declared.segment.Seg.{Seg}
 use Rattle.aml_objects.specs.declared.value.Value.{Value}
-use Rattle.aml_objects.specs.declared.entry.FieldUnit.{FieldUnit}
+use Rattle.aml_objects.specs.declared.entry.Field.{Field}
 use Rattle.aml_meaning.specs.declared.flow.Flow.{Flow}
 use Rattle.aml_meaning.specs.declared.invocation.Invocation.{Invocation}
 use Rattle.aml_meaning.specs.declared.invocation.Invocation.TheVariants as invocation
@@ -54,7 +54,7 @@ module _ {S : Type 0} (accesses : Accesses S) (ev : Task → Run S Flow) where
   -- n: how many calls may still be made one inside another, this one aside. \_OSI takes an argument, and is never asked without one
   abbrev pub answer_over : ℕ → (List Seg → Run S ℕ) → Invocation → Run S ℕ
   answer_over n call (invocation.Value v) = settle (integer_only v)
-  answer_over n call (invocation.FieldUnit u) = field_part accesses call u
+  answer_over n call (invocation.Field f) = field_part accesses call f
   answer_over n call (invocation.Method p body) = method_integer (31 - n) p body
   answer_over n call invocation.Osi = stop (refusal.Value WrongType)
 
@@ -66,30 +66,30 @@ module _ {S : Type 0} (accesses : Accesses S) (ev : Task → Run S Flow) where
   abbrev pub called_at : ℕ → List Seg → Run S ℕ
   called_at depth = asked (answer_within (32 - depth))
 
-  -- ---- a field unit, read and stored to
+  -- ---- a field, read and stored to
 
-  abbrev pub field_read : ℕ → FieldUnit → Run S Value
-  field_read depth u = field_value accesses (called_at depth) u
+  abbrev pub field_read : ℕ → Field → Run S Value
+  field_read depth f = field_value accesses (called_at depth) f
 
-  abbrev pub field_written : ℕ → FieldUnit → Value → Run S (Unit {0})
-  field_written depth u v = field_stored accesses (called_at depth) u v
+  abbrev pub field_written : ℕ → Field → Value → Run S (Unit {0})
+  field_written depth f v = field_stored accesses (called_at depth) f v
 
   -- what a target holds, as an integer
   abbrev pub held_integer : ℕ → Held → Run S ℕ
   held_integer depth (held.Value v) = lift (integer_in v)
-  held_integer depth (held.FieldUnit u) = field_integer accesses (called_at depth) u
+  held_integer depth (held.Field f) = field_integer accesses (called_at depth) f
 
   -- what a reference refers to, where an element of a package that is the name of a field stands for the field's value
   abbrev pub referent_read : ℕ → Referent → Run S Referent
   referent_read depth (referent.Value v) = give (referent.Value v)
   referent_read depth (referent.Object t) = give (referent.Object t)
-  referent_read depth (referent.FieldUnit u) = field_referent accesses (called_at depth) u
+  referent_read depth (referent.Field f) = field_referent accesses (called_at depth) f
   referent_read depth (referent.Bytes n) = give (referent.Bytes n)
 
-  -- a store is done, or a field unit is written next
+  -- a store is done, or a field is written next
   abbrev pub completed : ℕ → Stored → Value → Run S (Unit {0})
   completed depth store.Done v = give tt
-  completed depth (store.FieldUnit u) v = field_written depth u v
+  completed depth (store.Field f) v = field_written depth f v
 
   unfoldable pub stored_to : ℕ → StoreTarget → Value → Run S (Unit {0})
   stored_to depth p v = do
@@ -99,14 +99,14 @@ module _ {S : Type 0} (accesses : Accesses S) (ev : Task → Run S Flow) where
   -- what a target holds, as a value
   abbrev pub held_value : ℕ → Held → Run S Value
   held_value depth (held.Value v) = give v
-  held_value depth (held.FieldUnit u) = field_read depth u
+  held_value depth (held.Field f) = field_read depth f
 
-  -- a store to a target whose value was read before; a field unit that was read is the one that is written, unless an element of a
+  -- a store to a target whose value was read before; a field that was read is the one that is written, unless an element of a
   -- package named it: then the element is replaced
   abbrev pub back_to : Bool → ℕ → Held → StoreTarget → Value → Run S (Unit {0})
   back_to true depth h p v = stored_to depth p v
   back_to false depth (held.Value old) p v = stored_to depth p v
-  back_to false depth (held.FieldUnit u) p v = field_written depth u v
+  back_to false depth (held.Field f) p v = field_written depth f v
 
   abbrev pub stored_back : ℕ → Held → StoreTarget → Value → Run S (Unit {0})
   stored_back depth h p v = back_to (is_element p) depth h p v

@@ -1,5 +1,6 @@
--- Declarations of operation regions and of fields (ACPI 6.5, 19.6: OperationRegion, Field, IndexField; 20.2.5.2: FieldList).
-use Rattle.std.specs.Prelude.{ℕ, ◌+◌, ◌^◌, ◌/◌, ◌%◌, ◌==◌, ◌||◌, nat_lt, List, Bool, true, false, Ok, Err, if◌then◌else◌}
+-- Declarations of operation regions and of fields (ACPI 6.5, 19.6: OperationRegion, Field, IndexField, CreateField and its like; 20.2.5.2:
+-- FieldList).
+use Rattle.std.specs.Prelude.{ℕ, ◌+◌, ◌*◌, ◌^◌, ◌/◌, ◌%◌, ◌==◌, ◌||◌, nat_lt, List, Bool, true, false, Ok, Err, if◌then◌else◌}
 use Rattle.ar_space.specs.declared.space.Width.{Width}
 use Rattle.ar_space.specs.declared.space.Width.TheVariants.{W8, W16, W32, W64}
 use Rattle.ar_space.specs.declared.refusal.Refusal.TheVariants as refusal
@@ -18,6 +19,8 @@ use Rattle.aml_grammar.specs.declared.opcode.TermCode.TheVariants as codes
 use Rattle.aml_grammar.specs.Opcodes as opcode
 use Rattle.aml_grammar.specs.Tree.{Tree, Trees, no_trees, tree}
 use Rattle.aml_grammar.specs.Apart.{code_of, operand_of, name_of}
+use Rattle.aml_objects.specs.declared.value.Value.{Value}
+use Rattle.aml_objects.specs.declared.value.Value.TheVariants as value
 use Rattle.aml_objects.specs.declared.entry.NamedObject.{NamedObject}
 use Rattle.aml_objects.specs.declared.entry.NamedObject.TheVariants as object
 use Rattle.aml_objects.specs.declared.entry.Entry.{Entry}
@@ -25,18 +28,21 @@ use Rattle.aml_objects.specs.declared.entry.FieldSource.{FieldSource}
 use Rattle.aml_objects.specs.declared.entry.FieldSource.TheVariants as sources
 use Rattle.aml_objects.specs.declared.entry.UpdateRule.{UpdateRule}
 use Rattle.aml_objects.specs.declared.entry.UpdateRule.TheVariants.{Preserve, WriteAsOnes, WriteAsZeros}
+use Rattle.aml_fields.specs.BufferFields.{new_buffer_field}
 use Rattle.aml_meaning.specs.declared.field_layout.FieldLayout.{FieldLayout}
 use Rattle.aml_meaning.specs.declared.field_layout.FieldGroup.{FieldGroup}
 use Rattle.aml_meaning.specs.declared.flow.Flow.{Flow}
 use Rattle.aml_meaning.specs.declared.flow.Flow.TheVariants as flow
 use Rattle.aml_meaning.specs.declared.term_kind.RegionKind.{RegionKind}
 use Rattle.aml_meaning.specs.declared.term_kind.RegionKind.TheVariants as kinds
-use Rattle.aml_meaning.specs.State.{State}
+use Rattle.aml_meaning.specs.declared.term_kind.BufferFieldSize.{BufferFieldSize}
+use Rattle.aml_meaning.specs.declared.term_kind.BufferFieldSize.TheVariants as sizes
+use Rattle.aml_meaning.specs.State.{State, on_objects}
 use Rattle.aml_meaning.specs.Run.{Run, lift}
 use Rattle.aml_meaning.specs.Terms.{number_of, list_of}
 use Rattle.aml_meaning.specs.Readings.{integer_in, entry_found}
 use Rattle.aml_meaning.specs.Declaring.{new_name}
-use Rattle.aml_meaning.specs.Tasks.{Task, module_level, value_at}
+use Rattle.aml_meaning.specs.Tasks.{Task, module_level, value_at, two_values}
 use Rattle.aml_meaning.specs.DeclarationTerms.{declaring}
 
 -- ---- field flags
@@ -148,6 +154,32 @@ fields_laid scope depth source flags ts = do
   laid ← lift (elements_laid (record { source = source; update = update_rule flags }) scope depth (record { bit_offset = 0; access = access_width flags }) ts)
   give flow.Next
 
+-- ---- buffer fields
+
+-- the buffer that a field lies in
+abbrev pub buffer_of : Value → Outcome ℕ
+buffer_of (value.Buffer o) = Ok o
+buffer_of value.Uninitialized = Err (refusal.Value WrongType)
+buffer_of (value.Integer n) = Err (refusal.Value WrongType)
+buffer_of (value.String o) = Err (refusal.Value WrongType)
+buffer_of (value.Package o) = Err (refusal.Value WrongType)
+buffer_of (value.Reference r) = Err (refusal.Value WrongType)
+
+-- CreateBitField counts bits, the others of its kind bytes; and how many bits a field of a kind has
+abbrev pub bits_of_step : BufferFieldSize → ℕ
+bits_of_step sizes.Bit = 1
+bits_of_step sizes.Byte = 8
+bits_of_step sizes.Word = 8
+bits_of_step sizes.DWord = 8
+bits_of_step sizes.QWord = 8
+
+abbrev pub bits_of_size : BufferFieldSize → ℕ
+bits_of_size sizes.Bit = 1
+bits_of_size sizes.Byte = 8
+bits_of_size sizes.Word = 16
+bits_of_size sizes.DWord = 32
+bits_of_size sizes.QWord = 64
+
 module _ {S : Type 0} (ev : Task → Run S Flow) where
   -- the offset and the length are evaluated here
   unfoldable pub region_rule : List Seg → ℕ → Tree → Run S Flow
@@ -157,7 +189,7 @@ module _ {S : Type 0} (ev : Task → Run S Flow) where
     size ← value_at ev scope depth t 3
     x ← lift (integer_in offset)
     y ← lift (integer_in size)
-    declaring ev scope depth t (object.OperationRegion (record { space = space % 256; offset = x; length = y }))
+    declaring ev scope depth t 0 (object.OperationRegion (record { space = space % 256; offset = x; length = y }))
 
   unfoldable pub field_list_rule : List Seg → ℕ → Tree → Run S Flow
   field_list_rule scope depth t = do
@@ -179,7 +211,31 @@ module _ {S : Type 0} (ev : Task → Run S Flow) where
     flags ← settle (number_of (operand_of t 2))
     fields_laid scope depth (sources.Index index behind) flags ts
 
+  -- CreateBitField, CreateByteField, CreateWordField, CreateDWordField and CreateQWordField: a buffer and an index
+  unfoldable pub sized_field_rule : BufferFieldSize → List Seg → ℕ → Tree → Run S Flow
+  sized_field_rule size scope depth t = do
+    x ← two_values ev scope depth t
+    o ← settle (buffer_of x.0)
+    i ← lift (integer_in x.1)
+    b ← lift (on_objects (new_buffer_field o (bits_of_step size * i) (bits_of_size size)))
+    declaring ev scope depth t 2 (object.BufferField b)
+
+  -- CreateField: a buffer, the index of the first bit, and how many bits
+  unfoldable pub bits_field_rule : List Seg → ℕ → Tree → Run S Flow
+  bits_field_rule scope depth t = do
+    source ← value_at ev scope depth t 0
+    index ← value_at ev scope depth t 1
+    count ← value_at ev scope depth t 2
+    o ← settle (buffer_of source)
+    i ← lift (integer_in index)
+    n ← lift (integer_in count)
+    bits ← settle (sized n)
+    b ← lift (on_objects (new_buffer_field o i bits))
+    declaring ev scope depth t 3 (object.BufferField b)
+
   abbrev pub region_term_rule : RegionKind → List Seg → ℕ → Tree → Run S Flow
   region_term_rule kinds.OperationRegion scope depth t = region_rule scope depth t
   region_term_rule kinds.Field scope depth t = field_list_rule scope depth t
   region_term_rule kinds.IndexField scope depth t = index_list_rule scope depth t
+  region_term_rule (kinds.SizedBufferField size) scope depth t = sized_field_rule size scope depth t
+  region_term_rule kinds.BufferField scope depth t = bits_field_rule scope depth t

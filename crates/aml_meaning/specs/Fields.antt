@@ -1,5 +1,5 @@
--- Field units, read and written (ACPI 6.5, 5.5.2.4 and 19.6: OperationRegion, Field, IndexField). An access of a field of a region asks
--- for the region's address once; the source of a write is converted before that.
+-- Fields, read and written (ACPI 6.5, 5.5.2.4 and 19.6: OperationRegion, Field, IndexField, CreateField). An access of a field of a region
+-- asks for the region's address once; a buffer field is bits of its buffer, and makes no access. The source of a write is converted first.
 use Rattle.std.specs.Prelude.{ℕ, List, [], ◌∷◌, ◌++◌, Option, Some, None}
 use Rattle.ar_space.specs.declared.space.Width.{Width}
 use Rattle.ar_space.specs.declared.refusal.Refusal.TheVariants as refusal
@@ -8,6 +8,9 @@ use Rattle.ar_space.specs.Accesses.{Accesses, bit_count}
 use Rattle.ar_space.specs.Change.{give, stop, settle, ◌>>=◌}
 use Rattle.aml_path.specs.declared.segment.Seg.{Seg}
 use Rattle.aml_objects.specs.declared.value.Value.{Value}
+use Rattle.aml_objects.specs.Fields.{bits_of_field}
+use Rattle.aml_objects.specs.declared.entry.Field.{Field}
+use Rattle.aml_objects.specs.declared.entry.Field.TheVariants as field
 use Rattle.aml_objects.specs.declared.entry.FieldUnit.{FieldUnit}
 use Rattle.aml_objects.specs.declared.entry.FieldSource.{FieldSource}
 use Rattle.aml_objects.specs.declared.entry.FieldSource.TheVariants as sources
@@ -16,6 +19,7 @@ use Rattle.aml_fields.specs.declared.region.AddressSpace.{AddressSpace}
 use Rattle.aml_fields.specs.declared.region.AddressSpace.TheVariants as spaces
 use Rattle.aml_fields.specs.declared.region.Region.{Region}
 use Rattle.aml_fields.specs.declared.field_units.Unit.{Unit as Access}
+use Rattle.aml_fields.specs.BufferFields.{read_buffer_field, write_buffer_field}
 use Rattle.aml_fields.specs.Bits.{bits_from, bytes_within, field_bits, merged, rest_of_unit}
 use Rattle.aml_fields.specs.Units.{units_of}
 use Rattle.aml_fields.specs.UnitByUnit.{bits_read, kept, write_units}
@@ -26,7 +30,7 @@ use Rattle.aml_meaning.specs.declared.regions.RegionSpace.TheVariants as kinds
 use Rattle.aml_meaning.specs.declared.regions.RegionField.{RegionField}
 use Rattle.aml_meaning.specs.declared.object_type.Referent.{Referent}
 use Rattle.aml_meaning.specs.Given as given
-use Rattle.aml_meaning.specs.State.{State, on_space}
+use Rattle.aml_meaning.specs.State.{State, on_objects, on_space}
 use Rattle.aml_meaning.specs.Run.{Run, lift}
 use Rattle.aml_meaning.specs.Stores.{bytes_in}
 use Rattle.aml_meaning.specs.PciFunctions.{adr, segment_group, base_bus, nearest, pci_function}
@@ -111,44 +115,52 @@ module _ {S : Type 0} (accesses : Accesses S) (call : List Seg → Run S ℕ) wh
     behind ← lift (field_declared d)
     write_units (index_unit_written index behind f bytes) (units_of f.bit_offset f.bits f.access)
 
-  -- ---- any field unit
+  -- ---- any field
 
-  abbrev pub bits_in : FieldSource → FieldUnit → Run S (List ℕ)
-  bits_in (sources.Region n) f = region_bits (record { region = n; unit = f })
-  bits_in (sources.Index i d) f = index_bits i d f
+  abbrev pub field_unit_bits : FieldSource → FieldUnit → Run S (List ℕ)
+  field_unit_bits (sources.Region n) f = region_bits (record { region = n; unit = f })
+  field_unit_bits (sources.Index i d) f = index_bits i d f
 
-  abbrev pub written_in : FieldSource → FieldUnit → List ℕ → Run S (Unit {0})
-  written_in (sources.Region n) f bytes = region_written (record { region = n; unit = f }) bytes
-  written_in (sources.Index i d) f bytes = index_written i d f bytes
+  abbrev pub field_unit_written : FieldSource → FieldUnit → List ℕ → Run S (Unit {0})
+  field_unit_written (sources.Region n) f bytes = region_written (record { region = n; unit = f }) bytes
+  field_unit_written (sources.Index i d) f bytes = index_written i d f bytes
 
-  unfoldable pub field_value : FieldUnit → Run S Value
+  abbrev pub bits_in : Field → Run S (List ℕ)
+  bits_in (field.Unit u) = field_unit_bits u.source u
+  bits_in (field.Buffer b) = lift (on_objects (read_buffer_field b))
+
+  abbrev pub written_in : Field → List ℕ → Run S (Unit {0})
+  written_in (field.Unit u) bytes = field_unit_written u.source u bytes
+  written_in (field.Buffer b) bytes = lift (on_objects (write_buffer_field b bytes))
+
+  unfoldable pub field_value : Field → Run S Value
   field_value f = do
-    bytes ← bits_in f.source f
-    lift (value_of_bits f.bits bytes)
+    bytes ← bits_in f
+    lift (value_of_bits (bits_of_field f) bytes)
 
   -- the same as an integer, where one is counted, as a part of an address, as it is handed out, and as what SizeOf and ObjectType
   -- speak of: no object is made
-  unfoldable pub field_integer : FieldUnit → Run S ℕ
+  unfoldable pub field_integer : Field → Run S ℕ
   field_integer f = do
-    bytes ← bits_in f.source f
+    bytes ← bits_in f
     lift (integer_of_bits bytes)
 
-  unfoldable pub field_part : FieldUnit → Run S ℕ
+  unfoldable pub field_part : Field → Run S ℕ
   field_part f = do
-    bytes ← bits_in f.source f
-    lift (integer_alone f.bits bytes)
+    bytes ← bits_in f
+    lift (integer_alone (bits_of_field f) bytes)
 
-  unfoldable pub field_given : FieldUnit → Run S given.Given
+  unfoldable pub field_given : Field → Run S given.Given
   field_given f = do
-    bytes ← bits_in f.source f
-    lift (given_of_bits f.bits bytes)
+    bytes ← bits_in f
+    lift (given_of_bits (bits_of_field f) bytes)
 
-  unfoldable pub field_referent : FieldUnit → Run S Referent
+  unfoldable pub field_referent : Field → Run S Referent
   field_referent f = do
-    bytes ← bits_in f.source f
-    lift (referent_of_bits f.bits bytes)
+    bytes ← bits_in f
+    lift (referent_of_bits (bits_of_field f) bytes)
 
-  unfoldable pub field_stored : FieldUnit → Value → Run S (Unit {0})
+  unfoldable pub field_stored : Field → Value → Run S (Unit {0})
   field_stored f v = do
     bytes ← lift (bytes_in v)
-    written_in f.source f bytes
+    written_in f bytes

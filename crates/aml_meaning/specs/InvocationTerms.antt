@@ -6,7 +6,7 @@ use Rattle.aml_path.specs.declared.segment.Seg.{Seg}
 use Rattle.aml_grammar.specs.Tree.{Tree, Trees, no_trees, tree}
 use Rattle.aml_grammar.specs.Apart.{operand_of, name_of}
 use Rattle.aml_objects.specs.declared.value.Value.{Value}
-use Rattle.aml_objects.specs.declared.entry.FieldUnit.{FieldUnit}
+use Rattle.aml_objects.specs.declared.entry.Field.{Field}
 use Rattle.aml_meaning.specs.declared.flow.Flow.{Flow}
 use Rattle.aml_meaning.specs.declared.flow.Flow.TheVariants as flow
 use Rattle.aml_meaning.specs.declared.invocation.Invocation.{Invocation}
@@ -42,14 +42,14 @@ module _ {S : Type 0} (ev : Task → Run S Flow) where
     give (flow.Value v)
 
 module _ {S : Type 0} (accesses : Accesses S) (ev : Task → Run S Flow) where
-  unfoldable pub field_rule : ℕ → FieldUnit → Run S Flow
-  field_rule depth u = do
-    v ← field_read accesses ev depth u
+  unfoldable pub field_rule : ℕ → Field → Run S Flow
+  field_rule depth f = do
+    v ← field_read accesses ev depth f
     give (flow.Value v)
 
   abbrev pub invocation_rule : List Seg → ℕ → Trees → Invocation → Run S Flow
   invocation_rule scope depth ts (invocation.Value v) = give (flow.Value v)
-  invocation_rule scope depth ts (invocation.FieldUnit u) = field_rule depth u
+  invocation_rule scope depth ts (invocation.Field f) = field_rule depth f
   invocation_rule scope depth ts (invocation.Method p body) = call_rule ev scope depth ts p body
   invocation_rule scope depth ts invocation.Osi = osi_rule ev scope depth ts
 

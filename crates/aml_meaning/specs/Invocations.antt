@@ -3,7 +3,7 @@ use Rattle.std.specs.Prelude.{ℕ, ◌+◌, List, [], ◌∷◌, ◌++◌, lengt
 use Rattle.std.specs.List.{filter}
 use Rattle.std.specs.FinMap.{get, entries}
 use Rattle.ar_space.specs.declared.refusal.Refusal.TheVariants as refusal
-use Rattle.ar_space.specs.declared.refusal.EvaluationFault.TheVariants.{CallDepth, Unsupported}
+use Rattle.ar_space.specs.declared.refusal.EvaluationFault.TheVariants.{CallDepth}
 use Rattle.ar_space.specs.Outcome.{Outcome, seen}
 use Rattle.ar_space.specs.Change.{Change, give, settle, ◌>>=◌}
 use Rattle.aml_path.specs.declared.segment.Seg.{Seg}
@@ -16,6 +16,7 @@ use Rattle.aml_objects.specs.declared.value.Value.{Value}
 use Rattle.aml_objects.specs.declared.value.Value.TheVariants as value
 use Rattle.aml_objects.specs.declared.value.Reference.TheVariants as reference
 use Rattle.aml_objects.specs.declared.entry.Entry.{Entry}
+use Rattle.aml_objects.specs.declared.entry.Field.TheVariants as field
 use Rattle.aml_objects.specs.declared.entry.NamedObject.{NamedObject}
 use Rattle.aml_objects.specs.declared.entry.NamedObject.TheVariants as object
 use Rattle.aml_objects.specs.declared.entry.MethodBody.{MethodBody}
@@ -39,12 +40,12 @@ abbrev pub invocation_of_body : List Seg → MethodBody → Outcome Invocation
 invocation_of_body p Osi = Ok invocation.Osi
 invocation_of_body p (Aml body) = Ok (invocation.Method p body)
 
--- the value that it holds, the bits of a field unit, a call of a control method, or else a reference to it
+-- the value that it holds, the bits of a field, a call of a control method, or else a reference to it
 abbrev pub invocation_of_object : List Seg → ℕ → NamedObject → Outcome Invocation
 invocation_of_object p n (object.Data v) = Ok (invocation.Value (read_as n v))
 invocation_of_object p n (object.Method m) = invocation_of_body p m.body
-invocation_of_object p n (object.FieldUnit u) = Ok (invocation.FieldUnit u)
-invocation_of_object p n (object.BufferField b) = Err (refusal.Evaluation (Unsupported 0x5B13))
+invocation_of_object p n (object.FieldUnit u) = Ok (invocation.Field (field.Unit u))
+invocation_of_object p n (object.BufferField b) = Ok (invocation.Field (field.Buffer b))
 invocation_of_object p n object.Scope = Ok (invocation.Value (value.Reference (reference.Name n)))
 invocation_of_object p n object.Device = Ok (invocation.Value (value.Reference (reference.Name n)))
 invocation_of_object p n object.Processor = Ok (invocation.Value (value.Reference (reference.Name n)))

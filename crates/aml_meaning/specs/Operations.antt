@@ -12,6 +12,8 @@ use Rattle.aml_objects.specs.Contents as held
 use Rattle.aml_objects.specs.Objects.{Objects, make_string, make_buffer, string_at, buffer_at, elements_at}
 use Rattle.aml_objects.specs.declared.object.Object.{Object}
 use Rattle.aml_objects.specs.declared.object.Object.TheVariants as object
+use Rattle.aml_objects.specs.declared.entry.Field.{Field}
+use Rattle.aml_objects.specs.declared.entry.Field.TheVariants as field
 use Rattle.aml_objects.specs.declared.value.Value.{Value}
 use Rattle.aml_objects.specs.declared.value.Value.TheVariants as value
 use Rattle.aml_objects.specs.declared.value.Reference.{Reference}
@@ -157,7 +159,7 @@ size_of_value objects (value.Reference r) = Err (refusal.Value WrongType)
 abbrev pub size_of_referent : List Object → Referent → Outcome ℕ
 size_of_referent objects (referent.Value v) = size_of_value objects v
 size_of_referent objects (referent.Object t) = Err (refusal.Value WrongType)
-size_of_referent objects (referent.FieldUnit u) = Err (refusal.Value WrongType)
+size_of_referent objects (referent.Field f) = Err (refusal.Value WrongType)
 size_of_referent objects (referent.Bytes n) = Ok n
 
 unfoldable pub size_in : {S : Type 0} → Referent → Change (State S) Value
@@ -221,8 +223,12 @@ type_of_value (value.Buffer o) = types.Buffer
 type_of_value (value.Package o) = types.Package
 type_of_value (value.Reference r) = types.Uninitialized
 
+abbrev pub type_of_field : Field → ObjectType
+type_of_field (field.Unit u) = types.FieldUnit
+type_of_field (field.Buffer b) = types.BufferField
+
 abbrev pub type_of_referent : Referent → ObjectType
 type_of_referent (referent.Value v) = type_of_value v
 type_of_referent (referent.Object t) = t
-type_of_referent (referent.FieldUnit u) = types.FieldUnit
+type_of_referent (referent.Field f) = type_of_field f
 type_of_referent (referent.Bytes n) = types.Buffer

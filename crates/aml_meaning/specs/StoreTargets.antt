@@ -2,7 +2,7 @@
 use Rattle.std.specs.Prelude.{ℕ, zero, suc, ◌-◌, List, length, Option, Some, None, Ok, Err, slice_get}
 use Rattle.std.specs.FinMap.{get}
 use Rattle.ar_space.specs.declared.refusal.Refusal.TheVariants as refusal
-use Rattle.ar_space.specs.declared.refusal.EvaluationFault.TheVariants.{DeadReference, NoValue, Unsupported}
+use Rattle.ar_space.specs.declared.refusal.EvaluationFault.TheVariants.{DeadReference, NoValue}
 use Rattle.ar_space.specs.declared.refusal.NamespaceFault.TheVariants.{NotFound}
 use Rattle.ar_space.specs.declared.refusal.ValueFault.TheVariants.{WrongType}
 use Rattle.ar_space.specs.Outcome.{Outcome, seen}
@@ -17,6 +17,7 @@ use Rattle.aml_objects.specs.declared.value.Reference.TheVariants as reference
 use Rattle.aml_objects.specs.declared.object.Element.{Element}
 use Rattle.aml_objects.specs.declared.object.Element.TheVariants as element
 use Rattle.aml_objects.specs.declared.entry.Entry.{Entry}
+use Rattle.aml_objects.specs.declared.entry.Field.TheVariants as field
 use Rattle.aml_objects.specs.declared.entry.NamedObject.{NamedObject}
 use Rattle.aml_objects.specs.declared.entry.NamedObject.TheVariants as object
 use Rattle.aml_objects.specs.Objects.{element_there, element_at, byte_at}
@@ -41,8 +42,8 @@ use Rattle.aml_meaning.specs.Readings.{entry_found, read_as}
 
 abbrev pub holding_of : NamedObject → Holding
 holding_of (object.Data v) = holding.Value v
-holding_of (object.FieldUnit u) = holding.FieldUnit u
-holding_of (object.BufferField b) = holding.BufferField
+holding_of (object.FieldUnit u) = holding.Field (field.Unit u)
+holding_of (object.BufferField b) = holding.Field (field.Buffer b)
 holding_of _ = holding.Nothing
 
 abbrev pub holding_in : Option Entry → Outcome Holding
@@ -127,16 +128,16 @@ tested (reference.Element o i) = on_objects (element_there o i)
 tested (reference.Byte o i) = byte_tested o i
 
 -- what a name holds, one step on: a reference that it holds is the value, and a name without a value is a reference to it again
-abbrev pub once : ℕ → NamedObject → Outcome Held
-once n (object.Data v) = Ok (held.Value v)
-once n (object.FieldUnit u) = Ok (held.FieldUnit u)
-once n (object.BufferField b) = Err (refusal.Evaluation (Unsupported 0x5B13))
-once n _ = Ok (held.Value (value.Reference (reference.Name n)))
+abbrev pub once : ℕ → NamedObject → Held
+once n (object.Data v) = held.Value v
+once n (object.FieldUnit u) = held.Field (field.Unit u)
+once n (object.BufferField b) = held.Field (field.Buffer b)
+once n _ = held.Value (value.Reference (reference.Name n))
 
 unfoldable pub declared_once : {S : Type 0} → ℕ → Change (State S) Held
 declared_once n = do
   e ← declaration n
-  settle (once n e.1.object)
+  give (once n e.1.object)
 
 unfoldable pub value_once : {S : Type 0} → Value → Change (State S) Held
 value_once v = do
@@ -150,16 +151,16 @@ slot_once n slot = do
   value_once v
 
 -- a name in a package is searched for at each use: its data or its field, and else a reference to it
-abbrev pub named_once : ℕ → NamedObject → Outcome Held
-named_once n (object.Data v) = Ok (held.Value (read_as n v))
-named_once n (object.FieldUnit u) = Ok (held.FieldUnit u)
-named_once n (object.BufferField b) = Err (refusal.Evaluation (Unsupported 0x5B13))
-named_once n _ = Ok (held.Value (value.Reference (reference.Name n)))
+abbrev pub named_once : ℕ → NamedObject → Held
+named_once n (object.Data v) = held.Value (read_as n v)
+named_once n (object.FieldUnit u) = held.Field (field.Unit u)
+named_once n (object.BufferField b) = held.Field (field.Buffer b)
+named_once n _ = held.Value (value.Reference (reference.Name n))
 
 unfoldable pub name_once : {S : Type 0} → Name → List Seg → Change (State S) Held
 name_once n scope = do
   e ← entry_found scope n
-  settle (named_once e.number e.object)
+  give (named_once e.number e.object)
 
 abbrev pub element_once : {S : Type 0} → Element → Change (State S) Held
 element_once (element.Value v) = value_once v
@@ -186,8 +187,7 @@ dereferenced (reference.Byte o i) = byte_once o i
 
 abbrev pub held_in : Holding → Outcome Held
 held_in (holding.Value v) = Ok (held.Value v)
-held_in (holding.FieldUnit u) = Ok (held.FieldUnit u)
-held_in holding.BufferField = Err (refusal.Evaluation (Unsupported 0x5B13))
+held_in (holding.Field f) = Ok (held.Field f)
 held_in holding.Nothing = Err (refusal.Value WrongType)
 
 unfoldable pub name_read : {S : Type 0} → List Seg → Change (State S) Held
@@ -316,7 +316,7 @@ module _ {S : Type 0} (follow : Reference → Change (State S) Referent) where
   abbrev pub referent_followed : Referent → Change (State S) Referent
   referent_followed (referent.Value v) = value_followed v
   referent_followed (referent.Object t) = give (referent.Object t)
-  referent_followed (referent.FieldUnit u) = give (referent.FieldUnit u)
+  referent_followed (referent.Field f) = give (referent.Field f)
   referent_followed (referent.Bytes n) = give (referent.Bytes n)
 
   unfoldable pub declared_followed : ℕ → Change (State S) Referent
@@ -333,7 +333,8 @@ module _ {S : Type 0} (follow : Reference → Change (State S) Referent) where
   -- a name in a package stands for the value of its data or of its field, which is read next, and else for a reference to the name
   abbrev pub element_named : ℕ → NamedObject → Change (State S) Referent
   element_named n (object.Data v) = value_followed (read_as n v)
-  element_named n (object.FieldUnit u) = give (referent.FieldUnit u)
+  element_named n (object.FieldUnit u) = give (referent.Field (field.Unit u))
+  element_named n (object.BufferField b) = give (referent.Field (field.Buffer b))
   element_named n _ = follow (reference.Name n)
 
   -- it is searched for at each use

@@ -1,7 +1,7 @@
 -- Storing values (ACPI 6.5, 19.3.5.8 and 19.6: Store, CopyObject).
 use Rattle.std.specs.Prelude.{ℕ, zero, suc, ◌%◌, List, [], ◌∷◌, Option, Some, None, Ok, Err, slice_get, slice_set}
 use Rattle.ar_space.specs.declared.refusal.Refusal.TheVariants as refusal
-use Rattle.ar_space.specs.declared.refusal.EvaluationFault.TheVariants.{DeadReference, Unsupported}
+use Rattle.ar_space.specs.declared.refusal.EvaluationFault.TheVariants.{DeadReference}
 use Rattle.ar_space.specs.declared.refusal.ValueFault.TheVariants.{WrongType, EmptyValue}
 use Rattle.ar_space.specs.Outcome.{Outcome}
 use Rattle.ar_space.specs.Change.{Change, give, stop, settle, ◌>>=◌}
@@ -60,11 +60,10 @@ copy_into_element o i v = do
   put ← on_objects (write_element o i (element.Value c))
   give store.Done
 
--- a name that holds a value holds a copy of another; a field unit is written next
+-- a name that holds a value holds a copy of another; a field is written next
 abbrev pub copy_over : {S : Type 0} → Holding → List Seg → Value → Change (State S) Stored
 copy_over (holding.Value old) p v = copy_into_name p v
-copy_over (holding.FieldUnit u) p v = give (store.FieldUnit u)
-copy_over holding.BufferField p v = stop (refusal.Evaluation (Unsupported 0x5B13))
+copy_over (holding.Field f) p v = give (store.Field f)
 copy_over holding.Nothing p v = stop (refusal.Value WrongType)
 
 -- ---- stores with conversion to what the name holds
@@ -113,8 +112,7 @@ store_over_value value.Uninitialized p v = copy_into_name p v
 
 abbrev pub store_over : {S : Type 0} → Holding → List Seg → Value → Change (State S) Stored
 store_over (holding.Value old) p v = store_over_value old p v
-store_over (holding.FieldUnit u) p v = give (store.FieldUnit u)
-store_over holding.BufferField p v = stop (refusal.Evaluation (Unsupported 0x5B13))
+store_over (holding.Field f) p v = give (store.Field f)
 store_over holding.Nothing p v = stop (refusal.Value WrongType)
 
 -- ---- stores through references: the reference is tested first, then the value is taken, and then it is written

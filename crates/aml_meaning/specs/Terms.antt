@@ -25,6 +25,7 @@ use Rattle.aml_meaning.specs.declared.term_kind.DeclarationKind.{DeclarationKind
 use Rattle.aml_meaning.specs.declared.term_kind.DeclarationKind.TheVariants as declarations
 use Rattle.aml_meaning.specs.declared.term_kind.RegionKind.{RegionKind}
 use Rattle.aml_meaning.specs.declared.term_kind.RegionKind.TheVariants as regions
+use Rattle.aml_meaning.specs.declared.term_kind.BufferFieldSize.TheVariants as sizes
 use Rattle.aml_meaning.specs.declared.term_kind.StatementKind.{StatementKind}
 use Rattle.aml_meaning.specs.declared.term_kind.StatementKind.TheVariants as statements
 use Rattle.aml_meaning.specs.declared.term_kind.OperatorKind.{OperatorKind}
@@ -68,11 +69,17 @@ declaration_kind opcodes.Mutex = Some declarations.Mutex
 declaration_kind opcodes.Event = Some declarations.Event
 declaration_kind _ = None
 
--- operation regions, and fields in them
+-- operation regions, fields in them, and buffer fields
 abbrev pub region_kind : Opcode → Option RegionKind
 region_kind opcodes.OpRegion = Some regions.OperationRegion
 region_kind opcodes.Field = Some regions.Field
 region_kind opcodes.IndexField = Some regions.IndexField
+region_kind opcodes.CreateBitField = Some (regions.SizedBufferField sizes.Bit)
+region_kind opcodes.CreateByteField = Some (regions.SizedBufferField sizes.Byte)
+region_kind opcodes.CreateWordField = Some (regions.SizedBufferField sizes.Word)
+region_kind opcodes.CreateDWordField = Some (regions.SizedBufferField sizes.DWord)
+region_kind opcodes.CreateQWordField = Some (regions.SizedBufferField sizes.QWord)
+region_kind opcodes.CreateField = Some regions.BufferField
 region_kind _ = None
 
 -- statements

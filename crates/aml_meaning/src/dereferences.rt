@@ -10,7 +10,7 @@ use crate::readings::read_as;
 use crate::store_target::{Held, StoreTarget};
 use crate::targets::initialized;
 use crate::world_state::WorldState;
-use aml_objects::{Element, NamedObject, Reference, Slot, Value};
+use aml_objects::{Element, Field, NamedObject, Reference, Slot, Value};
 use aml_path::{NameString, Path};
 use ar_space::{EvaluationFault, NamespaceFault, Refusal, ValueFault};
 
@@ -57,7 +57,7 @@ impl<S> WorldState<S> {
         Ok(())
     }
 
-    /// What a reference refers to, one step on: a value, or a field unit, whose bits are read next. A name that holds no value
+    /// What a reference refers to, one step on: a value, or a field, whose bits are read next. A name that holds no value
     /// is a reference to it again. Refused: what is gone as `DeadReference`, what is uninitialized as `NoValue`, and a name in a
     /// package that isn't found as `NotFound`.
     #[tactic(auto, using(ar_space::specs::Change::changing))]
@@ -79,7 +79,7 @@ impl<S> WorldState<S> {
         ensures memory { NotMemory result }
     {
         let found = self.declaration(number)?;
-        once(number, &found.1.object)
+        Ok(once(number, &found.1.object))
     }
 
     #[tactic(auto, using(ar_space::specs::Change::changing), unfolding(crate::specs::StoreTargets::value_once))]
@@ -127,7 +127,7 @@ impl<S> WorldState<S> {
         ensures memory { NotMemory result }
     {
         let entry = self.entry(scope, name)?;
-        named_once(entry.number, &entry.object)
+        Ok(named_once(entry.number, &entry.object))
     }
 
     #[tactic(auto, using(ar_space::specs::Change::changing), unfolding(crate::specs::StoreTargets::byte_once))]
@@ -264,32 +264,26 @@ pub fn reference_in(value: Value) -> Result<Reference, Refusal>
 }
 
 /// What a named object holds, one step on; a name that holds no value is a reference to it again.
-fn once(number: u64, object: &NamedObject) -> Result<Held, Refusal>
-    ensures answer { Answers result (once number object.now) }
-    ensures memory { NotMemory result }
+fn once(number: u64, object: &NamedObject) -> Held
+    ensures { result ≡ once number object.now }
 {
     match object {
-        NamedObject::Data(value) => Ok(Held::Value(*value)),
-        NamedObject::FieldUnit(unit) => Ok(Held::FieldUnit(*unit)),
-        NamedObject::BufferField(_) => {
-            Err(Refusal::Evaluation(EvaluationFault::Unsupported(0x5B13)))
-        }
-        _ => Ok(Held::Value(Value::Reference(Reference::Name(number)))),
+        NamedObject::Data(value) => Held::Value(*value),
+        NamedObject::FieldUnit(unit) => Held::Field(Field::Unit(*unit)),
+        NamedObject::BufferField(field) => Held::Field(Field::Buffer(*field)),
+        _ => Held::Value(Value::Reference(Reference::Name(number))),
     }
 }
 
 /// What the name in an element of a package stands for: its data or its field, and else a reference to it.
-fn named_once(number: u64, object: &NamedObject) -> Result<Held, Refusal>
-    ensures answer { Answers result (named_once number object.now) }
-    ensures memory { NotMemory result }
+fn named_once(number: u64, object: &NamedObject) -> Held
+    ensures { result ≡ named_once number object.now }
 {
     match object {
-        NamedObject::Data(value) => Ok(Held::Value(read_as(number, *value))),
-        NamedObject::FieldUnit(unit) => Ok(Held::FieldUnit(*unit)),
-        NamedObject::BufferField(_) => {
-            Err(Refusal::Evaluation(EvaluationFault::Unsupported(0x5B13)))
-        }
-        _ => Ok(Held::Value(Value::Reference(Reference::Name(number)))),
+        NamedObject::Data(value) => Held::Value(read_as(number, *value)),
+        NamedObject::FieldUnit(unit) => Held::Field(Field::Unit(*unit)),
+        NamedObject::BufferField(field) => Held::Field(Field::Buffer(*field)),
+        _ => Held::Value(Value::Reference(Reference::Name(number))),
     }
 }
 

@@ -101,7 +101,7 @@ impl<S> WorldState<S> {
     ) -> Result<FieldLayout, Refusal>
         ensures { Does result self.new (new_field group module_level path at count) self.old }
     {
-        let bits = sized(count)?;
+        let bits = field_size(count)?;
         let unit = FieldUnit {
             source: group.source,
             bit_offset: at.bit_offset,
@@ -136,8 +136,8 @@ impl<S> WorldState<S> {
     }
 }
 
-/// How many bits a named field has.
-fn sized(count: u64) -> Result<u32, Refusal>
+/// How many bits a named field has: 1 to 8,388,608; any other number is refused as `FieldLimit`.
+pub fn field_size(count: u64) -> Result<u32, Refusal>
     ensures answer { Answers result (sized count) }
     ensures memory { NotMemory result }
 {

@@ -1,6 +1,6 @@
 //! What a name is where a value stands.
 
-use aml_objects::{Body, FieldUnit, Value};
+use aml_objects::{Body, Field, Value};
 use aml_path::Path;
 
 /// What a name is where a value stands (ACPI 6.5, 19.3.5 and 20.2.5, MethodInvocation).
@@ -8,8 +8,8 @@ use aml_path::Path;
 pub enum Invocation {
     /// A value: that which the name holds, or a reference to the name.
     Value(Value),
-    /// The bits of a field unit.
-    FieldUnit(FieldUnit),
+    /// The bits of a field.
+    Field(Field),
     /// A call of the control method at this path, with this body.
     Method(Path, Body),
     /// A call of the predefined control method `\_OSI`.

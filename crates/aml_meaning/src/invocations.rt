@@ -12,17 +12,17 @@ use crate::readings::{arguments_of, as_many, read_as};
 use crate::world_state::WorldState;
 use aml_grammar::{Arities, Arity};
 use aml_namespace::Names;
-use aml_objects::{Entry, MethodBody, NamedObject, Reference, Value};
+use aml_objects::{Entry, Field, MethodBody, NamedObject, Reference, Value};
 use aml_path::{NameString, Path};
-use ar_space::{EvaluationFault, Refusal};
+use ar_space::Refusal;
 use std::alloc::Global;
 
 impl<S> WorldState<S> {
     /// What a name is where a value stands, with so many arguments.
     ///
-    /// A name that holds a value is that value, a field unit its bits, a control method a call, and anything else a reference
-    /// to it; so is a name that holds a reference. Refused: a name that isn't found as `NotFound`, another count than it takes
-    /// as `ArityChanged`, and buffer fields, which are not evaluated, as `Unsupported`.
+    /// A name that holds a value is that value, a field its bits, a control method a call, and anything else a reference to it;
+    /// so is a name that holds a reference. Refused: a name that isn't found as `NotFound`, and another count than it takes as
+    /// `ArityChanged`.
     #[tactic(auto, using(ar_space::specs::Change::changing), unfolding(crate::specs::Invocations::invocation_found))]
     pub fn invocation(
         &self,
@@ -82,10 +82,8 @@ fn use_of(alloc: Global, found: &(Path, Entry)) -> Result<Invocation, Refusal>
     match &found.1.object {
         NamedObject::Data(value) => Ok(Invocation::Value(read_as(found.1.number, *value))),
         NamedObject::Method(method) => call_of(alloc, &found.0, &method.body),
-        NamedObject::FieldUnit(unit) => Ok(Invocation::FieldUnit(*unit)),
-        NamedObject::BufferField(_) => {
-            Err(Refusal::Evaluation(EvaluationFault::Unsupported(0x5B13)))
-        }
+        NamedObject::FieldUnit(unit) => Ok(Invocation::Field(Field::Unit(*unit))),
+        NamedObject::BufferField(field) => Ok(Invocation::Field(Field::Buffer(*field))),
         _ => Ok(Invocation::Value(Value::Reference(Reference::Name(found.1.number)))),
     }
 }

@@ -4,8 +4,8 @@ ghost use Rattle.aml_meaning.specs.Terms.{data_kind, declaration_kind, region_ki
 
 use crate::store_target::TargetKind;
 use crate::term_kind::{
-    Count, DataKind, DeclarationKind, OneOperand, OperatorKind, RegionKind, StatementKind,
-    TermKind, Test, TwoOperands,
+    BufferFieldSize, Count, DataKind, DeclarationKind, OneOperand, OperatorKind, RegionKind,
+    StatementKind, TermKind, Test, TwoOperands,
 };
 use aml_convert::{BinaryOperator, Comparison, LogicalOperator, UnaryOperator};
 use aml_grammar::{Opcode, TermCode};
@@ -51,7 +51,7 @@ fn declaration_kind(opcode: Opcode) -> Option<DeclarationKind>
     }
 }
 
-/// Operation regions, and fields in them.
+/// Operation regions, fields in them, and buffer fields.
 fn region_kind(opcode: Opcode) -> Option<RegionKind>
     ensures { result ≡ region_kind opcode }
 {
@@ -59,6 +59,12 @@ fn region_kind(opcode: Opcode) -> Option<RegionKind>
         Opcode::OpRegion => Some(RegionKind::OperationRegion),
         Opcode::Field => Some(RegionKind::Field),
         Opcode::IndexField => Some(RegionKind::IndexField),
+        Opcode::CreateBitField => Some(RegionKind::SizedBufferField(BufferFieldSize::Bit)),
+        Opcode::CreateByteField => Some(RegionKind::SizedBufferField(BufferFieldSize::Byte)),
+        Opcode::CreateWordField => Some(RegionKind::SizedBufferField(BufferFieldSize::Word)),
+        Opcode::CreateDWordField => Some(RegionKind::SizedBufferField(BufferFieldSize::DWord)),
+        Opcode::CreateQWordField => Some(RegionKind::SizedBufferField(BufferFieldSize::QWord)),
+        Opcode::CreateField => Some(RegionKind::BufferField),
         _ => None,
     }
 }

@@ -2,6 +2,7 @@
 #![tactic(auto)]
 
 mod belonging;
+mod buffer_fields;
 mod datum;
 mod declarations;
 mod dereferences;
@@ -35,9 +36,10 @@ mod term_kind;
 mod world;
 mod world_state;
 
+pub use buffer_fields::buffer_of;
 pub use datum::Datum;
 pub use dereferences::reference_in;
-pub use field_layout::{FieldGroup, FieldLayout, access_width, update_rule};
+pub use field_layout::{FieldGroup, FieldLayout, access_width, field_size, update_rule};
 pub use flow::Flow;
 pub use frame::Frame;
 pub use invocation::Invocation;
@@ -49,8 +51,8 @@ pub use regions::{RegionField, RegionSpace, integer_only, pci_space, space_numbe
 pub use running::Running;
 pub use store_target::{Held, Holding, StoreTarget, Stored, TargetKind};
 pub use term_kind::{
-    Count, DataKind, DeclarationKind, OneOperand, OperatorKind, RegionKind, StatementKind,
-    TermKind, Test, TwoOperands,
+    BufferFieldSize, Count, DataKind, DeclarationKind, OneOperand, OperatorKind, RegionKind,
+    StatementKind, TermKind, Test, TwoOperands,
 };
 pub use world::World;
 pub use world_state::WorldState;

@@ -11,9 +11,9 @@ ghost use Rattle.aml_meaning.specs.declared.name_use.NameUse.TheVariants as uses
 
 use crate::datum::Datum;
 use crate::world_state::WorldState;
-use aml_objects::{FieldUnit, NamedObject, Value};
+use aml_objects::{Field, NamedObject, Value};
 use aml_path::{NameString, Path};
-use ar_space::{EvaluationFault, Refusal};
+use ar_space::Refusal;
 use std::alloc::Global;
 
 /// What an element of a package stands for that is a name.
@@ -21,8 +21,8 @@ use std::alloc::Global;
 pub enum NameUse {
     /// The value that the name holds.
     Value(Value),
-    /// The bits of a field unit.
-    FieldUnit(FieldUnit),
+    /// The bits of a field.
+    Field(Field),
     /// The path of what holds no value, or the path that the name would have where nothing is found.
     Path(Path),
 }
@@ -55,10 +55,8 @@ impl<S> WorldState<S> {
     {
         match object {
             NamedObject::Data(value) => self.value_or_path(alloc, *value, name, scope),
-            NamedObject::FieldUnit(unit) => Ok(NameUse::FieldUnit(*unit)),
-            NamedObject::BufferField(_) => {
-                Err(Refusal::Evaluation(EvaluationFault::Unsupported(0x5B13)))
-            }
+            NamedObject::FieldUnit(unit) => Ok(NameUse::Field(Field::Unit(*unit))),
+            NamedObject::BufferField(field) => Ok(NameUse::Field(Field::Buffer(*field))),
             _ => self.path_found(alloc, name, scope),
         }
     }

@@ -1,8 +1,8 @@
 //! The types of objects (ACPI 6.5, 19.6, ObjectType).
 ghost use Rattle.std.specs.Prelude.{◌≡◌};
-ghost use Rattle.aml_meaning.specs.Operations.{type_number, type_of_value, type_of_referent};
+ghost use Rattle.aml_meaning.specs.Operations.{type_number, type_of_value, type_of_field, type_of_referent};
 
-use aml_objects::{FieldUnit, Value};
+use aml_objects::{Field, Value};
 
 /// The type of an object.
 #[derive(Clone, Copy, Debug, PartialEq, Eq)]
@@ -34,8 +34,8 @@ pub enum Referent {
     Value(Value),
     /// An object that is no value.
     Object(ObjectType),
-    /// A field unit that an element of a package names: the element stands for the field's value, which is read next.
-    FieldUnit(FieldUnit),
+    /// A field that an element of a package names: the element stands for the field's value, which is read next.
+    Field(Field),
     /// So many bytes that no object holds: the value of a field that is wider than integers are.
     Bytes(usize),
 }
@@ -67,16 +67,25 @@ impl ObjectType {
 }
 
 impl Referent {
-    /// Its type. A field unit that isn't read is one.
+    /// Its type. A field that isn't read is one.
     pub fn object_type(self) -> ObjectType
         ensures { result ≡ type_of_referent self }
     {
         match self {
             Referent::Value(value) => type_of(value),
             Referent::Object(object_type) => object_type,
-            Referent::FieldUnit(_) => ObjectType::FieldUnit,
+            Referent::Field(field) => type_of_field(field),
             Referent::Bytes(_) => ObjectType::Buffer,
         }
+    }
+}
+
+fn type_of_field(field: Field) -> ObjectType
+    ensures { result ≡ type_of_field field }
+{
+    match field {
+        Field::Unit(_) => ObjectType::FieldUnit,
+        Field::Buffer(_) => ObjectType::BufferField,
     }
 }
 

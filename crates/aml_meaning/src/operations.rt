@@ -363,7 +363,7 @@ impl<S> WorldState<S> {
         match referent {
             Referent::Value(value) => self.size_of_value(value),
             Referent::Object(_) => Err(Refusal::Value(ValueFault::WrongType)),
-            Referent::FieldUnit(_) => Err(Refusal::Value(ValueFault::WrongType)),
+            Referent::Field(_) => Err(Refusal::Value(ValueFault::WrongType)),
             Referent::Bytes(count) => Ok(count as u64),
         }
     }

@@ -7,7 +7,7 @@ use crate::object_type::{ObjectType, Referent};
 use crate::readings::read_as;
 use crate::store_target::StoreTarget;
 use crate::world_state::WorldState;
-use aml_objects::{Element, NamedObject, Reference, Slot, Value};
+use aml_objects::{Element, Field, NamedObject, Reference, Slot, Value};
 use aml_path::{NameString, Path};
 use ar_space::{EvaluationFault, NamespaceFault, Refusal};
 use std::alloc::Global;
@@ -16,7 +16,7 @@ use std::alloc::Global;
 pub(crate) const MOST_REFERENCES: usize = 64;
 
 impl<S> WorldState<S> {
-    /// What a target holds when references are followed, at most 64 of them. A field unit that an element of a package names
+    /// What a target holds when references are followed, at most 64 of them. A field that an element of a package names
     /// is handed back, for its value to be read. A reference to what is gone, and a longer chain, are refused as
     /// `DeadReference`.
     #[tactic(auto, using(ar_space::specs::Change::changing))]
@@ -118,7 +118,7 @@ fn referent_followed<S>(
     match referent {
         Referent::Value(value) => value_followed(alloc, world, levels, value),
         Referent::Object(object_type) => Ok(Referent::Object(object_type)),
-        Referent::FieldUnit(unit) => Ok(Referent::FieldUnit(unit)),
+        Referent::Field(field) => Ok(Referent::Field(field)),
         Referent::Bytes(count) => Ok(Referent::Bytes(count)),
     }
 }
@@ -248,7 +248,8 @@ fn element_named<S>(
 {
     match object {
         NamedObject::Data(value) => value_followed(alloc, world, levels, read_as(number, *value)),
-        NamedObject::FieldUnit(unit) => Ok(Referent::FieldUnit(*unit)),
+        NamedObject::FieldUnit(unit) => Ok(Referent::Field(Field::Unit(*unit))),
+        NamedObject::BufferField(field) => Ok(Referent::Field(Field::Buffer(*field))),
         _ => follow(alloc, world, levels, Reference::Name(number)),
     }
 }

@@ -2,7 +2,7 @@
 ghost use Rattle.std.specs.Prelude.{◌≡◌};
 ghost use Rattle.aml_meaning.specs.FieldCalls.{is_element};
 
-use aml_objects::{FieldUnit, Reference, Slot, Value};
+use aml_objects::{Field, Reference, Slot, Value};
 use aml_path::Path;
 
 /// Where a value is read or stored to: the operand of Store, a target, and what Increment counts.
@@ -33,24 +33,23 @@ pub enum TargetKind {
 #[derive(Clone, Copy, Debug, PartialEq, Eq)]
 pub enum Holding {
     Value(Value),
-    FieldUnit(FieldUnit),
-    BufferField,
+    Field(Field),
     /// Nothing that is stored to: a device, a control method, a mutex.
     Nothing,
 }
 
-/// What a target holds that is read: a value, or a field unit, whose bits are read next.
+/// What a target holds that is read: a value, or a field, whose bits are read next.
 #[derive(Clone, Copy, Debug, PartialEq, Eq)]
 pub enum Held {
     Value(Value),
-    FieldUnit(FieldUnit),
+    Field(Field),
 }
 
-/// What a store came to: it is done, or it leads to a field unit, which is written next.
+/// What a store came to: it is done, or it leads to a field, which is written next.
 #[derive(Clone, Copy, Debug, PartialEq, Eq)]
 pub enum Stored {
     Done,
-    FieldUnit(FieldUnit),
+    Field(Field),
 }
 
 impl StoreTarget {

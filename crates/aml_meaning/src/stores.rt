@@ -14,7 +14,7 @@ use crate::world_state::WorldState;
 use aml_convert::{to_buffer, to_text};
 use aml_objects::{NamedObject, Octets, Slot, Value};
 use aml_path::Path;
-use ar_space::{EvaluationFault, Refusal, ValueFault};
+use ar_space::{Refusal, ValueFault};
 use std::alloc::Global;
 
 impl<S> WorldState<S> {
@@ -23,8 +23,8 @@ impl<S> WorldState<S> {
     /// A local takes a copy. So does an argument; where it holds a reference, that is followed, at most 64 times
     /// (`DeadReference`). A name that holds an integer, a string or a buffer takes the value converted, as conversions are
     /// refused; one that holds a package takes a copy of a package alone, and one that holds a reference a copy of anything.
-    /// Where the target is a field unit, nothing is stored yet: the caller writes it next. Other names are refused as
-    /// `WrongType`, and buffer fields as `Unsupported`. A refused store changes nothing.
+    /// Where the target is a field, nothing is stored yet: the caller writes it next. Other names are refused as `WrongType`. A
+    /// refused store changes nothing.
     #[tactic(auto, using(ar_space::specs::Change::changing))]
     pub fn store(
         &mut self,
@@ -99,8 +99,7 @@ impl<S> WorldState<S> {
     {
         match held {
             Holding::Value(old) => self.store_over_value(alloc, old, path, value),
-            Holding::FieldUnit(unit) => Ok(Stored::FieldUnit(unit)),
-            Holding::BufferField => Err(Refusal::Evaluation(EvaluationFault::Unsupported(0x5B13))),
+            Holding::Field(field) => Ok(Stored::Field(field)),
             Holding::Nothing => Err(Refusal::Value(ValueFault::WrongType)),
         }
     }
@@ -179,8 +178,7 @@ impl<S> WorldState<S> {
     {
         match held {
             Holding::Value(_) => self.copy_into_name(alloc, path, value),
-            Holding::FieldUnit(unit) => Ok(Stored::FieldUnit(unit)),
-            Holding::BufferField => Err(Refusal::Evaluation(EvaluationFault::Unsupported(0x5B13))),
+            Holding::Field(field) => Ok(Stored::Field(field)),
             Holding::Nothing => Err(Refusal::Value(ValueFault::WrongType)),
         }
     }

@@ -8,7 +8,7 @@ ghost use Rattle.aml_meaning.specs.TargetTerms.{target_named};
 use crate::slots::frame_index;
 use crate::store_target::{Held, Holding, StoreTarget};
 use crate::world_state::WorldState;
-use aml_objects::{Entry, NamedObject, Slot, Value};
+use aml_objects::{Entry, Field, NamedObject, Slot, Value};
 use aml_path::{NameString, Path};
 use ar_space::{EvaluationFault, NamespaceFault, Refusal, ValueFault};
 use std::alloc::Global;
@@ -96,8 +96,8 @@ impl<S> WorldState<S> {
         initialized(value)
     }
 
-    /// What a target holds, for what is stored there next. A target that holds no value is refused as `WrongType`, a buffer
-    /// field as `Unsupported`, and an uninitialized slot as `NoValue`.
+    /// What a target holds, for what is stored there next. A target that holds no value is refused as `WrongType`, and an
+    /// uninitialized slot as `NoValue`.
     #[tactic(auto, using(ar_space::specs::Change::changing))]
     pub fn target_read(&self, target: &StoreTarget) -> Result<Held, Refusal>
         ensures answer { Does result self.now (target_read target.now) self.now }
@@ -148,8 +148,8 @@ pub(crate) fn holding_of(object: &NamedObject) -> Holding
 {
     match object {
         NamedObject::Data(value) => Holding::Value(*value),
-        NamedObject::FieldUnit(unit) => Holding::FieldUnit(*unit),
-        NamedObject::BufferField(_) => Holding::BufferField,
+        NamedObject::FieldUnit(unit) => Holding::Field(Field::Unit(*unit)),
+        NamedObject::BufferField(field) => Holding::Field(Field::Buffer(*field)),
         _ => Holding::Nothing,
     }
 }
@@ -174,8 +174,7 @@ fn held_in(held: Holding) -> Result<Held, Refusal>
 {
     match held {
         Holding::Value(value) => Ok(Held::Value(value)),
-        Holding::FieldUnit(unit) => Ok(Held::FieldUnit(unit)),
-        Holding::BufferField => Err(Refusal::Evaluation(EvaluationFault::Unsupported(0x5B13))),
+        Holding::Field(field) => Ok(Held::Field(field)),
         Holding::Nothing => Err(Refusal::Value(ValueFault::WrongType)),
     }
 }

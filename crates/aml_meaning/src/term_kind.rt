@@ -44,12 +44,26 @@ pub enum DeclarationKind {
     Event,
 }
 
-/// What declares an operation region, or fields in one.
+/// What declares an operation region, fields in one, or a buffer field.
 #[derive(Clone, Copy, Debug, PartialEq, Eq)]
 pub enum RegionKind {
     OperationRegion,
     Field,
     IndexField,
+    /// CreateBitField, CreateByteField, CreateWordField, CreateDWordField and CreateQWordField.
+    SizedBufferField(BufferFieldSize),
+    /// CreateField.
+    BufferField,
+}
+
+/// How many bits a buffer field has whose term says it.
+#[derive(Clone, Copy, Debug, PartialEq, Eq)]
+pub enum BufferFieldSize {
+    Bit,
+    Byte,
+    Word,
+    DWord,
+    QWord,
 }
 
 /// A term that has a value.

@@ -121,7 +121,20 @@ with_byte (Some ob) o i x h = (byte_outcome i ob, slice_set h o (byte_written i 
 unfoldable pub write_byte : ℕ → ℕ → ℕ → Change Objects (Unit {0})
 write_byte o i x h = with_byte (slice_get h o) o i x h
 
--- one element of a package, one byte of a string or a buffer: 75 past the end
+-- a buffer's bytes, exchanged for others: the earlier ones are the answer
+abbrev pub exchanged_with : List ℕ → Object → Object
+exchanged_with new (object.String bs) = object.String bs
+exchanged_with new (object.Buffer bs) = object.Buffer new
+exchanged_with new (object.Package es) = object.Package es
+
+abbrev pub with_exchanged : Option Object → ℕ → List ℕ → Change Objects (List ℕ)
+with_exchanged None o new h = (Err (refusal.Value WrongType), h)
+with_exchanged (Some ob) o new h = (buffer_in (Some ob), slice_set h o (exchanged_with new ob))
+
+unfoldable pub exchange_buffer : ℕ → List ℕ → Change Objects (List ℕ)
+exchange_buffer o new h = with_exchanged (slice_get h o) o new h
+
+-- one element of a package, one byte of a string or a buffer: a reference past the end is dead
 abbrev pub or_dead : {A : Type 0} → Option A → Outcome A
 or_dead None = Err (refusal.Evaluation DeadReference)
 or_dead (Some a) = Ok a

@@ -1,6 +1,7 @@
 //! What stands at a path of the namespace (ACPI 6.5, 5.3 and 5.5.2).
 
 ghost use Rattle.std.specs.Prelude.{◌≡◌};
+ghost use Rattle.aml_objects.specs.Fields.{bits_of_field};
 ghost use Rattle.aml_objects.specs.Methods.{arguments_taken};
 
 use crate::body::Body;
@@ -105,10 +106,30 @@ pub enum UpdateRule {
     WriteAsZeros,
 }
 
-/// A part of a buffer: the buffer's object, the offset of its first bit, and how many bits it has.
+/// A buffer field (ACPI 6.5, 19.6, CreateField and its like): the buffer's object, the offset of its first bit, and how many bits
+/// it has.
 #[derive(Clone, Copy, Debug, PartialEq, Eq)]
 pub struct BufferField {
     pub buffer: usize,
     pub bit_offset: u64,
     pub bits: u32,
+}
+
+/// What is read and written bit by bit: a field unit, by accesses of registers, or a buffer field, without any.
+#[derive(Clone, Copy, Debug, PartialEq, Eq)]
+pub enum Field {
+    Unit(FieldUnit),
+    Buffer(BufferField),
+}
+
+impl Field {
+    /// How many bits it has.
+    pub fn bits(self) -> u32
+        ensures { result ≡ bits_of_field self }
+    {
+        match self {
+            Field::Unit(unit) => unit.bits,
+            Field::Buffer(field) => field.bits,
+        }
+    }
 }

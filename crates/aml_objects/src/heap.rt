@@ -1,9 +1,9 @@
 //! The objects, each by its number.
-ghost use Rattle.std.specs.Prelude.{◌≡◌, ◌<◌, ◌++◌, ◌∷◌, [], List, length, take, ◌==◌, slice_get, slice_set, nat_lt, if◌then◌else◌, option_map, Ok, Err, OnOk, OnErr, IsOkUnless};
+ghost use Rattle.std.specs.Prelude.{◌≡◌, ◌<◌, ◌++◌, ◌∷◌, [], List, length, take, ◌==◌, slice_get, slice_set, nat_lt, if◌then◌else◌, option_map, Some, Ok, Err, OnOk, OnErr, IsOkUnless};
 ghost use Rattle.ar_space.specs.Outcome.{Answers, NotMemory, seen};
 ghost use Rattle.ar_space.specs.declared.refusal.Refusal.TheVariants.{OutOfMemory};
 ghost use Rattle.ar_space.specs.Change.{Does};
-ghost use Rattle.aml_objects.specs.Objects.{make, make_string, make_buffer, make_package, string_at, buffer_at, elements_at, write_buffer, write_string, fitted_to, write_byte, byte_outcome, byte_written, or_dead, element_at, byte_at, element_there, write_element, element_outcome, element_written};
+ghost use Rattle.aml_objects.specs.Objects.{make, make_string, make_buffer, make_package, string_at, buffer_at, elements_at, write_buffer, write_string, fitted_to, buffer_in, exchange_buffer, exchanged_with, write_byte, byte_outcome, byte_written, or_dead, element_at, byte_at, element_there, write_element, element_outcome, element_written};
 
 use crate::draft::Draft;
 use crate::making::{MAX_BYTES, make, make_buffer, make_package, make_string};
@@ -12,6 +12,7 @@ use crate::value::Value;
 use ar_space::{EvaluationFault, Refusal, ValueFault};
 use std::alloc::Global;
 use std::marker::Model;
+use std::mem;
 
 /// The objects. The list of them only grows: none is given back, and each keeps its number.
 #[derive(Debug, Drop)]
@@ -142,6 +143,31 @@ impl Heap {
             Object::String(_) => Err(Refusal::Value(ValueFault::WrongType)),
             Object::Package(_) => Err(Refusal::Value(ValueFault::WrongType)),
         }
+    }
+
+    /// The bytes of a buffer, lent; another kind of object is refused as `WrongType`.
+    #[tactic(auto, unfolding(crate::specs::Objects::buffer_at))]
+    pub fn buffer_bytes(&self, object: usize) -> Result<&[u8], Refusal>
+        ensures answer { Does (seen (λ bytes. bytes.now) result) self.now (buffer_at object) self.now }
+        ensures memory { NotMemory result }
+    {
+        match self.object(object) {
+            None => Err(Refusal::Value(ValueFault::WrongType)),
+            Some(found) => found.buffer_bytes(),
+        }
+    }
+
+    /// Puts bytes in place of those of a buffer, which are given back; another kind of object is refused as `WrongType`, and
+    /// then nothing changes.
+    #[tactic(auto, unfolding(crate::specs::Objects::exchange_buffer))]
+    pub fn exchange_buffer(&mut self, object: usize, bytes: Octets) -> Result<Octets, Refusal>
+        ensures change { Does result self.new (exchange_buffer object bytes) self.old }
+        ensures memory { NotMemory result }
+    {
+        if object >= self.objects.len() {
+            return Err(Refusal::Value(ValueFault::WrongType));
+        }
+        exchanged(&mut self.objects[object], bytes)
     }
 
     /// The elements of a package; another kind of object is refused as `WrongType`.
@@ -276,6 +302,18 @@ impl Heap {
         }
         self.objects[object] = Object::String(bytes);
         Ok(())
+    }
+}
+
+/// Other bytes in place of a buffer's.
+fn exchanged(object: &mut Object, bytes: Octets) -> Result<Octets, Refusal>
+    ensures outcome { result ≡ buffer_in (Some object.old) }
+    ensures object { object.new ≡ exchanged_with bytes object.old }
+{
+    match object {
+        Object::String(_) => Err(Refusal::Value(ValueFault::WrongType)),
+        Object::Buffer(old) => Ok(mem::replace(old, bytes)),
+        Object::Package(_) => Err(Refusal::Value(ValueFault::WrongType)),
     }
 }
 

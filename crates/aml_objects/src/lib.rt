@@ -17,8 +17,8 @@ pub use body::Body;
 pub use content::Content;
 pub use draft::Draft;
 pub use entry::{
-    BufferField, Entry, FieldSource, FieldUnit, Method, MethodBody, MethodFlags, NamedObject,
-    OperationRegion, UpdateRule,
+    BufferField, Entry, Field, FieldSource, FieldUnit, Method, MethodBody, MethodFlags,
+    NamedObject, OperationRegion, UpdateRule,
 };
 pub use heap::Heap;
 pub use object::{Element, Elements, Object, Octets};

@@ -1,13 +1,13 @@
 //! Objects: strings, buffers and packages.
-ghost use Rattle.std.specs.Prelude.{◌≡◌, ◌++◌, ◌∷◌, [], OnOk, OnErr, IsOkUnless, Ok, Err, length, slice_get, slice_set, nat_lt, if◌then◌else◌};
+ghost use Rattle.std.specs.Prelude.{◌≡◌, ◌++◌, ◌∷◌, [], OnOk, OnErr, IsOkUnless, Some, Ok, Err, length, slice_get, slice_set, nat_lt, if◌then◌else◌};
 ghost use Rattle.ar_space.specs.Outcome.{Answers, NotMemory, seen};
 ghost use Rattle.ar_space.specs.declared.refusal.Refusal.TheVariants.{OutOfMemory, Evaluation};
 ghost use Rattle.ar_space.specs.declared.refusal.EvaluationFault.TheVariants.{DeadReference};
-ghost use Rattle.aml_objects.specs.Objects.{or_dead};
+ghost use Rattle.aml_objects.specs.Objects.{or_dead, buffer_in};
 
 use crate::value::Value;
 use aml_path::{NameString, Path};
-use ar_space::{EvaluationFault, Refusal};
+use ar_space::{EvaluationFault, Refusal, ValueFault};
 use std::alloc::Global;
 use std::marker::Model;
 
@@ -56,7 +56,28 @@ pub enum Object {
     Package(Elements),
 }
 
+impl Object {
+    /// The bytes of a buffer; another kind of object is refused as `WrongType`.
+    pub(crate) fn buffer_bytes(&self) -> Result<&[u8], Refusal>
+        ensures answer { Answers (seen (λ bytes. bytes.now) result) (buffer_in (Some self.now)) }
+        ensures memory { NotMemory result }
+    {
+        match self {
+            Object::String(_) => Err(Refusal::Value(ValueFault::WrongType)),
+            Object::Buffer(bytes) => Ok(bytes.as_slice()),
+            Object::Package(_) => Err(Refusal::Value(ValueFault::WrongType)),
+        }
+    }
+}
+
 impl Octets {
+    /// No bytes. It takes no memory.
+    pub fn new(alloc: Global) -> Octets
+        ensures { result ≡ [] }
+    {
+        Octets::from_vec(Vec::new(alloc))
+    }
+
     /// These bytes. It takes no memory.
     pub fn from_vec(list: Vec<u8>) -> Octets
         ensures { result ≡ list.items }

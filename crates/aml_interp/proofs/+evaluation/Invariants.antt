@@ -168,16 +168,16 @@ abbrev pub decreases-invocations::eval_call : goal.decreases-invocations::eval_c
 decreases-invocations::eval_call g l = 40 * (l.run.now.1 + (32 - l.job.depth)) + 4
 
 abbrev pub decreases-invocations::eval_invocation : goal.decreases-invocations::eval_invocation
-decreases-invocations::eval_invocation g l = 40 * (l.run.now.1 + (32 - l.job.depth)) + 25
+decreases-invocations::eval_invocation g l = 40 * (l.run.now.1 + (32 - l.job.depth)) + 26
 
 abbrev pub decreases-invocations::eval_name_value : goal.decreases-invocations::eval_name_value
-decreases-invocations::eval_name_value g l = 40 * (l.run.now.1 + (32 - l.job.depth)) + 26
+decreases-invocations::eval_name_value g l = 40 * (l.run.now.1 + (32 - l.job.depth)) + 27
 
 abbrev pub decreases-invocations::eval_method_value : goal.decreases-invocations::eval_method_value
 decreases-invocations::eval_method_value g l = 40 * (l.run.now.1 + (32 - l.depth)) + 4
 
 abbrev pub decreases-invocations::eval_field : goal.decreases-invocations::eval_field
-decreases-invocations::eval_field g l = 40 * (l.run.now.1 + (32 - l.depth)) + 24
+decreases-invocations::eval_field g l = 40 * (l.run.now.1 + (32 - l.depth)) + 25
 
 abbrev pub decreases-field_calls::eval_answer_over : goal.decreases-field_calls::eval_answer_over
 decreases-field_calls::eval_answer_over g l = 40 * (l.run.now.1 + l.calls + 1) + 6
@@ -234,25 +234,37 @@ abbrev pub decreases-index_fields::eval_index_written : goal.decreases-index_fie
 decreases-index_fields::eval_index_written g l = 40 * (l.run.now.1 + l.calls) + 20
 
 abbrev pub decreases-fields::eval_bits_in : goal.decreases-fields::eval_bits_in
-decreases-fields::eval_bits_in g l = 40 * (l.run.now.1 + l.calls) + 21
+decreases-fields::eval_bits_in g l = 40 * (l.run.now.1 + l.calls) + 22
 
 abbrev pub decreases-fields::eval_written_in : goal.decreases-fields::eval_written_in
-decreases-fields::eval_written_in g l = 40 * (l.run.now.1 + l.calls) + 21
+decreases-fields::eval_written_in g l = 40 * (l.run.now.1 + l.calls) + 22
+
+abbrev pub decreases-fields::eval_unit_bits : goal.decreases-fields::eval_unit_bits
+decreases-fields::eval_unit_bits g l = 40 * (l.run.now.1 + l.calls) + 21
+
+abbrev pub decreases-fields::eval_unit_written : goal.decreases-fields::eval_unit_written
+decreases-fields::eval_unit_written g l = 40 * (l.run.now.1 + l.calls) + 21
+
+abbrev pub decreases-buffer_fields::eval_sized_field : goal.decreases-buffer_fields::eval_sized_field
+decreases-buffer_fields::eval_sized_field g l = 40 * (l.run.now.1 + (32 - l.job.depth)) + 5
+
+abbrev pub decreases-buffer_fields::eval_bits_field : goal.decreases-buffer_fields::eval_bits_field
+decreases-buffer_fields::eval_bits_field g l = 40 * (l.run.now.1 + (32 - l.job.depth)) + 5
 
 abbrev pub decreases-fields::eval_field_value : goal.decreases-fields::eval_field_value
-decreases-fields::eval_field_value g l = 40 * (l.run.now.1 + l.calls) + 22
+decreases-fields::eval_field_value g l = 40 * (l.run.now.1 + l.calls) + 23
 
 abbrev pub decreases-fields::eval_field_stored : goal.decreases-fields::eval_field_stored
-decreases-fields::eval_field_stored g l = 40 * (l.run.now.1 + l.calls) + 22
+decreases-fields::eval_field_stored g l = 40 * (l.run.now.1 + l.calls) + 23
 
 abbrev pub decreases-field_calls::eval_field_read : goal.decreases-field_calls::eval_field_read
-decreases-field_calls::eval_field_read g l = 40 * (l.run.now.1 + (32 - l.depth)) + 23
+decreases-field_calls::eval_field_read g l = 40 * (l.run.now.1 + (32 - l.depth)) + 24
 
 abbrev pub decreases-field_calls::eval_held : goal.decreases-field_calls::eval_held
 decreases-field_calls::eval_held g l = 40 * (l.run.now.1 + (32 - l.depth)) + 24
 
 abbrev pub decreases-fields::eval_field_referent : goal.decreases-fields::eval_field_referent
-decreases-fields::eval_field_referent g l = 40 * (l.run.now.1 + l.calls) + 22
+decreases-fields::eval_field_referent g l = 40 * (l.run.now.1 + l.calls) + 23
 
 abbrev pub decreases-field_calls::eval_referent : goal.decreases-field_calls::eval_referent
 decreases-field_calls::eval_referent g l = 40 * (l.run.now.1 + (32 - l.depth)) + 25
@@ -270,10 +282,10 @@ abbrev pub decreases-field_calls::eval_method_integer : goal.decreases-field_cal
 decreases-field_calls::eval_method_integer g l = 40 * (l.run.now.1 + (32 - l.depth)) + 5
 
 abbrev pub decreases-fields::eval_field_integer : goal.decreases-fields::eval_field_integer
-decreases-fields::eval_field_integer g l = 40 * (l.run.now.1 + l.calls) + 22
+decreases-fields::eval_field_integer g l = 40 * (l.run.now.1 + l.calls) + 23
 
 abbrev pub decreases-fields::eval_field_part : goal.decreases-fields::eval_field_part
-decreases-fields::eval_field_part g l = 40 * (l.run.now.1 + l.calls) + 22
+decreases-fields::eval_field_part g l = 40 * (l.run.now.1 + l.calls) + 23
 
 abbrev pub decreases-field_calls::eval_stored_to : goal.decreases-field_calls::eval_stored_to
 decreases-field_calls::eval_stored_to g l = 40 * (l.run.now.1 + (32 - l.depth)) + 25
@@ -333,7 +345,7 @@ abbrev pub decreases-references::eval_reference_stored : goal.decreases-referenc
 decreases-references::eval_reference_stored g l = 40 * (l.run.now.1 + (32 - l.job.depth)) + 27
 
 abbrev pub decreases-field_calls::eval_held_value : goal.decreases-field_calls::eval_held_value
-decreases-field_calls::eval_held_value g l = 40 * (l.run.now.1 + (32 - l.depth)) + 24
+decreases-field_calls::eval_held_value g l = 40 * (l.run.now.1 + (32 - l.depth)) + 25
 
 abbrev pub decreases-field_calls::eval_back_to : goal.decreases-field_calls::eval_back_to
 decreases-field_calls::eval_back_to g l = 40 * (l.run.now.1 + (32 - l.depth)) + 26
