@@ -3,4 +3,5 @@ pub mod Claims
 pub mod One
 pub mod Placed
 pub mod Reported
+pub mod Settled
 pub mod Turns

@@ -1,5 +1,5 @@
 -- What is reported, and what is refused.
-use Rattle.std.proofs.Common.{◌≡◌, ◌≢◌, ◌≤◌, length, List, Ok, Err, refl, ◌∙◌, sym}
+use Rattle.std.proofs.Common.{◌≡◌, ◌≢◌, ◌≤◌, Bool, length, List, Ok, Err, refl, ◌∙◌, sym, ap}
 use Rattle.std.specs.Prelude.{IsErr, IsErrAnd, IfOk, IfErr}
 use Rattle.ar_space.specs.declared.refusal.Refusal.{Refusal}
 use Rattle.ar_space.specs.declared.refusal.Refusal.TheVariants.{OutOfMemory}
@@ -19,11 +19,18 @@ use Rattle.route_report.specs.Reports.{RoutingReport}
 use Rattle.route_report.specs.Readable.{IsReadable, claim_of_report}
 use Rattle.route_check.specs.Valid.{Valid}
 use Rattle.acpi_configure.proofs.Claims.{Bounded, LawOfClaims, LawOfOrder, LawOfStays, claims_answer, is_readable, is_valid}
-use Rattle.acpi_configure.specs.Configured.{Solves, report_of, IsDryReport}
+use Rattle.route_report.specs.declared.report.SetLine.{SetLine}
+use Rattle.route_report.specs.Reports.{ReportedAfter}
+use Rattle.acpi_configure.specs.Settling.{settled_unless}
+use Rattle.acpi_configure.specs.Configured.{Solves, report_of, with_settings, IsReport}
 
 pub solved : (p : RoutingProblem) (a : RoutingAnswer) → IsFirstLeast (offers_of p.links) p.wired a.choice → busiest p.wired a.choice ≡ a.busiest
     → Shown (offers_of p.links) p.wired a.busiest a.links a.interrupts → Solves p a
 solved p a l b s = record { first_least = l; busiest_is = b; shown = s }
+
+-- the settings are told beside the lines that stand already
+pub told : (report known : RoutingReport) (x : List SetLine × List ReportedAfter) → Answers (Ok report) (Ok known) → with_settings report x ≡ with_settings known x
+told report known x h = let same : known ≡ report = cc (h.is tt) in ap (λ (q : RoutingReport). with_settings q x) (sym same)
 
 module _ {S : Type 0} (accesses : Accesses S) (before after : MachineState S) where
   pub refused : (e : Refusal) (r : Outcome RoutingReport) → Does (Err e) after (gathered accesses) before → IsErr r × IsErrAnd r (λ x. x ≡ e)
@@ -36,24 +43,23 @@ module _ {S : Type 0} (accesses : Accesses S) (before after : MachineState S) wh
   memory e (Ok x) h i = absurd (cc i.0)
   memory e (Err x) h i = λ ne. absurd (ne (i.1 ∙ h))
 
-  pub not_refused : (g : Gathering) (a : RoutingAnswer) (r : Outcome RoutingReport) → Answers r (Ok (report_of after g a))
-      → IfErr r (λ refusal. refusal ≢ OutOfMemory → gathered accesses before ≡ (Err refusal, after))
-  not_refused g a (Ok x) h = tt
-  not_refused g a (Err x) h = λ ne. absurd (cc (h.is ne))
-
-  pub reported : (law : LawOfClaims) (order : LawOfOrder) (stays : LawOfStays) (g : Gathering) (a : RoutingAnswer) (r : Outcome RoutingReport) → Does (Ok g) after (gathered accesses) before
-      → g.problem ≡ problem_of g.links g.pins → Fits g.problem → length g.problem.wired ≤ 4096 → Solves g.problem a → Bounded g.problem a
-      → Answers r (Ok (report_of after g a)) → IfOk r (λ report. IsDryReport accesses before after report)
-  reported law order stays g a (Ok x) d posed fits few s bound h =
-      let is : x ≡ report_of after g a = cc (h.is tt) in
+  pub reported : (law : LawOfClaims) (order : LawOfOrder) (stays : LawOfStays) (dry : Bool) (g : Gathering) (a : RoutingAnswer) (middle : MachineState S) (x : List SetLine × List ReportedAfter) (r : RoutingReport)
+      → Does (Ok g) middle (gathered accesses) before → g.problem ≡ problem_of g.links g.pins → Fits g.problem → length g.problem.wired ≤ 4096 → Solves g.problem a → Bounded g.problem a
+      → Does (Ok x) after (settled_unless accesses dry g.links a.choice) middle → r ≡ with_settings (report_of middle g a) x → IsReport accesses dry before after r
+  reported law order stays dry g a middle x r d posed fits few s bound settled is =
       record {
         found = g;
+        chosen_in = middle;
         is_found = d.is tt;
         answer = a;
         solves = s;
+        settings = x;
+        is_settled = settled.is tt;
         lines = is;
-        readable = rw is (is_readable after g a posed fits few);
-        claims = rw is (claims_answer after g a posed order stays fits s);
-        valid = rw is (is_valid after g a posed order stays fits s law bound);
+        readable = rw is (with_readable (is_readable middle g a posed fits few));
+        claims = rw is (claims_answer middle g a posed order stays fits s);
+        valid = rw is (is_valid middle g a posed order stays fits s law bound);
       }
-  reported law order stays g a (Err x) d posed fits few s bound h = tt
+    where
+      with_readable : IsReadable (report_of middle g a) → IsReadable (with_settings (report_of middle g a) x)
+      with_readable h = record { few_links = h.few_links; few_wired = h.few_wired; offers = h.offers }

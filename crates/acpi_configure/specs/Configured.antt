@@ -1,5 +1,5 @@
--- The report of a run that sets no link.
-use Rattle.std.specs.Prelude.{◌≡◌, List, [], map, Ok}
+-- The report of a run.
+use Rattle.std.specs.Prelude.{◌≡◌, Bool, List, [], map, Ok}
 use Rattle.ar_space.specs.Accesses.{Accesses}
 use Rattle.acpi_machine.specs.MachineStates.{MachineState}
 use Rattle.acpi_links.specs.Gathering.{Gathering}
@@ -13,7 +13,10 @@ use Rattle.route_check.specs.Claims.{RoutingClaim}
 use Rattle.route_check.specs.Valid.{Valid}
 use Rattle.route_report.specs.Readable.{IsReadable, claim_of_report}
 use Rattle.route_report.specs.Reports.{RoutingReport}
+use Rattle.route_report.specs.declared.report.SetLine.{SetLine}
+use Rattle.route_report.specs.Reports.{ReportedAfter}
 use Rattle.acpi_configure.specs.Lines.{io_apics_of, overrides_of, row_of, pin_line}
+use Rattle.acpi_configure.specs.Settling.{settled_unless}
 
 -- the first of the assignments whose busiest interrupt serves the fewest sources, and the set that shows why none is less
 -- busy; a problem has no other such answer
@@ -42,14 +45,22 @@ report_of s g a = record {
   afters = [];
 }
 
--- What is reported of a machine, which gathering leaves as it is after. Its text can be read back, what that claims is just the
--- answer to the machine's problem, and the claim is valid.
-pub record IsDryReport {S : Type 0} (accesses : Accesses S) (before after : MachineState S) (r : RoutingReport) : Type 0 where
+-- with what came of setting the links, and what they are set to then
+abbrev pub with_settings : RoutingReport → List SetLine × List ReportedAfter → RoutingReport
+with_settings r x = record r { sets = x.0; afters = x.1 }
+
+-- What is reported of a machine: what gathering found, the answer to the problem of that, and, unless no link is to be set, what came of
+-- setting each present link to its interrupt of the answer, which leaves the machine as it is after. The report's text can be read
+-- back, what that claims is just the answer to the machine's problem, and the claim is valid.
+pub record IsReport {S : Type 0} (accesses : Accesses S) (dry : Bool) (before after : MachineState S) (r : RoutingReport) : Type 0 where
   pub found : Gathering
-  pub is_found : gathered accesses before ≡ (Ok found, after)
+  pub chosen_in : MachineState S
+  pub is_found : gathered accesses before ≡ (Ok found, chosen_in)
   pub answer : RoutingAnswer
   pub solves : Solves found.problem answer
-  pub lines : r ≡ report_of after found answer
+  pub settings : List SetLine × List ReportedAfter
+  pub is_settled : settled_unless accesses dry found.links answer.choice chosen_in ≡ (Ok settings, after)
+  pub lines : r ≡ with_settings (report_of chosen_in found answer) settings
   pub readable : IsReadable r
   pub claims : claim_of_report r ≡ claim_of_answer found.problem answer
   pub valid : Valid (claim_of_report r)

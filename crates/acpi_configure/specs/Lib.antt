@@ -1,2 +1,3 @@
 pub mod Configured
 pub mod Lines
+pub mod Settling

@@ -1,17 +1,21 @@
-//! Gathers, chooses, reports.
+//! Gathers, chooses, sets, reports.
 ghost use Rattle.std.specs.Prelude.{◌≡◌, ◌≢◌, ◌⊎◌, ◌<◌, ◌≤◌, All, Ok, Err, IfOk, IfErr, length, map};
 ghost use Rattle.ar_space.specs.declared.refusal.Refusal.TheVariants.{OutOfMemory};
-ghost use Rattle.ar_space.specs.Outcome.{Answers};
+ghost use Rattle.ar_space.specs.Outcome.{Answers, seen};
+ghost use Rattle.ar_space.specs.Change.{Does};
 ghost use Rattle.route_model.specs.Bound.{IsLowerBound};
 ghost use Rattle.route_model.specs.Links.{offers_of};
 ghost use Rattle.route_solve.specs.Fits.{Fits};
 ghost use Rattle.acpi_links.specs.Gatherings.{gathered};
-ghost use Rattle.acpi_configure.specs.Configured.{Solves, report_of, IsDryReport};
+ghost use Rattle.acpi_links.specs.Problems.{problem_of};
+ghost use Rattle.acpi_configure.specs.Configured.{Solves, report_of, with_settings, IsReport};
+ghost use Rattle.acpi_configure.specs.Settling.{settled_unless};
 
 use crate::chosen_lines::{bound_for, gives_of};
 use crate::link_lines::link_lines;
 use crate::madt_lines::{io_apics_of, overrides_of};
 use crate::pin_lines::pin_lines;
+use crate::settling::{Settings, settle_unless};
 use acpi_links::{Gathered, gather};
 use acpi_machine::Machine;
 use ar_space::{Refusal, Space};
@@ -21,17 +25,25 @@ use route_report::laws::{a_claim_in_order_stays, the_claim_of_an_assignment_is_i
 use route_solve::{Answer, Problem, solve};
 use std::alloc::Global;
 
-/// Chooses an interrupt for each link device of a machine, and reports what was found and chosen. No link is set.
+/// Chooses an interrupt for each link device of a machine, sets the links unless `dry`, and reports what was found, chosen and
+/// set.
 ///
 /// What is found is what `gather` gives, and its refusals are handed on. The choice is the first of the assignments whose
 /// busiest interrupt serves the fewest sources: compared link by link in path order, the smaller interrupt first. The bound
 /// is the set of links and interrupts that shows why none is less busy; there is none where no interrupt serves a source.
-/// The report has no line of a link that was set.
+///
+/// Then each present link is set in path order, as `set_current_resources` does it, and after that what each is set to is read, as
+/// `get_current_resources` does it. Each has a line of its own in the report, with the number of the refusal where it is refused: the
+/// next link follows. Only want of memory ends the run then. A dry report has none of these lines.
 ///
 /// The text of the report can be read back; what it claims then is just this answer, and `route_check::check` says that the
 /// claim is valid.
-pub fn configure_dry<S: Space>(alloc: Global, machine: &mut Machine<S>) -> Result<Report, Refusal>
-    ensures report { IfOk result (λ report. IsDryReport S.accesses machine.old machine.new report) }
+pub fn configure<S: Space>(
+    alloc: Global,
+    machine: &mut Machine<S>,
+    dry: bool,
+) -> Result<Report, Refusal>
+    ensures report { IfOk result (λ report. IsReport S.accesses dry machine.old machine.new report) }
     ensures refusal { IfErr result (λ refusal. refusal ≢ OutOfMemory → gathered S.accesses machine.old ≡ (Err refusal, machine.new)) }
 {
     let gathered = gather(alloc, machine)?;
@@ -40,7 +52,38 @@ pub fn configure_dry<S: Space>(alloc: Global, machine: &mut Machine<S>) -> Resul
     an_assignment_with_its_bound_is_valid();
     the_claim_of_an_assignment_is_in_order();
     a_claim_in_order_stays();
-    report_of(alloc, machine, &gathered, &answer)
+    let report = report_of(alloc, machine, &gathered, &answer)?;
+    let settings = settle_answer(alloc, machine, dry, &gathered, &answer)?;
+    Ok(with_settings(report, settings))
+}
+
+/// A report with what came of setting the links, and what they are set to then.
+fn with_settings(report: Report, settings: Settings) -> Report
+    ensures { result ≡ with_settings report (settings.0.items, settings.1.items) }
+{
+    let (sets, afters) = settings;
+    Report {
+        sets,
+        afters,
+        ..report
+    }
+}
+
+/// Sets each link that was gathered to its interrupt of an answer, and reads what each is set to, unless the run is dry.
+#[tactic(auto, using(crate::proofs::Settled::chosen_each, crate::proofs::Settled::offered_each))]
+fn settle_answer<S: Space>(
+    alloc: Global,
+    machine: &mut Machine<S>,
+    dry: bool,
+    gathered: &Gathered,
+    answer: &Answer,
+) -> Result<Settings, Refusal>
+    requires posed { gathered.now.problem ≡ problem_of gathered.now.links gathered.now.pins }
+    requires solves { Solves gathered.now.problem answer.now }
+    ensures value { Does (seen (λ x. (x.0.items, x.1.items)) result) machine.new (settled_unless S.accesses dry gathered.now.links answer.now.choice) machine.old }
+    ensures memory { IfErr result (λ refusal. refusal ≡ OutOfMemory) }
+{
+    settle_unless(alloc, machine, dry, gathered.links(), &answer.choice)
 }
 
 /// The answer to a problem.
@@ -54,7 +97,7 @@ fn answer_to(alloc: Global, problem: &Problem) -> Result<Answer, Refusal>
     Ok(solve(alloc, problem)?)
 }
 
-/// The report of what was found and chosen.
+/// The report of what was found and chosen, without the lines of what was set.
 #[tactic(auto, using(crate::proofs::Placed::placed, crate::proofs::Placed::chosen_for_each))]
 fn report_of<S: Space>(
     alloc: Global,

@@ -1,4 +1,5 @@
-//! Routes the PCI interrupts of a machine: chooses an interrupt for each link device, and reports what was found and chosen.
+//! Routes the PCI interrupts of a machine: chooses an interrupt for each link device, sets
+//! the links, and reports what was found, chosen and set.
 #![tactic(auto)]
 
 mod chosen_lines;
@@ -6,7 +7,8 @@ mod configuring;
 pub mod laws;
 mod link_lines;
 mod madt_lines;
-mod names;
 mod pin_lines;
+mod pin_names;
+mod settling;
 
-pub use configuring::configure_dry;
+pub use configuring::configure;

@@ -42,7 +42,7 @@ fn link_line(
     })
 }
 
-fn numbers_now(
+pub(crate) fn numbers_now(
     alloc: Global,
     now: &Option<InterruptNumbers>,
 ) -> Result<Option<Vec<u32>>, AllocError>

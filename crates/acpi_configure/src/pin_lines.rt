@@ -3,7 +3,7 @@ ghost use Rattle.std.specs.Prelude.{◌≡◌, Ok, map};
 ghost use Rattle.ar_space.specs.Outcome.{Answers, seen};
 ghost use Rattle.acpi_configure.specs.Lines.{given_to, way_of, pin_route, pin_line};
 
-use crate::names::letter_of;
+use crate::pin_names::letter_of;
 use acpi_prt::{Pin, Route};
 use aml_path::Path;
 use ar_space::Refusal;

@@ -7,4 +7,5 @@ pub mod Links
 pub mod Presence
 pub mod Problems
 pub mod Resources
+pub mod Settings
 pub mod Wiring

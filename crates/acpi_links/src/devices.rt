@@ -6,7 +6,7 @@ ghost use Rattle.ar_space.specs.Change.{Does};
 ghost use Rattle.acpi_machine.specs.Kinds.{kind_seen};
 ghost use Rattle.acpi_links.specs.Devices.{is_device, device_path, devices, pins_at, with_device, pins_of_device, pins_of_each};
 
-use crate::answers::stands;
+use crate::child_objects::stands;
 use acpi_machine::{Kind, Machine};
 use acpi_prt::{Pin, child_named, get_irq_routing_table};
 use aml_path::Path;

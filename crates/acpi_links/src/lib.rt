@@ -1,7 +1,8 @@
-//! PCI interrupt link devices (ACPI 6.5, 6.2.13): what each offers and is set to, and the routing problem of a machine.
+//! PCI interrupt link devices (ACPI 6.5, 6.2.13): what each offers and is set to, setting it,
+//! and the routing problem of a machine.
 #![tactic(auto)]
 
-mod answers;
+mod child_objects;
 mod devices;
 mod gathered;
 mod gathering;
@@ -14,4 +15,4 @@ mod resources;
 pub use gathered::Gathered;
 pub use gathering::gather;
 pub use links::PresentLink;
-pub use resources::{get_current_resources, get_possible_resources};
+pub use resources::{get_current_resources, get_possible_resources, set_current_resources};

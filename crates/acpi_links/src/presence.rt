@@ -5,7 +5,7 @@ ghost use Rattle.ar_space.specs.Change.{Does};
 ghost use Rattle.aml_meaning.specs.Given.{given_of};
 ghost use Rattle.acpi_links.specs.Presence.{presence, status_at, presence_at, is_present};
 
-use crate::answers::stands;
+use crate::child_objects::stands;
 use acpi_machine::Machine;
 use acpi_prt::child_named;
 use aml_meaning::Datum;

@@ -1,16 +1,21 @@
-//! The resources of a link device: what it may be set to, and what it is set to.
-ghost use Rattle.std.specs.Prelude.{Ok, Err};
-ghost use Rattle.ar_space.specs.Outcome.{Answers};
+//! The resources of a link device: what it may be set to, what it is set to, and setting it.
+ghost use Rattle.std.specs.Prelude.{Ok, Err, ◌∷◌, [], map, Contains};
+ghost use Rattle.ar_space.specs.Outcome.{Answers, seen};
 ghost use Rattle.ar_space.specs.Change.{Does};
 ghost use Rattle.ar_space.specs.declared.refusal.Refusal.TheVariants as refusals;
 ghost use Rattle.ar_space.specs.declared.refusal.RoutingFault.TheVariants as routing;
 ghost use Rattle.aml_path.specs.Text.{text_of};
+ghost use Rattle.aml_meaning.specs.Given.{given_of, Bytes};
+ghost use Rattle.acpi_resources.specs.Settings.{setting_of};
+ghost use Rattle.acpi_links.specs.Settings.{setting_handed, set_at, resources_set};
 ghost use Rattle.acpi_links.specs.Resources.{possible_resources, possible_at, offer_at, current_resources, current_at, numbers_at};
 
-use crate::answers::{buffer_at, stands};
+use crate::child_objects::{buffer_at, stands};
 use acpi_machine::Machine;
 use acpi_prt::child_named;
-use acpi_resources::{InterruptNumbers, Offer, current, possible};
+use acpi_resources::{InterruptNumbers, Offer, current, possible, setting};
+use aml_meaning::Datum;
+use aml_objects::Octets;
 use aml_path::Path;
 use ar_space::{PathText, Refusal, RoutingFault, Space};
 use std::alloc::Global;
@@ -113,4 +118,70 @@ fn numbers_at<S: Space>(
     let bytes = buffer_at(alloc, machine, path)?;
     let numbers = current(alloc, bytes.as_slice())?;
     Ok(Some(numbers))
+}
+
+/// Sets a link device to one of the interrupts that it offers, by its `_SRS` (ACPI 6.5, 6.2.16), and tells whether it has one.
+///
+/// The argument of `_SRS` is `acpi_resources::setting` of the interrupt. What it answers is dropped; a refusal of its evaluation
+/// is handed on.
+#[tactic(auto, using(ar_space::specs::Change::changing), unfolding(crate::specs::Settings::resources_set))]
+pub fn set_current_resources<S: Space>(
+    alloc: Global,
+    machine: &mut Machine<S>,
+    link: &Path,
+    offer: &Offer,
+    number: u32,
+) -> Result<bool, Refusal>
+    requires { Contains offer.now.numbers number }
+    ensures { Does result machine.new (resources_set S.accesses link.now offer.now number) machine.old }
+{
+    let path = child_named(alloc, link, *b"_SRS")?;
+    set_at(alloc, machine, &path, offer, number)
+}
+
+/// Sets a link device whose `_SRS` stands at a path, if it does.
+#[tactic(auto, unfolding(crate::specs::Settings::set_at))]
+fn set_at<S: Space>(
+    alloc: Global,
+    machine: &mut Machine<S>,
+    path: &Path,
+    offer: &Offer,
+    number: u32,
+) -> Result<bool, Refusal>
+    requires { Contains offer.now.numbers number }
+    ensures { Does result machine.new (set_at S.accesses path.now offer.now number) machine.old }
+{
+    if stands(machine, path) {
+        hand_setting(alloc, machine, path, offer, number)
+    } else {
+        Ok(false)
+    }
+}
+
+/// Calls the method at a path with a setting.
+#[tactic(auto, using(ar_space::specs::Change::changing), unfolding(crate::specs::Settings::setting_handed))]
+fn hand_setting<S: Space>(
+    alloc: Global,
+    machine: &mut Machine<S>,
+    path: &Path,
+    offer: &Offer,
+    number: u32,
+) -> Result<bool, Refusal>
+    requires { Contains offer.now.numbers number }
+    ensures { Does result machine.new (setting_handed S.accesses path.now offer.now number) machine.old }
+{
+    let arguments = arguments_of(alloc, offer, number)?;
+    machine.evaluate_object(alloc, path, arguments)?;
+    Ok(true)
+}
+
+/// A setting, as the one argument.
+fn arguments_of(alloc: Global, offer: &Offer, number: u32) -> Result<Vec<Datum>, Refusal>
+    requires { Contains offer.now.numbers number }
+    ensures { Answers (seen (λ list. map given_of list.items) result) (Ok (Bytes (setting_of offer.now number) ∷ [])) }
+{
+    let bytes = setting(alloc, offer, number)?;
+    let mut list = Vec::new(alloc);
+    list.push(Datum::Bytes(Octets::from_vec(bytes)))?;
+    Ok(list)
 }

@@ -13,7 +13,9 @@ mod program;
 mod route_command;
 mod value_text;
 
-pub use acpiroute_words::{Failed, Growing, Integers, Outside, Request, Sink, Source, parse, tell};
+pub use acpiroute_words::{
+    Failed, Growing, Integers, Outside, Request, Sink, Source, parse, write_error_line,
+};
 pub use memory::{Reply, run_over};
 pub use program::run;
 pub use value_text::value_line;

@@ -94,16 +94,16 @@ fn show<W: Sink, E: Sink>(alloc: Global, error: &Error, writer: &mut W, errors: 
 /// - `names [--steps N]`: reads a machine text, loads its tables, and writes the names of the namespace, one a line in path
 ///   order: the path, a blank, and the kind of what stands there, with a method how many arguments it takes, with an alias its
 ///   target.
-/// - `route --dry [--mode apic|pic] [--steps N]`: reads a machine text, loads its tables, initializes the machine in the mode,
-///   by default `apic`, and writes the report of its routing; no link device is set. Without `--dry` it is refused with the
-///   line `only --dry` and status 2.
+/// - `route [--dry] [--mode apic|pic] [--steps N]`: reads a machine text, loads its tables, initializes the machine in the mode,
+///   by default `apic`, chooses an interrupt for each link device, sets them, and writes the report of this; with `--dry` no link
+///   device is set.
 ///
 /// N is the budget of steps for each table and each evaluation, a number from 1 to 1,000,000,000 in decimal digits, by default
 /// 1,000,000. Refusals come in this order: of the machine text, of the tables, of loading, of initializing, of the path's text,
 /// of evaluating or routing.
 ///
-/// The result is the exit status: 0 where all went well, 1 for a refusal, 2 for a faulty command line, 4 where `check` says
-/// no. A faulty command line is found before any input is read, and `--help` is written to the output with 0.
+/// The result is the exit status: 0 where all went well, 1 for a refusal, 2 for a faulty command line, 3 where setting a link
+/// was refused, which the report tells, 4 where `check` says no. A faulty command line is found before any input is read, and `--help` is written to the output with 0.
 ///
 /// A refusal writes nothing to the output and one line to the errors: `refused R` with its number, and behind it ` at N`, an
 /// offset, for a fault of AML's terms, ` op XXXX` for a term that isn't evaluated, ` tag N` for a descriptor that isn't taken,
@@ -127,12 +127,7 @@ pub fn run<R: Source, W: Sink, E: Sink>(
     ensures faulty { faults_of (map (λ s. s.now) words.entry.now) ≢ [] → reader.new ≡ reader.old }
 {
     match parse(alloc, words) {
-        Ok(request) => {
-            if !request.is_supported() {
-                return deliver(b"", b"only --dry\n", 2, writer, errors);
-            }
-            serve(alloc, request, reader, writer, errors)
-        }
+        Ok(request) => serve(alloc, request, reader, writer, errors),
         Err(error) => show(alloc, &error, writer, errors),
     }
 }

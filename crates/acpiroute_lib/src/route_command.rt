@@ -1,17 +1,45 @@
-//! `route`: loads and initializes a machine, routes its interrupts, and writes the report.
+//! `route`: loads and initializes a machine, routes its interrupts, sets its links, and writes the report.
 ghost use Rattle.std.specs.Prelude.{◌≡◌, Ok, IfOk};
+ghost use Rattle.std.specs.List.{list_any};
 ghost use Rattle.ar_space.specs.Outcome.{Answers, NotMemory};
 ghost use Rattle.route_report.specs.Readable.{IsReadable, claim_of_report};
 ghost use Rattle.route_report.specs.Reading.{claim_of_text};
-ghost use Rattle.acpiroute_lib.specs.RouteCommand.{printed, IsRouted, IsRouteAnswer};
+ghost use Rattle.acpiroute_lib.specs.RouteCommand.{is_refused, completion_of, printed, IsRouted, IsRouteAnswer};
 
 use crate::machine::machine_of_text_in;
-use acpi_configure::configure_dry;
+use acpi_configure::configure;
 use acpi_machine::Machine;
 use acpiroute_words::{Answer, Completion};
 use ar_space::{Refusal, Sparse};
-use route_report::{Mode, Report, print};
+use route_report::{Mode, Report, SetLine, SetOutcome, print};
 use std::alloc::Global;
+
+/// How a run came out that set these links.
+fn completion_of(sets: &[SetLine]) -> Completion
+    ensures { result ≡ completion_of sets.now }
+{
+    if any_refused(sets) {
+        Completion::SettingRefused
+    } else {
+        Completion::Done
+    }
+}
+
+fn any_refused(sets: &[SetLine]) -> bool
+    ensures { result ≡ list_any (λ line. is_refused line.outcome) sets.now }
+{
+    sets.iter().any(|line| is_refused(line.outcome))
+}
+
+fn is_refused(outcome: SetOutcome) -> bool
+    ensures { result ≡ is_refused outcome }
+{
+    match outcome {
+        SetOutcome::Done => false,
+        SetOutcome::NoSetting => false,
+        SetOutcome::Refused(_) => true,
+    }
+}
 
 /// A report as text.
 fn printed(alloc: Global, report: &Report) -> Result<Answer, Refusal>
@@ -20,31 +48,31 @@ fn printed(alloc: Global, report: &Report) -> Result<Answer, Refusal>
 {
     Ok(Answer {
         text: print(alloc, report)?,
-        completion: Completion::Done,
+        completion: completion_of(&report.sets),
     })
 }
 
-/// The report of a machine, of which no link is set.
+/// The report of a machine, whose links are set unless `dry`.
 #[tactic(auto, using(crate::proofs::Routes::routing))]
-fn routed(alloc: Global, machine: &mut Machine<Sparse>) -> Result<Answer, Refusal>
-    ensures { NotMemory result → IsRouted machine.old result }
+fn routed(alloc: Global, machine: &mut Machine<Sparse>, dry: bool) -> Result<Answer, Refusal>
+    ensures { NotMemory result → IsRouted dry machine.old result }
 {
-    let report = configure_dry(alloc, machine)?;
+    let report = configure(alloc, machine, dry)?;
     printed(alloc, &report)
 }
 
-/// What `route` answers over a machine text, in a mode and with a budget of steps for each table and each evaluation, where
-/// no link is to be set: its report. Refused are the machine text, its tables, their loading, initializing, and then what
-/// the report has to find.
+/// What `route` answers over a machine text, in a mode and with a budget of steps for each table and each evaluation: its report.
+/// Refused are the machine text, its tables, their loading, initializing, and then what the report has to find.
 #[tactic(auto, using(crate::proofs::Routes::routing))]
 pub(crate) fn route_answer(
     alloc: Global,
     mode: Mode,
     steps: u64,
+    dry: bool,
     text: &[u8],
 ) -> Result<Answer, Refusal>
-    ensures { NotMemory result → IsRouteAnswer mode steps text.now result }
+    ensures { NotMemory result → IsRouteAnswer mode steps dry text.now result }
 {
     let mut machine = machine_of_text_in(alloc, mode, steps, text)?;
-    routed(alloc, &mut machine)
+    routed(alloc, &mut machine, dry)
 }

@@ -7,7 +7,7 @@ use Rattle.clap.specs.declared.error.Error.{Error}
 use Rattle.clap.specs.declared.parser.matches.ArgMatches.{ArgMatches}
 use Rattle.clap.specs.declared.error.kind.ErrorKind.TheVariants as kind
 use Rattle.acpiroute_words.specs.declared.request.Request.{Request}
-use Rattle.acpiroute_words.specs.CommandLine.{app, asked_by, command_of, clap_faults, faults_of, request_of, value_faults}
+use Rattle.acpiroute_words.specs.CommandLine.{app, parsed_subcommand, command_of, clap_faults, faults_of, request_of, value_faults}
 
 same_faults : (a : App) (words : List Text) → a ≡ app → fault_of a words ≡ clap_faults words
 unfolding clap_faults
@@ -33,7 +33,7 @@ pub no_fault : (words : List Text) (q : Request) → clap_faults words ≡ [] �
 unfolding faults_of
 no_fault words q none is = rw (none, is) refl
 
-pub asks : (words : List Text) (rows : Option (Text × List Row)) (found : Option Request) → rows ≡ command_of words → found ≡ asked_by rows → request_of words ≡ found
+pub asks : (words : List Text) (rows : Option (Text × List Row)) (found : Option Request) → rows ≡ command_of words → found ≡ parsed_subcommand rows → request_of words ≡ found
 unfolding request_of
 asks words rows found is h = rw (h, is) refl
 

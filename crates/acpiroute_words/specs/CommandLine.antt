@@ -44,9 +44,9 @@ eval_app = with_rule (with_rule (with_rule (with_rule (new_app (codes "eval")) m
 abbrev pub check_app : App
 check_app = new_app (codes "check")
 
--- `acpiroute`, which wants a command
+-- `acpiroute`, which wants a command, and has a version
 abbrev pub bare_app : App
-bare_app = record { top = record ((new_app (codes "acpiroute")).top) { disable_help_subcommand = true; subcommand_required = true }; subs = [] }
+bare_app = record { top = record ((new_app (codes "acpiroute")).top) { disable_help_subcommand = true; subcommand_required = true; has_version = true }; subs = [] }
 
 abbrev pub app : App
 app = with_subcommand (with_subcommand (with_subcommand (with_subcommand bare_app route_app.top) names_app.top) eval_app.top) check_app.top
@@ -92,17 +92,17 @@ unfoldable pub eval_of : List Row → Option Request
 eval_of rows = eval_with (mode_of rows) (steps_of rows) (path_of rows) (arguments_of rows)
 
 -- the command of this name, with its options
-unfoldable pub asked : Text → List Row → Option Request
-asked name rows =
+unfoldable pub parsed_command : Text → List Row → Option Request
+parsed_command name rows =
     if bytes_eq name (codes "route") then route_of rows
     else if bytes_eq name (codes "names") then names_of rows
     else if bytes_eq name (codes "eval") then eval_of rows
     else if bytes_eq name (codes "check") then Some request.Check
     else None
 
-abbrev pub asked_by : Option (Text × List Row) → Option Request
-asked_by None = None
-asked_by (Some s) = asked s.0 s.1
+abbrev pub parsed_subcommand : Option (Text × List Row) → Option Request
+parsed_subcommand None = None
+parsed_subcommand (Some s) = parsed_command s.0 s.1
 
 -- the command that the words name, and its options
 unfoldable pub command_of : List Text → Option (Text × List Row)
@@ -110,7 +110,7 @@ command_of words = subcommand_of app words
 
 -- what the words ask for; none where no command is named, or the value of an option is none of its values
 unfoldable pub request_of : List Text → Option Request
-request_of words = asked_by (command_of words)
+request_of words = parsed_subcommand (command_of words)
 
 -- what clap finds wrong with the words
 unfoldable pub clap_faults : List Text → Kinds
@@ -123,10 +123,3 @@ value_faults (Some q) = []
 -- what is wrong with the words, a wish for help among it: one of these is told, and nothing else is done
 unfoldable pub faults_of : List Text → Kinds
 faults_of words = or_else (clap_faults words) (value_faults (request_of words))
-
--- Links aren't set yet: `route` is done with `--dry` alone.
-abbrev pub is_supported : Request → Bool
-is_supported (request.Route mode steps dry) = dry
-is_supported (request.Names steps) = true
-is_supported (request.Eval mode steps path arguments) = true
-is_supported request.Check = true

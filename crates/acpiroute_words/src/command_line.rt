@@ -1,14 +1,15 @@
 //! The command line: one level of commands, whose values are plain texts for clap and read here.
-ghost use Rattle.std.specs.Prelude.{◌≡◌, IfOk, IfErr, Some, map, option_map, false};
-ghost use Rattle.clap.specs.Words.{app_of, kind_of, rows_of, rule_of, found_of, subcommand_rows_of, FailsBy};
+ghost use Rattle.std.specs.Prelude.{◌≡◌, IfOk, IfErr, Some, map, option_map, false, codes};
+ghost use Rattle.clap.specs.Words.{app_of, new_app, rows_of, rule_of, found_of, subcommand_rows_of, FailsBy};
 ghost use Rattle.clap.specs.declared.builder.command.Command.TheViews.{out-Command as fields_of};
-ghost use Rattle.acpiroute_words.specs.CommandLine.{app, bare_app, route_app, names_app, eval_app, check_app, mode_rule, steps_rule, dry_rule, path_rule, arguments_rule, route_of, names_of, eval_of, eval_with, asked, asked_by, clap_faults, command_of, faults_of, request_of};
+ghost use Rattle.acpiroute_words.specs.CommandLine.{app, bare_app, route_app, names_app, eval_app, check_app, mode_rule, steps_rule, dry_rule, path_rule, arguments_rule, route_of, names_of, eval_of, eval_with, parsed_command, parsed_subcommand, clap_faults, command_of, faults_of, request_of};
 
+use crate::bad_values::bad_value;
+use crate::help_texts;
 use crate::integers::Integers;
 use crate::request::Request;
 use crate::values::{is_true, mode_named, numbers_named, steps_named};
 use ar_space::PathText;
-use clap::error::ErrorKind;
 use clap::{Arg, ArgAction, ArgMatches, Command, Error};
 use route_report::Mode;
 use std::alloc::{AllocError, Global};
@@ -61,32 +62,43 @@ fn arguments_arg<'a>(alloc: Global) -> Arg<'a>
         .help("The arguments of a control method, at most 7 decimal numbers below 2^64")
 }
 
-fn route_command<'a>(alloc: Global) -> Result<Command<'a>, AllocError>
+pub(crate) fn route_command<'a>(alloc: Global) -> Result<Command<'a>, AllocError>
     ensures app { IfOk result (λ c. app_of c ≡ route_app) }
     ensures local { IfOk result (λ c. (fields_of c).has_globals ≡ false) }
 {
     Command::new(alloc, "route")
         .about("Read a machine text, route its interrupts, and write the report")
+        .after_help(help_texts::ROUTE)
         .arg(mode_arg(alloc))?
         .arg(steps_arg(alloc))?
         .arg(dry_arg(alloc))
 }
 
-fn names_command<'a>(alloc: Global) -> Result<Command<'a>, AllocError>
+pub(crate) fn names_command<'a>(alloc: Global) -> Result<Command<'a>, AllocError>
     ensures app { IfOk result (λ c. app_of c ≡ names_app) }
     ensures local { IfOk result (λ c. (fields_of c).has_globals ≡ false) }
 {
     Command::new(alloc, "names")
         .about("Read a machine text, and write the names of its namespace")
+        .after_help(help_texts::NAMES)
         .arg(steps_arg(alloc))
 }
 
-fn eval_command<'a>(alloc: Global) -> Result<Command<'a>, AllocError>
-    ensures app { IfOk result (λ c. app_of c ≡ eval_app) }
-    ensures local { IfOk result (λ c. (fields_of c).has_globals ≡ false) }
+/// `eval`, without its options.
+fn bare_eval_command<'a>(alloc: Global) -> Command<'a>
+    ensures app { app_of result ≡ new_app (codes "eval") }
+    ensures local { (fields_of result).has_globals ≡ false }
 {
     Command::new(alloc, "eval")
         .about("Read a machine text, evaluate an object of its namespace, and write the value")
+        .after_help(help_texts::EVAL)
+}
+
+pub(crate) fn eval_command<'a>(alloc: Global) -> Result<Command<'a>, AllocError>
+    ensures app { IfOk result (λ c. app_of c ≡ eval_app) }
+    ensures local { IfOk result (λ c. (fields_of c).has_globals ≡ false) }
+{
+    bare_eval_command(alloc)
         .arg(mode_arg(alloc))?
         .arg(steps_arg(alloc))?
         .arg(path_arg(alloc))?
@@ -97,7 +109,9 @@ fn check_command<'a>(alloc: Global) -> Command<'a>
     ensures app { app_of result ≡ check_app }
     ensures local { (fields_of result).has_globals ≡ false }
 {
-    Command::new(alloc, "check").about("Read a report, and write whether its claim is valid")
+    Command::new(alloc, "check")
+        .about("Read a report, and write whether its claim is valid")
+        .after_help(help_texts::CHECK)
 }
 
 fn bare_command<'a>(alloc: Global) -> Command<'a>
@@ -106,6 +120,8 @@ fn bare_command<'a>(alloc: Global) -> Command<'a>
 {
     Command::new(alloc, "acpiroute")
         .about("Routes the PCI interrupts of a machine by its ACPI tables")
+        .after_help(help_texts::PROGRAM)
+        .version(help_texts::VERSION)
         .disable_help_subcommand(true)
         .subcommand_required(true)
 }
@@ -194,9 +210,13 @@ fn eval_of(alloc: Global, matches: &ArgMatches<'_>) -> Result<Option<Request>, A
 }
 
 /// The command of this name, with its options.
-#[tactic(auto, unfolding(crate::specs::CommandLine::asked))]
-fn asked(alloc: Global, name: &str, matches: &ArgMatches<'_>) -> Result<Option<Request>, AllocError>
-    ensures { IfOk result (λ r. r ≡ asked name.now (rows_of (found_of matches.now))) }
+#[tactic(auto, unfolding(crate::specs::CommandLine::parsed_command))]
+fn parsed_command(
+    alloc: Global,
+    name: &str,
+    matches: &ArgMatches<'_>,
+) -> Result<Option<Request>, AllocError>
+    ensures { IfOk result (λ r. r ≡ parsed_command name.now (rows_of (found_of matches.now))) }
 {
     if name == "route" {
         Ok(route_of(matches))
@@ -211,24 +231,13 @@ fn asked(alloc: Global, name: &str, matches: &ArgMatches<'_>) -> Result<Option<R
     }
 }
 
-fn asked_by(alloc: Global, matches: &ArgMatches<'_>) -> Result<Option<Request>, AllocError>
-    ensures { IfOk result (λ r. r ≡ asked_by (subcommand_rows_of matches.now)) }
+fn parsed_subcommand(alloc: Global, matches: &ArgMatches<'_>) -> Result<Option<Request>, AllocError>
+    ensures { IfOk result (λ r. r ≡ parsed_subcommand (subcommand_rows_of matches.now)) }
 {
     match matches.subcommand() {
-        Some((name, inner)) => asked(alloc, name, inner),
+        Some((name, inner)) => parsed_command(alloc, name, inner),
         None => Ok(None),
     }
-}
-
-/// The text for values that are none.
-fn bad_value(alloc: Global) -> Result<Error, AllocError>
-    ensures { IfOk result (λ e. kind_of e ≡ ErrorKind.ValueValidation) }
-{
-    let mut command = command(alloc)?;
-    command.error(
-        ErrorKind::ValueValidation,
-        "a mode is apic or pic, steps are a number from 1 to 1000000000, and arguments are numbers below 2^64",
-    )
 }
 
 /// What the words ask for, or the text for the user: a fault of the words, a wish for help, or that memory ran out.
@@ -237,8 +246,8 @@ pub fn parse<'a>(alloc: Global, words: &'a [&'a str]) -> Result<Request, Error>
     ensures request { IfOk result (λ q. request_of (map (λ s. s.now) words.entry.now) ≡ Some q) }
 {
     let matches = matches(alloc, words)?;
-    match asked_by(alloc, &matches)? {
+    match parsed_subcommand(alloc, &matches)? {
         Some(request) => Ok(request),
-        None => Err(bad_value(alloc)?),
+        None => Err(bad_value(alloc, &matches)?),
     }
 }

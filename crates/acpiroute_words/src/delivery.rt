@@ -5,7 +5,7 @@ ghost use Rattle.acpiroute_words.specs.ErrorLines.{error_line};
 ghost use Rattle.acpiroute_words.specs.Held.{Takes};
 
 use crate::answer::Answer;
-use crate::error_line::tell;
+use crate::error_line::write_error_line;
 use crate::streams::{Failed, Sink};
 use ar_space::Refusal;
 use std::alloc::{AllocError, Global};
@@ -51,7 +51,7 @@ fn line_of(alloc: Global, refusal: &Refusal) -> Result<Vec<u8>, AllocError>
     ensures { IfOk result (λ v. v.items ≡ error_line refusal.now) }
 {
     let mut line = Vec::new(alloc);
-    match tell(&mut line, refusal) {
+    match write_error_line(&mut line, refusal) {
         Ok(()) => Ok(line),
         Err(_) => Err(AllocError),
     }

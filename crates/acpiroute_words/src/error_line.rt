@@ -73,7 +73,7 @@ fn input_line<E: Write>(errors: &mut E, number: u8, fault: &InputFault) -> io::R
 
 /// Writes the line of a refusal: `refused R`, and behind it what a reader may look for, an offset, an opcode, a
 /// descriptor's tag, a line or a path. An error where the writer fails.
-pub fn tell<E: Write>(errors: &mut E, refusal: &Refusal) -> io::Result<()>
+pub fn write_error_line<E: Write>(errors: &mut E, refusal: &Refusal) -> io::Result<()>
     ensures { OnOk result (Appends (E.contents errors.old) (E.contents errors.new) (error_line refusal.now)) }
 {
     let number = refusal.number();

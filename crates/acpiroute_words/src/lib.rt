@@ -3,11 +3,13 @@
 #![tactic(auto)]
 
 mod answer;
+mod bad_values;
 mod check_command;
 mod command_line;
 mod completion;
 mod delivery;
 mod error_line;
+mod help_texts;
 mod input;
 mod integers;
 mod put;
@@ -20,7 +22,7 @@ pub use check_command::check_answer;
 pub use command_line::parse;
 pub use completion::Completion;
 pub use delivery::{deliver, deliver_outcome};
-pub use error_line::tell;
+pub use error_line::write_error_line;
 pub use input::{Stop, read_input};
 pub use integers::Integers;
 pub use put::{put_number, put_path};

@@ -1,6 +1,4 @@
 //! What a run is to do.
-ghost use Rattle.std.specs.Prelude.{◌≡◌};
-ghost use Rattle.acpiroute_words.specs.CommandLine.{is_supported};
 
 use crate::integers::Integers;
 use ar_space::PathText;
@@ -30,18 +28,4 @@ pub enum Request {
     },
     /// Read a report, and say whether its claim is valid.
     Check,
-}
-
-impl Request {
-    /// Whether it is done: links aren't set yet.
-    pub fn is_supported(&self) -> bool
-        ensures { result ≡ is_supported self.now }
-    {
-        match self {
-            Request::Route { dry, .. } => *dry,
-            Request::Names { .. } => true,
-            Request::Eval { .. } => true,
-            Request::Check => true,
-        }
-    }
 }

@@ -30,7 +30,7 @@ fn number_of_digits(digits: &[u8]) -> Option<u64>
 
 /// The number below 2^64 that a text is: digits alone, of which the first may be zeros.
 #[tactic(auto, unfolding(crate::specs::Values::number))]
-fn number(text: &str) -> Option<u64>
+pub(crate) fn number(text: &str) -> Option<u64>
     ensures { result ≡ number text.now }
 {
     if text.is_empty() {

@@ -79,7 +79,7 @@ fn eval_value_referent<S: Space>(
     ensures means { Does result run.new (referent_of_value S.accesses (meaning S.accesses) job.entry.scope.now job.entry.depth (part_tree job.entry.term)) run.old }
 {
     let value = eval_value(alloc, run, job)?;
-    run.world.value_referent(alloc, value)
+    run.world.value_referent(value)
 }
 
 /// What the target that the first operand names holds, references followed.
@@ -94,7 +94,7 @@ fn eval_target_referent<S: Space>(
     ensures means { Does result run.new (referent_of_target S.accesses (meaning S.accesses) job.entry.scope.now job.entry.depth (part_tree job.entry.term)) run.old }
 {
     let target = eval_target(alloc, run, job, 0)?;
-    run.world.target_referent(alloc, &target)
+    run.world.target_referent(&target)
 }
 
 /// RefOf: a reference to what its operand names.

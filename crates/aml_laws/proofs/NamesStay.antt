@@ -6,40 +6,40 @@ use Rattle.aml_namespace.specs.Namespace.{Namespace, with_object, without_below}
 use Rattle.aml_meaning.specs.State.{State}
 use Rattle.aml_laws.specs.Becomes.{Becomes}
 use Rattle.aml_laws.specs.Outside.{OutsideIn, Outside, Stands, number_at}
-use Rattle.aml_laws.proofs.Outside.{Kept, kept_same, kept_twice, kept_new, kept_replaced, kept_removed, kept_released, method_apart}
-use Rattle.aml_laws.proofs.Callees.{MethodAt}
-use Rattle.aml_laws.proofs.Keeping.{Law}
-use Rattle.aml_laws.proofs.Loading.{becomes}
+use Rattle.aml_laws.proofs.OutsideOfMethods.{Kept, kept_reflexive, kept_transitive, kept_new, kept_replaced, kept_removed, kept_released, method_apart}
+use Rattle.aml_laws.proofs.FoundNamesStand.{MethodStandsAt}
+use Rattle.aml_laws.proofs.WorldRelations.{WorldRelation}
+use Rattle.aml_laws.proofs.EvaluationsPreserve.{becomes_preserves}
 
 -- at the end of a call: its control method is above no path that is outside of control methods
-pub kept_called : (u w : Namespace) (q p : List Seg) → MethodAt u.map q → (OutsideIn u.map p → Kept u.map w.map p) → OutsideIn u.map p → Kept u.map (without_below q w).map p
+pub kept_after_call : (u w : Namespace) (q p : List Seg) → MethodStandsAt u.map q → (OutsideIn u.map p → Kept u.map w.map p) → OutsideIn u.map p → Kept u.map (without_below q w).map p
 unfolding without_below
-kept_called u w q p at h o = kept_twice u.map w.map _ p (h o) (kept_removed w.map q p (method_apart u.map q p at.entry o at.there at.method) (h o).outside)
+kept_after_call u w q p at h o = kept_transitive u.map w.map _ p (h o) (kept_removed w.map q p (method_apart u.map q p at.entry o at.there at.method) (h o).outside)
 
-abbrev pub names_law : {S : Type 0} (accesses : Accesses S) → List Seg → Law accesses
-names_law accesses p = record {
-  Moves = λ w v. OutsideIn w.names.map p → Kept w.names.map v.names.map p;
-  stays = λ w o. kept_same w.names.map p o;
-  twice = λ u v w h i o. kept_twice u.names.map v.names.map w.names.map p (h o) (i (h o).outside);
-  objects = λ w h k o. kept_same w.names.map p o;
-  declares = λ w q n free o. kept_new w.names.map q _ p free o;
-  replaces = λ w q n e at is o. kept_replaced w.names.map q e (with_object n e) p at refl is o;
-  slots = λ w frames is o. kept_same w.names.map p o;
-  between = λ w v vs h o. h o;
-  removes = λ u w q at h o. kept_called u.names w.names q p at h o;
-  space = λ w s r o. kept_same w.names.map p o;
-  arities = λ w list o. kept_same w.names.map p o;
-  releases = λ w o. kept_released w.names p o;
+abbrev pub names_relation : {S : Type 0} (accesses : Accesses S) → List Seg → WorldRelation accesses
+names_relation accesses p = record {
+  Leads = λ w v. OutsideIn w.names.map p → Kept w.names.map v.names.map p;
+  reflexive = λ w o. kept_reflexive w.names.map p o;
+  transitive = λ u v w h i o. kept_transitive u.names.map v.names.map w.names.map p (h o) (i (h o).outside);
+  objects_change = λ w h k o. kept_reflexive w.names.map p o;
+  name_declared = λ w q n free o. kept_new w.names.map q _ p free o;
+  object_replaced = λ w q n e at is o. kept_replaced w.names.map q e (with_object n e) p at refl is o;
+  slots_written = λ w frames is o. kept_reflexive w.names.map p o;
+  frame_closed = λ w v vs h o. h o;
+  names_removed = λ u w q at h o. kept_after_call u.names w.names q p at h o;
+  space_accessed = λ w s r o. kept_reflexive w.names.map p o;
+  arities_set = λ w list o. kept_reflexive w.names.map p o;
+  mutexes_released = λ w o. kept_released w.names p o;
 }
 
 -- a path that is outside of control methods stays so
 pub outside_stays : {S : Type 0} (accesses : Accesses S) (w v : State S) (p : List Seg) → Becomes accesses w v → Outside w p → Outside v p
-outside_stays accesses w v p h o = (becomes (names_law accesses p) w v h o).outside
+outside_stays accesses w v p h o = (becomes_preserves (names_relation accesses p) w v h o).outside
 
 -- and a name that stands there stands there still
 pub names_stay : {S : Type 0} (accesses : Accesses S) (w v : State S) (p : List Seg) → Becomes accesses w v → Outside w p → Stands w p → Stands v p
-names_stay accesses w v p h o st = (becomes (names_law accesses p) w v h o).stands st
+names_stay accesses w v p h o st = (becomes_preserves (names_relation accesses p) w v h o).stands st
 
 -- under the number of its declaration
 pub numbers_stay : {S : Type 0} (accesses : Accesses S) (w v : State S) (p : List Seg) (n : ℕ) → Becomes accesses w v → Outside w p → number_at w p ≡ Some n → number_at v p ≡ Some n
-numbers_stay accesses w v p n h o e = (becomes (names_law accesses p) w v h o).number n e
+numbers_stay accesses w v p n h o e = (becomes_preserves (names_relation accesses p) w v h o).number n e

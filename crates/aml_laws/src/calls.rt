@@ -14,7 +14,7 @@ ghost use Rattle.aml_laws.specs.Numbers.{numbers_of};
 
 /// After a call of a control method no name stands below it, if its body began, however that ended; a call that is refused
 /// before leaves the world as it is. In either case the same frames stand as before. The end of a call removes no other name.
-#[tactic(auto, using(crate::proofs::Called::none_below_called, crate::proofs::Called::refused_call, crate::proofs::Called::others_stay, crate::proofs::Balance::call_balanced))]
+#[tactic(auto, using(crate::proofs::EndOfCalls::none_below_after_call, crate::proofs::EndOfCalls::refused_call_changes_nothing, crate::proofs::EndOfCalls::other_names_stay, crate::proofs::FrameNumbers::call_is_balanced))]
 pub fn calls_leave_nothing<S>()
     ensures begun { (accesses : Accesses S) (depth : ℕ) (p : List Seg) (body : List ℕ) (arguments : List Value) (s : State S × ℕ) (n : ℕ) →
         (body_frame depth p body arguments s.0).0 ≡ Ok n → NoneBelow (invoked (meaning accesses) depth p body arguments s).1.0 p }

@@ -10,6 +10,7 @@ mod names;
 mod numbers;
 mod objects;
 mod reading;
+mod references;
 mod space;
 mod steps;
 
@@ -22,5 +23,9 @@ pub use names::{declared_names_stand, names_stay, outside_of_control_methods};
 pub use numbers::{numbers_are_given_once, numbers_never_fall, what_is_gone_stays_gone};
 pub use objects::objects_keep_number_and_kind;
 pub use reading::terms_of_bytes_hold_bytes;
+pub use references::{
+    a_reference_refers_to_its_target, a_reference_to_a_name_finds_its_declaration,
+    a_reference_to_a_slot_reads_that_slot,
+};
 pub use space::space_is_reached_by_accesses;
-pub use steps::no_more_terms_than_steps;
+pub use steps::{no_more_terms_than_steps, terms_that_begin_are_counted};

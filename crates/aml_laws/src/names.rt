@@ -15,7 +15,7 @@ ghost use Rattle.aml_laws.specs.Declares.{Declares, IsItem};
 
 /// A path is outside of control methods where at each path above it stands a name, and that of no control method. So the root
 /// is, and each path one level below a name that is outside of control methods and is none itself.
-#[tactic(auto, using(crate::proofs::Outside::outside_root, crate::proofs::Outside::outside_below))]
+#[tactic(auto, using(crate::proofs::OutsideOfMethods::outside_root, crate::proofs::OutsideOfMethods::outside_below))]
 pub fn outside_of_control_methods<S>()
     ensures root { (w : State S) → Outside w [] }
     ensures below { (w : State S) (path : List Seg) (segment : Seg) → Outside w path → is_open (get w.names.map path) ≡ true → Outside w (path ++ segment ∷ []) }
@@ -34,7 +34,7 @@ pub fn names_stay<S>()
 /// the operand stands for in its scope (the fields of a list, whose names its elements declare, aren't meant); and a list that is
 /// evaluated to its end leaves there the names of all its terms whose paths were outside of control methods when it began. The
 /// list of a device or another scope is evaluated so in the path of that scope.
-#[tactic(auto, using(crate::proofs::Placing::declares_stands, crate::proofs::Placing::items_stand))]
+#[tactic(auto, using(crate::proofs::DeclaredNamesStand::term_declares_name, crate::proofs::DeclaredNamesStand::items_stand))]
 pub fn declared_names_stand<S>()
     ensures term { (accesses : Accesses S) (scope : List Seg) (depth : ℕ) (t : Tree) (path : List Seg) (s : State S × ℕ) (f : Flow) →
         Declares scope t path → Outside s.0 path → (meaning accesses (task scope depth t) s).0 ≡ Ok f → Stands (meaning accesses (task scope depth t) s).1.0 path }

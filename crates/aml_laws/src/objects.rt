@@ -6,7 +6,7 @@ ghost use Rattle.aml_laws.specs.Becomes.{Becomes};
 ghost use Rattle.aml_laws.specs.Kinds.{KeepsKinds};
 
 /// No object goes: a string, a buffer or a package is one as long as the world stands, under the number that it got.
-#[tactic(auto, using(crate::proofs::KindsKept::kinds_kept))]
+#[tactic(auto, using(crate::proofs::ObjectKindsStay::object_kinds_stay))]
 pub fn objects_keep_number_and_kind<S>()
     ensures kept { (accesses : Accesses S) (w v : State S) → Becomes accesses w v → KeepsKinds w.objects v.objects }
 {}

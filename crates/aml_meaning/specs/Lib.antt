@@ -1,4 +1,4 @@
-pub mod Belonging
+pub mod Validity
 pub mod Calling
 pub mod DataTerms
 pub mod DeclarationTerms

@@ -1,7 +1,6 @@
 //! What AML means: the world that evaluation changes, and what changes it (ACPI 6.5, 5.3, 5.5 and 19.3.5).
 #![tactic(auto)]
 
-mod belonging;
 mod buffer_fields;
 mod datum;
 mod declarations;
@@ -33,6 +32,7 @@ mod stores;
 mod tables;
 mod targets;
 mod term_kind;
+mod validity;
 mod world;
 mod world_state;
 

@@ -174,7 +174,8 @@ impl<S> WorldState<S> {
         first: Value,
         second: Value,
     ) -> Result<Value, Refusal>
-        ensures { Does result self.now (operated operator first second) self.now }
+        ensures answer { Does result self.now (operated operator first second) self.now }
+        ensures memory { NotMemory result }
     {
         let x = self.integer_in(first)?;
         let y = self.integer_in(second)?;
@@ -183,14 +184,16 @@ impl<S> WorldState<S> {
 
     #[tactic(auto, unfolding(crate::specs::Operations::integers_operated))]
     fn integers_operated(&self, operator: BinaryOperator, x: u64, y: u64) -> Result<Value, Refusal>
-        ensures { Does result self.now (integers_operated operator x y) self.now }
+        ensures answer { Does result self.now (integers_operated operator x y) self.now }
+        ensures memory { NotMemory result }
     {
         integer(operate(operator, self.width, x, y))
     }
 
     #[tactic(auto, using(ar_space::specs::Change::changing), unfolding(crate::specs::Operations::operated_on_one))]
     fn operate_on_integer(&self, operator: UnaryOperator, value: Value) -> Result<Value, Refusal>
-        ensures { Does result self.now (operated_on_one operator value) self.now }
+        ensures answer { Does result self.now (operated_on_one operator value) self.now }
+        ensures memory { NotMemory result }
     {
         let x = self.integer_in(value)?;
         self.integer_operated(operator, x)
@@ -211,7 +214,8 @@ impl<S> WorldState<S> {
         first: Value,
         second: Value,
     ) -> Result<Value, Refusal>
-        ensures { Does result self.now (operated_logically operator first second) self.now }
+        ensures answer { Does result self.now (operated_logically operator first second) self.now }
+        ensures memory { NotMemory result }
     {
         let x = self.integer_in(first)?;
         let y = self.integer_in(second)?;
@@ -322,7 +326,8 @@ impl<S> WorldState<S> {
 
     #[tactic(auto, unfolding(crate::specs::Operations::to_integer_in))]
     fn to_integer(&self, value: Value) -> Result<Value, Refusal>
-        ensures { Does result self.now (to_integer_in value) self.now }
+        ensures answer { Does result self.now (to_integer_in value) self.now }
+        ensures memory { NotMemory result }
     {
         integer(explicit_integer(self.width, self.heap.content(value)))
     }

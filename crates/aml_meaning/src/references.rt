@@ -144,7 +144,8 @@ impl<S> WorldState<S> {
 
     #[tactic(auto, using(ar_space::specs::Change::changing), unfolding(crate::specs::Stores::store_byte))]
     fn store_byte(&mut self, object: usize, index: usize, value: Value) -> Result<Stored, Refusal>
-        ensures { Does result self.new (store_byte object index value) self.old }
+        ensures change { Does result self.new (store_byte object index value) self.old }
+        ensures memory { NotMemory result }
     {
         self.byte(object, index)?;
         let byte = self.byte_in(value)?;

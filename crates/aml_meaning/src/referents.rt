@@ -1,6 +1,7 @@
 //! What references refer to in the end (ACPI 6.5, 19.6: SizeOf, ObjectType).
 ghost use Rattle.std.specs.Prelude.{◌≡◌};
 ghost use Rattle.ar_space.specs.Change.{Does};
+ghost use Rattle.ar_space.specs.Outcome.{NotMemory};
 ghost use Rattle.aml_meaning.specs.StoreTargets.{referent_of, element_named, value_followed, referent_followed, declared_followed, slot_followed, name_followed, element_followed, held_followed, byte_followed, reference_followed, followed, most_references, slot_referent, declared_referent, name_referent, target_referent};
 
 use crate::object_type::{ObjectType, Referent};
@@ -10,7 +11,6 @@ use crate::world_state::WorldState;
 use aml_objects::{Element, Field, NamedObject, Reference, Slot, Value};
 use aml_path::{NameString, Path};
 use ar_space::{EvaluationFault, NamespaceFault, Refusal};
-use std::alloc::Global;
 
 /// How many references are followed one after another.
 pub(crate) const MOST_REFERENCES: usize = 64;
@@ -20,43 +20,48 @@ impl<S> WorldState<S> {
     /// is handed back, for its value to be read. A reference to what is gone, and a longer chain, are refused as
     /// `DeadReference`.
     #[tactic(auto, using(ar_space::specs::Change::changing))]
-    pub fn target_referent(&self, alloc: Global, target: &StoreTarget) -> Result<Referent, Refusal>
-        ensures { Does result self.now (target_referent target.now) self.now }
+    pub fn target_referent(&self, target: &StoreTarget) -> Result<Referent, Refusal>
+        ensures answer { Does result self.now (target_referent target.now) self.now }
+        ensures memory { NotMemory result }
     {
         match target {
             StoreTarget::Nowhere => Ok(Referent::Object(ObjectType::DebugObject)),
-            StoreTarget::Slot(slot) => self.slot_referent(alloc, *slot),
-            StoreTarget::Name(path) => self.name_referent(alloc, path),
-            StoreTarget::Refers(reference) => follow(alloc, self, MOST_REFERENCES, *reference),
+            StoreTarget::Slot(slot) => self.slot_referent(*slot),
+            StoreTarget::Name(path) => self.name_referent(path),
+            StoreTarget::Refers(reference) => follow(self, MOST_REFERENCES, *reference),
         }
     }
 
     /// What a value refers to when references are followed, at most 64 of them; itself where it is no reference.
-    pub fn value_referent(&self, alloc: Global, value: Value) -> Result<Referent, Refusal>
-        ensures { Does result self.now (value_followed (followed most_references) value) self.now }
+    pub fn value_referent(&self, value: Value) -> Result<Referent, Refusal>
+        ensures answer { Does result self.now (value_followed (followed most_references) value) self.now }
+        ensures memory { NotMemory result }
     {
-        value_followed(alloc, self, MOST_REFERENCES, value)
+        value_followed(self, MOST_REFERENCES, value)
     }
 
     #[tactic(auto, using(ar_space::specs::Change::changing), unfolding(crate::specs::StoreTargets::slot_referent))]
-    fn slot_referent(&self, alloc: Global, slot: Slot) -> Result<Referent, Refusal>
-        ensures { Does result self.now (slot_referent slot) self.now }
+    fn slot_referent(&self, slot: Slot) -> Result<Referent, Refusal>
+        ensures answer { Does result self.now (slot_referent slot) self.now }
+        ensures memory { NotMemory result }
     {
         let value = self.own_slot(slot)?;
-        value_followed(alloc, self, MOST_REFERENCES, value)
+        value_followed(self, MOST_REFERENCES, value)
     }
 
     #[tactic(auto, using(ar_space::specs::Change::changing), unfolding(crate::specs::StoreTargets::name_referent))]
-    fn name_referent(&self, alloc: Global, path: &Path) -> Result<Referent, Refusal>
-        ensures { Does result self.now (name_referent path.now) self.now }
+    fn name_referent(&self, path: &Path) -> Result<Referent, Refusal>
+        ensures answer { Does result self.now (name_referent path.now) self.now }
+        ensures memory { NotMemory result }
     {
         let referent = self.declared_referent(path)?;
-        referent_followed(alloc, self, MOST_REFERENCES, referent)
+        referent_followed(self, MOST_REFERENCES, referent)
     }
 
     #[tactic(auto, unfolding(crate::specs::StoreTargets::declared_referent))]
     fn declared_referent(&self, path: &Path) -> Result<Referent, Refusal>
-        ensures { Does result self.now (declared_referent path.now) self.now }
+        ensures answer { Does result self.now (declared_referent path.now) self.now }
+        ensures memory { NotMemory result }
     {
         match self.names.get(path) {
             None => Err(Refusal::Namespace(NamespaceFault::NotFound)),
@@ -88,12 +93,12 @@ fn referent_of(object: &NamedObject) -> Referent
 #[cycle(following)]
 #[tactic(auto, using(ar_space::specs::Change::changing))]
 fn value_followed<S>(
-    alloc: Global,
     world: &WorldState<S>,
     levels: usize,
     value: Value,
 ) -> Result<Referent, Refusal>
-    ensures { Does result world.now (value_followed (followed levels) value) world.now }
+    ensures answer { Does result world.now (value_followed (followed levels) value) world.now }
+    ensures memory { NotMemory result }
 {
     match value {
         Value::Uninitialized => Ok(Referent::Value(Value::Uninitialized)),
@@ -101,22 +106,22 @@ fn value_followed<S>(
         Value::String(object) => Ok(Referent::Value(Value::String(object))),
         Value::Buffer(object) => Ok(Referent::Value(Value::Buffer(object))),
         Value::Package(object) => Ok(Referent::Value(Value::Package(object))),
-        Value::Reference(reference) => follow(alloc, world, levels, reference),
+        Value::Reference(reference) => follow(world, levels, reference),
     }
 }
 
 #[cycle(following)]
 #[tactic(auto, using(ar_space::specs::Change::changing))]
 fn referent_followed<S>(
-    alloc: Global,
     world: &WorldState<S>,
     levels: usize,
     referent: Referent,
 ) -> Result<Referent, Refusal>
-    ensures { Does result world.now (referent_followed (followed levels) referent) world.now }
+    ensures answer { Does result world.now (referent_followed (followed levels) referent) world.now }
+    ensures memory { NotMemory result }
 {
     match referent {
-        Referent::Value(value) => value_followed(alloc, world, levels, value),
+        Referent::Value(value) => value_followed(world, levels, value),
         Referent::Object(object_type) => Ok(Referent::Object(object_type)),
         Referent::Field(field) => Ok(Referent::Field(field)),
         Referent::Bytes(count) => Ok(Referent::Bytes(count)),
@@ -127,33 +132,33 @@ fn referent_followed<S>(
 #[cycle(following)]
 #[tactic(auto, using(crate::proofs::Following::following))]
 fn follow<S>(
-    alloc: Global,
     world: &WorldState<S>,
     levels: usize,
     reference: Reference,
 ) -> Result<Referent, Refusal>
-    ensures { Does result world.now (followed levels reference) world.now }
+    ensures answer { Does result world.now (followed levels reference) world.now }
+    ensures memory { NotMemory result }
 {
     if levels == 0 {
         return Err(Refusal::Evaluation(EvaluationFault::DeadReference));
     }
-    reference_followed(alloc, world, levels - 1, reference)
+    reference_followed(world, levels - 1, reference)
 }
 
 #[cycle(following)]
 #[tactic(auto, using(ar_space::specs::Change::changing))]
 fn reference_followed<S>(
-    alloc: Global,
     world: &WorldState<S>,
     levels: usize,
     reference: Reference,
 ) -> Result<Referent, Refusal>
-    ensures { Does result world.now (reference_followed (followed levels) reference) world.now }
+    ensures answer { Does result world.now (reference_followed (followed levels) reference) world.now }
+    ensures memory { NotMemory result }
 {
     match reference {
-        Reference::Name(number) => declared_followed(alloc, world, levels, number),
-        Reference::Slot(number, slot) => slot_followed(alloc, world, levels, number, slot),
-        Reference::Element(object, index) => held_followed(alloc, world, levels, object, index),
+        Reference::Name(number) => declared_followed(world, levels, number),
+        Reference::Slot(number, slot) => slot_followed(world, levels, number, slot),
+        Reference::Element(object, index) => held_followed(world, levels, object, index),
         Reference::Byte(object, index) => byte_followed(world, object, index),
     }
 }
@@ -161,102 +166,103 @@ fn reference_followed<S>(
 #[cycle(following)]
 #[tactic(auto, using(ar_space::specs::Change::changing), unfolding(crate::specs::StoreTargets::declared_followed))]
 fn declared_followed<S>(
-    alloc: Global,
     world: &WorldState<S>,
     levels: usize,
     number: u64,
 ) -> Result<Referent, Refusal>
-    ensures { Does result world.now (declared_followed (followed levels) number) world.now }
+    ensures answer { Does result world.now (declared_followed (followed levels) number) world.now }
+    ensures memory { NotMemory result }
 {
     let found = world.declaration(number)?;
-    referent_followed(alloc, world, levels, referent_of(&found.1.object))
+    referent_followed(world, levels, referent_of(&found.1.object))
 }
 
 #[cycle(following)]
 #[tactic(auto, using(ar_space::specs::Change::changing), unfolding(crate::specs::StoreTargets::slot_followed))]
 fn slot_followed<S>(
-    alloc: Global,
     world: &WorldState<S>,
     levels: usize,
     number: u64,
     slot: Slot,
 ) -> Result<Referent, Refusal>
-    ensures { Does result world.now (slot_followed (followed levels) number slot) world.now }
+    ensures answer { Does result world.now (slot_followed (followed levels) number slot) world.now }
+    ensures memory { NotMemory result }
 {
     let index = world.frame_found(number)?;
     let value = world.slot_held(index, slot)?;
-    value_followed(alloc, world, levels, value)
+    value_followed(world, levels, value)
 }
 
 #[cycle(following)]
 #[tactic(auto, using(ar_space::specs::Change::changing), unfolding(crate::specs::StoreTargets::held_followed))]
 fn held_followed<S>(
-    alloc: Global,
     world: &WorldState<S>,
     levels: usize,
     object: usize,
     index: usize,
 ) -> Result<Referent, Refusal>
-    ensures { Does result world.now (held_followed (followed levels) object index) world.now }
+    ensures answer { Does result world.now (held_followed (followed levels) object index) world.now }
+    ensures memory { NotMemory result }
 {
     let element = world.element(object, index)?;
-    element_followed(alloc, world, levels, element)
+    element_followed(world, levels, element)
 }
 
 #[cycle(following)]
 #[tactic(auto, using(ar_space::specs::Change::changing))]
 fn element_followed<S>(
-    alloc: Global,
     world: &WorldState<S>,
     levels: usize,
     element: &Element,
 ) -> Result<Referent, Refusal>
-    ensures { Does result world.now (element_followed (followed levels) element.now) world.now }
+    ensures answer { Does result world.now (element_followed (followed levels) element.now) world.now }
+    ensures memory { NotMemory result }
 {
     match element {
-        Element::Value(value) => value_followed(alloc, world, levels, *value),
-        Element::Name(name, scope) => name_followed(alloc, world, levels, name, scope),
+        Element::Value(value) => value_followed(world, levels, *value),
+        Element::Name(name, scope) => name_followed(world, levels, name, scope),
     }
 }
 
 #[cycle(following)]
 #[tactic(auto, using(ar_space::specs::Change::changing), unfolding(crate::specs::StoreTargets::name_followed))]
 fn name_followed<S>(
-    alloc: Global,
     world: &WorldState<S>,
     levels: usize,
     name: &NameString,
     scope: &Path,
 ) -> Result<Referent, Refusal>
-    ensures { Does result world.now (name_followed (followed levels) name.now scope.now) world.now }
+    ensures answer { Does result world.now (name_followed (followed levels) name.now scope.now) world.now }
+    ensures memory { NotMemory result }
 {
     let entry = world.entry(scope, name)?;
-    element_named(alloc, world, levels, entry.number, &entry.object)
+    element_named(world, levels, entry.number, &entry.object)
 }
 
 /// What the name in an element of a package stands for: the value of its data or of its field, and else a reference to it.
 #[cycle(following)]
 #[tactic(auto, using(ar_space::specs::Change::changing))]
 fn element_named<S>(
-    alloc: Global,
     world: &WorldState<S>,
     levels: usize,
     number: u64,
     object: &NamedObject,
 ) -> Result<Referent, Refusal>
-    ensures { Does result world.now (element_named (followed levels) number object.now) world.now }
+    ensures answer { Does result world.now (element_named (followed levels) number object.now) world.now }
+    ensures memory { NotMemory result }
 {
     match object {
-        NamedObject::Data(value) => value_followed(alloc, world, levels, read_as(number, *value)),
+        NamedObject::Data(value) => value_followed(world, levels, read_as(number, *value)),
         NamedObject::FieldUnit(unit) => Ok(Referent::Field(Field::Unit(*unit))),
         NamedObject::BufferField(field) => Ok(Referent::Field(Field::Buffer(*field))),
-        _ => follow(alloc, world, levels, Reference::Name(number)),
+        _ => follow(world, levels, Reference::Name(number)),
     }
 }
 
 #[tactic(auto, using(ar_space::specs::Change::changing), unfolding(crate::specs::StoreTargets::byte_followed))]
 fn byte_followed<S>(world: &WorldState<S>, object: usize, index: usize) -> Result<Referent, Refusal>
-    ensures { Does result world.now (byte_followed object index) world.now }
+    ensures answer { Does result world.now (byte_followed object index) world.now }
+    ensures memory { NotMemory result }
 {
     world.byte(object, index)?;
     Ok(Referent::Object(ObjectType::BufferField))

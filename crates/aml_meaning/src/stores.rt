@@ -1,7 +1,7 @@
 //! Storing values (ACPI 6.5, 19.3.5.8 and 19.6: Store, CopyObject).
 ghost use Rattle.std.specs.Prelude.{◌≡◌};
 ghost use Rattle.ar_space.specs.Change.{Does};
-ghost use Rattle.ar_space.specs.Outcome.{Answers};
+ghost use Rattle.ar_space.specs.Outcome.{Answers, NotMemory};
 ghost use Rattle.aml_objects.specs.declared.entry.NamedObject.TheVariants.{Data};
 ghost use Rattle.aml_namespace.specs.Namespace.{replaced};
 ghost use Rattle.aml_meaning.specs.State.{on_names};
@@ -126,7 +126,8 @@ impl<S> WorldState<S> {
 
     #[tactic(auto, using(ar_space::specs::Change::changing), unfolding(crate::specs::Stores::store_integer))]
     fn store_integer(&mut self, path: &Path, value: Value) -> Result<Stored, Refusal>
-        ensures { Does result self.new (store_integer path.now value) self.old }
+        ensures change { Does result self.new (store_integer path.now value) self.old }
+        ensures memory { NotMemory result }
     {
         let number = self.integer_in(value)?;
         self.put_data(path, Value::Integer(number))?;
@@ -200,7 +201,8 @@ impl<S> WorldState<S> {
     /// The name at a path holds a value from now on.
     #[tactic(auto, using(crate::proofs::Lifted::parts))]
     fn put_data(&mut self, path: &Path, value: Value) -> Result<(), Refusal>
-        ensures { Does result self.new (on_names (replaced path.now (Data value))) self.old }
+        ensures change { Does result self.new (on_names (replaced path.now (Data value))) self.old }
+        ensures memory { NotMemory result }
     {
         self.names.replace(path, NamedObject::Data(value))
     }
@@ -223,7 +225,8 @@ impl<S> WorldState<S> {
     /// A slot of the frame at an index holds a value from now on.
     #[tactic(auto, unfolding(crate::specs::Stores::slot_put))]
     fn slot_put(&mut self, frame: usize, slot: Slot, value: Value) -> Result<(), Refusal>
-        ensures { Does result self.new (slot_put frame slot value) self.old }
+        ensures change { Does result self.new (slot_put frame slot value) self.old }
+        ensures memory { NotMemory result }
     {
         if frame < self.frames.len() {
             let before = self.frames[frame];

@@ -2,7 +2,7 @@
 ghost use Rattle.std.specs.Prelude.{◌≡◌, ◌≢◌, Ok, Err, IfOk, IfErr};
 ghost use Rattle.ar_space.specs.declared.refusal.Refusal.TheVariants.{OutOfMemory};
 ghost use Rattle.aml_meaning.specs.Predefined.{fresh, predefined};
-ghost use Rattle.aml_meaning.specs.Belonging.{value_belongs};
+ghost use Rattle.aml_meaning.specs.Validity.{is_valid_value};
 
 use crate::running::Running;
 use crate::world_state::WorldState;
@@ -91,9 +91,9 @@ impl<S> World<S> {
     /// Whether a value is one of this world: each object, declaration and frame that it names was given its number by this
     /// world, though a declaration or a frame may have ended since. Neither the elements of a package are looked at, nor whether
     /// an object is of the value's kind. It takes no memory.
-    pub fn holds(&self, value: &Value) -> bool
-        ensures { result ≡ value_belongs self.now value.now }
+    pub fn is_valid(&self, value: &Value) -> bool
+        ensures { result ≡ is_valid_value self.now value.now }
     {
-        self.running.world.holds(value)
+        self.running.world.is_valid(value)
     }
 }

@@ -122,7 +122,7 @@ fn write(alloc: Global, world: &mut World<Traced<Sparse>>, rest: &str) -> Result
 
 /// `holds VALUE`: whether all that a value names was given by the world.
 fn holds(alloc: Global, world: &World<Traced<Sparse>>, rest: &str) -> Result<String, Trouble> {
-    truth(alloc, world.holds(&value(rest)?))
+    truth(alloc, world.is_valid(&value(rest)?))
 }
 
 /// `frame VALUE`: opens the frame of a call in which Arg1 has this value, and gives its number.

@@ -9,7 +9,7 @@ use Rattle.ar_space.specs.Bytes.{Bytes, byte_at, no_bytes}
 use Rattle.ar_space.specs.Registers.{register_cmp}
 use Rattle.ar_space.specs.declared.space.Place.{Place}
 use Rattle.ar_space.specs.declared.space.Place.TheVariants as place
-use Rattle.machine_text.specs.MachineText.{put_all, line, lines_read, nothing_said, said_of, said, machine_text}
+use Rattle.machine_text.specs.MachineText.{put_all, line, lines_read, nothing_said, finished_with, finished, machine_text}
 use Rattle.machine_text.specs.Given.{GivesBytes, Gives, NoneGives, LastGives}
 use Rattle.machine_text.specs.declared.draft.Draft.{Draft}
 use Rattle.machine_text.specs.declared.machine_lines.MachineText.{MachineText}
@@ -122,10 +122,10 @@ record TextLines (bytes : List ℕ) (t : MachineText) : Type 0 where
 text_lines : (bytes : List ℕ) (t : MachineText) → machine_text bytes ≡ Ok t → TextLines bytes t
 unfolding machine_text
 text_lines bytes t is =
-    let c = came (lines_read 1 (lines bytes) nothing_said) said t is in
+    let c = came (lines_read 1 (lines bytes) nothing_said) finished t is in
     record { draft = c.before; read = c.is; space_is = by_root c.before.rsdp c.before.space c.before.osi c.rest }
   where
-    by_root : (o : Option ℕ) (space : Bytes) (osi : List (List ℕ)) → said_of o space osi ≡ Ok t → t.space ≡ space
+    by_root : (o : Option ℕ) (space : Bytes) (osi : List (List ℕ)) → finished_with o space osi ≡ Ok t → t.space ≡ space
     by_root None space osi e = absurd (cc e)
     by_root (Some a) space osi e =
         let same : record { rsdp = a; space = space; osi = osi } ≡ t = cc e in

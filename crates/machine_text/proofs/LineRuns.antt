@@ -8,7 +8,7 @@ use Rattle.ar_space.specs.Outcome.{Outcome, ◌>>=◌}
 use Rattle.ar_space.specs.Bytes.{Bytes}
 use Rattle.text_words.specs.Words.{words, words_left, tail_of}
 use Rattle.machine_text.specs.Words.{number, word_bytes}
-use Rattle.machine_text.specs.MachineText.{last_of, put_all, here, bad, numbered, with_word, bytes_after, all_bytes, placed, configured, root, text, keyed, line, is_silent}
+use Rattle.machine_text.specs.MachineText.{last_of, put_all, here, bad_line, numbered, with_word, bytes_after, all_bytes, placed, configured, root, text, keyed, line, is_silent}
 use Rattle.machine_text.specs.Given.{Names, GivesBytes}
 use Rattle.machine_text.specs.declared.draft.Draft.{Draft}
 use Rattle.machine_text.specs.declared.address_space.AddressSpace.{AddressSpace}
@@ -96,7 +96,7 @@ unfolding placed
 placed_read n in_space b ws b' e =
     let a = came (numbered n (last_of in_space) ws) _ b' e in
     let bs = came (all_bytes n a.before.1) _ b' a.rest in
-    elim (if_cases (nat_le (a.before.0 + length bs.before) (last_of in_space + 1)) (Ok (put_all in_space b a.before.0 bs.before)) (bad n) (Ok b') bs.rest) [
+    elim (if_cases (nat_le (a.before.0 + length bs.before) (last_of in_space + 1)) (Ok (put_all in_space b a.before.0 bs.before)) (bad_line n) (Ok b') bs.rest) [
       | inl t ↦ record {
         first = a.before.0;
         others = a.before.1;

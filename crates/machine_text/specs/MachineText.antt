@@ -37,8 +37,8 @@ abbrev pub is_text : List ℕ → Bool
 is_text t = nat_lt 0 (length t) && (nat_le (length t) 255 && list_all (λ b. nat_lt b 128) t)
 
 module _ (n : ℕ) where
-  abbrev pub bad : {A : Type 0} → Outcome A
-  bad = Err (Input (MachineLine n))
+  abbrev pub bad_line : {A : Type 0} → Outcome A
+  bad_line = Err (Input (MachineLine n))
 
   -- what is there, or the line is refused
   abbrev pub here : {A : Type 0} → Option A → Outcome A
@@ -46,13 +46,13 @@ module _ (n : ℕ) where
 
   -- the first of the words, and the others
   abbrev pub word : List (List ℕ) → Outcome (List ℕ × List (List ℕ))
-  word [] = bad
+  word [] = bad_line
   word (w ∷ ws) = Ok (w, ws)
 
   -- no word is left
   abbrev pub ended : List (List ℕ) → Outcome (Unit {0})
   ended [] = Ok tt
-  ended (w ∷ ws) = bad
+  ended (w ∷ ws) = bad_line
 
   -- the first of the words as a number, and the others
   unfoldable pub numbered : ℕ → List (List ℕ) → Outcome (ℕ × List (List ℕ))
@@ -85,7 +85,7 @@ module _ (n : ℕ) where
   placed in_space bytes ws = do
     a ← numbered (last_of in_space) ws
     bs ← all_bytes a.1
-    if nat_le (a.0 + length bs) (last_of in_space + 1) then Ok (put_all in_space bytes a.0 bs) else bad
+    if nat_le (a.0 + length bs) (last_of in_space + 1) then Ok (put_all in_space bytes a.0 bs) else bad_line
 
   -- `S B D F R bytes..`: segment group, bus, device and function, and the bytes from register R on
   unfoldable pub configured : Bytes → List (List ℕ) → Outcome Bytes
@@ -101,12 +101,12 @@ module _ (n : ℕ) where
   root rsdp ws = do
     a ← numbered 0xFFFFFFFFFFFFFFFF ws
     _ ← ended a.1
-    if is_some rsdp then bad else Ok (Some a.0)
+    if is_some rsdp then bad_line else Ok (Some a.0)
 
   -- the rest of the line, in at most 64 lines
   unfoldable pub text : List (List ℕ) → Option (List ℕ) → Outcome (List (List ℕ))
-  text osi None = bad
-  text osi (Some t) = if is_text t && nat_lt (length osi) 64 then Ok (osi ++ t ∷ []) else bad
+  text osi None = bad_line
+  text osi (Some t) = if is_text t && nat_lt (length osi) 64 then Ok (osi ++ t ∷ []) else bad_line
 
   -- a line by its first word
   unfoldable pub keyed : List ℕ → Option (List ℕ) → Draft → Outcome Draft
@@ -126,7 +126,7 @@ module _ (n : ℕ) where
       else if bytes_eq key (codes "rsdp") then (do
         address ← root d.rsdp (words_left tail)
         Ok (record d { rsdp = address }))
-      else bad
+      else bad_line
 
   -- a blank line and a line that begins with # say nothing
   abbrev pub is_silent : List ℕ → Bool
@@ -147,15 +147,15 @@ abbrev pub nothing_said : Draft
 nothing_said = record { rsdp = None; space = no_bytes; osi = [] }
 
 -- what all lines said: the RSDP's address is among it, or line 0 is refused
-abbrev pub said_of : Option ℕ → Bytes → List (List ℕ) → Outcome MachineText
-said_of None space osi = bad 0
-said_of (Some address) space osi = Ok (record { rsdp = address; space = space; osi = osi })
+abbrev pub finished_with : Option ℕ → Bytes → List (List ℕ) → Outcome MachineText
+finished_with None space osi = bad_line 0
+finished_with (Some address) space osi = Ok (record { rsdp = address; space = space; osi = osi })
 
-abbrev pub said : Draft → Outcome MachineText
-said d = said_of d.rsdp d.space d.osi
+abbrev pub finished : Draft → Outcome MachineText
+finished d = finished_with d.rsdp d.space d.osi
 
 -- what a machine text says
 unfoldable pub machine_text : List ℕ → Outcome MachineText
 machine_text bytes = do
   d ← lines_read 1 (lines bytes) nothing_said
-  said d
+  finished d

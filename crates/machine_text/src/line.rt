@@ -7,7 +7,7 @@ ghost use Rattle.machine_text.specs.MachineText.{last_of, placed, configured, ro
 use crate::address_space::AddressSpace;
 use crate::draft::Draft;
 use crate::osi_texts::OsiTexts;
-use crate::words::{bad, bytes, ended, number};
+use crate::words::{bad_line, bytes, ended, number};
 use ar_space::{Refusal, Sparse};
 use std::alloc::Global;
 use text_words::{Words, cut};
@@ -32,7 +32,7 @@ fn placed(
     let first = number(n, last, words)?;
     let bytes = bytes(alloc, n, words)?;
     if !fits(first, bytes.len(), last) {
-        return Err(bad(n));
+        return Err(bad_line(n));
     }
     in_space.put_all(space, first, bytes.as_slice())?;
     Ok(())
@@ -77,7 +77,7 @@ fn root(n: usize, rsdp: Option<u64>, words: &mut Words<'_>) -> Result<Option<u64
     let address = number(n, u64::MAX, words)?;
     ended(n, words)?;
     if rsdp.is_some() {
-        return Err(bad(n));
+        return Err(bad_line(n));
     }
     Ok(Some(address))
 }
@@ -93,10 +93,10 @@ fn text(alloc: Global, n: usize, osi: &mut OsiTexts, tail: Option<&[u8]>) -> Res
                 osi.push(alloc, text)?;
                 Ok(())
             } else {
-                Err(bad(n))
+                Err(bad_line(n))
             }
         }
-        None => Err(bad(n)),
+        None => Err(bad_line(n)),
     }
 }
 
@@ -148,7 +148,7 @@ fn keyed(
         draft.rsdp = root(n, draft.rsdp, &mut Words::new(tail))?;
         Ok(())
     } else {
-        Err(bad(n))
+        Err(bad_line(n))
     }
 }
 

@@ -2,12 +2,12 @@
 ghost use Rattle.std.specs.Prelude.{◌≡◌, ◌∷◌, ◌<◌, length};
 ghost use Rattle.std.specs.Str.Lines.{lines, strip_carriage_return};
 ghost use Rattle.ar_space.specs.Outcome.{Answers, seen};
-ghost use Rattle.machine_text.specs.MachineText.{lines_read, said, machine_text};
+ghost use Rattle.machine_text.specs.MachineText.{lines_read, finished, machine_text};
 
 use crate::draft::Draft;
 use crate::line::line;
 use crate::osi_texts::OsiTexts;
-use crate::words::bad;
+use crate::words::bad_line;
 use ar_space::{Refusal, Sparse};
 use std::alloc::Global;
 use text_words::cut_at;
@@ -64,8 +64,8 @@ fn lines_read(alloc: Global, text: &[u8], draft: &mut Draft) -> Result<(), Refus
 
 /// What all lines said.
 #[tactic(auto, using(ar_space::specs::Outcome::answering))]
-fn said(draft: Draft) -> Result<MachineText, Refusal>
-    ensures { Answers result (said draft) }
+fn finished(draft: Draft) -> Result<MachineText, Refusal>
+    ensures { Answers result (finished draft) }
 {
     match draft.rsdp {
         Some(rsdp) => Ok(MachineText {
@@ -73,7 +73,7 @@ fn said(draft: Draft) -> Result<MachineText, Refusal>
             space: draft.space,
             osi: draft.osi,
         }),
-        None => Err(bad(0)),
+        None => Err(bad_line(0)),
     }
 }
 
@@ -98,5 +98,5 @@ pub fn read_machine(alloc: Global, text: &[u8]) -> Result<MachineText, Refusal>
 {
     let mut draft = Draft::new(alloc);
     lines_read(alloc, text, &mut draft)?;
-    said(draft)
+    finished(draft)
 }

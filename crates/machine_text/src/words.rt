@@ -12,7 +12,7 @@ use std::alloc::Global;
 use text_words::Words;
 
 /// The refusal of the line with this number.
-pub(crate) fn bad(n: usize) -> Refusal
+pub(crate) fn bad_line(n: usize) -> Refusal
     ensures { result ≡ Input (MachineLine n) }
 {
     Refusal::Input(InputFault::MachineLine(n))
@@ -25,7 +25,7 @@ fn word<'a>(n: usize, words: &mut Words<'a>) -> Result<&'a [u8], Refusal>
 {
     match words.take() {
         Some(word) => Ok(word),
-        None => Err(bad(n)),
+        None => Err(bad_line(n)),
     }
 }
 
@@ -37,7 +37,7 @@ pub(crate) fn ended(n: usize, words: &Words<'_>) -> Result<(), Refusal>
     if words.is_ended() {
         Ok(())
     } else {
-        Err(bad(n))
+        Err(bad_line(n))
     }
 }
 
@@ -68,7 +68,7 @@ fn number_here(n: usize, word: &[u8], most: u64) -> Result<u64, Refusal>
 {
     match digits::number(word, most) {
         Some(number) => Ok(number),
-        None => Err(bad(n)),
+        None => Err(bad_line(n)),
     }
 }
 
@@ -107,12 +107,12 @@ fn word_bytes(alloc: Global, n: usize, word: &[u8]) -> Result<Vec<u8>, Refusal>
     match hex::decode(alloc, word) {
         Ok(bytes) => {
             if bytes.is_empty() {
-                Err(bad(n))
+                Err(bad_line(n))
             } else {
                 Ok(bytes)
             }
         }
         Err(hex::FromHexError::OutOfMemory) => Err(Refusal::OutOfMemory),
-        Err(_) => Err(bad(n)),
+        Err(_) => Err(bad_line(n)),
     }
 }

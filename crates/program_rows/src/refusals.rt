@@ -1,5 +1,5 @@
 //! Refusals by their names, and the lines that tell of them.
-use acpiroute_lib::tell;
+use acpiroute_lib::write_error_line;
 use ar_space::{
     EvaluationFault, InputFault, PathText, Refusal, ReportFault, ResourceFault, RoutingFault,
     TableFault, TermFault,
@@ -73,7 +73,7 @@ fn refusal_named(alloc: Global, text: &str) -> Result<Option<Refusal>, AllocErro
 
 /// The line that tells of a refusal, and nothing else.
 fn told(errors: &mut Vec<u8>, refusal: &Refusal) -> io::Result<()> {
-    tell(errors, refusal)
+    write_error_line(errors, refusal)
 }
 
 /// The line that tells of the refusal of this name, without its line feed.

@@ -6,7 +6,7 @@ use Rattle.aml_path.specs.declared.segment.Seg.{Seg}
 use Rattle.route_model.specs.Links.{OfferingLink}
 use Rattle.route_check.specs.Claims.{BoundingSet}
 use Rattle.route_report.specs.Counting.{first_of}
-use Rattle.route_report.specs.Reading.{Said, is_passed_over, bad, link, wired, give, busiest, bound, with_link, with_wired, with_give, with_busiest, with_bound, link_line, wired_line, give_line, busiest_line, bound_line, keyed, line}
+use Rattle.route_report.specs.Reading.{Said, is_passed_over, bad_line, link, wired, give, busiest, bound, with_link, with_wired, with_give, with_busiest, with_bound, link_line, wired_line, give_line, busiest_line, bound_line, keyed, line}
 use Rattle.route_report.proofs.Decimals.{equal_bytes}
 use Rattle.route_report.proofs.Renumbered.{Alike, link_alike, wired_alike, give_alike, busiest_alike, bound_alike}
 
@@ -21,7 +21,7 @@ pub data Effect : Type 0 where
 
 -- what is said after a line of this effect, the n-th
 abbrev pub after : ℕ → Effect → Said → Outcome Said
-after n refuses d = bad n
+after n refuses d = bad_line n
 after n says_nothing d = Ok d
 after n (says_link l) d = with_link n l d
 after n (says_wired w) d = with_wired n w d

@@ -13,7 +13,7 @@ use Rattle.text_words.specs.Words.{words}
 use Rattle.route_report.specs.Lines.{lines}
 use Rattle.route_report.specs.Ordered.{among, in_order, link_order, wired_order, give_order, bound_in_order, claim_in_order}
 use Rattle.route_report.specs.Counting.{counts}
-use Rattle.route_report.specs.Reading.{Said, nothing_said, bad, here, with_link, with_wired, with_give, with_busiest, with_bound, claimed, line, lines_read, heading, all_read, claim_of_text}
+use Rattle.route_report.specs.Reading.{Said, nothing_said, bad_line, here, with_link, with_wired, with_give, with_busiest, with_bound, claimed, line, lines_read, heading, all_read, claim_of_text}
 use Rattle.route_report.proofs.Effects.{Effect, refuses, says_nothing, says_link, says_wired, says_give, says_busiest, says_bound, after, effect, line_gives, passed_line}
 use Rattle.route_report.proofs.Orders.{link_exact, wired_exact, give_exact, link_total, wired_total, give_total}
 use Rattle.route_report.proofs.Renumbered.{Alike, then_alike}
@@ -160,7 +160,7 @@ record IsWithin (d : Said) : Type 0 where
   wired : length d.wired ≤ 4096
 
 module _ (n : ℕ) (t : Total) (k : Said → Outcome RoutingClaim) (on : (e : Said) → IsWithin e → result_ok (k e) ≡ finished e t) (d : Said) (within : IsWithin d) where
-  link_on : (l : OfferingLink) (b : Bool) → nat_lt (length d.links) 256 ≡ b → result_ok ((if b then Ok (record d { links = d.links ++ l ∷ [] }) else bad n) >>= k) ≡ finished d (with_effect (says_link l) t)
+  link_on : (l : OfferingLink) (b : Bool) → nat_lt (length d.links) 256 ≡ b → result_ok ((if b then Ok (record d { links = d.links ++ l ∷ [] }) else bad_line n) >>= k) ≡ finished d (with_effect (says_link l) t)
   unfolding ◌>>=◌
   link_on l true e =
       let less = ltb-true (length d.links) 256 e in
@@ -173,7 +173,7 @@ module _ (n : ℕ) (t : Total) (k : Said → Outcome RoutingClaim) (on : (e : Sa
       let over : nat_lt 256 (length d.links + length (among link_order l t.links)) ≡ true = lt-ltb 256 (length d.links + length (among link_order l t.links)) (omega arith) in
       sym (rw over (unless_none t.refused true false))
 
-  wired_on : (w : ℕ × ℕ) (b : Bool) → nat_lt (length d.wired) 4096 ≡ b → result_ok ((if b then Ok (record d { wired = d.wired ++ w ∷ [] }) else bad n) >>= k) ≡ finished d (with_effect (says_wired w) t)
+  wired_on : (w : ℕ × ℕ) (b : Bool) → nat_lt (length d.wired) 4096 ≡ b → result_ok ((if b then Ok (record d { wired = d.wired ++ w ∷ [] }) else bad_line n) >>= k) ≡ finished d (with_effect (says_wired w) t)
   unfolding ◌>>=◌
   wired_on w true e =
       let less = ltb-true (length d.wired) 4096 e in
@@ -186,12 +186,12 @@ module _ (n : ℕ) (t : Total) (k : Said → Outcome RoutingClaim) (on : (e : Sa
       let over : nat_lt 4096 (length d.wired + length (among wired_order w t.wired)) ≡ true = lt-ltb 4096 (length d.wired + length (among wired_order w t.wired)) (omega arith) in
       sym (rw over (unless_none t.refused (nat_lt 256 (length d.links + length t.links)) true))
 
-  busiest_on : (j : ℕ) (o : Option ℕ) → d.busiest ≡ o → result_ok ((if is_some o then bad n else Ok (record d { busiest = Some j })) >>= k) ≡ finished d (with_effect (says_busiest j) t)
+  busiest_on : (j : ℕ) (o : Option ℕ) → d.busiest ≡ o → result_ok ((if is_some o then bad_line n else Ok (record d { busiest = Some j })) >>= k) ≡ finished d (with_effect (says_busiest j) t)
   unfolding ◌>>=◌
   busiest_on j None e = on (record d { busiest = Some j }) (record { links = within.links; wired = within.wired }) ∙ (rw (e, said_first j t.busiest) refl)
   busiest_on j (Some i) e = sym (rw (e, said_again i j t.busiest) (unless_none t.refused _ _))
 
-  bound_on : (b : Option BoundingSet) (o : Option (Option BoundingSet)) → d.bound ≡ o → result_ok ((if is_some o then bad n else Ok (record d { bound = Some b })) >>= k) ≡ finished d (with_effect (says_bound b) t)
+  bound_on : (b : Option BoundingSet) (o : Option (Option BoundingSet)) → d.bound ≡ o → result_ok ((if is_some o then bad_line n else Ok (record d { bound = Some b })) >>= k) ≡ finished d (with_effect (says_bound b) t)
   unfolding ◌>>=◌
   bound_on b None e = on (record d { bound = Some b }) (record { links = within.links; wired = within.wired }) ∙ (rw (e, said_first b t.bound) refl)
   bound_on b (Some c) e = sym (rw (e, said_again c b t.bound, no_bound) (unless_none t.refused _ _))

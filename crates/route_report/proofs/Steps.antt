@@ -4,7 +4,7 @@ use Rattle.std.specs.Prelude.{IsErr, IsErrAnd, nat_lt}
 use Rattle.std.specs.Str.{bytes_eq}
 use Rattle.ar_space.specs.declared.refusal.Refusal.{Refusal}
 use Rattle.ar_space.specs.Outcome.{Outcome, Answers, seen, ◌>>=◌}
-use Rattle.route_report.specs.Reading.{ascends, bad, until, with_number, numbers_after}
+use Rattle.route_report.specs.Reading.{ascends, bad_line, until, with_number, numbers_after}
 use Rattle.route_report.proofs.Turns.{taken, stopped}
 
 module _ {A : Type 0} (n : ℕ) (key : List ℕ) (step : List A → List ℕ → Outcome (List A)) (xs : List A) (w : List ℕ) (us ws : List (List ℕ)) (total : Outcome (List A × List (List ℕ))) (is : us ≡ w ∷ ws) (so_far : total ≡ until n key step xs us) where
@@ -24,7 +24,7 @@ module _ {A : Type 0} (n : ℕ) (key : List ℕ) (step : List A → List ℕ →
   pub until_fail : {B : Type 0} (e : Refusal) (r : Outcome B) (view : B → List A × List (List ℕ)) → bytes_eq w key ≡ false → Answers (Err e) (step xs w) → IsErr r × IsErrAnd r (λ z. z ≡ e) → Answers (seen view r) total
   until_fail e r view other h i = stopped (step xs w) (λ more. until n key step more ws) e r view (next other) h i
 
-pub until_none : {A : Type 0} (n : ℕ) (key : List ℕ) (step : List A → List ℕ → Outcome (List A)) (xs : List A) (us : List (List ℕ)) (total : Outcome (List A × List (List ℕ))) → us ≡ [] → total ≡ until n key step xs us → total ≡ bad n
+pub until_none : {A : Type 0} (n : ℕ) (key : List ℕ) (step : List A → List ℕ → Outcome (List A)) (xs : List A) (us : List (List ℕ)) (total : Outcome (List A × List (List ℕ))) → us ≡ [] → total ≡ until n key step xs us → total ≡ bad_line n
 unfolding until
 until_none n key step xs us total is so_far = so_far ∙ ap (until n key step xs) is
 

@@ -8,7 +8,7 @@ use Rattle.route_check.specs.Claims.{RoutingClaim}
 use Rattle.text_words.specs.Words.{words, tail_at}
 use Rattle.text_words.proofs.Pieces.{split_cut, cut_once, uncut}
 use Rattle.route_report.specs.Lines.{lines, without_end}
-use Rattle.route_report.specs.Reading.{Said, nothing_said, bad, line, heading, claimed, lines_read, all_read, claim_of_text}
+use Rattle.route_report.specs.Reading.{Said, nothing_said, bad_line, line, heading, claimed, lines_read, all_read, claim_of_text}
 use Rattle.route_report.proofs.Turns.{taken, halted, at_last}
 
 pub more_lines : (x xs : List ℕ) → without_end (x ∷ slice_split (λ b. b == 10) xs) ≡ x ∷ lines xs
@@ -44,7 +44,7 @@ unfolding lines_read
 lines_done n d t r total none so_far h = record { is = λ ne. so_far ∙ ap (λ xs. lines_read n xs d) (no_lines t none) ∙ h.is ne }
 
 -- a text of no lines is refused at its first
-pub nothing_read : (t : List ℕ) → length t ≡ 0 → claim_of_text t ≡ bad 1
+pub nothing_read : (t : List ℕ) → length t ≡ 0 → claim_of_text t ≡ bad_line 1
 unfolding claim_of_text all_read
 nothing_read t none = ap all_read (no_lines t none)
 

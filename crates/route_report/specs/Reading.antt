@@ -37,8 +37,8 @@ is_passed_over key =
 
 -- n is the line's number
 module _ (n : ℕ) where
-  abbrev pub bad : {A : Type 0} → Outcome A
-  bad = Err (Report (BadLine n))
+  abbrev pub bad_line : {A : Type 0} → Outcome A
+  bad_line = Err (Report (BadLine n))
 
   -- what is there, or the line is refused
   abbrev pub here : {A : Type 0} → Option A → Outcome A
@@ -47,29 +47,29 @@ module _ (n : ℕ) where
   -- what was found, or the line is refused
   abbrev pub in_line : {A : Type 0} → Outcome A → Outcome A
   in_line (Ok a) = Ok a
-  in_line (Err e) = bad
+  in_line (Err e) = bad_line
 
   -- the first of the words, and the others
   abbrev pub word : List (List ℕ) → Outcome (List ℕ × List (List ℕ))
-  word [] = bad
+  word [] = bad_line
   word (w ∷ ws) = Ok (w, ws)
 
   -- no word is left
   abbrev pub ended : List (List ℕ) → Outcome (Unit {0})
   ended [] = Ok tt
-  ended (w ∷ ws) = bad
+  ended (w ∷ ws) = bad_line
 
   -- the first of the words is this one; the others
   unfoldable pub expected : List ℕ → List (List ℕ) → Outcome (List (List ℕ))
   expected key ws = do
     w ← word ws
-    if bytes_eq w.0 key then Ok w.1 else bad
+    if bytes_eq w.0 key then Ok w.1 else bad_line
 
   -- the first of the words is one of two; the others
   unfoldable pub one_of : List ℕ → List ℕ → List (List ℕ) → Outcome (List (List ℕ))
   one_of this that ws = do
     w ← word ws
-    if bytes_eq w.0 this || bytes_eq w.0 that then Ok w.1 else bad
+    if bytes_eq w.0 this || bytes_eq w.0 that then Ok w.1 else bad_line
 
   -- the number that a word is
   abbrev pub number_here : List ℕ → Outcome ℕ
@@ -79,7 +79,7 @@ module _ (n : ℕ) where
   unfoldable pub path_here : List ℕ → Outcome (List Seg)
   path_here w = do
     p ← in_line (path_of_text w)
-    if bytes_eq (text_of p) w then Ok p else bad
+    if bytes_eq (text_of p) w then Ok p else bad_line
 
   -- the first of the words as a number or as a path, and the others
   unfoldable pub numbered : List (List ℕ) → Outcome (ℕ × List (List ℕ))
@@ -98,11 +98,11 @@ module _ (n : ℕ) where
   unfoldable pub with_offer : List ℕ → List ℕ → Outcome (List ℕ)
   with_offer os w = do
     m ← number_here w
-    if ascends os m then Ok (os ++ m ∷ []) else bad
+    if ascends os m then Ok (os ++ m ∷ []) else bad_line
 
   -- what each word adds to what stands, up to a word that ends them, and the words behind it
   unfoldable pub until : {A : Type 0} → List ℕ → (List A → List ℕ → Outcome (List A)) → List A → List (List ℕ) → Outcome (List A × List (List ℕ))
-  until key step xs [] = bad
+  until key step xs [] = bad_line
   until key step xs (w ∷ ws) = if bytes_eq w key then Ok (xs, ws) else (do
     more ← step xs w
     until key step more ws)
@@ -199,20 +199,20 @@ module _ (n : ℕ) where
   -- what is said already, with a link more, a wired interrupt more and what a link is given more: at most 256 links and
   -- 4096 wired interrupts
   unfoldable pub with_link : OfferingLink → Said → Outcome Said
-  with_link l d = if nat_lt (length d.links) 256 then Ok (record d { links = d.links ++ l ∷ [] }) else bad
+  with_link l d = if nat_lt (length d.links) 256 then Ok (record d { links = d.links ++ l ∷ [] }) else bad_line
 
   unfoldable pub with_wired : ℕ × ℕ → Said → Outcome Said
-  with_wired w d = if nat_lt (length d.wired) 4096 then Ok (record d { wired = d.wired ++ w ∷ [] }) else bad
+  with_wired w d = if nat_lt (length d.wired) 4096 then Ok (record d { wired = d.wired ++ w ∷ [] }) else bad_line
 
   unfoldable pub with_give : List Seg × ℕ → Said → Outcome Said
   with_give g d = Ok (record d { gives = d.gives ++ g ∷ [] })
 
   -- and with one busiest interrupt and one bound
   unfoldable pub with_busiest : ℕ → Said → Outcome Said
-  with_busiest k d = if is_some d.busiest then bad else Ok (record d { busiest = Some k })
+  with_busiest k d = if is_some d.busiest then bad_line else Ok (record d { busiest = Some k })
 
   unfoldable pub with_bound : Option BoundingSet → Said → Outcome Said
-  with_bound b d = if is_some d.bound then bad else Ok (record d { bound = Some b })
+  with_bound b d = if is_some d.bound then bad_line else Ok (record d { bound = Some b })
 
   -- what the words behind the first one say
   unfoldable pub link_line : List (List ℕ) → Said → Outcome Said
@@ -249,7 +249,7 @@ module _ (n : ℕ) where
       else if bytes_eq key (codes "busiest") then busiest_line ws d
       else if bytes_eq key (codes "bound") then bound_line ws d
       else if is_passed_over key then Ok d
-      else bad
+      else bad_line
 
   unfoldable pub line : List (List ℕ) → Said → Outcome Said
   line ws d = do
@@ -278,7 +278,7 @@ lines_read n (l ∷ ls) d = do
   lines_read (n + 1) ls e
 
 unfoldable pub all_read : List (List ℕ) → Outcome RoutingClaim
-all_read [] = bad 1
+all_read [] = bad_line 1
 all_read (l ∷ ls) = do
   _ ← heading 1 (words l)
   lines_read 2 ls nothing_said

@@ -4,7 +4,7 @@ ghost use Rattle.ar_space.specs.Outcome.{Answers, seen};
 ghost use Rattle.route_report.specs.Reading.{nothing_said, with_link, with_wired, with_give, with_busiest, with_bound, here, claimed};
 
 use crate::ordered::{bound_in_order, gives_in_order, links_in_order, wired_in_order};
-use crate::words::bad;
+use crate::words::bad_line;
 use aml_path::Path;
 use ar_space::Refusal;
 use route_check::{Bound, Claim};
@@ -58,7 +58,7 @@ impl Draft {
             self.links.push(link)?;
             Ok(())
         } else {
-            Err(bad(n))
+            Err(bad_line(n))
         }
     }
 
@@ -71,7 +71,7 @@ impl Draft {
             self.wired.push(wired)?;
             Ok(())
         } else {
-            Err(bad(n))
+            Err(bad_line(n))
         }
     }
 
@@ -90,7 +90,7 @@ impl Draft {
         ensures { Answers (seen (λ _. self.new) result) (with_busiest n busiest self.old) }
     {
         if self.busiest.is_some() {
-            return Err(bad(n));
+            return Err(bad_line(n));
         }
         self.busiest = Some(busiest);
         Ok(())
@@ -102,7 +102,7 @@ impl Draft {
         ensures { Answers (seen (λ _. self.new) result) (with_bound n bound self.old) }
     {
         if self.bound.is_some() {
-            return Err(bad(n));
+            return Err(bad_line(n));
         }
         self.bound = Some(bound);
         Ok(())
@@ -132,7 +132,7 @@ fn busiest_here(n: usize, busiest: Option<u32>) -> Result<u32, Refusal>
 {
     match busiest {
         Some(busiest) => Ok(busiest),
-        None => Err(bad(n)),
+        None => Err(bad_line(n)),
     }
 }
 
@@ -143,6 +143,6 @@ fn bound_here(n: usize, bound: Option<Option<Bound>>) -> Result<Option<Bound>, R
 {
     match bound {
         Some(bound) => Ok(bound),
-        None => Err(bad(n)),
+        None => Err(bad_line(n)),
     }
 }

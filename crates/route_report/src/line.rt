@@ -5,7 +5,7 @@ ghost use Rattle.text_words.specs.Words.{words};
 ghost use Rattle.route_report.specs.Reading.{ascends, is_passed_over, with_offer, until, offers, offered, link, wired, give, busiest, with_path, set_links, with_number, numbers_after, set, bound, link_line, wired_line, give_line, busiest_line, bound_line, keyed, line, heading};
 
 use crate::draft::Draft;
-use crate::words::{bad, ended, expected, number, number_here, one_of, path, path_here, word};
+use crate::words::{bad_line, ended, expected, number, number_here, one_of, path, path_here, word};
 use aml_path::Path;
 use ar_space::Refusal;
 use route_check::Bound;
@@ -29,7 +29,7 @@ fn add_offer(n: usize, offers: &mut Vec<u32>, word: &[u8]) -> Result<(), Refusal
 {
     let number = number_here(n, word)?;
     if !ascends(offers, number) {
-        return Err(bad(n));
+        return Err(bad_line(n));
     }
     offers.push(number)?;
     Ok(())
@@ -45,7 +45,7 @@ fn add_offers(n: usize, offers: &mut Vec<u32>, words: &mut Words<'_>) -> Result<
         }
         add_offer(n, offers, word)?;
     }
-    Err(bad(n))
+    Err(bad_line(n))
 }
 
 #[tactic(auto, using(ar_space::specs::Outcome::answering), unfolding(crate::specs::Reading::offers))]
@@ -137,7 +137,7 @@ fn add_paths(
         }
         add_path(alloc, n, paths, word)?;
     }
-    Err(bad(n))
+    Err(bad_line(n))
 }
 
 /// `-` for no path, or one at least, up to the word `over`.
@@ -302,7 +302,7 @@ fn keyed(
     } else if is_passed_over(key) {
         Ok(())
     } else {
-        Err(bad(n))
+        Err(bad_line(n))
     }
 }
 

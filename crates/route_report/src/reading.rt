@@ -6,7 +6,7 @@ ghost use Rattle.route_report.specs.Reading.{lines_read, claim_of_text, nothing_
 
 use crate::draft::Draft;
 use crate::line::{heading, line};
-use crate::words::bad;
+use crate::words::bad_line;
 use ar_space::Refusal;
 use route_check::Claim;
 use std::alloc::Global;
@@ -61,7 +61,7 @@ pub fn read(alloc: Global, text: &[u8]) -> Result<Claim, Refusal>
     ensures { Answers result (claim_of_text text.now) }
 {
     if text.is_empty() {
-        return Err(bad(1));
+        return Err(bad_line(1));
     }
     let (first, rest) = first_line(text);
     heading(1, first)?;

@@ -14,7 +14,7 @@ use std::alloc::Global;
 use text_words::Words;
 
 /// The refusal of the line with this number.
-pub(crate) fn bad(n: usize) -> Refusal
+pub(crate) fn bad_line(n: usize) -> Refusal
     ensures { result ≡ Report (BadLine n) }
 {
     Refusal::Report(ReportFault::BadLine(n))
@@ -27,7 +27,7 @@ pub(crate) fn word<'a>(n: usize, words: &mut Words<'a>) -> Result<&'a [u8], Refu
 {
     match words.take() {
         Some(word) => Ok(word),
-        None => Err(bad(n)),
+        None => Err(bad_line(n)),
     }
 }
 
@@ -39,7 +39,7 @@ pub(crate) fn ended(n: usize, words: &Words<'_>) -> Result<(), Refusal>
     if words.is_ended() {
         Ok(())
     } else {
-        Err(bad(n))
+        Err(bad_line(n))
     }
 }
 
@@ -49,7 +49,11 @@ pub(crate) fn expected(n: usize, key: &[u8], words: &mut Words<'_>) -> Result<()
     ensures { Answers (seen (λ _. words.new) result) (expected n key.now words.old) }
 {
     let word = word(n, words)?;
-    if word == key { Ok(()) } else { Err(bad(n)) }
+    if word == key {
+        Ok(())
+    } else {
+        Err(bad_line(n))
+    }
 }
 
 /// The next word is one of two.
@@ -66,7 +70,7 @@ pub(crate) fn one_of(
     if word == this || word == that {
         Ok(())
     } else {
-        Err(bad(n))
+        Err(bad_line(n))
     }
 }
 
@@ -95,7 +99,7 @@ pub(crate) fn number_here(n: usize, word: &[u8]) -> Result<u32, Refusal>
 {
     match numerals::number(word) {
         Some(number) => Ok(number),
-        None => Err(bad(n)),
+        None => Err(bad_line(n)),
     }
 }
 
@@ -106,7 +110,7 @@ fn path_in_line(alloc: Global, n: usize, word: &[u8]) -> Result<Path, Refusal>
     match Path::from_text(alloc, word) {
         Ok(path) => Ok(path),
         Err(Refusal::OutOfMemory) => Err(Refusal::OutOfMemory),
-        Err(_) => Err(bad(n)),
+        Err(_) => Err(bad_line(n)),
     }
 }
 
@@ -126,6 +130,6 @@ pub(crate) fn path_here(alloc: Global, n: usize, word: &[u8]) -> Result<Path, Re
     if is_text_of(alloc, &path, word)? {
         Ok(path)
     } else {
-        Err(bad(n))
+        Err(bad_line(n))
     }
 }

@@ -1,11 +1,11 @@
-use Rattle.aml_laws.proofs.WideAnswers.{answer_within, answer_gives}
-use Rattle.aml_laws.proofs.WideFirst.{first_within}
-use Rattle.aml_laws.proofs.WideRules.{term_within, list_within}
-use Rattle.aml_laws.proofs.WideTables.{table_within, value_within, value_gives}
+use Rattle.aml_laws.proofs.IntegersOfAnswers.{answer_within, answer_value_within}
+use Rattle.aml_laws.proofs.IntegersOfPredefined.{predefined_world_within}
+use Rattle.aml_laws.proofs.IntegersOfRules.{term_within, list_within}
+use Rattle.aml_laws.proofs.IntegersOfTables.{table_within, object_within, object_value_within}
 use Rattle.aml_laws.proofs.integers.integers_stay_below_two_to_the_width.Goals as goal
 
 pub returns-clause-first : goal.returns-clause-first
-returns-clause-first g c = λ width osi space. first_within width osi space
+returns-clause-first g c = λ width osi space. predefined_world_within width osi space
 
 pub returns-clause-terms : goal.returns-clause-terms
 returns-clause-terms g c = λ width accesses t s. term_within width accesses t s
@@ -17,13 +17,13 @@ pub returns-clause-tables : goal.returns-clause-tables
 returns-clause-tables g c = λ width accesses bytes steps w. table_within width accesses bytes steps w
 
 pub returns-clause-objects : goal.returns-clause-objects
-returns-clause-objects g c = λ width accesses path arguments steps w. value_within width accesses path arguments steps w
+returns-clause-objects g c = λ width accesses path arguments steps w. object_within width accesses path arguments steps w
 
 pub returns-clause-object_values : goal.returns-clause-object_values
-returns-clause-object_values g c = λ width accesses path arguments steps w x. value_gives width accesses path arguments steps w x
+returns-clause-object_values g c = λ width accesses path arguments steps w x. object_value_within width accesses path arguments steps w x
 
 pub returns-clause-answers : goal.returns-clause-answers
 returns-clause-answers g c = λ width accesses path arguments steps w. answer_within width accesses path arguments steps w
 
 pub returns-clause-answer_values : goal.returns-clause-answer_values
-returns-clause-answer_values g c = λ width accesses path arguments steps w x. answer_gives width accesses path arguments steps w x
+returns-clause-answer_values g c = λ width accesses path arguments steps w x. answer_value_within width accesses path arguments steps w x

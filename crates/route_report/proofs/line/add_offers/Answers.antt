@@ -22,4 +22,4 @@ returns-in_err-add_offer c =
     until_fail c.args.n (codes "now") (with_offer c.args.n) c.loop-word.offers.items c.in-Some.word.now c.loop-word.words c.take.new.self _ c.in-Some.ensures.some c.loop-word.invariant c.in_err-add_offer.field-0.0 c.from_residual.result _ other c.in_err-add_offer.ensures c.from_residual.ensures
 
 pub returns : goal.returns
-returns c = answers_is (ap Err c.bad.ensures ∙ sym (until_none c.args.n (codes "now") (with_offer c.args.n) c.loop-word.offers.items c.loop-word.words _ c.in_default.ensures.none c.loop-word.invariant))
+returns c = answers_is (ap Err c.bad_line.ensures ∙ sym (until_none c.args.n (codes "now") (with_offer c.args.n) c.loop-word.offers.items c.loop-word.words _ c.in_default.ensures.none c.loop-word.invariant))

@@ -1,0 +1,91 @@
+//! What is told where the value of an option is none of its values: the value, the option, what it takes, and its command's usage.
+ghost use Rattle.std.specs.Prelude.{◌≡◌, IfOk};
+ghost use Rattle.clap.specs.Words.{kind_of};
+
+use crate::command_line::{eval_command, names_command, route_command};
+use crate::values::{mode_named, number, steps_named};
+use clap::error::ErrorKind;
+use clap::{ArgMatches, Command, Error};
+use std::alloc::{AllocError, Global};
+
+/// A value that its option doesn't take.
+#[derive(Clone, Copy)]
+struct BadValue<'a> {
+    value: &'a str,
+    /// The option, as usage writes it.
+    option: &'static str,
+    /// What the option takes.
+    takes: &'static str,
+}
+
+fn bad_mode<'a>(matches: &ArgMatches<'a>) -> Option<BadValue<'a>> {
+    let value = matches.get_str("mode")?;
+    if mode_named(Some(value)).is_some() {
+        return None;
+    }
+    Some(BadValue {
+        value,
+        option: "--mode <MODE>",
+        takes: "apic or pic",
+    })
+}
+
+fn bad_steps<'a>(matches: &ArgMatches<'a>) -> Option<BadValue<'a>> {
+    let value = matches.get_str("steps")?;
+    if steps_named(Some(value)).is_some() {
+        return None;
+    }
+    Some(BadValue {
+        value,
+        option: "--steps <N>",
+        takes: "a number from 1 to 1000000000",
+    })
+}
+
+fn bad_argument<'a>(matches: &ArgMatches<'a>) -> Option<BadValue<'a>> {
+    let value = *matches
+        .get_strs("arguments")?
+        .iter()
+        .find(|value| number(value).is_none())?;
+    Some(BadValue {
+        value,
+        option: "[N]...",
+        takes: "a decimal number below 2^64",
+    })
+}
+
+/// The first value of a command that its option doesn't take.
+fn first_bad<'a>(matches: &ArgMatches<'a>) -> Option<BadValue<'a>> {
+    bad_mode(matches)
+        .or_else(|| bad_steps(matches))
+        .or_else(|| bad_argument(matches))
+}
+
+fn message(alloc: Global, matches: &ArgMatches<'_>) -> Result<String, AllocError> {
+    match first_bad(matches) {
+        Some(bad) => format!(in alloc;
+            "invalid value '{}' for '{}': {}",
+            bad.value, bad.option, bad.takes
+        ),
+        None => String::from_str(alloc, "a value is missing"),
+    }
+}
+
+/// The command with a name, as usage writes it.
+fn command_named<'a>(alloc: Global, name: &str) -> Result<Command<'a>, AllocError> {
+    match name {
+        "route" => route_command(alloc)?.bin_name("acpiroute route"),
+        "names" => names_command(alloc)?.bin_name("acpiroute names"),
+        _ => eval_command(alloc)?.bin_name("acpiroute eval"),
+    }
+}
+
+/// The text for a value that is none of its option's.
+pub(crate) fn bad_value(alloc: Global, matches: &ArgMatches<'_>) -> Result<Error, AllocError>
+    ensures { IfOk result (λ e. kind_of e ≡ ErrorKind.ValueValidation) }
+{
+    let (name, inner) = matches.subcommand().unwrap_or(("", matches));
+    let message = message(alloc, inner)?;
+    let mut command = command_named(alloc, name)?;
+    command.error(ErrorKind::ValueValidation, &message)
+}

@@ -1,0 +1,102 @@
+-- Loading a table and evaluating an object preserve every world relation; so what evaluations make of a world is related to it.
+use Rattle.std.specs.Prelude.{ℕ, List, [], length, Ok, Err, refl}
+use Rattle.ar_space.specs.Accesses.{Accesses}
+use Rattle.ar_space.specs.Outcome.{Outcome}
+use Rattle.aml_path.specs.declared.segment.Seg.{Seg}
+use Rattle.aml_grammar.specs.declared.arities.Arity.{Arity}
+use Rattle.aml_grammar.specs.Tree.{Tree, Trees}
+use Rattle.aml_grammar.specs.Grammar.{table_reading}
+use Rattle.aml_objects.specs.declared.value.Value.{Value}
+use Rattle.aml_objects.specs.declared.entry.NamedObject.{NamedObject}
+use Rattle.aml_meaning.specs.declared.invocation.Invocation.{Invocation}
+use Rattle.aml_meaning.specs.declared.invocation.Invocation.TheVariants as invocations
+use Rattle.aml_meaning.specs.Given.{Given}
+use Rattle.aml_meaning.specs.State.{State}
+use Rattle.aml_meaning.specs.Predefined as predefined
+use Rattle.aml_meaning.specs.Calling.{terms_kept, table_terms, at_root, table_run, loaded, value_of, called, evaluated, answer_exported, answered}
+use Rattle.aml_laws.specs.Becomes.{Becomes, same, term, list, table, value, answer}
+use Rattle.aml_laws.proofs.ObjectKinds.{make_string_keeps_kinds}
+use Rattle.aml_laws.proofs.WorldRelations.{WorldRelation, Preserves, RunPreserves, RunPreservesFrom, CalledMethodStands, settle_preserves, then_preserves, on_objects_preserves, declared_preserves, in_frame_preserves, with_steps_preserves, counted_preserves, ending_preserves, run_give_preserves, lift_preserves, run_then_preserves, found_then_preserves, run_preserves_from, then_preserves_from}
+use Rattle.aml_laws.proofs.ChangesPreserve.{invocation_found_finds_invocation, osi_answered_preserves}
+use Rattle.aml_laws.proofs.OperandsAndCallsPreserve.{field_read_preserves, method_value_preserves_from}
+use Rattle.aml_laws.proofs.RulesPreserve.{meaning_preserves, list_preserves}
+use Rattle.aml_laws.proofs.ArgumentsAndAnswersPreserve.{all_imported_preserves, exported_preserves}
+
+terms_kept_preserves : {S : Type 0} {accesses : Accesses S} (relation : WorldRelation accesses) (r : Outcome (List Tree × List Arity)) (w : State S) → relation.Leads w (terms_kept r w).1
+terms_kept_preserves relation (Ok (ts, after)) w = relation.arities_set w after
+terms_kept_preserves relation (Err e) w = relation.reflexive w
+
+module _ {S : Type 0} {accesses : Accesses S} {relation : WorldRelation accesses} where
+  -- ---- tables
+
+  table_terms_preserves : (bytes : List ℕ) → Preserves relation (table_terms bytes)
+  unfolding table_terms
+  table_terms_preserves bytes = record { preserves = λ w. terms_kept_preserves relation (table_reading bytes w.arities) w }
+
+  at_root_preserves : (ts : Trees) → RunPreserves relation (at_root accesses ts)
+  unfolding at_root
+  at_root_preserves ts = run_then_preserves _ _ (list_preserves [] 0 ts) (λ last. run_give_preserves _)
+
+  table_run_preserves : (steps : ℕ) (bytes : List ℕ) → Preserves relation (table_run accesses steps bytes)
+  unfolding table_run
+  table_run_preserves steps bytes = then_preserves _ _ (table_terms_preserves bytes) (λ ts. in_frame_preserves _ _ (with_steps_preserves steps _ (at_root_preserves ts)))
+
+  pub loaded_preserves : (bytes : List ℕ) (steps : ℕ) → Preserves relation (loaded accesses bytes steps)
+  unfolding loaded
+  loaded_preserves bytes steps = ending_preserves _ (table_run_preserves steps bytes)
+
+  -- ---- objects that are evaluated
+
+  value_of_preserves_from : (u : State S) (i : Invocation) (arguments : List Value) → CalledMethodStands u i → RunPreservesFrom relation u (value_of accesses i arguments)
+  value_of_preserves_from u (invocations.Value v) arguments at = run_preserves_from u _ (run_give_preserves _)
+  value_of_preserves_from u (invocations.Field f) arguments at = run_preserves_from u _ (field_read_preserves _ meaning_preserves 1 f)
+  value_of_preserves_from u (invocations.Method q body) arguments at = method_value_preserves_from _ meaning_preserves u 0 q body arguments (at q body refl)
+  value_of_preserves_from u invocations.Osi arguments at = run_preserves_from u _ (lift_preserves _ (osi_answered_preserves arguments))
+
+  called_preserves : (p : List Seg) (arguments : List Value) → RunPreserves relation (called accesses p arguments)
+  unfolding called
+  called_preserves p arguments = found_then_preserves _ _ (invocation_found_finds_invocation _ _ _) (λ u i at. value_of_preserves_from u i arguments at)
+
+  pub evaluated_preserves : (p : List Seg) (arguments : List Value) (steps : ℕ) → Preserves relation (evaluated accesses p arguments steps)
+  unfolding evaluated
+  evaluated_preserves p arguments steps = counted_preserves steps _ (called_preserves p arguments)
+
+  answer_exported_preserves : (p : List Seg) (count : ℕ) (arguments : List Given) → RunPreserves relation (answer_exported accesses p count arguments)
+  unfolding answer_exported
+  answer_exported_preserves p count arguments =
+      found_then_preserves _ _ (invocation_found_finds_invocation _ _ _) (λ u i at. then_preserves_from u _ _ (run_preserves_from u _ (lift_preserves _ (all_imported_preserves arguments []))) (λ vs. then_preserves_from u _ _ (value_of_preserves_from u i vs at) (λ v. run_preserves_from u _ (exported_preserves v))))
+
+  pub answered_preserves : (p : List Seg) (arguments : List Given) (steps : ℕ) → Preserves relation (answered accesses p arguments steps)
+  unfolding answered
+  answered_preserves p arguments steps = ending_preserves _ (with_steps_preserves steps _ (answer_exported_preserves p (length arguments) arguments))
+
+  -- ---- the predefined names
+
+  takes_preserves : (path : List Seg) (count : ℕ) → Preserves relation (predefined.takes path count)
+  unfolding predefined.takes
+  takes_preserves path count = record { preserves = λ w. relation.arities_set w _ }
+
+  predefined_at_root_preserves : (text : List ℕ) (o : NamedObject) (count : ℕ) → Preserves relation (predefined.at_root text o count)
+  unfolding predefined.at_root
+  predefined_at_root_preserves text o count = then_preserves _ _ (settle_preserves _) (λ s. then_preserves _ _ (settle_preserves _) (λ p. then_preserves _ _ (declared_preserves p o) (λ n. then_preserves _ _ (settle_preserves _) (λ q. takes_preserves q count))))
+
+  predefined_scopes_preserves : Preserves relation predefined.predefined_scopes
+  unfolding predefined.predefined_scopes
+  predefined_scopes_preserves = then_preserves _ _ (predefined_at_root_preserves _ _ _) (λ a. then_preserves _ _ (predefined_at_root_preserves _ _ _) (λ b. then_preserves _ _ (predefined_at_root_preserves _ _ _) (λ c. then_preserves _ _ (predefined_at_root_preserves _ _ _) (λ d. predefined_at_root_preserves _ _ _))))
+
+  predefined_objects_preserves : Preserves relation predefined.predefined_objects
+  unfolding predefined.predefined_objects
+  predefined_objects_preserves = then_preserves _ _ (predefined_at_root_preserves _ _ _) (λ a. then_preserves _ _ (on_objects_preserves _ (make_string_keeps_kinds _)) (λ text. then_preserves _ _ (predefined_at_root_preserves _ _ _) (λ b. then_preserves _ _ (predefined_at_root_preserves _ _ _) (λ c. predefined_at_root_preserves _ _ _))))
+
+  pub predefined_preserves : Preserves relation predefined.predefined
+  unfolding predefined.predefined
+  predefined_preserves = then_preserves _ _ predefined_scopes_preserves (λ u. predefined_objects_preserves)
+
+-- what evaluations make of a world is related to it
+pub becomes_preserves : {S : Type 0} {accesses : Accesses S} (relation : WorldRelation accesses) (w v : State S) → Becomes accesses w v → relation.Leads w v
+becomes_preserves relation w v same = relation.reflexive w
+becomes_preserves relation w v (term u t steps h) = relation.transitive w u _ (becomes_preserves relation w u h) ((meaning_preserves {relation = relation} t).preserves (u, steps))
+becomes_preserves relation w v (list u scope depth ts steps h) = relation.transitive w u _ (becomes_preserves relation w u h) ((list_preserves {relation = relation} scope depth ts).preserves (u, steps))
+becomes_preserves relation w v (table u bytes steps h) = relation.transitive w u _ (becomes_preserves relation w u h) ((loaded_preserves {relation = relation} bytes steps).preserves u)
+becomes_preserves relation w v (value u p arguments steps h) = relation.transitive w u _ (becomes_preserves relation w u h) ((evaluated_preserves {relation = relation} p arguments steps).preserves u)
+becomes_preserves relation w v (answer u p arguments steps h) = relation.transitive w u _ (becomes_preserves relation w u h) ((answered_preserves {relation = relation} p arguments steps).preserves u)

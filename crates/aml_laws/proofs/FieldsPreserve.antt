@@ -1,0 +1,220 @@
+-- Reading, writing and declaring fields preserve every world relation.
+use Rattle.std.specs.Prelude.{ℕ, nat_lt, List, Bool, Option, Some, None, refl}
+use Rattle.ar_space.specs.Accesses.{Accesses}
+use Rattle.ar_space.specs.Outcome.{Outcome}
+use Rattle.ar_space.specs.declared.space.Width.{Width}
+use Rattle.aml_path.specs.declared.segment.Seg.{Seg}
+use Rattle.aml_path.specs.Paths.{Name}
+use Rattle.aml_grammar.specs.declared.opcode.TermCode.{TermCode}
+use Rattle.aml_grammar.specs.declared.opcode.TermCode.TheVariants as codes
+use Rattle.aml_grammar.specs.Tree.{Tree, Trees, no_trees, tree}
+use Rattle.aml_grammar.specs.Apart.{code_of}
+use Rattle.aml_objects.specs.Objects.{make_buffer}
+use Rattle.aml_objects.specs.declared.value.Value.{Value}
+use Rattle.aml_objects.specs.declared.entry.Field.{Field}
+use Rattle.aml_objects.specs.declared.entry.Field.TheVariants as field
+use Rattle.aml_objects.specs.declared.entry.FieldUnit.{FieldUnit}
+use Rattle.aml_objects.specs.declared.entry.FieldSource.{FieldSource}
+use Rattle.aml_objects.specs.declared.entry.FieldSource.TheVariants as sources
+use Rattle.aml_convert.specs.Integers.{bits_of}
+use Rattle.aml_fields.specs.declared.field_units.Unit.{Unit as Access}
+use Rattle.aml_fields.specs.Units.{units_of}
+use Rattle.aml_fields.specs.UnitByUnit.{bits_read, write_units, kept}
+use Rattle.aml_meaning.specs.declared.field_layout.FieldLayout.{FieldLayout}
+use Rattle.aml_meaning.specs.declared.field_layout.FieldGroup.{FieldGroup}
+use Rattle.aml_meaning.specs.declared.pci_functions.Sought.{Sought}
+use Rattle.aml_meaning.specs.declared.object_type.Referent.{Referent}
+use Rattle.aml_meaning.specs.declared.regions.RegionSpace.{RegionSpace}
+use Rattle.aml_meaning.specs.declared.regions.RegionSpace.TheVariants as kinds
+use Rattle.aml_meaning.specs.declared.regions.RegionField.{RegionField}
+use Rattle.aml_meaning.specs.State.{State}
+use Rattle.aml_meaning.specs.Run.{Run}
+use Rattle.aml_meaning.specs.Given.{Given}
+use Rattle.aml_meaning.specs.PciFunctions.{nearest, pci_function}
+use Rattle.aml_meaning.specs.Regions.{region_declared, field_declared, integer_of_bits, integer_value, value_of_bits, integer_alone, referent_of_bits, given_of_bits}
+use Rattle.aml_meaning.specs.Fields.{part_in, inherited, pci_address, space_at, located, region_bits, region_written, index_unit, index_unit_written, index_bits, index_written, field_unit_bits, field_unit_written, bits_in, written_in, field_value, field_integer, field_part, field_referent, field_stored, field_given}
+use Rattle.aml_meaning.specs.FieldTerms.{new_field, named_field, reserved_field, access_field, element_laid, elements_laid, region_found, field_found}
+use Rattle.aml_laws.proofs.Preorders.{either_branch, bits_read_respects, write_units_respects, kept_respects}
+use Rattle.aml_laws.proofs.ObjectKinds.{make_buffer_keeps_kinds, read_buffer_field_keeps_kinds, write_buffer_field_keeps_kinds}
+use Rattle.aml_laws.proofs.RegisterAccesses.{read_field_only_accesses, write_field_only_accesses}
+use Rattle.aml_laws.proofs.WorldRelations.{WorldRelation, Preserves, RunPreserves, respects_preserves, preserves_respects, unchanged_preserves, give_preserves, stop_preserves, settle_preserves, then_preserves, on_objects_preserves, on_space_preserves, run_give_preserves, run_stop_preserves, run_settle_preserves, lift_preserves, run_then_preserves}
+use Rattle.aml_laws.proofs.ChangesPreserve.{entry_found_preserves, new_name_preserves}
+use Rattle.aml_laws.proofs.StoreTargetsPreserve.{declaration_preserves, bytes_in_preserves}
+
+module _ {S : Type 0} {accesses : Accesses S} {relation : WorldRelation accesses} where
+  -- ---- changes of the world
+
+  nearest_preserves : (x : Sought) (q : List Seg) → Preserves relation (nearest x q)
+  unfolding nearest
+  nearest_preserves x q = unchanged_preserves _ (λ w. refl)
+
+  pci_function_preserves : (scope : List Seg) → Preserves relation (pci_function scope)
+  unfolding pci_function
+  pci_function_preserves scope = then_preserves _ _ (nearest_preserves _ scope) (λ near. then_preserves _ _ (settle_preserves _) (λ q. then_preserves _ _ (nearest_preserves _ _) (λ bridge. then_preserves _ _ (settle_preserves _) (λ direct. give_preserves _))))
+
+  region_declared_preserves : (n : ℕ) → Preserves relation (region_declared n)
+  unfolding region_declared
+  region_declared_preserves n = then_preserves _ _ (declaration_preserves n) (λ e. then_preserves _ _ (settle_preserves _) (λ r. give_preserves _))
+
+  field_declared_preserves : (n : ℕ) → Preserves relation (field_declared n)
+  unfolding field_declared
+  field_declared_preserves n = then_preserves _ _ (declaration_preserves n) (λ e. settle_preserves _)
+
+  integer_of_bits_preserves : (bytes : List ℕ) → Preserves relation (integer_of_bits bytes)
+  unfolding integer_of_bits
+  integer_of_bits_preserves bytes = unchanged_preserves _ (λ w. refl)
+
+  integer_value_preserves : (bytes : List ℕ) → Preserves relation (integer_value bytes)
+  unfolding integer_value
+  integer_value_preserves bytes = then_preserves _ _ (integer_of_bits_preserves bytes) (λ n. give_preserves _)
+
+  integer_alone_preserves : (count : ℕ) (bytes : List ℕ) → Preserves relation (integer_alone count bytes)
+  unfolding integer_alone
+  integer_alone_preserves count bytes = record { preserves = λ w. either_branch (λ (x : Outcome ℕ × State S). relation.Leads w x.1) (nat_lt (bits_of w.width) count) _ _ (relation.reflexive w) ((integer_of_bits_preserves bytes).preserves w) }
+
+  referent_of_bits_preserves : (count : ℕ) (bytes : List ℕ) → Preserves relation (referent_of_bits count bytes)
+  unfolding referent_of_bits
+  referent_of_bits_preserves count bytes = record { preserves = λ w. either_branch (λ (x : Outcome Referent × State S). relation.Leads w x.1) (nat_lt (bits_of w.width) count) _ _ (relation.reflexive w) (relation.reflexive w) }
+
+  value_of_bits_preserves : (count : ℕ) (bytes : List ℕ) → Preserves relation (value_of_bits count bytes)
+  unfolding value_of_bits
+  value_of_bits_preserves count bytes = record { preserves = λ w. either_branch (λ (x : Outcome Value × State S). relation.Leads w x.1) (nat_lt (bits_of w.width) count) _ _ ((on_objects_preserves {relation = relation} (make_buffer bytes) (make_buffer_keeps_kinds bytes)).preserves w) ((integer_value_preserves bytes).preserves w) }
+
+  pub given_of_bits_preserves : (count : ℕ) (bytes : List ℕ) → Preserves relation (given_of_bits count bytes)
+  unfolding given_of_bits
+  given_of_bits_preserves count bytes = record { preserves = λ w. either_branch (λ (x : Outcome Given × State S). relation.Leads w x.1) (nat_lt (bits_of w.width) count) _ _ (relation.reflexive w) (relation.reflexive w) }
+
+  -- ---- declarations
+
+  new_field_preserves : (group : FieldGroup) (module_level : Bool) (q : List Seg) (at : FieldLayout) (count : ℕ) → Preserves relation (new_field group module_level q at count)
+  unfolding new_field
+  new_field_preserves group module_level q at count = then_preserves _ _ (settle_preserves _) (λ bits. then_preserves _ _ (new_name_preserves module_level q _) (λ number. settle_preserves _))
+
+  named_field_preserves : (group : FieldGroup) (scope : List Seg) (depth : ℕ) (at : FieldLayout) (t : Tree) → Preserves relation (named_field group scope depth at t)
+  unfolding named_field
+  named_field_preserves group scope depth at t = then_preserves _ _ (settle_preserves _) (λ n. then_preserves _ _ (settle_preserves _) (λ q. then_preserves _ _ (settle_preserves _) (λ count. new_field_preserves group _ q at count)))
+
+  reserved_field_preserves : (group : FieldGroup) (scope : List Seg) (depth : ℕ) (at : FieldLayout) (t : Tree) → Preserves relation (reserved_field group scope depth at t)
+  unfolding reserved_field
+  reserved_field_preserves group scope depth at t = then_preserves _ _ (settle_preserves _) (λ count. settle_preserves _)
+
+  access_field_preserves : (group : FieldGroup) (scope : List Seg) (depth : ℕ) (at : FieldLayout) (t : Tree) → Preserves relation (access_field group scope depth at t)
+  unfolding access_field
+  access_field_preserves group scope depth at t = then_preserves _ _ (settle_preserves _) (λ flags. give_preserves _)
+
+  element_laid_preserves : (group : FieldGroup) (scope : List Seg) (depth : ℕ) (c : TermCode) (at : FieldLayout) (t : Tree) → Preserves relation (element_laid group scope depth c at t)
+  element_laid_preserves group scope depth codes.NamedField at t = named_field_preserves group scope depth at t
+  element_laid_preserves group scope depth codes.ReservedField at t = reserved_field_preserves group scope depth at t
+  element_laid_preserves group scope depth codes.AccessField at t = access_field_preserves group scope depth at t
+  element_laid_preserves group scope depth codes.ExtendedAccessField at t = access_field_preserves group scope depth at t
+  element_laid_preserves group scope depth codes.ConnectField at t = stop_preserves _
+  element_laid_preserves group scope depth codes.Name at t = stop_preserves _
+  element_laid_preserves group scope depth codes.MethodInvocation at t = stop_preserves _
+  element_laid_preserves group scope depth (codes.Opcode op) at t = stop_preserves _
+
+  pub elements_laid_preserves : (group : FieldGroup) (scope : List Seg) (depth : ℕ) (at : FieldLayout) (ts : Trees) → Preserves relation (elements_laid group scope depth at ts)
+  unfolding elements_laid
+  elements_laid_preserves group scope depth at no_trees = give_preserves _
+  elements_laid_preserves group scope depth at (tree t ts) = then_preserves _ _ (element_laid_preserves group scope depth (code_of t) at t) (λ next. elements_laid_preserves group scope depth next ts)
+
+  pub region_found_preserves : (scope : List Seg) (n : Name) → Preserves relation (region_found scope n)
+  unfolding region_found
+  region_found_preserves scope n = then_preserves _ _ (entry_found_preserves scope n) (λ e. settle_preserves _)
+
+  pub field_found_preserves : (scope : List Seg) (n : Name) → Preserves relation (field_found scope n)
+  unfolding field_found
+  field_found_preserves scope n = then_preserves _ _ (entry_found_preserves scope n) (λ e. settle_preserves _)
+
+  -- ---- unit by unit
+
+  bits_read_preserves : (read : Access → Run S ℕ) → ((u : Access) → RunPreserves relation (read u)) → (f : FieldUnit) → RunPreserves relation (bits_read read f)
+  bits_read_preserves read each f = respects_preserves (bits_read_respects _ (λ u. preserves_respects (each u)) f)
+
+  write_units_preserves : (write : Access → Run S (Unit {0})) → ((u : Access) → RunPreserves relation (write u)) → (us : List Access) → RunPreserves relation (write_units write us)
+  write_units_preserves write each us = respects_preserves (write_units_respects _ (λ u. preserves_respects (each u)) us)
+
+  kept_preserves : (f : FieldUnit) (u : Access) (read : Run S ℕ) → RunPreserves relation read → RunPreserves relation (kept f u read)
+  kept_preserves f u read h = respects_preserves (kept_respects f u _ (preserves_respects h))
+
+-- ---- field units
+
+module _ {S : Type 0} {accesses : Accesses S} {relation : WorldRelation accesses} (call : List Seg → Run S ℕ) (each : (q : List Seg) → RunPreserves relation (call q)) where
+  part_in_preserves : (s : Seg) (o : Option (List Seg)) → RunPreserves relation (part_in accesses call s o)
+  part_in_preserves s None = run_give_preserves _
+  part_in_preserves s (Some q) = each _
+
+  inherited_preserves : (s : Seg) (q : List Seg) → RunPreserves relation (inherited accesses call s q)
+  unfolding inherited
+  inherited_preserves s q = run_then_preserves _ _ (lift_preserves _ (nearest_preserves _ q)) (λ o. part_in_preserves s o)
+
+  pci_address_preserves : (scope : List Seg) → RunPreserves relation (pci_address accesses call scope)
+  unfolding pci_address
+  pci_address_preserves scope = run_then_preserves _ _ (lift_preserves _ (pci_function_preserves scope)) (λ q. run_then_preserves _ _ (inherited_preserves _ q) (λ seg. run_then_preserves _ _ (inherited_preserves _ q) (λ bus. run_then_preserves _ _ (each _) (λ address. run_settle_preserves _))))
+
+  space_at_preserves : (k : RegionSpace) (scope : List Seg) → RunPreserves relation (space_at accesses call k scope)
+  space_at_preserves kinds.SystemMemory scope = run_give_preserves _
+  space_at_preserves kinds.SystemIo scope = run_give_preserves _
+  space_at_preserves kinds.PciConfig scope = pci_address_preserves scope
+  space_at_preserves kinds.Other scope = run_stop_preserves _
+
+  located_preserves : (n : ℕ) → RunPreserves relation (located accesses call n)
+  unfolding located
+  located_preserves n = run_then_preserves _ _ (lift_preserves _ (region_declared_preserves n)) (λ d. run_then_preserves _ _ (space_at_preserves _ d.0) (λ space. run_give_preserves _))
+
+  region_bits_preserves : (f : RegionField) → RunPreserves relation (region_bits accesses call f)
+  unfolding region_bits
+  region_bits_preserves f = run_then_preserves _ _ (located_preserves f.region) (λ r. lift_preserves _ (on_space_preserves _ (read_field_only_accesses accesses r f.unit)))
+
+  region_written_preserves : (f : RegionField) (bytes : List ℕ) → RunPreserves relation (region_written accesses call f bytes)
+  unfolding region_written
+  region_written_preserves f bytes = run_then_preserves _ _ (located_preserves f.region) (λ r. lift_preserves _ (on_space_preserves _ (write_field_only_accesses accesses r f.unit bytes)))
+
+  index_unit_preserves : (index behind : RegionField) (w : Width) (u : Access) → RunPreserves relation (index_unit accesses call index behind w u)
+  unfolding index_unit
+  index_unit_preserves index behind w u = run_then_preserves _ _ (region_written_preserves index _) (λ chosen. run_then_preserves _ _ (region_bits_preserves behind) (λ bytes. run_give_preserves _))
+
+  index_unit_written_preserves : (index behind : RegionField) (f : FieldUnit) (bytes : List ℕ) (u : Access) → RunPreserves relation (index_unit_written accesses call index behind f bytes u)
+  unfolding index_unit_written
+  index_unit_written_preserves index behind f bytes u = run_then_preserves _ _ (kept_preserves f u _ (index_unit_preserves index behind f.access u)) (λ old. run_then_preserves _ _ (region_written_preserves index _) (λ chosen. region_written_preserves behind _))
+
+  field_unit_bits_preserves : (source : FieldSource) (f : FieldUnit) → RunPreserves relation (field_unit_bits accesses call source f)
+  unfolding index_bits
+  field_unit_bits_preserves (sources.Region n) f = region_bits_preserves _
+  field_unit_bits_preserves (sources.Index i d) f = run_then_preserves _ _ (lift_preserves _ (field_declared_preserves i)) (λ index. run_then_preserves _ _ (lift_preserves _ (field_declared_preserves d)) (λ behind. bits_read_preserves _ (index_unit_preserves index behind f.access) f))
+
+  field_unit_written_preserves : (source : FieldSource) (f : FieldUnit) (bytes : List ℕ) → RunPreserves relation (field_unit_written accesses call source f bytes)
+  unfolding index_written
+  field_unit_written_preserves (sources.Region n) f bytes = region_written_preserves _ bytes
+  field_unit_written_preserves (sources.Index i d) f bytes = run_then_preserves _ _ (lift_preserves _ (field_declared_preserves i)) (λ index. run_then_preserves _ _ (lift_preserves _ (field_declared_preserves d)) (λ behind. write_units_preserves _ (index_unit_written_preserves index behind f bytes) (units_of f.bit_offset f.bits f.access)))
+
+  bits_in_preserves : (f : Field) → RunPreserves relation (bits_in accesses call f)
+  bits_in_preserves (field.Unit u) = field_unit_bits_preserves u.source u
+  bits_in_preserves (field.Buffer b) = lift_preserves _ (on_objects_preserves _ (read_buffer_field_keeps_kinds b))
+
+  written_in_preserves : (f : Field) (bytes : List ℕ) → RunPreserves relation (written_in accesses call f bytes)
+  written_in_preserves (field.Unit u) bytes = field_unit_written_preserves u.source u bytes
+  written_in_preserves (field.Buffer b) bytes = lift_preserves _ (on_objects_preserves _ (write_buffer_field_keeps_kinds b bytes))
+
+  pub field_value_preserves : (f : Field) → RunPreserves relation (field_value accesses call f)
+  unfolding field_value
+  field_value_preserves f = run_then_preserves _ _ (bits_in_preserves f) (λ bytes. lift_preserves _ (value_of_bits_preserves _ bytes))
+
+  pub field_stored_preserves : (f : Field) (v : Value) → RunPreserves relation (field_stored accesses call f v)
+  unfolding field_stored
+  field_stored_preserves f v = run_then_preserves _ _ (lift_preserves _ (bytes_in_preserves v)) (λ bytes. written_in_preserves f bytes)
+
+  pub field_integer_preserves : (f : Field) → RunPreserves relation (field_integer accesses call f)
+  unfolding field_integer
+  field_integer_preserves f = run_then_preserves _ _ (bits_in_preserves f) (λ bytes. lift_preserves _ (integer_of_bits_preserves bytes))
+
+  pub field_referent_preserves : (f : Field) → RunPreserves relation (field_referent accesses call f)
+  unfolding field_referent
+  field_referent_preserves f = run_then_preserves _ _ (bits_in_preserves f) (λ bytes. lift_preserves _ (referent_of_bits_preserves _ bytes))
+
+  pub field_part_preserves : (f : Field) → RunPreserves relation (field_part accesses call f)
+  unfolding field_part
+  field_part_preserves f = run_then_preserves _ _ (bits_in_preserves f) (λ bytes. lift_preserves _ (integer_alone_preserves _ bytes))
+
+  pub field_given_preserves : (f : Field) → RunPreserves relation (field_given accesses call f)
+  unfolding field_given
+  field_given_preserves f = run_then_preserves _ _ (bits_in_preserves f) (λ bytes. lift_preserves _ (given_of_bits_preserves _ bytes))

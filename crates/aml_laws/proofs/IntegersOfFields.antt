@@ -1,0 +1,308 @@
+-- Reading and writing fields maintain that integers are below two to the width.
+use Rattle.std.specs.Prelude.{◌≡◌, ◌≤◌, ◌+◌, ◌-◌, ◌*◌, ◌/◌, ◌==◌, min, max, ℕ, zero, suc, nat_lt, List, [], ◌∷◌, length, drop, Bool, true, false, Option, Some, None, Ok, Err, refl, if◌then◌else◌}
+use Rattle.std.proofs.Common.{arith, ap, length-append}
+use Rattle.ar_space.specs.declared.integer_width.IntegerWidth.{IntegerWidth}
+use Rattle.ar_space.specs.declared.integer_width.IntegerWidth.TheVariants.{Bits32, Bits64}
+use Rattle.ar_space.specs.declared.space.Width.{Width}
+use Rattle.ar_space.specs.declared.space.Width.TheVariants.{W8, W16, W32, W64}
+use Rattle.ar_space.specs.Accesses.{Accesses, bit_count}
+use Rattle.ar_space.specs.declared.refusal.Refusal.{Refusal}
+use Rattle.ar_space.specs.Outcome.{Outcome, seen}
+use Rattle.ar_space.specs.Change.{Change}
+use Rattle.aml_path.specs.declared.segment.Seg.{Seg}
+use Rattle.aml_objects.specs.Objects.{make_buffer}
+use Rattle.aml_objects.specs.declared.value.Value.{Value}
+use Rattle.aml_objects.specs.declared.value.Value.TheVariants as value
+use Rattle.aml_objects.specs.Fields.{bits_of_field}
+use Rattle.aml_objects.specs.declared.entry.BufferField.{BufferField}
+use Rattle.aml_objects.specs.declared.entry.Field.{Field}
+use Rattle.aml_objects.specs.declared.entry.Field.TheVariants as field
+use Rattle.aml_objects.specs.declared.entry.FieldUnit.{FieldUnit}
+use Rattle.aml_objects.specs.declared.entry.FieldSource.{FieldSource}
+use Rattle.aml_objects.specs.declared.entry.FieldSource.TheVariants as sources
+use Rattle.aml_objects.specs.declared.entry.UpdateRule.{UpdateRule}
+use Rattle.aml_objects.specs.declared.entry.UpdateRule.TheVariants.{Preserve, WriteAsOnes, WriteAsZeros}
+use Rattle.aml_convert.specs.Integers.{bits_of}
+use Rattle.aml_fields.specs.declared.region.Region.{Region}
+use Rattle.aml_fields.specs.declared.field_units.Unit.{Unit as Access}
+use Rattle.aml_fields.specs.Bits.{extended, bits_from, byte_count, packed, field_bits, put, bits_of as field_bits_of}
+use Rattle.aml_fields.specs.BufferFields.{lies_within, new_buffer_field, read_buffer_field, with_field, write_buffer_field}
+use Rattle.aml_fields.specs.Units.{units_from, units_up_to, units_of}
+use Rattle.aml_fields.specs.UnitByUnit.{read_units, bits_read, write_units, kept_by, kept}
+use Rattle.aml_fields.specs.Regions.{read_access, read_unit, read_field}
+use Rattle.aml_fields.proofs.Putting.{length_extended}
+use Rattle.aml_meaning.specs.declared.object_type.Referent.{Referent}
+use Rattle.aml_meaning.specs.declared.object_type.Referent.TheVariants as referent
+use Rattle.aml_meaning.specs.declared.regions.RegionSpace.{RegionSpace}
+use Rattle.aml_meaning.specs.declared.regions.RegionSpace.TheVariants as kinds
+use Rattle.aml_meaning.specs.declared.regions.RegionField.{RegionField}
+use Rattle.aml_meaning.specs.Given.{Given, Integer, Bytes}
+use Rattle.aml_meaning.specs.State.{State, on_space}
+use Rattle.aml_meaning.specs.Run.{Run, lift, charge}
+use Rattle.aml_meaning.specs.PciFunctions.{nearest, pci_function}
+use Rattle.aml_meaning.specs.Regions.{region_declared, field_declared, integer_of_bits, integer_value, value_of_bits, integer_alone, given_of_bits, integer_referent, referent_of_bits}
+use Rattle.aml_meaning.specs.Fields.{part_in, inherited, pci_address, space_at, located, region_bits, region_written, index_unit, index_unit_written, index_bits, index_written, field_unit_bits, field_unit_written, bits_in, written_in, field_value, field_integer, field_part, field_given, field_referent, field_stored}
+use Rattle.aml_laws.specs.Plain.{AreBytes}
+use Rattle.aml_laws.specs.Within.{WithinWidth}
+use Rattle.aml_laws.specs.Handed.{GivenWithin}
+use Rattle.aml_laws.specs.AllWithin.{Each, ObjectFits, FewBits, AllWithin}
+use Rattle.aml_laws.proofs.ReadingStepsGiveBytes.{Any}
+use Rattle.aml_laws.proofs.Invariants.{Maintained, Maintains, ok_fits, ok_maintained, err_maintained, settled_maintained, if_maintained, give_maintains, stop_maintains, settle_maintains, then_maintains}
+use Rattle.aml_laws.proofs.IntegersOfObjects.{make_buffer_maintains, buffer_at_maintains, exchange_buffer_maintains}
+use Rattle.aml_laws.proofs.IntegersOfOperators.{integer_in_buffer_fits}
+use Rattle.aml_laws.proofs.IntegersOfContents.{bits_are_bytes, bytes_within_length}
+use Rattle.aml_laws.proofs.IntegersOfWorlds.{WorldWithin, IntegerFits, on_objects_maintains, integer_at_width}
+use Rattle.aml_laws.proofs.IntegersOfTargets.{ReferentFits, declaration_maintains, bytes_in_maintains}
+
+-- ---- how many bits a field's units give
+
+abbrev AtMost64 : Access → Type 0
+AtMost64 u = u.count ≤ 64
+
+overlap_is_at_most : (a w c d : ℕ) → w ≤ 64 → min (a + w) c - max a d ≤ 64
+overlap_is_at_most a w c d l = omega arith
+
+unit_is_at_most : (w : Width) → bit_count w ≤ 64
+unit_is_at_most W8 = omega arith
+unit_is_at_most W16 = omega arith
+unit_is_at_most W32 = omega arith
+unit_is_at_most W64 = omega arith
+
+units_are_at_most : (offset bits : ℕ) (w : Width) (k n : ℕ) → Each AtMost64 (units_from offset bits w k n)
+unfolding units_from
+units_are_at_most offset bits w k zero = tt
+units_are_at_most offset bits w k (suc n) = (overlap_is_at_most (k * bit_count w) (bit_count w) (offset + bits) offset (unit_is_at_most w), units_are_at_most offset bits w (k + 1) n)
+
+units_from_length : (offset bits : ℕ) (w : Width) (k n : ℕ) → length (units_from offset bits w k n) ≡ n
+unfolding units_from
+units_from_length offset bits w k zero = refl
+units_from_length offset bits w k (suc n) = ap suc (units_from_length offset bits w (k + 1) n)
+
+units_up_to_at_most : (offset bits : ℕ) (w : Width) → units_up_to (offset + bits) w - offset / bit_count w ≤ bits + 1
+units_up_to_at_most offset bits W8 = omega arith
+units_up_to_at_most offset bits W16 = omega arith
+units_up_to_at_most offset bits W32 = omega arith
+units_up_to_at_most offset bits W64 = omega arith
+
+abbrev UnitsFit : ℕ → List Access → Type 0
+UnitsFit bits us = Each AtMost64 us × (length us ≤ bits + 1)
+
+units_fit_by_cases : (b : Bool) (offset bits : ℕ) (w : Width) → UnitsFit bits (if b then [] else units_from offset bits w (offset / bit_count w) (units_up_to (offset + bits) w - offset / bit_count w))
+units_fit_by_cases true offset bits w = (tt, omega arith)
+units_fit_by_cases false offset bits w = (units_are_at_most offset bits w _ _, let e = units_from_length offset bits w (offset / bit_count w) (units_up_to (offset + bits) w - offset / bit_count w) in let l = units_up_to_at_most offset bits w in omega arith)
+
+-- bytes, whose number is below two to the width
+abbrev pub FieldFits : IntegerWidth → List ℕ → Type 0
+FieldFits width bytes = AreBytes bytes × WithinWidth width (value.Integer (length bytes))
+
+byte_count_fits : (width : IntegerWidth) (n m : ℕ) → n ≤ 64 * (8388608 + 1) → m ≡ byte_count n → WithinWidth width (value.Integer m)
+byte_count_fits Bits32 n m l e = omega arith
+byte_count_fits Bits64 n m l e = omega arith
+
+module _ {H : Type 0} {I : H → Type 0} where
+  read_units_maintains : (read : Access → Change H ℕ) → ((u : Access) → Maintains I Any (read u)) → (us : List Access) → Each AtMost64 us → Maintains I (λ bits. length bits ≤ 64 * length us) (read_units read us)
+  unfolding read_units
+  read_units_maintains read each [] h = give_maintains _ (omega arith)
+  read_units_maintains read each (u ∷ us) h =
+      then_maintains _ _ (each u) (λ unit v. then_maintains _ _ (read_units_maintains read each us h.1) (λ bits l. give_maintains _
+      (let e = length-append (extended u.count (drop u.first (bits_from unit 0 64))) bits in let k = length_extended u.count (drop u.first (bits_from unit 0 64)) in let n = h.0 in omega arith)))
+
+  pub bits_read_maintains : (width : IntegerWidth) (read : Access → Change H ℕ) → ((u : Access) → Maintains I Any (read u)) → (f : FieldUnit) → FewBits f.bits → Maintains I (FieldFits width) (bits_read read f)
+  unfolding bits_read
+  bits_read_maintains width read each f fit =
+      let us = units_fit_by_cases (f.bits == 0) f.bit_offset f.bits f.access in
+      then_maintains _ _ (read_units_maintains read each (units_of f.bit_offset f.bits f.access) us.0) (λ bits l. give_maintains _
+      (bits_are_bytes (byte_count (length bits)) bits, byte_count_fits width (length bits) _ (let n = us.1 in omega arith) (bytes_within_length (byte_count (length bits)) bits)))
+
+  pub write_units_maintains : (write : Access → Change H (Unit {0})) → ((u : Access) → Maintains I Any (write u)) → (us : List Access) → Maintains I Any (write_units write us)
+  unfolding write_units
+  write_units_maintains write each [] = give_maintains _ tt
+  write_units_maintains write each (u ∷ us) = then_maintains _ _ (each u) (λ done v. write_units_maintains write each us)
+
+  kept_by_maintained : (rule : UpdateRule) (read : Change H ℕ) → Maintains I Any read → (h : H) → I h → Maintained I Any (kept_by rule read h)
+  kept_by_maintained Preserve read g h i = g.maintains h i
+  kept_by_maintained WriteAsOnes read g h i = ok_maintained 0 h i tt
+  kept_by_maintained WriteAsZeros read g h i = ok_maintained 0 h i tt
+
+  pub kept_maintains : (f : FieldUnit) (u : Access) (read : Change H ℕ) → Maintains I Any read → Maintains I Any (kept f u read)
+  unfolding kept
+  kept_maintains f u read g = record { maintains = λ h i. if_maintained (u.count == bit_count f.access) _ _ (λ b. ok_maintained 0 h i tt) (λ b. kept_by_maintained f.update read g h i) }
+
+-- ---- a field of a buffer
+
+buffer_field_fits : (c : Bool) (x b : BufferField) (e : Refusal) → FewBits x.bits → (if c then Ok x else Err e) ≡ Ok b → FewBits b.bits
+buffer_field_fits true x b e fit is = ok_fits (λ (y : BufferField). FewBits y.bits) x b is fit
+buffer_field_fits false x b e fit is = absurd (cc is)
+
+module _ (width : IntegerWidth) where
+  pub new_buffer_field_maintains : (o offset count : ℕ) → FewBits count → Maintains (Each (ObjectFits width)) (λ b. FewBits b.bits) (new_buffer_field o offset count)
+  unfolding new_buffer_field
+  new_buffer_field_maintains o offset count fit = then_maintains _ _ (buffer_at_maintains width o) (λ bytes h. settle_maintains _ (λ b e. buffer_field_fits (lies_within offset count bytes) (record { buffer = o; bit_offset = offset; bits = count }) b _ fit e))
+
+  read_buffer_field_maintains : (b : BufferField) → FewBits b.bits → Maintains (Each (ObjectFits width)) (FieldFits width) (read_buffer_field b)
+  unfolding read_buffer_field
+  read_buffer_field_maintains b fit = then_maintains _ _ (buffer_at_maintains width b.buffer) (λ bytes h. then_maintains {Fit = Any} _ _ (settle_maintains _ (λ a e. tt)) (λ whole u. give_maintains _ (packed_fits (field_bits bytes b.bit_offset b.bits) (let e = length_extended b.bits (drop b.bit_offset (field_bits_of bytes)) in omega arith))))
+    where
+      packed_fits : (bits : List Bool) → length bits ≤ 64 * (8388608 + 1) → FieldFits width (packed bits)
+      packed_fits bits l = (bits_are_bytes (byte_count (length bits)) bits, byte_count_fits width (length bits) _ l (bytes_within_length (byte_count (length bits)) bits))
+
+  write_buffer_field_maintains : (b : BufferField) (source : List ℕ) → Maintains (Each (ObjectFits width)) Any (write_buffer_field b source)
+  unfolding write_buffer_field
+  write_buffer_field_maintains b source = then_maintains _ _ (buffer_at_maintains width b.buffer) (λ bytes h. then_maintains {Fit = Any} _ _ (settle_maintains _ (λ a e. tt)) (λ whole u. then_maintains _ _ (exchange_buffer_maintains width b.buffer (with_field b source bytes) (bits_are_bytes (length bytes) _) (let e = bytes_within_length (length bytes) (put b.bit_offset (field_bits source 0 b.bits) (field_bits_of bytes)) in let l = h.1 in omega arith)) (λ old v. give_maintains _ tt)))
+
+-- ---- a field of a region
+
+module _ {S : Type 0} (accesses : Accesses S) (width : IntegerWidth) where
+  abbrev AnySpace : S → Type 0
+  AnySpace s = Unit {0}
+
+  read_unit_maintains : (r : Region) (w : Width) (u : Access) → Maintains AnySpace Any (read_unit accesses r w u)
+  unfolding read_unit read_access
+  read_unit_maintains r w u = then_maintains {Fit = Any} _ _ (settle_maintains _ (λ a e. tt)) (λ p v. record { maintains = λ s i. settled_maintained _ _ tt (λ a e. tt) })
+
+  read_field_maintains : (r : Region) (f : FieldUnit) → FewBits f.bits → Maintains AnySpace (FieldFits width) (read_field accesses r f)
+  read_field_maintains r f fit = bits_read_maintains width _ (read_unit_maintains r f.access) f fit
+
+module _ (S : Type 0) (width : IntegerWidth) where
+  abbrev pub RunWithin : State S × ℕ → Type 0
+  RunWithin s = AllWithin width s.0
+
+  pub lift_maintains : {A : Type 0} {Fit : A → Type 0} (m : Change (State S) A) → Maintains (WorldWithin S width) Fit m → Maintains RunWithin Fit (lift m)
+  unfolding lift
+  lift_maintains m h = record { maintains = λ s i. let g = h.maintains s.0 i in record { state = g.state; gives = g.gives } }
+
+  pub charge_maintains : Maintains RunWithin Any charge
+  unfolding charge
+  charge_maintains = record { maintains = λ s i. if_maintained (s.1 == 0) _ _ (λ b. err_maintained _ _ i) (λ b. ok_maintained _ _ i tt) }
+
+  on_space_maintains : {A : Type 0} {Fit : A → Type 0} (m : Change S A) → Maintains (λ s. Unit {0}) Fit m → Maintains (WorldWithin S width) Fit (on_space m)
+  unfolding on_space
+  on_space_maintains m h = record { maintains = λ w i. record { state = record { wide = i.wide; names = i.names; objects = i.objects; frames = i.frames }; gives = (h.maintains w.space tt).gives } }
+
+  pub any_on_space_maintains : {A : Type 0} (m : Change S A) → Maintains (WorldWithin S width) Any (on_space m)
+  unfolding on_space
+  any_on_space_maintains m = record { maintains = λ w i. record { state = record { wide = i.wide; names = i.names; objects = i.objects; frames = i.frames }; gives = λ a e. tt } }
+
+  region_declared_maintains : (n : ℕ) → Maintains (WorldWithin S width) Any (region_declared n)
+  unfolding region_declared
+  region_declared_maintains n = then_maintains _ _ (declaration_maintains S width n) (λ e f. then_maintains {Fit = Any} _ _ (settle_maintains _ (λ a e. tt)) (λ r u. give_maintains _ tt))
+
+  field_declared_maintains : (n : ℕ) → Maintains (WorldWithin S width) Any (field_declared n)
+  unfolding field_declared
+  field_declared_maintains n = then_maintains _ _ (declaration_maintains S width n) (λ e f. settle_maintains _ (λ a e. tt))
+
+  pci_function_maintains : (scope : List Seg) → Maintains (WorldWithin S width) Any (pci_function scope)
+  unfolding pci_function nearest
+  pci_function_maintains scope =
+      then_maintains {Fit = Any} _ _ (record { maintains = λ w i. settled_maintained _ w i (λ a e. tt) }) (λ near u. then_maintains {Fit = Any} _ _ (settle_maintains _ (λ a e. tt)) (λ q v.
+      then_maintains {Fit = Any} _ _ (record { maintains = λ w i. settled_maintained _ w i (λ a e. tt) }) (λ bridge x. then_maintains {Fit = Any} _ _ (settle_maintains _ (λ a e. tt)) (λ direct y. give_maintains _ tt))))
+
+  pub integer_of_bits_maintains : (bytes : List ℕ) → AreBytes bytes → Maintains (WorldWithin S width) (IntegerFits S width) (integer_of_bits bytes)
+  unfolding integer_of_bits
+  integer_of_bits_maintains bytes h = record { maintains = λ w i. settled_maintained _ w i (λ n e. integer_at_width S width w n i (integer_in_buffer_fits w.width bytes n h e)) }
+
+  value_of_bits_maintains : (count : ℕ) (bytes : List ℕ) → AreBytes bytes → Maintains (WorldWithin S width) (WithinWidth width) (value_of_bits count bytes)
+  unfolding value_of_bits integer_value
+  value_of_bits_maintains count bytes h = record { maintains = λ w i. if_maintained (nat_lt (bits_of w.width) count) _ _ (λ b. (on_objects_maintains S width (make_buffer bytes) (make_buffer_maintains width bytes h)).maintains w i) (λ b. (then_maintains (integer_of_bits bytes) _ (integer_of_bits_maintains bytes h) (λ n f. give_maintains _ f)).maintains w i) }
+
+  integer_alone_maintains : (count : ℕ) (bytes : List ℕ) → AreBytes bytes → Maintains (WorldWithin S width) (IntegerFits S width) (integer_alone count bytes)
+  unfolding integer_alone
+  integer_alone_maintains count bytes h = record { maintains = λ w i. if_maintained (nat_lt (bits_of w.width) count) _ _ (λ b. err_maintained _ w i) (λ b. (integer_of_bits_maintains bytes h).maintains w i) }
+
+  seen_referent_fits : (r : Outcome ℕ) (x : Referent) → ((n : ℕ) → r ≡ Ok n → IntegerFits S width n) → seen integer_referent r ≡ Ok x → ReferentFits width x
+  seen_referent_fits (Ok n) x h e = ok_fits (ReferentFits width) _ x e (h n refl)
+  seen_referent_fits (Err y) x h e = absurd (cc e)
+
+  referent_of_bits_maintains : (count : ℕ) (bytes : List ℕ) → FieldFits width bytes → Maintains (WorldWithin S width) (ReferentFits width) (referent_of_bits count bytes)
+  unfolding referent_of_bits
+  referent_of_bits_maintains count bytes h = record { maintains = λ w i. if_maintained (nat_lt (bits_of w.width) count) _ _ (λ b. ok_maintained (referent.Bytes (length bytes)) w i h.1) (λ b. settled_maintained _ w i (λ x e. seen_referent_fits _ x (λ n is. integer_at_width S width w n i (integer_in_buffer_fits w.width bytes n h.0 is)) e)) }
+
+  seen_given_fits : (r : Outcome ℕ) (x : Given) → ((n : ℕ) → r ≡ Ok n → IntegerFits S width n) → seen Integer r ≡ Ok x → GivenWithin width x
+  seen_given_fits (Ok n) x h e = ok_fits (GivenWithin width) _ x e (h n refl)
+  seen_given_fits (Err y) x h e = absurd (cc e)
+
+  given_of_bits_maintains : (count : ℕ) (bytes : List ℕ) → AreBytes bytes → Maintains (WorldWithin S width) (GivenWithin width) (given_of_bits count bytes)
+  unfolding given_of_bits
+  given_of_bits_maintains count bytes h = record { maintains = λ w i. if_maintained (nat_lt (bits_of w.width) count) _ _ (λ b. ok_maintained (Bytes bytes) w i h) (λ b. settled_maintained _ w i (λ x e. seen_given_fits _ x (λ n is. integer_at_width S width w n i (integer_in_buffer_fits w.width bytes n h is)) e)) }
+
+module _ (S : Type 0) (width : IntegerWidth) (accesses : Accesses S) (call : List Seg → Run S ℕ) (each : (q : List Seg) → Maintains (RunWithin S width) Any (call q)) where
+  part_in_maintains : (s : Seg) (o : Option (List Seg)) → Maintains (RunWithin S width) Any (part_in accesses call s o)
+  part_in_maintains s None = give_maintains _ tt
+  part_in_maintains s (Some q) = each _
+
+  inherited_maintains : (s : Seg) (q : List Seg) → Maintains (RunWithin S width) Any (inherited accesses call s q)
+  unfolding inherited nearest
+  inherited_maintains s q = then_maintains {Fit = Any} _ _ (lift_maintains S width _ (record { maintains = λ w i. settled_maintained _ w i (λ a e. tt) })) (λ o u. part_in_maintains s o)
+
+  space_at_maintains : (k : RegionSpace) (scope : List Seg) → Maintains (RunWithin S width) Any (space_at accesses call k scope)
+  unfolding pci_address
+  space_at_maintains kinds.SystemMemory scope = give_maintains _ tt
+  space_at_maintains kinds.SystemIo scope = give_maintains _ tt
+  space_at_maintains kinds.PciConfig scope = then_maintains _ _ (lift_maintains S width _ (pci_function_maintains S width scope)) (λ q u. then_maintains _ _ (inherited_maintains _ q) (λ seg v. then_maintains _ _ (inherited_maintains _ q) (λ bus x. then_maintains _ _ (each _) (λ address y. settle_maintains _ (λ a e. tt)))))
+  space_at_maintains kinds.Other scope = stop_maintains _
+
+  located_maintains : (n : ℕ) → Maintains (RunWithin S width) Any (located accesses call n)
+  unfolding located
+  located_maintains n = then_maintains _ _ (lift_maintains S width _ (region_declared_maintains S width n)) (λ d u. then_maintains _ _ (space_at_maintains _ d.0) (λ space v. give_maintains _ tt))
+
+  region_bits_maintains : (f : RegionField) → FewBits f.unit.bits → Maintains (RunWithin S width) (FieldFits width) (region_bits accesses call f)
+  unfolding region_bits
+  region_bits_maintains f fit = then_maintains _ _ (located_maintains f.region) (λ r u. lift_maintains S width _ (on_space_maintains S width _ (read_field_maintains accesses width r f.unit fit)))
+
+  any_region_bits_maintains : (f : RegionField) → Maintains (RunWithin S width) Any (region_bits accesses call f)
+  unfolding region_bits
+  any_region_bits_maintains f = then_maintains _ _ (located_maintains f.region) (λ r u. lift_maintains S width _ (any_on_space_maintains S width _))
+
+  region_written_maintains : (f : RegionField) (bytes : List ℕ) → Maintains (RunWithin S width) Any (region_written accesses call f bytes)
+  unfolding region_written
+  region_written_maintains f bytes = then_maintains _ _ (located_maintains f.region) (λ r u. lift_maintains S width _ (any_on_space_maintains S width _))
+
+  index_unit_maintains : (index behind : RegionField) (w : Width) (u : Access) → Maintains (RunWithin S width) Any (index_unit accesses call index behind w u)
+  unfolding index_unit
+  index_unit_maintains index behind w u = then_maintains _ _ (region_written_maintains index _) (λ chosen v. then_maintains _ _ (any_region_bits_maintains behind) (λ bytes x. give_maintains _ tt))
+
+  index_unit_written_maintains : (index behind : RegionField) (f : FieldUnit) (bytes : List ℕ) (u : Access) → Maintains (RunWithin S width) Any (index_unit_written accesses call index behind f bytes u)
+  unfolding index_unit_written
+  index_unit_written_maintains index behind f bytes u = then_maintains _ _ (kept_maintains f u _ (index_unit_maintains index behind f.access u)) (λ old v. then_maintains _ _ (region_written_maintains index _) (λ chosen x. region_written_maintains behind _))
+
+  field_unit_bits_maintains : (source : FieldSource) (f : FieldUnit) → FewBits f.bits → Maintains (RunWithin S width) (FieldFits width) (field_unit_bits accesses call source f)
+  unfolding index_bits
+  field_unit_bits_maintains (sources.Region n) f fit = region_bits_maintains _ fit
+  field_unit_bits_maintains (sources.Index i d) f fit = then_maintains _ _ (lift_maintains S width _ (field_declared_maintains S width i)) (λ index u. then_maintains _ _ (lift_maintains S width _ (field_declared_maintains S width d)) (λ behind v. bits_read_maintains width _ (index_unit_maintains index behind f.access) f fit))
+
+  field_unit_written_maintains : (source : FieldSource) (f : FieldUnit) (bytes : List ℕ) → Maintains (RunWithin S width) Any (field_unit_written accesses call source f bytes)
+  unfolding index_written
+  field_unit_written_maintains (sources.Region n) f bytes = region_written_maintains _ bytes
+  field_unit_written_maintains (sources.Index i d) f bytes = then_maintains _ _ (lift_maintains S width _ (field_declared_maintains S width i)) (λ index u. then_maintains _ _ (lift_maintains S width _ (field_declared_maintains S width d)) (λ behind v. write_units_maintains _ (index_unit_written_maintains index behind f bytes) (units_of f.bit_offset f.bits f.access)))
+
+  bits_in_maintains : (f : Field) → FewBits (bits_of_field f) → Maintains (RunWithin S width) (FieldFits width) (bits_in accesses call f)
+  bits_in_maintains (field.Unit u) fit = field_unit_bits_maintains u.source u fit
+  bits_in_maintains (field.Buffer b) fit = lift_maintains S width _ (on_objects_maintains S width _ (read_buffer_field_maintains width b fit))
+
+  written_in_maintains : (f : Field) (bytes : List ℕ) → Maintains (RunWithin S width) Any (written_in accesses call f bytes)
+  written_in_maintains (field.Unit u) bytes = field_unit_written_maintains u.source u bytes
+  written_in_maintains (field.Buffer b) bytes = lift_maintains S width _ (on_objects_maintains S width _ (write_buffer_field_maintains width b bytes))
+
+  pub field_value_maintains : (f : Field) → FewBits (bits_of_field f) → Maintains (RunWithin S width) (WithinWidth width) (field_value accesses call f)
+  unfolding field_value
+  field_value_maintains f fit = then_maintains _ _ (bits_in_maintains f fit) (λ bytes h. lift_maintains S width _ (value_of_bits_maintains S width (bits_of_field f) bytes h.0))
+
+  pub field_integer_maintains : (f : Field) → FewBits (bits_of_field f) → Maintains (RunWithin S width) (IntegerFits S width) (field_integer accesses call f)
+  unfolding field_integer
+  field_integer_maintains f fit = then_maintains _ _ (bits_in_maintains f fit) (λ bytes h. lift_maintains S width _ (integer_of_bits_maintains S width bytes h.0))
+
+  pub field_part_maintains : (f : Field) → FewBits (bits_of_field f) → Maintains (RunWithin S width) (IntegerFits S width) (field_part accesses call f)
+  unfolding field_part
+  field_part_maintains f fit = then_maintains _ _ (bits_in_maintains f fit) (λ bytes h. lift_maintains S width _ (integer_alone_maintains S width (bits_of_field f) bytes h.0))
+
+  pub field_referent_maintains : (f : Field) → FewBits (bits_of_field f) → Maintains (RunWithin S width) (ReferentFits width) (field_referent accesses call f)
+  unfolding field_referent
+  field_referent_maintains f fit = then_maintains _ _ (bits_in_maintains f fit) (λ bytes h. lift_maintains S width _ (referent_of_bits_maintains S width (bits_of_field f) bytes h))
+
+  pub field_given_maintains : (f : Field) → FewBits (bits_of_field f) → Maintains (RunWithin S width) (GivenWithin width) (field_given accesses call f)
+  unfolding field_given
+  field_given_maintains f fit = then_maintains _ _ (bits_in_maintains f fit) (λ bytes h. lift_maintains S width _ (given_of_bits_maintains S width (bits_of_field f) bytes h.0))
+
+  pub field_stored_maintains : (f : Field) (v : Value) → WithinWidth width v → Maintains (RunWithin S width) Any (field_stored accesses call f v)
+  unfolding field_stored
+  field_stored_maintains f v fit = then_maintains _ _ (lift_maintains S width _ (bytes_in_maintains S width v fit)) (λ bytes h. written_in_maintains f bytes)

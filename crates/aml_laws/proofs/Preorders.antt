@@ -1,0 +1,72 @@
+-- Changes that lead from each state to one that a preorder relates to it.
+use Rattle.std.specs.Prelude.{ℕ, ◌==◌, List, [], ◌∷◌, Bool, true, false, Ok, Err, if◌then◌else◌}
+use Rattle.ar_space.specs.declared.refusal.Refusal.{Refusal}
+use Rattle.ar_space.specs.Accesses.{bit_count}
+use Rattle.ar_space.specs.Outcome.{Outcome}
+use Rattle.ar_space.specs.Change.{Change, give, stop, settle, go_on, ◌>>=◌}
+use Rattle.aml_objects.specs.declared.entry.FieldUnit.{FieldUnit}
+use Rattle.aml_objects.specs.declared.entry.UpdateRule.{UpdateRule}
+use Rattle.aml_objects.specs.declared.entry.UpdateRule.TheVariants.{Preserve, WriteAsOnes, WriteAsZeros}
+use Rattle.aml_fields.specs.declared.field_units.Unit.{Unit as Access}
+use Rattle.aml_fields.specs.Units.{units_of}
+use Rattle.aml_fields.specs.UnitByUnit.{read_units, bits_read, write_units, kept_by, kept}
+
+pub either_branch : {X : Type 0} (P : X → Type 0) (b : Bool) (x y : X) → P x → P y → P (if b then x else y)
+either_branch P true x y h i = h
+either_branch P false x y h i = i
+
+pub record Preorder (H : Type 0) : Type 1 where
+  pub Leads : H → H → Type 0
+  pub reflexive : (h : H) → Leads h h
+  pub transitive : (h i j : H) → Leads h i → Leads i j → Leads h j
+
+pub record Respects {H A : Type 0} (R : Preorder H) (m : Change H A) : Type 0 where
+  pub respects : (h : H) → R.Leads h (m h).1
+
+module _ {H : Type 0} {R : Preorder H} where
+  pub give_respects : {A : Type 0} (a : A) → Respects R (give a)
+  unfolding give
+  give_respects a = record { respects = R.reflexive }
+
+  pub settle_respects : {A : Type 0} (x : Outcome A) → Respects R (settle x)
+  unfolding settle
+  settle_respects x = record { respects = R.reflexive }
+
+  pub stop_respects : {A : Type 0} (e : Refusal) → Respects {A = A} R (stop e)
+  unfolding stop
+  stop_respects e = record { respects = R.reflexive }
+
+  go_on_respects : {A B : Type 0} (h : H) (r : Outcome A) (i : H) (k : A → Change H B) → ((a : A) → Respects R (k a)) → R.Leads h i → R.Leads h (go_on r i k).1
+  unfolding go_on
+  go_on_respects h (Ok a) i k all g = R.transitive h i _ g ((all a).respects i)
+  go_on_respects h (Err e) i k all g = g
+
+  pub then_respects : {A B : Type 0} (m : Change H A) (k : A → Change H B) → Respects R m → ((a : A) → Respects R (k a)) → Respects R (m >>= k)
+  unfolding ◌>>=◌
+  then_respects m k f all = record { respects = λ h. go_on_respects h (m h).0 (m h).1 k all (f.respects h) }
+
+  -- ---- unit by unit
+
+  read_units_respects : (read : Access → Change H ℕ) → ((u : Access) → Respects R (read u)) → (us : List Access) → Respects R (read_units read us)
+  unfolding read_units
+  read_units_respects read each [] = give_respects _
+  read_units_respects read each (u ∷ us) = then_respects _ _ (each u) (λ unit. then_respects _ _ (read_units_respects read each us) (λ bits. give_respects _))
+
+  pub bits_read_respects : (read : Access → Change H ℕ) → ((u : Access) → Respects R (read u)) → (f : FieldUnit) → Respects R (bits_read read f)
+  unfolding bits_read
+  bits_read_respects read each f = then_respects _ _ (read_units_respects read each (units_of f.bit_offset f.bits f.access)) (λ bits. give_respects _)
+
+  pub write_units_respects : (write : Access → Change H (Unit {0})) → ((u : Access) → Respects R (write u)) → (us : List Access) → Respects R (write_units write us)
+  unfolding write_units
+  write_units_respects write each [] = give_respects _
+  write_units_respects write each (u ∷ us) = then_respects _ _ (each u) (λ done. write_units_respects write each us)
+
+  kept_or_whole_respects : (rule : UpdateRule) (whole : Bool) (read : Change H ℕ) → Respects R read → Respects R (λ h. if whole then (Ok 0, h) else kept_by rule read h)
+  kept_or_whole_respects rule true read g = record { respects = R.reflexive }
+  kept_or_whole_respects Preserve false read g = g
+  kept_or_whole_respects WriteAsOnes false read g = record { respects = R.reflexive }
+  kept_or_whole_respects WriteAsZeros false read g = record { respects = R.reflexive }
+
+  pub kept_respects : (f : FieldUnit) (u : Access) (read : Change H ℕ) → Respects R read → Respects R (kept f u read)
+  unfolding kept
+  kept_respects f u read g = kept_or_whole_respects f.update (u.count == bit_count f.access) read g

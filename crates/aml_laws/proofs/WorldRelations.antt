@@ -1,0 +1,261 @@
+-- Relations of worlds that each of the few changes that terms make of a world respects, and what follows for changes one after
+-- another, and for evaluations.
+use Rattle.std.specs.Prelude.{◌≡◌, ℕ, ◌+◌, ◌-◌, ◌==◌, ◌^◌, List, [], ◌∷◌, ◌++◌, replicate, Bool, true, false, Option, Some, None, Ok, Err, refl, if◌then◌else◌}
+use Rattle.std.proofs.Common.{subst, sym}
+use Rattle.ar_space.specs.declared.refusal.Refusal.{Refusal}
+use Rattle.ar_space.specs.declared.refusal.Refusal.TheVariants as refusal
+use Rattle.ar_space.specs.declared.refusal.EvaluationFault.TheVariants.{ObjectLimit}
+use Rattle.ar_space.specs.declared.refusal.NamespaceFault.TheVariants.{Exists, NotFound}
+use Rattle.ar_space.specs.Accesses.{Accesses}
+use Rattle.ar_space.specs.Outcome.{Outcome}
+use Rattle.ar_space.specs.Change.{Change, give, stop, settle, go_on, ◌>>=◌}
+use Rattle.std.specs.FinMap.{get, insert, contains_key}
+use Rattle.aml_path.specs.declared.segment.Seg.{Seg}
+use Rattle.aml_grammar.specs.declared.arities.Arity.{Arity}
+use Rattle.aml_objects.specs.Objects.{Objects}
+use Rattle.aml_objects.specs.declared.value.Value.{Value}
+use Rattle.aml_objects.specs.declared.value.Value.TheVariants as value
+use Rattle.aml_objects.specs.declared.entry.NamedObject.{NamedObject}
+use Rattle.aml_objects.specs.declared.entry.Entry.{Entry}
+use Rattle.aml_namespace.specs.Namespace.{Namespace, declared, replaced, replaced_in, with_object, without_below, above}
+use Rattle.aml_meaning.specs.declared.flow.Flow.{Flow}
+use Rattle.aml_meaning.specs.declared.frame.Frame.{Frame}
+use Rattle.aml_meaning.specs.declared.invocation.Invocation.{Invocation}
+use Rattle.aml_meaning.specs.declared.invocation.Invocation.TheVariants as invocation
+use Rattle.aml_meaning.specs.State.{State, on_objects, on_names, on_space}
+use Rattle.aml_meaning.specs.Run.{Run, lift, charge}
+use Rattle.aml_meaning.specs.Slots.{opened, closed}
+use Rattle.aml_meaning.specs.Invocations.{leaving}
+use Rattle.aml_meaning.specs.Calling.{released, ending, with_steps, framed, in_frame, counted}
+use Rattle.aml_laws.specs.Kinds.{KeepsKinds}
+use Rattle.aml_laws.specs.Numbers.{numbers_of}
+use Rattle.aml_laws.specs.Outside.{is_method}
+use Rattle.aml_laws.specs.Reached.{Reached}
+use Rattle.aml_laws.proofs.FoundNamesStand.{MethodStandsAt}
+use Rattle.aml_laws.proofs.Preorders.{Preorder, Respects, either_branch}
+use Rattle.aml_laws.proofs.ObjectKinds.{KeepsObjectKinds}
+use Rattle.aml_laws.proofs.RegisterAccesses.{OnlyAccesses}
+
+abbrev pub numbered_entry : ℕ → NamedObject → Entry
+numbered_entry n o = record { number = n; object = o }
+
+-- with a new declaration
+abbrev pub with_declaration : List Seg → NamedObject → Namespace → Namespace
+with_declaration q o s = record { map = insert s.map q (numbered_entry s.next o); next = s.next + 1 }
+
+-- in a frame of its own
+abbrev pub in_new_frame : {S : Type 0} → List Value → State S → State S
+in_new_frame vs w = record w { frames = w.frames ++ record { number = w.started; locals = replicate 8 value.Uninitialized; arguments = vs } ∷ []; started = w.started + 1 }
+
+pub record WorldRelation {S : Type 0} (accesses : Accesses S) : Type 1 where
+  pub Leads : State S → State S → Type 0
+  pub reflexive : (w : State S) → Leads w w
+  pub transitive : (u v w : State S) → Leads u v → Leads v w → Leads u w
+  -- objects are made and written to
+  pub objects_change : (w : State S) (h : Objects) → KeepsKinds w.objects h → Leads w (record w { objects = h })
+  -- a name is declared where none stands; another object, no control method, under a name
+  pub name_declared : (w : State S) (q : List Seg) (o : NamedObject) → contains_key w.names.map q ≡ false → Leads w (record w { names = with_declaration q o w.names })
+  pub object_replaced : (w : State S) (q : List Seg) (o : NamedObject) (e : Entry) → get w.names.map q ≡ Some e → is_method o ≡ false → Leads w (record w { names = record w.names { map = insert w.names.map q (with_object o e) } })
+  -- slots take values
+  pub slots_written : (w : State S) (frames : List Frame) → numbers_of frames ≡ numbers_of w.frames → Leads w (record w { frames = frames })
+  -- a frame is opened, and closed after what stands between
+  pub frame_closed : (w v : State S) (vs : List Value) → Leads (in_new_frame vs w) v → Leads w (closed v)
+  -- at the end of a call the names below a control method that stood when it was found are removed
+  pub names_removed : (u w : State S) (q : List Seg) → MethodStandsAt u.names.map q → Leads u w → Leads u (record w { names = without_below q w.names })
+  -- registers are read and written
+  pub space_accessed : (w : State S) (s : S) → Reached accesses w.space s → Leads w (record w { space = s })
+  -- a table tells how many arguments names take, and all mutexes are free after it
+  pub arities_set : (w : State S) (list : List Arity) → Leads w (record w { arities = list })
+  pub mutexes_released : (w : State S) → Leads w (released w)
+
+-- a change that leads each world to a related one; an evaluation that does, and one that does so from where one world has come
+pub record Preserves {S A : Type 0} {accesses : Accesses S} (relation : WorldRelation accesses) (m : Change (State S) A) : Type 0 where
+  pub preserves : (w : State S) → relation.Leads w (m w).1
+
+pub record RunPreserves {S A : Type 0} {accesses : Accesses S} (relation : WorldRelation accesses) (m : Run S A) : Type 0 where
+  pub preserves : (s : State S × ℕ) → relation.Leads s.0 (m s).1.0
+
+pub record RunPreservesFrom {S A : Type 0} {accesses : Accesses S} (relation : WorldRelation accesses) (u : State S) (m : Run S A) : Type 0 where
+  pub preserves_from : (s : State S × ℕ) → relation.Leads u s.0 → relation.Leads u (m s).1.0
+
+-- as a relation of worlds with the steps that are left
+abbrev pub run_preorder : {S : Type 0} {accesses : Accesses S} → WorldRelation accesses → Preorder (State S × ℕ)
+run_preorder relation = record { Leads = λ s t. relation.Leads s.0 t.0; reflexive = λ s. relation.reflexive s.0; transitive = λ s t u. relation.transitive s.0 t.0 u.0 }
+
+-- what is called is a control method that stands
+abbrev pub CalledMethodStands : {S : Type 0} → State S → Invocation → Type 0
+CalledMethodStands w i = (q : List Seg) (body : List ℕ) → i ≡ invocation.Method q body → MethodStandsAt w.names.map q
+
+-- the names below a path may be removed from what the world has become
+abbrev pub MayRemoveBelow : {S : Type 0} {accesses : Accesses S} → WorldRelation accesses → State S → List Seg → Type 0
+MayRemoveBelow {S = S} relation u q = (v : State S) → relation.Leads u v → relation.Leads u (record v { names = without_below q v.names })
+
+-- a change that finds what is called, and changes nothing
+pub record FindsInvocation {S : Type 0} (m : Change (State S) Invocation) : Type 0 where
+  pub same : (w : State S) → (m w).1 ≡ w
+  pub called : (w : State S) (i : Invocation) → (m w).0 ≡ Ok i → CalledMethodStands w i
+
+go_on_unchanged : {S A : Type 0} (r : Outcome A) (w v : State S) (k : A → Change (State S) Invocation) → ((a : A) → FindsInvocation (k a)) → v ≡ w → (go_on r v k).1 ≡ w
+unfolding go_on
+go_on_unchanged (Ok a) w v k h e = rw ((h a).same v) e
+go_on_unchanged (Err x) w v k h e = e
+
+go_on_called : {S A : Type 0} (r : Outcome A) (w v : State S) (k : A → Change (State S) Invocation) → ((a : A) → FindsInvocation (k a)) → v ≡ w → (i : Invocation) → (go_on r v k).0 ≡ Ok i → CalledMethodStands w i
+unfolding go_on
+go_on_called (Ok a) w v k h e i is = subst (λ x. CalledMethodStands x i) e ((h a).called v i is)
+go_on_called (Err x) w v k h e i is = absurd (cc is)
+
+pub then_finds_invocation : {S A : Type 0} (m : Change (State S) A) (k : A → Change (State S) Invocation) → ((w : State S) → (m w).1 ≡ w) → ((a : A) → FindsInvocation (k a)) → FindsInvocation (m >>= k)
+unfolding ◌>>=◌
+then_finds_invocation m k h i = record { same = λ w. go_on_unchanged (m w).0 w (m w).1 k i (h w); called = λ w. go_on_called (m w).0 w (m w).1 k i (h w) }
+
+-- ---- names that are declared, and replaced
+
+declared_by_cases : {S : Type 0} {accesses : Accesses S} (relation : WorldRelation accesses) (w : State S) (b c d : Bool) (q : List Seg) (o : NamedObject) (e f g : Refusal) → contains_key w.names.map q ≡ c
+    → relation.Leads w (record w { names = (if◌then◌else◌ {A = Outcome ℕ × Namespace} b (if c then (Err e, w.names) else (if d then (Err f, w.names) else (Ok w.names.next, with_declaration q o w.names))) (Err g, w.names)).1 })
+declared_by_cases relation w true true d q o e f g is = relation.reflexive w
+declared_by_cases relation w true false true q o e f g is = relation.reflexive w
+declared_by_cases relation w true false false q o e f g is = relation.name_declared w q o is
+declared_by_cases relation w false c d q o e f g is = relation.reflexive w
+
+replaced_by_cases : {S : Type 0} {accesses : Accesses S} (relation : WorldRelation accesses) (w : State S) (q : List Seg) (o : NamedObject) (e : Option Entry) → get w.names.map q ≡ e → is_method o ≡ false → relation.Leads w (record w { names = (replaced_in q o w.names e).1 })
+replaced_by_cases relation w q o None at is = relation.reflexive w
+replaced_by_cases relation w q o (Some e) at is = relation.object_replaced w q o e at is
+
+module _ {S : Type 0} {accesses : Accesses S} {relation : WorldRelation accesses} where
+  -- ---- changes of the world
+
+  -- one that leaves it as it is
+  pub unchanged_preserves : {A : Type 0} (m : Change (State S) A) → ((w : State S) → (m w).1 ≡ w) → Preserves relation m
+  unchanged_preserves m h = record { preserves = λ w. subst (relation.Leads w) (sym (h w)) (relation.reflexive w) }
+
+  pub give_preserves : {A : Type 0} (a : A) → Preserves relation (give a)
+  unfolding give
+  give_preserves a = record { preserves = relation.reflexive }
+
+  pub stop_preserves : {A : Type 0} (e : Refusal) → Preserves {A = A} relation (stop e)
+  unfolding stop
+  stop_preserves e = record { preserves = relation.reflexive }
+
+  pub settle_preserves : {A : Type 0} (x : Outcome A) → Preserves relation (settle x)
+  unfolding settle
+  settle_preserves x = record { preserves = relation.reflexive }
+
+  go_on_preserves : {A B : Type 0} (u : State S) (r : Outcome A) (w : State S) (k : A → Change (State S) B) → ((a : A) → Preserves relation (k a)) → relation.Leads u w → relation.Leads u (go_on r w k).1
+  unfolding go_on
+  go_on_preserves u (Ok a) w k h m = relation.transitive u w _ m ((h a).preserves w)
+  go_on_preserves u (Err e) w k h m = m
+
+  pub then_preserves : {A B : Type 0} (m : Change (State S) A) (k : A → Change (State S) B) → Preserves relation m → ((a : A) → Preserves relation (k a)) → Preserves relation (m >>= k)
+  unfolding ◌>>=◌
+  then_preserves m k h i = record { preserves = λ w. go_on_preserves w (m w).0 (m w).1 k i (h.preserves w) }
+
+  pub on_objects_preserves : {A : Type 0} (m : Change Objects A) → KeepsObjectKinds m → Preserves relation (on_objects m)
+  unfolding on_objects
+  on_objects_preserves m h = record { preserves = λ w. relation.objects_change w _ (h.respects w.objects) }
+
+  pub on_space_preserves : {A : Type 0} (m : Change S A) → OnlyAccesses accesses m → Preserves relation (on_space m)
+  unfolding on_space
+  on_space_preserves m h = record { preserves = λ w. relation.space_accessed w _ (h.respects w.space) }
+
+  pub declared_preserves : (q : List Seg) (o : NamedObject) → Preserves relation (on_names (declared q o))
+  unfolding on_names declared
+  declared_preserves q o = record {
+    preserves = λ w. declared_by_cases relation w (contains_key w.names.map (above q)) (contains_key w.names.map q) (w.names.next == 2 ^ 64 - 1) q o (refusal.Namespace Exists) (refusal.Evaluation ObjectLimit) (refusal.Namespace NotFound) refl;
+  }
+
+  -- another object under a name, which is no control method
+  pub replaced_preserves : (q : List Seg) (o : NamedObject) → is_method o ≡ false → Preserves relation (on_names (replaced q o))
+  unfolding on_names replaced
+  replaced_preserves q o is = record { preserves = λ w. replaced_by_cases relation w q o (get w.names.map q) refl is }
+
+  -- however it ended
+  pub ending_preserves : {A : Type 0} (m : Change (State S) A) → Preserves relation m → Preserves relation (ending m)
+  unfolding ending
+  ending_preserves m h = record { preserves = λ w. relation.transitive w (m w).1 _ (h.preserves w) (relation.mutexes_released (m w).1) }
+
+  pub in_frame_preserves : {A : Type 0} (vs : List Value) (m : Change (State S) A) → Preserves relation m → Preserves relation (in_frame vs m)
+  unfolding in_frame opened framed ◌>>=◌ go_on
+  in_frame_preserves vs m h = record {
+    preserves = λ w. either_branch (λ (x : Outcome ℕ × State S). relation.Leads w (go_on x.0 x.1 (λ n. framed m)).1) (w.started == 2 ^ 64 - 1) (Err (refusal.Evaluation ObjectLimit), w) (Ok w.started, in_new_frame vs w)
+        (relation.reflexive w) (relation.frame_closed w _ vs (h.preserves (in_new_frame vs w)));
+  }
+
+  -- ---- evaluations
+
+  pub run_give_preserves : {A : Type 0} (a : A) → RunPreserves relation (give a)
+  unfolding give
+  run_give_preserves a = record { preserves = λ s. relation.reflexive s.0 }
+
+  pub run_stop_preserves : {A : Type 0} (e : Refusal) → RunPreserves {A = A} relation (stop e)
+  unfolding stop
+  run_stop_preserves e = record { preserves = λ s. relation.reflexive s.0 }
+
+  pub run_settle_preserves : {A : Type 0} (x : Outcome A) → RunPreserves relation (settle x)
+  unfolding settle
+  run_settle_preserves x = record { preserves = λ s. relation.reflexive s.0 }
+
+  pub lift_preserves : {A : Type 0} (m : Change (State S) A) → Preserves relation m → RunPreserves relation (lift m)
+  unfolding lift
+  lift_preserves m h = record { preserves = λ s. h.preserves s.0 }
+
+  pub charge_preserves : RunPreserves relation charge
+  unfolding charge
+  charge_preserves = record { preserves = λ s. either_branch (λ (x : Outcome (Unit {0}) × (State S × ℕ)). relation.Leads s.0 x.1.0) (s.1 == 0) _ _ (relation.reflexive s.0) (relation.reflexive s.0) }
+
+  run_go_on_preserves : {A B : Type 0} (u : State S) (r : Outcome A) (s : State S × ℕ) (k : A → Run S B) → ((a : A) → RunPreserves relation (k a)) → relation.Leads u s.0 → relation.Leads u (go_on r s k).1.0
+  unfolding go_on
+  run_go_on_preserves u (Ok a) s k h m = relation.transitive u s.0 _ m ((h a).preserves s)
+  run_go_on_preserves u (Err e) s k h m = m
+
+  pub run_then_preserves : {A B : Type 0} (m : Run S A) (k : A → Run S B) → RunPreserves relation m → ((a : A) → RunPreserves relation (k a)) → RunPreserves relation (m >>= k)
+  unfolding ◌>>=◌
+  run_then_preserves m k h i = record { preserves = λ s. run_go_on_preserves s.0 (m s).0 (m s).1 k i (h.preserves s) }
+
+  pub preserves_respects : {A : Type 0} {m : Run S A} → RunPreserves relation m → Respects (run_preorder relation) m
+  preserves_respects h = record { respects = h.preserves }
+
+  pub respects_preserves : {A : Type 0} {m : Run S A} → Respects (run_preorder relation) m → RunPreserves relation m
+  respects_preserves h = record { preserves = h.respects }
+
+  -- ---- with so many steps
+
+  pub with_steps_preserves : {A : Type 0} (steps : ℕ) (m : Run S A) → RunPreserves relation m → Preserves relation (with_steps steps m)
+  unfolding with_steps
+  with_steps_preserves steps m h = record { preserves = λ w. h.preserves (w, steps) }
+
+  pub counted_preserves : (steps : ℕ) (m : Run S Value) → RunPreserves relation m → Preserves relation (counted steps m)
+  unfolding counted
+  counted_preserves steps m h = record { preserves = λ w. h.preserves (w, steps) }
+
+  -- ---- calls
+
+  pub run_preserves_from : {A : Type 0} (u : State S) (m : Run S A) → RunPreserves relation m → RunPreservesFrom relation u m
+  run_preserves_from u m h = record { preserves_from = λ s i. relation.transitive u s.0 _ i (h.preserves s) }
+
+  go_on_preserves_from : {A B : Type 0} (u : State S) (r : Outcome A) (s : State S × ℕ) (k : A → Run S B) → ((a : A) → RunPreservesFrom relation u (k a)) → relation.Leads u s.0 → relation.Leads u (go_on r s k).1.0
+  unfolding go_on
+  go_on_preserves_from u (Ok a) s k h m = (h a).preserves_from s m
+  go_on_preserves_from u (Err e) s k h m = m
+
+  pub then_preserves_from : {A B : Type 0} (u : State S) (m : Run S A) (k : A → Run S B) → RunPreservesFrom relation u m → ((a : A) → RunPreservesFrom relation u (k a)) → RunPreservesFrom relation u (m >>= k)
+  unfolding ◌>>=◌
+  then_preserves_from u m k h i = record { preserves_from = λ s j. go_on_preserves_from u (m s).0 (m s).1 k i (h.preserves_from s j) }
+
+  -- a body that is evaluated in a frame of its own, where the names below its control method may be removed
+  pub body_preserves_from : (u : State S) (vs : List Value) (q : List Seg) (m : Run S Flow) → MayRemoveBelow relation u q → RunPreserves relation m → RunPreservesFrom relation u (lift (opened vs) >>= (λ n. leaving q m))
+  unfolding opened leaving lift ◌>>=◌ go_on
+  body_preserves_from u vs q m gone h = record {
+    preserves_from = λ s i. either_branch (λ (x : Outcome ℕ × State S). relation.Leads u (go_on x.0 (x.1, s.1) (λ n. leaving q m)).1.0) (s.0.started == 2 ^ 64 - 1) (Err (refusal.Evaluation ObjectLimit), s.0) (Ok s.0.started, in_new_frame vs s.0)
+        i (gone (closed (m (in_new_frame vs s.0, s.1)).1.0) (relation.transitive u s.0 _ i (relation.frame_closed s.0 _ vs (h.preserves (in_new_frame vs s.0, s.1)))));
+  }
+
+  found_invocation_by_cases : {A : Type 0} (u v : State S) (n : ℕ) (r : Outcome Invocation) (k : Invocation → Run S A) → v ≡ u → ((i : Invocation) → r ≡ Ok i → RunPreservesFrom relation u (k i)) → relation.Leads u (go_on r (v, n) k).1.0
+  unfolding go_on
+  found_invocation_by_cases u v n (Ok i) k e h = (h i refl).preserves_from (v, n) (subst (relation.Leads u) (sym e) (relation.reflexive u))
+  found_invocation_by_cases u v n (Err x) k e h = subst (relation.Leads u) (sym e) (relation.reflexive u)
+
+  -- what is found, and then called
+  pub found_then_preserves : {A : Type 0} (m : Change (State S) Invocation) (k : Invocation → Run S A) → FindsInvocation m → ((u : State S) (i : Invocation) → CalledMethodStands u i → RunPreservesFrom relation u (k i)) → RunPreserves relation (lift m >>= k)
+  unfolding lift ◌>>=◌
+  found_then_preserves m k f h = record { preserves = λ s. found_invocation_by_cases s.0 (m s.0).1 s.1 (m s.0).0 k (f.same s.0) (λ i e. h s.0 i (f.called s.0 i e)) }
