@@ -1,0 +1,286 @@
+#!/usr/bin/env python3
+"""check.py PROGRAM | check.py --rows
+
+Runs the examples of this folder over a built acpiroute, for instance crates/acpiroute/out/acpiroute:
+
+- each command of README.md has to leave the stored report, or the output and the line that stand in this script;
+- `check` has to say yes to each report;
+- tools/report_graph.py has to make the stored graph of it, and JSON with the same loads;
+- tools/machine_text.py has to make each machine text anew from the tables in it, and to refuse files that are no tables;
+- where iasl is installed, the ASL sources have to compile to these tables.
+
+Each difference is printed. The last line is `N passed, M failed`, and the exit status is 0 where none failed.
+
+With --rows it runs nothing, and prints the examples as rows for crates/program_rows/data/examples.rows."""
+import json
+import os
+import shutil
+import subprocess
+import sys
+import tempfile
+
+HERE = os.path.dirname(os.path.abspath(__file__))
+TOOLS = os.path.join(os.path.dirname(HERE), "tools")
+ROWS = os.path.join(os.path.dirname(HERE), "crates/program_rows/data")
+# The reports: each with its machine text and its command.
+REPORTS = {
+    "two-links": ("two-links", ["route"]),
+    "i440fx": ("i440fx", ["route"]),
+    "q35.pic": ("q35", ["route", "--mode", "pic"]),
+    "q35.apic": ("q35", ["route"]),
+    "index": ("index", ["route"]),
+}
+# Other commands: the machine text, the words, the exit status, the output and the line of errors.
+COMMANDS = [
+    ("refused", ["route"], 1, "", "refused 101\n"),
+    ("refused", ["eval", "\\_SB_.LNKA._PRS"], 0, "buffer 232004187900\n", ""),
+    ("refused", ["eval", "\\_SB_.LNKB._PRS"], 0, "buffer 232004087900\n", ""),
+]
+# The words for machine_text.py beside the tables. The text of two-links is written by hand.
+WORDS = {
+    "i440fx": ["--pci", "i440fx.lspci"],
+    "q35": ["--pci", "q35.lspci"],
+    "index": ["--io", "C00=0005"],
+    "refused": [],
+}
+# The ASL sources of each machine text, in the order of its DSDT, SSDT and MADT.
+SOURCES = {
+    "two-links": ["two-links"],
+    "i440fx": ["i440fx"],
+    "q35": ["q35"],
+    "index": ["index", "index-ssdt", "index-madt"],
+    "refused": ["refused"],
+}
+HEADER_BYTES = 36
+
+
+class Check:
+    """What passed and what failed."""
+
+    def __init__(self):
+        self.passed, self.failed = 0, 0
+
+    def same(self, what, found, wanted):
+        if found == wanted:
+            self.passed += 1
+            return
+        self.failed += 1
+        print(f"{what}:\n  wanted {wanted!r}\n  found  {found!r}")
+
+
+def stored(name):
+    with open(os.path.join(HERE, name), encoding="ascii") as it:
+        return it.read()
+
+
+def write(file, data):
+    with open(file, "wb") as it:
+        it.write(data)
+
+
+def ran(words, text=""):
+    """The status, the output and the errors of a command."""
+    done = subprocess.run(words, input=text, capture_output=True, text=True, cwd=HERE, check=False)
+    return done.returncode, done.stdout, done.stderr
+
+
+def tool(name, *words):
+    return [sys.executable, os.path.join(TOOLS, name), *words]
+
+
+# ---- the program
+
+
+def check_program(check, program):
+    for name, (machine, words) in REPORTS.items():
+        report = stored(f"{name}.report")
+        check.same(f"{machine}.txt by {' '.join(words)}", ran([program, *words], stored(f"{machine}.txt")), (0, report, ""))
+        check.same(f"check of {name}.report", ran([program, "check"], report), (0, "yes\n", ""))
+    for machine, words, status, output, errors in COMMANDS:
+        check.same(f"{machine}.txt by {' '.join(words)}", ran([program, *words], stored(f"{machine}.txt")), (status, output, errors))
+
+
+# ---- report_graph.py
+
+
+def sources_served(report):
+    """How many sources a report counts: a link that is given an interrupt is one, and so is a wired pin."""
+    lines = [it.split() for it in report.splitlines()]
+    return sum(it[0] == "give" for it in lines) + sum(int(it[2]) for it in lines if it[0] == "wired")
+
+
+def check_graphs(check):
+    for name in REPORTS:
+        report = stored(f"{name}.report")
+        check.same(f"the graph of {name}.report", ran(tool("report_graph.py"), report), (0, stored(f"{name}.dot"), ""))
+        told = json.loads(ran(tool("report_graph.py", "--json", f"{name}.report"))[1])
+        loads = [it["load"] for it in told["interrupts"]]
+        check.same(f"the loads of {name} as JSON", (sum(loads), max(loads)), (sources_served(report), told["busiest"]))
+    for text in ("", "acpiroute 1\n", "acpiroute 1\nmode apic\nlink LNKA\n", "no report\n"):
+        status, output, errors = ran(tool("report_graph.py"), text)
+        check.same(f"report_graph.py over {text!r}", (status, output, errors.count("\n")), (1, "", 1))
+
+
+# ---- machine_text.py
+
+
+def memory_of(text):
+    """The bytes of memory in a machine text, and the address of its RSDP."""
+    memory, root = {}, None
+    for line in text.splitlines():
+        word, *rest = line.split(" ")
+        if word == "rsdp":
+            root = int(rest[0], 16)
+        if word == "mem":
+            memory.update(enumerate(bytes.fromhex("".join(rest[1:])), int(rest[0], 16)))
+    return memory, root
+
+
+def number_at(memory, at, size):
+    return int.from_bytes(bytes(memory[at + it] for it in range(size)), "little")
+
+
+def table_at(memory, at):
+    return bytes(memory[at + it] for it in range(number_at(memory, at + 4, 4)))
+
+
+def tables_of(name):
+    """The tables of a machine text: DSDT, SSDTs, MADT, FADT."""
+    memory, root = memory_of(stored(f"{name}.txt"))
+    xsdt = number_at(memory, root + 24, 8)
+    listed = [table_at(memory, number_at(memory, it, 8)) for it in range(xsdt + HEADER_BYTES, xsdt + number_at(memory, xsdt + 4, 4), 8)]
+    dsdt = next(table_at(memory, int.from_bytes(it[40:44], "little")) for it in listed if it[:4] == b"FACP")
+    return [dsdt] + [it for kind in (b"SSDT", b"APIC", b"FACP") for it in listed if it[:4] == kind]
+
+
+def without_remarks(text):
+    return [it for it in text.splitlines() if not it.startswith("#")]
+
+
+def as_dump(tables):
+    """The tables as a text like that of acpidump."""
+    lines = []
+    for table in tables:
+        lines.append(f"{table[:4].decode()} @ 0x0000000000000000")
+        for at in range(0, len(table), 16):
+            row = table[at : at + 16]
+            letters = "".join(chr(it) if 0x20 <= it < 0x7F else "." for it in row)
+            lines.append(f"    {at:04X}: {row.hex(' ').upper():<47}  {letters}")
+        lines.append("")
+    return "\n".join(lines)
+
+
+def as_memory(name):
+    """The memory of a machine text, from address 0 on."""
+    memory, _ = memory_of(stored(f"{name}.txt"))
+    return bytes(memory.get(it, 0) for it in range(max(memory) + 1))
+
+
+def check_machine_texts(check):
+    """Each machine text, made of all tables in it, without its FADT, of a text of acpidump, and of a memory dump."""
+    for name, words in WORDS.items():
+        wanted = without_remarks(stored(f"{name}.txt"))
+        tables = tables_of(name)
+
+        def same(what, source, text=""):
+            status, output, errors = ran(tool("machine_text.py", *words, source), text)
+            check.same(f"{name}.txt from {what}", (status, without_remarks(output), errors), (0, wanted, ""))
+
+        with tempfile.TemporaryDirectory() as folder:
+            for number, table in enumerate(tables):
+                write(f"{folder}/table{number}.aml", table)
+            same("the tables in it", folder)
+            os.remove(f"{folder}/table{len(tables) - 1}.aml")
+            same("its tables but the FADT", folder)
+            write(f"{folder}/memory", as_memory(name))
+            same("a memory dump", f"{folder}/memory")
+        same("a text like that of acpidump", "-", as_dump(tables))
+
+
+def check_faults(check):
+    """Files that are no tables, and wrong usage."""
+    dsdt = tables_of("two-links")[0]
+    faults = {"empty": b"", "short": dsdt[:20], "cut": dsdt[:-1], "long": dsdt + b"\0", "text": b"A text.\n" * 9, "no DSDT": b"OEM1" + dsdt[4:]}
+    with tempfile.TemporaryDirectory() as folder:
+        for name, data in faults.items():
+            write(f"{folder}/{name}", data)
+            status, output, errors = ran(tool("machine_text.py", f"{folder}/{name}"))
+            check.same(f"machine_text.py over a table that is {name}", (status, output, errors.count("\n")), (1, "", 1))
+    check.same("machine_text.py over a file that is not there", ran(tool("machine_text.py", "nothing.aml"))[0], 1)
+    for words in ([], ["--io", "60"], ["--io", "60=G"], ["--mem", "=00"], ["--osi", "", "x"], ["--unknown", "x"]):
+        check.same(f"machine_text.py {' '.join(words)}", ran(tool("machine_text.py", *words))[:2], (2, ""))
+
+
+# ---- sources
+
+
+def compiled(name, folder):
+    """The table that iasl makes of a source."""
+    done = ran(["iasl", "-oa", "-p", f"{folder}/{name}", f"{name}.asl"])
+    if done[0] != 0:
+        return done[1] + done[2]
+    with open(f"{folder}/{name}.aml", "rb") as it:
+        return it.read()[HEADER_BYTES:].hex()
+
+
+def check_sources(check):
+    if not shutil.which("iasl"):
+        print("iasl isn't installed: the sources are not compiled")
+        return
+    with tempfile.TemporaryDirectory() as folder:
+        for name, sources in SOURCES.items():
+            for source, table in zip(sources, tables_of(name)):
+                check.same(f"{source}.asl, compiled", compiled(source, folder), table[HEADER_BYTES:].hex())
+
+
+# ---- rows
+
+
+def row(name, machine, words, status, output, errors):
+    lines = [f"row the example {name}"] + [f"arg {it}" for it in words] + [f"like {machine}.txt"]
+    lines += [f"out {it}" for it in output.splitlines()] + [f"err {it}" for it in errors.splitlines()]
+    return lines + ([f"status {status}"] if status else [])
+
+
+def rows():
+    """The examples as rows for the program that runs them at the gate."""
+    every = [row(name, machine, words, 0, stored(f"{name}.report"), "") for name, (machine, words) in REPORTS.items()]
+    every += [row(f"{it[0]} by {' '.join(it[1])}", *it) for it in COMMANDS]
+    head = "# The examples of the folder examples/. This file is written by `examples/check.py --rows`."
+    return "\n".join([head] + ["\n" + "\n".join(it) for it in every]) + "\n"
+
+
+def check_rows(check):
+    check.same("examples.rows", read_in(ROWS, "examples.rows"), rows())
+    for name in SOURCES:
+        check.same(f"{name}.txt beside the rows", read_in(ROWS, f"{name}.txt"), stored(f"{name}.txt"))
+
+
+def read_in(folder, name):
+    try:
+        with open(os.path.join(folder, name), encoding="ascii") as it:
+            return it.read()
+    except OSError as error:
+        return f"{name}: {error.strerror}"
+
+
+def main(words):
+    if words == ["--rows"]:
+        print(rows(), end="")
+        return 0
+    if len(words) != 1 or words[0].startswith("-"):
+        print(__doc__, file=sys.stderr)
+        return 2
+    check = Check()
+    check_program(check, os.path.abspath(words[0]))
+    check_graphs(check)
+    check_machine_texts(check)
+    check_faults(check)
+    check_sources(check)
+    check_rows(check)
+    print(f"{check.passed} passed, {check.failed} failed")
+    return 1 if check.failed else 0
+
+
+if __name__ == "__main__":
+    sys.exit(main(sys.argv[1:]))

@@ -1,0 +1,242 @@
+#!/usr/bin/env python3
+"""opcodes.py [--check]
+
+Writes docs/OPCODES.md, one row for each opcode of AML: its row in the grammar, which rule it is evaluated by, where the rule is
+defined, which function evaluates it, and where it is tested. All of it is read from the sources.
+
+With --check it writes nothing, and fails (status 1) where the page differs from what the sources say."""
+import glob
+import os
+import re
+import sys
+
+TOP = os.path.dirname(os.path.dirname(os.path.abspath(__file__)))
+PAGE = "docs/OPCODES.md"
+# Each function that gives a kind: the constructor of its kinds in the rules, and the enum of the code.
+KIND_FUNCTIONS = {
+    "data_kind": (None, "DataKind"),
+    "declaration_kind": (None, "DeclarationKind"),
+    "region_kind": (None, "RegionKind"),
+    "statement_kind": (None, "StatementKind"),
+    "slot_kind": ("Slot", "OperatorKind"),
+    "integer_operator": ("Two", "OperatorKind"),
+    "two_operands": ("Two", "OperatorKind"),
+    "one_operand": ("One", "OperatorKind"),
+    "test_kind": ("Test", "OperatorKind"),
+    "other_operator": (None, "OperatorKind"),
+}
+# The rules of each enum of kinds: the function that chooses among them, and its file.
+RULES = {
+    "DataKind": ("data_rule", "DataTerms"),
+    "DeclarationKind": ("declaration_rule", "DeclarationTerms"),
+    "RegionKind": ("region_term_rule", "FieldTerms"),
+    "StatementKind": ("statement_rule", "StatementTerms"),
+    "OperatorKind": ("operator_rule", "OperatorTerms"),
+}
+# The functions that give an operator's value of those of its operands.
+VALUES = {"integer_operator": "result_of_two", "two_operands": "result_of_two", "one_operand": "result_of_one", "test_kind": "result_of_test"}
+# The names that ASL has for opcodes which the grammar names otherwise.
+ASL_NAMES = {
+    "OpRegion": "OperationRegion", "PowerRes": "PowerResource", "FromBcd": "FromBCD", "ToBcd": "ToBCD", "DataRegion": "DataTableRegion",
+}
+# Terms that are evaluated but for one form.
+PARTLY = {"Field": "a list with a connection", "IndexField": "a list with a connection"}
+HEAD = """# Opcodes
+
+<!-- Written by tools/opcodes.py from the sources: change those, and run it again. -->
+
+One row for each opcode of AML (ACPI 6.5, 20.3).
+
+- **Operands** are those of the grammar's row (`crates/aml_grammar/specs/Table.antt`; the same table as code is
+  `crates/aml_terms/src/table.rt`), behind the class that says where the term may stand. `in a package` means that a package length
+  comes first.
+- **Kind** is the rule that evaluates the term (`crates/aml_meaning/specs/Terms.antt`; as code `crates/aml_meaning/src/kinds.rt`).
+  *left out* means that the term is read, and refused by number 73 with its opcode where it is evaluated.
+- **Definition** is a function in `crates/aml_meaning/specs`, **Code** a function in `crates/aml_interp/src`, or in the crate that is
+  named.
+- **Tests** are files of rows: in `crates/name_rows/data` the one with the row `the opcode NAME, read and refused`, and in
+  `crates/evaluation_rows/data` the one that names the term most often.
+
+| Opcode | Name | Operands | Kind | Definition | Code | Tests |
+|---|---|---|---|---|---|---|
+"""
+
+
+class Missing(Exception):
+    """Something that the sources don't have."""
+
+
+def text_of(file):
+    with open(f"{TOP}/{file}", encoding="utf-8") as it:
+        return it.read()
+
+
+def files_in(pattern):
+    return sorted(os.path.relpath(it, TOP) for it in glob.glob(f"{TOP}/{pattern}", recursive=True))
+
+
+# ---- what the sources say
+
+
+def opcodes():
+    """The opcodes in the order of the code: name and number."""
+    found = re.findall(r"^    (\w+) = 0x([0-9A-F]+),", text_of("crates/aml_grammar/src/opcode.rt"), re.MULTILINE)
+    return {name: int(number, 16) for name, number in found}
+
+
+def grammar_rows():
+    """The operands of each opcode, as the page writes them."""
+    rows = {}
+    for form, name, kind, operands in re.findall(r"(plain|packaged) opcodes\.(\w+) classes\.(\w+) (\[\]|\(.*?\[\]\))",
+                                                 text_of("crates/aml_grammar/specs/Table.antt")):
+        words = " ".join(re.findall(r"kinds\.(\w+)", operands)) or "none"
+        rows[name] = f"{kind}: {'in a package ' * (form == 'packaged')}{words}"
+    return rows
+
+
+def kinds():
+    """The kind of each opcode that is evaluated: the function that gives it, and the kind."""
+    text = text_of("crates/aml_meaning/specs/Terms.antt")
+    found = {}
+    for function in KIND_FUNCTIONS:
+        for name, kind in re.findall(rf"^{function} opcodes\.(\w+) = Some (.*)$", text, re.MULTILINE):
+            found[name] = (function, [it.split(".")[-1] for it in kind.strip("()").split()])
+    return found
+
+
+def target_kinds():
+    """The opcodes that name a target and are no values, each with the kind of its target."""
+    text = text_of("crates/aml_meaning/specs/Terms.antt")
+    return dict(re.findall(r"^target_kind_of opcodes\.(\w+) = targets\.(\w+)$", text, re.MULTILINE))
+
+
+def rule_of(function, kind):
+    """The rule of a kind, and the file of the rules."""
+    inside, enum = KIND_FUNCTIONS[function]
+    chooser, file = RULES[enum]
+    found = re.search(rf"^ *{chooser} \(?kinds\.{inside or kind[0]}\b.*= (.*)$", text_of(f"crates/aml_meaning/specs/{file}.antt"), re.MULTILINE)
+    if not found:
+        raise Missing(f"{file}.antt has no rule for {' '.join(kind)}")
+    words = found[1].split()
+    return file, " ".join(words[:2]) if words[0] in ("give", "new_scope") else words[0]
+
+
+def value_of(function, kind):
+    """The function that gives an operator's value of those of its operands, or None where the rule says all."""
+    chooser, word = VALUES.get(function), "Integers" if function == "integer_operator" else kind[0]
+    if kind[0] == "Count":
+        chooser, word = "counted_by", kind[1]
+    if not chooser:
+        return None
+    found = re.search(rf"^{chooser} \(?\w+\.{word}\b.*= (\w+)", text_of("crates/aml_meaning/specs/OperatorTerms.antt"), re.MULTILINE)
+    if not found:
+        raise Missing(f"{chooser} has no clause for {word}")
+    return found[1]
+
+
+def functions_of_evaluation():
+    """Each function of evaluation, with its file."""
+    found = {}
+    for file in files_in("crates/aml_interp/src/*.rt"):
+        for name in re.findall(r"^(?:pub\(crate\) )?fn (eval_\w+)", text_of(file), re.MULTILINE):
+            found[name] = os.path.basename(file)[:-3]
+    return found
+
+
+def code_of(function, kind, functions):
+    """The function that evaluates a kind."""
+    inside, enum = KIND_FUNCTIONS[function]
+    for file in files_in("crates/aml_interp/src/*.rt"):
+        found = re.search(rf"{enum}::{inside or kind[0]}\b(?:\([^)]*\))? =>\s*(?:\{{\s*)?(\w+)", text_of(file))
+        if found and found[1] in functions:
+            return found[1]
+        if found:
+            return re.findall(r"fn (eval_\w+)", text_of(file)[: found.start()])[-1]
+    raise Missing(f"no function evaluates {' '.join(kind)}")
+
+
+# ---- tests
+
+
+def grammar_tests():
+    found = {}
+    for file in files_in("crates/name_rows/data/*.rows"):
+        for name in re.findall(r"^row the opcode (\w+), read and refused$", text_of(file), re.MULTILINE):
+            found[name] = os.path.basename(file)[:-5]
+    return found
+
+
+def told_lines():
+    """The lines of evaluation rows that are in words: names of rows, and remarks."""
+    return {os.path.basename(file)[:-5]: [it for it in text_of(file).splitlines() if it.startswith(("row", "#"))]
+            for file in files_in("crates/evaluation_rows/data/*.rows")}
+
+
+def evaluation_test(name, lines):
+    """The file of evaluation rows that names an opcode most often."""
+    word = re.compile(rf"\b(?:{name}|{ASL_NAMES.get(name, name)})\b")
+    counts = {file: sum(bool(word.search(it)) for it in some) for file, some in lines.items()}
+    file = max(sorted(counts), key=counts.get)
+    return file if counts[file] else None
+
+
+# ---- the page
+
+
+def kind_text(name, function, kind):
+    words = {"integer_operator": f"Integers {kind[0]}"}.get(function, "Constant" if kind[0] == "Constant" else " ".join(kind))
+    partly = f"; {PARTLY[name]} is left out: refused 73" if name in PARTLY else ""
+    return f"{KIND_FUNCTIONS[function][1].removesuffix('Kind').lower()}: {words}{partly}"
+
+
+def how(name, sources):
+    """Kind, definition and code of an opcode."""
+    if name in sources["targets"] and name not in sources["kinds"]:
+        return f"target: {sources['targets'][name]}", "`Terms`: `target_kind_of`", "`aml_meaning`, `kinds`: `target_kind_of`"
+    if name not in sources["kinds"]:
+        return "left out: refused 73", "-", "-"
+    function, kind = sources["kinds"][name]
+    file, rule = rule_of(function, kind)
+    value = value_of(function, kind)
+    code = code_of(function, kind, sources["functions"])
+    definition = f"`{file}`: `{rule}`" + (f", of values `{value}`" if value else "")
+    return kind_text(name, function, kind), definition, f"`{sources['functions'][code]}`: `{code}`"
+
+
+def row(name, number, sources):
+    if name not in sources["grammar"] or name not in sources["tests"]:
+        raise Missing(f"{name} has no row in the grammar, or no test")
+    kind, definition, code = how(name, sources)
+    evaluated = evaluation_test(name, sources["lines"])
+    tests = f"`{sources['tests'][name]}`" + (f", `{evaluated}`" if evaluated else "")
+    return f"| {number:02X} | {name} | {sources['grammar'][name]} | {kind} | {definition} | {code} | {tests} |"
+
+
+def page():
+    sources = {"grammar": grammar_rows(), "kinds": kinds(), "targets": target_kinds(), "functions": functions_of_evaluation(),
+               "tests": grammar_tests(), "lines": told_lines()}
+    rows = [row(name, number, sources) for name, number in opcodes().items()]
+    return HEAD + "\n".join(rows) + "\n"
+
+
+def main(words):
+    if words not in ([], ["--check"]):
+        print(__doc__, file=sys.stderr)
+        return 2
+    try:
+        wanted = page()
+    except Missing as missing:
+        print(f"opcodes.py: {missing}", file=sys.stderr)
+        return 1
+    if not words:
+        with open(f"{TOP}/{PAGE}", "w", encoding="utf-8") as it:
+            it.write(wanted)
+        return 0
+    if not os.path.exists(f"{TOP}/{PAGE}") or text_of(PAGE) != wanted:
+        print(f"opcodes.py: {PAGE} is stale: run tools/opcodes.py", file=sys.stderr)
+        return 1
+    return 0
+
+
+if __name__ == "__main__":
+    sys.exit(main(sys.argv[1:]))

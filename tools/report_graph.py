@@ -1,0 +1,322 @@
+#!/usr/bin/env python3
+"""report_graph.py [--json] [REPORT]
+
+Draws a report of acpiroute: writes it as a graph in Graphviz's language, or with --json as JSON, to the standard output. The report
+is read from the file REPORT, or from the standard input where none is named.
+
+    acpiroute route < machine.txt | tools/report_graph.py | dot -Tsvg > machine.svg
+
+On the left are the pins of devices, in the middle the link devices, on the right the interrupts with their loads: the sources that each
+serves. Devices whose pins lead to the same are drawn as one. A thick line leads to the interrupt that a link is given, dotted lines to
+the others that it offers. Links and interrupts of the `bound` line are filled, and an interrupt that is as busy as the busiest has a
+double line around it. Links that are not present are drawn with dashes, and those whose setting was refused in red.
+
+The exit status is 0, 1 where the input is no report (one line on the error output says why), or 2 for wrong usage."""
+import argparse
+import json
+import re
+import sys
+
+NAME = "report_graph.py"
+PATH = r"\\(?:[A-Z_][A-Z0-9_]{3}(?:\.[A-Z_][A-Z0-9_]{3})*)?"
+NUMBER = r"(?:0|[1-9]\d*)"
+NUMBERS = rf"{NUMBER}(?: {NUMBER})*"
+STATE = rf"none|-|{NUMBERS}"
+# Each kind of line after the first one, with its parts.
+LINES = {word: re.compile(f"{word} {rest}") for word, rest in {
+    "mode": r"(apic|pic)",
+    "ioapic": rf"({NUMBER}) at ([0-9A-F]{{8}}) base ({NUMBER})",
+    "override": rf"({NUMBER}) to ({NUMBER}) flags ([0-9A-F]{{4}})",
+    "link": rf"({PATH}) (small|extended) (low|high) offers ({NUMBERS}) now ({STATE})",
+    "wired": rf"({NUMBER}) ({NUMBER})",
+    "pin": rf"({PATH}) ({NUMBER}) ([A-D]) (?:({NUMBER}) wired|({NUMBER}|absent) ({PATH}))",
+    "give": rf"({PATH}) ({NUMBER})",
+    "busiest": rf"({NUMBER})",
+    "bound": rf"(?:(none)|(-|{PATH}(?: {PATH})*) over ({NUMBERS}))",
+    "set": rf"({PATH}) (?:(ok|none)|refused ({NUMBER}))",
+    "after": rf"({PATH}) (?:({STATE})|refused ({NUMBER}))",
+}.items()}
+
+
+class Fault(Exception):
+    """What is wrong with the report, as a line for the user."""
+
+
+# ---- the report
+
+
+def state(text):
+    """What a link is set to: None without _CRS, else a list."""
+    return None if text == "none" else [] if text == "-" else numbers(text)
+
+
+def numbers(text):
+    return [int(it) for it in text.split()]
+
+
+def unless_refused(told, refusal):
+    return {"refused": int(refusal)} if refusal else told
+
+
+def is_refused(told):
+    return isinstance(told, dict)
+
+
+class Report:
+    """A report, gathered line by line."""
+
+    def __init__(self):
+        self.mode, self.busiest, self.bound = None, None, None
+        self.bound_is_told = False
+        self.io_apics, self.overrides, self.pins = [], [], []
+        self.links, self.wired = {}, {}
+
+    def known(self, path):
+        if path not in self.links:
+            raise Fault(f"{path} has no line 'link' before this one")
+        return self.links[path]
+
+    def add_mode(self, mode):
+        self.mode = mode
+
+    def add_ioapic(self, number, address, base):
+        self.io_apics.append({"id": int(number), "address": address, "base": int(base)})
+
+    def add_override(self, source, interrupt, flags):
+        self.overrides.append({"source": int(source), "interrupt": int(interrupt), "flags": flags})
+
+    def add_link(self, path, form, polarity, offers, now):
+        if path in self.links:
+            raise Fault(f"{path} has a second line 'link'")
+        self.links[path] = {"path": path, "form": form, "polarity": polarity, "offers": numbers(offers), "now": state(now)}
+
+    def add_wired(self, interrupt, count):
+        self.wired[int(interrupt)] = int(count)
+
+    def add_pin(self, device, number, pin, wired, given, link):
+        found = {"device": device, "number": int(number), "pin": pin, "link": link, "interrupt": int(wired or "0")}
+        if not wired:
+            found["interrupt"] = None if given == "absent" else int(given)
+        self.pins.append(found)
+
+    def add_give(self, path, interrupt):
+        self.known(path)["give"] = int(interrupt)
+
+    def add_busiest(self, load):
+        self.busiest = int(load)
+
+    def add_bound(self, none, links, interrupts):
+        self.bound_is_told = True
+        if not none:
+            paths = [] if links == "-" else links.split()
+            self.bound = {"links": [self.known(it)["path"] for it in paths], "interrupts": numbers(interrupts)}
+
+    def add_set(self, path, word, refusal):
+        self.known(path)["set"] = unless_refused(word, refusal)
+
+    def add_after(self, path, text, refusal):
+        self.known(path)["after"] = unless_refused(state(text or "none"), refusal)
+
+    def add(self, line):
+        word = line.split(" ", 1)[0]
+        if word not in LINES:
+            raise Fault(f"no line of a report begins with '{word[:40]}'")
+        found = LINES[word].fullmatch(line)
+        if not found:
+            raise Fault(f"not a line '{word}' of a report: '{line[:120]}'")
+        getattr(self, f"add_{word}")(*found.groups())
+
+    def tested(self):
+        for path, link in self.links.items():
+            if "give" not in link:
+                raise Fault(f"{path} has no line 'give'")
+        for word, is_told in (("mode", self.mode), ("busiest", self.busiest is not None), ("bound", self.bound_is_told)):
+            if not is_told:
+                raise Fault(f"the line '{word}' is missing")
+        return self
+
+    def interrupts(self):
+        """Each interrupt that is offered or wired, with its load."""
+        found = {it: [] for link in self.links.values() for it in link["offers"] + [link["give"]]}
+        found.update({it: [] for it in self.wired})
+        for link in self.links.values():
+            found[link["give"]].append(link["path"])
+        inside = self.bound["interrupts"] if self.bound else []
+        return [{"number": it, "load": len(links) + self.wired.get(it, 0), "wired": self.wired.get(it, 0), "links": links,
+                 "in_bound": it in inside} for it, links in sorted(found.items())]
+
+
+def report_of(text):
+    """The report that a text is."""
+    lines = text.split("\n")
+    if lines[0] != "acpiroute 1":
+        raise Fault("line 1: a report of acpiroute begins with 'acpiroute 1'" if text else "the input is empty")
+    report = Report()
+    for number, line in enumerate(lines[1:-1] if lines[-1] == "" else lines[1:], 2):
+        try:
+            report.add(line)
+        except Fault as fault:
+            raise Fault(f"line {number}: {fault}") from None
+    return report.tested()
+
+
+# ---- JSON
+
+
+def as_json(report):
+    whole = {
+        "version": 1, "mode": report.mode, "io_apics": report.io_apics, "overrides": report.overrides,
+        "links": list(report.links.values()), "pins": report.pins, "interrupts": report.interrupts(),
+        "busiest": report.busiest, "bound": report.bound,
+    }
+    return json.dumps(whole, indent=2) + "\n"
+
+
+# ---- Graphviz
+
+
+def quoted(text):
+    return '"' + text.replace("\\", "\\\\").replace('"', '\\"').replace("\n", "\\n") + '"'
+
+
+def line_of(name, **attributes):
+    some = ", ".join(f"{key}={quoted(str(value))}" for key, value in attributes.items())
+    return f"  {name} [{some}];"
+
+
+def state_text(numbers_set):
+    return "none" if numbers_set is None else " ".join(map(str, numbers_set)) or "-"
+
+
+def outcome_text(told, text):
+    return f"refused {told['refused']}" if is_refused(told) else text(told)
+
+
+def link_text(link):
+    """What is written in the box of a link device."""
+    lines = [link["path"], f"{link['form']} {link['polarity']}", f"offers {' '.join(map(str, link['offers']))}"]
+    lines.append(f"now {state_text(link['now'])}, given {link['give']}")
+    if "set" in link:
+        lines.append(f"set: {outcome_text(link['set'], str)}")
+    if "after" in link:
+        lines.append(f"after: {outcome_text(link['after'], state_text)}")
+    return "\n".join(lines)
+
+
+def link_lines(report):
+    inside = report.bound["links"] if report.bound else []
+    lines = []
+    for link in report.links.values():
+        colour = {"style": "filled", "fillcolor": "lightsalmon"} if link["path"] in inside else {}
+        if is_refused(link.get("set")) or is_refused(link.get("after")):
+            colour["color"] = "red"
+        lines.append(line_of(quoted(link["path"]), label=link_text(link), **colour))
+    absent = dict.fromkeys(it["link"] for it in report.pins if it["link"] and it["interrupt"] is None)
+    return lines + [line_of(quoted(it), label=f"{it}\nabsent", style="dashed") for it in absent]
+
+
+def interrupt_lines(report):
+    lines = []
+    for it in report.interrupts():
+        colour = {"style": "filled", "fillcolor": "lightsalmon"} if it["in_bound"] else {}
+        wired = f" ({it['wired']} wired)" if it["wired"] else ""
+        rings = 2 if it["load"] == report.busiest and it["load"] else 1
+        lines.append(line_of(quoted(f"interrupt {it['number']}"), label=f"{it['number']}\nload {it['load']}{wired}", shape="ellipse",
+                             peripheries=rings, **colour))
+    names = " ".join(quoted(f"interrupt {it['number']}") + ";" for it in report.interrupts())
+    return lines + ([f'  {{ rank="sink"; {names} }}'] if names else [])
+
+
+def offer_lines(report):
+    lines = []
+    for link in report.links.values():
+        for it in link["offers"]:
+            kind = {"penwidth": 2} if it == link["give"] else {"style": "dotted", "arrowhead": "none"}
+            lines.append(line_of(f"{quoted(link['path'])} -> {quoted('interrupt ' + str(it))}", **kind))
+    return lines
+
+
+def target_of(pin):
+    return pin["link"] or f"interrupt {pin['interrupt']}"
+
+
+def groups_of(pins):
+    """The numbers of devices by what their pins lead to: those that lead to the same are drawn together."""
+    devices, groups = {}, {}
+    for pin in pins:
+        devices.setdefault((pin["device"], pin["number"]), []).append((pin["pin"], target_of(pin)))
+    for (device, number), leads in devices.items():
+        groups.setdefault((device, tuple(leads)), []).append(number)
+    return groups
+
+
+def device_text(numbers_drawn):
+    """Device numbers, six in a line."""
+    words = [str(it) for it in numbers_drawn]
+    rows = [" ".join(words[it : it + 6]) for it in range(0, len(words), 6)]
+    return "\n".join([f"device{'s' * (len(words) > 1)} {rows[0]}", *rows[1:]])
+
+
+def pin_lines(report):
+    lines = []
+    for (device, leads), some in groups_of(report.pins).items():
+        name = quoted(f"{device} {some[0]}")
+        cells = "|".join(f"<{pin}> {pin}" for pin, _ in leads)
+        label = quoted(f"{{{{{device}\n{device_text(some)}}}|{{{cells}}}}}")
+        lines.append(f'  {name} [shape="record", label={label}];')
+        lines += [f"  {name}:{pin} -> {quoted(target)};" for pin, target in leads]
+    return lines
+
+
+def title(report):
+    lines = [f"mode {report.mode}, busiest {report.busiest}"]
+    lines += [f"I/O APIC {it['id']} at {it['address']}, interrupts from {it['base']}" for it in report.io_apics]
+    lines += [f"source {it['source']} is interrupt {it['interrupt']}, flags {it['flags']}" for it in report.overrides]
+    return "\n".join(lines)
+
+
+def as_graph(report):
+    lines = ["digraph acpiroute {", '  rankdir="LR";', f"  label={quoted(title(report))};", '  node [shape="box", fontname="monospace"];']
+    lines += pin_lines(report) + link_lines(report) + interrupt_lines(report) + offer_lines(report)
+    return "\n".join([*lines, "}", ""])
+
+
+# ---- the command line
+
+
+def text_of(name):
+    try:
+        if name is None:
+            return sys.stdin.buffer.read().decode("ascii")
+        with open(name, "rb") as it:
+            return it.read().decode("ascii")
+    except OSError as error:
+        raise Fault(f"{name}: {error.strerror}") from error
+    except UnicodeDecodeError as error:
+        raise Fault("the input has bytes that are no ASCII, and so is no report") from error
+
+
+def parsed(words):
+    parser = argparse.ArgumentParser(prog=NAME, usage=__doc__.split("\n", 1)[0], description=__doc__.split("\n", 2)[2],
+                                     formatter_class=argparse.RawDescriptionHelpFormatter, allow_abbrev=False)
+    parser.add_argument("--json", action="store_true", help=argparse.SUPPRESS)
+    parser.add_argument("report", nargs="?", metavar="REPORT", help=argparse.SUPPRESS)
+    return parser.parse_args(words)
+
+
+def main(words):
+    words = parsed(words)
+    try:
+        report = report_of(text_of(words.report))
+        sys.stdout.write(as_json(report) if words.json else as_graph(report))
+        sys.stdout.flush()
+    except Fault as fault:
+        print(f"{NAME}: {fault}", file=sys.stderr)
+        return 1
+    except BrokenPipeError:
+        return 1
+    return 0
+
+
+if __name__ == "__main__":
+    sys.exit(main(sys.argv[1:]))
