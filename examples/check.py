@@ -1,5 +1,5 @@
 #!/usr/bin/env python3
-"""check.py PROGRAM | check.py --rows
+"""check.py PROGRAM | check.py --tools | check.py --rows
 
 Runs the examples of this folder over a built acpiroute, for instance crates/acpiroute/out/acpiroute:
 
@@ -11,7 +11,7 @@ Runs the examples of this folder over a built acpiroute, for instance crates/acp
 
 Each difference is printed. The last line is `N passed, M failed`, and the exit status is 0 where none failed.
 
-With --rows it runs nothing, and prints the examples as rows for crates/program_rows/data/examples.rows."""
+With --tools it needs no program, and leaves out what the program prints. With --rows it runs nothing, and prints the examples as rows for crates/program_rows/data/examples.rows."""
 import json
 import os
 import shutil
@@ -268,11 +268,12 @@ def main(words):
     if words == ["--rows"]:
         print(rows(), end="")
         return 0
-    if len(words) != 1 or words[0].startswith("-"):
+    if len(words) != 1 or words[0].startswith("-") and words[0] != "--tools":
         print(__doc__, file=sys.stderr)
         return 2
     check = Check()
-    check_program(check, os.path.abspath(words[0]))
+    if words[0] != "--tools":
+        check_program(check, os.path.abspath(words[0]))
     check_graphs(check)
     check_machine_texts(check)
     check_faults(check)
