@@ -231,8 +231,9 @@ def try_some(crate, groups):
         for group in groups:
             shown = try_group(crate, group, kept)
             for edit in group:
-                refused, text = (True, shown[edit.name]) if edit.name in shown else rt.must_fail(crate, edit.file, ["--jobs", "1"], kept)
-                said, well = said + [text], well and refused
+                came, text = (rt.REFUSED, shown[edit.name]) if edit.name in shown else rt.must_fail(crate, edit.file, ["--jobs", "1"], kept)
+                # (an edit that can't be applied or compiled shows nothing, nor does one that was not tried)
+                said, well = said + [text], well and came in (rt.REFUSED, rt.AT_LIMIT)
         # what the edits left in the folder must not have spoilt the crate's own verdict
         if rt.checked(crate, {}, ["--jobs", "1"], kept).returncode:
             return [*said, f"{crate.name}: not proved over what its edits left: try it again from nothing"], False

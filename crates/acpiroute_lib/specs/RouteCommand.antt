@@ -33,8 +33,8 @@ completion_of sets = if list_any (λ line. is_refused line.outcome) sets then Se
 abbrev pub printed : RoutingReport → Written
 printed report = record { text = text_of_report report; completion = completion_of report.sets }
 
--- The text of the report of a machine, which has left the machine as it is after, its register space among it. What the text claims is
--- what the report claims, the answer to the machine's problem, and `check` says yes to it.
+-- The text of the report of a machine; `after` is the machine that setting the links leaves, its register space among it. What the text
+-- claims is what the report claims, the answer to the machine's problem, and `check` says yes to it.
 pub record IsReportOf (dry : Bool) (m : MachineState Bytes) (w : Written) : Type 0 where
   pub report : RoutingReport
   pub after : MachineState Bytes
