@@ -1,6 +1,7 @@
 //! Links are set, and then what each of them is set to is read (ACPI 6.5, 6.2.16 and 6.2.2).
-ghost use Rattle.std.specs.Prelude.{◌≡◌, ◌++◌, ◌∷◌, [], Ok, Err, IfErr, Contains, length, map, option_map};
+ghost use Rattle.std.specs.Prelude.{◌≡◌, ◌≢◌, ◌++◌, ◌∷◌, [], Ok, Err, IfErr, Contains, length, map, option_map};
 ghost use Rattle.std.specs.List.{AllZip};
+ghost use Rattle.ar_space.specs.declared.refusal.Refusal.{Refusal};
 ghost use Rattle.ar_space.specs.declared.refusal.Refusal.TheVariants.{OutOfMemory};
 ghost use Rattle.ar_space.specs.Outcome.{NotMemory, Answers, seen};
 ghost use Rattle.ar_space.specs.Change.{Does};
@@ -123,6 +124,7 @@ fn set_line(alloc: Global, path: &Path, outcome: SetOutcome) -> Result<SetLine, 
 /// What is told of setting a link; want of memory is no outcome.
 fn set_outcome(outcome: Result<bool, Refusal>) -> Result<SetOutcome, Refusal>
     ensures told { NotMemory outcome → Answers result (Ok (set_told outcome)) }
+    ensures plain { NotMemory outcome → NotMemory result }
     ensures memory { outcome ≡ Err OutOfMemory → result ≡ Err OutOfMemory }
     ensures only { IfErr result (λ refusal. refusal ≡ OutOfMemory) }
 {
@@ -194,6 +196,7 @@ fn state_of(
     state: Result<Option<InterruptNumbers>, Refusal>,
 ) -> Result<After, Refusal>
     ensures told { NotMemory state → Answers (seen after_state result) (Ok (state_told state)) }
+    ensures plain { (e : Refusal) → state ≡ Err e → e ≢ OutOfMemory → NotMemory (seen after_state result) }
     ensures memory { state ≡ Err OutOfMemory → seen after_state result ≡ Err OutOfMemory }
     ensures only { IfErr result (λ refusal. refusal ≡ OutOfMemory) }
 {
