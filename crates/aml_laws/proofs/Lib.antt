@@ -5,6 +5,7 @@
 pub mod ArgumentsAndAnswersPreserve
 pub mod ChangesNothing
 pub mod ChangesPreserve
+pub mod CountNeverFalls
 pub mod CountedCalls
 pub mod CountedChanges
 pub mod CountedFields

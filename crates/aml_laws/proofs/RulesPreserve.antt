@@ -475,7 +475,7 @@ module _ {S : Type 0} {accesses : Accesses S} {relation : WorldRelation accesses
   code_rule_preserves codes.ExtendedAccessField scope depth t = run_stop_preserves _
   code_rule_preserves codes.ConnectField scope depth t = run_stop_preserves _
 
-  rule_preserves : (t : Task) → RunPreserves relation (rule accesses ev t)
+  pub rule_preserves : (t : Task) → RunPreserves relation (rule accesses ev t)
   unfolding rule
   rule_preserves t = code_rule_preserves (code_of t.term) t.scope t.depth t.term
 
