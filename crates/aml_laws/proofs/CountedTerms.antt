@@ -30,7 +30,7 @@ module _ {S : Type 0} (accesses : Accesses S) where
       let r = rule_counts accesses (counted_within accesses n) (evaluated_within accesses n) (λ u. record { same = λ s. (within_counts n u s.0 s.1).0; leads = λ s. (within_counts n u s.0 s.1).1 }) t in
       (r.same (one_more_begun w, b), let l = r.leads (one_more_begun w, b) in omega (arith, l))
 
-  meaning_counts : (t : Task) → RunCounts (counted_meaning accesses t) (meaning accesses t)
+  pub meaning_counts : (t : Task) → RunCounts (counted_meaning accesses t) (meaning accesses t)
   unfolding counted_meaning meaning
   meaning_counts t = record { same = λ s. (within_counts s.1 t s.0 s.1).0; leads = λ s. (within_counts s.1 t s.0 s.1).1 }
 

@@ -8,6 +8,7 @@ pub mod ChangesPreserve
 pub mod CountNeverFalls
 pub mod CountedCalls
 pub mod CountedChanges
+pub mod CountedEvaluations
 pub mod CountedFields
 pub mod CountedOperations
 pub mod CountedRules

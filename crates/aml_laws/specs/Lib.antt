@@ -2,6 +2,7 @@ pub mod AllWithin
 pub mod Becomes
 pub mod Calls
 pub mod Counted
+pub mod CountedEvaluations
 pub mod Declares
 pub mod Handed
 pub mod Kinds

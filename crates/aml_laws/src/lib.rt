@@ -28,4 +28,6 @@ pub use references::{
     a_reference_to_a_slot_reads_that_slot,
 };
 pub use space::space_is_reached_by_accesses;
-pub use steps::{no_more_terms_than_steps, terms_that_begin_are_counted};
+pub use steps::{
+    no_more_terms_than_steps, terms_of_tables_and_answers_are_counted, terms_that_begin_are_counted,
+};
