@@ -80,6 +80,15 @@ def many_offers():
     return head + "".join(f" {n}" for n in found) + tail + "".join(f" {n}" for n in mixed(list(found))) + "\n"
 
 
+def many_avoided():
+    """A link that offers more than a million interrupts, of which all but the first are avoided."""
+    head = "acpiroute 2\nsci none\navoid"
+    link = "\nlink \\AAAA small low offers"
+    tail = " now -\ngive \\AAAA 0\nbusiest 1\nbound \\AAAA over 0\n"
+    found = numbers((SIZE - len(head) - len(link) - len(tail)) // 2)
+    return head + "".join(f" {n}" for n in found[1:]) + link + "".join(f" {n}" for n in found) + tail
+
+
 def many_set_interrupts():
     """A set of two million interrupts in a mixed order, and 4096 wired ones."""
     head = "acpiroute 1\nlink \\AAAA small low offers 0 now -\ngive \\AAAA 0\nbusiest 2\n"
@@ -119,7 +128,7 @@ def many_offers_each():
     return head + "".join(f" {n}" for n in mixed([n for n in others if n < 100_000] + offers)) + "\n"
 
 
-REPORTS = [many_gives, one_path_often, many_offers, many_set_interrupts, many_set_links, long_paths, many_offers_each]
+REPORTS = [many_gives, one_path_often, many_offers, many_avoided, many_set_interrupts, many_set_links, long_paths, many_offers_each]
 
 
 def fastest(command, text):

@@ -25,6 +25,7 @@ ROWS = os.path.join(os.path.dirname(HERE), "crates/program_rows/data")
 # The reports: each with its machine text and its command.
 REPORTS = {
     "two-links": ("two-links", ["route"]),
+    "two-links.avoid": ("two-links", ["route", "--avoid", "10"]),
     "i440fx": ("i440fx", ["route"]),
     "q35.pic": ("q35", ["route", "--mode", "pic"]),
     "q35.apic": ("q35", ["route"]),
@@ -32,6 +33,7 @@ REPORTS = {
 }
 # Other commands: the machine text, the words, the exit status, the output and the line of errors.
 COMMANDS = [
+    ("two-links", ["route", "--avoid", "5"], 1, "", "refused 123 \\_SB_.LNKB\n"),
     ("refused", ["route"], 1, "", "refused 101\n"),
     ("refused", ["eval", "\\_SB_.LNKA._PRS"], 0, "buffer 232004187900\n", ""),
     ("refused", ["eval", "\\_SB_.LNKB._PRS"], 0, "buffer 232004087900\n", ""),
@@ -52,6 +54,14 @@ SOURCES = {
     "refused": ["refused"],
 }
 HEADER_BYTES = 36
+# Texts that report_graph.py refuses.
+EMPTY_REPORT = "acpiroute 2\nmode apic\nsci none\navoid -\nbusiest 0\nbound none\n"
+FAULTY_REPORTS = [
+    "", "no report\n", "acpiroute 1\n", "acpiroute 2\n", "acpiroute 1\nmode apic\nlink LNKA\n",
+    EMPTY_REPORT.replace("2", "3"), EMPTY_REPORT.replace("2", "1"),
+    EMPTY_REPORT.replace("avoid -\n", ""), EMPTY_REPORT.replace("sci none\n", ""), EMPTY_REPORT + "sci none\n",
+    EMPTY_REPORT.replace("-", "5 5"), EMPTY_REPORT.replace("none", "-", 1),
+]
 
 
 class Check:
@@ -104,9 +114,16 @@ def check_program(check, program):
 
 
 def sources_served(report):
-    """How many sources a report counts: a link that is given an interrupt is one, and so is a wired pin."""
+    """How many sources a report counts: a link that is given an interrupt, a wired pin, and the System Control Interrupt."""
     lines = [it.split() for it in report.splitlines()]
-    return sum(it[0] == "give" for it in lines) + sum(int(it[2]) for it in lines if it[0] == "wired")
+    wired = sum(int(it[2]) for it in lines if it[0] == "wired")
+    return sum(it[0] == "give" for it in lines) + wired + sum(it[0] == "sci" and it[1] != "none" for it in lines)
+
+
+def in_version_1(report):
+    """The same report in version 1, which has no lines of the System Control Interrupt and of avoided interrupts."""
+    lines = [it for it in report.splitlines() if it.split()[0] not in ("sci", "avoid")]
+    return "\n".join(["acpiroute 1", *lines[1:]]) + "\n"
 
 
 def check_graphs(check):
@@ -116,9 +133,12 @@ def check_graphs(check):
         told = json.loads(ran(tool("report_graph.py", "--json", f"{name}.report"))[1])
         loads = [it["load"] for it in told["interrupts"]]
         check.same(f"the loads of {name} as JSON", (sum(loads), max(loads)), (sources_served(report), told["busiest"]))
-    for text in ("", "acpiroute 1\n", "acpiroute 1\nmode apic\nlink LNKA\n", "no report\n"):
+        told = json.loads(ran(tool("report_graph.py", "--json"), in_version_1(report))[1])
+        check.same(f"{name}.report in version 1 as JSON", (told["version"], told["sci"], told["avoid"]), (1, None, []))
+    for text in FAULTY_REPORTS:
         status, output, errors = ran(tool("report_graph.py"), text)
         check.same(f"report_graph.py over {text!r}", (status, output, errors.count("\n")), (1, "", 1))
+    check.same("report_graph.py over a report of nothing", ran(tool("report_graph.py"), EMPTY_REPORT)[0], 0)
 
 
 # ---- machine_text.py

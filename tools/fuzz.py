@@ -144,7 +144,10 @@ class Fuzz:
         kind = chance.randrange(10)
         if kind < 2:
             return ["check"], mutated(chance, chance.choice(self.reports))
-        words = chance.choice([["route"], ["route", "--dry"], ["route", "--mode", "pic"], ["names"], ["eval", "\\_SB_.LNKA._CRS"], ["eval", "\\ABCD", "1"]])
+        words = chance.choice([
+            ["route"], ["route", "--dry"], ["route", "--mode", "pic"], ["route", "--avoid", "5,10"], ["names"],
+            ["eval", "\\_SB_.LNKA._CRS"], ["eval", "\\ABCD", "1"],
+        ])
         words = words[:1] + ["--steps", "20000"] + words[1:]
         if kind < 4:
             return words, mutated(chance, chance.choice(self.machines))

@@ -11,9 +11,10 @@ TABLE is one of these:
   -                a table, a text or a dump from the standard input
 
 One of the tables has to be the DSDT. SSDTs, the FADT and the MADT are taken where they are given; where there is no FADT, a
-small one is made. All other tables are left out, since acpiroute reads none of them. The tables are put at new addresses, and
-the RSDP, the XSDT, the FADT's address of the DSDT and all checksums are made to fit. SSDTs stay in the order in which they are
-given, but files whose names differ in a number alone come by that number, so SSDT2 before SSDT10.
+small one is made, with the System Control Interrupt on interrupt 9, which counts as a source. All other tables are left out,
+since acpiroute reads none of them. The tables are put at new addresses, and the RSDP, the XSDT, the FADT's address of the
+DSDT and all checksums are made to fit. SSDTs stay in the order in which they are given, but files whose names differ in a
+number alone come by that number, so SSDT2 before SSDT10.
 
 Registers that the AML reads have to be given:
   --pci FILE           PCI configuration registers: the text of `lspci -xxxx`, taken as root

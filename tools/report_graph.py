@@ -6,10 +6,11 @@ is read from the file REPORT, or from the standard input where none is named.
 
     acpiroute route < machine.txt | tools/report_graph.py | dot -Tsvg > machine.svg
 
-On the left are the pins of devices, in the middle the link devices, on the right the interrupts with their loads: the sources that each
-serves. Devices whose pins lead to the same are drawn as one. A thick line leads to the interrupt that a link is given, dotted lines to
-the others that it offers. Links and interrupts of the `bound` line are filled, and an interrupt that is as busy as the busiest has a
-double line around it. Links that are not present are drawn with dashes, and those whose setting was refused in red.
+On the left are the pins of devices and the System Control Interrupt (SCI), in the middle the link devices, on the right the interrupts
+with their loads: the sources that each serves. Devices whose pins lead to the same are drawn as one. A thick line leads to the
+interrupt that a link is given, dotted lines to the others that it offers, grey ones to those that are avoided. Links and interrupts of
+the `bound` line are filled, and an interrupt that is as busy as the busiest has a double line around it. Links that are not present and
+interrupts that are avoided are drawn with dashes, and links whose setting was refused in red. Reports of version 1 and 2 are read.
 
 The exit status is 0, 1 where the input is no report (one line on the error output says why), or 2 for wrong usage."""
 import argparse
@@ -27,6 +28,8 @@ LINES = {word: re.compile(f"{word} {rest}") for word, rest in {
     "mode": r"(apic|pic)",
     "ioapic": rf"({NUMBER}) at ([0-9A-F]{{8}}) base ({NUMBER})",
     "override": rf"({NUMBER}) to ({NUMBER}) flags ([0-9A-F]{{4}})",
+    "sci": rf"(?:none|({NUMBER}))",
+    "avoid": rf"(?:-|({NUMBERS}))",
     "link": rf"({PATH}) (small|extended) (low|high) offers ({NUMBERS}) now ({STATE})",
     "wired": rf"({NUMBER}) ({NUMBER})",
     "pin": rf"({PATH}) ({NUMBER}) ([A-D]) (?:({NUMBER}) wired|({NUMBER}|absent) ({PATH}))",
@@ -36,6 +39,8 @@ LINES = {word: re.compile(f"{word} {rest}") for word, rest in {
     "set": rf"({PATH}) (?:(ok|none)|refused ({NUMBER}))",
     "after": rf"({PATH}) (?:({STATE})|refused ({NUMBER}))",
 }.items()}
+# The lines that stand in version 2 alone, each once.
+ADDED = ("sci", "avoid")
 
 
 class Fault(Exception):
@@ -65,11 +70,13 @@ def is_refused(told):
 class Report:
     """A report, gathered line by line."""
 
-    def __init__(self):
-        self.mode, self.busiest, self.bound = None, None, None
+    def __init__(self, version):
+        self.version = version
+        self.mode, self.sci, self.busiest, self.bound = None, None, None, None
         self.bound_is_told = False
-        self.io_apics, self.overrides, self.pins = [], [], []
+        self.io_apics, self.overrides, self.avoid, self.pins = [], [], [], []
         self.links, self.wired = {}, {}
+        self.added = set()
 
     def known(self, path):
         if path not in self.links:
@@ -84,6 +91,14 @@ class Report:
 
     def add_override(self, source, interrupt, flags):
         self.overrides.append({"source": int(source), "interrupt": int(interrupt), "flags": flags})
+
+    def add_sci(self, interrupt):
+        self.sci = int(interrupt) if interrupt else None
+
+    def add_avoid(self, interrupts):
+        self.avoid = numbers(interrupts or "")
+        if sorted(set(self.avoid)) != self.avoid:
+            raise Fault("the interrupts that are avoided don't ascend")
 
     def add_link(self, path, form, polarity, offers, now):
         if path in self.links:
@@ -119,8 +134,11 @@ class Report:
 
     def add(self, line):
         word = line.split(" ", 1)[0]
-        if word not in LINES:
-            raise Fault(f"no line of a report begins with '{word[:40]}'")
+        if word not in LINES or self.version == 1 and word in ADDED:
+            raise Fault(f"no line of a report of version {self.version} begins with '{word[:40]}'")
+        if word in self.added:
+            raise Fault(f"a second line '{word}'")
+        self.added |= {word} & set(ADDED)
         found = LINES[word].fullmatch(line)
         if not found:
             raise Fault(f"not a line '{word}' of a report: '{line[:120]}'")
@@ -130,28 +148,37 @@ class Report:
         for path, link in self.links.items():
             if "give" not in link:
                 raise Fault(f"{path} has no line 'give'")
-        for word, is_told in (("mode", self.mode), ("busiest", self.busiest is not None), ("bound", self.bound_is_told)):
+        told = [("mode", self.mode), ("busiest", self.busiest is not None), ("bound", self.bound_is_told)]
+        told += [(word, self.version == 1 or word in self.added) for word in ADDED]
+        for word, is_told in told:
             if not is_told:
                 raise Fault(f"the line '{word}' is missing")
         return self
 
     def interrupts(self):
-        """Each interrupt that is offered or wired, with its load."""
+        """Each interrupt that is offered or wired, and that of the SCI, with its load."""
         found = {it: [] for link in self.links.values() for it in link["offers"] + [link["give"]]}
         found.update({it: [] for it in self.wired})
+        if self.sci is not None:
+            found[self.sci] = []
         for link in self.links.values():
             found[link["give"]].append(link["path"])
+        return [self.interrupt(it, links) for it, links in sorted(found.items())]
+
+    def interrupt(self, number, links):
+        """An interrupt, and the links that are given it: the load counts these, the pins that are wired to it, and the SCI."""
+        wired, sci = self.wired.get(number, 0), number == self.sci
         inside = self.bound["interrupts"] if self.bound else []
-        return [{"number": it, "load": len(links) + self.wired.get(it, 0), "wired": self.wired.get(it, 0), "links": links,
-                 "in_bound": it in inside} for it, links in sorted(found.items())]
+        return {"number": number, "load": len(links) + wired + sci, "wired": wired, "sci": sci, "links": links,
+                "avoided": number in self.avoid, "in_bound": number in inside}
 
 
 def report_of(text):
     """The report that a text is."""
     lines = text.split("\n")
-    if lines[0] != "acpiroute 1":
-        raise Fault("line 1: a report of acpiroute begins with 'acpiroute 1'" if text else "the input is empty")
-    report = Report()
+    if lines[0] not in ("acpiroute 1", "acpiroute 2"):
+        raise Fault("line 1: a report of acpiroute begins with 'acpiroute 1' or 'acpiroute 2'" if text else "the input is empty")
+    report = Report(int(lines[0][-1]))
     for number, line in enumerate(lines[1:-1] if lines[-1] == "" else lines[1:], 2):
         try:
             report.add(line)
@@ -165,7 +192,8 @@ def report_of(text):
 
 def as_json(report):
     whole = {
-        "version": 1, "mode": report.mode, "io_apics": report.io_apics, "overrides": report.overrides,
+        "version": report.version, "mode": report.mode, "io_apics": report.io_apics, "overrides": report.overrides,
+        "sci": report.sci, "avoid": report.avoid,
         "links": list(report.links.values()), "pins": report.pins, "interrupts": report.interrupts(),
         "busiest": report.busiest, "bound": report.bound,
     }
@@ -215,14 +243,22 @@ def link_lines(report):
     return lines + [line_of(quoted(it), label=f"{it}\nabsent", style="dashed") for it in absent]
 
 
+def interrupt_text(it):
+    """What is written in the ellipse of an interrupt."""
+    others = [f"{it['wired']} wired"] * bool(it["wired"]) + ["SCI"] * it["sci"]
+    lines = [str(it["number"]), f"load {it['load']}" + (f" ({', '.join(others)})" if others else "")]
+    return "\n".join(lines + ["avoided"] * it["avoided"])
+
+
 def interrupt_lines(report):
     lines = []
     for it in report.interrupts():
-        colour = {"style": "filled", "fillcolor": "lightsalmon"} if it["in_bound"] else {}
-        wired = f" ({it['wired']} wired)" if it["wired"] else ""
+        style = ["filled"] * it["in_bound"] + ["dashed"] * it["avoided"]
+        colour = {"style": ",".join(style)} if style else {}
+        if it["in_bound"]:
+            colour["fillcolor"] = "lightsalmon"
         rings = 2 if it["load"] == report.busiest and it["load"] else 1
-        lines.append(line_of(quoted(f"interrupt {it['number']}"), label=f"{it['number']}\nload {it['load']}{wired}", shape="ellipse",
-                             peripheries=rings, **colour))
+        lines.append(line_of(quoted(f"interrupt {it['number']}"), label=interrupt_text(it), shape="ellipse", peripheries=rings, **colour))
     names = " ".join(quoted(f"interrupt {it['number']}") + ";" for it in report.interrupts())
     return lines + ([f'  {{ rank="sink"; {names} }}'] if names else [])
 
@@ -232,6 +268,8 @@ def offer_lines(report):
     for link in report.links.values():
         for it in link["offers"]:
             kind = {"penwidth": 2} if it == link["give"] else {"style": "dotted", "arrowhead": "none"}
+            if it in report.avoid:
+                kind["color"] = "grey"
             lines.append(line_of(f"{quoted(link['path'])} -> {quoted('interrupt ' + str(it))}", **kind))
     return lines
 
@@ -268,16 +306,22 @@ def pin_lines(report):
     return lines
 
 
+def sci_lines(report):
+    """The System Control Interrupt, and the interrupt that is its source."""
+    return [] if report.sci is None else ['  "SCI";', f"  \"SCI\" -> {quoted(f'interrupt {report.sci}')};"]
+
+
 def title(report):
     lines = [f"mode {report.mode}, busiest {report.busiest}"]
     lines += [f"I/O APIC {it['id']} at {it['address']}, interrupts from {it['base']}" for it in report.io_apics]
     lines += [f"source {it['source']} is interrupt {it['interrupt']}, flags {it['flags']}" for it in report.overrides]
+    lines += [f"avoided: {' '.join(map(str, report.avoid))}"] if report.avoid else []
     return "\n".join(lines)
 
 
 def as_graph(report):
     lines = ["digraph acpiroute {", '  rankdir="LR";', f"  label={quoted(title(report))};", '  node [shape="box", fontname="monospace"];']
-    lines += pin_lines(report) + link_lines(report) + interrupt_lines(report) + offer_lines(report)
+    lines += pin_lines(report) + sci_lines(report) + link_lines(report) + interrupt_lines(report) + offer_lines(report)
     return "\n".join([*lines, "}", ""])
 
 

@@ -2,6 +2,8 @@ pub mod Bounds
 pub mod Claims
 pub mod One
 pub mod Placed
+pub mod Readables
 pub mod Reported
 pub mod Settled
+pub mod Sources
 pub mod Turns

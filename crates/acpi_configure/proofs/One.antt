@@ -1,10 +1,18 @@
--- A problem has one answer.
-use Rattle.std.proofs.Common.{◌≡◌, ◌∙◌, ap, sym, subst, ℕ, List}
+-- A problem has one answer, and a machine one report.
+use Rattle.std.proofs.Common.{◌≡◌, ◌∙◌, ap, sym, subst, refl, ℕ, Bool, List, Ok}
+use Rattle.ar_space.specs.Accesses.{Accesses}
+use Rattle.ar_space.specs.Outcome.{Outcome}
+use Rattle.acpi_machine.specs.MachineStates.{MachineState, sci_of}
+use Rattle.acpi_links.specs.Gathering.{Gathering}
+use Rattle.acpi_links.specs.Gatherings.{gathered}
 use Rattle.route_model.specs.Links.{offers_of}
 use Rattle.route_model.specs.Routing.{busiest, IsFirstLeast}
 use Rattle.route_solve.specs.Problems.{RoutingProblem, RoutingAnswer}
 use Rattle.route_solve.specs.Shown.{Shown}
-use Rattle.acpi_configure.specs.Configured.{Solves}
+use Rattle.route_report.specs.Reports.{RoutingReport, ReportedAfter}
+use Rattle.route_report.specs.declared.report.SetLine.{SetLine}
+use Rattle.acpi_configure.specs.Settling.{settled_unless}
+use Rattle.acpi_configure.specs.Configured.{Solves, report_of, with_settings, IsReport}
 
 pub one_answer : ((offers : List (List ℕ)) (wired : List (ℕ × ℕ)) (a b : List ℕ) → IsFirstLeast offers wired a → IsFirstLeast offers wired b → a ≡ b)
     → ((offers : List (List ℕ)) (wired : List (ℕ × ℕ)) (k : ℕ) (s t u v : List ℕ) → Shown offers wired k s t → Shown offers wired k u v → (s ≡ u) × (t ≡ v))
@@ -18,3 +26,17 @@ one_answer one_choice one_set p a b sa sb =
     ∙ (ap (λ n. record { choice = b.choice; busiest = n; links = a.links; interrupts = a.interrupts }) k
     ∙ (ap (λ ns. record { choice = b.choice; busiest = b.busiest; links = ns; interrupts = a.interrupts }) set.0
     ∙ ap (λ ns. record { choice = b.choice; busiest = b.busiest; links = b.links; interrupts = ns }) set.1))
+
+pub one_report : {S : Type 0} → ((problem : RoutingProblem) (one other : RoutingAnswer) → Solves problem one → Solves problem other → one ≡ other)
+    → (accesses : Accesses S) (dry : Bool) (avoid : List ℕ) (before after left : MachineState S) (one other : RoutingReport) → IsReport accesses dry avoid before after one → IsReport accesses dry avoid before left other
+    → (one ≡ other) × (after ≡ left)
+one_report {S} law accesses dry avoid before after left one other p q =
+    let both = sym p.is_found ∙ q.is_found in
+    let found : p.found ≡ q.found = cc (ap (λ (x : Outcome Gathering × MachineState S). x.0) both) in
+    let middle : p.chosen_in ≡ q.chosen_in = ap (λ (x : Outcome Gathering × MachineState S). x.1) both in
+    let answer : p.answer ≡ q.answer = law p.found.problem p.answer q.answer p.solves (subst (λ (f : Gathering). Solves f.problem q.answer) (sym found) q.solves) in
+    let run : settled_unless accesses dry p.found.links p.answer.choice p.chosen_in ≡ settled_unless accesses dry q.found.links q.answer.choice q.chosen_in = rw (middle, found, answer) refl in
+    let ends = sym p.is_settled ∙ (run ∙ q.is_settled) in
+    let settings : p.settings ≡ q.settings = cc (ap (λ (x : Outcome (List SetLine × List ReportedAfter) × MachineState S). x.0) ends) in
+    let reports : with_settings (report_of p.chosen_in (sci_of before) avoid p.found p.answer) p.settings ≡ with_settings (report_of q.chosen_in (sci_of before) avoid q.found q.answer) q.settings = rw (middle, found, answer, settings) refl in
+    (p.lines ∙ (reports ∙ sym q.lines), ap (λ (x : Outcome (List SetLine × List ReportedAfter) × MachineState S). x.1) ends)

@@ -1,5 +1,5 @@
 -- Links one after another, each set or read, with what came of it told.
-use Rattle.std.specs.Prelude.{◌≡◌, ◌≢◌, ◌<◌, ◌≤◌, ◌+◌, ℕ, zero, suc, List, [], ◌∷◌, ◌++◌, length, drop, map, get_or, Contains, Ok, Err, IsErr, IsErrAnd, refl}
+use Rattle.std.specs.Prelude.{◌≡◌, ◌≢◌, ◌<◌, ◌≤◌, ◌+◌, ℕ, zero, suc, List, [], ◌∷◌, ◌++◌, length, drop, map, get_or, Contains, Option, Ok, Err, IsErr, IsErrAnd, refl}
 use Rattle.std.specs.List.{AllZip}
 use Rattle.std.proofs.Common.{◌∙◌, ap, sym, subst, arith, drop-cons, add-one}
 use Rattle.std.proofs.lemmas.List.{drop_all, get_or-map, length-map}
@@ -11,6 +11,7 @@ use Rattle.ar_space.specs.Change.{Change, Does, Same, give, ◌>>=◌, does_ok, 
 use Rattle.acpi_machine.specs.MachineStates.{MachineState}
 use Rattle.acpi_links.specs.Links.{PresentLink}
 use Rattle.route_model.specs.Links.{OfferingLink, offers_of}
+use Rattle.route_model.proofs.NotAvoided.{left_from}
 use Rattle.acpi_links.specs.Gathering.{Gathering}
 use Rattle.acpi_links.specs.Problems.{offering, problem_of}
 use Rattle.route_solve.specs.Problems.{RoutingProblem, RoutingAnswer}
@@ -58,16 +59,20 @@ offered_at links ns i d e h l =
     let there : i < length (map (λ (l : PresentLink). l.1.numbers) links) = (let k = length-map links (λ (l : PresentLink). l.1.numbers) in omega arith) in
     subst (λ xs. Contains xs (get_or ns i e)) (get_or-map (λ (l : PresentLink). l.1.numbers) links i d d.1.numbers l) (zip_at (map (λ (l : PresentLink). l.1.numbers) links) ns i d.1.numbers e h there)
 
-pub same_offers : (links : List PresentLink) → offers_of (map offering links) ≡ map (λ (l : PresentLink). l.1.numbers) links
-same_offers [] = refl
-same_offers (l ∷ ls) = ap (λ rest. l.1.numbers ∷ rest) (same_offers ls)
+-- what is left of an offer is offered
+left_each : (avoid : List ℕ) (links : List PresentLink) (ns : List ℕ) → AllZip Contains (offers_of (map (offering avoid) links)) ns → AllZip Contains (map (λ (l : PresentLink). l.1.numbers) links) ns
+left_each avoid [] [] h = h
+left_each avoid [] (n ∷ ns) h = h
+left_each avoid (l ∷ ls) [] h = h
+left_each avoid (l ∷ ls) (n ∷ ns) h = ((left_from avoid l.1.numbers n h.0).0, left_each avoid ls ns h.1)
 
-posed_links : (g : Gathering) → g.problem ≡ problem_of g.links g.pins → g.problem.links ≡ map offering g.links
-unfolding problem_of
-posed_links g posed = ap (λ (p : RoutingProblem). p.links) posed
+module _ (avoid : List ℕ) (sci : Option ℕ) (g : Gathering) (a : RoutingAnswer) where
+  posed_links : g.problem ≡ problem_of avoid sci g.links g.pins → g.problem.links ≡ map (offering avoid) g.links
+  unfolding problem_of
+  posed_links posed = ap (λ (p : RoutingProblem). p.links) posed
 
-pub offered_each : (g : Gathering) (a : RoutingAnswer) → g.problem ≡ problem_of g.links g.pins → Solves g.problem a → AllZip Contains (map (λ (l : PresentLink). l.1.numbers) g.links) a.choice
-offered_each g a posed s = subst (λ xs. AllZip Contains xs a.choice) (ap offers_of (posed_links g posed) ∙ same_offers g.links) s.first_least.is_least.offered
+  pub offered_each : g.problem ≡ problem_of avoid sci g.links g.pins → Solves g.problem a → AllZip Contains (map (λ (l : PresentLink). l.1.numbers) g.links) a.choice
+  offered_each posed s = left_each avoid g.links a.choice (subst (λ xs. AllZip Contains xs a.choice) (ap offers_of (posed_links posed)) s.first_least.is_least.offered)
 
-pub chosen_each : (g : Gathering) (a : RoutingAnswer) → g.problem ≡ problem_of g.links g.pins → Solves g.problem a → length a.choice ≡ length g.links
-chosen_each g a posed s = chosen_for_each g.problem a s ∙ ap (λ (ls : List OfferingLink). length ls) (posed_links g posed) ∙ length-map g.links offering
+  pub chosen_each : g.problem ≡ problem_of avoid sci g.links g.pins → Solves g.problem a → length a.choice ≡ length g.links
+  chosen_each posed s = chosen_for_each g.problem a s ∙ ap (λ (ls : List OfferingLink). length ls) (posed_links posed) ∙ length-map g.links (offering avoid)

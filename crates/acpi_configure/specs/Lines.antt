@@ -10,6 +10,7 @@ use Rattle.acpi_prt.specs.declared.pin.Pin.{Pin}
 use Rattle.acpi_prt.specs.declared.pin.Route.{Route}
 use Rattle.acpi_prt.specs.declared.pin.Route.TheVariants as route
 use Rattle.acpi_links.specs.Links.{PresentLink}
+use Rattle.route_model.specs.Links.{OfferingLink}
 use Rattle.route_report.specs.declared.report.PinName.{PinName}
 use Rattle.route_report.specs.declared.report.PinName.TheVariants as letter
 use Rattle.route_report.specs.declared.report.IoApicLine.{IoApicLine}
@@ -49,6 +50,10 @@ overrides_of madt = filter_map override_of (entries_of madt)
 
 abbrev pub row_of : PresentLink → ReportedLink
 row_of link = record { path = link.0; form = link.1.form; polarity = link.1.polarity; offers = link.1.numbers; now = link.2 }
+
+-- a link with all that it offers
+abbrev pub whole_offer : PresentLink → OfferingLink
+whole_offer link = record { path = link.0; offers = link.1.numbers }
 
 -- ---- what was chosen
 

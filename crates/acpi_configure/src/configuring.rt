@@ -1,13 +1,14 @@
 //! Gathers, chooses, sets, reports.
-ghost use Rattle.std.specs.Prelude.{◌≡◌, ◌≢◌, ◌⊎◌, ◌<◌, ◌≤◌, All, Ok, Err, IfOk, IfErr, length, map};
+ghost use Rattle.std.specs.Prelude.{◌≡◌, ◌≢◌, ◌⊎◌, ◌<◌, ◌≤◌, All, Contains, Ok, Err, IfOk, IfErr, length, map};
 ghost use Rattle.ar_space.specs.declared.refusal.Refusal.TheVariants.{OutOfMemory};
+ghost use Rattle.std.specs.List.{AllZip};
 ghost use Rattle.ar_space.specs.Outcome.{Answers, seen};
 ghost use Rattle.ar_space.specs.Change.{Does};
 ghost use Rattle.route_model.specs.Bound.{IsLowerBound};
 ghost use Rattle.route_model.specs.Links.{offers_of};
 ghost use Rattle.route_solve.specs.Fits.{Fits};
 ghost use Rattle.acpi_links.specs.Gatherings.{gathered};
-ghost use Rattle.acpi_links.specs.Problems.{problem_of};
+ghost use Rattle.route_report.specs.Readable.{IsReadableOffer};
 ghost use Rattle.acpi_configure.specs.Configured.{Solves, report_of, with_settings, IsReport};
 ghost use Rattle.acpi_configure.specs.Settling.{settled_unless};
 
@@ -16,7 +17,10 @@ use crate::link_lines::link_lines;
 use crate::madt_lines::{io_apics_of, overrides_of};
 use crate::pin_lines::pin_lines;
 use crate::settling::{Settings, settle_unless};
-use acpi_links::{Gathered, gather};
+use acpi_links::laws::{
+    as_many_sources_are_wired_as_pins, pins_are_counted_in_order, the_numbers_of_a_set_ascend,
+};
+use acpi_links::{Gathered, gather, pin_counts, set_of};
 use acpi_machine::Machine;
 use ar_space::{Refusal, Space};
 use route_check::laws::an_assignment_with_its_bound_is_valid;
@@ -25,10 +29,11 @@ use route_report::laws::{a_claim_in_order_stays, the_claim_of_an_assignment_is_i
 use route_solve::{Answer, Problem, solve};
 use std::alloc::Global;
 
-/// Chooses an interrupt for each link device of a machine, sets the links unless `dry`, and reports what was found, chosen and
-/// set.
+/// Chooses an interrupt for each link device of a machine, none of those to `avoid`, sets the links unless `dry`, and reports what was
+/// found, chosen and set.
 ///
-/// What is found is what `gather` gives, and its refusals are handed on. The choice is the first of the assignments whose
+/// What is found is what `gather` gives, and its refusals are handed on. Sources are the present links, the pins that are wired to an
+/// interrupt, and the System Control Interrupt: `Machine::sci`. The choice is the first of the assignments whose
 /// busiest interrupt serves the fewest sources: compared link by link in path order, the smaller interrupt first. The bound
 /// is the set of links and interrupts that shows why none is less busy; there is none where no interrupt serves a source.
 ///
@@ -42,17 +47,22 @@ pub fn configure<S: Space>(
     alloc: Global,
     machine: &mut Machine<S>,
     dry: bool,
+    avoid: &[u32],
 ) -> Result<Report, Refusal>
-    ensures report { IfOk result (λ report. IsReport S.accesses dry machine.old machine.new report) }
-    ensures refusal { IfErr result (λ refusal. refusal ≢ OutOfMemory → gathered S.accesses machine.old ≡ (Err refusal, machine.new)) }
+    ensures report { IfOk result (λ report. IsReport S.accesses dry avoid.now machine.old machine.new report) }
+    ensures refusal { IfErr result (λ refusal. refusal ≢ OutOfMemory → gathered S.accesses avoid.now machine.old ≡ (Err refusal, machine.new)) }
 {
-    let gathered = gather(alloc, machine)?;
+    let sci = machine.sci();
+    let gathered = gather(alloc, machine, avoid)?;
     let answer = answer_to(alloc, gathered.problem())?;
     // the laws that the claim of the report rests on
     an_assignment_with_its_bound_is_valid();
     the_claim_of_an_assignment_is_in_order();
     a_claim_in_order_stays();
-    let report = report_of(alloc, machine, &gathered, &answer)?;
+    as_many_sources_are_wired_as_pins();
+    pins_are_counted_in_order();
+    the_numbers_of_a_set_ascend();
+    let report = report_of(alloc, machine, sci, avoid, &gathered, &answer)?;
     let settings = settle_answer(alloc, machine, dry, &gathered, &answer)?;
     Ok(with_settings(report, settings))
 }
@@ -70,7 +80,6 @@ fn with_settings(report: Report, settings: Settings) -> Report
 }
 
 /// Sets each link that was gathered to its interrupt of an answer, and reads what each is set to, unless the run is dry.
-#[tactic(auto, using(crate::proofs::Settled::chosen_each, crate::proofs::Settled::offered_each))]
 fn settle_answer<S: Space>(
     alloc: Global,
     machine: &mut Machine<S>,
@@ -78,8 +87,8 @@ fn settle_answer<S: Space>(
     gathered: &Gathered,
     answer: &Answer,
 ) -> Result<Settings, Refusal>
-    requires posed { gathered.now.problem ≡ problem_of gathered.now.links gathered.now.pins }
-    requires solves { Solves gathered.now.problem answer.now }
+    requires each { length answer.now.choice ≡ length gathered.now.links }
+    requires offered { AllZip Contains (map (λ link. link.1.numbers) gathered.now.links) answer.now.choice }
     ensures value { Does (seen (λ x. (x.0.items, x.1.items)) result) machine.new (settled_unless S.accesses dry gathered.now.links answer.now.choice) machine.old }
     ensures memory { IfErr result (λ refusal. refusal ≡ OutOfMemory) }
 {
@@ -102,17 +111,22 @@ fn answer_to(alloc: Global, problem: &Problem) -> Result<Answer, Refusal>
 fn report_of<S: Space>(
     alloc: Global,
     machine: &Machine<S>,
+    sci: Option<u32>,
+    avoid: &[u32],
     gathered: &Gathered,
     answer: &Answer,
 ) -> Result<Report, Refusal>
-    requires { Solves gathered.now.problem answer.now }
-    ensures { Answers result (Ok (report_of machine.now gathered.now answer.now)) }
+    requires pins { length gathered.now.pins ≤ 4096 }
+    requires solves { Solves gathered.now.problem answer.now }
+    ensures lines { Answers result (Ok (report_of machine.now sci avoid.now gathered.now answer.now)) }
+    ensures offers { IfOk result (λ report. All (λ l. IsReadableOffer l.offers) report.links) }
 {
     let problem = gathered.problem();
     let io_apics = io_apics_of(alloc, machine.madt())?;
     let overrides = overrides_of(alloc, machine.madt())?;
     let links = link_lines(alloc, gathered.links())?;
-    let wired = Vec::from_slice(alloc, problem.wired())?;
+    let avoid = set_of(alloc, avoid)?;
+    let wired = pin_counts(alloc, gathered.pins())?;
     let gives = gives_of(alloc, problem.links(), &answer.choice)?;
     let pins = pin_lines(alloc, &gives, gathered.pins())?;
     let bound = bound_for(alloc, problem.links(), answer)?;
@@ -120,6 +134,8 @@ fn report_of<S: Space>(
         mode: machine.mode(),
         io_apics,
         overrides,
+        sci,
+        avoid,
         links,
         wired,
         pins,

@@ -1,6 +1,7 @@
 //! The lines of link devices.
-ghost use Rattle.std.specs.Prelude.{◌≡◌, Ok, IfOk, map, option_map};
+ghost use Rattle.std.specs.Prelude.{◌≡◌, All, Ok, IfOk, map, option_map};
 ghost use Rattle.ar_space.specs.Outcome.{Answers, seen};
+ghost use Rattle.route_report.specs.Readable.{IsReadableOffer};
 ghost use Rattle.acpi_configure.specs.Lines.{row_of};
 
 use acpi_links::PresentLink;
@@ -12,7 +13,8 @@ use std::alloc::{AllocError, Global};
 
 /// A line for each present link.
 pub(crate) fn link_lines(alloc: Global, links: &[PresentLink]) -> Result<Vec<LinkLine>, Refusal>
-    ensures { Answers (seen (λ list. list.items) result) (Ok (map row_of links.now)) }
+    ensures lines { Answers (seen (λ list. list.items) result) (Ok (map row_of links.now)) }
+    ensures offers { IfOk result (λ list. All (λ l. IsReadableOffer l.offers) list.items) }
 {
     let mut list = Vec::new(alloc);
     for (path, offer, now) in links {
@@ -22,13 +24,15 @@ pub(crate) fn link_lines(alloc: Global, links: &[PresentLink]) -> Result<Vec<Lin
     Ok(list)
 }
 
+#[tactic(auto, using(crate::proofs::Readables::readable_offer))]
 fn link_line(
     alloc: Global,
     path: &Path,
     offer: &Offer,
     now: &Option<InterruptNumbers>,
 ) -> Result<LinkLine, Refusal>
-    ensures { Answers result (Ok (row_of (path.now, offer.now, now.now))) }
+    ensures line { Answers result (Ok (row_of (path.now, offer.now, now.now))) }
+    ensures offers { IfOk result (λ line. IsReadableOffer line.offers) }
 {
     let path = path.copy(alloc)?;
     let offers = Vec::from_slice(alloc, offer.numbers())?;

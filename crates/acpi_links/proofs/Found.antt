@@ -1,5 +1,5 @@
 -- The links found are some of the links named, in their order.
-use Rattle.std.proofs.Common.{◌≡◌, List, [], ◌∷◌, ◌++◌, Bool, true, false, Option, Some, None, Ok, Err, map, refl, sym, ◌∙◌, ap, append_assoc, append-nil}
+use Rattle.std.proofs.Common.{◌≡◌, ℕ, List, [], ◌∷◌, ◌++◌, Bool, true, false, Option, Some, None, Ok, Err, map, refl, sym, ◌∙◌, ap, append_assoc, append-nil}
 use Rattle.std.specs.List.{items_where_true}
 use Rattle.std.specs.Option.{is_some}
 use Rattle.std.proofs.lemmas.List.{map-append}
@@ -30,23 +30,24 @@ given_ok {T} {A} a b s t e = let h = ap (λ (r : Outcome A × T). r.0) e in cc h
 abbrev paths : List PresentLink → List (List Seg)
 paths list = map (λ link. link.0) list
 
-module _ {S : Type 0} (accesses : Accesses S) where
+module _ {S : Type 0} (accesses : Accesses S) (avoid : List ℕ) where
   -- a link that is found is that at the path
-  at_path : (p : List Seg) (present : Bool) (found : Option PresentLink) (s t : MachineState S) → link_if accesses present p s ≡ (Ok found, t) → IsAt p found
+  at_path : (p : List Seg) (present : Bool) (found : Option PresentLink) (s t : MachineState S) → link_if accesses avoid present p s ≡ (Ok found, t) → IsAt p found
   unfolding link_if link_found
   at_path p true found s t e =
       let offer = before_ok _ _ found s t e in
-      let now = before_ok _ _ found offer.1 t offer.2 in
+      let left = before_ok _ _ found offer.1 t offer.2 in
+      let now = before_ok _ _ found left.1 t left.2 in
       let is : found ≡ Some (p, offer.0, now.0) = given_ok _ found now.1 t now.2 in
       rw is refl
   at_path p false found s t e = let is : found ≡ None = given_ok None found s t e in rw is tt
 
-  found_at : (p : List Seg) (found : Option PresentLink) (s t : MachineState S) → link_asked accesses p s ≡ (Ok found, t) → IsAt p found
+  found_at : (p : List Seg) (found : Option PresentLink) (s t : MachineState S) → link_asked accesses avoid p s ≡ (Ok found, t) → IsAt p found
   unfolding link_asked
   found_at p found s t e = let present = before_ok _ _ found s t e in at_path p present.0 found present.1 t present.2
 
   -- one link after another
-  each_found : (named : List (List Seg)) (list links : List PresentLink) (s t : MachineState S) → folded with_link (link_asked accesses) named list s ≡ (Ok links, t)
+  each_found : (named : List (List Seg)) (list links : List PresentLink) (s t : MachineState S) → folded with_link (link_asked accesses avoid) named list s ≡ (Ok links, t)
       → (found : List Bool) × (paths links ≡ paths list ++ items_where_true found named)
   unfolding folded
   each_found [] list links s t e = ([], ap paths (given_ok list links s t e) ∙ sym (append-nil (paths list)))
@@ -63,7 +64,7 @@ module _ {S : Type 0} (accesses : Accesses S) where
             ∙ (append_assoc (paths list) (link.0 ∷ []) (items_where_true rest.0 named) ∙ ap (λ q. paths list ++ q ∷ items_where_true rest.0 named) at)),
       )
 
-  all_found : (pins : List (List Seg × Pin)) (links : List PresentLink) (before after : MachineState S) → links_found accesses pins before ≡ (Ok links, after)
+  all_found : (pins : List (List Seg × Pin)) (links : List PresentLink) (before after : MachineState S) → links_found accesses avoid pins before ≡ (Ok links, after)
       → (found : List Bool) × (paths links ≡ items_where_true found (links_named pins))
   unfolding links_found
   all_found pins links before after e =
@@ -76,23 +77,24 @@ module _ {S : Type 0} (accesses : Accesses S) where
       let so = each_found named.0 [] each.0 few.1 each.1 each.3 in
       (so.0, ap paths same ∙ (so.1 ∙ ap (items_where_true so.0) is))
 
-pub found_named : {S : Type 0} (accesses : Accesses S) (pins : List (List Seg × Pin)) (links : List PresentLink) (before after : MachineState S) → links_found accesses pins before ≡ (Ok links, after)
+pub found_named : {S : Type 0} (accesses : Accesses S) (avoid : List ℕ) (pins : List (List Seg × Pin)) (links : List PresentLink) (before after : MachineState S) → links_found accesses avoid pins before ≡ (Ok links, after)
     → (found : List Bool) × (map (λ link. link.0) links ≡ items_where_true found (links_named pins))
-found_named accesses = all_found accesses
+found_named accesses avoid = all_found accesses avoid
 
 -- a link that is asked is found if it is present, and only then
-found_if : {S : Type 0} (accesses : Accesses S) (link : List Seg) (present : Bool) (found : Option PresentLink) (s t : MachineState S) → link_if accesses present link s ≡ (Ok found, t) → present ≡ is_some found
+found_if : {S : Type 0} (accesses : Accesses S) (avoid : List ℕ) (link : List Seg) (present : Bool) (found : Option PresentLink) (s t : MachineState S) → link_if accesses avoid present link s ≡ (Ok found, t) → present ≡ is_some found
 unfolding link_if link_found
-found_if accesses link true found s t e =
+found_if accesses avoid link true found s t e =
     let offer = before_ok _ _ found s t e in
-    let now = before_ok _ _ found offer.1 t offer.2 in
+    let left = before_ok _ _ found offer.1 t offer.2 in
+    let now = before_ok _ _ found left.1 t left.2 in
     let is : found ≡ Some (link, offer.0, now.0) = given_ok _ found now.1 t now.2 in
     rw is refl
-found_if accesses link false found s t e = let is : found ≡ None = given_ok None found s t e in rw is refl
+found_if accesses avoid link false found s t e = let is : found ≡ None = given_ok None found s t e in rw is refl
 
-pub found_present : {S : Type 0} (accesses : Accesses S) (link : List Seg) (found : Option PresentLink) (before after : MachineState S) → link_asked accesses link before ≡ (Ok found, after)
+pub found_present : {S : Type 0} (accesses : Accesses S) (avoid : List ℕ) (link : List Seg) (found : Option PresentLink) (before after : MachineState S) → link_asked accesses avoid link before ≡ (Ok found, after)
     → (asked : MachineState S) × (is_present accesses link before ≡ (Ok (is_some found), asked))
 unfolding link_asked
-found_present accesses link found before after e =
+found_present accesses avoid link found before after e =
     let present = before_ok _ _ found before after e in
-    (present.1, present.3 ∙ ap (λ b. (Ok b, present.1)) (found_if accesses link present.0 found present.1 after present.2))
+    (present.1, present.3 ∙ ap (λ b. (Ok b, present.1)) (found_if accesses avoid link present.0 found present.1 after present.2))

@@ -3,10 +3,12 @@ use Rattle.std.proofs.Common.{◌≡◌, ℕ, suc, ◌+◌, ◌<◌, ◌≤◌, 
 use Rattle.std.specs.declared.cmp.Ordering.{Ordering}
 use Rattle.std.specs.List.{AllByRecursion}
 use Rattle.std.specs.List.Sorted.{IsStrictlySortedBy}
+use Rattle.std.specs.Prelude.{All}
 use Rattle.std.proofs.lemmas.List.{drop_all, map-append}
+use Rattle.std.proofs.lemmas.List.Elements.{All-push}
 use Rattle.aml_path.specs.declared.segment.Seg.{Seg}
 use Rattle.aml_path.specs.Paths.{path_cmp}
-use Rattle.acpi_links.specs.Links.{PresentLink, IsAt, with_link}
+use Rattle.acpi_links.specs.Links.{PresentLink, IsAt, HasLeft, IsLeft, with_link}
 
 module _ {A : Type 0} where
   all-without : (P : A → Type 0) (xs ys : List A) (y : A) → AllByRecursion P (xs ++ y ∷ ys) → AllByRecursion P (xs ++ ys)
@@ -46,3 +48,11 @@ kept_few list after found i e l = rw e (let h = few-with list found in omega ari
 pub end_in_order : (list : List PresentLink) (links : List (List Seg)) (i : ℕ) → length links ≤ i
     → IsStrictlySortedBy path_cmp (map (λ link. link.0) list ++ drop i links) → IsStrictlySortedBy path_cmp (map (λ link. link.0) list)
 end_in_order list links i l s = rw (← append-nil (map (λ (link : PresentLink). link.0) list), ← drop_all i links l) s
+
+-- something of each link's offer is left
+left-with : (avoid : List ℕ) (list : List PresentLink) (found : Option PresentLink) → IsLeft avoid found → All (HasLeft avoid) list → All (HasLeft avoid) (with_link list found)
+left-with avoid list None left all = all
+left-with avoid list (Some link) left all = All-push (HasLeft avoid) list link all left
+
+pub kept_left : (avoid : List ℕ) (list after : List PresentLink) (found : Option PresentLink) → after ≡ with_link list found → IsLeft avoid found → All (HasLeft avoid) list → All (HasLeft avoid) after
+kept_left avoid list after found e left all = rw e (left-with avoid list found left all)

@@ -1,8 +1,9 @@
 -- The parts of a problem.
-use Rattle.std.proofs.Common.{◌≡◌, ℕ, ◌+◌, ◌<◌, ◌≤◌, List, [], ◌∷◌, ◌++◌, Option, Some, None, length, map, drop, get_or, Ok, arith, refl, ◌∙◌, sym, ap, drop-cons, add-one, append_assoc, append-nil}
+use Rattle.std.proofs.Common.{◌≡◌, ℕ, ◌+◌, ◌<◌, ◌≤◌, Bool, true, false, ◌&&◌, List, [], ◌∷◌, ◌++◌, Option, Some, None, length, map, drop, get_or, Ok, arith, refl, ◌∙◌, sym, ap, drop-cons, add-one, append_assoc, append-nil}
 use Rattle.std.proofs.lemmas.List.{drop_all, get_or-map, length-map}
-use Rattle.std.specs.Prelude.{All, sum_by}
-use Rattle.std.specs.List.{cons_option}
+use Rattle.std.proofs.lemmas.List.Kept.{IsStrictlyIncreasing-filter}
+use Rattle.std.specs.Prelude.{All, sum_by, not, filter, option_to_list}
+use Rattle.std.specs.List.{cons_option, list_all}
 use Rattle.std.specs.List.Sorted.{IsStrictlySortedBy, IsStrictlyIncreasing}
 use Rattle.std.specs.Ordering.{nat_cmp, match_ordering}
 use Rattle.std.specs.declared.cmp.Ordering.{Ordering}
@@ -13,10 +14,11 @@ use Rattle.aml_path.specs.declared.segment.Seg.{Seg}
 use Rattle.aml_path.specs.Paths.{path_cmp}
 use Rattle.acpi_resources.specs.Numbers.{with_numbers}
 use Rattle.acpi_prt.specs.declared.pin.Pin.{Pin}
+use Rattle.route_model.specs.Avoided.{is_avoided, are_all_avoided, without}
 use Rattle.route_model.specs.Links.{OfferingLink, offers_of, paths_of}
 use Rattle.route_solve.specs.Fits.{Fits, IsOffer}
 use Rattle.acpi_links.specs.Links.{PresentLink}
-use Rattle.acpi_links.specs.Problems.{wired_number, with_number, wired_numbers, wired_counts, offering, problem_of}
+use Rattle.acpi_links.specs.Problems.{wired_number, with_number, wired_numbers, wired_counts, source_numbers, offering, problem_of}
 
 pushed : (o : Option ℕ) (list rest : List ℕ) → with_number list o ++ rest ≡ list ++ cons_option o rest
 pushed None list rest = refl
@@ -60,28 +62,55 @@ set_grown after set i n e l = rw e (let h = one_grown set n in omega arith)
 pub set_few : (after set : List ℕ) (i k : ℕ) → after ≡ set → length set ≤ i → i ≤ k → length after ≤ k
 set_few after set i k e l m = rw e (omega arith)
 
--- a problem is made of its parts, and can be solved
-pub problem_is : (links : List PresentLink) (pins : List (List Seg × Pin)) (ls : List OfferingLink) (ns : List ℕ) (wired : List (ℕ × ℕ))
-    → Answers (Ok ls) (Ok (map offering links)) → ns ≡ wired_numbers pins → wired ≡ wired_counts ns
-    → Answers (Ok (record { links = ls; wired = wired })) (Ok (problem_of links pins))
-unfolding problem_of
-problem_is links pins ls ns wired a n w = record { is = λ _. cc (a.is tt, n, w) }
+-- what is left of an offer where some interrupts are avoided is an offer, if anything is left
+left_few : (avoid numbers : List ℕ) → length (without avoid numbers) ≤ length numbers
+unfolding without
+left_few avoid [] = omega arith
+left_few avoid (n ∷ ns) = by (is_avoided avoid n) refl (left_few avoid ns)
+  where
+    by : (b : Bool) → is_avoided avoid n ≡ b → length (without avoid ns) ≤ length ns → length (without avoid (n ∷ ns)) ≤ length (n ∷ ns)
+    by true is rest = rw is (omega arith)
+    by false is rest = rw is (omega arith)
 
-offering-paths : (links : List PresentLink) → paths_of (map offering links) ≡ map (λ link. link.0) links
-offering-paths [] = refl
-offering-paths (l ∷ ls) = ap (λ rest. l.0 ∷ rest) (offering-paths ls)
+left_some : (avoid numbers : List ℕ) → are_all_avoided avoid numbers ≡ false → 0 < length (without avoid numbers)
+unfolding without
+left_some avoid [] e = absurd (cc e)
+left_some avoid (n ∷ ns) e = by (is_avoided avoid n) refl (left_some avoid ns)
+  where
+    by : (b : Bool) → is_avoided avoid n ≡ b → (are_all_avoided avoid ns ≡ false → 0 < length (without avoid ns)) → 0 < length (without avoid (n ∷ ns))
+    by true is rest = rw is (rest (sym (ap (λ b. b && are_all_avoided avoid ns) is) ∙ e))
+    by false is rest = rw is (omega arith)
+
+pub left_offer : (avoid numbers left : List ℕ) → left ≡ without avoid numbers → are_all_avoided avoid numbers ≡ false → 0 < length numbers → length numbers ≤ 255 → IsStrictlyIncreasing numbers → IsOffer left
+unfolding without
+left_offer avoid numbers left is e some few up = rw is record {
+  some = left_some avoid numbers e;
+  few = (let h = left_few avoid numbers in omega arith);
+  ascending = IsStrictlyIncreasing-filter (λ n. not (is_avoided avoid n)) numbers up;
+}
+
+-- a problem is made of its parts, and can be solved
+pub problem_is : (avoid : List ℕ) (sci : Option ℕ) (links : List PresentLink) (pins : List (List Seg × Pin)) (ls : List OfferingLink) (ns : List ℕ) (wired : List (ℕ × ℕ))
+    → Answers (Ok ls) (Ok (map (offering avoid) links)) → ns ≡ source_numbers sci pins → wired ≡ wired_counts ns
+    → Answers (Ok (record { links = ls; wired = wired })) (Ok (problem_of avoid sci links pins))
+unfolding problem_of
+problem_is avoid sci links pins ls ns wired a n w = record { is = λ _. cc (a.is tt, n, w) }
+
+offering-paths : (avoid : List ℕ) (links : List PresentLink) → paths_of (map (offering avoid) links) ≡ map (λ link. link.0) links
+offering-paths avoid [] = refl
+offering-paths avoid (l ∷ ls) = ap (λ rest. l.0 ∷ rest) (offering-paths avoid ls)
 
 no_link : OfferingLink
 no_link = record { path = []; offers = [] }
 
-pub problem_fits : (links : List PresentLink) (ls : List OfferingLink) (wired : List (ℕ × ℕ))
-    → Answers (Ok ls) (Ok (map offering links)) → length links ≤ 256 → IsStrictlySortedBy path_cmp (map (λ link. link.0) links) → All (λ l. IsOffer l.offers) ls
+pub problem_fits : (avoid : List ℕ) (links : List PresentLink) (ls : List OfferingLink) (wired : List (ℕ × ℕ))
+    → Answers (Ok ls) (Ok (map (offering avoid) links)) → length links ≤ 256 → IsStrictlySortedBy path_cmp (map (λ link. link.0) links) → All (λ l. IsOffer l.offers) ls
     → IsStrictlyIncreasing (map (λ w. w.0) wired) → sum_by (λ w. w.1) wired ≤ 4096 → Fits (record { links = ls; wired = wired })
-problem_fits links ls wired a few order offers ascend counts =
-    let same : map offering links ≡ ls = cc (a.is tt) in
+problem_fits avoid links ls wired a few order offers ascend counts =
+    let same : map (offering avoid) links ≡ ls = cc (a.is tt) in
     record {
       few = rw (← same, length-map) few;
-      in_order = rw (← same, offering-paths links) order;
+      in_order = rw (← same, offering-paths avoid links) order;
       offers = λ k l. rw (get_or-map (λ (l : OfferingLink). l.offers) ls k no_link [] l) (offers k no_link l);
       wired_in_order = ascend;
       counts = counts;

@@ -1,23 +1,26 @@
 -- An interrupt has as many wired sources as there are pins wired to it.
-use Rattle.std.proofs.Common.{◌≡◌, ℕ, ◌+◌, Bool, true, false, cond, List, [], ◌∷◌, map, refl, sym, ◌∙◌, ap, subst, arith, rules, inl, inr}
-use Rattle.std.specs.Prelude.{◌==◌, ◌||◌, Contains, count_by, if◌then◌else◌}
+use Rattle.std.proofs.Common.{◌≡◌, ℕ, suc, ◌+◌, ◌≤◌, Bool, true, false, cond, List, [], ◌∷◌, length, map, refl, sym, ◌∙◌, ap, subst, arith, rules, inl, inr}
+use Rattle.std.specs.Prelude.{◌==◌, ◌||◌, ◌++◌, Option, option_to_list, Contains, count_by, if◌then◌else◌}
 use Rattle.std.specs.List.{AllByRecursion, filter_map, list_any, cons_option}
-use Rattle.std.specs.List.Sorted.{IsStrictlySortedBy}
+use Rattle.std.specs.List.Sorted.{IsStrictlySortedBy, IsStrictlyIncreasing}
 use Rattle.std.specs.Ordering.{nat_cmp}
 use Rattle.std.specs.declared.cmp.Ordering.TheVariants.{Less}
 use Rattle.std.specs.BTreeSet.{insert_key}
 use Rattle.std.proofs.lemmas.Bool.{false≢true, eqb-true, eq-eqb, or_parts, or_right}
 use Rattle.std.proofs.lemmas.Cmp.{nat_cmp_total}
-use Rattle.std.proofs.lemmas.List.Sums.{sum_by-cons}
+use Rattle.std.proofs.lemmas.List.{length-map}
+use Rattle.std.proofs.lemmas.List.Sums.{sum_by-cons, sum_by-append}
+use Rattle.std.proofs.lemmas.Map.Keys.{IsStrictlyIncreasing-from_sorted}
 use Rattle.aml_path.specs.declared.segment.Seg.{Seg}
 use Rattle.acpi_prt.specs.declared.pin.Pin.{Pin}
 use Rattle.acpi_prt.specs.declared.pin.Route.{Route}
 use Rattle.acpi_prt.specs.declared.pin.Route.TheVariants.{Wired, Link}
 use Rattle.acpi_resources.specs.Numbers.{with_numbers, set_of}
+use Rattle.acpi_resources.proofs.Counts.{length-set_of}
 use Rattle.acpi_resources.proofs.Members.{members_of_set}
 use Rattle.route_model.specs.Routing.{wired_to}
 use Rattle.acpi_links.specs.Links.{PresentLink}
-use Rattle.acpi_links.specs.Problems.{wired_number, wired_numbers, counted, wired_counts, problem_of}
+use Rattle.acpi_links.specs.Problems.{wired_number, wired_numbers, counted, wired_counts, pin_counts, source_numbers, problem_of}
 use Rattle.acpi_links.specs.Wiring.{is_wired_to}
 use Rattle.acpi_links.proofs.Members.{first, behind, first_or_behind, inserted_ascends}
 
@@ -158,6 +161,50 @@ times_pins n (pin ∷ pins) = by pin.1.route (times_pins n pins) ∙ sym (sum_by
     by (Wired m) rest = sum_by-cons (λ k. cond (k == n) 1 0) m (filter_map (λ (p : List Seg × Pin). wired_number p.1.route) pins) ∙ ap (λ k. cond (m == n) 1 0 + k) rest
     by (Link p) rest = rest ∙ none_more (pins_to n pins)
 
-pub wired_as_pins : (links : List PresentLink) (pins : List (List Seg × Pin)) (interrupt : ℕ) → wired_to (problem_of links pins).wired interrupt ≡ count_by (λ pin. is_wired_to interrupt pin.1.route) pins
-unfolding problem_of wired_counts wired
-wired_as_pins links pins interrupt = wired_times (wired_numbers pins) interrupt ∙ times_pins interrupt pins
+times-append : (n : ℕ) (ms ks : List ℕ) → times n (ms ++ ks) ≡ times n ms + times n ks
+unfolding times
+times-append n ms ks = sum_by-append (λ m. cond (m == n) 1 0) ms ks
+
+counts_times : (ms : List ℕ) (n : ℕ) → wired_to (wired_counts ms) n ≡ times n ms
+unfolding wired_counts wired
+counts_times ms n = wired_times ms n
+
+pub pins_counted : (pins : List (List Seg × Pin)) (interrupt : ℕ) → wired_to (pin_counts pins) interrupt ≡ count_by (λ pin. is_wired_to interrupt pin.1.route) pins
+pins_counted pins interrupt = counts_times (wired_numbers pins) interrupt ∙ times_pins interrupt pins
+
+pub sources_counted : (avoid : List ℕ) (sci : Option ℕ) (links : List PresentLink) (pins : List (List Seg × Pin)) (interrupt : ℕ)
+    → wired_to (problem_of avoid sci links pins).wired interrupt ≡ count_by (λ pin. is_wired_to interrupt pin.1.route) pins + count_by (λ n. n == interrupt) (option_to_list sci)
+unfolding problem_of source_numbers times
+sources_counted avoid sci links pins interrupt =
+    counts_times (wired_numbers pins ++ option_to_list sci) interrupt
+    ∙ (times-append interrupt (wired_numbers pins) (option_to_list sci) ∙ ap (λ k. k + times interrupt (option_to_list sci)) (times_pins interrupt pins))
+
+-- the counts are in order
+pub set_in_order : (numbers : List ℕ) → IsStrictlyIncreasing (set_of numbers)
+set_in_order numbers = IsStrictlyIncreasing-from_sorted (set_of numbers) (set_ascends [] numbers none_ascends)
+
+firsts : (ms set : List ℕ) → map (λ w. w.0) (map (counted ms) set) ≡ set
+firsts ms [] = refl
+firsts ms (n ∷ ns) = ap (λ rest. n ∷ rest) (firsts ms ns)
+
+pub counts_in_order : (pins : List (List Seg × Pin)) → IsStrictlyIncreasing (map (λ w. w.0) (pin_counts pins))
+unfolding wired_counts
+counts_in_order pins = rw (firsts (wired_numbers pins) (set_of (wired_numbers pins))) (set_in_order (wired_numbers pins))
+
+few_numbers : (pins : List (List Seg × Pin)) → length (wired_numbers pins) ≤ length pins
+unfolding wired_numbers
+few_numbers [] = omega arith
+few_numbers (pin ∷ pins) = by pin.1.route (few_numbers pins)
+  where
+    by : (route : Route) → length (filter_map (λ (p : List Seg × Pin). wired_number p.1.route) pins) ≤ length pins
+        → length (cons_option (wired_number route) (filter_map (λ (p : List Seg × Pin). wired_number p.1.route) pins)) ≤ suc (length pins)
+    by (Wired m) h = omega arith
+    by (Link p) h = omega arith
+
+pub counts_few : (pins : List (List Seg × Pin)) → length (pin_counts pins) ≤ length pins
+unfolding wired_counts
+counts_few pins =
+    let a = length-map (set_of (wired_numbers pins)) (counted (wired_numbers pins)) in
+    let b = length-set_of (wired_numbers pins) in
+    let c = few_numbers pins in
+    omega arith

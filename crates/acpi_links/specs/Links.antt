@@ -1,14 +1,15 @@
 -- The link devices that pins lead to, and those of them that are present.
-use Rattle.std.specs.Prelude.{◌≡◌, ⊤, ℕ, List, [], ◌∷◌, ◌++◌, length, nat_lt, Bool, true, false, ◌&&◌, Option, Some, None, Ok, Err, if◌then◌else◌}
+use Rattle.std.specs.Prelude.{◌≡◌, ⊤, ℕ, List, [], ◌∷◌, ◌++◌, length, nat_lt, option_to_list, ◌+◌, Bool, true, false, ◌&&◌, Option, Some, None, Ok, Err, if◌then◌else◌}
 use Rattle.std.specs.List.{list_any}
 use Rattle.std.specs.BTreeSet.{insert_key}
 use Rattle.ar_space.specs.declared.refusal.Refusal.TheVariants as refusal
-use Rattle.ar_space.specs.declared.refusal.RoutingFault.TheVariants.{MixedPolarity, TooMany}
+use Rattle.ar_space.specs.declared.refusal.RoutingFault.TheVariants.{Avoided, MixedPolarity, TooMany}
 use Rattle.ar_space.specs.Accesses.{Accesses}
 use Rattle.ar_space.specs.Outcome.{Outcome}
-use Rattle.ar_space.specs.Change.{Change, give, ◌>>=◌}
+use Rattle.ar_space.specs.Change.{Change, give, settle, ◌>>=◌, ◌>>◌}
 use Rattle.aml_path.specs.declared.segment.Seg.{Seg}
 use Rattle.aml_path.specs.Paths.{path_cmp}
+use Rattle.aml_path.specs.Text.{text_of}
 use Rattle.acpi_resources.specs.declared.form.Polarity.{Polarity}
 use Rattle.acpi_resources.specs.declared.form.Polarity.TheVariants.{Low, High}
 use Rattle.acpi_resources.specs.Records.{InterruptOffer}
@@ -16,13 +17,14 @@ use Rattle.acpi_machine.specs.MachineStates.{MachineState}
 use Rattle.acpi_prt.specs.declared.pin.Pin.{Pin}
 use Rattle.acpi_prt.specs.declared.pin.Route.{Route}
 use Rattle.acpi_prt.specs.declared.pin.Route.TheVariants.{Wired, Link}
+use Rattle.route_model.specs.Avoided.{are_all_avoided}
 use Rattle.acpi_links.specs.Presence.{is_present}
 use Rattle.acpi_links.specs.Resources.{possible_resources, current_resources}
 use Rattle.acpi_links.specs.Folds.{folded}
 
--- at most 4,096 pins
-abbrev pub few_pins : List (List Seg × Pin) → Outcome (Unit {0})
-few_pins pins = if nat_lt 4096 (length pins) then Err (refusal.Routing TooMany) else Ok tt
+-- at most 4,096 pins and the source of the System Control Interrupt, if there is one, together
+abbrev pub few_pins : Option ℕ → List (List Seg × Pin) → Outcome (Unit {0})
+few_pins sci pins = if nat_lt 4096 (length pins + length (option_to_list sci)) then Err (refusal.Routing TooMany) else Ok tt
 
 -- the links that routes lead to: paths in path order, each once
 abbrev pub with_route : List (List Seg) → Route → List (List Seg)
@@ -49,15 +51,29 @@ abbrev pub IsAt : List Seg → Option PresentLink → Type 0
 IsAt p None = ⊤
 IsAt p (Some link) = link.0 ≡ p
 
+-- something of an offer is left where these interrupts are avoided
+abbrev pub some_left : List ℕ → List Seg → InterruptOffer → Outcome (Unit {0})
+some_left avoid link offer = if are_all_avoided avoid offer.numbers then Err (refusal.Routing (Avoided (text_of link))) else Ok tt
+
+abbrev pub HasLeft : List ℕ → PresentLink → Type 0
+HasLeft avoid link = are_all_avoided avoid link.1.numbers ≡ false
+
+-- the same of a link that was found
+abbrev pub IsLeft : List ℕ → Option PresentLink → Type 0
+IsLeft avoid None = ⊤
+IsLeft avoid (Some link) = HasLeft avoid link
+
 abbrev pub with_link : List PresentLink → Option PresentLink → List PresentLink
 with_link links None = links
 with_link links (Some link) = links ++ link ∷ []
 
--- accesses: what the register space makes of them
-module _ {S : Type 0} (accesses : Accesses S) where
+-- accesses: what the register space makes of them; avoid: the interrupts that no link is to be given
+module _ {S : Type 0} (accesses : Accesses S) (avoid : List ℕ) where
+  -- that all it offers is avoided is found before it is asked for its setting
   unfoldable pub link_found : List Seg → Change (MachineState S) (Option PresentLink)
   link_found link = do
     offer ← possible_resources accesses link
+    settle (some_left avoid link offer)
     now ← current_resources accesses link
     give (Some (link, offer, now))
 

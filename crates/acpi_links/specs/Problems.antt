@@ -1,11 +1,12 @@
--- The routing problem of present links and wired pins.
-use Rattle.std.specs.Prelude.{ℕ, ◌==◌, List, [], ◌∷◌, ◌++◌, map, count_by, Option, Some, None}
+-- The routing problem of present links, of wired pins and of the System Control Interrupt.
+use Rattle.std.specs.Prelude.{ℕ, ◌==◌, List, [], ◌∷◌, ◌++◌, map, count_by, option_to_list, Option, Some, None}
 use Rattle.std.specs.List.{filter_map}
 use Rattle.aml_path.specs.declared.segment.Seg.{Seg}
 use Rattle.acpi_resources.specs.Numbers.{set_of}
 use Rattle.acpi_prt.specs.declared.pin.Pin.{Pin}
 use Rattle.acpi_prt.specs.declared.pin.Route.{Route}
 use Rattle.acpi_prt.specs.declared.pin.Route.TheVariants.{Wired, Link}
+use Rattle.route_model.specs.Avoided.{without}
 use Rattle.route_model.specs.Links.{OfferingLink}
 use Rattle.route_solve.specs.Problems.{RoutingProblem}
 use Rattle.acpi_links.specs.Links.{PresentLink}
@@ -31,9 +32,18 @@ counted numbers n = (n, count_by (λ m. m == n) numbers)
 unfoldable pub wired_counts : List ℕ → List (ℕ × ℕ)
 wired_counts numbers = map (counted numbers) (set_of numbers)
 
-abbrev pub offering : PresentLink → OfferingLink
-offering link = record { path = link.0; offers = link.1.numbers }
+-- the interrupts that pins are wired to, with their counts
+abbrev pub pin_counts : List (List Seg × Pin) → List (ℕ × ℕ)
+pin_counts pins = wired_counts (wired_numbers pins)
 
--- each present link is one source, however many pins lead to it, and each wired pin is one
-unfoldable pub problem_of : List PresentLink → List (List Seg × Pin) → RoutingProblem
-problem_of links pins = record { links = map offering links; wired = wired_counts (wired_numbers pins) }
+-- the interrupts of all wired sources, one for each: the pins, and the System Control Interrupt, if it has a source
+unfoldable pub source_numbers : Option ℕ → List (List Seg × Pin) → List ℕ
+source_numbers sci pins = wired_numbers pins ++ option_to_list sci
+
+-- a link, with what it offers of the interrupts that aren't avoided
+abbrev pub offering : List ℕ → PresentLink → OfferingLink
+offering avoid link = record { path = link.0; offers = without avoid link.1.numbers }
+
+-- each present link is one source, however many pins lead to it, each wired pin is one, and so is the System Control Interrupt
+unfoldable pub problem_of : List ℕ → Option ℕ → List PresentLink → List (List Seg × Pin) → RoutingProblem
+problem_of avoid sci links pins = record { links = map (offering avoid) links; wired = wired_counts (source_numbers sci pins) }

@@ -1,6 +1,6 @@
 //! Objects below a device, and what kind of value they answer.
 ghost use Rattle.std.specs.Prelude.{◌≡◌, Ok};
-ghost use Rattle.ar_space.specs.Outcome.{Answers, seen};
+ghost use Rattle.ar_space.specs.Outcome.{Answers, NotMemory, seen};
 ghost use Rattle.ar_space.specs.Change.{Does};
 ghost use Rattle.aml_meaning.specs.Given.{given_of};
 ghost use Rattle.acpi_machine.specs.Calls.{evaluated_object};
@@ -34,7 +34,8 @@ pub(crate) fn buffer_at<S: Space>(
 }
 
 fn bytes_in(answer: Datum) -> Result<Octets, Refusal>
-    ensures { Answers result (bytes_in (given_of answer)) }
+    ensures value { Answers result (bytes_in (given_of answer)) }
+    ensures memory { NotMemory result }
 {
     match answer {
         Datum::Bytes(bytes) => Ok(bytes),

@@ -13,7 +13,8 @@ pub struct Gathered {
     /// The present links that some pin leads to, in path order: the path, what the link may be set to, and what it is set
     /// to, where it has a `_CRS`.
     pub links: Vec<PresentLink>,
-    /// The present links with their offers, and the interrupts that pins are wired to.
+    /// The present links with what they offer of the interrupts that aren't avoided, and the interrupts that pins or the System
+    /// Control Interrupt are wired to.
     pub problem: Problem,
 }
 

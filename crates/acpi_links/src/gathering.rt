@@ -1,12 +1,14 @@
 //! Gathers the routing problem of a machine.
-ghost use Rattle.std.specs.Prelude.{◌≡◌, ◌≤◌, Ok, IfOk, length, map};
+ghost use Rattle.std.specs.Prelude.{◌≡◌, ◌≤◌, ◌+◌, All, Ok, IfOk, length, map, option_to_list};
 ghost use Rattle.std.specs.List.Sorted.{IsStrictlySortedBy};
 ghost use Rattle.ar_space.specs.Outcome.{Answers, seen};
 ghost use Rattle.ar_space.specs.Change.{Does};
 ghost use Rattle.aml_path.specs.Paths.{path_cmp};
 ghost use Rattle.route_solve.specs.Fits.{Fits};
+ghost use Rattle.acpi_machine.specs.MachineStates.{sci_of};
+ghost use Rattle.acpi_links.specs.Links.{HasLeft};
 ghost use Rattle.acpi_links.specs.Devices.{devices_listed};
-ghost use Rattle.acpi_links.specs.Gatherings.{pins_found, links_found, gathering, gathered};
+ghost use Rattle.acpi_links.specs.Gatherings.{sci_shown, pins_found, links_found, gathering, gathered};
 ghost use Rattle.acpi_links.specs.Problems.{problem_of};
 
 use crate::devices::{devices, pins_of_each};
@@ -21,21 +23,40 @@ use std::alloc::Global;
 
 /// The pins of all routing tables, the present link devices that they lead to, and the routing problem that these pose.
 ///
-/// First the routing table of each Device that has a `_PRT` is read, Devices in path order; more than 4,096 pins that count,
-/// or more than 256 links that they lead to, are refused as `TooMany`. Then each such link is asked in path order: `_STA`,
-/// and where it is present `_PRS` and `_CRS`. Links of both polarities are refused as `MixedPolarity`. Refusals of
-/// `get_irq_routing_table`, `get_possible_resources`, `get_current_resources` and of evaluations are handed on, and so is
-/// `WrongType` where `_STA` answers no integer. No link is set.
+/// First the routing table of each Device that has a `_PRT` is read, Devices in path order; more than 4,096 pins that count, the
+/// source of the System Control Interrupt, `Machine::sci`, counted as one, or more than 256 links that they lead to, are refused as
+/// `TooMany`. Then each such link is asked in path order: `_STA`, and where it is present `_PRS` and `_CRS`; where all that its
+/// `_PRS` offers is among the interrupts to avoid, it is refused as `Avoided`, with its path, before its `_CRS` is asked. Links of
+/// both polarities are refused as `MixedPolarity`. Refusals of `get_irq_routing_table`, `get_possible_resources`,
+/// `get_current_resources` and of evaluations are handed on, and so is `WrongType` where `_STA` answers no integer. No link is set.
+///
+/// In the problem no link offers an interrupt that is avoided, and the System Control Interrupt is one more wired source. Sources
+/// that are wired to an avoided interrupt count as others do.
 #[tactic(auto, using(ar_space::specs::Change::changing), unfolding(crate::specs::Gatherings::gathered))]
-pub fn gather<S: Space>(alloc: Global, machine: &mut Machine<S>) -> Result<Gathered, Refusal>
-    ensures value { Does result machine.new (gathered S.accesses) machine.old }
-    ensures posed { IfOk result (λ g. g.problem ≡ problem_of g.links g.pins) }
+pub fn gather<S: Space>(
+    alloc: Global,
+    machine: &mut Machine<S>,
+    avoid: &[u32],
+) -> Result<Gathered, Refusal>
+    ensures value { Does result machine.new (gathered S.accesses avoid.now) machine.old }
+    ensures posed { IfOk result (λ g. g.problem ≡ problem_of avoid.now (sci_of machine.old) g.links g.pins) }
     ensures fits { IfOk result (λ g. Fits g.problem) }
     ensures few_wired { IfOk result (λ g. length g.problem.wired ≤ 4096) }
+    ensures few_pins { IfOk result (λ g. length g.pins ≤ 4096) }
 {
-    let pins = pins_found(alloc, machine)?;
-    let links = links_found(alloc, machine, &pins)?;
-    gathering(alloc, pins, links)
+    let sci = sci_shown(machine)?;
+    let pins = pins_found(alloc, machine, sci)?;
+    let links = links_found(alloc, machine, avoid, &pins)?;
+    gathering(alloc, avoid, sci, pins, links)
+}
+
+/// The source of the System Control Interrupt, in the machine's mode.
+#[tactic(auto, unfolding(crate::specs::Gatherings::sci_shown))]
+fn sci_shown<S: Space>(machine: &Machine<S>) -> Result<Option<u32>, Refusal>
+    ensures value { Does result machine.now sci_shown machine.now }
+    ensures sci { result ≡ Ok (sci_of machine.now) }
+{
+    Ok(machine.sci())
 }
 
 /// The pins of all routing tables.
@@ -43,13 +64,14 @@ pub fn gather<S: Space>(alloc: Global, machine: &mut Machine<S>) -> Result<Gathe
 fn pins_found<S: Space>(
     alloc: Global,
     machine: &mut Machine<S>,
+    sci: Option<u32>,
 ) -> Result<Vec<(Path, Pin)>, Refusal>
-    ensures value { Does (seen (λ list. list.items) result) machine.new (pins_found S.accesses) machine.old }
-    ensures few { IfOk result (λ list. length list.items ≤ 4096) }
+    ensures value { Does (seen (λ list. list.items) result) machine.new (pins_found S.accesses sci) machine.old }
+    ensures few { IfOk result (λ list. length list.items + length (option_to_list sci) ≤ 4096) }
 {
     let list = devices_listed(alloc, machine)?;
     let pins = pins_of_each(alloc, machine, &list)?;
-    few_pins(&pins)?;
+    few_pins(sci, &pins)?;
     Ok(pins)
 }
 
@@ -65,33 +87,39 @@ fn devices_listed<S: Space>(alloc: Global, machine: &Machine<S>) -> Result<Vec<P
 fn links_found<S: Space>(
     alloc: Global,
     machine: &mut Machine<S>,
+    avoid: &[u32],
     pins: &[(Path, Pin)],
 ) -> Result<Vec<PresentLink>, Refusal>
-    ensures value { Does (seen (λ list. list.items) result) machine.new (links_found S.accesses pins.now) machine.old }
+    ensures value { Does (seen (λ list. list.items) result) machine.new (links_found S.accesses avoid.now pins.now) machine.old }
     ensures few { IfOk result (λ list. length list.items ≤ 256) }
     ensures in_order { IfOk result (λ list. IsStrictlySortedBy path_cmp (map (λ link. link.0) list.items)) }
+    ensures left { IfOk result (λ list. All (HasLeft avoid.now) list.items) }
 {
     let named = links_named(alloc, pins)?;
     few_links(&named)?;
-    let links = links_of_each(alloc, machine, &named)?;
+    let links = links_of_each(alloc, machine, avoid, &named)?;
     one_polarity(&links)?;
     Ok(links)
 }
 
 fn gathering(
     alloc: Global,
+    avoid: &[u32],
+    sci: Option<u32>,
     pins: Vec<(Path, Pin)>,
     links: Vec<PresentLink>,
 ) -> Result<Gathered, Refusal>
-    requires pins { length pins.items ≤ 4096 }
+    requires pins { length pins.items + length (option_to_list sci) ≤ 4096 }
     requires few { length links.items ≤ 256 }
     requires in_order { IsStrictlySortedBy path_cmp (map (λ link. link.0) links.items) }
-    ensures value { Answers result (Ok (gathering pins.items links.items)) }
-    ensures posed { IfOk result (λ g. g.problem ≡ problem_of g.links g.pins) }
+    requires left { All (HasLeft avoid.now) links.items }
+    ensures value { Answers result (Ok (gathering avoid.now sci pins.items links.items)) }
+    ensures posed { IfOk result (λ g. g.problem ≡ problem_of avoid.now sci g.links g.pins) }
     ensures fits { IfOk result (λ g. Fits g.problem) }
     ensures few_wired { IfOk result (λ g. length g.problem.wired ≤ 4096) }
+    ensures few_pins { IfOk result (λ g. length g.pins ≤ 4096) }
 {
-    let problem = problem_of(alloc, &links, &pins)?;
+    let problem = problem_of(alloc, avoid, sci, &links, &pins)?;
     Ok(Gathered {
         pins,
         links,

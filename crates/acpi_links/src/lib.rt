@@ -15,4 +15,5 @@ mod resources;
 pub use gathered::Gathered;
 pub use gathering::gather;
 pub use links::PresentLink;
+pub use problem::{pin_counts, set_of};
 pub use resources::{get_current_resources, get_possible_resources, set_current_resources};

@@ -1,12 +1,16 @@
 //! The link devices that pins lead to, and those of them that are present.
-ghost use Rattle.std.specs.Prelude.{◌≡◌, ◌≤◌, [], Some, Ok, OnOk, IfOk, IsOkUnless, length, map};
+ghost use Rattle.std.specs.Prelude.{◌≡◌, ◌≤◌, ◌+◌, [], Some, Ok, Err, OnOk, IfOk, IsErr, IsOkUnless, All, length, map, option_to_list, false};
 ghost use Rattle.std.specs.List.{list_any};
 ghost use Rattle.std.specs.List.Sorted.{IsStrictlySortedBy};
 ghost use Rattle.aml_path.specs.Paths.{path_cmp};
+ghost use Rattle.aml_path.specs.Text.{text_of};
 ghost use Rattle.ar_space.specs.declared.refusal.Refusal.TheVariants.{OutOfMemory};
+ghost use Rattle.ar_space.specs.declared.refusal.Refusal.TheVariants as refusals;
+ghost use Rattle.ar_space.specs.declared.refusal.RoutingFault.TheVariants as routing;
 ghost use Rattle.ar_space.specs.Outcome.{Answers, NotMemory, seen};
 ghost use Rattle.ar_space.specs.Change.{Does};
-ghost use Rattle.acpi_links.specs.Links.{few_pins, with_route, links_named, few_links, link_found, link_if, link_asked, with_link, IsAt, links_of_each, is_low, is_high, mixed, one_polarity};
+ghost use Rattle.route_model.specs.Avoided.{are_all_avoided};
+ghost use Rattle.acpi_links.specs.Links.{few_pins, with_route, links_named, few_links, some_left, link_found, link_if, link_asked, with_link, IsAt, HasLeft, IsLeft, links_of_each, is_low, is_high, mixed, one_polarity};
 
 use crate::presence::is_present;
 use crate::resources::{get_current_resources, get_possible_resources};
@@ -14,11 +18,12 @@ use acpi_machine::Machine;
 use acpi_prt::{Pin, Route};
 use acpi_resources::{InterruptNumbers, Offer, Polarity};
 use aml_path::Path;
-use ar_space::{Refusal, RoutingFault, Space};
+use ar_space::{PathText, Refusal, RoutingFault, Space};
+use route_model::are_all_avoided;
 use std::alloc::{AllocError, Global};
 use std::collections::BTreeSet;
 
-/// A machine may have so many pins.
+/// So many pins may count, the System Control Interrupt counted as one of them.
 const MAX_PINS: usize = 4096;
 /// So many links may be named.
 const MAX_LINKS: usize = 256;
@@ -26,12 +31,18 @@ const MAX_LINKS: usize = 256;
 /// A present link: its path, what it offers, and what it is set to.
 pub type PresentLink = (Path, Offer, Option<InterruptNumbers>);
 
-/// More than 4,096 pins are refused as `TooMany`.
-pub(crate) fn few_pins(pins: &[(Path, Pin)]) -> Result<(), Refusal>
-    ensures value { Answers result (few_pins pins.now) }
-    ensures few { IfOk result (λ _. length pins.now ≤ 4096) }
+/// More than 4,096 pins, the source of the System Control Interrupt counted as one, are refused as `TooMany`.
+pub(crate) fn few_pins(sci: Option<u32>, pins: &[(Path, Pin)]) -> Result<(), Refusal>
+    ensures value { Answers result (few_pins sci pins.now) }
+    ensures memory { NotMemory result }
+    ensures few { IfOk result (λ _. length pins.now + length (option_to_list sci) ≤ 4096) }
 {
-    if pins.len() > MAX_PINS {
+    let most = if sci.is_some() {
+        MAX_PINS - 1
+    } else {
+        MAX_PINS
+    };
+    if pins.len() > most {
         Err(Refusal::Routing(RoutingFault::TooMany))
     } else {
         Ok(())
@@ -82,6 +93,7 @@ fn copy(alloc: Global, path: &Path) -> Result<Path, Refusal>
 /// More than 256 links are refused as `TooMany`.
 pub(crate) fn few_links(links: &[Path]) -> Result<(), Refusal>
     ensures value { Answers result (few_links links.now) }
+    ensures memory { NotMemory result }
     ensures few { IfOk result (λ _. length links.now ≤ 256) }
 {
     if links.len() > MAX_LINKS {
@@ -95,15 +107,17 @@ pub(crate) fn few_links(links: &[Path]) -> Result<(), Refusal>
 pub(crate) fn links_of_each<S: Space>(
     alloc: Global,
     machine: &mut Machine<S>,
+    avoid: &[u32],
     links: &[Path],
 ) -> Result<Vec<PresentLink>, Refusal>
-    ensures value { Does (seen (λ list. list.items) result) machine.new (links_of_each S.accesses links.now) machine.old }
+    ensures value { Does (seen (λ list. list.items) result) machine.new (links_of_each S.accesses avoid.now links.now) machine.old }
+    ensures left { IfOk result (λ list. All (HasLeft avoid.now) list.items) }
     ensures few { IfOk result (λ list. length list.items ≤ length links.now) }
     ensures in_order { IfOk result (λ list. IsStrictlySortedBy path_cmp links.now → IsStrictlySortedBy path_cmp (map (λ link. link.0) list.items)) }
 {
     let mut list = Vec::new(alloc);
     for link in links {
-        let found = link_asked(alloc, machine, link)?;
+        let found = link_asked(alloc, machine, avoid, link)?;
         push_found(&mut list, found)?;
     }
     Ok(list)
@@ -124,27 +138,31 @@ fn push_found(list: &mut Vec<PresentLink>, found: Option<PresentLink>) -> Result
 fn link_asked<S: Space>(
     alloc: Global,
     machine: &mut Machine<S>,
+    avoid: &[u32],
     link: &Path,
 ) -> Result<Option<PresentLink>, Refusal>
-    ensures value { Does result machine.new (link_asked S.accesses link.now) machine.old }
+    ensures value { Does result machine.new (link_asked S.accesses avoid.now link.now) machine.old }
     ensures path { IfOk result (λ found. IsAt link.now found) }
+    ensures left { IfOk result (λ found. IsLeft avoid.now found) }
 {
     let present = is_present(alloc, machine, link)?;
-    link_if(alloc, machine, present, link)
+    link_if(alloc, machine, avoid, present, link)
 }
 
 #[tactic(auto, using(ar_space::specs::Change::changing), unfolding(crate::specs::Links::link_if))]
 fn link_if<S: Space>(
     alloc: Global,
     machine: &mut Machine<S>,
+    avoid: &[u32],
     present: bool,
     link: &Path,
 ) -> Result<Option<PresentLink>, Refusal>
-    ensures value { Does result machine.new (link_if S.accesses present link.now) machine.old }
+    ensures value { Does result machine.new (link_if S.accesses avoid.now present link.now) machine.old }
     ensures path { IfOk result (λ found. IsAt link.now found) }
+    ensures left { IfOk result (λ found. IsLeft avoid.now found) }
 {
     match present {
-        true => link_found(alloc, machine, link),
+        true => link_found(alloc, machine, avoid, link),
         false => Ok(None),
     }
 }
@@ -154,14 +172,38 @@ fn link_if<S: Space>(
 fn link_found<S: Space>(
     alloc: Global,
     machine: &mut Machine<S>,
+    avoid: &[u32],
     link: &Path,
 ) -> Result<Option<PresentLink>, Refusal>
-    ensures value { Does result machine.new (link_found S.accesses link.now) machine.old }
+    ensures value { Does result machine.new (link_found S.accesses avoid.now link.now) machine.old }
     ensures path { IfOk result (λ found. IsAt link.now found) }
+    ensures left { IfOk result (λ found. IsLeft avoid.now found) }
 {
     let offer = get_possible_resources(alloc, machine, link)?;
+    some_left(alloc, avoid, link, &offer)?;
     let now = get_current_resources(alloc, machine, link)?;
     present_link(alloc, link, offer, now)
+}
+
+/// A link all of whose possible settings are avoided is refused as `Avoided`, with its path.
+fn some_left(alloc: Global, avoid: &[u32], link: &Path, offer: &Offer) -> Result<(), Refusal>
+    ensures value { Answers result (some_left avoid.now link.now offer.now) }
+    ensures left { IfOk result (λ _. are_all_avoided avoid.now offer.now.numbers ≡ false) }
+    ensures memory { are_all_avoided avoid.now offer.now.numbers ≡ false → NotMemory result }
+{
+    if are_all_avoided(avoid, offer.numbers()) {
+        all_avoided(alloc, link)
+    } else {
+        Ok(())
+    }
+}
+
+fn all_avoided(alloc: Global, link: &Path) -> Result<(), Refusal>
+    ensures value { Answers result (Err (refusals.Routing (routing.Avoided (text_of link.now)))) }
+    ensures refused { IsErr result }
+{
+    let text = link.text(alloc)?;
+    Err(Refusal::Routing(RoutingFault::Avoided(PathText::new(text))))
 }
 
 fn present_link(
@@ -172,13 +214,15 @@ fn present_link(
 ) -> Result<Option<PresentLink>, Refusal>
     ensures value { Answers result (Ok (Some (link.now, offer, now))) }
     ensures path { IfOk result (λ found. IsAt link.now found) }
+    ensures same { IfOk result (λ found. found ≡ Some (link.now, offer, now)) }
 {
     Ok(Some((link.copy(alloc)?, offer, now)))
 }
 
 /// Links of both polarities are refused as `MixedPolarity`.
 pub(crate) fn one_polarity(links: &[PresentLink]) -> Result<(), Refusal>
-    ensures { Answers result (one_polarity links.now) }
+    ensures value { Answers result (one_polarity links.now) }
+    ensures memory { NotMemory result }
 {
     if mixed(links) {
         Err(Refusal::Routing(RoutingFault::MixedPolarity))

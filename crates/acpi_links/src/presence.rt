@@ -1,6 +1,6 @@
 //! Whether a link device is present (ACPI 6.5, 6.3.7).
 ghost use Rattle.std.specs.Prelude.{Ok};
-ghost use Rattle.ar_space.specs.Outcome.{Answers};
+ghost use Rattle.ar_space.specs.Outcome.{Answers, NotMemory};
 ghost use Rattle.ar_space.specs.Change.{Does};
 ghost use Rattle.aml_meaning.specs.Given.{given_of};
 ghost use Rattle.acpi_links.specs.Presence.{presence, status_at, presence_at, is_present};
@@ -58,7 +58,8 @@ fn status_at<S: Space>(
 }
 
 fn presence(answer: &Datum) -> Result<bool, Refusal>
-    ensures { Answers result (presence (given_of answer.now)) }
+    ensures value { Answers result (presence (given_of answer.now)) }
+    ensures memory { NotMemory result }
 {
     match answer {
         Datum::Integer(status) => Ok(*status % 2 == 1),

@@ -1,12 +1,13 @@
 -- A machine, as contracts see it.
-use Rattle.std.specs.Prelude.{ℕ, Bool, false, refl}
+use Rattle.std.specs.Prelude.{ℕ, Bool, true, false, refl, Option}
 use Rattle.std.specs.Coded.{Coded, code_by, coded×, coded_ℕ, coded_bool}
 use Rattle.ar_tables.specs.declared.tables.Tables.{Tables}
 use Rattle.ar_tables.specs.contracts.tables.Tables as tables_type
 use Rattle.aml_meaning.specs.State.{State, state_code}
 use Rattle.ar_tables.specs.declared.mode.Mode.{Mode}
-use Rattle.ar_tables.specs.declared.mode.Mode.TheVariants.{Apic}
+use Rattle.ar_tables.specs.declared.mode.Mode.TheVariants.{Apic, Pic}
 use Rattle.ar_tables.specs.contracts.mode.Mode as mode_type
+use Rattle.ar_tables.specs.SciSources.{sci_source}
 
 -- the world, the tables, the mode, how many steps an evaluation may take, and whether a call ran out of memory
 pub record MachineState (S : Type 0) : Type 0 where
@@ -27,3 +28,12 @@ machine_code {S = S} code =
 -- a machine as loading leaves it
 abbrev pub machine_of : {S : Type 0} → Tables → ℕ → State S → MachineState S
 machine_of t steps w = record { world = w; tables = t; mode = Apic; steps = steps; spent = false }
+
+-- whether I/O APICs are used
+abbrev pub is_apic : Mode → Bool
+is_apic Pic = false
+is_apic Apic = true
+
+-- the interrupt source of the System Control Interrupt, in the machine's mode
+abbrev pub sci_of : {S : Type 0} → MachineState S → Option ℕ
+sci_of s = sci_source s.tables (is_apic s.mode)

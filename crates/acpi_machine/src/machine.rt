@@ -1,9 +1,11 @@
 //! A machine, and what it shows without evaluating.
 ghost use Rattle.std.specs.Prelude.{◌≡◌, option_map};
+ghost use Rattle.acpi_machine.specs.MachineStates.{sci_of};
 
+use crate::mode::is_apic;
 use aml_meaning::World;
 use ar_space::Space;
-use ar_tables::{Madt, Mode, Tables};
+use ar_tables::{Madt, Mode, Tables, sci_source};
 use std::marker::Model;
 
 /// A machine: the world that its tables were loaded into, the tables, how it delivers interrupts, how many steps an
@@ -46,6 +48,14 @@ impl<S: Space> Machine<S> {
             None => None,
             Some(madt) => Some(madt),
         }
+    }
+
+    /// The interrupt source of the System Control Interrupt in the machine's mode, as `ar_tables::sci_source` gives it: none where
+    /// the FADT names none.
+    pub fn sci(&self) -> Option<u32>
+        ensures { result ≡ sci_of self.now }
+    {
+        sci_source(&self.tables, is_apic(self.mode))
     }
 
     /// The register space, with the accesses made so far.

@@ -1,6 +1,7 @@
-//! How firmware is told the mode.
+//! What a mode says.
 ghost use Rattle.std.specs.Prelude.{◌≡◌};
 ghost use Rattle.acpi_machine.specs.Calls.{mode_number};
+ghost use Rattle.acpi_machine.specs.MachineStates.{is_apic};
 
 use ar_tables::Mode;
 
@@ -11,5 +12,15 @@ pub(crate) fn mode_number(mode: Mode) -> u64
     match mode {
         Mode::Pic => 0,
         Mode::Apic => 1,
+    }
+}
+
+/// Whether I/O APICs are used.
+pub(crate) fn is_apic(mode: Mode) -> bool
+    ensures { result ≡ is_apic mode }
+{
+    match mode {
+        Mode::Pic => false,
+        Mode::Apic => true,
     }
 }

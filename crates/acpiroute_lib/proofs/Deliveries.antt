@@ -7,7 +7,8 @@ use Rattle.clap.specs.declared.error.kind.ErrorKind.{ErrorKind}
 use Rattle.clap.specs.declared.error.kind.ErrorKind.TheVariants as kind
 use Rattle.ar_space.specs.Outcome.{Outcome, NotMemory}
 use Rattle.ar_space.specs.declared.refusal.Refusal.TheVariants as refusal
-use Rattle.acpiroute_words.specs.CommandLine.{faults_of, request_of}
+use Rattle.acpiroute_words.specs.CommandLine.{faults_of, asked_of}
+use Rattle.acpiroute_words.specs.declared.request.Asked.TheVariants.{For, BadAvoid}
 use Rattle.acpiroute_words.specs.Deliveries.{Reply, reply_of, Delivered, IsToldAs, Told}
 use Rattle.acpiroute_words.specs.ErrorLines.{error_line}
 use Rattle.acpiroute_words.specs.Held.{Held}
@@ -20,7 +21,7 @@ use Rattle.acpiroute_words.specs.declared.input.Stop.{Stop}
 use Rattle.acpiroute_words.specs.declared.input.Stop.TheVariants as stop
 use Rattle.acpiroute_words.specs.declared.request.Request.{Request}
 use Rattle.acpiroute_lib.specs.Commands.{IsAnswer}
-use Rattle.acpiroute_lib.specs.Runs.{IsAnswerOver, ComesTo, IsReply, Ran, Served, IsHelp, Shows, Shown, no_memory}
+use Rattle.acpiroute_lib.specs.Runs.{IsAnswerOver, ComesTo, IsReply, Ran, Served, IsHelp, Shows, Shown, bad_avoid, no_memory}
 
 -- ---- a request
 
@@ -72,14 +73,17 @@ module _ (words : List (List ℕ)) (left : Option (List ℕ)) (failed : Bool) (s
   pub complained : (fault : ErrorKind) → (fault ≡ kind.OutOfMemory) ⊎ IsAmong fault (faults_of words) → Shown fault status output output2 errors errors2 → Ran words left failed status output output2 errors errors2
   complained fault h s = any_input left refl s.reply (λ input. inl (record { fault = s.told; found = told_of s.told fault s.is_told h; shown = s.shown })) s.delivered
 
-  pub worked : (request : Request) → faults_of words ≡ [] → request_of words ≡ Some request → Served request left failed status output output2 errors errors2
+  pub declined : faults_of words ≡ [] → asked_of words ≡ Some BadAvoid → Delivered bad_avoid status output output2 errors errors2 → Ran words left failed status output output2 errors errors2
+  declined none is d = any_input left refl bad_avoid (λ input. inr (inl (record { no_fault = none; asked = is; is = refl }))) d
+
+  pub worked : (request : Request) → faults_of words ≡ [] → asked_of words ≡ Some (For request) → Served request left failed status output output2 errors errors2
       → Ran words left failed status output output2 errors errors2
   worked request none is s =
       record {
         input = s.input;
         is_input = s.is_input;
         reply = reply_of s.outcome;
-        is_reply = inr (record { request = request; no_fault = none; asked = is; outcome = s.outcome; comes = s.comes; is = refl });
+        is_reply = inr (inr (record { request = request; no_fault = none; asked = is; outcome = s.outcome; comes = s.comes; is = refl }));
         delivered = s.delivered;
       }
 
@@ -144,4 +148,4 @@ module _ (fault : ErrorKind) (status : ℕ) (output output2 errors errors2 : Hel
 
 pub ruleset showing = (shown_memory, shown_fault, shown_help)
 
-pub ruleset running = (complained, worked)
+pub ruleset running = (complained, declined, worked)

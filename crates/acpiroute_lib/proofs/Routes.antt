@@ -53,9 +53,9 @@ verdict_yes c text o (Err f) is at v h = absurd (no_flaw c f v (subst (λ o. IsV
 checked : (c : RoutingClaim) (text : List ℕ) → claim_of_text text ≡ Ok c → Valid c → (r : Outcome Written) → IsCheckAnswer text r → r ≡ Ok (verdict_answer (Ok tt))
 checked c text at v r h = h.2 ∙ verdict_yes c text (claim_of_text text) h.0 at refl v h.1
 
-pub reported : {m after : MachineState Bytes} (dry : Bool) (report : RoutingReport) (r : Outcome Written) → IsReport byte_accesses dry m after report → Answers r (Ok (printed report))
-    → IfOk r (λ w. IsReadable report → claim_of_text w.text ≡ Ok (claim_of_report report)) → NotMemory r → IsRouted dry m r
-reported {after = after} dry report (Ok w) is h back ne =
+pub reported : {m after : MachineState Bytes} (dry : Bool) (avoid : List ℕ) (report : RoutingReport) (r : Outcome Written) → IsReport byte_accesses dry avoid m after report → Answers r (Ok (printed report))
+    → IfOk r (λ w. IsReadable report → claim_of_text w.text ≡ Ok (claim_of_report report)) → NotMemory r → IsRouted dry avoid m r
+reported {after = after} dry avoid report (Ok w) is h back ne =
     record {
       report = report;
       after = after;
@@ -64,20 +64,20 @@ reported {after = after} dry report (Ok w) is h back ne =
       is_read_back = back is.readable;
       is_checked = checked (claim_of_report report) w.text (back is.readable) is.valid;
     }
-reported dry report (Err e) is h back ne = absurd (cc (h.is ne))
+reported dry avoid report (Err e) is h back ne = absurd (cc (h.is ne))
 
-pub not_gathered : {e : Refusal} {after : MachineState Bytes} (dry : Bool) (m : MachineState Bytes) (r : Outcome Written) → (e ≢ OutOfMemory → gathered byte_accesses m ≡ (Err e, after)) → IsErr r × IsErrAnd r (λ x. x ≡ e)
-    → NotMemory r → IsRouted dry m r
-not_gathered dry m (Ok a) is i ne = absurd (cc i.0)
-not_gathered dry m (Err x) is i ne = ap (λ p. p.0) (is (λ q. ne (i.1 ∙ q))) ∙ ap Err (sym i.1)
+pub not_gathered : {e : Refusal} {after : MachineState Bytes} (dry : Bool) (avoid : List ℕ) (m : MachineState Bytes) (r : Outcome Written) → (e ≢ OutOfMemory → gathered byte_accesses avoid m ≡ (Err e, after)) → IsErr r × IsErrAnd r (λ x. x ≡ e)
+    → NotMemory r → IsRouted dry avoid m r
+not_gathered dry avoid m (Ok a) is i ne = absurd (cc i.0)
+not_gathered dry avoid m (Err x) is i ne = ap (λ p. p.0) (is (λ q. ne (i.1 ∙ q))) ∙ ap Err (sym i.1)
 
-pub refused_machine : {e : Refusal} (mode : Mode) (steps : ℕ) (dry : Bool) (text : List ℕ) (r : Outcome Written) → Answers {A = MachineState Bytes} (Err e) (machine_of_text_in mode steps text) → IsErr r × IsErrAnd r (λ x. x ≡ e)
-    → NotMemory r → IsRouteAnswer mode steps dry text r
-refused_machine mode steps dry text (Ok a) h i ne = absurd (cc i.0)
-refused_machine mode steps dry text (Err x) h i ne = rw (h.is (λ q. ne (i.1 ∙ q))) (ap Err i.1)
+pub refused_machine : {e : Refusal} (mode : Mode) (steps : ℕ) (dry : Bool) (avoid text : List ℕ) (r : Outcome Written) → Answers {A = MachineState Bytes} (Err e) (machine_of_text_in mode steps text) → IsErr r × IsErrAnd r (λ x. x ≡ e)
+    → NotMemory r → IsRouteAnswer mode steps dry avoid text r
+refused_machine mode steps dry avoid text (Ok a) h i ne = absurd (cc i.0)
+refused_machine mode steps dry avoid text (Err x) h i ne = rw (h.is (λ q. ne (i.1 ∙ q))) (ap Err i.1)
 
-pub ready_machine : {m : MachineState Bytes} (mode : Mode) (steps : ℕ) (dry : Bool) (text : List ℕ) (r : Outcome Written) → Answers (Ok m) (machine_of_text_in mode steps text) → (NotMemory r → IsRouted dry m r)
-    → NotMemory r → IsRouteAnswer mode steps dry text r
-ready_machine mode steps dry text r h is ne = rw (h.is tt) (is ne)
+pub ready_machine : {m : MachineState Bytes} (mode : Mode) (steps : ℕ) (dry : Bool) (avoid text : List ℕ) (r : Outcome Written) → Answers (Ok m) (machine_of_text_in mode steps text) → (NotMemory r → IsRouted dry avoid m r)
+    → NotMemory r → IsRouteAnswer mode steps dry avoid text r
+ready_machine mode steps dry avoid text r h is ne = rw (h.is tt) (is ne)
 
 pub ruleset routing = (reported, not_gathered, refused_machine, ready_machine)

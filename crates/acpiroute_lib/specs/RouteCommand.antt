@@ -35,24 +35,24 @@ printed report = record { text = text_of_report report; completion = completion_
 
 -- The text of the report of a machine; `after` is the machine that setting the links leaves, its register space among it. What the text
 -- claims is what the report claims, the answer to the machine's problem, and `check` says yes to it.
-pub record IsReportOf (dry : Bool) (m : MachineState Bytes) (w : Written) : Type 0 where
+pub record IsReportOf (dry : Bool) (avoid : List ℕ) (m : MachineState Bytes) (w : Written) : Type 0 where
   pub report : RoutingReport
   pub after : MachineState Bytes
-  pub is_report : IsReport byte_accesses dry m after report
+  pub is_report : IsReport byte_accesses dry avoid m after report
   pub is_text : w ≡ printed report
   pub is_read_back : claim_of_text w.text ≡ Ok (claim_of_report report)
   pub is_checked : (r : Outcome Written) → IsCheckAnswer w.text r → r ≡ Ok (verdict_answer (Ok tt))
 
 -- the report, or the refusal of what it has to find
-abbrev pub IsRouted : Bool → MachineState Bytes → Outcome Written → Type 0
-IsRouted dry m (Ok w) = IsReportOf dry m w
-IsRouted dry m (Err e) = (gathered byte_accesses m).0 ≡ Err e
+abbrev pub IsRouted : Bool → List ℕ → MachineState Bytes → Outcome Written → Type 0
+IsRouted dry avoid m (Ok w) = IsReportOf dry avoid m w
+IsRouted dry avoid m (Err e) = (gathered byte_accesses avoid m).0 ≡ Err e
 
 -- a machine that is refused has no report
-abbrev pub IsRoutedOn : Bool → Outcome (MachineState Bytes) → Outcome Written → Type 0
-IsRoutedOn dry (Ok m) r = IsRouted dry m r
-IsRoutedOn dry (Err e) r = r ≡ Err e
+abbrev pub IsRoutedOn : Bool → List ℕ → Outcome (MachineState Bytes) → Outcome Written → Type 0
+IsRoutedOn dry avoid (Ok m) r = IsRouted dry avoid m r
+IsRoutedOn dry avoid (Err e) r = r ≡ Err e
 
--- what `route` answers over a machine text, in this mode and with this budget of steps
-abbrev pub IsRouteAnswer : Mode → ℕ → Bool → List ℕ → Outcome Written → Type 0
-IsRouteAnswer mode steps dry text r = IsRoutedOn dry (machine_of_text_in mode steps text) r
+-- what `route` answers over a machine text, in this mode, with this budget of steps, and where these interrupts are avoided
+abbrev pub IsRouteAnswer : Mode → ℕ → Bool → List ℕ → List ℕ → Outcome Written → Type 0
+IsRouteAnswer mode steps dry avoid text r = IsRoutedOn dry avoid (machine_of_text_in mode steps text) r

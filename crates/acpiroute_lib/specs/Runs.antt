@@ -7,7 +7,8 @@ use Rattle.ar_space.specs.Outcome.{Outcome, NotMemory}
 use Rattle.ar_space.specs.declared.refusal.Refusal.TheVariants.{Input}
 use Rattle.ar_space.specs.declared.refusal.InputFault.TheVariants.{ReadFault}
 use Rattle.acpiroute_words.specs.declared.request.Request.{Request}
-use Rattle.acpiroute_words.specs.CommandLine.{request_of, faults_of}
+use Rattle.acpiroute_words.specs.declared.request.Asked.TheVariants.{For, BadAvoid}
+use Rattle.acpiroute_words.specs.CommandLine.{asked_of, faults_of}
 use Rattle.acpiroute_words.specs.Deliveries.{Reply, reply_of, Delivered}
 use Rattle.acpiroute_words.specs.Held.{Held}
 use Rattle.acpiroute_words.specs.Input.{input_of, IsInput}
@@ -45,18 +46,28 @@ pub record Complained (words : List (List ℕ)) (r : Reply) : Type 0 where
   pub found : IsAmong fault (kind.OutOfMemory ∷ faults_of words)
   pub shown : Shows fault r
 
+-- what is told where the text of `--avoid` is no list of interrupts
+abbrev pub bad_avoid : Reply
+bad_avoid = record { text = []; line = codes "bad --avoid\n"; status = 2 }
+
+-- the words ask for a route that avoids what is no list of interrupts, and nothing else is wrong with them
+pub record Declined (words : List (List ℕ)) (r : Reply) : Type 0 where
+  pub no_fault : faults_of words ≡ []
+  pub asked : asked_of words ≡ Some BadAvoid
+  pub is : r ≡ bad_avoid
+
 -- the words ask for this, and the request comes to that outcome over the input
 pub record Worked (words : List (List ℕ)) (read_failed : Bool) (input : List ℕ) (r : Reply) : Type 0 where
   pub request : Request
   pub no_fault : faults_of words ≡ []
-  pub asked : request_of words ≡ Some request
+  pub asked : asked_of words ≡ Some (For request)
   pub outcome : Outcome Written
   pub comes : ComesTo request read_failed input outcome
   pub is : r ≡ reply_of outcome
 
 -- what a run over these words has to say
 abbrev pub IsReply : List (List ℕ) → Bool → List ℕ → Reply → Type 0
-IsReply words read_failed input r = Complained words r ⊎ Worked words read_failed input r
+IsReply words read_failed input r = Complained words r ⊎ (Declined words r ⊎ Worked words read_failed input r)
 
 -- What a run leaves: what it has to say is delivered. What needs no input is said over any; where the bytes are known that were
 -- left to the reader, the input is these.

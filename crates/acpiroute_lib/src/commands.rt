@@ -14,7 +14,12 @@ pub(crate) fn answer_to(alloc: Global, request: Request, input: &[u8]) -> Result
     ensures { NotMemory result → IsAnswer request input.now result }
 {
     match request {
-        Request::Route { mode, steps, dry } => route_answer(alloc, mode, steps, dry, input),
+        Request::Route {
+            mode,
+            steps,
+            dry,
+            avoid,
+        } => route_answer(alloc, mode, steps, dry, avoid.as_slice(), input),
         Request::Names { steps } => names_answer(alloc, steps, input),
         Request::Eval {
             mode,

@@ -14,7 +14,8 @@ mod route_command;
 mod value_text;
 
 pub use acpiroute_words::{
-    Failed, Growing, Integers, Outside, Request, Sink, Source, parse, write_error_line,
+    Asked, Failed, Growing, Integers, Interrupts, Outside, Request, Sink, Source, parse,
+    write_error_line,
 };
 pub use memory::{Reply, run_over};
 pub use program::run;

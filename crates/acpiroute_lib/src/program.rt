@@ -3,10 +3,10 @@ ghost use Rattle.std.specs.Prelude.{◌≡◌, ◌≢◌, ◌<◌, [], length, m
 ghost use Rattle.clap.specs.Words.{kind_of};
 ghost use Rattle.acpiroute_words.specs.CommandLine.{faults_of};
 ghost use Rattle.acpiroute_words.specs.Deliveries.{Delivered};
-ghost use Rattle.acpiroute_lib.specs.Runs.{Ran, Served, Shown, no_memory};
+ghost use Rattle.acpiroute_lib.specs.Runs.{Ran, Served, Shown, bad_avoid, no_memory};
 
 use crate::commands::answer_to;
-use acpiroute_words::{Request, Sink, Source, deliver, deliver_outcome, parse, read_input};
+use acpiroute_words::{Asked, Request, Sink, Source, deliver, deliver_outcome, parse, read_input};
 use clap::Error;
 use clap::error::ErrorKind;
 use std::alloc::{AllocError, Global};
@@ -80,6 +80,16 @@ fn show<W: Sink, E: Sink>(alloc: Global, error: &Error, writer: &mut W, errors: 
     }
 }
 
+/// Tells that the text of `--avoid` is no list of interrupts.
+fn decline<W: Sink, E: Sink>(writer: &mut W, errors: &mut E) -> u8
+    requires output { (W.held writer.old).has_failed ≡ false }
+    requires errors { (E.held errors.old).has_failed ≡ false }
+    ensures { Delivered bad_avoid result
+        (W.held writer.old) (W.held writer.new) (E.held errors.old) (E.held errors.new) }
+{
+    deliver(b"", b"bad --avoid\n", 2, writer, errors)
+}
+
 /// Runs the program: reads the words, the first of which is the program's name, then the whole input, and writes the answer
 /// to the output, or one line to the errors.
 ///
@@ -94,9 +104,11 @@ fn show<W: Sink, E: Sink>(alloc: Global, error: &Error, writer: &mut W, errors: 
 /// - `names [--steps N]`: reads a machine text, loads its tables, and writes the names of the namespace, one a line in path
 ///   order: the path, a blank, and the kind of what stands there, with a method how many arguments it takes, with an alias its
 ///   target.
-/// - `route [--dry] [--mode apic|pic] [--steps N]`: reads a machine text, loads its tables, initializes the machine in the mode,
-///   by default `apic`, chooses an interrupt for each link device, sets them, and writes the report of this; with `--dry` no link
-///   device is set.
+/// - `route [--dry] [--mode apic|pic] [--steps N] [--avoid LIST]`: reads a machine text, loads its tables, initializes the machine in
+///   the mode, by default `apic`, chooses an interrupt for each link device, none of those in the list, sets them, and writes the
+///   report of this; with `--dry` no link device is set. The list is 1 to 255 numbers below 2^32 in decimal digits, separated by
+///   commas; for any other text, where nothing else is wrong with the words, the errors get the line
+///   `bad --avoid`.
 ///
 /// N is the budget of steps for each table and each evaluation, a number from 1 to 1,000,000,000 in decimal digits, by default
 /// 1,000,000. Refusals come in this order: of the machine text, of the tables, of loading, of initializing, of the path's text,
@@ -107,9 +119,9 @@ fn show<W: Sink, E: Sink>(alloc: Global, error: &Error, writer: &mut W, errors: 
 ///
 /// A refusal writes nothing to the output and one line to the errors: `refused R` with its number, and behind it ` at N`, an
 /// offset, for a fault of AML's terms, ` op XXXX` for a term that isn't evaluated, ` tag N` for a descriptor that isn't taken,
-/// ` line N` for a line of a report or of a machine text, ` P` for the path of a link that offers nothing. An input of more
-/// than 16,777,216 bytes is refused as 143, any error of the reader as 141, and any error of the output's writer as 142; what
-/// had gone out then stays. An error of the errors' writer changes nothing.
+/// ` line N` for a line of a report or of a machine text, ` P` for the path of a link that offers nothing or whose whole offer is
+/// avoided. An input of more than 16,777,216 bytes is refused as 143, any error of the reader as 141, and any error of the output's
+/// writer as 142; what had gone out then stays. An error of the errors' writer changes nothing.
 #[tactic(auto, using(crate::proofs::Deliveries::running))]
 pub fn run<R: Source, W: Sink, E: Sink>(
     alloc: Global,
@@ -127,7 +139,8 @@ pub fn run<R: Source, W: Sink, E: Sink>(
     ensures faulty { faults_of (map (λ s. s.now) words.entry.now) ≢ [] → reader.new ≡ reader.old }
 {
     match parse(alloc, words) {
-        Ok(request) => serve(alloc, request, reader, writer, errors),
+        Ok(Asked::For(request)) => serve(alloc, request, reader, writer, errors),
+        Ok(Asked::BadAvoid) => decline(writer, errors),
         Err(error) => show(alloc, &error, writer, errors),
     }
 }

@@ -52,12 +52,17 @@ fn printed(alloc: Global, report: &Report) -> Result<Answer, Refusal>
     })
 }
 
-/// The report of a machine, whose links are set unless `dry`.
+/// The report of a machine, whose links are set unless `dry`, to none of the interrupts to avoid.
 #[tactic(auto, using(crate::proofs::Routes::routing))]
-fn routed(alloc: Global, machine: &mut Machine<Sparse>, dry: bool) -> Result<Answer, Refusal>
-    ensures { NotMemory result → IsRouted dry machine.old result }
+fn routed(
+    alloc: Global,
+    machine: &mut Machine<Sparse>,
+    dry: bool,
+    avoid: &[u32],
+) -> Result<Answer, Refusal>
+    ensures { NotMemory result → IsRouted dry avoid.now machine.old result }
 {
-    let report = configure(alloc, machine, dry)?;
+    let report = configure(alloc, machine, dry, avoid)?;
     printed(alloc, &report)
 }
 
@@ -69,10 +74,11 @@ pub(crate) fn route_answer(
     mode: Mode,
     steps: u64,
     dry: bool,
+    avoid: &[u32],
     text: &[u8],
 ) -> Result<Answer, Refusal>
-    ensures { NotMemory result → IsRouteAnswer mode steps dry text.now result }
+    ensures { NotMemory result → IsRouteAnswer mode steps dry avoid.now text.now result }
 {
     let mut machine = machine_of_text_in(alloc, mode, steps, text)?;
-    routed(alloc, &mut machine, dry)
+    routed(alloc, &mut machine, dry, avoid)
 }

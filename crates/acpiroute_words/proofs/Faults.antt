@@ -6,8 +6,8 @@ use Rattle.clap.specs.Words.{App, HasMatchesOf, Text, Row, fault_of, is_simple, 
 use Rattle.clap.specs.declared.error.Error.{Error}
 use Rattle.clap.specs.declared.parser.matches.ArgMatches.{ArgMatches}
 use Rattle.clap.specs.declared.error.kind.ErrorKind.TheVariants as kind
-use Rattle.acpiroute_words.specs.declared.request.Request.{Request}
-use Rattle.acpiroute_words.specs.CommandLine.{app, parsed_subcommand, command_of, clap_faults, faults_of, request_of, value_faults}
+use Rattle.acpiroute_words.specs.declared.request.Asked.{Asked}
+use Rattle.acpiroute_words.specs.CommandLine.{app, parsed_subcommand, command_of, clap_faults, faults_of, asked_of, value_faults}
 
 same_faults : (a : App) (words : List Text) → a ≡ app → fault_of a words ≡ clap_faults words
 unfolding clap_faults
@@ -27,17 +27,17 @@ or_else_too (k ∷ ks) v e h = h
 pub still_faulty : {U : Type 0} (words : List Text) (e : Error) (r : Result U Error) → HasKind (clap_faults words) e → IsErr r × IsErrAnd r (λ x. x ≡ e) → FailsBy (faults_of words) r
 unfolding faults_of
 still_faulty words e (Ok a) h i = absurd (cc i.0)
-still_faulty words e (Err x) h i = rw i.1 (or_else_too (clap_faults words) (value_faults (request_of words)) e h)
+still_faulty words e (Err x) h i = rw i.1 (or_else_too (clap_faults words) (value_faults (asked_of words)) e h)
 
-pub no_fault : (words : List Text) (q : Request) → clap_faults words ≡ [] → request_of words ≡ Some q → faults_of words ≡ []
+pub no_fault : (words : List Text) (q : Asked) → clap_faults words ≡ [] → asked_of words ≡ Some q → faults_of words ≡ []
 unfolding faults_of
 no_fault words q none is = rw (none, is) refl
 
-pub asks : (words : List Text) (rows : Option (Text × List Row)) (found : Option Request) → rows ≡ command_of words → found ≡ parsed_subcommand rows → request_of words ≡ found
-unfolding request_of
+pub asks : (words : List Text) (rows : Option (Text × List Row)) (found : Option Asked) → rows ≡ command_of words → found ≡ parsed_subcommand rows → asked_of words ≡ found
+unfolding asked_of
 asks words rows found is h = rw (h, is) refl
 
-pub value_fault : (words : List Text) (e : Error) → clap_faults words ≡ [] → request_of words ≡ None → kind_of e ≡ kind.ValueValidation → HasKind (faults_of words) e
+pub value_fault : (words : List Text) (e : Error) → clap_faults words ≡ [] → asked_of words ≡ None → kind_of e ≡ kind.ValueValidation → HasKind (faults_of words) e
 unfolding faults_of
 value_fault words e none is k = rw (none, is) (inr (inl k))
 

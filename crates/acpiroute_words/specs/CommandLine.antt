@@ -6,9 +6,11 @@ use Rattle.clap.specs.Words.{App, Kinds, Row, Rule, Text, all_of, fault_of, firs
 use Rattle.clap.specs.declared.builder.action.ArgAction.TheVariants.{SetTrue}
 use Rattle.clap.specs.declared.error.kind.ErrorKind.TheVariants as kind
 use Rattle.ar_tables.specs.declared.mode.Mode.{Mode}
-use Rattle.acpiroute_words.specs.Values.{◌>>=◌, mode_named, numbers_named, steps_named, is_true}
+use Rattle.acpiroute_words.specs.Values.{◌>>=◌, interrupts_named, mode_named, numbers_named, steps_named, is_true}
 use Rattle.acpiroute_words.specs.declared.request.Request.{Request}
 use Rattle.acpiroute_words.specs.declared.request.Request.TheVariants as request
+use Rattle.acpiroute_words.specs.declared.request.Asked.{Asked}
+use Rattle.acpiroute_words.specs.declared.request.Asked.TheVariants.{For, BadAvoid}
 
 -- ---- the commands and options
 
@@ -25,8 +27,11 @@ steps_rule = value_rule (codes "steps")
 abbrev pub dry_rule : Rule
 dry_rule = record (new_rule (codes "dry")) { long = Some (codes "dry"); action = Some SetTrue }
 
+abbrev pub avoid_rule : Rule
+avoid_rule = value_rule (codes "avoid")
+
 abbrev pub route_app : App
-route_app = with_rule (with_rule (with_rule (new_app (codes "route")) mode_rule) steps_rule) dry_rule
+route_app = with_rule (with_rule (with_rule (with_rule (new_app (codes "route")) mode_rule) steps_rule) dry_rule) avoid_rule
 
 abbrev pub names_app : App
 names_app = with_rule (new_app (codes "names")) steps_rule
@@ -68,39 +73,50 @@ arguments_of rows = numbers_named (all_of (codes "arguments") rows)
 abbrev pub is_dry : List Row → Bool
 is_dry rows = is_true (first_of (codes "dry") rows)
 
-unfoldable pub route_of : List Row → Option Request
-route_of rows = do
-  mode ← mode_of rows
-  steps ← steps_of rows
-  Some (request.Route mode steps (is_dry rows))
+abbrev pub avoid_of : List Row → Option (List ℕ)
+avoid_of rows = interrupts_named (first_of (codes "avoid") rows)
 
-unfoldable pub names_of : List Row → Option Request
+-- a text of `--avoid` that is no list of interrupts is told where nothing else is wrong, by a line of its own
+abbrev pub route_with : Mode → ℕ → Bool → Option (List ℕ) → Asked
+route_with mode steps dry None = BadAvoid
+route_with mode steps dry (Some avoid) = For (request.Route mode steps dry avoid)
+
+unfoldable pub route_by : Option Mode → Option ℕ → Bool → Option (List ℕ) → Option Asked
+route_by maybe_mode maybe_steps dry avoid = do
+  mode ← maybe_mode
+  steps ← maybe_steps
+  Some (route_with mode steps dry avoid)
+
+unfoldable pub route_of : List Row → Option Asked
+route_of rows = route_by (mode_of rows) (steps_of rows) (is_dry rows) (avoid_of rows)
+
+unfoldable pub names_of : List Row → Option Asked
 names_of rows = do
   steps ← steps_of rows
-  Some (request.Names steps)
+  Some (For (request.Names steps))
 
 -- all of it must be said
-unfoldable pub eval_with : Option Mode → Option ℕ → Option Text → Option (List ℕ) → Option Request
+unfoldable pub eval_with : Option Mode → Option ℕ → Option Text → Option (List ℕ) → Option Asked
 eval_with maybe_mode maybe_steps maybe_path maybe_arguments = do
   mode ← maybe_mode
   steps ← maybe_steps
   path ← maybe_path
   arguments ← maybe_arguments
-  Some (request.Eval mode steps path arguments)
+  Some (For (request.Eval mode steps path arguments))
 
-unfoldable pub eval_of : List Row → Option Request
+unfoldable pub eval_of : List Row → Option Asked
 eval_of rows = eval_with (mode_of rows) (steps_of rows) (path_of rows) (arguments_of rows)
 
 -- the command of this name, with its options
-unfoldable pub parsed_command : Text → List Row → Option Request
+unfoldable pub parsed_command : Text → List Row → Option Asked
 parsed_command name rows =
     if bytes_eq name (codes "route") then route_of rows
     else if bytes_eq name (codes "names") then names_of rows
     else if bytes_eq name (codes "eval") then eval_of rows
-    else if bytes_eq name (codes "check") then Some request.Check
+    else if bytes_eq name (codes "check") then Some (For request.Check)
     else None
 
-abbrev pub parsed_subcommand : Option (Text × List Row) → Option Request
+abbrev pub parsed_subcommand : Option (Text × List Row) → Option Asked
 parsed_subcommand None = None
 parsed_subcommand (Some s) = parsed_command s.0 s.1
 
@@ -108,18 +124,18 @@ parsed_subcommand (Some s) = parsed_command s.0 s.1
 unfoldable pub command_of : List Text → Option (Text × List Row)
 command_of words = subcommand_of app words
 
--- what the words ask for; none where no command is named, or the value of an option is none of its values
-unfoldable pub request_of : List Text → Option Request
-request_of words = parsed_subcommand (command_of words)
+-- what the words ask for; none where no command is named, or the value of another option than `--avoid` is none of its values
+unfoldable pub asked_of : List Text → Option Asked
+asked_of words = parsed_subcommand (command_of words)
 
 -- what clap finds wrong with the words
 unfoldable pub clap_faults : List Text → Kinds
 clap_faults words = fault_of app words
 
-abbrev pub value_faults : Option Request → Kinds
+abbrev pub value_faults : Option Asked → Kinds
 value_faults None = kind.ValueValidation ∷ []
-value_faults (Some q) = []
+value_faults (Some a) = []
 
--- what is wrong with the words, a wish for help among it: one of these is told, and nothing else is done
+-- what is wrong with the words, but for a bad list of `--avoid`, and a wish for help: one of these is told, and nothing else is done
 unfoldable pub faults_of : List Text → Kinds
-faults_of words = or_else (clap_faults words) (value_faults (request_of words))
+faults_of words = or_else (clap_faults words) (value_faults (asked_of words))

@@ -1,5 +1,6 @@
 -- The values of options.
-use Rattle.std.specs.Prelude.{ℕ, ◌+◌, ◌*◌, ◌-◌, ◌&&◌, nat_le, nat_lt, Bool, false, List, [], ◌∷◌, length, Option, Some, None, codes, option_and_then, if◌then◌else◌}
+use Rattle.std.specs.Prelude.{ℕ, ◌+◌, ◌*◌, ◌-◌, ◌==◌, ◌&&◌, nat_le, nat_lt, Bool, false, List, [], ◌∷◌, length, Option, Some, None, codes, option_and_then, if◌then◌else◌}
+use Rattle.std.specs.List.{slice_split}
 use Rattle.std.specs.Str.{bytes_eq}
 use Rattle.clap.specs.Words.{Text}
 use Rattle.ar_tables.specs.declared.mode.Mode.{Mode}
@@ -51,6 +52,33 @@ numbers (word ∷ words) = do
 abbrev pub numbers_named : Option (List Text) → Option (List ℕ)
 numbers_named None = Some []
 numbers_named (Some words) = numbers words
+
+-- the number of an interrupt, below 2^32
+unfoldable pub interrupt : Text → Option ℕ
+interrupt word = do
+  n ← number word
+  if nat_lt n 4294967296 then Some n else None
+
+unfoldable pub interrupts : List Text → Option (List ℕ)
+interrupts [] = Some []
+interrupts (word ∷ words) = do
+  n ← interrupt word
+  ns ← interrupts words
+  Some (n ∷ ns)
+
+abbrev pub few_interrupts : List ℕ → Option (List ℕ)
+few_interrupts ns = if nat_le (length ns) 255 then Some ns else None
+
+-- 1 to 255 interrupts, separated by commas
+unfoldable pub interrupts_listed : Text → Option (List ℕ)
+interrupts_listed text = do
+  ns ← interrupts (slice_split (λ b. b == 44) text)
+  few_interrupts ns
+
+-- no interrupt where no text is given
+abbrev pub interrupts_named : Option Text → Option (List ℕ)
+interrupts_named None = Some []
+interrupts_named (Some t) = interrupts_listed t
 
 abbrev pub is_true : Option Text → Bool
 is_true None = false

@@ -2,13 +2,14 @@
 ghost use Rattle.std.specs.Prelude.{◌≡◌, IfOk, IfErr, Some, map, option_map, false, codes};
 ghost use Rattle.clap.specs.Words.{app_of, new_app, rows_of, rule_of, found_of, subcommand_rows_of, FailsBy};
 ghost use Rattle.clap.specs.declared.builder.command.Command.TheViews.{out-Command as fields_of};
-ghost use Rattle.acpiroute_words.specs.CommandLine.{app, bare_app, route_app, names_app, eval_app, check_app, mode_rule, steps_rule, dry_rule, path_rule, arguments_rule, route_of, names_of, eval_of, eval_with, parsed_command, parsed_subcommand, clap_faults, command_of, faults_of, request_of};
+ghost use Rattle.acpiroute_words.specs.CommandLine.{app, bare_app, route_app, names_app, eval_app, check_app, mode_rule, steps_rule, dry_rule, avoid_rule, path_rule, arguments_rule, route_with, route_by, route_of, names_of, eval_of, eval_with, parsed_command, parsed_subcommand, clap_faults, command_of, faults_of, asked_of};
 
 use crate::bad_values::bad_value;
 use crate::help_texts;
 use crate::integers::Integers;
-use crate::request::Request;
-use crate::values::{is_true, mode_named, numbers_named, steps_named};
+use crate::interrupts::Interrupts;
+use crate::request::{Asked, Request};
+use crate::values::{interrupts_named, is_true, mode_named, numbers_named, steps_named};
 use ar_space::PathText;
 use clap::{Arg, ArgAction, ArgMatches, Command, Error};
 use route_report::Mode;
@@ -42,6 +43,18 @@ fn dry_arg<'a>(alloc: Global) -> Arg<'a>
         .help("Set no link device")
 }
 
+fn avoid_arg<'a>(alloc: Global) -> Arg<'a>
+    ensures rule { rule_of result ≡ avoid_rule }
+    ensures local { result.global ≡ false }
+{
+    Arg::new(alloc, "avoid")
+        .long("avoid")
+        .value_name("LIST")
+        .help(
+            "Interrupts that no link device is given: 1 to 255 decimal numbers, separated by commas",
+        )
+}
+
 fn path_arg<'a>(alloc: Global) -> Arg<'a>
     ensures rule { rule_of result ≡ path_rule }
     ensures local { result.global ≡ false }
@@ -62,16 +75,25 @@ fn arguments_arg<'a>(alloc: Global) -> Arg<'a>
         .help("The arguments of a control method, at most 7 decimal numbers below 2^64")
 }
 
-pub(crate) fn route_command<'a>(alloc: Global) -> Result<Command<'a>, AllocError>
-    ensures app { IfOk result (λ c. app_of c ≡ route_app) }
-    ensures local { IfOk result (λ c. (fields_of c).has_globals ≡ false) }
+/// `route`, without its options.
+fn bare_route_command<'a>(alloc: Global) -> Command<'a>
+    ensures app { app_of result ≡ new_app (codes "route") }
+    ensures local { (fields_of result).has_globals ≡ false }
 {
     Command::new(alloc, "route")
         .about("Read a machine text, route its interrupts, and write the report")
         .after_help(help_texts::ROUTE)
+}
+
+pub(crate) fn route_command<'a>(alloc: Global) -> Result<Command<'a>, AllocError>
+    ensures app { IfOk result (λ c. app_of c ≡ route_app) }
+    ensures local { IfOk result (λ c. (fields_of c).has_globals ≡ false) }
+{
+    bare_route_command(alloc)
         .arg(mode_arg(alloc))?
         .arg(steps_arg(alloc))?
-        .arg(dry_arg(alloc))
+        .arg(dry_arg(alloc))?
+        .arg(avoid_arg(alloc))
 }
 
 pub(crate) fn names_command<'a>(alloc: Global) -> Result<Command<'a>, AllocError>
@@ -147,22 +169,53 @@ fn matches<'a>(alloc: Global, words: &'a [&'a str]) -> Result<ArgMatches<'a>, Er
 
 /// What the options of `route` say.
 #[tactic(auto, unfolding(crate::specs::CommandLine::route_of), using(crate::proofs::Getters::first_text))]
-fn route_of(matches: &ArgMatches<'_>) -> Option<Request>
-    ensures { result ≡ route_of (rows_of (found_of matches.now)) }
+fn route_of(alloc: Global, matches: &ArgMatches<'_>) -> Result<Option<Asked>, AllocError>
+    ensures { IfOk result (λ r. r ≡ route_of (rows_of (found_of matches.now))) }
 {
-    let mode = mode_named(matches.get_str("mode"))?;
-    let steps = steps_named(matches.get_str("steps"))?;
+    let avoid = interrupts_named(alloc, matches.get_str("avoid"))?;
+    let mode = mode_named(matches.get_str("mode"));
+    let steps = steps_named(matches.get_str("steps"));
     let dry = is_true(matches.get_str("dry"));
-    Some(Request::Route { mode, steps, dry })
+    Ok(route_by(mode, steps, dry, avoid))
+}
+
+/// A request of `route`, where its mode and its steps are said.
+#[tactic(auto, unfolding(crate::specs::CommandLine::route_by))]
+fn route_by(
+    mode: Option<Mode>,
+    steps: Option<u64>,
+    dry: bool,
+    avoid: Option<Interrupts>,
+) -> Option<Asked>
+    ensures { result ≡ route_by mode steps dry avoid }
+{
+    let mode = mode?;
+    let steps = steps?;
+    Some(route_with(mode, steps, dry, avoid))
+}
+
+/// What `route` is asked where these interrupts are to be avoided, or that they are no list.
+fn route_with(mode: Mode, steps: u64, dry: bool, avoid: Option<Interrupts>) -> Asked
+    ensures { result ≡ route_with mode steps dry avoid }
+{
+    match avoid {
+        None => Asked::BadAvoid,
+        Some(avoid) => Asked::For(Request::Route {
+            mode,
+            steps,
+            dry,
+            avoid,
+        }),
+    }
 }
 
 /// What the options of `names` say.
 #[tactic(auto, unfolding(crate::specs::CommandLine::names_of), using(crate::proofs::Getters::first_text))]
-fn names_of(matches: &ArgMatches<'_>) -> Option<Request>
+fn names_of(matches: &ArgMatches<'_>) -> Option<Asked>
     ensures { result ≡ names_of (rows_of (found_of matches.now)) }
 {
     let steps = steps_named(matches.get_str("steps"))?;
-    Some(Request::Names { steps })
+    Some(Asked::For(Request::Names { steps }))
 }
 
 /// The text of a path, of its own.
@@ -182,24 +235,24 @@ fn eval_with(
     steps: Option<u64>,
     path: Option<PathText>,
     arguments: Option<Integers>,
-) -> Option<Request>
+) -> Option<Asked>
     ensures { result ≡ eval_with mode steps path arguments }
 {
     let mode = mode?;
     let steps = steps?;
     let path = path?;
     let arguments = arguments?;
-    Some(Request::Eval {
+    Some(Asked::For(Request::Eval {
         mode,
         steps,
         path,
         arguments,
-    })
+    }))
 }
 
 /// What the options of `eval` and its words say.
 #[tactic(auto, unfolding(crate::specs::CommandLine::eval_of), using(crate::proofs::Getters::first_text, crate::proofs::Getters::all_texts))]
-fn eval_of(alloc: Global, matches: &ArgMatches<'_>) -> Result<Option<Request>, AllocError>
+fn eval_of(alloc: Global, matches: &ArgMatches<'_>) -> Result<Option<Asked>, AllocError>
     ensures { IfOk result (λ r. r ≡ eval_of (rows_of (found_of matches.now))) }
 {
     let path = path_named(alloc, matches.get_str("path"))?;
@@ -215,23 +268,23 @@ fn parsed_command(
     alloc: Global,
     name: &str,
     matches: &ArgMatches<'_>,
-) -> Result<Option<Request>, AllocError>
+) -> Result<Option<Asked>, AllocError>
     ensures { IfOk result (λ r. r ≡ parsed_command name.now (rows_of (found_of matches.now))) }
 {
     if name == "route" {
-        Ok(route_of(matches))
+        route_of(alloc, matches)
     } else if name == "names" {
         Ok(names_of(matches))
     } else if name == "eval" {
         eval_of(alloc, matches)
     } else if name == "check" {
-        Ok(Some(Request::Check))
+        Ok(Some(Asked::For(Request::Check)))
     } else {
         Ok(None)
     }
 }
 
-fn parsed_subcommand(alloc: Global, matches: &ArgMatches<'_>) -> Result<Option<Request>, AllocError>
+fn parsed_subcommand(alloc: Global, matches: &ArgMatches<'_>) -> Result<Option<Asked>, AllocError>
     ensures { IfOk result (λ r. r ≡ parsed_subcommand (subcommand_rows_of matches.now)) }
 {
     match matches.subcommand() {
@@ -240,14 +293,15 @@ fn parsed_subcommand(alloc: Global, matches: &ArgMatches<'_>) -> Result<Option<R
     }
 }
 
-/// What the words ask for, or the text for the user: a fault of the words, a wish for help, or that memory ran out.
-pub fn parse<'a>(alloc: Global, words: &'a [&'a str]) -> Result<Request, Error>
+/// What the words ask for, `BadAvoid` where the text of `--avoid` is no list of interrupts, or the text for the user: any other fault
+/// of the words, a wish for help, or that memory ran out.
+pub fn parse<'a>(alloc: Global, words: &'a [&'a str]) -> Result<Asked, Error>
     ensures faults { FailsBy (faults_of (map (λ s. s.now) words.entry.now)) result }
-    ensures request { IfOk result (λ q. request_of (map (λ s. s.now) words.entry.now) ≡ Some q) }
+    ensures asked { IfOk result (λ a. asked_of (map (λ s. s.now) words.entry.now) ≡ Some a) }
 {
     let matches = matches(alloc, words)?;
     match parsed_subcommand(alloc, &matches)? {
-        Some(request) => Ok(request),
+        Some(asked) => Ok(asked),
         None => Err(bad_value(alloc, &matches)?),
     }
 }

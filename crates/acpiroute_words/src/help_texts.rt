@@ -21,6 +21,10 @@ A refusal is one line on the error output: 'refused' and its number.
 Behind the number stands where or what: 'at N' an offset, 'op XXXX' an opcode, 'tag N' a descriptor, 'line N' a line, or a path.";
 
 pub(crate) const ROUTE: &str = "\
+An interrupt of --avoid is given to no link device; what is wired to it stays there, and counts. Where all that a link device offers is \
+avoided, the machine is refused by number 123. The report's line 'sci N' says that the System Control Interrupt is one source on N; 'sci \
+none', that there is none.
+
 Exit status: 0 for a report, 1 for a refusal, 2 for a faulty command line, 3 where setting a link was refused, which the report tells. \
 'acpiroute --help' lists the refusals.";
 

@@ -1,6 +1,7 @@
 //! What a run is to do.
 
 use crate::integers::Integers;
+use crate::interrupts::Interrupts;
 use ar_space::PathText;
 use route_report::Mode;
 
@@ -8,11 +9,12 @@ use route_report::Mode;
 #[derive(Debug, Drop, PartialEq, Eq)]
 pub enum Request {
     /// Route the interrupts of a machine in this mode, with a budget of steps for each evaluation, from 1 to
-    /// 1,000,000,000, and set no link device where `dry`.
+    /// 1,000,000,000, set no link device where `dry`, and give none an interrupt of those to avoid.
     Route {
         mode: Mode,
         steps: u64,
         dry: bool,
+        avoid: Interrupts,
     },
     /// Write the names of a machine, with a budget of steps for each table, from 1 to 1,000,000,000.
     Names {
@@ -28,4 +30,13 @@ pub enum Request {
     },
     /// Read a report, and say whether its claim is valid.
     Check,
+}
+
+/// What the words of the command line come to.
+#[derive(Debug, Drop, PartialEq, Eq)]
+pub enum Asked {
+    /// They ask for this.
+    For(Request),
+    /// The text of `--avoid` isn't 1 to 255 numbers below 2^32 that commas separate, and nothing else is wrong with the words.
+    BadAvoid,
 }

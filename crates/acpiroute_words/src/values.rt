@@ -1,8 +1,10 @@
 //! The values of options.
-ghost use Rattle.std.specs.Prelude.{◌≡◌, IfOk, map, option_map};
-ghost use Rattle.acpiroute_words.specs.Values.{number, number_from, with_digit, numbers, numbers_named, mode_named, steps_named, within_steps, is_true};
+ghost use Rattle.std.specs.Prelude.{◌≡◌, ◌==◌, IfOk, map, option_map};
+ghost use Rattle.std.specs.List.{slice_split};
+ghost use Rattle.acpiroute_words.specs.Values.{number, number_from, with_digit, numbers, numbers_named, interrupt, interrupts, few_interrupts, interrupts_listed, interrupts_named, mode_named, steps_named, within_steps, is_true};
 
 use crate::integers::Integers;
+use crate::interrupts::Interrupts;
 use route_report::Mode;
 use std::alloc::{AllocError, Global};
 
@@ -33,10 +35,17 @@ fn number_of_digits(digits: &[u8]) -> Option<u64>
 pub(crate) fn number(text: &str) -> Option<u64>
     ensures { result ≡ number text.now }
 {
-    if text.is_empty() {
+    number_in(text.as_bytes())
+}
+
+#[tactic(auto, unfolding(crate::specs::Values::number))]
+fn number_in(digits: &[u8]) -> Option<u64>
+    ensures { result ≡ number digits.now }
+{
+    if digits.is_empty() {
         return None;
     }
-    number_of_digits(text.as_bytes())
+    number_of_digits(digits)
 }
 
 /// Each number of some texts.
@@ -63,6 +72,75 @@ pub(crate) fn numbers_named(
     match texts {
         None => Ok(Some(Integers::from_vec(Vec::new(alloc)))),
         Some(texts) => numbers(alloc, texts),
+    }
+}
+
+/// The interrupt below 2^32 that digits make.
+#[tactic(auto, unfolding(crate::specs::Values::interrupt))]
+fn interrupt(digits: &[u8]) -> Option<u32>
+    ensures { result ≡ interrupt digits.now }
+{
+    let n = number_in(digits)?;
+    if n <= u64::from(u32::MAX) {
+        Some(n as u32)
+    } else {
+        None
+    }
+}
+
+/// The parts of a text between commas.
+fn parts<'a>(alloc: Global, text: &'a [u8]) -> Result<Vec<&'a [u8]>, AllocError>
+    ensures { IfOk result (λ list. map (λ s. s.now) list.items ≡ slice_split (λ b. b == 44) text.now) }
+{
+    text.split(|byte| *byte == b',').collect(alloc)
+}
+
+/// Each interrupt of some texts.
+fn interrupts(alloc: Global, texts: &[&[u8]]) -> Result<Option<Vec<u32>>, AllocError>
+    ensures { IfOk result (λ r. option_map (λ v. v.items) r ≡ interrupts (map (λ s. s.now) texts.now)) }
+{
+    let mut list = Vec::new(alloc);
+    for digits in texts {
+        match interrupt(digits) {
+            Some(n) => list.push(n)?,
+            None => return Ok(None),
+        }
+    }
+    Ok(Some(list))
+}
+
+fn few_interrupts(list: Vec<u32>) -> Option<Interrupts>
+    ensures { result ≡ few_interrupts list.items }
+{
+    if list.len() <= 255 {
+        Some(Interrupts::from_vec(list))
+    } else {
+        None
+    }
+}
+
+/// 1 to 255 interrupts, separated by commas.
+#[tactic(auto, unfolding(crate::specs::Values::interrupts_listed))]
+fn interrupts_listed(alloc: Global, text: &[u8]) -> Result<Option<Interrupts>, AllocError>
+    ensures { IfOk result (λ r. r ≡ interrupts_listed text.now) }
+{
+    let parts = parts(alloc, text)?;
+    match interrupts(alloc, &parts)? {
+        Some(list) => Ok(few_interrupts(list)),
+        None => Ok(None),
+    }
+}
+
+/// The interrupts of a text, 1 to 255; none where no text is given.
+pub(crate) fn interrupts_named(
+    alloc: Global,
+    text: Option<&str>,
+) -> Result<Option<Interrupts>, AllocError>
+    ensures { IfOk result (λ r. r ≡ interrupts_named (option_map (λ s. s.now) text.entry)) }
+{
+    match text {
+        None => Ok(Some(Interrupts::from_vec(Vec::new(alloc)))),
+        Some(text) => interrupts_listed(alloc, text.as_bytes()),
     }
 }
 

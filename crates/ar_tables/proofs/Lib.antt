@@ -1,4 +1,5 @@
 pub mod Turns
+pub mod Overrides
 pub mod Structures
 pub mod TableBytes
 pub mod Conditions

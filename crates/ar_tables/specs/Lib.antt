@@ -5,4 +5,5 @@ pub mod Headers
 pub mod ImageBytes
 pub mod Lists
 pub mod RootPointers
+pub mod SciSources
 pub mod Structures

@@ -8,6 +8,7 @@ mod madt;
 mod mode;
 mod root_pointer;
 mod root_table;
+mod sci;
 mod table;
 mod tables;
 
@@ -15,5 +16,6 @@ pub use ar_space::{ByteMap as Image, IntegerWidth};
 pub use fadt::Fadt;
 pub use madt::{Madt, MadtEntries, MadtEntry, madt_entries};
 pub use mode::Mode;
+pub use sci::sci_source;
 pub use table::Table;
 pub use tables::{Ssdts, Tables, find_tables};

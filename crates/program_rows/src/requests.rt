@@ -1,5 +1,5 @@
 //! What the words of the command line ask for, as text.
-use acpiroute_lib::{Integers, Request, parse};
+use acpiroute_lib::{Asked, Integers, Interrupts, Request, parse};
 use ar_space::PathText;
 use route_report::Mode;
 use std::alloc::{AllocError, Global};
@@ -36,17 +36,40 @@ fn eval_text(
     format!(in alloc; "eval mode {mode} steps {steps} path \"{path}\" arguments{arguments}")
 }
 
+/// Interrupts that are avoided, each behind a blank, with ` avoid` before them; nothing where there is none.
+fn avoid_text(alloc: Global, avoid: &Interrupts) -> Result<String, AllocError> {
+    let mut text = String::new(alloc);
+    for interrupt in avoid.as_slice() {
+        let front = if text.is_empty() { " avoid" } else { "" };
+        let next = format!(in alloc; "{front} {interrupt}")?;
+        text.push_str(next.as_str())?;
+    }
+    Ok(text)
+}
+
 /// A request of `route` as text.
-fn route_text(alloc: Global, mode: Mode, steps: u64, dry: bool) -> Result<String, AllocError> {
+fn route_text(
+    alloc: Global,
+    mode: Mode,
+    steps: u64,
+    dry: bool,
+    avoid: &Interrupts,
+) -> Result<String, AllocError> {
     let mode = mode_word(mode);
     let dry = if dry { " dry" } else { "" };
-    format!(in alloc; "route mode {mode} steps {steps}{dry}")
+    let avoid = avoid_text(alloc, avoid)?;
+    format!(in alloc; "route mode {mode} steps {steps}{dry}{avoid}")
 }
 
 /// A request as text.
 fn request_text(alloc: Global, request: &Request) -> Result<String, AllocError> {
     match request {
-        Request::Route { mode, steps, dry } => route_text(alloc, *mode, *steps, *dry),
+        Request::Route {
+            mode,
+            steps,
+            dry,
+            avoid,
+        } => route_text(alloc, *mode, *steps, *dry, avoid),
         Request::Names { steps } => {
             let steps = *steps;
             format!(in alloc; "names steps {steps}")
@@ -61,15 +84,16 @@ fn request_text(alloc: Global, request: &Request) -> Result<String, AllocError> 
     }
 }
 
-/// The request of words, if they are one.
-fn asked(alloc: Global, words: &[&str]) -> Option<Request> {
+/// What words come to, where clap finds no fault in them.
+fn asked(alloc: Global, words: &[&str]) -> Option<Asked> {
     parse(alloc, words).ok()
 }
 
-/// What words ask for, as text: `fault` where they ask for nothing.
+/// What words ask for, as text: `fault` where they ask for nothing, `bad avoid` where the text of `--avoid` is no list.
 pub fn request_of(alloc: Global, words: &[&str]) -> Result<String, AllocError> {
     match asked(alloc, words) {
-        Some(request) => request_text(alloc, &request),
+        Some(Asked::For(request)) => request_text(alloc, &request),
+        Some(Asked::BadAvoid) => "bad avoid".to_string(alloc),
         None => "fault".to_string(alloc),
     }
 }

@@ -1,5 +1,5 @@
 -- The claim that is made of an assignment and its bound is valid.
-use Rattle.std.proofs.Common.{◌≡◌, ℕ, zero, suc, ◌<◌, Bool, true, false, List, [], ◌∷◌, length, map, refl, sym, ◌∙◌, ap, subst, arith, get_or, inl, inr}
+use Rattle.std.proofs.Common.{◌≡◌, ℕ, zero, suc, ◌<◌, Bool, true, false, List, [], ◌∷◌, ◌++◌, Option, length, map, refl, sym, ◌∙◌, ap, subst, arith, get_or, inl, inr}
 use Rattle.std.specs.Prelude.{◌⊎◌, Contains, All, if◌then◌else◌}
 use Rattle.std.specs.Ordering.{is_eq}
 use Rattle.std.specs.List.Sorted.{IsStrictlyIncreasing, IsStrictlySortedBy}
@@ -10,13 +10,14 @@ use Rattle.std.proofs.lemmas.List.Kept.{AllPairs-from_increasing}
 use Rattle.std.proofs.lemmas.Map.Keys.{Less-from_sorted}
 use Rattle.aml_path.specs.declared.segment.Seg.{Seg}
 use Rattle.aml_path.specs.Paths.{path_cmp, path_eq}
-use Rattle.route_model.specs.Links.{OfferingLink, offers_of, paths_of}
+use Rattle.route_model.specs.Avoided.{without}
+use Rattle.route_model.specs.Links.{OfferingLink, paths_of}
 use Rattle.route_model.specs.Routing.{busiest, IsAssignment}
 use Rattle.route_model.specs.Placement.{Offers}
 use Rattle.route_model.specs.Bound.{IsDistinct, IsLowerBound}
 use Rattle.route_model.proofs.Paths.{path_tells}
 use Rattle.route_model.proofs.Assignments.{length_assignment, assignment_at}
-use Rattle.route_check.specs.Valid.{keys_of, given_to, choice_of, Valid}
+use Rattle.route_check.specs.Valid.{keys_of, given_to, effective_offers, sci_counts, effective_counts, choice_of, Valid}
 use Rattle.route_check.specs.Claimed.{gives_of, paths_at, claim_of}
 
 distinct_paths : (ps : List (List Seg)) → IsStrictlySortedBy path_cmp ps → IsDistinct ps
@@ -69,9 +70,9 @@ choice_given (l ∷ ls) (n ∷ ns) d e =
     ∙ ap (λ (ms : List ℕ). n ∷ ms) (skipped l.path n (gives_of ls ns) ls (λ i b. d 0 (suc i) [] (omega arith) (omega arith))
     ∙ choice_given ls ns (λ i j d' lt b. d (suc i) (suc j) d' (omega arith) (omega arith)) (omega arith))
 
-module _ (links : List OfferingLink) (wired : List (ℕ × ℕ)) (choice : List ℕ) (distinct : IsDistinct (paths_of links)) (assigned : IsAssignment (offers_of links) choice) where
+module _ (offered : OfferingLink → List ℕ) (links : List OfferingLink) (counts : List (ℕ × ℕ)) (choice : List ℕ) (distinct : IsDistinct (paths_of links)) (assigned : IsAssignment (map offered links) choice) where
   same_length : length links ≡ length choice
-  same_length = let a = length_assignment (offers_of links) choice assigned in let b = length-map links (λ (l : OfferingLink). l.offers) in omega arith
+  same_length = let a = length_assignment (map offered links) choice assigned in let b = length-map links offered in omega arith
 
   keys : keys_of (gives_of links choice) ≡ paths_of links
   keys = keys_given links choice same_length
@@ -85,21 +86,21 @@ module _ (links : List OfferingLink) (wired : List (ℕ × ℕ)) (choice : List 
   all_known : All (λ g. Contains (paths_of links) g.0) (gives_of links choice)
   all_known i d b = let P : List (List Seg) → Type 0 = λ ps. Contains ps (get_or (gives_of links choice) i d).0 in subst P keys (contains_mapped (λ (g : List Seg × ℕ). g.0) (gives_of links choice) i d b)
 
-  all_offered : All (λ l. Contains l.offers (given_to (gives_of links choice) l.path)) links
+  all_offered : All (λ l. Contains (offered l) (given_to (gives_of links choice) l.path)) links
   all_offered i d b =
       let f = λ (l : OfferingLink). given_to (gives_of links choice) l.path in
       let at : get_or choice i 0 ≡ f (get_or links i d) = ap (λ (ns : List ℕ). get_or ns i 0) (sym given_is) ∙ get_or-map f links i d 0 b in
-      let offers = get_or-map (λ (l : OfferingLink). l.offers) links i d [] b in
+      let offers = get_or-map offered links i d [] b in
       let long = same_length in
       let P : List ℕ → Type 0 = λ os. Contains os (get_or choice i 0) in
-      let Q : ℕ → Type 0 = λ n. Contains (get_or links i d).offers n in
-      subst Q at (subst P offers (assignment_at (offers_of links) choice i assigned (omega arith)))
+      let Q : ℕ → Type 0 = λ n. Contains (offered (get_or links i d)) n in
+      subst Q at (subst P offers (assignment_at (map offered links) choice i assigned (omega arith)))
 
-  module _ (places interrupts : List ℕ) (k : ℕ) (bound : IsLowerBound (offers_of links) wired k places interrupts) where
+  module _ (places interrupts : List ℕ) (k : ℕ) (bound : IsLowerBound (map offered links) counts k places interrupts) where
     known : (l : ℕ) → Contains places l → l < length (paths_of links)
     known l c =
         let a = bound.known l c in
-        let b = length-map links (λ (x : OfferingLink). x.offers) in
+        let b = length-map links offered in
         let e = length-map links (λ (x : OfferingLink). x.path) in
         omega arith
 
@@ -114,7 +115,7 @@ module _ (links : List OfferingLink) (wired : List (ℕ × ℕ)) (choice : List 
         let at = get_or-map f places i 0 d bi in
         subst (Contains (paths_of links)) (sym at) (Contains-get_or (paths_of links) (get_or places i 0) [] (known _ (Contains-get_or places i 0 bi)))
 
-    inside : All (λ l. Contains (paths_at links places) l.path → All (Contains interrupts) l.offers) links
+    inside : All (λ l. Contains (paths_at links places) l.path → All (Contains interrupts) (offered l)) links
     inside i d b c j e bj =
         let f = λ (l : ℕ). get_or (paths_of links) l [] in
         let long = length-map places f in
@@ -126,16 +127,18 @@ module _ (links : List OfferingLink) (wired : List (ℕ × ℕ)) (choice : List 
         let path = get_or-map (λ (l : OfferingLink). l.path) links i d [] b in
         let paths = length-map links (λ (l : OfferingLink). l.path) in
         let is : i ≡ p = same_place (paths_of links) distinct i p (omega arith) (known p there) (path ∙ sym at) in
-        let offers = get_or-map (λ (l : OfferingLink). l.offers) links i d [] b in
-        let n = get_or (get_or links i d).offers j e in
+        let offers = get_or-map offered links i d [] b in
+        let n = get_or (offered (get_or links i d)) j e in
         let P : List ℕ → Type 0 = λ os. Contains os n in
-        let Q : ℕ → Type 0 = λ l. Offers (offers_of links) l n in
-        bound.inside p n there (subst Q is (subst P (sym offers) (Contains-get_or (get_or links i d).offers j e bj)))
+        let Q : ℕ → Type 0 = λ l. Offers (map offered links) l n in
+        bound.inside p n there (subst Q is (subst P (sym offers) (Contains-get_or (offered (get_or links i d)) j e bj)))
 
-pub valid : (links : List OfferingLink) (wired : List (ℕ × ℕ)) (choice : List ℕ) (k : ℕ) (places interrupts : List ℕ) → IsStrictlySortedBy path_cmp (paths_of links) → IsStrictlyIncreasing (map (λ w. w.0) wired) → IsAssignment (offers_of links) choice → busiest wired choice ≡ k → (k ≡ 0) ⊎ IsLowerBound (offers_of links) wired k places interrupts → Valid (claim_of links wired choice k places interrupts)
-valid links wired choice zero places interrupts in_order ascending assigned busy bound =
+pub valid : (links : List OfferingLink) (wired : List (ℕ × ℕ)) (sci : Option ℕ) (avoid choice : List ℕ) (k : ℕ) (places interrupts : List ℕ) → let claim = claim_of links wired sci avoid choice k places interrupts in let offers = map (effective_offers claim) links in let counts = effective_counts claim in IsStrictlySortedBy path_cmp (paths_of links) → IsStrictlyIncreasing (map (λ w. w.0) wired) → IsAssignment offers choice → busiest counts choice ≡ k → (k ≡ 0) ⊎ IsLowerBound offers counts k places interrupts → Valid claim
+valid links wired sci avoid choice zero places interrupts in_order ascending assigned busy bound =
+    let offered = λ (l : OfferingLink). without avoid l.offers in
+    let counts = sci_counts sci ++ wired in
     let distinct = distinct_paths (paths_of links) in_order in
-    let keys_are = keys links wired choice distinct assigned in
+    let keys_are = keys offered links counts choice distinct assigned in
     record {
       none_repeated = record {
         links = distinct;
@@ -145,32 +148,34 @@ valid links wired choice zero places interrupts in_order ascending assigned busy
         interrupts = λ i j d lt b e. omega arith;
       };
       none_missing = record {
-        given = all_given links wired choice distinct assigned;
-        known = all_known links wired choice distinct assigned;
+        given = all_given offered links counts choice distinct assigned;
+        known = all_known offered links counts choice distinct assigned;
         set_known = λ i d b. absurd (omega arith);
       };
-      all_offered = all_offered links wired choice distinct assigned;
-      busiest_right = ap (busiest wired) (given_is links wired choice distinct assigned) ∙ busy;
+      all_offered = all_offered offered links counts choice distinct assigned;
+      busiest_right = ap (busiest counts) (given_is offered links counts choice distinct assigned) ∙ busy;
       bound = inl refl;
     }
-valid links wired choice (suc m) places interrupts in_order ascending assigned busy (inl none) = absurd (omega arith)
-valid links wired choice (suc m) places interrupts in_order ascending assigned busy (inr bound) =
+valid links wired sci avoid choice (suc m) places interrupts in_order ascending assigned busy (inl none) = absurd (omega arith)
+valid links wired sci avoid choice (suc m) places interrupts in_order ascending assigned busy (inr bound) =
+    let offered = λ (l : OfferingLink). without avoid l.offers in
+    let counts = sci_counts sci ++ wired in
     let distinct = distinct_paths (paths_of links) in_order in
-    let keys_are = keys links wired choice distinct assigned in
+    let keys_are = keys offered links counts choice distinct assigned in
     record {
       none_repeated = record {
         links = distinct;
         gives = rw keys_are distinct;
         wired = distinct_numbers (keys_of wired) ascending;
-        set = set_distinct links wired choice distinct assigned places interrupts (suc m) bound;
+        set = set_distinct offered links counts choice distinct assigned places interrupts (suc m) bound;
         interrupts = bound.distinct_interrupts;
       };
       none_missing = record {
-        given = all_given links wired choice distinct assigned;
-        known = all_known links wired choice distinct assigned;
-        set_known = set_known links wired choice distinct assigned places interrupts (suc m) bound;
+        given = all_given offered links counts choice distinct assigned;
+        known = all_known offered links counts choice distinct assigned;
+        set_known = set_known offered links counts choice distinct assigned places interrupts (suc m) bound;
       };
-      all_offered = all_offered links wired choice distinct assigned;
-      busiest_right = ap (busiest wired) (given_is links wired choice distinct assigned) ∙ busy;
-      bound = inr (bound.some, inside links wired choice distinct assigned places interrupts (suc m) bound, rw (length-map places (λ (l : ℕ). get_or (paths_of links) l [])) bound.crowded);
+      all_offered = all_offered offered links counts choice distinct assigned;
+      busiest_right = ap (busiest counts) (given_is offered links counts choice distinct assigned) ∙ busy;
+      bound = inr (bound.some, inside offered links counts choice distinct assigned places interrupts (suc m) bound, rw (length-map places (λ (l : ℕ). get_or (paths_of links) l [])) bound.crowded);
     }

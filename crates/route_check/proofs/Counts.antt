@@ -1,6 +1,6 @@
--- Counts of wired sources, each interrupt with one.
-use Rattle.std.proofs.Common.{◌≡◌, ℕ, zero, suc, ◌+◌, ◌<◌, Bool, true, false, List, [], ◌∷◌, length, refl, sym, ◌∙◌, ap, arith, get_or, eqb-true, inl, inr}
-use Rattle.std.specs.Prelude.{◌==◌, ◌⊎◌, Contains, if◌then◌else◌}
+-- Counts of sources: of pins, each interrupt with one, and of the System Control Interrupt.
+use Rattle.std.proofs.Common.{◌≡◌, ℕ, zero, suc, ◌+◌, ◌<◌, Bool, true, false, List, [], ◌∷◌, ◌++◌, Option, Some, None, length, refl, sym, ◌∙◌, ap, arith, get_or, eqb-true, inl, inr}
+use Rattle.std.specs.Prelude.{◌==◌, ◌⊎◌, Contains, option_to_list, if◌then◌else◌}
 use Rattle.std.proofs.lemmas.Bool.{eq-eqb}
 use Rattle.std.proofs.lemmas.List.{length-map, get_or-map}
 use Rattle.std.proofs.lemmas.List.Sums.{sum_by-cons}
@@ -8,7 +8,7 @@ use Rattle.route_model.specs.Bound.{IsDistinct}
 use Rattle.route_model.specs.Routing.{wired_to}
 use Rattle.route_model.proofs.Hall.{zero_or_more}
 use Rattle.route_model.proofs.Loads.{wired_somewhere}
-use Rattle.route_check.specs.Valid.{keys_of}
+use Rattle.route_check.specs.Valid.{keys_of, sci_counts}
 
 wired_cons : (w : ℕ × ℕ) (ws : List (ℕ × ℕ)) (n : ℕ) → wired_to (w ∷ ws) n ≡ (if w.0 == n then w.1 else 0) + wired_to ws n
 wired_cons w ws n = sum_by-cons (λ (v : ℕ × ℕ). if v.0 == n then v.1 else 0) w ws
@@ -45,3 +45,8 @@ wired_at (w ∷ ws) (suc i) n distinct b at =
     go true e rest all =
         let long = length-map ws (λ (v : ℕ × ℕ). v.0) in absurd (distinct 0 (suc i) n (omega arith) (omega arith) (eqb-true w.0 n e ∙ sym (key_at ws i n (omega arith) ∙ at)))
     go false e rest all = let none : (if w.0 == n then w.1 else 0) ≡ 0 = ap (λ t. if t then w.1 else 0) e in omega arith
+
+-- the interrupts with counts: that of the System Control Interrupt, and those of the pins
+pub keys_counted : (sci : Option ℕ) (wired : List (ℕ × ℕ)) → option_to_list sci ++ keys_of wired ≡ keys_of (sci_counts sci ++ wired)
+keys_counted None wired = refl
+keys_counted (Some n) wired = refl

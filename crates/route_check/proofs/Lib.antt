@@ -6,3 +6,4 @@ pub mod Claimed
 pub mod Ascending
 pub mod Aligned
 pub mod Counts
+pub mod FirstVersion

@@ -21,8 +21,11 @@ pub refuted : {A : Type 0} → (b : Bool) → IsTrue b ↔ A → b ≡ false →
 refuted b e f a = true≢false (sym (e.1 a) ∙ f)
 
 -- a loop that ends at the first element that fails
+pub all_taken : {X : Type 0} (P : X → Type 0) (xs : List X) (i : ℕ) → length xs ≤ i → All P (take i xs) → All P xs
+all_taken P xs i h a = All-same P xs (take i xs) (sym (take_all i xs h)) a
+
 pub all_done : {X : Type 0} (P : X → Type 0) (xs : List X) (i : ℕ) → length xs ≤ i → All P (take i xs) → IsTrue true ↔ All P xs
-all_done P xs i h a = yes (All-same P xs (take i xs) (sym (take_all i xs h)) a)
+all_done P xs i h a = yes (all_taken P xs i h a)
 
 pub all_failed : {X : Type 0} (P : X → Type 0) (xs : List X) (i : ℕ) (d : X) → i < length xs → (P (get_or xs i d) → ⊥) → IsTrue false ↔ All P xs
 all_failed P xs i d h n = no (λ a. n (All-get_or P xs i d h a))

@@ -19,10 +19,12 @@ abbrev pub bound_for : ℕ → BoundingSet → Option BoundingSet
 bound_for zero set = None
 bound_for (suc k) set = Some set
 
-abbrev pub claim_of : List OfferingLink → List (ℕ × ℕ) → List ℕ → ℕ → List ℕ → List ℕ → RoutingClaim
-claim_of links wired choice busiest places interrupts = record {
+abbrev pub claim_of : List OfferingLink → List (ℕ × ℕ) → Option ℕ → List ℕ → List ℕ → ℕ → List ℕ → List ℕ → RoutingClaim
+claim_of links wired sci avoid choice busiest places interrupts = record {
   links = links;
   wired = wired;
+  sci = sci;
+  avoid = avoid;
   gives = gives_of links choice;
   busiest = busiest;
   bound = bound_for busiest (record { links = paths_at links places; interrupts = interrupts });

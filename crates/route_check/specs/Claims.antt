@@ -8,11 +8,14 @@ pub record BoundingSet : Type 0 where
   pub links : List (List Seg)
   pub interrupts : List ℕ
 
--- links with their offers, counts of wired sources by interrupt, what each link is given, how many sources the busiest
--- interrupt serves, and why no assignment has a less busy one
+-- links with their offers, counts of wired pins by interrupt, the interrupt that the System Control Interrupt is wired to, if
+-- there is one, the interrupts that no link is to be given, what each link is given, how many sources the busiest interrupt
+-- serves, and why no assignment has a less busy one
 pub record RoutingClaim : Type 0 where
   pub links : List OfferingLink
   pub wired : List (ℕ × ℕ)
+  pub sci : Option ℕ
+  pub avoid : List ℕ
   pub gives : List (List Seg × ℕ)
   pub busiest : ℕ
   pub bound : Option BoundingSet

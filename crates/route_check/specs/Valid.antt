@@ -1,7 +1,8 @@
 -- When a claim is valid, and what follows of its assignment.
-use Rattle.std.specs.Prelude.{◌≡◌, ℕ, ◌+◌, ◌-◌, ◌*◌, ◌<◌, ◌≤◌, ◌⊎◌, List, [], ◌∷◌, length, map, Contains, All, sum_by, if◌then◌else◌}
+use Rattle.std.specs.Prelude.{◌≡◌, ℕ, ◌+◌, ◌-◌, ◌*◌, ◌<◌, ◌≤◌, ◌⊎◌, List, [], ◌∷◌, ◌++◌, Option, Some, None, length, map, Contains, All, sum_by, if◌then◌else◌}
 use Rattle.aml_path.specs.declared.segment.Seg.{Seg}
 use Rattle.aml_path.specs.Paths.{path_eq}
+use Rattle.route_model.specs.Avoided.{without}
 use Rattle.route_model.specs.Links.{OfferingLink, paths_of}
 use Rattle.route_model.specs.Routing.{wired_to, busiest, IsAssignment}
 use Rattle.route_model.specs.Bound.{IsDistinct}
@@ -16,13 +17,18 @@ abbrev pub given_to : List (List Seg × ℕ) → List Seg → ℕ
 given_to [] path = 0
 given_to (g ∷ gs) path = if path_eq g.0 path then g.1 else given_to gs path
 
--- the interrupts that a link of a claim may be given
+-- the interrupts that a link of a claim may be given: those of its offer that aren't avoided
 abbrev pub effective_offers : RoutingClaim → OfferingLink → List ℕ
-effective_offers c l = l.offers
+effective_offers c l = without c.avoid l.offers
 
--- the sources that are wired to interrupts, by a claim
+-- the System Control Interrupt is one source
+abbrev pub sci_counts : Option ℕ → List (ℕ × ℕ)
+sci_counts None = []
+sci_counts (Some n) = (n, 1) ∷ []
+
+-- the sources that are wired to interrupts, by a claim: pins, and the System Control Interrupt
 abbrev pub effective_counts : RoutingClaim → List (ℕ × ℕ)
-effective_counts c = c.wired
+effective_counts c = sci_counts c.sci ++ c.wired
 
 -- the gives in the order of the links
 abbrev pub choice_of : List OfferingLink → List (List Seg × ℕ) → List ℕ
@@ -57,7 +63,7 @@ IsBusiestRight c = busiest (effective_counts c) (choice_of c.links c.gives) ≡ 
 abbrev pub SomeInterrupt : RoutingClaim → Type 0
 SomeInterrupt c = 0 < length (set_interrupts c)
 
--- the links of the set offer its interrupts alone
+-- the links of the set offer its interrupts alone, but for those that are avoided
 abbrev pub OffersInside : RoutingClaim → Type 0
 OffersInside c = All (λ l. Contains (set_links c) l.path → All (Contains (set_interrupts c)) (effective_offers c l)) c.links
 

@@ -15,7 +15,8 @@ use crate::repeated::none_repeated;
 ///
 /// The tests come in this order: `Repeated`, `LinkMissing`, `NotOffered`, `BusiestWrong`, and where the busiest
 /// interrupt serves a source, `SetEmpty`, `OfferOutsideSet`, `CountTooSmall`. Of a valid claim it is proved that the
-/// gives are an assignment of its links, that its busiest is theirs, and that no assignment has a less busy one.
+/// gives are an assignment of its links, that its busiest is theirs, and that no assignment has a less busy one. An
+/// interrupt that is avoided counts in no offer, and the System Control Interrupt is one source of its own.
 ///
 /// Lists that ascend are compared neighbour by neighbour and searched by halves, so that a long report takes no long time;
 /// lists in any other order are compared pair by pair.

@@ -41,10 +41,14 @@ impl Bound {
 /// something twice.
 #[derive(Debug, Drop)]
 pub struct Claim {
-    /// The links with the interrupts that they offer.
+    /// The links with the interrupts that they offer, those that are avoided among them.
     pub links: Vec<Link>,
-    /// Interrupts with the number of sources that are wired to them.
+    /// Interrupts with the number of pins that are wired to them; in a report of version 1, of all sources but links.
     pub wired: Vec<(u32, u32)>,
+    /// The interrupt that the System Control Interrupt is wired to, which has one source more. None in a report of version 1.
+    pub sci: Option<u32>,
+    /// The interrupts that no link may be given. A report of version 1 has none.
+    pub avoid: Vec<u32>,
     /// Links, by their paths, with the interrupts that they are given.
     pub gives: Vec<(Path, u32)>,
     /// How many sources the busiest interrupt serves.
@@ -58,7 +62,7 @@ impl Model for Claim {
 
     ghost Value = { RoutingClaim };
 
-    ghost view = { λ c. record { links = c.links.items; wired = c.wired.items; gives = c.gives.items; busiest = c.busiest; bound = c.bound } };
+    ghost view = { λ c. record { links = c.links.items; wired = c.wired.items; sci = c.sci; avoid = c.avoid.items; gives = c.gives.items; busiest = c.busiest; bound = c.bound } };
 }
 
 impl Claim {
@@ -72,6 +76,18 @@ impl Claim {
         ensures { result.now ≡ self.now.wired }
     {
         &self.wired
+    }
+
+    pub(crate) fn sci(&self) -> Option<u32>
+        ensures { result ≡ self.now.sci }
+    {
+        self.sci
+    }
+
+    pub(crate) fn avoid(&self) -> &[u32]
+        ensures { result.now ≡ self.now.avoid }
+    {
+        &self.avoid
     }
 
     pub(crate) fn gives(&self) -> &[(Path, u32)]

@@ -2,6 +2,7 @@
 //! interrupt is theirs, and that no other assignment has a less busy one. It trusts nothing of whoever wrote the claim.
 #![tactic(auto)]
 
+mod avoided;
 mod bound;
 mod checked;
 mod claim;

@@ -1,9 +1,9 @@
 //! How many sources an interrupt serves. A claim's counts have no bound, so that sums are taken in 128 bits.
-ghost use Rattle.std.specs.Prelude.{◌≡◌, ◌==◌, ◌↔◌, IsTrue, ◌-◌, ◌≤◌, ◌^◌, min, map, sum_by};
+ghost use Rattle.std.specs.Prelude.{◌≡◌, ◌==◌, ◌↔◌, IsTrue, ◌-◌, ◌≤◌, ◌^◌, min, map, sum_by, option_to_list};
 ghost use Rattle.std.specs.Ordering.{nat_cmp};
 ghost use Rattle.route_model.specs.Routing.{greatest, wired_to, given, load, busiest};
 ghost use Rattle.route_check.specs.Ascending.{Ascends, AreAligned};
-ghost use Rattle.route_check.specs.Valid.{choice_of, IsBusiestRight};
+ghost use Rattle.route_check.specs.Valid.{choice_of, sci_counts, effective_counts, IsBusiestRight};
 
 use crate::claim::Claim;
 use crate::offered::{are_aligned, given_at};
@@ -11,8 +11,8 @@ use crate::steps::numbers_ascend;
 use aml_path::Path;
 use route_model::Link;
 
-/// How many sources are wired to an interrupt, by counts in any order.
-fn wired_sources(wired: &[(u32, u32)], n: u32) -> u128
+/// How many pins are wired to an interrupt, by counts in any order.
+fn pins_in_any_order(wired: &[(u32, u32)], n: u32) -> u128
     ensures value { result ≡ wired_to wired.now n }
     ensures small { result ≤ 2 ^ 96 }
 {
@@ -25,13 +25,14 @@ fn wired_sources(wired: &[(u32, u32)], n: u32) -> u128
     total
 }
 
-/// How many sources are wired to an interrupt.
-fn sources_at(wired: &[(u32, u32)], ascend: bool, n: u32) -> u128
+/// How many pins are wired to an interrupt.
+fn pins_at(wired: &[(u32, u32)], ascend: bool, n: u32) -> u128
     requires { IsTrue ascend → Ascends nat_cmp (λ w. w.0) wired.now }
-    ensures { result ≡ wired_to wired.now n }
+    ensures value { result ≡ wired_to wired.now n }
+    ensures small { result ≤ 2 ^ 96 }
 {
     if !ascend {
-        return wired_sources(wired, n);
+        return pins_in_any_order(wired, n);
     }
     match wired.binary_search_by(|w| w.0.cmp(&n)) {
         Ok(i) => u128::from(wired[i].1),
@@ -39,14 +40,38 @@ fn sources_at(wired: &[(u32, u32)], ascend: bool, n: u32) -> u128
     }
 }
 
-/// How many sources are wired to some interrupts, or the greatest number if there are more.
-pub(crate) fn wired_to_all(wired: &[(u32, u32)], interrupts: &[u32]) -> u128
-    ensures { result ≡ min (2 ^ 128 - 1) (sum_by (wired_to wired.now) interrupts.now) }
+/// 1 for the interrupt of the System Control Interrupt, else 0.
+fn sci_at(sci: Option<u32>, n: u32) -> u128
+    ensures value { result ≡ wired_to (sci_counts sci) n }
+    ensures small { result ≤ 1 }
 {
-    let ascend = numbers_ascend(wired);
+    if sci == Some(n) { 1 } else { 0 }
+}
+
+/// How many sources are wired to an interrupt.
+fn sources_at(claim: &Claim, ascend: bool, n: u32) -> u128
+    requires { IsTrue ascend → Ascends nat_cmp (λ w. w.0) claim.now.wired }
+    ensures value { result ≡ wired_to (effective_counts claim.now) n }
+    ensures small { result ≤ 2 ^ 97 }
+{
+    sci_at(claim.sci(), n) + pins_at(claim.wired(), ascend, n)
+}
+
+/// Whether it is known that the counts of pins ascend.
+fn do_counts_ascend(claim: &Claim) -> bool
+    ensures { IsTrue result → Ascends nat_cmp (λ w. w.0) claim.now.wired }
+{
+    numbers_ascend(claim.wired())
+}
+
+/// How many sources are wired to some interrupts, or the greatest number if there are more.
+pub(crate) fn sources_at_all(claim: &Claim, interrupts: &[u32]) -> u128
+    ensures { result ≡ min (2 ^ 128 - 1) (sum_by (wired_to (effective_counts claim.now)) interrupts.now) }
+{
+    let ascend = do_counts_ascend(claim);
     let mut total: u128 = 0;
     for n in interrupts {
-        total = total.saturating_add(sources_at(wired, ascend, *n));
+        total = total.saturating_add(sources_at(claim, ascend, *n));
     }
     total
 }
@@ -67,35 +92,51 @@ fn links_given(links: &[Link], gives: &[(Path, u32)], aligned: bool, n: u32) -> 
 }
 
 /// How many sources an interrupt serves.
-fn load(claim: &Claim, aligned: bool, n: u32) -> u128
-    requires { IsTrue aligned → AreAligned claim.now.links claim.now.gives }
-    ensures { result ≡ load claim.now.wired (choice_of claim.now.links claim.now.gives) n }
+fn load(claim: &Claim, aligned: bool, ascend: bool, n: u32) -> u128
+    requires aligned { IsTrue aligned → AreAligned claim.now.links claim.now.gives }
+    requires ascend { IsTrue ascend → Ascends nat_cmp (λ w. w.0) claim.now.wired }
+    ensures { result ≡ load (effective_counts claim.now) (choice_of claim.now.links claim.now.gives) n }
 {
-    links_given(claim.links(), claim.gives(), aligned, n) + wired_sources(claim.wired(), n)
+    links_given(claim.links(), claim.gives(), aligned, n) + sources_at(claim, ascend, n)
 }
 
 /// The greatest load of an interrupt that is given.
-fn busiest_given(claim: &Claim, aligned: bool) -> u128
-    requires { IsTrue aligned → AreAligned claim.now.links claim.now.gives }
-    ensures { result ≡ greatest (map (load claim.now.wired (choice_of claim.now.links claim.now.gives)) (choice_of claim.now.links claim.now.gives)) }
+fn busiest_given(claim: &Claim, aligned: bool, ascend: bool) -> u128
+    requires aligned { IsTrue aligned → AreAligned claim.now.links claim.now.gives }
+    requires ascend { IsTrue ascend → Ascends nat_cmp (λ w. w.0) claim.now.wired }
+    ensures { result ≡ greatest (map (load (effective_counts claim.now) (choice_of claim.now.links claim.now.gives)) (choice_of claim.now.links claim.now.gives)) }
 {
     let links = claim.links();
     let gives = claim.gives();
     let mut greatest: u128 = 0;
     for i in 0..links.len() {
-        greatest = greatest.max(load(claim, aligned, given_at(links, gives, aligned, i)));
+        greatest = greatest.max(load(claim, aligned, ascend, given_at(links, gives, aligned, i)));
     }
     greatest
 }
 
+/// The load of the interrupt that the System Control Interrupt is wired to.
+fn load_at_sci(claim: &Claim, aligned: bool, ascend: bool) -> u128
+    requires aligned { IsTrue aligned → AreAligned claim.now.links claim.now.gives }
+    requires ascend { IsTrue ascend → Ascends nat_cmp (λ w. w.0) claim.now.wired }
+    ensures { result ≡ greatest (map (load (effective_counts claim.now) (choice_of claim.now.links claim.now.gives)) (option_to_list claim.now.sci)) }
+{
+    match claim.sci() {
+        Some(n) => load(claim, aligned, ascend, n),
+        None => 0,
+    }
+}
+
 /// How many sources the busiest interrupt serves, of those that are given or wired.
 fn busiest(claim: &Claim) -> u128
-    ensures { result ≡ busiest claim.now.wired (choice_of claim.now.links claim.now.gives) }
+    ensures { result ≡ busiest (effective_counts claim.now) (choice_of claim.now.links claim.now.gives) }
 {
     let aligned = are_aligned(claim.links(), claim.gives());
-    let mut greatest = busiest_given(claim, aligned);
+    let ascend = do_counts_ascend(claim);
+    let given = busiest_given(claim, aligned, ascend);
+    let mut greatest = given.max(load_at_sci(claim, aligned, ascend));
     for w in claim.wired() {
-        greatest = greatest.max(load(claim, aligned, w.0));
+        greatest = greatest.max(load(claim, aligned, ascend, w.0));
     }
     greatest
 }

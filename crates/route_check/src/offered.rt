@@ -1,9 +1,11 @@
-//! That each link is given an interrupt which it offers.
+//! That each link is given an interrupt which it offers and which isn't avoided.
 ghost use Rattle.std.specs.Prelude.{◌≡◌, ◌↔◌, ◌<◌, IsTrue, Contains, All, length, slice_index};
+ghost use Rattle.route_model.specs.Avoided.{without};
 ghost use Rattle.route_model.specs.Links.{paths_of};
 ghost use Rattle.route_check.specs.Ascending.{AreAligned};
 ghost use Rattle.route_check.specs.Valid.{keys_of, given_to, choice_of, AllOffered};
 
+use crate::avoided::Avoided;
 use crate::claim::Claim;
 use crate::search::is_same;
 use crate::steps::paths_ascend;
@@ -58,29 +60,30 @@ pub(crate) fn given_at(links: &[Link], gives: &[(Path, u32)], aligned: bool, i: 
     }
 }
 
-fn offers(link: &Link, n: u32) -> bool
-    ensures { IsTrue result ↔ Contains link.now.offers n }
+/// Whether a link may be given an interrupt: it offers it, and it isn't avoided.
+fn offers(avoided: &Avoided<'_>, link: &Link, n: u32) -> bool
+    ensures { IsTrue result ↔ Contains (without avoided.now link.now.offers) n }
 {
-    link.offers().contains(&n)
+    link.offers().contains(&n) && !avoided.has(n)
 }
 
-fn are_offered(links: &[Link], gives: &[(Path, u32)], aligned: bool) -> bool
+fn are_offered(avoided: &Avoided<'_>, links: &[Link], gives: &[(Path, u32)], aligned: bool) -> bool
     requires { IsTrue aligned → AreAligned links.now gives.now }
-    ensures { IsTrue result ↔ All (λ l. Contains l.offers (given_to gives.now l.path)) links.now }
+    ensures { IsTrue result ↔ All (λ l. Contains (without avoided.now l.offers) (given_to gives.now l.path)) links.now }
 {
     for i in 0..links.len() {
-        if !offers(&links[i], given_at(links, gives, aligned, i)) {
+        if !offers(avoided, &links[i], given_at(links, gives, aligned, i)) {
             return false;
         }
     }
     true
 }
 
-/// Whether each link offers what it is given.
+/// Whether each link offers what it is given, and that isn't avoided.
 pub(crate) fn all_offered(claim: &Claim) -> bool
     ensures { IsTrue result ↔ AllOffered claim.now }
 {
     let links = claim.links();
     let gives = claim.gives();
-    are_offered(links, gives, are_aligned(links, gives))
+    are_offered(&Avoided::by(claim), links, gives, are_aligned(links, gives))
 }

@@ -6,3 +6,5 @@ pub mod Assignments
 pub mod Bounds
 pub mod ByPlace
 pub mod Offers
+pub mod Filtered
+pub mod NotAvoided

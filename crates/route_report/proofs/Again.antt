@@ -1,6 +1,6 @@
 -- Lines that are printed say what they were printed of.
-use Rattle.std.proofs.Common.{◌≡◌, ◌∙◌, ap, refl, subst, ℕ, suc, ◌+◌, ◌<◌, ◌^◌, List, [], ◌∷◌, ◌++◌, length, map, Bool, true, false, arith, append_assoc, append-nil, Ok, Some, None, Option}
-use Rattle.std.specs.Prelude.{All, codes, decimal, nat_lt, slice_index}
+use Rattle.std.proofs.Common.{◌≡◌, ◌∙◌, ap, refl, subst, ℕ, ◌<◌, ◌^◌, List, [], ◌∷◌, ◌++◌, length, map, Bool, true, false, arith, append_assoc, append-nil, Ok, Some, None, Option}
+use Rattle.std.specs.Prelude.{All, codes, decimal, nat_lt, option_to_list}
 use Rattle.std.specs.List.Sorted.{IsStrictlyIncreasing}
 use Rattle.std.specs.Str.{bytes_eq}
 use Rattle.std.specs.Str.Parse.{AllDigits}
@@ -11,14 +11,15 @@ use Rattle.ar_space.specs.Outcome.{Outcome, ◌>>=◌}
 use Rattle.aml_path.specs.declared.segment.Seg.{Seg}
 use Rattle.aml_path.specs.Text.{text_of, path_of_text}
 use Rattle.route_check.specs.Claims.{BoundingSet, interrupts_of_bound}
-use Rattle.route_report.specs.Reading.{Said, ascends, here, number_here, path_here, named, numbered, one_of, expected, offered, offers, with_offer, until, link, link_line, with_link, wired, wired_line, with_wired, give, give_line, with_give, busiest, busiest_line, with_busiest, with_path, set_links, with_number, numbers_after, set, bound, bound_line, with_bound, keyed, line}
+use Rattle.route_report.specs.Reading.{Said, ascends, here, number_here, path_here, named, numbered, one_of, expected, offered, offers, with_next, until, link, link_line, with_link, wired, wired_line, with_wired, sci, sci_line, with_sci, ascending_after, avoid, avoid_line, with_avoid, give, give_line, with_give, busiest, busiest_line, with_busiest, with_path, set_links, with_number, numbers_after, set, bound, bound_line, with_bound, keyed, line}
 use Rattle.acpi_resources.specs.declared.form.Form.{Form}
 use Rattle.acpi_resources.specs.declared.form.Form.TheVariants as form
 use Rattle.acpi_resources.specs.declared.form.Polarity.{Polarity}
 use Rattle.acpi_resources.specs.declared.form.Polarity.TheVariants as polarity
 use Rattle.route_report.specs.Reports.{ReportedLink}
-use Rattle.route_report.specs.Printing.{Words, form_word, polarity_word, now_words, link_words, wired_words, give_words, busiest_words, path_words, set_of_bound, bound_words}
+use Rattle.route_report.specs.Printing.{Words, form_word, polarity_word, now_words, link_words, wired_words, sci_words, source_words, number_words, avoid_words, give_words, busiest_words, path_words, set_of_bound, bound_words}
 use Rattle.route_report.specs.Readable.{link_of, IsReadableOffer}
+use Rattle.route_report.proofs.Ascending.{increasing_tail}
 use Rattle.route_report.proofs.Decimals.{same_bytes, equal_bytes, number_of_decimal}
 
 -- the law of paths that a report's law rests on
@@ -57,32 +58,26 @@ ascends_push [] k m = refl
 ascends_push (x ∷ []) k m = refl
 ascends_push (x ∷ y ∷ ys) k m = ascends_push (y ∷ ys) k m
 
-offer_again : (n : ℕ) (os : List ℕ) (k : ℕ) → k < 2 ^ 32 → ascends os k ≡ true → with_offer n os (decimal k) ≡ Ok (os ++ k ∷ [])
-unfolding with_offer ◌>>=◌
-offer_again n os k small is = rw (number_of_decimal k small, is) refl
-
-increasing_tail : (k : ℕ) (xs : List ℕ) → IsStrictlyIncreasing (k ∷ xs) → IsStrictlyIncreasing xs
-increasing_tail k xs h j l =
-    let e : suc j + 1 ≡ suc (j + 1) = omega arith in
-    let P : ℕ → Type 0 = λ i. slice_index (k ∷ xs) (suc j) < slice_index (k ∷ xs) i in
-    subst P e (h (suc j) (omega arith))
+next_again : (n : ℕ) (os : List ℕ) (k : ℕ) → k < 2 ^ 32 → ascends os k ≡ true → with_next n os (decimal k) ≡ Ok (os ++ k ∷ [])
+unfolding with_next ◌>>=◌
+next_again n os k small is = rw (number_of_decimal k small, is) refl
 
 until_now : (n : ℕ) (os : List ℕ) (k : ℕ) (ks : List ℕ) (rest : Words) → IsStrictlyIncreasing (k ∷ ks) → All (λ m. m < 2 ^ 32) ks
-    → until n (codes "now") (with_offer n) (os ++ k ∷ []) (map decimal ks ++ codes "now" ∷ rest) ≡ Ok (os ++ k ∷ ks, rest)
+    → until n (codes "now") (with_next n) (os ++ k ∷ []) (map decimal ks ++ codes "now" ∷ rest) ≡ Ok (os ++ k ∷ ks, rest)
 unfolding until ◌>>=◌
 until_now n os k [] rest up small = refl
 until_now n os k (m ∷ ms) rest up small =
     let less : k < m = up 0 (omega arith) in
     let here = All-head (λ x. x < 2 ^ 32) m ms small in
     let done = os ++ k ∷ [] in
-    let step = offer_again n done m here (ascends_push os k m ∙ lt-ltb k m less) in
+    let step = next_again n done m here (ascends_push os k m ∙ lt-ltb k m less) in
     rw (not_now m here, step) (until_now n done m ms rest (increasing_tail k (m ∷ ms) up) (All-tail (λ x. x < 2 ^ 32) m ms small)
     ∙ ap (λ xs. Ok (xs, rest)) (append_assoc os (k ∷ []) (m ∷ ms)))
 
 offers_again : (n k : ℕ) (ks : List ℕ) (rest : Words) → IsStrictlyIncreasing (k ∷ ks) → All (λ m. m < 2 ^ 32) (k ∷ ks) → offers n (map decimal (k ∷ ks) ++ codes "now" ∷ rest) ≡ Ok (k ∷ ks)
 unfolding offers ◌>>=◌
 offers_again n k ks rest up small =
-    rw (offer_again n [] k (All-head (λ x. x < 2 ^ 32) k ks small) refl, until_now n [] k ks rest up (All-tail (λ x. x < 2 ^ 32) k ks small)) refl
+    rw (next_again n [] k (All-head (λ x. x < 2 ^ 32) k ks small) refl, until_now n [] k ks rest up (All-tail (λ x. x < 2 ^ 32) k ks small)) refl
 
 offered_again : (n : ℕ) (f : Form) (p : Polarity) (ws : Words) → offered n (form_word f ∷ polarity_word p ∷ codes "offers" ∷ ws) ≡ offers n ws
 unfolding offered one_of expected ◌>>=◌
@@ -106,6 +101,44 @@ link_again back n l d room readable small =
 pub wired_again : (n : ℕ) (w : ℕ × ℕ) (d : Said) → length d.wired < 4096 → (w.0 < 2 ^ 32) × (w.1 < 2 ^ 32) → line n (wired_words w) d ≡ Ok (record d { wired = d.wired ++ w ∷ [] })
 unfolding line keyed wired_line wired with_wired ◌>>=◌
 wired_again n w d room small = rw (numbered_again n w.0 (decimal w.1 ∷ []) small.0, numbered_again n w.1 [] small.1, lt-ltb (length d.wired) 4096 room) refl
+
+not_none : (k : ℕ) → k < 2 ^ 32 → bytes_eq (decimal k) (codes "none") ≡ false
+not_none k small = no_number_by k 110 (111 ∷ 110 ∷ 101 ∷ []) (bytes_eq (decimal k) (codes "none")) refl small (λ h. let bad = h.0 in omega arith)
+
+source_again : (n : ℕ) (s : Option ℕ) → All (λ m. m < 2 ^ 32) (option_to_list s) → sci n (source_words s) ≡ Ok s
+unfolding sci ◌>>=◌
+source_again n None small = refl
+source_again n (Some k) small =
+    let here = All-head (λ x. x < 2 ^ 32) k [] small in
+    rw (not_none k here, number_of_decimal k here) refl
+
+pub sci_again : (n : ℕ) (s : Option ℕ) (d : Said) → d.sci ≡ None → All (λ m. m < 2 ^ 32) (option_to_list s) → line n (sci_words s) d ≡ Ok (record d { sci = Some s })
+unfolding line keyed sci_line with_sci ◌>>=◌
+sci_again n s d none small = rw (source_again n s small, none) refl
+
+not_dash : (k : ℕ) → k < 2 ^ 32 → bytes_eq (decimal k) (codes "-") ≡ false
+not_dash k small = no_number_by k 45 [] (bytes_eq (decimal k) (codes "-")) refl small (λ h. let bad = h.0 in omega arith)
+
+ascending_again : (n : ℕ) (os : List ℕ) (k : ℕ) (ks : List ℕ) → IsStrictlyIncreasing (k ∷ ks) → All (λ m. m < 2 ^ 32) ks → ascending_after n (os ++ k ∷ []) (map decimal ks) ≡ Ok (os ++ k ∷ ks)
+unfolding ascending_after ◌>>=◌
+ascending_again n os k [] up small = refl
+ascending_again n os k (m ∷ ms) up small =
+    let less : k < m = up 0 (omega arith) in
+    let done = os ++ k ∷ [] in
+    let step = next_again n done m (All-head (λ x. x < 2 ^ 32) m ms small) (ascends_push os k m ∙ lt-ltb k m less) in
+    rw step (ascending_again n done m ms (increasing_tail k (m ∷ ms) up) (All-tail (λ x. x < 2 ^ 32) m ms small)
+    ∙ ap Ok (append_assoc os (k ∷ []) (m ∷ ms)))
+
+avoided_again : (n : ℕ) (ns : List ℕ) → IsStrictlyIncreasing ns → All (λ m. m < 2 ^ 32) ns → avoid n (number_words ns) ≡ Ok ns
+unfolding avoid ◌>>=◌
+avoided_again n [] up small = refl
+avoided_again n (k ∷ ks) up small =
+    let here = All-head (λ x. x < 2 ^ 32) k ks small in
+    rw (not_dash k here, next_again n [] k here refl) (ascending_again n [] k ks up (All-tail (λ x. x < 2 ^ 32) k ks small))
+
+pub avoid_again : (n : ℕ) (ns : List ℕ) (d : Said) → d.avoid ≡ None → IsStrictlyIncreasing ns → All (λ m. m < 2 ^ 32) ns → line n (avoid_words ns) d ≡ Ok (record d { avoid = Some ns })
+unfolding line keyed avoid_line with_avoid ◌>>=◌
+avoid_again n ns d none up small = rw (avoided_again n ns up small, none) refl
 
 pub give_again : (back : PathsAreReadBack) (n : ℕ) (g : List Seg × ℕ) (d : Said) → g.1 < 2 ^ 32 → line n (give_words g) d ≡ Ok (record d { gives = d.gives ++ g ∷ [] })
 unfolding line keyed give_line give with_give ◌>>=◌

@@ -1,5 +1,5 @@
 -- The claim that is made of an assignment and its bound is in order.
-use Rattle.std.proofs.Common.{◌≡◌, ℕ, zero, suc, ◌+◌, ◌<◌, ◌==◌, Bool, false, cond, List, [], ◌∷◌, length, map, refl, sym, ◌∙◌, ap, ap₂, arith, get_or}
+use Rattle.std.proofs.Common.{◌≡◌, ℕ, zero, suc, ◌+◌, ◌<◌, ◌==◌, Bool, false, cond, Option, List, [], ◌∷◌, length, map, refl, sym, ◌∙◌, ap, ap₂, arith, get_or}
 use Rattle.std.specs.Prelude.{All}
 use Rattle.std.specs.declared.cmp.Ordering.{Ordering}
 use Rattle.std.specs.declared.cmp.Ordering.TheVariants.{Less, Equal, Greater}
@@ -96,18 +96,20 @@ wired_sorted wired up = by_key (λ (w : ℕ × ℕ). w.0) nat_cmp nat_cmp_total 
 gives_sorted : (links : List OfferingLink) (choice : List ℕ) → IsStrictlySortedBy path_cmp (paths_of links) → IsSorted give_order (gives_of links choice)
 gives_sorted links choice up = by_key (λ (g : List Seg × ℕ). g.0) path_cmp path_total (λ g h. nat_cmp g.1 h.1) (gives_of links choice) (gives_at links choice up)
 
-pub claim_is_in_order : (links : List OfferingLink) (wired : List (ℕ × ℕ)) (choice : List ℕ) (k : ℕ) (places interrupts : List ℕ) → IsStrictlySortedBy path_cmp (paths_of links) → IsStrictlyIncreasing (map (λ w. w.0) wired)
-    → IsStrictlyIncreasing places → All (λ l. l < length links) places → IsStrictlyIncreasing interrupts → IsInOrder (claim_of links wired choice k places interrupts)
-claim_is_in_order links wired choice zero places interrupts in_order ascending up within set = record {
+pub claim_is_in_order : (links : List OfferingLink) (wired : List (ℕ × ℕ)) (sci : Option ℕ) (avoid choice : List ℕ) (k : ℕ) (places interrupts : List ℕ) → IsStrictlyIncreasing avoid → IsStrictlySortedBy path_cmp (paths_of links) → IsStrictlyIncreasing (map (λ w. w.0) wired)
+    → IsStrictlyIncreasing places → All (λ l. l < length links) places → IsStrictlyIncreasing interrupts → IsInOrder (claim_of links wired sci avoid choice k places interrupts)
+claim_is_in_order links wired sci avoid choice zero places interrupts avoided in_order ascending up within set = record {
   links = links_sorted links in_order;
   wired = wired_sorted wired ascending;
+  avoid = avoided;
   gives = gives_sorted links choice in_order;
   set = none_sorted path_cmp;
   interrupts = none_sorted nat_cmp;
 }
-claim_is_in_order links wired choice (suc m) places interrupts in_order ascending up within set = record {
+claim_is_in_order links wired sci avoid choice (suc m) places interrupts avoided in_order ascending up within set = record {
   links = links_sorted links in_order;
   wired = wired_sorted wired ascending;
+  avoid = avoided;
   gives = gives_sorted links choice in_order;
   set = set_sorted links places in_order up within;
   interrupts = numbers_sorted interrupts set;

@@ -6,15 +6,17 @@ use Rattle.aml_path.specs.declared.segment.Seg.{Seg}
 use Rattle.route_model.specs.Links.{OfferingLink}
 use Rattle.route_check.specs.Claims.{BoundingSet}
 use Rattle.route_report.specs.Counting.{first_of}
-use Rattle.route_report.specs.Reading.{Said, is_passed_over, bad_line, link, wired, give, busiest, bound, with_link, with_wired, with_give, with_busiest, with_bound, link_line, wired_line, give_line, busiest_line, bound_line, keyed, line}
+use Rattle.route_report.specs.Reading.{Said, is_passed_over, bad_line, link, wired, sci, avoid, give, busiest, bound, with_link, with_wired, with_sci, with_avoid, with_give, with_busiest, with_bound, link_line, wired_line, sci_line, avoid_line, give_line, busiest_line, bound_line, keyed, line}
 use Rattle.route_report.proofs.Decimals.{equal_bytes}
-use Rattle.route_report.proofs.Renumbered.{Alike, link_alike, wired_alike, give_alike, busiest_alike, bound_alike}
+use Rattle.route_report.proofs.Renumbered.{Alike, link_alike, wired_alike, sci_alike, avoid_alike, give_alike, busiest_alike, bound_alike}
 
 pub data Effect : Type 0 where
   refuses : Effect
   says_nothing : Effect
   says_link : OfferingLink → Effect
   says_wired : ℕ × ℕ → Effect
+  says_sci : Option ℕ → Effect
+  says_avoid : List ℕ → Effect
   says_give : List Seg × ℕ → Effect
   says_busiest : ℕ → Effect
   says_bound : Option BoundingSet → Effect
@@ -25,6 +27,8 @@ after n refuses d = bad_line n
 after n says_nothing d = Ok d
 after n (says_link l) d = with_link n l d
 after n (says_wired w) d = with_wired n w d
+after n (says_sci s) d = with_sci n s d
+after n (says_avoid ns) d = with_avoid n ns d
 after n (says_give g) d = with_give n g d
 after n (says_busiest k) d = with_busiest n k d
 after n (says_bound b) d = with_bound n b d
@@ -38,6 +42,8 @@ abbrev keyed_effect : List ℕ → List (List ℕ) → Effect
 keyed_effect key ws =
     if bytes_eq key (codes "link") then read_as says_link (link 0 ws)
     else if bytes_eq key (codes "wired") then read_as says_wired (wired 0 ws)
+    else if bytes_eq key (codes "sci") then read_as says_sci (sci 0 ws)
+    else if bytes_eq key (codes "avoid") then read_as says_avoid (avoid 0 ws)
     else if bytes_eq key (codes "give") then read_as says_give (give 0 ws)
     else if bytes_eq key (codes "busiest") then read_as says_busiest (busiest 0 ws)
     else if bytes_eq key (codes "bound") then read_as says_bound (bound 0 ws)
@@ -61,14 +67,16 @@ module _ (n : ℕ) (d : Said) where
   either_gives false x y f g e i = i
 
   keyed_gives : (key : List ℕ) (ws : List (List ℕ)) → Alike (keyed n key ws d) (after n (keyed_effect key ws) d)
-  unfolding keyed link_line wired_line give_line busiest_line bound_line
+  unfolding keyed link_line wired_line sci_line avoid_line give_line busiest_line bound_line
   keyed_gives key ws =
       either_gives (bytes_eq key (codes "link")) _ _ _ _ (read_gives says_link (link n ws) (link 0 ws) (link_alike n 0 ws))
       (either_gives (bytes_eq key (codes "wired")) _ _ _ _ (read_gives says_wired (wired n ws) (wired 0 ws) (wired_alike n 0 ws))
+      (either_gives (bytes_eq key (codes "sci")) _ _ _ _ (read_gives says_sci (sci n ws) (sci 0 ws) (sci_alike n 0 ws))
+      (either_gives (bytes_eq key (codes "avoid")) _ _ _ _ (read_gives says_avoid (avoid n ws) (avoid 0 ws) (avoid_alike n 0 ws))
       (either_gives (bytes_eq key (codes "give")) _ _ _ _ (read_gives says_give (give n ws) (give 0 ws) (give_alike n 0 ws))
       (either_gives (bytes_eq key (codes "busiest")) _ _ _ _ (read_gives says_busiest (busiest n ws) (busiest 0 ws) (busiest_alike n 0 ws))
       (either_gives (bytes_eq key (codes "bound")) _ _ _ _ (read_gives says_bound (bound n ws) (bound 0 ws) (bound_alike n 0 ws))
-      (either_gives (is_passed_over key) _ _ _ _ refl refl)))))
+      (either_gives (is_passed_over key) _ _ _ _ refl refl)))))))
 
   pub line_gives : (ws : List (List ℕ)) → Alike (line n ws d) (after n (effect ws) d)
   unfolding line ◌>>=◌

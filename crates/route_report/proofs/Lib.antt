@@ -1,8 +1,11 @@
 pub mod Again
+pub mod Ascending
 pub mod Claims
 pub mod Claimed
 pub mod Decimals
 pub mod Effects
+pub mod FirstVersion
+pub mod Kept
 pub mod Sorting
 pub mod Orders
 pub mod Plain

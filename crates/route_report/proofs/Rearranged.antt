@@ -11,10 +11,12 @@ use Rattle.route_model.specs.Links.{OfferingLink}
 use Rattle.route_check.specs.Claims.{BoundingSet, RoutingClaim}
 use Rattle.text_words.specs.Words.{words}
 use Rattle.route_report.specs.Lines.{lines}
+use Rattle.route_report.specs.declared.version.Version.{Version}
+use Rattle.route_report.specs.declared.version.Version.TheVariants as version
 use Rattle.route_report.specs.Ordered.{among, in_order, link_order, wired_order, give_order, bound_in_order, claim_in_order}
 use Rattle.route_report.specs.Counting.{counts}
-use Rattle.route_report.specs.Reading.{Said, nothing_said, bad_line, here, with_link, with_wired, with_give, with_busiest, with_bound, claimed, line, lines_read, heading, all_read, claim_of_text}
-use Rattle.route_report.proofs.Effects.{Effect, refuses, says_nothing, says_link, says_wired, says_give, says_busiest, says_bound, after, effect, line_gives, passed_line}
+use Rattle.route_report.specs.Reading.{Said, first_said, bad_line, here, with_link, with_wired, with_sci, with_avoid, with_give, with_busiest, with_bound, claimed, line, lines_read, heading, all_read, claim_of_text}
+use Rattle.route_report.proofs.Effects.{Effect, refuses, says_nothing, says_link, says_wired, says_sci, says_avoid, says_give, says_busiest, says_bound, after, effect, line_gives, passed_line}
 use Rattle.route_report.proofs.Orders.{link_exact, wired_exact, give_exact, link_total, wired_total, give_total}
 use Rattle.route_report.proofs.Renumbered.{Alike, then_alike}
 use Rattle.route_report.proofs.Shuffles.{shuffled}
@@ -36,6 +38,8 @@ record Total : Type 0 where
   refused : Bool
   links : List OfferingLink
   wired : List (ℕ × ℕ)
+  sci : Once (Option ℕ)
+  avoid : Once (List ℕ)
   gives : List (List Seg × ℕ)
   busiest : Once ℕ
   bound : Once (Option BoundingSet)
@@ -45,6 +49,8 @@ with_effect refuses t = record t { refused = true }
 with_effect says_nothing t = t
 with_effect (says_link l) t = record t { links = among link_order l t.links }
 with_effect (says_wired w) t = record t { wired = among wired_order w t.wired }
+with_effect (says_sci s) t = record t { sci = once_more s t.sci }
+with_effect (says_avoid ns) t = record t { avoid = once_more ns t.avoid }
 with_effect (says_give g) t = record t { gives = among give_order g t.gives }
 with_effect (says_busiest k) t = record t { busiest = once_more k t.busiest }
 with_effect (says_bound b) t = record t { bound = once_more b t.bound }
@@ -53,7 +59,7 @@ abbrev with_line : List ℕ → Total → Total
 with_line l t = with_effect (effect (words l)) t
 
 abbrev total : List (List ℕ) → Total
-total [] = record { refused = false; links = []; wired = []; gives = []; busiest = unsaid; bound = unsaid }
+total [] = record { refused = false; links = []; wired = []; sci = unsaid; avoid = unsaid; gives = []; busiest = unsaid; bound = unsaid }
 total (l ∷ ls) = with_line l (total ls)
 
 once_more_commutes : {A : Type 0} (a b : A) (o : Once A) → once_more a (once_more b o) ≡ once_more b (once_more a o)
@@ -64,6 +70,8 @@ once_more_commutes a b said_twice = refl
 effects_commute : (f g : Effect) (t : Total) → with_effect f (with_effect g t) ≡ with_effect g (with_effect f t)
 effects_commute (says_link k) (says_link l) t = ap (λ ls. record t { links = ls }) (commute link_order link_total link_exact k l t.links)
 effects_commute (says_wired v) (says_wired w) t = ap (λ ws. record t { wired = ws }) (commute wired_order wired_total wired_exact v w t.wired)
+effects_commute (says_sci r) (says_sci s) t = ap (λ o. record t { sci = o }) (once_more_commutes r s t.sci)
+effects_commute (says_avoid ms) (says_avoid ns) t = ap (λ o. record t { avoid = o }) (once_more_commutes ms ns t.avoid)
 effects_commute (says_give g) (says_give h) t = ap (λ gs. record t { gives = gs }) (commute give_order give_total give_exact g h t.gives)
 effects_commute (says_busiest j) (says_busiest k) t = ap (λ o. record t { busiest = o }) (once_more_commutes j k t.busiest)
 effects_commute (says_bound b) (says_bound c) t = ap (λ o. record t { bound = o }) (once_more_commutes b c t.bound)
@@ -140,20 +148,33 @@ unless_none false true c = refl
 unless_none false false true = refl
 unless_none false false false = refl
 
-abbrev claim_from : Option ℕ → Option (Option BoundingSet) → List OfferingLink → List (ℕ × ℕ) → List (List Seg × ℕ) → Option RoutingClaim
-claim_from None b ls ws gs = None
-claim_from (Some k) None ls ws gs = None
-claim_from (Some k) (Some b) ls ws gs = Some (record { links = ls; wired = ws; gives = gs; busiest = k; bound = bound_in_order b })
+abbrev claim_from : Option (Option ℕ) → Option (List ℕ) → Option ℕ → Option (Option BoundingSet) → List OfferingLink → List (ℕ × ℕ) → List (List Seg × ℕ) → Option RoutingClaim
+claim_from None ns k b ls ws gs = None
+claim_from (Some s) None k b ls ws gs = None
+claim_from (Some s) (Some ns) None b ls ws gs = None
+claim_from (Some s) (Some ns) (Some k) None ls ws gs = None
+claim_from (Some s) (Some ns) (Some k) (Some b) ls ws gs = Some (record { links = ls; wired = ws; sci = s; avoid = ns; gives = gs; busiest = k; bound = bound_in_order b })
 
-no_bound : (o : Option ℕ) (ls : List OfferingLink) (ws : List (ℕ × ℕ)) (gs : List (List Seg × ℕ)) → claim_from o None ls ws gs ≡ None
-no_bound None ls ws gs = refl
-no_bound (Some k) ls ws gs = refl
+no_avoid : (s : Option (Option ℕ)) (k : Option ℕ) (b : Option (Option BoundingSet)) (ls : List OfferingLink) (ws : List (ℕ × ℕ)) (gs : List (List Seg × ℕ)) → claim_from s None k b ls ws gs ≡ None
+no_avoid None k b ls ws gs = refl
+no_avoid (Some s) k b ls ws gs = refl
+
+no_busiest : (s : Option (Option ℕ)) (ns : Option (List ℕ)) (b : Option (Option BoundingSet)) (ls : List OfferingLink) (ws : List (ℕ × ℕ)) (gs : List (List Seg × ℕ)) → claim_from s ns None b ls ws gs ≡ None
+no_busiest None ns b ls ws gs = refl
+no_busiest (Some s) None b ls ws gs = refl
+no_busiest (Some s) (Some ns) b ls ws gs = refl
+
+no_bound : (s : Option (Option ℕ)) (ns : Option (List ℕ)) (k : Option ℕ) (ls : List OfferingLink) (ws : List (ℕ × ℕ)) (gs : List (List Seg × ℕ)) → claim_from s ns k None ls ws gs ≡ None
+no_bound None ns k ls ws gs = refl
+no_bound (Some s) None k ls ws gs = refl
+no_bound (Some s) (Some ns) None ls ws gs = refl
+no_bound (Some s) (Some ns) (Some k) ls ws gs = refl
 
 -- what is claimed where d is said already, and then what lines say together
 abbrev finished : Said → Total → Option RoutingClaim
 finished d t =
     unless t.refused (unless (nat_lt 256 (length d.links + length t.links)) (unless (nat_lt 4096 (length d.wired + length t.wired))
-    (claim_from (said_in_all d.busiest t.busiest) (said_in_all d.bound t.bound) (all_among link_order d.links t.links) (all_among wired_order d.wired t.wired) (all_among give_order d.gives t.gives))))
+    (claim_from (said_in_all d.sci t.sci) (said_in_all d.avoid t.avoid) (said_in_all d.busiest t.busiest) (said_in_all d.bound t.bound) (all_among link_order d.links t.links) (all_among wired_order d.wired t.wired) (all_among give_order d.gives t.gives))))
 
 record IsWithin (d : Said) : Type 0 where
   links : length d.links ≤ 256
@@ -186,10 +207,20 @@ module _ (n : ℕ) (t : Total) (k : Said → Outcome RoutingClaim) (on : (e : Sa
       let over : nat_lt 4096 (length d.wired + length (among wired_order w t.wired)) ≡ true = lt-ltb 4096 (length d.wired + length (among wired_order w t.wired)) (omega arith) in
       sym (rw over (unless_none t.refused (nat_lt 256 (length d.links + length t.links)) true))
 
+  sci_on : (s : Option ℕ) (o : Option (Option ℕ)) → d.sci ≡ o → result_ok ((if is_some o then bad_line n else Ok (record d { sci = Some s })) >>= k) ≡ finished d (with_effect (says_sci s) t)
+  unfolding ◌>>=◌
+  sci_on s None e = on (record d { sci = Some s }) (record { links = within.links; wired = within.wired }) ∙ (rw (e, said_first s t.sci) refl)
+  sci_on s (Some r) e = sym (rw (e, said_again r s t.sci) (unless_none t.refused _ _))
+
+  avoid_on : (ns : List ℕ) (o : Option (List ℕ)) → d.avoid ≡ o → result_ok ((if is_some o then bad_line n else Ok (record d { avoid = Some ns })) >>= k) ≡ finished d (with_effect (says_avoid ns) t)
+  unfolding ◌>>=◌
+  avoid_on ns None e = on (record d { avoid = Some ns }) (record { links = within.links; wired = within.wired }) ∙ (rw (e, said_first ns t.avoid) refl)
+  avoid_on ns (Some ms) e = sym (rw (e, said_again ms ns t.avoid, no_avoid) (unless_none t.refused _ _))
+
   busiest_on : (j : ℕ) (o : Option ℕ) → d.busiest ≡ o → result_ok ((if is_some o then bad_line n else Ok (record d { busiest = Some j })) >>= k) ≡ finished d (with_effect (says_busiest j) t)
   unfolding ◌>>=◌
   busiest_on j None e = on (record d { busiest = Some j }) (record { links = within.links; wired = within.wired }) ∙ (rw (e, said_first j t.busiest) refl)
-  busiest_on j (Some i) e = sym (rw (e, said_again i j t.busiest) (unless_none t.refused _ _))
+  busiest_on j (Some i) e = sym (rw (e, said_again i j t.busiest, no_busiest) (unless_none t.refused _ _))
 
   bound_on : (b : Option BoundingSet) (o : Option (Option BoundingSet)) → d.bound ≡ o → result_ok ((if is_some o then bad_line n else Ok (record d { bound = Some b })) >>= k) ≡ finished d (with_effect (says_bound b) t)
   unfolding ◌>>=◌
@@ -198,30 +229,35 @@ module _ (n : ℕ) (t : Total) (k : Said → Outcome RoutingClaim) (on : (e : Sa
 
   -- a line, and then the others
   effect_on : (f : Effect) → result_ok (after n f d >>= k) ≡ finished d (with_effect f t)
-  unfolding ◌>>=◌ with_link with_wired with_give with_busiest with_bound
+  unfolding ◌>>=◌ with_link with_wired with_sci with_avoid with_give with_busiest with_bound
   effect_on refuses = refl
   effect_on says_nothing = on d within
   effect_on (says_link l) = link_on l (nat_lt (length d.links) 256) refl
   effect_on (says_wired w) = wired_on w (nat_lt (length d.wired) 4096) refl
+  effect_on (says_sci s) = sci_on s d.sci refl
+  effect_on (says_avoid ns) = avoid_on ns d.avoid refl
   effect_on (says_give g) = on (record d { gives = d.gives ++ g ∷ [] }) (record { links = within.links; wired = within.wired }) ∙ (rw (among_push give_order d.gives t.gives g) refl)
   effect_on (says_busiest j) = busiest_on j d.busiest refl
   effect_on (says_bound b) = bound_on b d.bound refl
 
-claimed_is : (n : ℕ) (d : Said) → result_ok (claimed n d) ≡ claim_from d.busiest d.bound (in_order link_order d.links) (in_order wired_order d.wired) (in_order give_order d.gives)
+claimed_is : (n : ℕ) (d : Said) → result_ok (claimed n d) ≡ claim_from d.sci d.avoid d.busiest d.bound (in_order link_order d.links) (in_order wired_order d.wired) (in_order give_order d.gives)
 unfolding claimed ◌>>=◌
-claimed_is n d = go d.busiest d.bound
+claimed_is n d = go d.sci d.avoid d.busiest d.bound
   where
-    go : (o : Option ℕ) (p : Option (Option BoundingSet)) → result_ok (here n o >>= (λ k. here n p >>= (λ b. Ok (claim_in_order (record { links = d.links; wired = d.wired; gives = d.gives; busiest = k; bound = b })))))
-        ≡ claim_from o p (in_order link_order d.links) (in_order wired_order d.wired) (in_order give_order d.gives)
-    go None p = refl
-    go (Some k) None = refl
-    go (Some k) (Some b) = refl
+    go : (q : Option (Option ℕ)) (r : Option (List ℕ)) (o : Option ℕ) (p : Option (Option BoundingSet))
+        → result_ok (here n q >>= (λ s. here n r >>= (λ ns. here n o >>= (λ k. here n p >>= (λ b. Ok (claim_in_order (record { links = d.links; wired = d.wired; sci = s; avoid = ns; gives = d.gives; busiest = k; bound = b })))))))
+        ≡ claim_from q r o p (in_order link_order d.links) (in_order wired_order d.wired) (in_order give_order d.gives)
+    go None r o p = refl
+    go (Some s) None o p = refl
+    go (Some s) (Some ns) None p = refl
+    go (Some s) (Some ns) (Some k) None = refl
+    go (Some s) (Some ns) (Some k) (Some b) = refl
 
 claimed_at_last : (n : ℕ) (d : Said) → IsWithin d → result_ok (claimed n d) ≡ finished d (total [])
 claimed_at_last n d within =
     let links : nat_lt 256 (length d.links + 0) ≡ false = le-ltb 256 (length d.links + 0) (let few = within.links in omega arith) in
     let wired : nat_lt 4096 (length d.wired + 0) ≡ false = le-ltb 4096 (length d.wired + 0) (let few = within.wired in omega arith) in
-    claimed_is n d ∙ sym (rw (links, wired, said_before d.busiest, said_before d.bound, among_none link_order d.links, among_none wired_order d.wired, among_none give_order d.gives) refl)
+    claimed_is n d ∙ sym (rw (links, wired, said_before d.sci, said_before d.avoid, said_before d.busiest, said_before d.bound, among_none link_order d.links, among_none wired_order d.wired, among_none give_order d.gives) refl)
 
 lines_finished : (n : ℕ) (ls : List (List ℕ)) (d : Said) → IsWithin d → result_ok (lines_read n ls d) ≡ finished d (total ls)
 unfolding lines_read
@@ -231,11 +267,15 @@ lines_finished n (l ∷ ls) d within =
     then_alike (line n (words l) d) (after n (effect (words l)) d) k k (line_gives n d (words l)) (λ e. refl)
     ∙ effect_on n (total ls) k (λ e w. lines_finished (n + 1) ls e w) d within (effect (words l))
 
+first_within : (v : Version) → IsWithin (first_said v)
+first_within version.One = record { links = omega arith; wired = omega arith }
+first_within version.Two = record { links = omega arith; wired = omega arith }
+
 same_reading : (first : List ℕ) (ls ms : List (List ℕ)) → total ls ≡ total ms → Alike (all_read (first ∷ ls)) (all_read (first ∷ ms))
 unfolding all_read
 same_reading first ls ms same =
-    let within : IsWithin nothing_said = record { links = omega arith; wired = omega arith } in
-    then_alike (heading 1 (words first)) (heading 1 (words first)) _ _ refl (λ _. lines_finished 2 ls nothing_said within ∙ (ap (finished nothing_said) same ∙ sym (lines_finished 2 ms nothing_said within)))
+    then_alike (heading 1 (words first)) (heading 1 (words first)) (λ v. lines_read 2 ls (first_said v)) (λ v. lines_read 2 ms (first_said v)) refl
+    (λ v. lines_finished 2 ls (first_said v) (first_within v) ∙ (ap (finished (first_said v)) same ∙ sym (lines_finished 2 ms (first_said v) (first_within v))))
 
 ok_again : {A : Type 0} (x y : Outcome A) (a : A) → Alike x y → x ≡ Ok a → y ≡ Ok a
 ok_again x (Ok b) a same e = let is : Some a ≡ Some b = ap result_ok (sym e) ∙ same in cc is

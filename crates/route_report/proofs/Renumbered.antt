@@ -6,7 +6,7 @@ use Rattle.ar_space.specs.Outcome.{Outcome, ◌>>=◌}
 use Rattle.aml_path.specs.declared.segment.Seg.{Seg}
 use Rattle.aml_path.specs.Text.{text_of, path_of_text}
 use Rattle.route_report.specs.Lines.{number}
-use Rattle.route_report.specs.Reading.{ascends, in_line, here, word, ended, expected, one_of, number_here, path_here, numbered, named, with_offer, until, offers, offered, link, wired, give, busiest, with_path, set_links, with_number, numbers_after, set, bound}
+use Rattle.route_report.specs.Reading.{ascends, in_line, here, word, ended, expected, one_of, number_here, path_here, numbered, named, with_next, until, offers, offered, link, wired, sci, ascending_after, avoid, give, busiest, with_path, set_links, with_number, numbers_after, set, bound}
 
 -- two outcomes give the same value, or are both a refusal
 abbrev pub Alike : {A : Type 0} → Outcome A → Outcome A → Type 0
@@ -60,9 +60,9 @@ module _ (n m : ℕ) where
   unfolding named
   named_alike ws = then_alike (word n ws) (word m ws) _ _ (word_alike ws) (λ w. then_alike (path_here n w.0) (path_here m w.0) _ _ (path_alike w.0) (λ p. refl))
 
-  offer_alike : (os : List ℕ) (w : List ℕ) → Alike (with_offer n os w) (with_offer m os w)
-  unfolding with_offer
-  offer_alike os w = then_alike (number_here n w) (number_here m w) _ _ (here_alike (number w)) (λ k. if_alike (ascends os k) _ _ _ _ refl refl)
+  next_alike : (os : List ℕ) (w : List ℕ) → Alike (with_next n os w) (with_next m os w)
+  unfolding with_next
+  next_alike os w = then_alike (number_here n w) (number_here m w) _ _ (here_alike (number w)) (λ k. if_alike (ascends os k) _ _ _ _ refl refl)
 
   until_alike : {A : Type 0} (key : List ℕ) (step other : List A → List ℕ → Outcome (List A)) → ((xs : List A) (w : List ℕ) → Alike (step xs w) (other xs w)) → (xs : List A) (ws : List (List ℕ)) → Alike (until n key step xs ws) (until m key other xs ws)
   unfolding until
@@ -73,8 +73,8 @@ module _ (n m : ℕ) where
   unfolding offers
   offers_alike ws =
       then_alike (word n ws) (word m ws) _ _ (word_alike ws)
-      (λ w. then_alike (with_offer n [] w.0) (with_offer m [] w.0) _ _ (offer_alike [] w.0)
-      (λ first. then_alike (until n (codes "now") (with_offer n) first w.1) (until m (codes "now") (with_offer m) first w.1) _ _ (until_alike (codes "now") (with_offer n) (with_offer m) offer_alike first w.1)
+      (λ w. then_alike (with_next n [] w.0) (with_next m [] w.0) _ _ (next_alike [] w.0)
+      (λ first. then_alike (until n (codes "now") (with_next n) first w.1) (until m (codes "now") (with_next m) first w.1) _ _ (until_alike (codes "now") (with_next n) (with_next m) next_alike first w.1)
       (λ all. refl)))
 
   offered_alike : (ws : List (List ℕ)) → Alike (offered n ws) (offered m ws)
@@ -94,6 +94,27 @@ module _ (n m : ℕ) where
       then_alike (numbered n ws) (numbered m ws) _ _ (numbered_alike ws)
       (λ a. then_alike (numbered n a.1) (numbered m a.1) _ _ (numbered_alike a.1)
       (λ c. then_alike (ended n c.1) (ended m c.1) _ _ (ended_alike c.1) (λ _. refl)))
+
+  pub sci_alike : (ws : List (List ℕ)) → Alike (sci n ws) (sci m ws)
+  unfolding sci
+  sci_alike ws =
+      then_alike (word n ws) (word m ws) _ _ (word_alike ws)
+      (λ w. then_alike (ended n w.1) (ended m w.1) _ _ (ended_alike w.1)
+      (λ _. if_alike (bytes_eq w.0 (codes "none")) _ _ _ _ refl
+      (then_alike (number_here n w.0) (number_here m w.0) _ _ (here_alike (number w.0)) (λ a. refl))))
+
+  ascending_alike : (os : List ℕ) (ws : List (List ℕ)) → Alike (ascending_after n os ws) (ascending_after m os ws)
+  unfolding ascending_after
+  ascending_alike os [] = refl
+  ascending_alike os (w ∷ ws) = then_alike (with_next n os w) (with_next m os w) _ _ (next_alike os w) (λ more. ascending_alike more ws)
+
+  pub avoid_alike : (ws : List (List ℕ)) → Alike (avoid n ws) (avoid m ws)
+  unfolding avoid
+  avoid_alike ws =
+      then_alike (word n ws) (word m ws) _ _ (word_alike ws)
+      (λ w. if_alike (bytes_eq w.0 (codes "-")) _ _ _ _
+      (then_alike (ended n w.1) (ended m w.1) _ _ (ended_alike w.1) (λ _. refl))
+      (then_alike (with_next n [] w.0) (with_next m [] w.0) _ _ (next_alike [] w.0) (λ first. ascending_alike first w.1)))
 
   pub give_alike : (ws : List (List ℕ)) → Alike (give n ws) (give m ws)
   unfolding give

@@ -9,13 +9,14 @@ use Rattle.aml_path.specs.declared.segment.Seg.{Seg}
 use Rattle.aml_path.specs.Text.{text_of}
 use Rattle.route_check.specs.Claims.{BoundingSet, RoutingClaim}
 use Rattle.route_report.specs.Lines.{joined}
-use Rattle.route_report.specs.Reading.{Said, nothing_said, line, keyed, heading, expected, claimed, lines_read, all_read, claim_of_text}
+use Rattle.route_report.specs.Reading.{Said, first_said, line, keyed, heading, expected, claimed, lines_read, all_read, claim_of_text}
 use Rattle.ar_tables.specs.declared.mode.Mode.{Mode}
 use Rattle.ar_tables.specs.declared.mode.Mode.TheVariants as mode
 use Rattle.acpi_resources.specs.declared.form.Form.{Form}
 use Rattle.acpi_resources.specs.declared.form.Form.TheVariants as form
 use Rattle.acpi_resources.specs.declared.form.Polarity.{Polarity}
 use Rattle.acpi_resources.specs.declared.form.Polarity.TheVariants as polarity
+use Rattle.route_report.specs.declared.version.Version.TheVariants as version
 use Rattle.route_report.specs.declared.report.PinName.{PinName}
 use Rattle.route_report.specs.declared.report.PinName.TheVariants as pin
 use Rattle.route_report.specs.declared.report.IoApicLine.{IoApicLine}
@@ -27,10 +28,10 @@ use Rattle.route_report.specs.declared.report.SetOutcome.{SetOutcome}
 use Rattle.route_report.specs.declared.report.SetOutcome.TheVariants as outcome
 use Rattle.route_report.specs.declared.report.SetLine.{SetLine}
 use Rattle.route_report.specs.Reports.{ReportedLink, AfterState, Now, Refused, ReportedAfter, RoutingReport}
-use Rattle.route_report.specs.Printing.{Words, mode_word, form_word, polarity_word, pin_word, number_words, path_words, now_words, heading_words, mode_words, io_apic_words, override_words, link_words, wired_words, route_words, pin_words, give_words, busiest_words, set_of_bound, bound_words, outcome_words, set_words, state_words, after_words, found_lines, chosen_lines, text_of_report}
+use Rattle.route_report.specs.Printing.{Words, mode_word, form_word, polarity_word, pin_word, number_words, path_words, now_words, heading_words, mode_words, io_apic_words, override_words, source_words, sci_words, avoid_words, link_words, wired_words, route_words, pin_words, give_words, busiest_words, set_of_bound, bound_words, outcome_words, set_words, state_words, after_words, found_lines, chosen_lines, text_of_report}
 use Rattle.route_report.specs.Readable.{link_of, claim_of_report, IsReadableOffer, IsReadable, IsSmall}
 use Rattle.route_report.proofs.Plain.{Plain, PlainWords, literal, decimal_plain, upper_plain, path_plain, words_again, lines_again}
-use Rattle.route_report.proofs.Again.{PathsAreReadBack, link_again, wired_again, give_again, busiest_again, bound_again}
+use Rattle.route_report.proofs.Again.{PathsAreReadBack, link_again, wired_again, sci_again, avoid_again, give_again, busiest_again, bound_again}
 
 -- the words of each line are plain
 key : (k : List ℕ) (ws : Words) → All Plain k → PlainWords ws → PlainWords (k ∷ ws)
@@ -76,7 +77,7 @@ pin_word_plain pin.C = literal (codes "C") refl
 pin_word_plain pin.D = literal (codes "D") refl
 
 heading_plain : PlainWords heading_words
-heading_plain = key (codes "acpiroute") (codes "1" ∷ []) (literal (codes "acpiroute") refl) (key (codes "1") [] (literal (codes "1") refl) none)
+heading_plain = key (codes "acpiroute") (codes "2" ∷ []) (literal (codes "acpiroute") refl) (key (codes "2") [] (literal (codes "2") refl) none)
 
 mode_plain : (m : Mode) → PlainWords (mode_words m)
 mode_plain m = key (codes "mode") (mode_word m ∷ []) (literal (codes "mode") refl) (key (mode_word m) [] (mode_word_plain m) none)
@@ -100,6 +101,16 @@ override_plain o =
     (key (decimal o.gsi) (codes "flags" ∷ flags ∷ []) (decimal_plain o.gsi)
     (key (codes "flags") (flags ∷ []) (literal (codes "flags") refl)
     (key flags [] (upper_plain (to_be_bytes w16 o.flags)) none)))))
+
+source_plain : (s : Option ℕ) → PlainWords (source_words s)
+source_plain None = key (codes "none") [] (literal (codes "none") refl) none
+source_plain (Some n) = key (decimal n) [] (decimal_plain n) none
+
+sci_plain : (s : Option ℕ) → PlainWords (sci_words s)
+sci_plain s = key (codes "sci") (source_words s) (literal (codes "sci") refl) (source_plain s)
+
+avoid_plain : (ns : List ℕ) → PlainWords (avoid_words ns)
+avoid_plain ns = key (codes "avoid") (number_words ns) (literal (codes "avoid") refl) (number_words_plain ns)
 
 link_plain : (l : ReportedLink) → PlainWords (link_words l)
 link_plain l =
@@ -172,14 +183,17 @@ found_plain r =
     let pins = map pin_words r.pins in
     let wireds = map wired_words r.wired ++ pins in
     let links = map link_words r.links ++ wireds in
-    let overrides = map override_words r.overrides ++ links in
+    let others = sci_words r.sci ∷ avoid_words r.avoid ∷ links in
+    let overrides = map override_words r.overrides ++ others in
     let io_apics = map io_apic_words r.io_apics ++ overrides in
     All-cons PlainWords heading_words (mode_words r.mode ∷ io_apics) heading_plain
     (All-cons PlainWords (mode_words r.mode) io_apics (mode_plain r.mode)
     (All-append PlainWords (map io_apic_words r.io_apics) overrides (section io_apic_words io_apic_plain r.io_apics)
-    (All-append PlainWords (map override_words r.overrides) links (section override_words override_plain r.overrides)
+    (All-append PlainWords (map override_words r.overrides) others (section override_words override_plain r.overrides)
+    (All-cons PlainWords (sci_words r.sci) (avoid_words r.avoid ∷ links) (sci_plain r.sci)
+    (All-cons PlainWords (avoid_words r.avoid) links (avoid_plain r.avoid)
     (All-append PlainWords (map link_words r.links) wireds (section link_words link_plain r.links)
-    (All-append PlainWords (map wired_words r.wired) pins (section wired_words wired_plain r.wired) (section pin_words pin_plain r.pins))))))
+    (All-append PlainWords (map wired_words r.wired) pins (section wired_words wired_plain r.wired) (section pin_words pin_plain r.pins))))))))
 
 chosen_plain : (r : RoutingReport) → All PlainWords (chosen_lines r)
 chosen_plain r =
@@ -270,8 +284,14 @@ all_gives back n (g ∷ gs) rest d small =
 next : (n : ℕ) (ls : List Words) (d : Said) (rest : List Words) (e : Said) (last : List Words) (f : Said) → Reaches n ls d rest e → ((m : ℕ) → Reaches m rest e last f) → Reaches n ls d last f
 next n ls d rest e last f r go = let s = go r.0 in (s.0, r.1 ∙ s.1)
 
+abbrev sourced : RoutingReport → Said
+sourced r = record (first_said version.Two) { sci = Some r.sci }
+
+abbrev avoided : RoutingReport → Said
+avoided r = record (sourced r) { avoid = Some r.avoid }
+
 abbrev linked : RoutingReport → Said
-linked r = record nothing_said { links = map link_of r.links }
+linked r = record (avoided r) { links = map link_of r.links }
 
 abbrev with_wires : RoutingReport → Said
 with_wires r = record (linked r) { wired = r.wired }
@@ -293,7 +313,7 @@ chosen_rest r = busiest_words r.busiest ∷ bound_words r.bound ∷ last_lines r
 
 abbrev all_lines : RoutingReport → List Words
 all_lines r = mode_words r.mode ∷ (map io_apic_words r.io_apics ++ (map override_words r.overrides
-    ++ (map link_words r.links ++ (map wired_words r.wired ++ (map pin_words r.pins ++ (map give_words r.gives ++ chosen_rest r))))))
+    ++ (sci_words r.sci ∷ avoid_words r.avoid ∷ (map link_words r.links ++ (map wired_words r.wired ++ (map pin_words r.pins ++ (map give_words r.gives ++ chosen_rest r)))))))
 
 flat : (r : RoutingReport) → found_lines r ++ chosen_lines r ≡ heading_words ∷ all_lines r
 flat r = simp (append_assoc, append-nil) refl
@@ -311,31 +331,34 @@ read_chosen back r small n =
     (reach (m + 1) (codes "bound") (set_of_bound r.bound) (last_lines r) (busy r) (all_said r) [] (all_said r) (bound_plain r.bound) (bound_again back (m + 1) r.bound (busy r) refl small.interrupts)
     (read_last r (all_said r) (m + 1 + 1))))
 
-read_all : (back : PathsAreReadBack) (r : RoutingReport) → IsReadable r → IsSmall r → (n : ℕ) → Reaches n (all_lines r) nothing_said [] (all_said r)
+read_all : (back : PathsAreReadBack) (r : RoutingReport) → IsReadable r → IsSmall r → (n : ℕ) → Reaches n (all_lines r) (first_said version.Two) [] (all_said r)
 read_all back r readable small n =
     let gives = map give_words r.gives ++ chosen_rest r in
     let pins = map pin_words r.pins ++ gives in
     let wireds = map wired_words r.wired ++ pins in
     let links = map link_words r.links ++ wireds in
-    let overrides = map override_words r.overrides ++ links in
+    let others = sci_words r.sci ∷ avoid_words r.avoid ∷ links in
+    let overrides = map override_words r.overrides ++ others in
     let io_apics = map io_apic_words r.io_apics ++ overrides in
     let few_links = readable.few_links in
     let few_wired = readable.few_wired in
-    let d = nothing_said in
+    let d = first_said version.Two in
     let e = all_said r in
     reach n (codes "mode") (mode_word r.mode ∷ []) io_apics d d [] e (mode_plain r.mode) (mode_passed n r.mode d)
     (next (n + 1) io_apics d overrides d [] e (over (codes "ioapic") (λ (a : IoApicLine). decimal a.id ∷ codes "at" ∷ encode_upper (to_be_bytes w32 a.address) ∷ codes "base" ∷ decimal a.gsi_base ∷ []) io_apic_plain io_apic_passed (n + 1) r.io_apics overrides d)
-    (λ m. next m overrides d links d [] e (over (codes "override") (λ (o : OverrideLine). decimal o.source ∷ codes "to" ∷ decimal o.gsi ∷ codes "flags" ∷ encode_upper (to_be_bytes w16 o.flags) ∷ []) override_plain override_passed m r.overrides links d)
-    (λ m. next m links d wireds (linked r) [] e (all_links back m r.links wireds d (omega arith) readable.offers small.offers)
+    (λ m. next m overrides d others d [] e (over (codes "override") (λ (o : OverrideLine). decimal o.source ∷ codes "to" ∷ decimal o.gsi ∷ codes "flags" ∷ encode_upper (to_be_bytes w16 o.flags) ∷ []) override_plain override_passed m r.overrides others d)
+    (λ m. reach m (codes "sci") (source_words r.sci) (avoid_words r.avoid ∷ links) d (sourced r) [] e (sci_plain r.sci) (sci_again m r.sci d refl small.sci)
+    (reach (m + 1) (codes "avoid") (number_words r.avoid) links (sourced r) (avoided r) [] e (avoid_plain r.avoid) (avoid_again (m + 1) r.avoid (sourced r) refl readable.avoid small.avoid)
+    (next (m + 1 + 1) links (avoided r) wireds (linked r) [] e (all_links back (m + 1 + 1) r.links wireds (avoided r) (omega arith) readable.offers small.offers)
     (λ m. next m wireds (linked r) pins (with_wires r) [] e (all_wired m r.wired pins (linked r) (omega arith) small.wired)
     (λ m. next m pins (with_wires r) gives (with_wires r) [] e (over (codes "pin") (λ (p : PinLine). text_of p.device ∷ decimal p.number ∷ pin_word p.pin ∷ route_words p.route) pin_plain pin_passed m r.pins gives (with_wires r))
-    (λ m. read_chosen back r small m))))))
+    (λ m. read_chosen back r small m))))))))
 
 ended : (r : RoutingReport) (n : ℕ) → reads n [] (all_said r) ≡ Ok (claim_of_report r)
 unfolding lines_read claimed ◌>>=◌
 ended r n = refl
 
-headed : (ls : List Words) → all_read (map joined (heading_words ∷ ls)) ≡ reads 2 ls nothing_said
+headed : (ls : List Words) → all_read (map joined (heading_words ∷ ls)) ≡ reads 2 ls (first_said version.Two)
 unfolding all_read heading expected ◌>>=◌
 headed ls = refl
 

@@ -4,7 +4,7 @@ use Rattle.std.specs.Prelude.{IsErr, IsErrAnd, nat_lt}
 use Rattle.std.specs.Str.{bytes_eq}
 use Rattle.ar_space.specs.declared.refusal.Refusal.{Refusal}
 use Rattle.ar_space.specs.Outcome.{Outcome, Answers, seen, ◌>>=◌}
-use Rattle.route_report.specs.Reading.{ascends, bad_line, until, with_number, numbers_after}
+use Rattle.route_report.specs.Reading.{ascends, bad_line, until, with_number, numbers_after, with_next, ascending_after}
 use Rattle.route_report.proofs.Turns.{taken, stopped}
 
 module _ {A : Type 0} (n : ℕ) (key : List ℕ) (step : List A → List ℕ → Outcome (List A)) (xs : List A) (w : List ℕ) (us ws : List (List ℕ)) (total : Outcome (List A × List (List ℕ))) (is : us ≡ w ∷ ws) (so_far : total ≡ until n key step xs us) where
@@ -42,6 +42,21 @@ module _ (n : ℕ) (ms : List ℕ) (w : List ℕ) (us ws : List (List ℕ)) (tot
 pub numbers_done : (n : ℕ) (ms : List ℕ) (us : List (List ℕ)) (total : Outcome (List ℕ)) → us ≡ [] → total ≡ numbers_after n ms us → Answers (Ok ms) total
 unfolding numbers_after
 numbers_done n ms us total is so_far = record { is = λ _. so_far ∙ ap (numbers_after n ms) is }
+
+module _ (n : ℕ) (os : List ℕ) (w : List ℕ) (us ws : List (List ℕ)) (total : Outcome (List ℕ)) (is : us ≡ w ∷ ws) (so_far : total ≡ ascending_after n os us) where
+  ascending_turn : total ≡ (with_next n os w >>= (λ more. ascending_after n more ws))
+  unfolding ascending_after
+  ascending_turn = so_far ∙ ap (ascending_after n os) is
+
+  pub ascending_on : (ks : List ℕ) → Answers (Ok ks) (with_next n os w) → total ≡ ascending_after n ks ws
+  ascending_on ks h = ascending_turn ∙ taken (with_next n os w) (λ more. ascending_after n more ws) h
+
+  pub ascending_fail : {B : Type 0} (e : Refusal) (r : Outcome B) (view : B → List ℕ) → Answers (Err e) (with_next n os w) → IsErr r × IsErrAnd r (λ z. z ≡ e) → Answers (seen view r) total
+  ascending_fail e r view h i = stopped (with_next n os w) (λ more. ascending_after n more ws) e r view ascending_turn h i
+
+pub ascending_done : (n : ℕ) (os : List ℕ) (us : List (List ℕ)) (total : Outcome (List ℕ)) → us ≡ [] → total ≡ ascending_after n os us → Answers (Ok os) total
+unfolding ascending_after
+ascending_done n os us total is so_far = record { is = λ _. so_far ∙ ap (ascending_after n os) is }
 
 -- the last of the numbers decides whether one more ascends
 pub last_decides : (xs : List ℕ) (m : ℕ) → 0 < length xs → nat_lt (get_or xs (length xs - 1) 0) m ≡ ascends xs m

@@ -8,7 +8,8 @@ use Rattle.route_check.specs.Claims.{RoutingClaim}
 use Rattle.text_words.specs.Words.{words, tail_at}
 use Rattle.text_words.proofs.Pieces.{split_cut, cut_once, uncut}
 use Rattle.route_report.specs.Lines.{lines, without_end}
-use Rattle.route_report.specs.Reading.{Said, nothing_said, bad_line, line, heading, claimed, lines_read, all_read, claim_of_text}
+use Rattle.route_report.specs.declared.version.Version.{Version}
+use Rattle.route_report.specs.Reading.{Said, first_said, bad_line, line, heading, claimed, lines_read, all_read, claim_of_text}
 use Rattle.route_report.proofs.Turns.{taken, halted, at_last}
 
 pub more_lines : (x xs : List ℕ) → without_end (x ∷ slice_split (λ b. b == 10) xs) ≡ x ∷ lines xs
@@ -49,12 +50,12 @@ unfolding claim_of_text all_read
 nothing_read t none = ap all_read (no_lines t none)
 
 module _ (t l rest : List ℕ) (is : lines t ≡ l ∷ lines rest) where
-  begun : claim_of_text t ≡ (heading 1 (words l) >>= (λ _. lines_read 2 (lines rest) nothing_said))
+  begun : claim_of_text t ≡ (heading 1 (words l) >>= (λ v. lines_read 2 (lines rest) (first_said v)))
   unfolding claim_of_text all_read
   begun = ap all_read is
 
   pub heading_fail : (e : Refusal) (r : Outcome RoutingClaim) → Answers (Err e) (heading 1 (words l)) → IsErr r × IsErrAnd r (λ z. z ≡ e) → Answers r (claim_of_text t)
-  heading_fail e r h i = halted (heading 1 (words l)) (λ _. lines_read 2 (lines rest) nothing_said) e r begun h i
+  heading_fail e r h i = halted (heading 1 (words l)) (λ v. lines_read 2 (lines rest) (first_said v)) e r begun h i
 
-  pub heading_on : (r : Outcome RoutingClaim) → Answers (Ok tt) (heading 1 (words l)) → Answers r (lines_read 2 (lines rest) nothing_said) → Answers r (claim_of_text t)
-  heading_on r h i = at_last (heading 1 (words l)) (λ _. lines_read 2 (lines rest) nothing_said) r begun h i
+  pub heading_on : (v : Version) (r : Outcome RoutingClaim) → Answers (Ok v) (heading 1 (words l)) → Answers r (lines_read 2 (lines rest) (first_said v)) → Answers r (claim_of_text t)
+  heading_on v r h i = at_last (heading 1 (words l)) (λ w. lines_read 2 (lines rest) (first_said w)) r begun h i

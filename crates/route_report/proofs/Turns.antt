@@ -1,5 +1,5 @@
--- A step of a loop that stops at the first refusal.
-use Rattle.std.proofs.Common.{◌≡◌, ◌∙◌, ap, sym, Ok, Err}
+-- A step of a loop that stops at the first refusal, and what it gave.
+use Rattle.std.proofs.Common.{◌≡◌, ◌∙◌, ap, sym, refl, Ok, Err}
 use Rattle.std.specs.Prelude.{IsErr, IsErrAnd}
 use Rattle.ar_space.specs.declared.refusal.Refusal.{Refusal}
 use Rattle.ar_space.specs.Outcome.{Outcome, Answers, seen, ◌>>=◌}
@@ -24,3 +24,9 @@ halted m k e (Err z) is h i = record { is = λ ne. is ∙ ap (λ x. x >>= k) (h.
 pub at_last : {A B : Type 0} {a : A} (m : Outcome A) (k : A → Outcome B) (r : Outcome B) {total : Outcome B} → total ≡ (m >>= k) → Answers (Ok a) m → Answers r (k a) → Answers r total
 unfolding ◌>>=◌
 at_last m k r is h i = record { is = λ ne. is ∙ ap (λ x. x >>= k) (h.is tt) ∙ i.is ne }
+
+-- what a step gave where the whole is no refusal
+pub went_on : {A B : Type 0} (m : Outcome A) (k : A → Outcome B) (b : B) → (m >>= k) ≡ Ok b → (a : A) × (m ≡ Ok a) × (k a ≡ Ok b)
+unfolding ◌>>=◌
+went_on (Ok a) k b e = (a, refl, e)
+went_on (Err z) k b e = absurd (cc e)

@@ -1,7 +1,8 @@
--- The lists of a claim in order: paths in path order, numbers ascending. What stands twice stays twice.
+-- The lists of a claim in order: paths in path order, numbers ascending. What stands twice stays twice. The interrupts that are
+-- avoided ascend already where they are read, and stay as they are.
 use Rattle.std.specs.Prelude.{◌≡◌, ℕ, List, [], ◌∷◌, Option, Some, None, is_some, if◌then◌else◌}
 use Rattle.std.specs.declared.cmp.Ordering.{Ordering}
-use Rattle.std.specs.List.Sorted.{IsPermutation, IsSorted}
+use Rattle.std.specs.List.Sorted.{IsPermutation, IsSorted, IsStrictlyIncreasing}
 use Rattle.std.specs.Ordering.{is_gt, nat_cmp, ordering_then}
 use Rattle.std.specs.Cmp.Lexicographic.{slice_cmp}
 use Rattle.aml_path.specs.declared.segment.Seg.{Seg}
@@ -38,15 +39,18 @@ abbrev pub claim_in_order : RoutingClaim → RoutingClaim
 claim_in_order c = record {
   links = in_order link_order c.links;
   wired = in_order wired_order c.wired;
+  sci = c.sci;
+  avoid = c.avoid;
   gives = in_order give_order c.gives;
   busiest = c.busiest;
   bound = bound_in_order c.bound;
 }
 
--- no element stands after one that comes before it
+-- no element stands after one that comes before it, and no interrupt is avoided twice
 pub record IsInOrder (c : RoutingClaim) : Type 0 where
   pub links : IsSorted link_order c.links
   pub wired : IsSorted wired_order c.wired
+  pub avoid : IsStrictlyIncreasing c.avoid
   pub gives : IsSorted give_order c.gives
   pub set : IsSorted path_cmp (links_of_bound c.bound)
   pub interrupts : IsSorted nat_cmp (interrupts_of_bound c.bound)
@@ -55,6 +59,8 @@ pub record IsInOrder (c : RoutingClaim) : Type 0 where
 pub record HasSameElements (c d : RoutingClaim) : Type 0 where
   pub links : IsPermutation c.links d.links
   pub wired : IsPermutation c.wired d.wired
+  pub sci : c.sci ≡ d.sci
+  pub avoid : c.avoid ≡ d.avoid
   pub gives : IsPermutation c.gives d.gives
   pub set : IsPermutation (links_of_bound c.bound) (links_of_bound d.bound)
   pub interrupts : IsPermutation (interrupts_of_bound c.bound) (interrupts_of_bound d.bound)

@@ -60,9 +60,9 @@ abbrev pub now_words : Option (List ℕ) → Words
 now_words None = codes "none" ∷ []
 now_words (Some ns) = number_words ns
 
--- `acpiroute 1`: a report of version 1
+-- `acpiroute 2`: a report of version 2
 abbrev pub heading_words : Words
-heading_words = codes "acpiroute" ∷ codes "1" ∷ []
+heading_words = codes "acpiroute" ∷ codes "2" ∷ []
 
 -- `mode apic` or `mode pic`
 abbrev pub mode_words : Mode → Words
@@ -75,6 +75,18 @@ io_apic_words a = codes "ioapic" ∷ decimal a.id ∷ codes "at" ∷ encode_uppe
 -- `override S to G flags F`, with F in four hexadecimal digits
 abbrev pub override_words : OverrideLine → Words
 override_words o = codes "override" ∷ decimal o.source ∷ codes "to" ∷ decimal o.gsi ∷ codes "flags" ∷ encode_upper (to_be_bytes w16 o.flags) ∷ []
+
+-- `sci N` or `sci none`
+abbrev pub source_words : Option ℕ → Words
+source_words None = codes "none" ∷ []
+source_words (Some n) = decimal n ∷ []
+
+abbrev pub sci_words : Option ℕ → Words
+sci_words sci = codes "sci" ∷ source_words sci
+
+-- `avoid N..`, or `avoid -`
+abbrev pub avoid_words : List ℕ → Words
+avoid_words ns = codes "avoid" ∷ number_words ns
 
 -- `link P small low offers N.. now V`
 abbrev pub link_words : ReportedLink → Words
@@ -130,7 +142,7 @@ after_words a = codes "after" ∷ text_of a.path ∷ state_words a.state
 -- all lines, in their order: what was found, and what was chosen
 abbrev pub found_lines : RoutingReport → List Words
 found_lines r = heading_words ∷ mode_words r.mode ∷ (map io_apic_words r.io_apics ++ (map override_words r.overrides
-    ++ (map link_words r.links ++ (map wired_words r.wired ++ map pin_words r.pins))))
+    ++ (sci_words r.sci ∷ avoid_words r.avoid ∷ (map link_words r.links ++ (map wired_words r.wired ++ map pin_words r.pins)))))
 
 abbrev pub chosen_lines : RoutingReport → List Words
 chosen_lines r = map give_words r.gives ++ (busiest_words r.busiest ∷ bound_words r.bound ∷ (map set_words r.sets ++ map after_words r.afters))

@@ -1,5 +1,5 @@
 -- What a report claims itself, and which reports are read.
-use Rattle.std.specs.Prelude.{ℕ, List, ◌<◌, ◌≤◌, ◌^◌, length, map, All}
+use Rattle.std.specs.Prelude.{ℕ, List, ◌<◌, ◌≤◌, ◌^◌, length, map, All, option_to_list}
 use Rattle.std.specs.List.Sorted.{IsStrictlyIncreasing}
 use Rattle.route_model.specs.Links.{OfferingLink}
 use Rattle.route_check.specs.Claims.{RoutingClaim, interrupts_of_bound}
@@ -11,7 +11,7 @@ link_of l = record { path = l.path; offers = l.offers }
 
 -- what the report claims, each list in order
 abbrev pub claim_of_report : RoutingReport → RoutingClaim
-claim_of_report r = claim_in_order (record { links = map link_of r.links; wired = r.wired; gives = r.gives; busiest = r.busiest; bound = r.bound })
+claim_of_report r = claim_in_order (record { links = map link_of r.links; wired = r.wired; sci = r.sci; avoid = r.avoid; gives = r.gives; busiest = r.busiest; bound = r.bound })
 
 -- an offer that a line can show
 pub record IsReadableOffer (offers : List ℕ) : Type 0 where
@@ -23,11 +23,14 @@ pub record IsReadable (r : RoutingReport) : Type 0 where
   pub few_links : length r.links ≤ 256
   pub few_wired : length r.wired ≤ 4096
   pub offers : All (λ l. IsReadableOffer l.offers) r.links
+  pub avoid : IsStrictlyIncreasing r.avoid
 
 -- its numbers have 32 bits, as those of every report in memory do
 pub record IsSmall (r : RoutingReport) : Type 0 where
   pub offers : All (λ l. All (λ n. n < 2 ^ 32) l.offers) r.links
   pub wired : All (λ w. (w.0 < 2 ^ 32) × (w.1 < 2 ^ 32)) r.wired
+  pub sci : All (λ n. n < 2 ^ 32) (option_to_list r.sci)
+  pub avoid : All (λ n. n < 2 ^ 32) r.avoid
   pub gives : All (λ g. g.1 < 2 ^ 32) r.gives
   pub busiest : r.busiest < 2 ^ 32
   pub interrupts : All (λ n. n < 2 ^ 32) (interrupts_of_bound r.bound)

@@ -10,18 +10,25 @@ use Rattle.route_model.specs.Links.{OfferingLink}
 use Rattle.route_check.specs.Claims.{BoundingSet, RoutingClaim}
 use Rattle.text_words.specs.Words.{words}
 use Rattle.route_report.specs.Lines.{lines, number}
+use Rattle.route_report.specs.declared.version.Version.{Version}
+use Rattle.route_report.specs.declared.version.Version.TheVariants as version
 use Rattle.route_report.specs.Ordered.{claim_in_order}
 
--- what the lines have said so far; of a bound, that there is none is said too
+-- what the lines have said so far; of a bound, and of the interrupt that the System Control Interrupt is wired to, that there is
+-- none is said too
 pub record Said : Type 0 where
   pub links : List OfferingLink
   pub wired : List (ℕ × ℕ)
+  pub sci : Option (Option ℕ)
+  pub avoid : Option (List ℕ)
   pub gives : List (List Seg × ℕ)
   pub busiest : Option ℕ
   pub bound : Option (Option BoundingSet)
 
-abbrev pub nothing_said : Said
-nothing_said = record { links = []; wired = []; gives = []; busiest = None; bound = None }
+-- what the first line says: in version 1 there is no System Control Interrupt, nothing is avoided, and no line tells of these
+abbrev pub first_said : Version → Said
+first_said version.One = record { links = []; wired = []; sci = Some None; avoid = Some []; gives = []; busiest = None; bound = None }
+first_said version.Two = record { links = []; wired = []; sci = None; avoid = None; gives = []; busiest = None; bound = None }
 
 -- a number follows those before it
 abbrev pub ascends : List ℕ → ℕ → Bool
@@ -95,10 +102,10 @@ module _ (n : ℕ) where
     Ok (p, w.1)
 
   -- a number more, in ascending order
-  unfoldable pub with_offer : List ℕ → List ℕ → Outcome (List ℕ)
-  with_offer os w = do
+  unfoldable pub with_next : List ℕ → List ℕ → Outcome (List ℕ)
+  with_next ns w = do
     m ← number_here w
-    if ascends os m then Ok (os ++ m ∷ []) else bad_line
+    if ascends ns m then Ok (ns ++ m ∷ []) else bad_line
 
   -- what each word adds to what stands, up to a word that ends them, and the words behind it
   unfoldable pub until : {A : Type 0} → List ℕ → (List A → List ℕ → Outcome (List A)) → List A → List (List ℕ) → Outcome (List A × List (List ℕ))
@@ -111,8 +118,8 @@ module _ (n : ℕ) where
   unfoldable pub offers : List (List ℕ) → Outcome (List ℕ)
   offers ws = do
     w ← word ws
-    first ← with_offer [] w.0
-    all ← until (codes "now") with_offer first w.1
+    first ← with_next [] w.0
+    all ← until (codes "now") with_next first w.1
     Ok all.0
 
   -- `small low offers N.. now V`, or `extended`, or `high`
@@ -137,6 +144,32 @@ module _ (n : ℕ) where
     c ← numbered a.1
     _ ← ended c.1
     Ok (a.0, c.0)
+
+  -- `N` or `none`
+  unfoldable pub sci : List (List ℕ) → Outcome (Option ℕ)
+  sci ws = do
+    w ← word ws
+    _ ← ended w.1
+    if bytes_eq w.0 (codes "none") then Ok None else (do
+      a ← number_here w.0
+      Ok (Some a))
+
+  -- all words as numbers, after those before and in ascending order
+  unfoldable pub ascending_after : List ℕ → List (List ℕ) → Outcome (List ℕ)
+  ascending_after ns [] = Ok ns
+  ascending_after ns (w ∷ ws) = do
+    more ← with_next ns w
+    ascending_after more ws
+
+  -- `-` for none, or one number at least, in ascending order
+  unfoldable pub avoid : List (List ℕ) → Outcome (List ℕ)
+  avoid ws = do
+    w ← word ws
+    if bytes_eq w.0 (codes "-") then (do
+      _ ← ended w.1
+      Ok []) else (do
+        first ← with_next [] w.0
+        ascending_after first w.1)
 
   -- `P N`
   unfoldable pub give : List (List ℕ) → Outcome (List Seg × ℕ)
@@ -207,7 +240,14 @@ module _ (n : ℕ) where
   unfoldable pub with_give : List Seg × ℕ → Said → Outcome Said
   with_give g d = Ok (record d { gives = d.gives ++ g ∷ [] })
 
-  -- and with one busiest interrupt and one bound
+  -- and with one interrupt that the System Control Interrupt is wired to, one list of what is avoided, one busiest interrupt and one
+  -- bound
+  unfoldable pub with_sci : Option ℕ → Said → Outcome Said
+  with_sci s d = if is_some d.sci then bad_line else Ok (record d { sci = Some s })
+
+  unfoldable pub with_avoid : List ℕ → Said → Outcome Said
+  with_avoid ns d = if is_some d.avoid then bad_line else Ok (record d { avoid = Some ns })
+
   unfoldable pub with_busiest : ℕ → Said → Outcome Said
   with_busiest k d = if is_some d.busiest then bad_line else Ok (record d { busiest = Some k })
 
@@ -224,6 +264,16 @@ module _ (n : ℕ) where
   wired_line ws d = do
     w ← wired ws
     with_wired w d
+
+  unfoldable pub sci_line : List (List ℕ) → Said → Outcome Said
+  sci_line ws d = do
+    s ← sci ws
+    with_sci s d
+
+  unfoldable pub avoid_line : List (List ℕ) → Said → Outcome Said
+  avoid_line ws d = do
+    ns ← avoid ws
+    with_avoid ns d
 
   unfoldable pub give_line : List (List ℕ) → Said → Outcome Said
   give_line ws d = do
@@ -245,6 +295,8 @@ module _ (n : ℕ) where
   keyed key ws d =
       if bytes_eq key (codes "link") then link_line ws d
       else if bytes_eq key (codes "wired") then wired_line ws d
+      else if bytes_eq key (codes "sci") then sci_line ws d
+      else if bytes_eq key (codes "avoid") then avoid_line ws d
       else if bytes_eq key (codes "give") then give_line ws d
       else if bytes_eq key (codes "busiest") then busiest_line ws d
       else if bytes_eq key (codes "bound") then bound_line ws d
@@ -256,19 +308,28 @@ module _ (n : ℕ) where
     w ← word ws
     keyed w.0 w.1 d
 
-  -- the first line: a report of version 1
-  unfoldable pub heading : List (List ℕ) → Outcome (Unit {0})
+  -- `1` or `2`
+  abbrev pub version_here : List ℕ → Outcome Version
+  version_here w = if bytes_eq w (codes "1") then Ok version.One else (if bytes_eq w (codes "2") then Ok version.Two else bad_line)
+
+  -- the first line: a report of version 1 or 2
+  unfoldable pub heading : List (List ℕ) → Outcome Version
   heading ws = do
     name ← expected (codes "acpiroute") ws
-    version ← expected (codes "1") name
-    ended version
+    w ← word name
+    v ← version_here w.0
+    _ ← ended w.1
+    Ok v
 
-  -- what all lines claim, each list in order: the busiest interrupt and the bound must be said
+  -- what all lines claim, each list in order: the interrupt that the System Control Interrupt is wired to, what is avoided, the
+  -- busiest interrupt and the bound must be said
   unfoldable pub claimed : Said → Outcome RoutingClaim
   claimed d = do
+    s ← here d.sci
+    ns ← here d.avoid
     k ← here d.busiest
     b ← here d.bound
-    Ok (claim_in_order (record { links = d.links; wired = d.wired; gives = d.gives; busiest = k; bound = b }))
+    Ok (claim_in_order (record { links = d.links; wired = d.wired; sci = s; avoid = ns; gives = d.gives; busiest = k; bound = b }))
 
 -- the lines from the n-th on, and what was said before them
 unfoldable pub lines_read : ℕ → List (List ℕ) → Said → Outcome RoutingClaim
@@ -280,8 +341,8 @@ lines_read n (l ∷ ls) d = do
 unfoldable pub all_read : List (List ℕ) → Outcome RoutingClaim
 all_read [] = bad_line 1
 all_read (l ∷ ls) = do
-  _ ← heading 1 (words l)
-  lines_read 2 ls nothing_said
+  v ← heading 1 (words l)
+  lines_read 2 ls (first_said v)
 
 -- what a report claims
 unfoldable pub claim_of_text : List ℕ → Outcome RoutingClaim

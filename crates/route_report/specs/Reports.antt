@@ -36,6 +36,8 @@ pub record RoutingReport : Type 0 where
   pub mode : Mode
   pub io_apics : List IoApicLine
   pub overrides : List OverrideLine
+  pub sci : Option ℕ
+  pub avoid : List ℕ
   pub links : List ReportedLink
   pub wired : List (ℕ × ℕ)
   pub pins : List PinLine

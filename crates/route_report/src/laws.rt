@@ -1,5 +1,5 @@
 //! What holds of all reports: each law is the contract of a function that does nothing.
-ghost use Rattle.std.specs.Prelude.{◌≡◌, ◌↔◌, ◌<◌, ◌∷◌, ℕ, List, Ok, All, length, map, filter};
+ghost use Rattle.std.specs.Prelude.{◌≡◌, ◌↔◌, ◌<◌, ◌∷◌, [], ℕ, List, Option, None, Ok, All, codes, length, map, filter};
 ghost use Rattle.std.specs.List.Sorted.{IsPermutation, IsStrictlyIncreasing, IsStrictlySortedBy};
 ghost use Rattle.aml_path.specs.Paths.{path_cmp};
 ghost use Rattle.route_model.specs.Links.{OfferingLink, paths_of};
@@ -16,7 +16,8 @@ ghost use Rattle.route_report.specs.Readable.{IsReadable, IsSmall, claim_of_repo
 use aml_path::laws::text_is_read_back;
 
 /// The text of a report is read as the report's own claim, its lists in order, where its links, offers and wired interrupts are within the
-/// limits of reading: at most 256 links, each with an offer in ascending order, and at most 4096 wired interrupts.
+/// limits of reading: at most 256 links, each with an offer in ascending order, at most 4096 wired interrupts, and the avoided
+/// interrupts in ascending order, each once.
 pub fn a_printed_report_is_read_back()
     ensures { (report : RoutingReport) → IsReadable report → IsSmall report → claim_of_text (text_of_report report) ≡ Ok (claim_of_report report) }
 {
@@ -26,6 +27,11 @@ pub fn a_printed_report_is_read_back()
 /// Each list of a claim that was read is in order.
 pub fn a_claim_that_was_read_is_in_order()
     ensures { (text : List ℕ) (claim : RoutingClaim) → claim_of_text text ≡ Ok claim → IsInOrder claim }
+{}
+
+/// A report of version 1 tells of no System Control Interrupt, and avoids no interrupt.
+pub fn a_report_of_version_1_has_no_sci_and_avoids_nothing()
+    ensures { (text : List ℕ) (ls : List (List ℕ)) (claim : RoutingClaim) → lines text ≡ codes "acpiroute 1" ∷ ls → claim_of_text text ≡ Ok claim → (claim.sci ≡ None) × (claim.avoid ≡ []) }
 {}
 
 /// Putting the lists of a claim in order neither adds an element nor drops one, and changes nothing else.
@@ -43,10 +49,10 @@ pub fn a_claim_in_order_stays()
     ensures { (claim : RoutingClaim) → IsInOrder claim → claim_in_order claim ≡ claim }
 {}
 
-/// The claim that is made of an assignment and its bound is in order, where links are in path order, and wired interrupts, the
-/// places of the set's links and the set's interrupts ascend.
+/// The claim that is made of an assignment and its bound is in order, where links are in path order, and wired interrupts, avoided
+/// interrupts, the places of the set's links and the set's interrupts ascend.
 pub fn the_claim_of_an_assignment_is_in_order()
-    ensures { (links : List OfferingLink) (wired : List (ℕ × ℕ)) (choice : List ℕ) (k : ℕ) (places interrupts : List ℕ) → IsStrictlySortedBy path_cmp (paths_of links) → IsStrictlyIncreasing (map (λ w. w.0) wired) → IsStrictlyIncreasing places → All (λ l. l < length links) places → IsStrictlyIncreasing interrupts → IsInOrder (claim_of links wired choice k places interrupts) }
+    ensures { (links : List OfferingLink) (wired : List (ℕ × ℕ)) (sci : Option ℕ) (avoid choice : List ℕ) (k : ℕ) (places interrupts : List ℕ) → IsStrictlyIncreasing avoid → IsStrictlySortedBy path_cmp (paths_of links) → IsStrictlyIncreasing (map (λ w. w.0) wired) → IsStrictlyIncreasing places → All (λ l. l < length links) places → IsStrictlyIncreasing interrupts → IsInOrder (claim_of links wired sci avoid choice k places interrupts) }
 {}
 
 /// Two texts with the same first line, whose other lines differ in their order alone, are read as the same claim, or neither is read

@@ -12,6 +12,7 @@ mod printing;
 mod put;
 mod reading;
 mod report;
+mod version;
 mod words;
 
 pub use acpi_resources::{Form, Polarity};

@@ -1,10 +1,11 @@
 //! One line of a report.
 ghost use Rattle.std.specs.Prelude.{◌≡◌, [], codes};
-ghost use Rattle.ar_space.specs.Outcome.{Answers, seen};
+ghost use Rattle.ar_space.specs.Outcome.{Answers, NotMemory, seen};
 ghost use Rattle.text_words.specs.Words.{words};
-ghost use Rattle.route_report.specs.Reading.{ascends, is_passed_over, with_offer, until, offers, offered, link, wired, give, busiest, with_path, set_links, with_number, numbers_after, set, bound, link_line, wired_line, give_line, busiest_line, bound_line, keyed, line, heading};
+ghost use Rattle.route_report.specs.Reading.{ascends, is_passed_over, with_next, until, offers, offered, link, wired, sci, ascending_after, avoid, give, busiest, with_path, set_links, with_number, numbers_after, set, bound, link_line, wired_line, sci_line, avoid_line, give_line, busiest_line, bound_line, keyed, line, version_here, heading};
 
 use crate::draft::Draft;
+use crate::version::Version;
 use crate::words::{bad_line, ended, expected, number, number_here, one_of, path, path_here, word};
 use aml_path::Path;
 use ar_space::Refusal;
@@ -15,35 +16,35 @@ use text_words::Words;
 
 /// Whether a number follows those before it in ascending order.
 #[tactic(auto, using(crate::proofs::Steps::last_decides, crate::proofs::Steps::first_follows))]
-fn ascends(offers: &[u32], number: u32) -> bool
-    ensures { result ≡ ascends offers.now number }
+fn ascends(numbers: &[u32], number: u32) -> bool
+    ensures { result ≡ ascends numbers.now number }
 {
-    let count = offers.len();
-    count == 0 || offers[count - 1] < number
+    let count = numbers.len();
+    count == 0 || numbers[count - 1] < number
 }
 
-/// An offer more.
-#[tactic(auto, using(ar_space::specs::Outcome::answering), unfolding(crate::specs::Reading::with_offer))]
-fn add_offer(n: usize, offers: &mut Vec<u32>, word: &[u8]) -> Result<(), Refusal>
-    ensures { Answers (seen (λ _. offers.new.items) result) (with_offer n offers.old.items word.now) }
+/// A number more, in ascending order.
+#[tactic(auto, using(ar_space::specs::Outcome::answering), unfolding(crate::specs::Reading::with_next))]
+fn add_next(n: usize, numbers: &mut Vec<u32>, word: &[u8]) -> Result<(), Refusal>
+    ensures { Answers (seen (λ _. numbers.new.items) result) (with_next n numbers.old.items word.now) }
 {
     let number = number_here(n, word)?;
-    if !ascends(offers, number) {
+    if !ascends(numbers, number) {
         return Err(bad_line(n));
     }
-    offers.push(number)?;
+    numbers.push(number)?;
     Ok(())
 }
 
 /// Offers up to the word `now`, after those before.
 fn add_offers(n: usize, offers: &mut Vec<u32>, words: &mut Words<'_>) -> Result<(), Refusal>
-    ensures { Answers (seen (λ _. (offers.new.items, words.new)) result) (until n (codes "now") (with_offer n) offers.old.items words.old) }
+    ensures { Answers (seen (λ _. (offers.new.items, words.new)) result) (until n (codes "now") (with_next n) offers.old.items words.old) }
 {
     while let Some(word) = words.take() {
         if word == b"now".as_slice() {
             return Ok(());
         }
-        add_offer(n, offers, word)?;
+        add_next(n, offers, word)?;
     }
     Err(bad_line(n))
 }
@@ -54,7 +55,7 @@ fn offers(alloc: Global, n: usize, words: &mut Words<'_>) -> Result<Vec<u32>, Re
 {
     let first = word(n, words)?;
     let mut offers = Vec::new(alloc);
-    add_offer(n, &mut offers, first)?;
+    add_next(n, &mut offers, first)?;
     add_offers(n, &mut offers, words)?;
     Ok(offers)
 }
@@ -83,12 +84,55 @@ fn link(alloc: Global, n: usize, words: &mut Words<'_>) -> Result<Link, Refusal>
 /// `N C`
 #[tactic(auto, using(ar_space::specs::Outcome::answering), unfolding(crate::specs::Reading::wired))]
 fn wired(n: usize, words: &mut Words<'_>) -> Result<(u32, u32), Refusal>
-    ensures { Answers result (wired n words.old) }
+    ensures answer { Answers result (wired n words.old) }
+    ensures memory { NotMemory result }
 {
     let interrupt = number(n, words)?;
     let count = number(n, words)?;
     ended(n, words)?;
     Ok((interrupt, count))
+}
+
+/// `N` or `none`
+#[tactic(auto, using(ar_space::specs::Outcome::answering), unfolding(crate::specs::Reading::sci))]
+fn sci(n: usize, words: &mut Words<'_>) -> Result<Option<u32>, Refusal>
+    ensures answer { Answers result (sci n words.old) }
+    ensures memory { NotMemory result }
+{
+    let interrupt = word(n, words)?;
+    ended(n, words)?;
+    if interrupt == b"none".as_slice() {
+        Ok(None)
+    } else {
+        Ok(Some(number_here(n, interrupt)?))
+    }
+}
+
+/// All words that are left, as numbers in ascending order, after those before.
+fn add_ascending(n: usize, numbers: &mut Vec<u32>, words: &mut Words<'_>) -> Result<(), Refusal>
+    ensures { Answers (seen (λ _. numbers.new.items) result) (ascending_after n numbers.old.items words.old) }
+{
+    while let Some(next) = words.take() {
+        add_next(n, numbers, next)?;
+    }
+    Ok(())
+}
+
+/// `-`, or `N..`
+#[tactic(auto, using(ar_space::specs::Outcome::answering), unfolding(crate::specs::Reading::avoid))]
+fn avoid(alloc: Global, n: usize, words: &mut Words<'_>) -> Result<Vec<u32>, Refusal>
+    ensures { Answers (seen (λ v. v.items) result) (avoid n words.old) }
+{
+    let first = word(n, words)?;
+    let mut numbers = Vec::new(alloc);
+    if first == b"-".as_slice() {
+        ended(n, words)?;
+        Ok(numbers)
+    } else {
+        add_next(n, &mut numbers, first)?;
+        add_ascending(n, &mut numbers, words)?;
+        Ok(numbers)
+    }
 }
 
 /// `P N`
@@ -105,7 +149,8 @@ fn give(alloc: Global, n: usize, words: &mut Words<'_>) -> Result<(Path, u32), R
 /// `K`
 #[tactic(auto, using(ar_space::specs::Outcome::answering), unfolding(crate::specs::Reading::busiest))]
 fn busiest(n: usize, words: &mut Words<'_>) -> Result<u32, Refusal>
-    ensures { Answers result (busiest n words.old) }
+    ensures answer { Answers result (busiest n words.old) }
+    ensures memory { NotMemory result }
 {
     let count = number(n, words)?;
     ended(n, words)?;
@@ -241,6 +286,30 @@ fn wired_line(n: usize, words: &mut Words<'_>, draft: &mut Draft) -> Result<(), 
     draft.add_wired(n, wired)
 }
 
+/// Sets the interrupt that the System Control Interrupt is wired to.
+#[tactic(auto, using(ar_space::specs::Outcome::answering), unfolding(crate::specs::Reading::sci_line))]
+fn sci_line(n: usize, words: &mut Words<'_>, draft: &mut Draft) -> Result<(), Refusal>
+    ensures answer { Answers (seen (λ _. draft.new) result) (sci_line n words.old draft.old) }
+    ensures memory { NotMemory result }
+{
+    let sci = sci(n, words)?;
+    draft.set_sci(n, sci)
+}
+
+/// Sets the interrupts that are avoided.
+#[tactic(auto, using(ar_space::specs::Outcome::answering), unfolding(crate::specs::Reading::avoid_line))]
+fn avoid_line(
+    alloc: Global,
+    n: usize,
+    words: &mut Words<'_>,
+    draft: &mut Draft,
+) -> Result<(), Refusal>
+    ensures { Answers (seen (λ _. draft.new) result) (avoid_line n words.old draft.old) }
+{
+    let avoid = avoid(alloc, n, words)?;
+    draft.set_avoid(n, avoid)
+}
+
 /// Adds what a link is given.
 #[tactic(auto, using(ar_space::specs::Outcome::answering), unfolding(crate::specs::Reading::give_line))]
 fn give_line(
@@ -258,7 +327,8 @@ fn give_line(
 /// Sets how busy the busiest interrupt is.
 #[tactic(auto, using(ar_space::specs::Outcome::answering), unfolding(crate::specs::Reading::busiest_line))]
 fn busiest_line(n: usize, words: &mut Words<'_>, draft: &mut Draft) -> Result<(), Refusal>
-    ensures { Answers (seen (λ _. draft.new) result) (busiest_line n words.old draft.old) }
+    ensures answer { Answers (seen (λ _. draft.new) result) (busiest_line n words.old draft.old) }
+    ensures memory { NotMemory result }
 {
     let busiest = busiest(n, words)?;
     draft.set_busiest(n, busiest)
@@ -293,6 +363,10 @@ fn keyed(
         link_line(alloc, n, words, draft)
     } else if key == b"wired".as_slice() {
         wired_line(n, words, draft)
+    } else if key == b"sci".as_slice() {
+        sci_line(n, words, draft)
+    } else if key == b"avoid".as_slice() {
+        avoid_line(alloc, n, words, draft)
     } else if key == b"give".as_slice() {
         give_line(alloc, n, words, draft)
     } else if key == b"busiest".as_slice() {
@@ -316,13 +390,31 @@ pub(crate) fn line(alloc: Global, n: usize, text: &[u8], draft: &mut Draft) -> R
     keyed(alloc, n, key, &mut words, draft)
 }
 
-/// The first line: a report of version 1.
+/// The version that a word is.
+#[tactic(auto, using(ar_space::specs::Outcome::answering))]
+fn version_here(n: usize, word: &[u8]) -> Result<Version, Refusal>
+    ensures answer { Answers result (version_here n word.now) }
+    ensures memory { NotMemory result }
+{
+    if word == b"1".as_slice() {
+        Ok(Version::One)
+    } else if word == b"2".as_slice() {
+        Ok(Version::Two)
+    } else {
+        Err(bad_line(n))
+    }
+}
+
+/// The first line: a report of version 1 or 2.
 #[tactic(auto, using(ar_space::specs::Outcome::answering), unfolding(crate::specs::Reading::heading))]
-pub(crate) fn heading(n: usize, text: &[u8]) -> Result<(), Refusal>
-    ensures { Answers result (heading n (words text.now)) }
+pub(crate) fn heading(n: usize, text: &[u8]) -> Result<Version, Refusal>
+    ensures answer { Answers result (heading n (words text.now)) }
+    ensures memory { NotMemory result }
 {
     let mut words = Words::of(text);
     expected(n, b"acpiroute", &mut words)?;
-    expected(n, b"1", &mut words)?;
-    ended(n, &words)
+    let version = word(n, &mut words)?;
+    let version = version_here(n, version)?;
+    ended(n, &words)?;
+    Ok(version)
 }

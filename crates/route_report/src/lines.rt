@@ -1,9 +1,9 @@
 //! The lines of a report, put behind a text.
-ghost use Rattle.std.specs.Prelude.{◌≡◌, ◌<◌, ◌^◌, All, ◌++◌, ◌∷◌, [], OnOk, map, option_map, codes, decimal};
+ghost use Rattle.std.specs.Prelude.{◌≡◌, ◌<◌, ◌^◌, All, ◌++◌, ◌∷◌, [], OnOk, map, option_map, option_to_list, codes, decimal};
 ghost use Rattle.route_check.specs.Claims.{interrupts_of_bound};
 ghost use Rattle.route_report.specs.Lines.{spaced, line_text, text_of_lines};
 ghost use Rattle.route_report.specs.Reports.{after_state};
-ghost use Rattle.route_report.specs.Printing.{mode_word, form_word, polarity_word, pin_word, heading_words, mode_words, io_apic_words, override_words, now_words, link_words, wired_words, route_words, pin_words, give_words, busiest_words, path_words, set_of_bound, bound_words, outcome_words, set_words, state_words, after_words};
+ghost use Rattle.route_report.specs.Printing.{mode_word, form_word, polarity_word, pin_word, heading_words, mode_words, io_apic_words, override_words, source_words, sci_words, avoid_words, now_words, link_words, wired_words, route_words, pin_words, give_words, busiest_words, path_words, set_of_bound, bound_words, outcome_words, set_words, state_words, after_words};
 
 use crate::put;
 use crate::report::{
@@ -48,11 +48,11 @@ pub(crate) fn put_all<L: Line>(
     Ok(())
 }
 
-/// `acpiroute 1`
+/// `acpiroute 2`
 pub(crate) fn put_heading(text: &mut Vec<u8>) -> Result<(), AllocError>
     ensures { OnOk result (text.new.items ≡ text.old.items ++ line_text heading_words) }
 {
-    text.extend_from_slice(b"acpiroute 1\n")
+    text.extend_from_slice(b"acpiroute 2\n")
 }
 
 fn mode_word(mode: Mode) -> &'static [u8]
@@ -105,6 +105,39 @@ impl Line for OverrideLine {
         put::flags(alloc, text, self.flags)?;
         put::end(text)
     }
+}
+
+/// The interrupt that the System Control Interrupt is wired to; `none` where there is none.
+fn put_source(text: &mut Vec<u8>, sci: Option<u32>) -> Result<(), AllocError>
+    ensures text { OnOk result (text.new.items ≡ text.old.items ++ spaced (source_words sci)) }
+    ensures small { All (λ n. n < 2 ^ 32) (option_to_list sci) }
+{
+    match sci {
+        Some(interrupt) => put::number(text, interrupt),
+        None => put::word(text, b"none"),
+    }
+}
+
+/// `sci N` or `sci none`
+#[tactic(auto, using(crate::proofs::Putting::putting))]
+pub(crate) fn put_sci(text: &mut Vec<u8>, sci: Option<u32>) -> Result<(), AllocError>
+    ensures text { OnOk result (text.new.items ≡ text.old.items ++ line_text (sci_words sci)) }
+    ensures small { All (λ n. n < 2 ^ 32) (option_to_list sci) }
+{
+    text.extend_from_slice(b"sci")?;
+    put_source(text, sci)?;
+    put::end(text)
+}
+
+/// `avoid N..`, or `avoid -`
+#[tactic(auto, using(crate::proofs::Putting::putting))]
+pub(crate) fn put_avoid(text: &mut Vec<u8>, avoid: &[u32]) -> Result<(), AllocError>
+    ensures text { OnOk result (text.new.items ≡ text.old.items ++ line_text (avoid_words avoid.now)) }
+    ensures small { All (λ n. n < 2 ^ 32) avoid.now }
+{
+    text.extend_from_slice(b"avoid")?;
+    put::some_numbers(text, avoid)?;
+    put::end(text)
 }
 
 /// `wired N C`

@@ -1,5 +1,5 @@
 //! A report as text.
-ghost use Rattle.std.specs.Prelude.{◌≡◌, ◌<◌, ◌^◌, ◌++◌, All, OnOk, IfOk, Ok};
+ghost use Rattle.std.specs.Prelude.{◌≡◌, ◌<◌, ◌^◌, ◌++◌, All, OnOk, IfOk, Ok, option_to_list};
 ghost use Rattle.route_check.specs.Claims.{interrupts_of_bound};
 ghost use Rattle.ar_space.specs.Outcome.{Answers, seen};
 ghost use Rattle.route_report.specs.Lines.{text_of_lines};
@@ -7,7 +7,7 @@ ghost use Rattle.route_report.specs.Printing.{found_lines, chosen_lines, text_of
 ghost use Rattle.route_report.specs.Reading.{claim_of_text};
 ghost use Rattle.route_report.specs.Readable.{IsReadable, claim_of_report};
 
-use crate::lines::{put_all, put_bound, put_busiest, put_heading, put_mode};
+use crate::lines::{put_all, put_avoid, put_bound, put_busiest, put_heading, put_mode, put_sci};
 use crate::report::Report;
 use aml_path::laws::text_is_read_back;
 use ar_space::Refusal;
@@ -16,6 +16,8 @@ use std::alloc::{AllocError, Global};
 /// The lines of what was found.
 fn put_found(alloc: Global, text: &mut Vec<u8>, report: &Report) -> Result<(), AllocError>
     ensures text { OnOk result (text.new.items ≡ text.old.items ++ text_of_lines (found_lines report.now)) }
+    ensures sci { OnOk result (All (λ n. n < 2 ^ 32) (option_to_list report.now.sci)) }
+    ensures avoid { OnOk result (All (λ n. n < 2 ^ 32) report.now.avoid) }
     ensures offers { OnOk result (All (λ l. All (λ n. n < 2 ^ 32) l.offers) report.now.links) }
     ensures wired { OnOk result (All (λ w. (w.0 < 2 ^ 32) × (w.1 < 2 ^ 32)) report.now.wired) }
 {
@@ -23,6 +25,8 @@ fn put_found(alloc: Global, text: &mut Vec<u8>, report: &Report) -> Result<(), A
     put_mode(text, report.mode)?;
     put_all(alloc, text, &report.io_apics)?;
     put_all(alloc, text, &report.overrides)?;
+    put_sci(text, report.sci)?;
+    put_avoid(text, &report.avoid)?;
     put_all(alloc, text, &report.links)?;
     put_all(alloc, text, &report.wired)?;
     put_all(alloc, text, &report.pins)?;
@@ -48,12 +52,14 @@ fn put_chosen(alloc: Global, text: &mut Vec<u8>, report: &Report) -> Result<(), 
 ///
 /// Its words are parted by single blanks, its lines end with LF, numbers are decimal. The lines, in this order:
 ///
-/// - `acpiroute 1`: a report of version 1.
+/// - `acpiroute 2`: a report of version 2.
 /// - `mode apic` or `mode pic`.
 /// - `ioapic I at A base G` for each I/O APIC, A in eight hexadecimal digits.
 /// - `override S to G flags F` for each interrupt source override, F in four hexadecimal digits.
-/// - `link P small low offers N.. now V` for each present link: `small` or `extended`, `low` or `high`; V is the numbers
-///   that it is set to, `-` for no number, `none` without `_CRS`.
+/// - `sci N`, the interrupt that the System Control Interrupt is wired to, or `sci none`.
+/// - `avoid N..`, the interrupts that no link is given, or `avoid -`.
+/// - `link P small low offers N.. now V` for each present link: `small` or `extended`, `low` or `high`; the offers are the whole
+///   offer, avoided interrupts among them; V is the numbers that it is set to, `-` for no number, `none` without `_CRS`.
 /// - `wired N C` for each interrupt with the number of pins that are wired to it.
 /// - `pin D n X N P`, `pin D n X N wired` or `pin D n X absent P` for each pin: D has the routing table, n is the device
 ///   number, X is A to D, N the interrupt, P the link.
@@ -63,8 +69,9 @@ fn put_chosen(alloc: Global, text: &mut Vec<u8>, report: &Report) -> Result<(), 
 /// - `set P ok`, `set P none` or `set P refused R` for each link that was to be set.
 /// - `after P V` or `after P refused R` for each of these.
 ///
-/// `read` gives the report's own claim of this text, its lists in order, where it has at most 256 links, each with an offer in ascending order,
-/// and at most 4096 wired interrupts. `OutOfMemory` where memory runs out.
+/// `read` gives the report's own claim of this text, its lists in order, where it has at most 256 links, each with an offer in
+/// ascending order, at most 4096 wired interrupts, and the avoided interrupts in ascending order, each once. `OutOfMemory`
+/// where memory runs out.
 pub fn print(alloc: Global, report: &Report) -> Result<Vec<u8>, Refusal>
     ensures text { Answers (seen (λ v. v.items) result) (Ok (text_of_report report.now)) }
     ensures read_back { IfOk result (λ v. IsReadable report.now → claim_of_text v.items ≡ Ok (claim_of_report report.now)) }

@@ -58,7 +58,8 @@ pub(crate) fn numbers(text: &mut Vec<u8>, numbers: &[u32]) -> Result<(), AllocEr
 
 /// Numbers; `-` stands for none.
 pub(crate) fn some_numbers(text: &mut Vec<u8>, some: &[u32]) -> Result<(), AllocError>
-    ensures { OnOk result (text.new.items ≡ text.old.items ++ spaced (number_words some.now)) }
+    ensures text { OnOk result (text.new.items ≡ text.old.items ++ spaced (number_words some.now)) }
+    ensures small { All (λ n. n < 2 ^ 32) some.now }
 {
     if some.is_empty() {
         word(text, b"-")

@@ -2,10 +2,11 @@
 ghost use Rattle.std.specs.Prelude.{◌≡◌, ◌∷◌, ◌<◌, ◌-◌, ◌^◌, length};
 ghost use Rattle.ar_space.specs.Outcome.{Answers};
 ghost use Rattle.route_report.specs.Lines.{lines};
-ghost use Rattle.route_report.specs.Reading.{lines_read, claim_of_text, nothing_said};
+ghost use Rattle.route_report.specs.Reading.{lines_read, claim_of_text, first_said};
 
 use crate::draft::Draft;
 use crate::line::{heading, line};
+use crate::version::Version;
 use crate::words::bad_line;
 use ar_space::Refusal;
 use route_check::Claim;
@@ -25,12 +26,12 @@ fn first_line(text: &[u8]) -> (&[u8], &[u8])
     }
 }
 
-/// The lines from the second on.
-fn lines_read(alloc: Global, text: &[u8]) -> Result<Claim, Refusal>
+/// The lines from the second on, of a report of this version.
+fn lines_read(alloc: Global, version: Version, text: &[u8]) -> Result<Claim, Refusal>
     requires { length text.now < 2 ^ 64 - 1 }
-    ensures { Answers result (lines_read 2 (lines text.now) nothing_said) }
+    ensures { Answers result (lines_read 2 (lines text.now) (first_said version)) }
 {
-    let mut draft = Draft::new(alloc);
+    let mut draft = Draft::new(alloc, version);
     let mut n = 2;
     let mut rest = text;
     while !rest.is_empty() {
@@ -42,20 +43,24 @@ fn lines_read(alloc: Global, text: &[u8]) -> Result<Claim, Refusal>
     draft.claim(n)
 }
 
-/// What a report claims: the links with their offers, the wired interrupts, what each link is given, how busy the busiest
-/// interrupt is, and why none is less busy. Whether the claim holds is for `route_check::check` to say.
+/// What a report claims: the links with their offers, the wired interrupts, the interrupt that the System Control Interrupt is
+/// wired to, the interrupts that are avoided, what each link is given, how busy the busiest interrupt is, and why none is less
+/// busy. Whether the claim holds is for `route_check::check` to say.
 ///
 /// Each list of the claim is in order, whatever the order of the lines: paths in path order, numbers ascending. What stands
 /// twice stays twice, so that `check` finds it.
 ///
-/// The first line is `acpiroute 1`; the others come in any order, and the last may lack its LF. Lines whose first word is
-/// `mode`, `ioapic`, `override`, `pin`, `set` or `after` are passed over. `link`, `wired`, `give`, `busiest` and `bound`
-/// have the form in which `print` writes them, but that what follows the word `now` of a link isn't looked at, and that
-/// either list of a bound may be in any order, and its numbers may be missing. The numbers of a link ascend, and there is
-/// one at least. Numbers are below 2^32, without leading zeros.
+/// The first line is `acpiroute 1` or `acpiroute 2`; the others come in any order, and the last may lack its LF. Lines whose first
+/// word is `mode`, `ioapic`, `override`, `pin`, `set` or `after` are passed over. `sci` and `avoid` stand in version 2 alone, where
+/// each of them stands once: in version 1 nothing is avoided, and the System Control Interrupt is no source of its own. `link`,
+/// `wired`, `sci`, `avoid`, `give`, `busiest` and `bound` have the form in which `print` writes them, but that what follows the
+/// word `now` of a link isn't looked at, and that either list of a bound may be in any order, and its numbers may be missing.
+/// The numbers of a link ascend, and there is one at least; those of `avoid` ascend too. Numbers are below 2^32, without
+/// leading zeros.
 ///
-/// `BadLine` with the number of a line, from 1, is the first one that is none of these, a second `busiest` or `bound`, the
-/// 257th link or the 4097th wired interrupt; where `busiest` or `bound` is missing it is the number of lines plus one.
+/// `BadLine` with the number of a line, from 1, is the first one that is none of these, a second `sci`, `avoid`, `busiest` or
+/// `bound`, the 257th link or the 4097th wired interrupt; where one of `busiest`, `bound` and, in version 2, `sci` and `avoid` is
+/// missing it is the number of lines plus one.
 /// `OutOfMemory` where memory runs out.
 pub fn read(alloc: Global, text: &[u8]) -> Result<Claim, Refusal>
     ensures { Answers result (claim_of_text text.now) }
@@ -64,6 +69,6 @@ pub fn read(alloc: Global, text: &[u8]) -> Result<Claim, Refusal>
         return Err(bad_line(1));
     }
     let (first, rest) = first_line(text);
-    heading(1, first)?;
-    lines_read(alloc, rest)
+    let version = heading(1, first)?;
+    lines_read(alloc, version, rest)
 }

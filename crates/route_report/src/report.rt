@@ -36,7 +36,7 @@ pub struct LinkLine {
     pub path: Path,
     pub form: Form,
     pub polarity: Polarity,
-    /// Ascending.
+    /// Ascending, those that are avoided among them.
     pub offers: Vec<u32>,
     /// The interrupts that `_CRS` gives; none without `_CRS`.
     pub now: Option<Vec<u32>>,
@@ -120,6 +120,10 @@ pub struct Report {
     pub mode: Mode,
     pub io_apics: Vec<IoApicLine>,
     pub overrides: Vec<OverrideLine>,
+    /// The interrupt that the System Control Interrupt is wired to, if there is one: it has one source more.
+    pub sci: Option<u32>,
+    /// The interrupts that no link is given, ascending, each once.
+    pub avoid: Vec<u32>,
     /// The present links, in path order.
     pub links: Vec<LinkLine>,
     /// Interrupts with the number of pins that are wired to them, ascending.
@@ -147,6 +151,8 @@ impl Model for Report {
       mode = r.mode;
       io_apics = r.io_apics.items;
       overrides = r.overrides.items;
+      sci = r.sci;
+      avoid = r.avoid.items;
       links = r.links.items;
       wired = r.wired.items;
       pins = r.pins.items;

@@ -1,7 +1,7 @@
 //! The words of a line as numbers and paths.
 ghost use Rattle.std.specs.Prelude.{◌≡◌, Ok};
 ghost use Rattle.std.specs.Str.{bytes_eq};
-ghost use Rattle.ar_space.specs.Outcome.{Answers, seen};
+ghost use Rattle.ar_space.specs.Outcome.{Answers, NotMemory, seen};
 ghost use Rattle.ar_space.specs.declared.refusal.Refusal.TheVariants.{Report};
 ghost use Rattle.ar_space.specs.declared.refusal.ReportFault.TheVariants.{BadLine};
 ghost use Rattle.aml_path.specs.Text.{text_of, path_of_text};
@@ -23,7 +23,8 @@ pub(crate) fn bad_line(n: usize) -> Refusal
 /// The next word.
 #[tactic(auto, using(ar_space::specs::Outcome::answering))]
 pub(crate) fn word<'a>(n: usize, words: &mut Words<'a>) -> Result<&'a [u8], Refusal>
-    ensures { Answers (seen (λ w. (w.now, words.new)) result) (word n words.old) }
+    ensures answer { Answers (seen (λ w. (w.now, words.new)) result) (word n words.old) }
+    ensures memory { NotMemory result }
 {
     match words.take() {
         Some(word) => Ok(word),
@@ -34,7 +35,8 @@ pub(crate) fn word<'a>(n: usize, words: &mut Words<'a>) -> Result<&'a [u8], Refu
 /// No word is left.
 #[tactic(auto, using(ar_space::specs::Outcome::answering))]
 pub(crate) fn ended(n: usize, words: &Words<'_>) -> Result<(), Refusal>
-    ensures { Answers result (ended n words.now) }
+    ensures answer { Answers result (ended n words.now) }
+    ensures memory { NotMemory result }
 {
     if words.is_ended() {
         Ok(())
@@ -46,7 +48,8 @@ pub(crate) fn ended(n: usize, words: &Words<'_>) -> Result<(), Refusal>
 /// The next word is this one.
 #[tactic(auto, using(ar_space::specs::Outcome::answering), unfolding(crate::specs::Reading::expected))]
 pub(crate) fn expected(n: usize, key: &[u8], words: &mut Words<'_>) -> Result<(), Refusal>
-    ensures { Answers (seen (λ _. words.new) result) (expected n key.now words.old) }
+    ensures answer { Answers (seen (λ _. words.new) result) (expected n key.now words.old) }
+    ensures memory { NotMemory result }
 {
     let word = word(n, words)?;
     if word == key {
@@ -64,7 +67,8 @@ pub(crate) fn one_of(
     that: &[u8],
     words: &mut Words<'_>,
 ) -> Result<(), Refusal>
-    ensures { Answers (seen (λ _. words.new) result) (one_of n this.now that.now words.old) }
+    ensures answer { Answers (seen (λ _. words.new) result) (one_of n this.now that.now words.old) }
+    ensures memory { NotMemory result }
 {
     let word = word(n, words)?;
     if word == this || word == that {
@@ -77,7 +81,8 @@ pub(crate) fn one_of(
 /// The next word as a number.
 #[tactic(auto, using(ar_space::specs::Outcome::answering), unfolding(crate::specs::Reading::numbered))]
 pub(crate) fn number(n: usize, words: &mut Words<'_>) -> Result<u32, Refusal>
-    ensures { Answers (seen (λ a. (a, words.new)) result) (numbered n words.old) }
+    ensures answer { Answers (seen (λ a. (a, words.new)) result) (numbered n words.old) }
+    ensures memory { NotMemory result }
 {
     let word = word(n, words)?;
     number_here(n, word)
@@ -95,7 +100,8 @@ pub(crate) fn path(alloc: Global, n: usize, words: &mut Words<'_>) -> Result<Pat
 /// The number that a word is.
 #[tactic(auto, using(ar_space::specs::Outcome::answering))]
 pub(crate) fn number_here(n: usize, word: &[u8]) -> Result<u32, Refusal>
-    ensures { Answers result (number_here n word.now) }
+    ensures answer { Answers result (number_here n word.now) }
+    ensures memory { NotMemory result }
 {
     match numerals::number(word) {
         Some(number) => Ok(number),

@@ -1,7 +1,7 @@
 //! Claims: their parts, what they say, and what `check` says of them.
 use crate::answers::{say_numbers, say_path};
 use crate::generated::add_links;
-use crate::words::{add, add_give, add_wired, number, numbers, path_of, set_bound};
+use crate::words::{add, add_give, add_wired, number, numbers, path_of, set_bound, source};
 use aml_path::Path;
 use route_check::{Bound, Claim, Flaw, check};
 use route_model::Link;
@@ -13,6 +13,8 @@ pub fn empty_claim(alloc: Global) -> Claim {
     Claim {
         links: Vec::new(alloc),
         wired: Vec::new(alloc),
+        sci: None,
+        avoid: Vec::new(alloc),
         gives: Vec::new(alloc),
         busiest: 0,
         bound: None,
@@ -77,6 +79,24 @@ fn say_wired(asked: &mut Exchange, wired: &[(u32, u32)]) {
     }
 }
 
+/// Answers the source of the System Control Interrupt, if a claim has one.
+fn say_sci(asked: &mut Exchange, sci: Option<u32>) {
+    if let Some(interrupt) = sci {
+        asked.say("sci");
+        say_numbers(asked, &[interrupt]);
+        asked.push(";");
+    }
+}
+
+/// Answers the interrupts that a claim avoids, if it avoids any.
+fn say_avoid(asked: &mut Exchange, avoid: &[u32]) {
+    if !avoid.is_empty() {
+        asked.say("avoid");
+        say_numbers(asked, avoid);
+        asked.push(";");
+    }
+}
+
 /// Answers what the links of a claim are given.
 fn say_gives(asked: &mut Exchange, gives: &[(Path, u32)]) {
     for (link, interrupt) in gives {
@@ -103,6 +123,8 @@ fn say_set(asked: &mut Exchange, bound: &Bound) {
 fn say_claim(asked: &mut Exchange, claim: &Claim) {
     say_links(asked, claim.links.as_slice());
     say_wired(asked, claim.wired.as_slice());
+    say_sci(asked, claim.sci);
+    say_avoid(asked, claim.avoid.as_slice());
     say_gives(asked, claim.gives.as_slice());
     asked.say("busiest");
     asked.say_number(u64::from(claim.busiest));
@@ -141,6 +163,8 @@ pub enum Ask {
     Link,
     Links,
     Wired,
+    Sci,
+    Avoid,
     Give,
     Busiest,
     Bound,
@@ -166,6 +190,8 @@ pub fn answer(asked: &mut Exchange, claim: &mut Claim, ask: Ask) {
         Ask::Link => add_link(asked, &mut claim.links),
         Ask::Links => add_links(asked, &mut claim.links),
         Ask::Wired => add_wired(asked, &mut claim.wired),
+        Ask::Sci => claim.sci = source(asked),
+        Ask::Avoid => claim.avoid = numbers(asked),
         Ask::Give => add_give(asked, &mut claim.gives),
         Ask::Busiest => claim.busiest = number(asked),
         Ask::Bound => set_bound(asked, &mut claim.bound),

@@ -16,13 +16,17 @@ enum Ask {
     Print,
     Read,
     Third,
+    SciLine,
+    AvoidLine,
 }
 
 /// The questions, by their first words.
-const QUESTIONS: [(&str, Ask); 24] = [
+const QUESTIONS: [(&str, Ask); 28] = [
     ("link", Ask::Claim(claims::Ask::Link)),
     ("links", Ask::Claim(claims::Ask::Links)),
     ("wired", Ask::Claim(claims::Ask::Wired)),
+    ("sci", Ask::Claim(claims::Ask::Sci)),
+    ("avoid", Ask::Claim(claims::Ask::Avoid)),
     ("give", Ask::Claim(claims::Ask::Give)),
     ("busiest", Ask::Claim(claims::Ask::Busiest)),
     ("bound", Ask::Claim(claims::Ask::Bound)),
@@ -44,6 +48,8 @@ const QUESTIONS: [(&str, Ask); 24] = [
     ("print", Ask::Print),
     ("read", Ask::Read),
     ("third", Ask::Third),
+    ("sci-line", Ask::SciLine),
+    ("avoid-line", Ask::AvoidLine),
 ];
 
 /// Answers a question: its first word says which it is.
@@ -57,5 +63,7 @@ pub fn answer(row: &mut RouteRow, asked: &mut Exchange) {
         Ask::Print => texts::print_report(asked, &mut row.text, &row.report),
         Ask::Read => texts::read_text(asked, &mut row.claim, row.text.as_slice()),
         Ask::Third => texts::read_third(asked, &mut row.claim),
+        Ask::SciLine => texts::read_sci_line(asked, &mut row.claim),
+        Ask::AvoidLine => texts::read_avoid_line(asked, &mut row.claim),
     }
 }

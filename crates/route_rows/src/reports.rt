@@ -1,7 +1,7 @@
 //! Reports that are put together line by line, each line in the words in which it is printed.
 use crate::pins::{add_after, add_pin, add_set};
 use crate::words::{
-    add, add_give, add_wired, named, number, numbers, numbers_of, pass, path, set_bound,
+    add, add_give, add_wired, named, number, numbers, numbers_of, pass, path, set_bound, source,
 };
 use route_report::{Form, IoApicLine, LinkLine, Mode, OverrideLine, Polarity, Report};
 use std::alloc::Global;
@@ -22,6 +22,8 @@ pub fn empty_report(alloc: Global) -> Report {
         mode: Mode::Apic,
         io_apics: Vec::new(alloc),
         overrides: Vec::new(alloc),
+        sci: None,
+        avoid: Vec::new(alloc),
         links: Vec::new(alloc),
         wired: Vec::new(alloc),
         pins: Vec::new(alloc),
@@ -102,6 +104,8 @@ enum Line {
     Mode,
     IoApic,
     Override,
+    Sci,
+    Avoid,
     Link,
     Wired,
     Pin,
@@ -113,10 +117,12 @@ enum Line {
 }
 
 /// The lines of a report, by their first words.
-const LINES: [(&str, Line); 11] = [
+const LINES: [(&str, Line); 13] = [
     ("mode", Line::Mode),
     ("ioapic", Line::IoApic),
     ("override", Line::Override),
+    ("sci", Line::Sci),
+    ("avoid", Line::Avoid),
     ("link", Line::Link),
     ("wired", Line::Wired),
     ("pin", Line::Pin),
@@ -144,6 +150,8 @@ pub fn add_line(asked: &mut Exchange, report: &mut Report) {
     let line = named(asked, &LINES, Line::Mode);
     match line {
         Line::Give => add_give(asked, &mut report.gives),
+        Line::Sci => report.sci = source(asked),
+        Line::Avoid => report.avoid = numbers(asked),
         Line::Busiest => report.busiest = number(asked),
         Line::Bound => set_bound(asked, &mut report.bound),
         Line::Set => add_set(asked, report),

@@ -42,13 +42,28 @@ pub fn read_text(asked: &mut Exchange, claim: &mut Claim, text: &[u8]) {
     }
 }
 
-/// `third BYTES`: reads a report of five lines of which the third is these bytes.
-pub fn read_third(asked: &mut Exchange, claim: &mut Claim) {
+/// Reads a report of these lines, a line of bytes that the row says, and lines by which no interrupt is busy.
+fn read_between(asked: &mut Exchange, claim: &mut Claim, before: &[u8]) {
     let mut text = Vec::new(asked.alloc());
-    put(asked, &mut text, b"acpiroute 1\nmode apic\n");
+    put(asked, &mut text, before);
     put_bytes(asked, &mut text);
     put(asked, &mut text, b"\nbusiest 0\nbound none\n");
     read_text(asked, claim, text.as_slice());
+}
+
+/// `third BYTES`: reads a report of version 1 that has five lines, of which the third is these bytes.
+pub fn read_third(asked: &mut Exchange, claim: &mut Claim) {
+    read_between(asked, claim, b"acpiroute 1\nmode apic\n");
+}
+
+/// `sci-line BYTES`: reads a report of version 2 that has five lines, of which the third is these bytes.
+pub fn read_sci_line(asked: &mut Exchange, claim: &mut Claim) {
+    read_between(asked, claim, b"acpiroute 2\navoid -\n");
+}
+
+/// `avoid-line BYTES`: the same, with a line of the System Control Interrupt before these bytes.
+pub fn read_avoid_line(asked: &mut Exchange, claim: &mut Claim) {
+    read_between(asked, claim, b"acpiroute 2\nsci none\n");
 }
 
 /// How many line feeds a text has.

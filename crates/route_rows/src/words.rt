@@ -61,6 +61,15 @@ pub fn numbers(asked: &mut Exchange) -> Vec<u32> {
     numbers_of(asked, text)
 }
 
+/// The source of the System Control Interrupt: a number, or `none`.
+pub fn source(asked: &mut Exchange) -> Option<u32> {
+    if asked.takes("none") {
+        None
+    } else {
+        Some(number(asked))
+    }
+}
+
 /// An absolute path.
 pub fn path_of(asked: &mut Exchange, text: &str) -> Path {
     match Path::from_text(asked.alloc(), text.as_bytes()) {

@@ -15,7 +15,7 @@ fn add_line(asked: &mut Asked, line: &str) -> Result<(), AllocError> {
 
 /// The report of a machine.
 fn reported(alloc: Global, machine: &mut TracedMachine, dry: bool) -> Result<Report, Refusal> {
-    configure(alloc, machine, dry)
+    configure(alloc, machine, dry, &[])
 }
 
 /// The lines of a report's text that tell what came of setting links and what they are set to.

@@ -25,7 +25,7 @@ enum Ask {
 }
 
 /// The questions, by their first words.
-const QUESTIONS: [(&str, Ask); 54] = [
+const QUESTIONS: [(&str, Ask); 55] = [
     ("number", Ask::Number),
     ("says", Ask::Says),
     ("trace", Ask::Trace),
@@ -56,6 +56,7 @@ const QUESTIONS: [(&str, Ask); 54] = [
         "system-control-interrupt",
         Ask::Found(FoundAsk::SystemControlInterrupt),
     ),
+    ("sci-source", Ask::Found(FoundAsk::SciSource)),
     ("integers", Ask::Found(FoundAsk::Integers)),
     ("madt-entry", Ask::Found(FoundAsk::MadtEntry)),
     ("line", Ask::Text(TextAsk::Line)),

@@ -4,7 +4,9 @@ use crate::answers::{add, count, given, hexadecimal, number_of, say_byte, say_do
 use crate::distinct::Distinct;
 use crate::row::Row;
 use crate::structures::{Structure, image_of};
-use ar_tables::{Image, IntegerWidth, MadtEntry, Ssdts, Table, Tables, find_tables, madt_entries};
+use ar_tables::{
+    Image, IntegerWidth, MadtEntry, Ssdts, Table, Tables, find_tables, madt_entries, sci_source,
+};
 use test_rows::Exchange;
 
 /// `image-put ADDRESS: BYTE`: puts a byte into a plain image.
@@ -141,6 +143,15 @@ fn say_entry(asked: &mut Exchange, entry: MadtEntry) {
     }
 }
 
+/// `sci-source apic` or `sci-source pic`: the interrupt source of the System Control Interrupt.
+fn say_sci_source(asked: &mut Exchange, tables: &Tables) {
+    let apic = asked.word() == "apic";
+    match sci_source(tables, apic) {
+        Some(interrupt) => asked.say_number(u64::from(interrupt)),
+        None => asked.say("none"),
+    }
+}
+
 /// `madt-entry N`: what the walk over the MADT's structures gives after N others.
 fn madt_entry(asked: &mut Exchange, tables: &Tables) {
     let Some(madt) = &tables.madt else {
@@ -194,6 +205,7 @@ pub enum FoundAsk {
     Ssdts,
     DsdtAddress,
     SystemControlInterrupt,
+    SciSource,
     Integers,
     MadtEntry,
 }
@@ -209,6 +221,7 @@ fn of_found(asked: &mut Exchange, tables: &Tables, ask: FoundAsk) {
         FoundAsk::SystemControlInterrupt => {
             asked.say_number(u64::from(tables.fadt.sci_interrupt()));
         }
+        FoundAsk::SciSource => say_sci_source(asked, tables),
         FoundAsk::Integers => asked.say(integers(tables.width)),
         FoundAsk::MadtEntry => madt_entry(asked, tables),
     }

@@ -22,7 +22,7 @@ returns-in_err-one_polarity-clause-value g c =
     does_ok _ _ (does_made _ _ c.in_ok-named.ensures.value)
     (settle_ok _ _ (rw (← c.deref.ensures.value) c.in_ok-few_links.ensures.value)
     (does_ok {a = c.in_ok-links.links.items} _ _ (rw (← c.deref-2.ensures.value) c.in_ok-links.ensures.value)
-    (settle_seen_err _ _ _ _ (rw (← c.deref-3.ensures.value) c.in_err-one_polarity.ensures) c.from_residual-in_err-one_polarity.ensures)))
+    (settle_seen_err _ _ _ _ (rw (← c.deref-3.ensures.value) c.in_err-one_polarity.ensures.value) c.from_residual-in_err-one_polarity.ensures)))
 
 pub returns-clause-value : goal.returns-clause-value
 unfolding links_found
@@ -30,4 +30,4 @@ returns-clause-value g c =
     does_ok _ _ (does_made _ _ c.in_ok-named.ensures.value)
     (settle_ok _ _ (rw (← c.deref.ensures.value) c.in_ok-few_links.ensures.value)
     (does_ok {a = c.in_ok-links.links.items} _ _ (rw (← c.deref-2.ensures.value) c.in_ok-links.ensures.value)
-    (settle_ok _ _ (rw (← c.deref-3.ensures.value) c.in_ok-one_polarity.ensures) does_give)))
+    (settle_ok _ _ (rw (← c.deref-3.ensures.value) c.in_ok-one_polarity.ensures.value) does_give)))

@@ -3,7 +3,7 @@ use Rattle.std.proofs.lemmas.List.{get_or_default, length-map}
 use Rattle.aml_path.specs.declared.segment.Seg.{Seg}
 use Rattle.route_model.specs.Links.{OfferingLink}
 use Rattle.route_model.specs.Routing.{load, greatest}
-use Rattle.route_check.specs.Valid.{given_to, choice_of}
+use Rattle.route_check.specs.Valid.{given_to, choice_of, effective_counts}
 use Rattle.route_check.proofs.Sums.{greatest_more}
 use Rattle.route_check.proofs.loads.busiest_given.Goals as goal
 
@@ -11,7 +11,7 @@ pub loop-i-preserved : goal.loop-i-preserved
 loop-i-preserved c =
     let links = c.args.claim.now.links in
     let gives = c.args.claim.now.gives in
-    let wired = c.args.claim.now.wired in
+    let wired = effective_counts c.args.claim.now in
     let choice = choice_of links gives in
     let i = c.loop-i.i in
     let n = c.given_at.result in

@@ -21,6 +21,8 @@ pub returns-clause-read_back : goal.returns-clause-read_back
 returns-clause-read_back c readable =
     ap claim_of_text (whole c.args.report.now c.new-text.result.items c.put_found.new.text.items c.put_chosen.new.text.items c.new-text.ensures.items c.in_ok-put_found.ensures.text c.in_ok-put_chosen.ensures.text)
     ∙ read_back c.text_is_read_back.ensures c.args.report.now readable (record {
+      sci = c.in_ok-put_found.ensures.sci;
+      avoid = c.in_ok-put_found.ensures.avoid;
       offers = c.in_ok-put_found.ensures.offers;
       wired = c.in_ok-put_found.ensures.wired;
       gives = c.in_ok-put_chosen.ensures.gives;

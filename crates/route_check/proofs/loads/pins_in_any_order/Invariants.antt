@@ -1,6 +1,6 @@
 use Rattle.std.proofs.Common.{◌≡◌, ◌≤◌, ◌*◌, ◌^◌, take}
 use Rattle.route_model.specs.Routing.{wired_to}
-use Rattle.route_check.proofs.loads.wired_sources.Given as goal
+use Rattle.route_check.proofs.loads.pins_in_any_order.Given as goal
 
 abbrev pub invariant-loop-w : goal.invariant-loop-w
 invariant-loop-w l = record {
