@@ -30,9 +30,12 @@ fn told(alloc: Global, report: &Report) -> Result<String, Refusal> {
     Ok(shown::listed(alloc, found)?)
 }
 
-/// Makes the machine of the text, and routes its interrupts.
-fn configured(alloc: Global, asked: &mut Asked, dry: bool) -> Result<String, Refusal> {
-    let mut machine = initialized(alloc, asked.text.as_slice())?;
+/// How many accesses are made where none fails: more than any row makes.
+const ALL: u64 = u64::MAX;
+
+/// Makes the machine of the text, and routes its interrupts. After `pass` accesses, one fails.
+fn configured(alloc: Global, asked: &mut Asked, dry: bool, pass: u64) -> Result<String, Refusal> {
+    let mut machine = initialized(alloc, asked.text.as_slice(), pass)?;
     let report = reported(alloc, &mut machine, dry);
     let answer = match &report {
         Ok(report) => told(alloc, report),
@@ -56,17 +59,30 @@ fn byte(alloc: Global, asked: &Asked, port: &str) -> Result<String, AllocError> 
     let Some(machine) = &asked.machine else {
         return "no machine".to_string(alloc);
     };
-    match machine.space().inner().byte(Place::Io(port)) {
+    match machine.space().inner().inner().byte(Place::Io(port)) {
         Some(byte) => format!(in alloc; "{byte:02X}"),
         None => "none".to_string(alloc),
     }
 }
 
 /// A report, or the refusal in words.
-fn report_text(alloc: Global, asked: &mut Asked, dry: bool) -> Result<String, AllocError> {
-    match configured(alloc, asked, dry) {
+fn report_text(
+    alloc: Global,
+    asked: &mut Asked,
+    dry: bool,
+    pass: u64,
+) -> Result<String, AllocError> {
+    match configured(alloc, asked, dry, pass) {
         Ok(text) => Ok(text),
         Err(refusal) => shown::refused(alloc, &refusal),
+    }
+}
+
+/// A report where the access of a number fails, counted from 1 on.
+fn failing(alloc: Global, asked: &mut Asked, number: &str) -> Result<String, AllocError> {
+    match u64::from_str_radix(number, 10) {
+        Ok(number) => report_text(alloc, asked, false, number.saturating_sub(1)),
+        Err(_) => "no number".to_string(alloc),
     }
 }
 
@@ -75,9 +91,12 @@ pub fn answer(alloc: Global, asked: &mut Asked, question: &str) -> Result<String
     if let Some(port) = question.strip_prefix("port ") {
         return byte(alloc, asked, port);
     }
+    if let Some(number) = question.strip_prefix("configure failing ") {
+        return failing(alloc, asked, number);
+    }
     match question {
-        "configure" => report_text(alloc, asked, false),
-        "configure dry" => report_text(alloc, asked, true),
+        "configure" => report_text(alloc, asked, false, ALL),
+        "configure dry" => report_text(alloc, asked, true, ALL),
         "accesses" => accesses(alloc, asked),
         line => {
             add_line(asked, line)?;

@@ -2,7 +2,7 @@
 use crate::answers;
 use acpi_machine::{Machine, Mode, load_tables};
 use aml_objects::Octets;
-use ar_space::{Refusal, Sparse};
+use ar_space::{Fused, Refusal, Sparse};
 use ar_tables::find_tables;
 use machine_text::read_machine;
 use space_trace::Traced;
@@ -14,8 +14,8 @@ use test_rows::{Question, Subject, difference};
 /// How many steps each table and each evaluation may take.
 const STEPS: u64 = 1_000_000;
 
-/// A machine over registers that keep their accesses.
-pub type TracedMachine = Machine<Traced<Sparse>>;
+/// A machine over registers that keep their accesses, and of which one access can fail.
+pub type TracedMachine = Machine<Traced<Fused<Sparse>>>;
 
 /// What a row asks about.
 #[derive(Drop)]
@@ -26,20 +26,22 @@ pub struct Asked {
     pub machine: Option<TracedMachine>,
 }
 
-/// The tables of a machine text, loaded over its registers, with no texts for `_OSI`. Loading accesses registers too.
-fn loaded(alloc: Global, text: &[u8]) -> Result<TracedMachine, Refusal> {
+/// The tables of a machine text, loaded over its registers, with no texts for `_OSI`. Loading accesses registers too. After `pass`
+/// accesses, one fails.
+fn loaded(alloc: Global, text: &[u8], pass: u64) -> Result<TracedMachine, Refusal> {
     let said = read_machine(alloc, text)?;
     let tables = find_tables(alloc, said.space.memory(), said.rsdp)?;
     let texts: Vec<Octets> = Vec::new(alloc);
-    match load_tables(alloc, tables, Traced::new(said.space), STEPS, texts) {
+    let space = Traced::new(Fused::new(said.space, pass));
+    match load_tables(alloc, tables, space, STEPS, texts) {
         Ok(machine) => Ok(machine),
         Err((refusal, _)) => Err(refusal),
     }
 }
 
-/// The machine of a machine text, initialized in the mode `apic`.
-pub fn initialized(alloc: Global, text: &[u8]) -> Result<TracedMachine, Refusal> {
-    let mut machine = loaded(alloc, text)?;
+/// The machine of a machine text, initialized in the mode `apic`. After `pass` accesses, one fails.
+pub fn initialized(alloc: Global, text: &[u8], pass: u64) -> Result<TracedMachine, Refusal> {
+    let mut machine = loaded(alloc, text, pass)?;
     machine.initialize(alloc, Mode::Apic)?;
     Ok(machine)
 }
