@@ -43,6 +43,12 @@ use std::alloc::Global;
 ///
 /// The text of the report can be read back; what it claims then is just this answer, and `route_check::check` says that the
 /// claim is valid.
+///
+/// ```
+/// machine.initialize(alloc, Mode::Apic)?;
+/// let report = configure(alloc, &mut machine, false, &[3, 4])?;
+/// let text = route_report::print(alloc, &report)?;
+/// ```
 pub fn configure<S: Space>(
     alloc: Global,
     machine: &mut Machine<S>,

@@ -32,6 +32,10 @@ impl<S: Space> Machine<S> {
     /// dropped; the first that is refused ends it. The mode is kept, however that ends.
     ///
     /// `Spent` where an earlier call ran out of memory; then nothing changes.
+    ///
+    /// ```
+    /// machine.initialize(alloc, Mode::Apic)?;
+    /// ```
     #[tactic(auto, using(crate::specs::Noticing::spending), unfolding(crate::specs::Calls::initialized))]
     pub fn initialize(&mut self, alloc: Global, mode: Mode) -> Result<(), Refusal>
         ensures answer { Does result self.new (initialized S.accesses mode) self.old }
@@ -48,6 +52,13 @@ impl<S: Space> Machine<S> {
     ///
     /// A path where nothing stands is refused as `NotFound`, another count of arguments as `ArityChanged`; an object that
     /// isn't a method is read, and takes no arguments. `Spent` where an earlier call ran out of memory; then nothing changes.
+    ///
+    /// ```
+    /// let path = Path::from_text(alloc, b"\\_SB_.LNKA._STA")?;
+    /// if let Datum::Integer(status) = machine.evaluate_object(alloc, &path, Vec::new(alloc))? {
+    ///     println!(rt; "{status:X}")?;
+    /// }
+    /// ```
     #[tactic(auto, using(crate::specs::Noticing::spending), unfolding(crate::specs::Calls::evaluated_object))]
     pub fn evaluate_object(
         &mut self,

@@ -24,6 +24,12 @@ const MAX_TEXTS: usize = 64;
 ///
 /// More than 64 texts are refused as `ObjectLimit`, before anything is loaded. The first table that is refused ends it, and
 /// the register space comes back as it is then, with the accesses that were made.
+///
+/// ```
+/// let memory = machine_text::read_machine(alloc, text)?;
+/// let tables = ar_tables::find_tables(alloc, memory.space.memory(), memory.rsdp)?;
+/// let loaded = load_tables(alloc, tables, memory.space, 1_000_000, Vec::new(alloc));
+/// ```
 pub fn load_tables<S: Space>(
     alloc: Global,
     tables: Tables,

@@ -20,6 +20,14 @@ use crate::repeated::none_repeated;
 ///
 /// Lists that ascend are compared neighbour by neighbour and searched by halves, so that a long report takes no long time;
 /// lists in any other order are compared pair by pair.
+///
+/// ```
+/// let claim = route_report::read(alloc, text)?;
+/// match check(&claim) {
+///     Ok(_) => println!(rt; "no assignment is less busy")?,
+///     Err(flaw) => println!(rt; "no {}", flaw.number())?,
+/// }
+/// ```
 pub fn check(claim: &Claim) -> Result<(), Flaw>
     ensures ok { IsOk result ↔ Valid claim.now }
     ensures flaw { IfErr result (λ f. IsFirstFlaw claim.now f) }

@@ -72,6 +72,12 @@ fn put_chosen(alloc: Global, text: &mut Vec<u8>, report: &Report) -> Result<(), 
 /// `read` gives the report's own claim of this text, its lists in order, where it has at most 256 links, each with an offer in
 /// ascending order, at most 4096 wired interrupts, and the avoided interrupts in ascending order, each once. `OutOfMemory`
 /// where memory runs out.
+///
+/// ```
+/// let report = acpi_configure::configure(alloc, &mut machine, true, &[])?;
+/// let text = print(alloc, &report)?;
+/// output.write_all(text.as_slice())?;
+/// ```
 pub fn print(alloc: Global, report: &Report) -> Result<Vec<u8>, Refusal>
     ensures text { Answers (seen (λ v. v.items) result) (Ok (text_of_report report.now)) }
     ensures read_back { IfOk result (λ v. IsReadable report.now → claim_of_text v.items ≡ Ok (claim_of_report report.now)) }

@@ -62,6 +62,11 @@ fn lines_read(alloc: Global, version: Version, text: &[u8]) -> Result<Claim, Ref
 /// `bound`, the 257th link or the 4097th wired interrupt; where one of `busiest`, `bound` and, in version 2, `sci` and `avoid` is
 /// missing it is the number of lines plus one.
 /// `OutOfMemory` where memory runs out.
+///
+/// ```
+/// let claim = read(alloc, text)?;
+/// println!(rt; "{} links, busiest {}", claim.links.len(), claim.busiest)?;
+/// ```
 pub fn read(alloc: Global, text: &[u8]) -> Result<Claim, Refusal>
     ensures { Answers result (claim_of_text text.now) }
 {

@@ -184,6 +184,13 @@ impl<'a> Solver<'a> {
 
 /// The first least assignment of a problem that `fits`, and the set that shows why none is less busy: `Solver::new`, then
 /// `Solver::search`.
+///
+/// ```
+/// if fits(&problem) {
+///     let answer = solve(alloc, &problem)?;
+///     println!(rt; "busiest {}", answer.busiest)?;
+/// }
+/// ```
 pub fn solve(alloc: Global, problem: &Problem) -> Result<Answer, AllocError>
     requires { Fits problem.now }
     ensures least { IfOk result (λ a. (b : List ℕ) → IsAssignment (offers_of problem.now.links) b → a.busiest ≤ busiest problem.now.wired b) }
