@@ -1,106 +1,117 @@
 //! Answers to the questions of a row.
-use crate::machine::{Asked, TracedMachine, initialized};
-use crate::shown;
+use crate::accesses::say_accesses;
+use crate::machine::{TracedMachine, initialized};
+use crate::row::Row;
 use acpi_configure::configure;
 use ar_space::{Place, Refusal};
 use route_report::{Report, print};
-use std::alloc::{AllocError, Global};
+use test_rows::Exchange;
+
+/// Adds bytes to the machine text.
+fn add(asked: &mut Exchange, text: &mut Vec<u8>, bytes: &[u8]) {
+    if text.extend_from_slice(bytes).is_err() {
+        asked.run_out();
+    }
+}
 
 /// Adds a line to the machine text.
-fn add_line(asked: &mut Asked, line: &str) -> Result<(), AllocError> {
-    asked.text.extend_from_slice(line.as_bytes())?;
-    asked.text.push(b'\n')?;
-    Ok(())
+fn add_line(asked: &mut Exchange, text: &mut Vec<u8>, word: &str) {
+    let rest = asked.rest();
+    add(asked, text, word.as_bytes());
+    add(asked, text, b" ");
+    add(asked, text, rest.as_bytes());
+    add(asked, text, b"\n");
 }
 
-/// The report of a machine.
-fn reported(alloc: Global, machine: &mut TracedMachine, dry: bool) -> Result<Report, Refusal> {
-    configure(alloc, machine, dry, &[])
+/// Answers the number of a refusal.
+fn refuse(asked: &mut Exchange, refusal: Refusal) {
+    asked.refuse(refusal.number());
 }
 
-/// The lines of a report's text that tell what came of setting links and what they are set to.
-fn told(alloc: Global, report: &Report) -> Result<String, Refusal> {
-    let text = print(alloc, report)?;
-    let mut found = String::new(alloc);
-    for line in text.as_slice().split(|byte| *byte == b'\n') {
+/// Answers the lines of a report that tell what came of setting links and what they are set to, or `none`.
+fn say_settings(asked: &mut Exchange, text: &[u8]) {
+    let mut is_none = true;
+    for line in text.split(|byte| *byte == b'\n') {
         if line.starts_with(b"set ") || line.starts_with(b"after ") {
-            shown::list_bytes(&mut found, line)?;
+            asked.separate(", ");
+            asked.push(str::from_utf8(line).unwrap_or("no text"));
+            is_none = false;
         }
     }
-    Ok(shown::listed(alloc, found)?)
+    if is_none {
+        asked.say("none");
+    }
 }
 
-/// How many accesses are made where none fails: more than any row makes.
-const ALL: u64 = u64::MAX;
-
-/// Makes the machine of the text, and routes its interrupts. After `pass` accesses, one fails.
-fn configured(alloc: Global, asked: &mut Asked, dry: bool, pass: u64) -> Result<String, Refusal> {
-    let mut machine = initialized(alloc, asked.text.as_slice(), pass)?;
-    let report = reported(alloc, &mut machine, dry);
-    let answer = match &report {
-        Ok(report) => told(alloc, report),
-        Err(refusal) => Ok(shown::refused(alloc, refusal)?),
-    };
-    asked.machine = Some(machine);
-    answer
+fn say_report(asked: &mut Exchange, report: &Report) {
+    match print(asked.alloc(), report) {
+        Ok(text) => say_settings(asked, text.as_slice()),
+        Err(refusal) => refuse(asked, refusal),
+    }
 }
 
-/// The accesses to the registers since the tables were loaded, the loading among them.
-fn accesses(alloc: Global, asked: &Asked) -> Result<String, AllocError> {
-    match &asked.machine {
-        Some(machine) => shown::accesses(alloc, machine.space().accesses()),
-        None => "no machine".to_string(alloc),
+/// Routes the interrupts of a machine.
+fn route(asked: &mut Exchange, machine: &mut TracedMachine, dry: bool) {
+    match configure(asked.alloc(), machine, dry, &[]) {
+        Ok(report) => say_report(asked, &report),
+        Err(refusal) => refuse(asked, refusal),
+    }
+}
+
+/// How many accesses are made before the one that fails; where none does, more than any row makes.
+fn passed(asked: &mut Exchange) -> u64 {
+    if asked.takes("failing ") {
+        asked.number(u64::MAX).saturating_sub(1)
+    } else {
+        u64::MAX
+    }
+}
+
+/// `configure`: makes the machine of the text, and routes its interrupts.
+fn configured(asked: &mut Exchange, row: &mut Row) {
+    let pass = passed(asked);
+    let dry = asked.takes("dry");
+    match initialized(asked.alloc(), row.text.as_slice(), pass) {
+        Ok(mut machine) => {
+            route(asked, &mut machine, dry);
+            row.machine = Some(machine);
+        }
+        Err(refusal) => refuse(asked, refusal),
+    }
+}
+
+/// `accesses`: the accesses to the registers since the tables were loaded, the loading among them.
+fn accesses(asked: &mut Exchange, machine: &Option<TracedMachine>) {
+    match machine {
+        Some(machine) => say_accesses(asked, machine.space().accesses()),
+        None => asked.misunderstand(),
     }
 }
 
 /// The byte of a port.
-fn byte(alloc: Global, asked: &Asked, port: &str) -> Result<String, AllocError> {
-    let port = u16::from_str_radix(port, 16).unwrap_or(0);
-    let Some(machine) = &asked.machine else {
-        return "no machine".to_string(alloc);
-    };
+fn say_byte(asked: &mut Exchange, machine: &TracedMachine, port: u16) {
     match machine.space().inner().inner().byte(Place::Io(port)) {
-        Some(byte) => format!(in alloc; "{byte:02X}"),
-        None => "none".to_string(alloc),
+        Some(byte) => asked.say_bytes(&[byte]),
+        None => asked.say("none"),
     }
 }
 
-/// A report, or the refusal in words.
-fn report_text(
-    alloc: Global,
-    asked: &mut Asked,
-    dry: bool,
-    pass: u64,
-) -> Result<String, AllocError> {
-    match configured(alloc, asked, dry, pass) {
-        Ok(text) => Ok(text),
-        Err(refusal) => shown::refused(alloc, &refusal),
+/// `port PORT`: the byte of a port.
+fn port(asked: &mut Exchange, machine: &Option<TracedMachine>) {
+    let port = asked.hexadecimal(0xFFFF) as u16;
+    match machine {
+        Some(machine) => say_byte(asked, machine, port),
+        None => asked.misunderstand(),
     }
 }
 
-/// A report where the access of a number fails, counted from 1 on.
-fn failing(alloc: Global, asked: &mut Asked, number: &str) -> Result<String, AllocError> {
-    match u64::from_str_radix(number, 10) {
-        Ok(number) => report_text(alloc, asked, false, number.saturating_sub(1)),
-        Err(_) => "no number".to_string(alloc),
-    }
-}
-
-/// What a question is answered.
-pub fn answer(alloc: Global, asked: &mut Asked, question: &str) -> Result<String, AllocError> {
-    if let Some(port) = question.strip_prefix("port ") {
-        return byte(alloc, asked, port);
-    }
-    if let Some(number) = question.strip_prefix("configure failing ") {
-        return failing(alloc, asked, number);
-    }
-    match question {
-        "configure" => report_text(alloc, asked, false, ALL),
-        "configure dry" => report_text(alloc, asked, true, ALL),
-        "accesses" => accesses(alloc, asked),
-        line => {
-            add_line(asked, line)?;
-            "done".to_string(alloc)
-        }
+/// Answers a question, or takes a line of the machine text.
+pub fn answer(asked: &mut Exchange, row: &mut Row) {
+    let word = asked.word();
+    match word {
+        "configure" => configured(asked, row),
+        "accesses" => accesses(asked, &row.machine),
+        "port" => port(asked, &row.machine),
+        _ => add_line(asked, &mut row.text, word),
     }
 }

@@ -2,15 +2,16 @@
 //! access in its order, and the registers afterwards with rows. The rows are in `data/`, whose README says how they are written.
 #![tactic(auto)]
 
+mod accesses;
 mod answers;
 mod machine;
-mod shown;
+mod row;
 
-use crate::machine::Asked;
+use crate::row::Row;
 use std::io;
 use std::process::ExitCode;
 use test_rows::judge_rows;
 
 fn main(rt: HostRuntime) -> io::Result<ExitCode> {
-    judge_rows::<Asked, _>(&rt)
+    judge_rows::<Row, _>(&rt)
 }
