@@ -5,5 +5,6 @@ pub mod Proved
 pub mod Claimed
 pub mod Ascending
 pub mod Aligned
+pub mod Busiest
 pub mod Counts
 pub mod FirstVersion

@@ -3,7 +3,7 @@ ghost use Rattle.std.specs.Prelude.{◌≡◌, ◌==◌, ◌↔◌, IsTrue, ◌-
 ghost use Rattle.std.specs.Ordering.{nat_cmp};
 ghost use Rattle.route_model.specs.Routing.{greatest, wired_to, given, load, busiest};
 ghost use Rattle.route_check.specs.Ascending.{Ascends, AreAligned};
-ghost use Rattle.route_check.specs.Valid.{choice_of, sci_counts, effective_counts, IsBusiestRight};
+ghost use Rattle.route_check.specs.Valid.{keys_of, choice_of, sci_counts, effective_counts, IsBusiestRight};
 
 use crate::claim::Claim;
 use crate::offered::{are_aligned, given_at};
@@ -115,30 +115,39 @@ fn busiest_given(claim: &Claim, aligned: bool, ascend: bool) -> u128
     greatest
 }
 
-/// The load of the interrupt that the System Control Interrupt is wired to.
-fn load_at_sci(claim: &Claim, aligned: bool, ascend: bool) -> u128
-    requires aligned { IsTrue aligned → AreAligned claim.now.links claim.now.gives }
-    requires ascend { IsTrue ascend → Ascends nat_cmp (λ w. w.0) claim.now.wired }
-    ensures { result ≡ greatest (map (load (effective_counts claim.now) (choice_of claim.now.links claim.now.gives)) (option_to_list claim.now.sci)) }
+/// How many sources are wired to the interrupt of the System Control Interrupt.
+fn wired_at_sci(claim: &Claim, ascend: bool) -> u128
+    requires { IsTrue ascend → Ascends nat_cmp (λ w. w.0) claim.now.wired }
+    ensures { result ≡ greatest (map (wired_to (effective_counts claim.now)) (option_to_list claim.now.sci)) }
 {
     match claim.sci() {
-        Some(n) => load(claim, aligned, ascend, n),
+        Some(n) => sources_at(claim, ascend, n),
         None => 0,
     }
 }
 
-/// How many sources the busiest interrupt serves, of those that are given or wired.
+/// The greatest number of sources that are wired to an interrupt.
+fn busiest_wired(claim: &Claim, ascend: bool) -> u128
+    requires { IsTrue ascend → Ascends nat_cmp (λ w. w.0) claim.now.wired }
+    ensures { result ≡ greatest (map (wired_to (effective_counts claim.now)) (keys_of (effective_counts claim.now))) }
+{
+    let mut greatest = wired_at_sci(claim, ascend);
+    for w in claim.wired() {
+        greatest = greatest.max(sources_at(claim, ascend, w.0));
+    }
+    greatest
+}
+
+/// How many sources the busiest interrupt serves, of those that are given or wired. Links are counted only where one is given:
+/// anywhere else the wired sources are all.
+#[tactic(auto, using(crate::proofs::Busiest::given_or_wired))]
 fn busiest(claim: &Claim) -> u128
     ensures { result ≡ busiest (effective_counts claim.now) (choice_of claim.now.links claim.now.gives) }
 {
     let aligned = are_aligned(claim.links(), claim.gives());
     let ascend = do_counts_ascend(claim);
     let given = busiest_given(claim, aligned, ascend);
-    let mut greatest = given.max(load_at_sci(claim, aligned, ascend));
-    for w in claim.wired() {
-        greatest = greatest.max(load(claim, aligned, ascend, w.0));
-    }
-    greatest
+    given.max(busiest_wired(claim, ascend))
 }
 
 /// Whether the busiest interrupt serves as many sources as the claim says.
