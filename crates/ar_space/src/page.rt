@@ -1,0 +1,92 @@
+//! Pages: the bytes at 64 addresses in a row.
+ghost use Rattle.std.specs.Prelude.{◌≡◌, ℕ, ◌+◌, ◌^◌, ◌<◌, ◌≤◌, length, slice_index, Some, None, IfSome, is_some, true, false};
+ghost use Rattle.ar_space.specs.Pages.{cell};
+ghost use Rattle.ar_space.specs.Runs.{number_from};
+
+/// How many addresses a page has.
+pub(crate) const PLACES: usize = 64;
+
+/// The bytes at 64 addresses in a row. Where the bit of a place is 0, no byte stands there.
+#[derive(Clone, Copy)]
+pub(crate) struct Page {
+    bytes: [u8; PLACES],
+    present: u64,
+}
+
+impl Page {
+    /// A page without bytes.
+    pub(crate) fn new() -> Page
+        ensures { (at : ℕ) → cell result at ≡ None }
+    {
+        Page {
+            bytes: [0; PLACES],
+            present: 0,
+        }
+    }
+
+    /// The byte at a place of the page, if one stands there.
+    pub(crate) fn byte(&self, at: usize) -> Option<u8>
+        requires { at < 64 }
+        ensures { result ≡ cell self.now at }
+    {
+        if (self.present >> at) & 1 == 1 {
+            Some(self.bytes[at])
+        } else {
+            None
+        }
+    }
+
+    /// Puts a byte at a place of the page, over an earlier one.
+    fn put(&mut self, at: usize, byte: u8)
+        requires { at < 64 }
+        ensures put { cell self.new at ≡ Some byte }
+        ensures beside { (i : ℕ) → (i ≡ at → ⊥) → cell self.new i ≡ cell self.old i }
+    {
+        self.bytes[at] = byte;
+        self.present |= 1 << at;
+    }
+
+    /// Puts bytes from a place of the page on, over earlier ones.
+    pub(crate) fn put_all(&mut self, at: usize, bytes: &[u8])
+        requires { at + length bytes.now ≤ 64 }
+        ensures put { (n : ℕ) → n < length bytes.now → cell self.new (at + n) ≡ Some (slice_index bytes.now n) }
+        ensures below { (i : ℕ) → i < at → cell self.new i ≡ cell self.old i }
+        ensures above { (i : ℕ) → at + length bytes.now ≤ i → cell self.new i ≡ cell self.old i }
+    {
+        let mut n = 0;
+        while n < bytes.len() {
+            self.put(at + n, bytes[n]);
+            n += 1;
+        }
+    }
+
+    /// The number that bytes from a place of the page on make, the lowest first, where all of them stand.
+    pub(crate) fn number(&self, at: usize, count: usize) -> Option<u64>
+        requires { (at + count ≤ 64) × (count ≤ 8) }
+        ensures number { result ≡ number_from (cell self.now) at count }
+        ensures fits { IfSome result (λ number. number < 256 ^ count) }
+    {
+        if count == 0 {
+            return Some(0);
+        }
+        let low = self.byte(at)?;
+        let high = self.number(at + 1, count - 1)?;
+        Some(u64::from(low) + 256 * high)
+    }
+
+    /// Puts bytes over those that stand from a place of the page on: `false`, and no change, where one of them doesn't stand.
+    pub(crate) fn replace_all(&mut self, at: usize, bytes: &[u8]) -> bool
+        requires { (at + length bytes.now ≤ 64) × (length bytes.now ≤ 8) }
+        ensures stood { result ≡ is_some (number_from (cell self.old) at (length bytes.now)) }
+        ensures kept { result ≡ false → self.new ≡ self.old }
+        ensures put { result ≡ true → (n : ℕ) → n < length bytes.now → cell self.new (at + n) ≡ Some (slice_index bytes.now n) }
+        ensures below { result ≡ true → (i : ℕ) → i < at → cell self.new i ≡ cell self.old i }
+        ensures above { result ≡ true → (i : ℕ) → at + length bytes.now ≤ i → cell self.new i ≡ cell self.old i }
+    {
+        if self.number(at, bytes.len()).is_none() {
+            return false;
+        }
+        self.put_all(at, bytes);
+        true
+    }
+}
