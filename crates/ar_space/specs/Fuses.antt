@@ -27,7 +27,7 @@ burnt f = let b = burnt_by f.pass in (b.0, record f { pass = b.1 })
 abbrev pub fused : {S : Type 0} → Accesses S → Accesses (Fuse S)
 fused below = record {
   reads = λ f place width. let b = burnt f in let done = below.reads f.inner place width in
-    if b.0 then (Err Device, b.1) else (done.0, record b.1 { inner = done.1 });
+      if b.0 then (Err Device, b.1) else (done.0, record b.1 { inner = done.1 });
   writes = λ f place width value. let b = burnt f in let done = below.writes f.inner place width value in
-    if b.0 then (Err Device, b.1) else (done.0, record b.1 { inner = done.1 });
+      if b.0 then (Err Device, b.1) else (done.0, record b.1 { inner = done.1 });
 }
