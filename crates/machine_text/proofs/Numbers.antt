@@ -5,9 +5,6 @@ use Rattle.std.proofs.lemmas.List.{drop_all}
 use Rattle.std.specs.Prelude.{option_and_then}
 use Rattle.hex.specs.Hex.{hex_digit_value}
 use Rattle.machine_text.specs.Words.{number_from}
-use Rattle.machine_text.specs.MachineText.{place_in, put_all}
-use Rattle.machine_text.specs.declared.address_space.AddressSpace.{AddressSpace}
-use Rattle.ar_space.specs.Bytes.{Bytes, with_byte}
 
 -- what stands from place i on
 pub at_index : {A : Type 0} (xs : List A) (i : ℕ) (d : A) → i < length xs → drop i xs ≡ get_or xs i d ∷ drop (i + 1) xs
@@ -50,15 +47,3 @@ digit_bad n w i e all lt is so_far =
 pub digits_done : (n : ℕ) (w : List ℕ) (i : ℕ) (all : Option ℕ) → length w ≤ i → number_from n (drop i w) ≡ all → Some n ≡ all
 unfolding number_from
 digits_done n w i all le so_far = sym (ap (number_from n) (drop_all i w le)) ∙ so_far
-
--- bytes put one by one
-pub put_on : (in_space : AddressSpace) (m : Bytes) (a : ℕ) (bs : List ℕ) (i : ℕ) (e : ℕ) (all : Bytes) → i < length bs → put_all in_space m (a + i) (drop i bs) ≡ all
-    → put_all in_space (with_byte m (place_in in_space (a + i)) (get_or bs i e)) (a + (i + 1)) (drop (i + 1) bs) ≡ all
-unfolding put_all
-put_on in_space m a bs i e all lt so_far =
-    let on : a + i + 1 ≡ a + (i + 1) = omega arith in
-    sym (ap (put_all in_space m (a + i)) (at_index bs i e lt) ∙ ap (λ p. put_all in_space (with_byte m (place_in in_space (a + i)) (get_or bs i e)) p (drop (i + 1) bs)) on) ∙ so_far
-
-pub put_done : (in_space : AddressSpace) (m : Bytes) (a : ℕ) (bs : List ℕ) (i : ℕ) (all : Bytes) → length bs ≤ i → put_all in_space m (a + i) (drop i bs) ≡ all → m ≡ all
-unfolding put_all
-put_done in_space m a bs i all le so_far = sym (ap (put_all in_space m (a + i)) (drop_all i bs le)) ∙ so_far

@@ -58,10 +58,9 @@ impl AddressSpace {
         ensures value { OnOk result (space.new ≡ put_all self space.old first bytes.now) }
         ensures memory { IsOkUnless result OutOfMemory }
     {
-        for (i, byte) in bytes.iter().enumerate() {
-            let place = self.place(first + i as u64);
-            space.put(place, *byte)?;
+        if bytes.is_empty() {
+            return Ok(());
         }
-        Ok(())
+        space.put_all(self.place(first), bytes)
     }
 }

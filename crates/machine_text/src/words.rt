@@ -81,8 +81,7 @@ fn bytes_after(
 ) -> Result<Vec<u8>, Refusal>
     ensures { Answers (seen (λ v. v.items) result) (bytes_after n [] (first.now ∷ words.old)) }
 {
-    let mut all = Vec::new(alloc);
-    add_word(alloc, n, &mut all, first)?;
+    let mut all = word_bytes(alloc, n, first)?;
     while let Some(word) = words.take() {
         add_word(alloc, n, &mut all, word)?;
     }
