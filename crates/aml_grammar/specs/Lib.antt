@@ -1,5 +1,6 @@
 pub mod Apart
 pub mod Arities
+pub mod Counts
 pub mod DeclaredNames
 pub mod Grammar
 pub mod Names

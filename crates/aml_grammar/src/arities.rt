@@ -1,11 +1,11 @@
 //! How many arguments a path takes.
-ghost use Rattle.std.specs.Prelude.{List, ◌≡◌, ◌++◌, ◌∷◌, [], Ok, OnOk, OnErr};
-ghost use Rattle.ar_space.specs.Outcome.{Answers, seen};
+ghost use Rattle.std.specs.Prelude.{List, ◌≡◌, ◌++◌, ◌∷◌, [], OnOk, OnErr};
 ghost use Rattle.aml_grammar.specs.declared.arities.Arity.{Arity};
-ghost use Rattle.aml_grammar.specs.Arities.{is_of, latest, arity_at};
+ghost use Rattle.aml_grammar.specs.Arities.{latest, arity_at};
+ghost use Rattle.aml_grammar.specs.Counts.{HasRoom, SameCounts, CountsOver};
 
+use crate::counts::CountMap;
 use aml_path::Path;
-use ar_space::Refusal;
 use std::alloc::{AllocError, Global};
 use std::marker::Model;
 
@@ -20,21 +20,39 @@ pub struct Arity {
     pub external: bool,
 }
 
+/// Argument counts, lent by whoever knows them: readers of terms look them up, and copy none.
+pub trait ArgumentCounts {
+    ghost use Rattle.std.specs.Prelude.{List};
+    ghost use Rattle.aml_grammar.specs.declared.arities.Arity.{Arity};
+
+    /// The counts, the latest last.
+    ghost counts: { Self → List Arity };
+
+    /// The count of the last entry of a path, among those of one sort. It takes no memory.
+    fn latest(&self, path: &Path, external: bool) -> Option<u8>
+        ensures { result ≡ latest path.now external (counts self.now) };
+}
+
 /// The argument counts of declared paths and of Externals, in the order in which they came.
 ///
-/// At one path a declared name counts before an External, and of two of the same sort the later.
+/// At one path a declared name counts before an External, and of two of the same sort the later. A count is found by halving.
 #[derive(Debug, Drop)]
 pub struct Arities {
+    alloc: Global,
     entries: Vec<Arity>,
+    index: CountMap,
 }
 
 impl Model for Arities {
     ghost use Rattle.std.specs.Prelude.{List};
     ghost use Rattle.aml_grammar.specs.declared.arities.Arity.{Arity};
+    ghost use Rattle.aml_grammar.specs.Counts.{HasLatest};
 
     ghost Value = { List Arity };
 
     ghost view = { λ a. a.entries.items };
+
+    ghost invariant = { λ a. HasLatest a.index a.entries.items };
 }
 
 impl Arities {
@@ -43,22 +61,10 @@ impl Arities {
         ensures { result ≡ [] }
     {
         Arities {
+            alloc,
             entries: Vec::new(alloc),
+            index: CountMap::new(alloc),
         }
-    }
-
-    /// The counts of these entries, the latest last. It takes no memory.
-    pub fn from_vec(entries: Vec<Arity>) -> Arities
-        ensures { result ≡ entries.items }
-    {
-        Arities { entries }
-    }
-
-    /// The entries, given back without taking memory.
-    pub fn into_vec(self) -> Vec<Arity>
-        ensures { result.items ≡ self }
-    {
-        self.entries
     }
 
     /// The entries, the latest last.
@@ -73,22 +79,33 @@ impl Arities {
         ensures ok { OnOk result (self.new ≡ self.old ++ record { path = path; count = count; external = external } ∷ []) }
         ensures err { OnErr result (self.new ≡ self.old) }
     {
-        self.entries.push(Arity {
+        let mut one = Vec::new(self.alloc);
+        one.push(Arity {
             path,
             count,
             external,
         })?;
-        Ok(())
+        self.take_over(one)
     }
 
-    /// Appends copies of entries, in their order. Where memory runs out, some of them may have been appended.
-    pub fn append(&mut self, alloc: Global, entries: &[Arity]) -> Result<(), Refusal>
-        ensures { Answers (seen (λ _. self.new) result) (Ok (self.old ++ entries.now)) }
+    /// Adds all entries of others behind its own. Where memory runs out, nothing changes.
+    pub fn append(&mut self, added: Arities) -> Result<(), AllocError>
+        ensures ok { OnOk result (self.new ≡ self.old ++ added) }
+        ensures err { OnErr result (self.new ≡ self.old) }
     {
-        'entries: for entry in entries {
-            let path = entry.path.copy(alloc)?;
-            self.add(path, entry.count, entry.external)?;
-        }
+        self.take_over(added.entries)
+    }
+
+    /// Takes entries over behind its own. All memory is taken before anything changes.
+    fn take_over(&mut self, added: Vec<Arity>) -> Result<(), AllocError>
+        ensures ok { OnOk result (self.new ≡ self.old ++ added.items) }
+        ensures err { OnErr result (self.new ≡ self.old) }
+    {
+        let mut added = added;
+        make_room(self.alloc, &mut self.index, &added)?;
+        let before = self.entries.len();
+        self.entries.append(&mut added)?;
+        note_all(&mut self.index, &self.entries[before..]);
         Ok(())
     }
 
@@ -97,32 +114,39 @@ impl Arities {
     pub fn arity_at(&self, path: &Path) -> Option<u8>
         ensures { result ≡ arity_at self.now path.now }
     {
-        match latest(&self.entries, path, false) {
+        match self.latest(path, false) {
             Some(count) => Some(count),
-            None => latest(&self.entries, path, true),
+            None => self.latest(path, true),
         }
     }
 }
 
-/// The count of the last entry of a path, among those of one sort.
-pub fn latest(entries: &[Arity], path: &Path, external: bool) -> Option<u8>
-    ensures { result ≡ latest path.now external entries.now }
+impl ArgumentCounts for Arities {
+    ghost counts = { λ arities. arities };
+
+    fn latest(&self, path: &Path, external: bool) -> Option<u8> {
+        self.index.latest(path, external)
+    }
+}
+
+/// Makes room for the counts of all entries, and changes no count.
+fn make_room(alloc: Global, index: &mut CountMap, entries: &[Arity]) -> Result<(), AllocError>
+    ensures same { SameCounts index.old index.new }
+    ensures room { OnOk result (HasRoom index.new entries.now) }
 {
-    let mut found = None;
     for entry in entries {
-        if is_of(entry, path, external) {
-            found = Some(entry.count);
-        }
+        let segments = Vec::from_slice(alloc, entry.path.segments())?;
+        index.make_room(Path::from_vec(segments))?;
     }
-    found
+    Ok(())
 }
 
-fn is_of(entry: &Arity, path: &Path, external: bool) -> bool
-    ensures { result ≡ is_of path.now external entry.now }
+/// Notes the counts of all entries, for which there is room. It takes no memory.
+fn note_all(index: &mut CountMap, entries: &[Arity])
+    requires { HasRoom index.old entries.now }
+    ensures { CountsOver index.old entries.now index.new }
 {
-    if external {
-        entry.external && entry.path == *path
-    } else {
-        !entry.external && entry.path == *path
+    for entry in entries {
+        index.note(&entry.path, entry.count, entry.external);
     }
 }

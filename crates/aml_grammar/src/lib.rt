@@ -4,6 +4,7 @@
 
 mod arities;
 mod context;
+mod counts;
 mod kinds;
 mod marks;
 mod opcode;
@@ -12,8 +13,9 @@ mod term;
 mod term_part;
 mod term_reader;
 
-pub use arities::{Arities, Arity, latest};
+pub use arities::{ArgumentCounts, Arities, Arity};
 pub use context::{Context, Earlier, Position};
+pub use counts::Counts;
 pub use kinds::{Class, OperandKind, OperandKinds, Row};
 pub use marks::Mark;
 pub use opcode::{Opcode, TermCode};

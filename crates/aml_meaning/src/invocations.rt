@@ -1,16 +1,16 @@
 //! Names where values stand, and calls of control methods (ACPI 6.5, 5.5.2 and 20.2.5).
-ghost use Rattle.std.specs.Prelude.{◌≡◌, ◌<◌, OnOk, Ok, List, map};
+ghost use Rattle.std.specs.Prelude.{◌≡◌};
 ghost use Rattle.std.specs.Prelude as list;
-ghost use Rattle.std.specs.List.{filter};
+ghost use Rattle.std.specs.FinMap.{get};
 ghost use Rattle.ar_space.specs.Change.{Does};
-ghost use Rattle.ar_space.specs.Outcome.{Answers, seen};
+ghost use Rattle.ar_space.specs.Outcome.{Answers};
 ghost use Rattle.aml_namespace.specs.Search.{found};
-ghost use Rattle.aml_meaning.specs.Invocations.{invocation_of_body, invocation_of_object, invocation_of, named_use, invocation_found, count_of_entry, count_through, arity_of_entry, body_arities, left};
+ghost use Rattle.aml_meaning.specs.Invocations.{invocation_of_body, invocation_of_object, invocation_of, named_use, invocation_found, count_of_entry, count_through, body_arities, left};
 
 use crate::invocation::Invocation;
 use crate::readings::{arguments_of, as_many, read_as};
 use crate::world_state::WorldState;
-use aml_grammar::{Arities, Arity};
+use aml_grammar::ArgumentCounts;
 use aml_namespace::Names;
 use aml_objects::{Entry, Field, MethodBody, NamedObject, Reference, Value};
 use aml_path::{NameString, Path};
@@ -54,25 +54,27 @@ impl<S> WorldState<S> {
         }
     }
 
-    /// How many arguments the names take that stand, and those of which an External told.
-    pub fn body_arities(&self, alloc: Global) -> Result<Arities, Refusal>
-        ensures { Answers result (Ok (body_arities self.now)) }
-    {
-        let mut arities = arities_of(alloc, &self.names, self.names.entries())?;
-        for arity in self.arities.entries() {
-            if arity.external {
-                arities.push(copied(alloc, arity)?)?;
-            }
-        }
-        Ok(Arities::from_vec(arities))
-    }
-
     /// The call of the control method at a path ends: its frame, and the names below it. It takes no memory.
     pub fn leave(&mut self, path: &Path)
         ensures { self.new ≡ left path.now self.old }
     {
         self.close_frame();
         self.remove_below(path);
+    }
+}
+
+/// In the body of a control method: how many arguments the names take that stand, and those of which an External told. Each is
+/// looked up where it stands, so that a call copies none.
+impl<S> ArgumentCounts for WorldState<S> {
+    ghost counts = { body_arities };
+
+    #[tactic(auto, using(crate::proofs::BodyCounts::counting))]
+    fn latest(&self, path: &Path, external: bool) -> Option<u8> {
+        if external {
+            self.arities.latest(path, true)
+        } else {
+            count_at(&self.names, path)
+        }
     }
 }
 
@@ -97,39 +99,14 @@ fn call_of(alloc: Global, path: &Path, body: &MethodBody) -> Result<Invocation, 
     }
 }
 
-/// How many arguments these names take.
-fn arities_of(
-    alloc: Global,
-    names: &Names,
-    entries: &[(Path, Entry)],
-) -> Result<Vec<Arity>, Refusal>
-    ensures { Answers (seen (λ list. list.items) result) (Ok (map (arity_of_entry names.now.map) entries.now)) }
+/// How many arguments what stands at a path takes, if something stands there.
+fn count_at(names: &Names, path: &Path) -> Option<u8>
+    ensures { result ≡ list.option_map (λ e. count_through names.now.map e.object) (get names.now.map path.now) }
 {
-    let mut list = Vec::new(alloc);
-    for entry in entries {
-        list.push(arity_of(alloc, names, entry)?)?;
+    match names.get(path) {
+        None => None,
+        Some(entry) => Some(count_through(names, &entry.object)),
     }
-    Ok(list)
-}
-
-fn arity_of(alloc: Global, names: &Names, entry: &(Path, Entry)) -> Result<Arity, Refusal>
-    ensures { Answers result (Ok (arity_of_entry names.now.map entry.now)) }
-{
-    Ok(Arity {
-        path: entry.0.copy(alloc)?,
-        count: count_through(names, &entry.1.object),
-        external: false,
-    })
-}
-
-fn copied(alloc: Global, arity: &Arity) -> Result<Arity, Refusal>
-    ensures { Answers result (Ok arity.now) }
-{
-    Ok(Arity {
-        path: arity.path.copy(alloc)?,
-        count: arity.count,
-        external: arity.external,
-    })
 }
 
 /// How many arguments an object takes; an alias takes those of its target.

@@ -1,9 +1,11 @@
 //! The arguments that names take, and freeing all mutexes (ACPI 6.5, 5.4).
-ghost use Rattle.std.specs.Prelude.{◌≡◌};
+ghost use Rattle.std.specs.Prelude.{◌≡◌, []};
 ghost use Rattle.aml_meaning.specs.Calling.{released};
 
 use crate::world_state::WorldState;
 use aml_grammar::Arities;
+use std::alloc::Global;
+use std::mem;
 
 impl<S> WorldState<S> {
     /// The arguments that names take, as the tables so far have declared them, and as Externals told.
@@ -11,6 +13,14 @@ impl<S> WorldState<S> {
         ensures { result.now ≡ self.now.arities }
     {
         &self.arities
+    }
+
+    /// Hands out the arguments that names take, and keeps none: they are set again once more are declared. It takes no memory.
+    pub fn take_arities(&mut self, alloc: Global) -> Arities
+        ensures arities { result ≡ self.old.arities }
+        ensures none { self.new ≡ record self.old { arities = [] } }
+    {
+        mem::replace(&mut self.arities, Arities::new(alloc))
     }
 
     /// Takes over the arguments that names take from now on. It takes no memory.

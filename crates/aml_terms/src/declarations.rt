@@ -1,38 +1,43 @@
 //! The arities that hold while a list is read.
-ghost use Rattle.std.specs.Prelude.{List, ◌≡◌, ◌≤◌, ◌++◌, ◌∷◌, [], Ok, OnOk, length};
+ghost use Rattle.std.specs.Prelude.{◌≡◌, ◌≤◌, ◌++◌, ◌∷◌, [], Ok, OnOk, length};
 ghost use Rattle.ar_space.specs.Outcome.{Answers};
-ghost use Rattle.aml_grammar.specs.declared.arities.Arity.{Arity};
 ghost use Rattle.aml_grammar.specs.Arities.{latest, arity_at, known, search_up, found, arity_of, or_path};
 
-use aml_grammar::{Arities, Arity, latest};
+use crate::before::Before;
+use aml_grammar::{ArgumentCounts, Arities};
 use aml_path::{NameString, Path, Seg};
 use ar_space::Refusal;
 use std::alloc::{AllocError, Global};
-use std::marker::Model;
+use std::marker::{Model, PhantomData};
 
-/// The arities from before a list, and then those that it declares itself.
+/// The counts that are lent from before a list, and then those that it declares itself.
 #[derive(Drop)]
-pub(crate) struct Declarations<'a> {
-    before: &'a Arities,
+pub(crate) struct Declarations<'a, C: ArgumentCounts, B: Before> {
+    lent: &'a C,
     added: Arities,
+    before: PhantomData<B>,
 }
 
-impl<'a> Model for Declarations<'a> {
-    ghost use Rattle.std.specs.Prelude.{List, ◌++◌};
+impl<'a, C: ArgumentCounts, B: Before> Model for Declarations<'a, C, B> {
+    ghost use Rattle.std.specs.Prelude.{◌≡◌, List, ◌++◌};
     ghost use Rattle.aml_grammar.specs.declared.arities.Arity.{Arity};
 
     ghost Value = { List Arity };
 
-    ghost view = { λ d. d.before.now ++ d.added };
+    ghost view = { λ d. B.before ++ d.added };
+
+    ghost invariant = { λ d. C.counts d.lent.now ≡ B.before };
 }
 
-impl<'a> Declarations<'a> {
-    pub(crate) fn new(alloc: Global, before: &'a Arities) -> Declarations<'a>
-        ensures { result ≡ before.now }
+impl<'a, C: ArgumentCounts, B: Before> Declarations<'a, C, B> {
+    pub(crate) fn new(alloc: Global, lent: &'a C) -> Declarations<'a, C, B>
+        requires { C.counts lent.now ≡ B.before }
+        ensures { result ≡ B.before }
     {
         Declarations {
-            before,
+            lent,
             added: Arities::new(alloc),
+            before: PhantomData,
         }
     }
 
@@ -43,23 +48,20 @@ impl<'a> Declarations<'a> {
         self.added.add(path, count, external)
     }
 
-    /// All of them, as arities of their own.
-    pub(crate) fn all(&self, alloc: Global) -> Result<Arities, Refusal>
-        ensures { Answers result (Ok self.now) }
+    /// What the list has declared itself. It takes no memory.
+    pub(crate) fn into_added(self) -> Arities
+        ensures { B.before ++ result ≡ self.entry }
     {
-        let mut list = Arities::new(alloc);
-        list.append(alloc, self.before.entries())?;
-        list.append(alloc, self.added.entries())?;
-        Ok(list)
+        self.added
     }
 
     #[tactic(auto, using(crate::proofs::Appended::latest_append))]
     fn latest(&self, path: &Path, external: bool) -> Option<u8>
         ensures { result ≡ latest path.now external self.now }
     {
-        match latest(self.added.entries(), path, external) {
+        match self.added.latest(path, external) {
             Some(count) => Some(count),
-            None => latest(self.before.entries(), path, external),
+            None => self.lent.latest(path, external),
         }
     }
 

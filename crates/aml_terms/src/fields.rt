@@ -5,17 +5,21 @@ ghost use Rattle.ar_space.specs.Change.{Does};
 ghost use Rattle.aml_grammar.specs.Operands.{reserved_field, access_field, extended_access_field, named_field};
 ghost use Rattle.aml_grammar.specs.View.{tree_view};
 
+use crate::before::Before;
 use crate::names::segment;
 use crate::operands::declare;
 use crate::reader::Reader;
-use aml_grammar::{Context, Operand, Term, TermCode};
+use aml_grammar::{ArgumentCounts, Context, Operand, Term, TermCode};
 use aml_path::{NameString, Path, Prefix};
 use ar_space::Refusal;
 use std::alloc::Global;
 
 /// Bits that are passed over.
 #[tactic(auto, using(crate::proofs::Viewed::viewing), unfolding(aml_grammar::specs::Operands::reserved_field))]
-pub(crate) fn reserved_field(alloc: Global, reader: &mut Reader<'_>) -> Result<Term, Refusal>
+pub(crate) fn reserved_field<C: ArgumentCounts, B: Before>(
+    alloc: Global,
+    reader: &mut Reader<'_, C, B>,
+) -> Result<Term, Refusal>
     ensures reads { Does (seen tree_view result) reader.new reserved_field reader.old }
     ensures shorter { OnOk result (length reader.new.rest < length reader.old.rest) }
 {
@@ -31,7 +35,10 @@ pub(crate) fn reserved_field(alloc: Global, reader: &mut Reader<'_>) -> Result<T
 
 /// The access and its attribute for the elements after it.
 #[tactic(auto, using(crate::proofs::Viewed::viewing), unfolding(aml_grammar::specs::Operands::access_field))]
-pub(crate) fn access_field(alloc: Global, reader: &mut Reader<'_>) -> Result<Term, Refusal>
+pub(crate) fn access_field<C: ArgumentCounts, B: Before>(
+    alloc: Global,
+    reader: &mut Reader<'_, C, B>,
+) -> Result<Term, Refusal>
     ensures reads { Does (seen tree_view result) reader.new access_field reader.old }
     ensures shorter { OnOk result (length reader.new.rest < length reader.old.rest) }
 {
@@ -49,7 +56,10 @@ pub(crate) fn access_field(alloc: Global, reader: &mut Reader<'_>) -> Result<Ter
 
 /// The access, its attribute and its length for the elements after it.
 #[tactic(auto, using(crate::proofs::Viewed::viewing), unfolding(aml_grammar::specs::Operands::extended_access_field))]
-pub(crate) fn extended_access_field(alloc: Global, reader: &mut Reader<'_>) -> Result<Term, Refusal>
+pub(crate) fn extended_access_field<C: ArgumentCounts, B: Before>(
+    alloc: Global,
+    reader: &mut Reader<'_, C, B>,
+) -> Result<Term, Refusal>
     ensures reads { Does (seen tree_view result) reader.new extended_access_field reader.old }
     ensures shorter { OnOk result (length reader.new.rest < length reader.old.rest) }
 {
@@ -69,9 +79,9 @@ pub(crate) fn extended_access_field(alloc: Global, reader: &mut Reader<'_>) -> R
 
 /// A segment and a count of bits: it is declared in the scope where the Field stands.
 #[tactic(auto, using(crate::proofs::Viewed::viewing), unfolding(aml_grammar::specs::Operands::named_field))]
-pub(crate) fn named_field(
+pub(crate) fn named_field<C: ArgumentCounts, B: Before>(
     alloc: Global,
-    reader: &mut Reader<'_>,
+    reader: &mut Reader<'_, C, B>,
     scope: &Path,
     context: Context,
 ) -> Result<Term, Refusal>

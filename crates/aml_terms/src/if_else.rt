@@ -6,10 +6,11 @@ ghost use Rattle.aml_grammar.specs.Grammar.{if_term, else_part, else_operand, el
 ghost use Rattle.aml_grammar.specs.View.{part_view, tree_view};
 ghost use Rattle.aml_grammar.specs.declared.context.Position.TheVariants as positions;
 
+use crate::before::Before;
 use crate::positions::{at_else, with_else};
 use crate::reader::Reader;
 use crate::terms::{list_operand, row_operands};
-use aml_grammar::{Context, Opcode, Operand, Position, Row, Term, TermCode};
+use aml_grammar::{ArgumentCounts, Context, Opcode, Operand, Position, Row, Term, TermCode};
 use aml_path::Path;
 use ar_space::Refusal;
 use std::alloc::Global;
@@ -17,9 +18,9 @@ use std::alloc::Global;
 /// An If, with the Else that may follow it (DefIfElse).
 #[cycle(parse)]
 #[tactic(auto, using(crate::proofs::Levels::leveling), unfolding(aml_grammar::specs::Grammar::if_term))]
-pub(crate) fn if_term(
+pub(crate) fn if_term<C: ArgumentCounts, B: Before>(
     alloc: Global,
-    reader: &mut Reader<'_>,
+    reader: &mut Reader<'_, C, B>,
     levels: usize,
     scope: &Path,
     context: Context,
@@ -38,9 +39,9 @@ const ELSE: u8 = 0xA1;
 
 #[cycle(parse)]
 #[tactic(auto, using(crate::proofs::Levels::leveling), unfolding(aml_grammar::specs::Grammar::else_part))]
-fn else_part(
+fn else_part<C: ArgumentCounts, B: Before>(
     alloc: Global,
-    reader: &mut Reader<'_>,
+    reader: &mut Reader<'_, C, B>,
     levels: usize,
     scope: &Path,
     context: Context,
@@ -59,9 +60,9 @@ fn else_part(
 
 #[cycle(parse)]
 #[tactic(auto, using(crate::proofs::Levels::leveling), unfolding(aml_grammar::specs::Grammar::else_operand))]
-fn else_operand(
+fn else_operand<C: ArgumentCounts, B: Before>(
     alloc: Global,
-    reader: &mut Reader<'_>,
+    reader: &mut Reader<'_, C, B>,
     levels: usize,
     scope: &Path,
     context: Context,
@@ -74,9 +75,9 @@ fn else_operand(
 
 #[cycle(parse)]
 #[tactic(auto, using(crate::proofs::Levels::leveling), unfolding(aml_grammar::specs::Grammar::else_term))]
-fn else_term(
+fn else_term<C: ArgumentCounts, B: Before>(
     alloc: Global,
-    reader: &mut Reader<'_>,
+    reader: &mut Reader<'_, C, B>,
     levels: usize,
     scope: &Path,
     context: Context,
@@ -97,9 +98,9 @@ fn else_term(
 /// A list in a package.
 #[cycle(parse)]
 #[tactic(auto, using(crate::proofs::Levels::leveling))]
-fn packed_list(
+fn packed_list<C: ArgumentCounts, B: Before>(
     alloc: Global,
-    reader: &mut Reader<'_>,
+    reader: &mut Reader<'_, C, B>,
     levels: usize,
     scope: &Path,
     context: Context,

@@ -2,6 +2,7 @@
 //! (ACPI 6.5, 20.2).
 #![tactic(auto)]
 
+mod before;
 mod declarations;
 mod fields;
 mod if_else;
@@ -15,6 +16,7 @@ mod table;
 mod terms;
 
 pub use aml_grammar::{
-    Arities, Arity, Item, Mark, Opcode, Operand, OperandView, Term, TermCode, TermPart, TermReader,
+    ArgumentCounts, Arities, Arity, Item, Mark, Opcode, Operand, OperandView, Term, TermCode,
+    TermPart, TermReader,
 };
 pub use parse::{parse_list, parse_table, read_as_spelled};

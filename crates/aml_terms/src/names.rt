@@ -5,7 +5,9 @@ ghost use Rattle.ar_space.specs.Change.{Does};
 ghost use Rattle.aml_grammar.specs.State.{times};
 ghost use Rattle.aml_grammar.specs.Names.{starts_name, lead_name_char, name_char, segment, counted_segments, multiple_segments, segments_at, segments, rooted_name, relative_name, name_at, name_string};
 
+use crate::before::Before;
 use crate::reader::Reader;
+use aml_grammar::ArgumentCounts;
 use aml_path::{NameString, Prefix, Seg, is_lead_name_char, is_name_char};
 use ar_space::{NameFault, Refusal};
 use std::alloc::Global;
@@ -19,7 +21,9 @@ pub(crate) fn starts_name(byte: u8) -> bool
 }
 
 #[tactic(auto, using(crate::proofs::Steps::reading), unfolding(aml_grammar::specs::Names::lead_name_char))]
-fn lead_name_char(reader: &mut Reader<'_>) -> Result<u8, Refusal>
+fn lead_name_char<C: ArgumentCounts, B: Before>(
+    reader: &mut Reader<'_, C, B>,
+) -> Result<u8, Refusal>
     ensures reads { Does result reader.new lead_name_char reader.old }
     ensures shorter { OnOk result (length reader.new.rest < length reader.old.rest) }
 {
@@ -32,7 +36,7 @@ fn lead_name_char(reader: &mut Reader<'_>) -> Result<u8, Refusal>
 }
 
 #[tactic(auto, using(crate::proofs::Steps::reading), unfolding(aml_grammar::specs::Names::name_char))]
-fn name_char(reader: &mut Reader<'_>) -> Result<u8, Refusal>
+fn name_char<C: ArgumentCounts, B: Before>(reader: &mut Reader<'_, C, B>) -> Result<u8, Refusal>
     ensures reads { Does result reader.new name_char reader.old }
     ensures shorter { OnOk result (length reader.new.rest < length reader.old.rest) }
 {
@@ -46,7 +50,9 @@ fn name_char(reader: &mut Reader<'_>) -> Result<u8, Refusal>
 
 /// One segment.
 #[tactic(auto, using(crate::proofs::Steps::reading), unfolding(aml_grammar::specs::Names::segment))]
-pub(crate) fn segment(reader: &mut Reader<'_>) -> Result<Seg, Refusal>
+pub(crate) fn segment<C: ArgumentCounts, B: Before>(
+    reader: &mut Reader<'_, C, B>,
+) -> Result<Seg, Refusal>
     ensures reads { Does result reader.new segment reader.old }
     ensures shorter { OnOk result (length reader.new.rest < length reader.old.rest) }
 {
@@ -57,7 +63,11 @@ pub(crate) fn segment(reader: &mut Reader<'_>) -> Result<Seg, Refusal>
     Seg::new([first, second, third, fourth])
 }
 
-fn counted_segments(alloc: Global, reader: &mut Reader<'_>, count: u8) -> Result<Vec<Seg>, Refusal>
+fn counted_segments<C: ArgumentCounts, B: Before>(
+    alloc: Global,
+    reader: &mut Reader<'_, C, B>,
+    count: u8,
+) -> Result<Vec<Seg>, Refusal>
     ensures reads { Does (seen (λ v. v.items) result) reader.new (times segment count) reader.old }
     ensures shorter { OnOk result (length reader.new.rest + count ≤ length reader.old.rest) }
 {
@@ -70,7 +80,10 @@ fn counted_segments(alloc: Global, reader: &mut Reader<'_>, count: u8) -> Result
 }
 
 #[tactic(auto, using(crate::proofs::Steps::reading), unfolding(aml_grammar::specs::Names::multiple_segments))]
-fn multiple_segments(alloc: Global, reader: &mut Reader<'_>) -> Result<Vec<Seg>, Refusal>
+fn multiple_segments<C: ArgumentCounts, B: Before>(
+    alloc: Global,
+    reader: &mut Reader<'_, C, B>,
+) -> Result<Vec<Seg>, Refusal>
     ensures reads { Does (seen (λ v. v.items) result) reader.new multiple_segments reader.old }
     ensures shorter { OnOk result (length reader.new.rest < length reader.old.rest) }
 {
@@ -83,7 +96,10 @@ fn multiple_segments(alloc: Global, reader: &mut Reader<'_>) -> Result<Vec<Seg>,
 
 /// The segments of a name after its prefix.
 #[tactic(auto, using(crate::proofs::Steps::reading), unfolding(aml_grammar::specs::Names::segments))]
-fn segments(alloc: Global, reader: &mut Reader<'_>) -> Result<Vec<Seg>, Refusal>
+fn segments<C: ArgumentCounts, B: Before>(
+    alloc: Global,
+    reader: &mut Reader<'_, C, B>,
+) -> Result<Vec<Seg>, Refusal>
     ensures reads { Does (seen (λ v. v.items) result) reader.new segments reader.old }
     ensures shorter { OnOk result (length reader.new.rest < length reader.old.rest) }
 {
@@ -104,7 +120,10 @@ fn segments(alloc: Global, reader: &mut Reader<'_>) -> Result<Vec<Seg>, Refusal>
 }
 
 #[tactic(auto, using(crate::proofs::Steps::reading), unfolding(aml_grammar::specs::Names::rooted_name))]
-fn rooted_name(alloc: Global, reader: &mut Reader<'_>) -> Result<NameString, Refusal>
+fn rooted_name<C: ArgumentCounts, B: Before>(
+    alloc: Global,
+    reader: &mut Reader<'_, C, B>,
+) -> Result<NameString, Refusal>
     ensures reads { Does result reader.new rooted_name reader.old }
     ensures shorter { OnOk result (length reader.new.rest < length reader.old.rest) }
 {
@@ -114,7 +133,10 @@ fn rooted_name(alloc: Global, reader: &mut Reader<'_>) -> Result<NameString, Ref
 }
 
 #[tactic(auto, using(crate::proofs::Steps::reading), unfolding(aml_grammar::specs::Names::relative_name))]
-fn relative_name(alloc: Global, reader: &mut Reader<'_>) -> Result<NameString, Refusal>
+fn relative_name<C: ArgumentCounts, B: Before>(
+    alloc: Global,
+    reader: &mut Reader<'_, C, B>,
+) -> Result<NameString, Refusal>
     ensures reads { Does result reader.new relative_name reader.old }
     ensures shorter { OnOk result (length reader.new.rest < length reader.old.rest) }
 {
@@ -125,7 +147,10 @@ fn relative_name(alloc: Global, reader: &mut Reader<'_>) -> Result<NameString, R
 
 /// A name, where nothing else may stand: not the null name alone.
 #[tactic(auto, using(crate::proofs::Steps::reading), unfolding(aml_grammar::specs::Names::name_string))]
-pub(crate) fn name_string(alloc: Global, reader: &mut Reader<'_>) -> Result<NameString, Refusal>
+pub(crate) fn name_string<C: ArgumentCounts, B: Before>(
+    alloc: Global,
+    reader: &mut Reader<'_, C, B>,
+) -> Result<NameString, Refusal>
     ensures reads { Does result reader.new name_string reader.old }
     ensures shorter { OnOk result (length reader.new.rest < length reader.old.rest) }
 {

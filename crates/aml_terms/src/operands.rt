@@ -8,9 +8,10 @@ ghost use Rattle.aml_grammar.specs.Grammar.{Inner, operand};
 ghost use Rattle.aml_grammar.specs.Operands.{holds_terms};
 ghost use Rattle.aml_grammar.specs.View.{part_view};
 
+use crate::before::Before;
 use crate::names::name_string;
 use crate::reader::Reader;
-use aml_grammar::{Context, Earlier, Operand, OperandKind};
+use aml_grammar::{ArgumentCounts, Context, Earlier, Operand, OperandKind};
 use aml_path::{NameString, Path, Prefix};
 use ar_space::{NameFault, Refusal, TermFault};
 use std::alloc::Global;
@@ -62,9 +63,9 @@ fn allowed_path(
 
 /// A declaration adds its arity, but not in a body.
 #[tactic(auto, using(crate::proofs::Viewed::viewing))]
-pub(crate) fn declare(
+pub(crate) fn declare<C: ArgumentCounts, B: Before>(
     alloc: Global,
-    reader: &mut Reader<'_>,
+    reader: &mut Reader<'_, C, B>,
     context: Context,
     path: &Path,
     count: u8,
@@ -82,9 +83,9 @@ pub(crate) fn declare(
 }
 
 #[tactic(auto, using(crate::proofs::Viewed::viewing))]
-fn declare_earlier(
+fn declare_earlier<C: ArgumentCounts, B: Before>(
     alloc: Global,
-    reader: &mut Reader<'_>,
+    reader: &mut Reader<'_, C, B>,
     context: Context,
     earlier: &Earlier,
     count: u8,
@@ -102,7 +103,10 @@ fn declare_earlier(
 // ---- names
 
 #[tactic(auto, using(crate::proofs::Viewed::viewing), unfolding(aml_grammar::specs::Operands::name_operand))]
-pub(crate) fn name_operand(alloc: Global, reader: &mut Reader<'_>) -> Result<Operand, Refusal>
+pub(crate) fn name_operand<C: ArgumentCounts, B: Before>(
+    alloc: Global,
+    reader: &mut Reader<'_, C, B>,
+) -> Result<Operand, Refusal>
     ensures reads { Does (seen part_view result) reader.new name_operand reader.old }
     ensures kept { OnOk result (length reader.new.rest ≤ length reader.old.rest) }
 {
@@ -111,9 +115,9 @@ pub(crate) fn name_operand(alloc: Global, reader: &mut Reader<'_>) -> Result<Ope
 
 /// The name of a Scope: its list stands where the name is found, or else at the path that it stands for.
 #[tactic(auto, using(crate::proofs::Viewed::viewing), unfolding(aml_grammar::specs::Operands::scope_name))]
-pub(crate) fn scope_name(
+pub(crate) fn scope_name<C: ArgumentCounts, B: Before>(
     alloc: Global,
-    reader: &mut Reader<'_>,
+    reader: &mut Reader<'_, C, B>,
     scope: &Path,
     earlier: &mut Earlier,
 ) -> Result<Operand, Refusal>
@@ -128,9 +132,9 @@ pub(crate) fn scope_name(
 }
 
 #[tactic(auto, using(crate::proofs::Viewed::viewing), unfolding(aml_grammar::specs::Operands::alias_source))]
-pub(crate) fn alias_source(
+pub(crate) fn alias_source<C: ArgumentCounts, B: Before>(
     alloc: Global,
-    reader: &mut Reader<'_>,
+    reader: &mut Reader<'_, C, B>,
     scope: &Path,
     earlier: &mut Earlier,
 ) -> Result<Operand, Refusal>
@@ -144,9 +148,9 @@ pub(crate) fn alias_source(
 }
 
 #[tactic(auto, using(crate::proofs::Viewed::viewing), unfolding(aml_grammar::specs::Operands::external_name))]
-pub(crate) fn external_name(
+pub(crate) fn external_name<C: ArgumentCounts, B: Before>(
     alloc: Global,
-    reader: &mut Reader<'_>,
+    reader: &mut Reader<'_, C, B>,
     scope: &Path,
     earlier: &mut Earlier,
 ) -> Result<Operand, Refusal>
@@ -161,9 +165,9 @@ pub(crate) fn external_name(
 
 /// A name that is declared: it adds its arity as soon as it is accepted.
 #[tactic(auto, using(crate::proofs::Viewed::viewing), unfolding(aml_grammar::specs::Operands::declared_name))]
-pub(crate) fn declared_name(
+pub(crate) fn declared_name<C: ArgumentCounts, B: Before>(
     alloc: Global,
-    reader: &mut Reader<'_>,
+    reader: &mut Reader<'_, C, B>,
     scope: &Path,
     context: Context,
     start: usize,
@@ -184,7 +188,10 @@ pub(crate) fn declared_name(
 // ---- numbers and bytes
 
 #[tactic(auto, using(crate::proofs::Viewed::viewing), unfolding(aml_grammar::specs::Operands::integer_operand))]
-pub(crate) fn integer_operand(reader: &mut Reader<'_>, width: usize) -> Result<Operand, Refusal>
+pub(crate) fn integer_operand<C: ArgumentCounts, B: Before>(
+    reader: &mut Reader<'_, C, B>,
+    width: usize,
+) -> Result<Operand, Refusal>
     requires { width ≤ 8 }
     ensures reads { Does (seen part_view result) reader.new (integer_operand width) reader.old }
     ensures kept { OnOk result (length reader.new.rest ≤ length reader.old.rest) }
@@ -194,9 +201,9 @@ pub(crate) fn integer_operand(reader: &mut Reader<'_>, width: usize) -> Result<O
 
 /// The flags of a Method: bits 2 to 0 are its number of arguments.
 #[tactic(auto, using(crate::proofs::Viewed::viewing), unfolding(aml_grammar::specs::Operands::method_flags))]
-pub(crate) fn method_flags(
+pub(crate) fn method_flags<C: ArgumentCounts, B: Before>(
     alloc: Global,
-    reader: &mut Reader<'_>,
+    reader: &mut Reader<'_, C, B>,
     context: Context,
     earlier: &mut Earlier,
 ) -> Result<Operand, Refusal>
@@ -210,8 +217,8 @@ pub(crate) fn method_flags(
 
 /// The object type of an External.
 #[tactic(auto, using(crate::proofs::Viewed::viewing), unfolding(aml_grammar::specs::Operands::object_type))]
-pub(crate) fn object_type(
-    reader: &mut Reader<'_>,
+pub(crate) fn object_type<C: ArgumentCounts, B: Before>(
+    reader: &mut Reader<'_, C, B>,
     earlier: &mut Earlier,
 ) -> Result<Operand, Refusal>
     ensures reads { Does (seen (λ x. (part_view x, earlier.new)) result) reader.new (object_type earlier.old) reader.old }
@@ -227,9 +234,9 @@ const METHOD_TYPE: u8 = 8;
 
 /// The argument count of an External: it counts where the object type is that of a method.
 #[tactic(auto, using(crate::proofs::Viewed::viewing), unfolding(aml_grammar::specs::Operands::argument_count))]
-pub(crate) fn argument_count(
+pub(crate) fn argument_count<C: ArgumentCounts, B: Before>(
     alloc: Global,
-    reader: &mut Reader<'_>,
+    reader: &mut Reader<'_, C, B>,
     context: Context,
     earlier: &mut Earlier,
 ) -> Result<Operand, Refusal>
@@ -248,7 +255,10 @@ pub(crate) fn argument_count(
 
 /// The text of a String.
 #[tactic(auto, using(crate::proofs::Viewed::viewing), unfolding(aml_grammar::specs::Operands::text_operand))]
-pub(crate) fn text_operand(alloc: Global, reader: &mut Reader<'_>) -> Result<Operand, Refusal>
+pub(crate) fn text_operand<C: ArgumentCounts, B: Before>(
+    alloc: Global,
+    reader: &mut Reader<'_, C, B>,
+) -> Result<Operand, Refusal>
     ensures reads { Does (seen part_view result) reader.new text_operand reader.old }
     ensures kept { OnOk result (length reader.new.rest ≤ length reader.old.rest) }
 {
@@ -257,7 +267,10 @@ pub(crate) fn text_operand(alloc: Global, reader: &mut Reader<'_>) -> Result<Ope
 
 /// The rest of a package as bytes.
 #[tactic(auto, using(crate::proofs::Viewed::viewing), unfolding(aml_grammar::specs::Operands::bytes_operand))]
-pub(crate) fn bytes_operand(alloc: Global, reader: &mut Reader<'_>) -> Result<Operand, Refusal>
+pub(crate) fn bytes_operand<C: ArgumentCounts, B: Before>(
+    alloc: Global,
+    reader: &mut Reader<'_, C, B>,
+) -> Result<Operand, Refusal>
     ensures reads { Does (seen part_view result) reader.new bytes_operand reader.old }
     ensures kept { OnOk result (length reader.new.rest ≤ length reader.old.rest) }
 {
@@ -268,9 +281,9 @@ pub(crate) fn bytes_operand(alloc: Global, reader: &mut Reader<'_>) -> Result<Op
 
 /// An operand of a kind that holds no terms.
 #[tactic(auto, using(crate::proofs::Levels::leveling), unfolding(aml_grammar::specs::Grammar::operand))]
-pub(crate) fn operand(
+pub(crate) fn operand<C: ArgumentCounts, B: Before>(
     alloc: Global,
-    reader: &mut Reader<'_>,
+    reader: &mut Reader<'_, C, B>,
     scope: &Path,
     context: Context,
     start: usize,

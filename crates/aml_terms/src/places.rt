@@ -5,12 +5,13 @@ ghost use Rattle.ar_space.specs.Change.{Does};
 ghost use Rattle.aml_grammar.specs.Grammar.{super_name, target, simple_name, connection, connect_field, field, fields, fields_operand, by_arities, term_at, is_slot};
 ghost use Rattle.aml_grammar.specs.View.{part_view, tree_view};
 
+use crate::before::Before;
 use crate::fields::{access_field, extended_access_field, named_field, reserved_field};
 use crate::names::starts_name;
 use crate::operands::name_operand;
 use crate::reader::Reader;
 use crate::terms::term_operand;
-use aml_grammar::{Context, Operand, Position, Term, TermCode};
+use aml_grammar::{ArgumentCounts, Context, Operand, Position, Term, TermCode};
 use aml_path::Path;
 use ar_space::{NameFault, Refusal, TermFault};
 use std::alloc::Global;
@@ -18,9 +19,9 @@ use std::alloc::Global;
 /// A place that is read or written: a name, a local, an argument, Debug, or a term that gives a reference.
 #[cycle(parse)]
 #[tactic(auto, using(crate::proofs::Levels::leveling), unfolding(aml_grammar::specs::Grammar::super_name))]
-pub(crate) fn super_name(
+pub(crate) fn super_name<C: ArgumentCounts, B: Before>(
     alloc: Global,
-    reader: &mut Reader<'_>,
+    reader: &mut Reader<'_, C, B>,
     levels: usize,
     scope: &Path,
     context: Context,
@@ -41,9 +42,9 @@ pub(crate) fn super_name(
 /// A place that a result is stored to, or none.
 #[cycle(parse)]
 #[tactic(auto, using(crate::proofs::Levels::leveling), unfolding(aml_grammar::specs::Grammar::target))]
-pub(crate) fn target(
+pub(crate) fn target<C: ArgumentCounts, B: Before>(
     alloc: Global,
-    reader: &mut Reader<'_>,
+    reader: &mut Reader<'_, C, B>,
     levels: usize,
     scope: &Path,
     context: Context,
@@ -70,9 +71,9 @@ fn is_slot(byte: u8) -> bool
 /// A name, a local or an argument.
 #[cycle(parse)]
 #[tactic(auto, using(crate::proofs::Levels::leveling), unfolding(aml_grammar::specs::Grammar::simple_name))]
-pub(crate) fn simple_name(
+pub(crate) fn simple_name<C: ArgumentCounts, B: Before>(
     alloc: Global,
-    reader: &mut Reader<'_>,
+    reader: &mut Reader<'_, C, B>,
     levels: usize,
     scope: &Path,
     context: Context,
@@ -94,9 +95,9 @@ const BUFFER: u8 = 0x11;
 /// What the elements after it are connected to: a name or a Buffer.
 #[cycle(parse)]
 #[tactic(auto, using(crate::proofs::Levels::leveling), unfolding(aml_grammar::specs::Grammar::connection))]
-fn connection(
+fn connection<C: ArgumentCounts, B: Before>(
     alloc: Global,
-    reader: &mut Reader<'_>,
+    reader: &mut Reader<'_, C, B>,
     levels: usize,
     scope: &Path,
     context: Context,
@@ -116,9 +117,9 @@ fn connection(
 
 #[cycle(parse)]
 #[tactic(auto, using(crate::proofs::Levels::leveling), unfolding(aml_grammar::specs::Grammar::connect_field))]
-fn connect_field(
+fn connect_field<C: ArgumentCounts, B: Before>(
     alloc: Global,
-    reader: &mut Reader<'_>,
+    reader: &mut Reader<'_, C, B>,
     levels: usize,
     scope: &Path,
     context: Context,
@@ -138,9 +139,9 @@ fn connect_field(
 
 #[cycle(parse)]
 #[tactic(auto, using(crate::proofs::Levels::leveling), unfolding(aml_grammar::specs::Grammar::field))]
-fn field(
+fn field<C: ArgumentCounts, B: Before>(
     alloc: Global,
-    reader: &mut Reader<'_>,
+    reader: &mut Reader<'_, C, B>,
     levels: usize,
     scope: &Path,
     context: Context,
@@ -164,9 +165,9 @@ fn field(
 
 /// Field elements until nothing is left.
 #[cycle(parse)]
-fn fields(
+fn fields<C: ArgumentCounts, B: Before>(
     alloc: Global,
-    reader: &mut Reader<'_>,
+    reader: &mut Reader<'_, C, B>,
     levels: usize,
     scope: &Path,
     context: Context,
@@ -185,9 +186,9 @@ fn fields(
 /// The rest of a package as field elements.
 #[cycle(parse)]
 #[tactic(auto, using(crate::proofs::Levels::leveling), unfolding(aml_grammar::specs::Grammar::fields_operand))]
-pub(crate) fn fields_operand(
+pub(crate) fn fields_operand<C: ArgumentCounts, B: Before>(
     alloc: Global,
-    reader: &mut Reader<'_>,
+    reader: &mut Reader<'_, C, B>,
     levels: usize,
     scope: &Path,
     context: Context,

@@ -8,10 +8,13 @@ ghost use Rattle.aml_grammar.specs.Tree.{term};
 ghost use Rattle.aml_grammar.specs.Shape.{parts_of};
 ghost use Rattle.aml_grammar.specs.declared.opcode.TermCode.TheVariants as codes;
 
+use crate::before::Before;
 use crate::names::name_string;
 use crate::reader::Reader;
 use crate::table::row_of;
-use aml_grammar::{Class, Context, Opcode, Operand, OperandKind, Position, Row, Term, TermCode};
+use aml_grammar::{
+    ArgumentCounts, Class, Context, Opcode, Operand, OperandKind, Position, Row, Term, TermCode,
+};
 use aml_path::{NameString, Path};
 use ar_space::{Refusal, TermFault};
 use std::alloc::Global;
@@ -122,7 +125,7 @@ const EXT_OP_PREFIX: u8 = 0x5B;
 
 /// The number of an opcode: one byte, or two after ExtOpPrefix.
 #[tactic(auto, using(crate::proofs::Steps::reading), unfolding(aml_grammar::specs::Grammar::opcode))]
-fn opcode(reader: &mut Reader<'_>) -> Result<u16, Refusal>
+fn opcode<C: ArgumentCounts, B: Before>(reader: &mut Reader<'_, C, B>) -> Result<u16, Refusal>
     ensures reads { Does result reader.new opcode reader.old }
     ensures shorter { OnOk result (length reader.new.rest < length reader.old.rest) }
 {
@@ -137,8 +140,8 @@ fn opcode(reader: &mut Reader<'_>) -> Result<u16, Refusal>
 
 /// The row of the next opcode, which may stand in this position.
 #[tactic(auto, using(crate::proofs::Steps::reading), unfolding(aml_grammar::specs::Grammar::row_at))]
-pub(crate) fn row_at(
-    reader: &mut Reader<'_>,
+pub(crate) fn row_at<C: ArgumentCounts, B: Before>(
+    reader: &mut Reader<'_, C, B>,
     position: Position,
     context: Context,
     start: usize,
@@ -163,7 +166,10 @@ pub(crate) fn row_at(
 
 /// An element of a package that is a name.
 #[tactic(auto, using(crate::proofs::Viewed::viewing), unfolding(aml_grammar::specs::Grammar::element_name))]
-pub(crate) fn element_name(alloc: Global, reader: &mut Reader<'_>) -> Result<Term, Refusal>
+pub(crate) fn element_name<C: ArgumentCounts, B: Before>(
+    alloc: Global,
+    reader: &mut Reader<'_, C, B>,
+) -> Result<Term, Refusal>
     ensures reads { Does (seen tree_view result) reader.new element_name reader.old }
     ensures shorter { OnOk result (length reader.new.rest < length reader.old.rest) }
 {
@@ -178,9 +184,9 @@ pub(crate) fn element_name(alloc: Global, reader: &mut Reader<'_>) -> Result<Ter
 
 /// How many arguments a name takes; a call with arguments is marked.
 #[tactic(auto, using(crate::proofs::Steps::reading), unfolding(aml_grammar::specs::Grammar::argument_number, aml_grammar::specs::Grammar::by_arities))]
-pub(crate) fn argument_number(
+pub(crate) fn argument_number<C: ArgumentCounts, B: Before>(
     alloc: Global,
-    reader: &mut Reader<'_>,
+    reader: &mut Reader<'_, C, B>,
     start: usize,
     scope: &Path,
     name: &NameString,

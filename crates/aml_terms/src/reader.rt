@@ -6,8 +6,9 @@ ghost use Rattle.aml_grammar.specs.State.{State, look, byte, peek, is_next, next
 ghost use Rattle.aml_grammar.specs.Names.{carets, parents};
 ghost use Rattle.aml_grammar.specs.Arities.{found, or_path, arity_of};
 
+use crate::before::Before;
 use crate::declarations::Declarations;
-use aml_grammar::{Arities, Mark};
+use aml_grammar::{ArgumentCounts, Arities, Mark};
 use aml_path::{NameString, Path};
 use ar_space::{Refusal, TermFault};
 use std::alloc::{AllocError, Global};
@@ -15,14 +16,14 @@ use std::marker::Model;
 
 /// What is left of a list or a package and where it begins, the arities so far, and the marks of the calls so far.
 #[derive(Drop)]
-pub(crate) struct Reader<'a> {
+pub(crate) struct Reader<'a, C: ArgumentCounts, B: Before> {
     at: usize,
     rest: &'a [u8],
-    arities: Declarations<'a>,
+    arities: Declarations<'a, C, B>,
     marks: Vec<Mark>,
 }
 
-impl<'a> Model for Reader<'a> {
+impl<'a, C: ArgumentCounts, B: Before> Model for Reader<'a, C, B> {
     ghost use Rattle.std.specs.Prelude.{◌+◌, ◌^◌, ◌<◌, length};
     ghost use Rattle.aml_grammar.specs.State.{State};
 
@@ -41,14 +42,15 @@ pub(crate) struct Outer<'a> {
     ghost fits: { at + length rest.now < 2 ^ 64 },
 }
 
-impl<'a> Reader<'a> {
-    pub(crate) fn new(alloc: Global, bytes: &'a [u8], arities: &'a Arities) -> Reader<'a>
-        ensures { result ≡ record { at = 0; rest = bytes.now; arities = arities.now; marks = [] } }
+impl<'a, C: ArgumentCounts, B: Before> Reader<'a, C, B> {
+    pub(crate) fn new(alloc: Global, bytes: &'a [u8], counts: &'a C) -> Reader<'a, C, B>
+        requires { C.counts counts.now ≡ B.before }
+        ensures { result ≡ record { at = 0; rest = bytes.now; arities = B.before; marks = [] } }
     {
         Reader {
             at: 0,
             rest: bytes,
-            arities: Declarations::new(alloc, arities),
+            arities: Declarations::new(alloc, counts),
             marks: Vec::new(alloc),
         }
     }
@@ -237,12 +239,11 @@ impl<'a> Reader<'a> {
         self.arities.add(path, count, external)
     }
 
-    /// The arities so far, as arities of their own.
-    #[tactic(auto, using(crate::proofs::Steps::reading))]
-    pub(crate) fn all_arities(&self, alloc: Global) -> Result<Arities, Refusal>
-        ensures { Answers result (Ok self.now.arities) }
+    /// What the list has declared itself. It takes no memory.
+    pub(crate) fn into_added(self) -> Arities
+        ensures { B.before ++ result ≡ self.entry.arities }
     {
-        self.arities.all(alloc)
+        self.arities.into_added()
     }
 
     /// Marks a call that has arguments.

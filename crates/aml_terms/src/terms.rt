@@ -7,6 +7,7 @@ ghost use Rattle.aml_grammar.specs.Grammar.{takes_name, named, named_term, invoc
 ghost use Rattle.aml_grammar.specs.View.{part_view, tree_view};
 ghost use Rattle.aml_grammar.specs.declared.context.Position.TheVariants as positions;
 
+use crate::before::Before;
 use crate::if_else::if_term;
 use crate::names::{name_string, starts_name};
 use crate::operands as leaf;
@@ -16,7 +17,9 @@ use crate::positions::{
     row_at, takes_name,
 };
 use crate::reader::Reader;
-use aml_grammar::{Context, Earlier, Operand, OperandKind, Position, Row, Term, TermCode};
+use aml_grammar::{
+    ArgumentCounts, Context, Earlier, Operand, OperandKind, Position, Row, Term, TermCode,
+};
 use aml_path::Path;
 use ar_space::{Refusal, TermFault};
 use std::alloc::Global;
@@ -24,9 +27,9 @@ use std::alloc::Global;
 /// A term, with at most this many levels below it.
 #[cycle(parse)]
 #[tactic(auto, using(crate::proofs::Levels::leveling), unfolding(aml_grammar::specs::Grammar::term_at, aml_grammar::specs::Grammar::term_in))]
-pub(crate) fn term(
+pub(crate) fn term<C: ArgumentCounts, B: Before>(
     alloc: Global,
-    reader: &mut Reader<'_>,
+    reader: &mut Reader<'_, C, B>,
     levels: usize,
     position: Position,
     scope: &Path,
@@ -48,9 +51,9 @@ pub(crate) fn term(
 /// A term that begins with a name.
 #[cycle(parse)]
 #[tactic(auto, using(crate::proofs::Levels::leveling), unfolding(aml_grammar::specs::Grammar::named))]
-fn named(
+fn named<C: ArgumentCounts, B: Before>(
     alloc: Global,
-    reader: &mut Reader<'_>,
+    reader: &mut Reader<'_, C, B>,
     levels: usize,
     position: Position,
     scope: &Path,
@@ -71,9 +74,9 @@ fn named(
 
 #[cycle(parse)]
 #[tactic(auto, using(crate::proofs::Levels::leveling))]
-fn named_term(
+fn named_term<C: ArgumentCounts, B: Before>(
     alloc: Global,
-    reader: &mut Reader<'_>,
+    reader: &mut Reader<'_, C, B>,
     levels: usize,
     position: Position,
     scope: &Path,
@@ -92,9 +95,9 @@ fn named_term(
 /// A name and as many terms as it takes arguments.
 #[cycle(parse)]
 #[tactic(auto, using(crate::proofs::Levels::leveling), unfolding(aml_grammar::specs::Grammar::invocation))]
-fn invocation(
+fn invocation<C: ArgumentCounts, B: Before>(
     alloc: Global,
-    reader: &mut Reader<'_>,
+    reader: &mut Reader<'_, C, B>,
     levels: usize,
     scope: &Path,
     context: Context,
@@ -117,9 +120,9 @@ fn invocation(
 }
 
 #[cycle(parse)]
-fn arguments(
+fn arguments<C: ArgumentCounts, B: Before>(
     alloc: Global,
-    reader: &mut Reader<'_>,
+    reader: &mut Reader<'_, C, B>,
     levels: usize,
     scope: &Path,
     context: Context,
@@ -139,9 +142,9 @@ fn arguments(
 /// A term that begins with an opcode.
 #[cycle(parse)]
 #[tactic(auto, using(crate::proofs::Levels::leveling), unfolding(aml_grammar::specs::Grammar::coded_term))]
-fn coded_term(
+fn coded_term<C: ArgumentCounts, B: Before>(
     alloc: Global,
-    reader: &mut Reader<'_>,
+    reader: &mut Reader<'_, C, B>,
     levels: usize,
     position: Position,
     scope: &Path,
@@ -166,9 +169,9 @@ fn coded_term(
 
 #[cycle(parse)]
 #[tactic(auto, using(crate::proofs::Levels::leveling), unfolding(aml_grammar::specs::Grammar::row_term))]
-fn row_term(
+fn row_term<C: ArgumentCounts, B: Before>(
     alloc: Global,
-    reader: &mut Reader<'_>,
+    reader: &mut Reader<'_, C, B>,
     levels: usize,
     scope: &Path,
     context: Context,
@@ -187,9 +190,9 @@ fn row_term(
 
 #[cycle(parse)]
 #[tactic(auto, using(crate::proofs::Levels::leveling), unfolding(aml_grammar::specs::Grammar::plain_term))]
-fn plain_term(
+fn plain_term<C: ArgumentCounts, B: Before>(
     alloc: Global,
-    reader: &mut Reader<'_>,
+    reader: &mut Reader<'_, C, B>,
     levels: usize,
     scope: &Path,
     context: Context,
@@ -209,9 +212,9 @@ fn plain_term(
 /// The operands of a row of the table.
 #[cycle(parse)]
 #[tactic(auto, using(crate::proofs::Levels::leveling))]
-pub(crate) fn row_operands(
+pub(crate) fn row_operands<C: ArgumentCounts, B: Before>(
     alloc: Global,
-    reader: &mut Reader<'_>,
+    reader: &mut Reader<'_, C, B>,
     levels: usize,
     scope: &Path,
     context: Context,
@@ -232,9 +235,9 @@ pub(crate) fn row_operands(
 /// Operands in a package.
 #[cycle(parse)]
 #[tactic(auto, using(crate::proofs::Levels::leveling))]
-fn packed_operands(
+fn packed_operands<C: ArgumentCounts, B: Before>(
     alloc: Global,
-    reader: &mut Reader<'_>,
+    reader: &mut Reader<'_, C, B>,
     levels: usize,
     scope: &Path,
     context: Context,
@@ -251,9 +254,9 @@ fn packed_operands(
 }
 
 #[cycle(parse)]
-fn operands(
+fn operands<C: ArgumentCounts, B: Before>(
     alloc: Global,
-    reader: &mut Reader<'_>,
+    reader: &mut Reader<'_, C, B>,
     levels: usize,
     scope: &Path,
     context: Context,
@@ -289,9 +292,9 @@ fn operands(
 
 #[cycle(parse)]
 #[tactic(auto, using(crate::proofs::Levels::leveling), unfolding(aml_grammar::specs::Grammar::operand))]
-fn operand(
+fn operand<C: ArgumentCounts, B: Before>(
     alloc: Global,
-    reader: &mut Reader<'_>,
+    reader: &mut Reader<'_, C, B>,
     levels: usize,
     scope: &Path,
     context: Context,
@@ -327,9 +330,9 @@ fn operand(
 
 #[cycle(parse)]
 #[tactic(auto, using(crate::proofs::Levels::leveling), unfolding(aml_grammar::specs::Grammar::term_operand))]
-pub(crate) fn term_operand(
+pub(crate) fn term_operand<C: ArgumentCounts, B: Before>(
     alloc: Global,
-    reader: &mut Reader<'_>,
+    reader: &mut Reader<'_, C, B>,
     levels: usize,
     position: Position,
     scope: &Path,
@@ -344,9 +347,9 @@ pub(crate) fn term_operand(
 /// The terms of a term, under the path of its name where it has one.
 #[cycle(parse)]
 #[tactic(auto, using(crate::proofs::Levels::leveling))]
-fn term_list(
+fn term_list<C: ArgumentCounts, B: Before>(
     alloc: Global,
-    reader: &mut Reader<'_>,
+    reader: &mut Reader<'_, C, B>,
     levels: usize,
     scope: &Path,
     earlier: &Earlier,
@@ -369,9 +372,9 @@ fn term_list(
 /// The elements of a package.
 #[cycle(parse)]
 #[tactic(auto, using(crate::proofs::Levels::leveling))]
-fn element_list(
+fn element_list<C: ArgumentCounts, B: Before>(
     alloc: Global,
-    reader: &mut Reader<'_>,
+    reader: &mut Reader<'_, C, B>,
     levels: usize,
     scope: &Path,
     earlier: &Earlier,
@@ -394,9 +397,9 @@ fn element_list(
 /// The list of a term, under the path of its name where it has one.
 #[cycle(parse)]
 #[tactic(auto, using(crate::proofs::Levels::leveling))]
-fn list_under(
+fn list_under<C: ArgumentCounts, B: Before>(
     alloc: Global,
-    reader: &mut Reader<'_>,
+    reader: &mut Reader<'_, C, B>,
     levels: usize,
     position: Position,
     scope: &Path,
@@ -414,9 +417,9 @@ fn list_under(
 
 #[cycle(parse)]
 #[tactic(auto, using(crate::proofs::Levels::leveling), unfolding(aml_grammar::specs::Grammar::list_operand))]
-pub(crate) fn list_operand(
+pub(crate) fn list_operand<C: ArgumentCounts, B: Before>(
     alloc: Global,
-    reader: &mut Reader<'_>,
+    reader: &mut Reader<'_, C, B>,
     levels: usize,
     position: Position,
     scope: &Path,
@@ -430,9 +433,9 @@ pub(crate) fn list_operand(
 
 /// Terms until nothing is left.
 #[cycle(parse)]
-pub(crate) fn items(
+pub(crate) fn items<C: ArgumentCounts, B: Before>(
     alloc: Global,
-    reader: &mut Reader<'_>,
+    reader: &mut Reader<'_, C, B>,
     levels: usize,
     position: Position,
     scope: &Path,

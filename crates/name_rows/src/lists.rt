@@ -69,10 +69,9 @@ impl Lists {
     /// Reads a whole table, after which the names that it declares are known.
     fn load(&mut self, asked: &mut Exchange) {
         let bytes = asked.bytes();
-        match parse_table(asked.alloc(), bytes.as_slice(), &self.arities) {
-            Ok((terms, after)) => {
+        match parse_table(asked.alloc(), bytes.as_slice(), &mut self.arities) {
+            Ok(terms) => {
                 self.terms = terms;
-                self.arities = after;
                 asked.say_number(self.terms.len() as u64);
             }
             Err(refusal) => refuse(asked, refusal),
@@ -88,10 +87,12 @@ impl Lists {
         }
     }
 
-    /// How many entries there are of names that take arguments, taken out and put back.
+    /// How many entries there are of names that take arguments, taken out and put behind none.
     fn entries(&mut self, asked: &mut Exchange) {
         let arities = mem::replace(&mut self.arities, Arities::new(asked.alloc()));
-        self.arities = Arities::from_vec(arities.into_vec());
+        if self.arities.append(arities).is_err() {
+            asked.run_out();
+        }
         asked.say_number(self.arities.entries().len() as u64);
     }
 

@@ -10,17 +10,17 @@ use Rattle.aml_terms.proofs.+parse.Goals as goal
 -- ---- arguments
 
 pub terms::arguments-arguments-init : goal.terms::arguments-arguments-init
-terms::arguments-arguments-init t c = record {
+terms::arguments-arguments-init g t c = record {
   so_far = rw c.new-list.ensures.items (times_init (term_at by_arities c.args.levels positions.TermArg c.args.scope.now c.args.context) c.args.count c.args.reader.now);
   kept = omega arith;
 }
 
 pub terms::arguments-returns-in_err-next-clause-reads : goal.terms::arguments-returns-in_err-next-clause-reads
-terms::arguments-returns-in_err-next-clause-reads t c =
+terms::arguments-returns-in_err-next-clause-reads g t c =
     times_err _ _ (map tree_view c.arguments.list.items) (term_at by_arities c.args.levels positions.TermArg c.args.scope.now c.args.context) c.args.count c.arguments.counter c.arguments-test.true c.arguments.invariant.so_far c.in_err-next.ensures.reads c.from_residual.ensures
 
 pub terms::arguments-arguments-preserved : goal.terms::arguments-arguments-preserved
-terms::arguments-arguments-preserved t c =
+terms::arguments-arguments-preserved g t c =
     let pushed : map tree_view c.push.new.self.items ≡ map tree_view c.arguments.list.items ++ tree_view c.in_ok-next.next ∷ [] = rw c.in_ok-push.ensures.items (map_push tree_view c.arguments.list.items c.in_ok-next.next) in
     record {
       so_far = rw pushed (times_turn (map tree_view c.arguments.list.items) (term_at by_arities c.args.levels positions.TermArg c.args.scope.now c.args.context) c.args.count c.arguments.counter c.arguments-test.true c.arguments.invariant.so_far c.in_ok-next.ensures.reads);
@@ -28,25 +28,25 @@ terms::arguments-arguments-preserved t c =
     }
 
 pub terms::arguments-returns-clause-reads : goal.terms::arguments-returns-clause-reads
-terms::arguments-returns-clause-reads t c = times_done (map tree_view c.arguments.list.items) (term_at by_arities c.args.levels positions.TermArg c.args.scope.now c.args.context) c.args.count c.arguments.counter c.arguments-test.false c.arguments.invariant.so_far
+terms::arguments-returns-clause-reads g t c = times_done (map tree_view c.arguments.list.items) (term_at by_arities c.args.levels positions.TermArg c.args.scope.now c.args.context) c.args.count c.arguments.counter c.arguments-test.false c.arguments.invariant.so_far
 
 -- ---- items
 
 pub terms::items-items-init : goal.terms::items-items-init
-terms::items-items-init t c = record {
+terms::items-items-init g t c = record {
   so_far = rw c.new-list.ensures.items (until_init (term_at by_arities c.args.levels c.args.position c.args.scope.now c.args.context) c.args.reader.now);
   room = rw c.new-list.ensures.items (omega arith);
 }
 
 pub terms::items-returns-in_err-next-clause-reads : goal.terms::items-returns-in_err-next-clause-reads
 unfolding items
-terms::items-returns-in_err-next-clause-reads t c = record {
+terms::items-returns-in_err-next-clause-reads g t c = record {
   is = λ ne.
       (until_err _ _ (map tree_view c.items.list.items) (term_at by_arities c.args.levels c.args.position c.args.scope.now c.args.context) (length c.args.reader.now.rest - length c.items.list.items) (grind arith) (grind arith) c.items.invariant.so_far c.in_err-next.ensures.reads c.from_residual.ensures).is ne;
 }
 
 pub terms::items-items-preserved : goal.terms::items-items-preserved
-terms::items-items-preserved t c =
+terms::items-items-preserved g t c =
     let some : 0 < length c.items.reader.rest = grind arith in
     let longer : length c.push.new.self.items ≡ length c.items.list.items + 1 = simp length-append at (ap length c.in_ok-push.ensures.items) in
     let pushed : map tree_view c.push.new.self.items ≡ map tree_view c.items.list.items ++ tree_view c.in_ok-next.next ∷ [] = rw c.in_ok-push.ensures.items (map_push tree_view c.items.list.items c.in_ok-next.next) in
@@ -58,25 +58,25 @@ terms::items-items-preserved t c =
 
 pub terms::items-returns-clause-reads : goal.terms::items-returns-clause-reads
 unfolding items
-terms::items-returns-clause-reads t c = record { is = λ ne. (until_done (map tree_view c.items.list.items) (term_at by_arities c.args.levels c.args.position c.args.scope.now c.args.context) (length c.args.reader.now.rest - length c.items.list.items) (grind arith) c.items.invariant.so_far).is ne }
+terms::items-returns-clause-reads g t c = record { is = λ ne. (until_done (map tree_view c.items.list.items) (term_at by_arities c.args.levels c.args.position c.args.scope.now c.args.context) (length c.args.reader.now.rest - length c.items.list.items) (grind arith) c.items.invariant.so_far).is ne }
 
 -- ---- fields
 
 pub places::fields-fields-init : goal.places::fields-fields-init
-places::fields-fields-init t c = record {
+places::fields-fields-init g t c = record {
   so_far = rw c.new-list.ensures.items (until_init (field (term_at by_arities c.args.levels) c.args.scope.now c.args.context) c.args.reader.now);
   room = rw c.new-list.ensures.items (omega arith);
 }
 
 pub places::fields-returns-in_err-next-clause-reads : goal.places::fields-returns-in_err-next-clause-reads
 unfolding fields
-places::fields-returns-in_err-next-clause-reads t c = record {
+places::fields-returns-in_err-next-clause-reads g t c = record {
   is = λ ne.
       (until_err _ _ (map tree_view c.fields.list.items) (field (term_at by_arities c.args.levels) c.args.scope.now c.args.context) (length c.args.reader.now.rest - length c.fields.list.items) (grind arith) (grind arith) c.fields.invariant.so_far c.in_err-next.ensures.reads c.from_residual.ensures).is ne;
 }
 
 pub places::fields-fields-preserved : goal.places::fields-fields-preserved
-places::fields-fields-preserved t c =
+places::fields-fields-preserved g t c =
     let some : 0 < length c.fields.reader.rest = grind arith in
     let longer : length c.push.new.self.items ≡ length c.fields.list.items + 1 = simp length-append at (ap length c.in_ok-push.ensures.items) in
     let pushed : map tree_view c.push.new.self.items ≡ map tree_view c.fields.list.items ++ tree_view c.in_ok-next.next ∷ [] = rw c.in_ok-push.ensures.items (map_push tree_view c.fields.list.items c.in_ok-next.next) in
@@ -88,26 +88,26 @@ places::fields-fields-preserved t c =
 
 pub places::fields-returns-clause-reads : goal.places::fields-returns-clause-reads
 unfolding fields
-places::fields-returns-clause-reads t c = record { is = λ ne. (until_done (map tree_view c.fields.list.items) (field (term_at by_arities c.args.levels) c.args.scope.now c.args.context) (length c.args.reader.now.rest - length c.fields.list.items) (grind arith) c.fields.invariant.so_far).is ne }
+places::fields-returns-clause-reads g t c = record { is = λ ne. (until_done (map tree_view c.fields.list.items) (field (term_at by_arities c.args.levels) c.args.scope.now c.args.context) (length c.args.reader.now.rest - length c.fields.list.items) (grind arith) c.fields.invariant.so_far).is ne }
 
 -- ---- operands
 
 pub terms::operands-operands-init : goal.terms::operands-operands-init
-terms::operands-operands-init t c = record {
+terms::operands-operands-init g t c = record {
   so_far = rw c.new-list.ensures.items (operands_init (term_at by_arities c.args.levels) c.args.scope.now c.args.context c.args.start c.args.kinds.now nothing_earlier c.args.reader.now);
   kept = omega arith;
 }
 
 pub terms::operands-returns-then-is_nothing-clause-reads : goal.terms::operands-returns-then-is_nothing-clause-reads
-terms::operands-returns-then-is_nothing-clause-reads t c =
+terms::operands-returns-then-is_nothing-clause-reads g t c =
     operands_end (term_at by_arities c.args.levels) c.args.scope.now c.args.context c.args.start (map part_view c.operands.list.items) c.args.kinds.now c.operands.kind-index _ c.operands.earlier (omega arith) c.operands.invariant.so_far (sym c.is_nothing.ensures ∙ c.if-is_nothing.true)
 
 pub terms::operands-returns-in_err-next-clause-reads : goal.terms::operands-returns-in_err-next-clause-reads
-terms::operands-returns-in_err-next-clause-reads t c =
+terms::operands-returns-in_err-next-clause-reads g t c =
     operands_err (term_at by_arities c.args.levels) c.args.scope.now c.args.context c.args.start (map part_view c.operands.list.items) c.args.kinds.now c.operands.kind-index _ c.operands.earlier (omega arith) c.operands.invariant.so_far _ _ (sym c.is_nothing.ensures ∙ c.if-is_nothing.false) c.in_err-next.ensures.reads c.from_residual.ensures
 
 pub terms::operands-operands-preserved : goal.terms::operands-operands-preserved
-terms::operands-operands-preserved t c =
+terms::operands-operands-preserved g t c =
     let pushed : map part_view c.push.new.self.items ≡ map part_view c.operands.list.items ++ part_view c.in_ok-next.next ∷ [] = rw c.in_ok-push.ensures.items (map_push part_view c.operands.list.items c.in_ok-next.next) in
     record {
       so_far = rw pushed (operands_turn (term_at by_arities c.args.levels) c.args.scope.now c.args.context c.args.start (map part_view c.operands.list.items) c.args.kinds.now c.operands.kind-index _ c.operands.earlier (omega arith) c.operands.invariant.so_far (sym c.is_nothing.ensures ∙ c.if-is_nothing.false) c.in_ok-next.ensures.reads);
@@ -115,4 +115,4 @@ terms::operands-operands-preserved t c =
     }
 
 pub terms::operands-returns-clause-reads : goal.terms::operands-returns-clause-reads
-terms::operands-returns-clause-reads t c = operands_done (term_at by_arities c.args.levels) c.args.scope.now c.args.context c.args.start (map part_view c.operands.list.items) c.args.kinds.now c.operands.kind-index c.operands.earlier (omega arith) c.operands.invariant.so_far
+terms::operands-returns-clause-reads g t c = operands_done (term_at by_arities c.args.levels) c.args.scope.now c.args.context c.args.start (map part_view c.operands.list.items) c.args.kinds.now c.operands.kind-index c.operands.earlier (omega arith) c.operands.invariant.so_far

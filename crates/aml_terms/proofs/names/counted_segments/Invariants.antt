@@ -6,7 +6,7 @@ use Rattle.aml_terms.proofs.Loops.{with_front}
 use Rattle.aml_terms.proofs.names.counted_segments.Given as goal
 
 abbrev pub invariant-segments : goal.invariant-segments
-invariant-segments l = record {
+invariant-segments g l = record {
   so_far : Same (times segment l.count) l.fn.reader (with_front l.list.items (times segment (l.count - l.counter))) l.reader;
   shorter : length l.reader.rest + l.counter ≤ length l.fn.reader.rest;
 }
