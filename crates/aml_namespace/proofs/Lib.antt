@@ -1,6 +1,8 @@
 pub mod Ascent
 pub mod Changes
 pub mod Children
+pub mod Counting
+pub mod Cut
 pub mod Kept
 pub mod Numbering
 pub mod Numbers

@@ -14,15 +14,15 @@ use Rattle.aml_path.specs.Paths.{path_cmp}
 use Rattle.aml_namespace.specs.Entries.{place, find_entry}
 use Rattle.aml_namespace.proofs.Kept.{path_total}
 
-first : (a b : Bool) → T (a && b) → T a
+pub first : (a b : Bool) → T (a && b) → T a
 first true b p = tt
 first false b p = p
 
-second : (a b : Bool) → T (a && b) → T b
+pub second : (a b : Bool) → T (a && b) → T b
 second true b p = p
 second false b p = absurd p
 
-less : (o : Ordering) → T (is_lt o) → o ≡ Less
+pub less : (o : Ordering) → T (is_lt o) → o ≡ Less
 less Less p = refl
 less Equal p = absurd p
 less Greater p = absurd p
@@ -46,7 +46,7 @@ module _ {X : Type 0} where
   abbrev pub comes_behind : List Seg → List Seg × X → Bool
   comes_behind k e = is_gt (path_cmp k e.0)
 
-  below_at : (x : List Seg) (es : List (List Seg × X)) (j : ℕ) (d : List Seg × X) → T (below_all path_cmp x es) → j < length es → path_cmp x (get_or es j d).0 ≡ Less
+  pub below_at : (x : List Seg) (es : List (List Seg × X)) (j : ℕ) (d : List Seg × X) → T (below_all path_cmp x es) → j < length es → path_cmp x (get_or es j d).0 ≡ Less
   below_at x [] j d h l = absurd (omega arith)
   below_at x (e ∷ es) zero d h l = less _ (first _ _ h)
   below_at x (e ∷ es) (suc j) d h l = below_at x es j d (second _ _ h) (omega arith)

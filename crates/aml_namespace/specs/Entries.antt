@@ -1,10 +1,17 @@
 -- Where a path stands among entries in path order.
-use Rattle.std.specs.Prelude.{◌≡◌, ℕ, suc, List, [], ◌∷◌, ◌<◌, length, get_or, Option, Some, None, cond}
+use Rattle.std.specs.Prelude.{◌≡◌, ℕ, suc, List, [], ◌∷◌, ◌<◌, ◌||◌, length, get_or, Bool, Option, Some, None, cond}
 use Rattle.std.specs.declared.cmp.Ordering.TheVariants.{Equal}
-use Rattle.std.specs.Ordering.{is_eq}
+use Rattle.std.specs.Ordering.{is_eq, is_le}
 use Rattle.std.specs.FinMap.Entries.{by_order}
 use Rattle.aml_path.specs.declared.segment.Seg.{Seg}
-use Rattle.aml_path.specs.Paths.{path_cmp}
+use Rattle.aml_path.specs.Paths.{path_cmp, is_below}
+
+-- whether a path q comes no later than p in path order;  or stands below p, where those below come next
+abbrev pub up_to : List Seg → List Seg → Bool
+up_to p q = is_le (path_cmp q p)
+
+abbrev pub up_to_below : List Seg → List Seg → Bool
+up_to_below p q = up_to p q || is_below p q
 
 module _ {X : Type 0} where
   -- where a path goes among those in order

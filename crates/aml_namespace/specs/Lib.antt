@@ -1,5 +1,6 @@
 pub mod Calls
 pub mod Entries
+pub mod Mutexes
 pub mod Namespace
 pub mod Numbering
 pub mod Search

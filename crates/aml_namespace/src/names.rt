@@ -13,7 +13,9 @@ ghost use Rattle.aml_namespace.specs.Search.{at_path};
 ghost use Rattle.aml_namespace.specs.Entries.{place, find_entry, StandsAt};
 ghost use Rattle.aml_namespace.specs.Numbering.{Numbered};
 
+use crate::below::{count_up_to, count_up_to_below};
 use crate::compare::compare;
+use crate::mutexes::{acquired, acquired_among, acquired_at, release_some};
 use aml_objects::{Entry, NamedObject};
 use aml_path::{Path, Seg};
 use ar_space::{EvaluationFault, NamespaceFault, Refusal};
@@ -23,11 +25,13 @@ use std::marker::Model;
 /// The namespace: what stands at each path, and the number of the next declaration.
 ///
 /// It is seen as a finite map of paths and that number. Each declaration's number is below the next one, and no two that stand
-/// have the same: a number that was given is never given again.
+/// have the same: a number that was given is never given again. How many mutexes are acquired is kept beside the names, so that
+/// nothing is searched for them where there are none.
 #[derive(Debug, Drop)]
 pub struct Names {
     entries: Vec<(Path, Entry)>,
     next: u64,
+    acquired: usize,
 }
 
 impl Model for Names {
@@ -36,6 +40,8 @@ impl Model for Names {
     ghost use Rattle.aml_path.specs.Paths.{path_cmp};
     ghost use Rattle.aml_namespace.specs.Namespace.{Namespace, namespace_code};
     ghost use Rattle.aml_namespace.specs.Numbering.{Numbered};
+    ghost use Rattle.aml_namespace.specs.Mutexes.{acquired_among};
+    ghost use Rattle.std.specs.Prelude.{◌≡◌};
 
     ghost Value = { Namespace };
 
@@ -43,7 +49,7 @@ impl Model for Names {
 
     ghost view = { λ n. record { map = map.from_sorted n.entries.items; next = n.next } };
 
-    ghost invariant = { λ n. T (map.is_sorted path_cmp n.entries.items) × Numbered (record { map = map.from_sorted n.entries.items; next = n.next }) };
+    ghost invariant = { λ n. T (map.is_sorted path_cmp n.entries.items) × Numbered (record { map = map.from_sorted n.entries.items; next = n.next }) × (n.acquired ≡ acquired_among n.entries.items) };
 }
 
 impl Names {
@@ -57,7 +63,11 @@ impl Names {
             object: NamedObject::Scope,
         };
         entries.push((Path::root(alloc), root))?;
-        Ok(Names { entries, next: 1 })
+        Ok(Names {
+            entries,
+            next: 1,
+            acquired: 0,
+        })
     }
 
     /// All names with what stands there, in path order. It takes no memory.
@@ -139,9 +149,13 @@ impl Names {
     {
         let number = self.next;
         let count = place(&self.entries, &path);
+        let more = acquired(&object);
         self.entries
             .insert(count, (path, Entry { number, object }))?;
+        // So many mutexes are names, and the number of names fits.
+        let _names = self.entries.len();
         self.next += 1;
+        self.acquired += more;
         Ok(number)
     }
 
@@ -155,25 +169,41 @@ impl Names {
         match index_at(&self.entries, &[], path.segments()) {
             None => Err(Refusal::Namespace(NamespaceFault::NotFound)),
             Some(index) => {
-                put_object(&mut self.entries[index].1, object);
+                self.put_at(path, index, object);
                 Ok(())
             }
         }
+    }
+
+    /// Puts another object into the entry of a path, which stands at this place.
+    fn put_at(&mut self, path: &Path, index: usize, object: NamedObject)
+        requires { StandsAt path.now (map.entries self.old.map) index }
+        ensures { replaced path.now object self.old ≡ (Ok tt, self.new) }
+    {
+        // So many mutexes are names, and the number of names fits.
+        let _names = self.entries.len();
+        let before = acquired_at(&self.entries, index);
+        let after = acquired(&object);
+        put_object(&mut self.entries[index].1, object);
+        self.acquired = self.acquired - before + after;
     }
 
     /// Releases every mutex, however often it was acquired (ACPI 6.5, 19.6, Release). It takes no memory.
     pub fn release_mutexes(&mut self)
         ensures { self.new ≡ mutexes_released self.old }
     {
-        release_all(&mut self.entries);
+        release_some(&mut self.entries, self.acquired);
+        self.acquired = 0;
     }
 
     /// Removes the names below a path, and not the name at it. It takes no memory.
-    #[tactic(auto, using(crate::proofs::Kept::removing), unfolding(crate::specs::Namespace::without_below))]
     pub fn remove_below(&mut self, path: &Path)
         ensures { self.new ≡ without_below path.now self.old }
     {
-        self.entries.retain(|entry| !entry.0.is_below(path));
+        let first = count_up_to(&self.entries, path);
+        let after = count_up_to_below(&self.entries, path);
+        self.acquired -= acquired_among(&self.entries[first..after]);
+        drop(self.entries.drain(first..after));
     }
 }
 
@@ -249,22 +279,4 @@ fn put_object(entry: &mut Entry, object: NamedObject)
     ensures { entry.new ≡ with_object object entry.old }
 {
     entry.object = object;
-}
-
-/// Releases the mutexes among entries.
-fn release_all(entries: &mut [(Path, Entry)])
-    ensures { entries.new ≡ list.map (λ entry. (entry.0, entry_released entry.1)) entries.old }
-{
-    for entry in entries.iter_mut() {
-        release(&mut entry.1.object);
-    }
-}
-
-/// Releases what is a mutex.
-fn release(object: &mut NamedObject)
-    ensures { object.new ≡ released object.old }
-{
-    if let NamedObject::Mutex(count) = object {
-        *count = 0;
-    }
 }

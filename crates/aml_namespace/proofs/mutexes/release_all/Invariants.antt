@@ -1,6 +1,6 @@
 use Rattle.std.proofs.Common.{◌≡◌, ◌++◌, take, drop, map}
 use Rattle.aml_namespace.specs.Namespace.{entry_released}
-use Rattle.aml_namespace.proofs.names.release_all.Given as goal
+use Rattle.aml_namespace.proofs.mutexes.release_all.Given as goal
 
 -- the entries that were met are released, and the others are as they were
 abbrev pub invariant-loop-entry : goal.invariant-loop-entry

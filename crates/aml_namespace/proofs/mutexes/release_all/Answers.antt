@@ -2,7 +2,7 @@ use Rattle.std.proofs.Common.{arith, ◌<◌, length}
 use Rattle.std.proofs.lemmas.List.{get_or_default}
 use Rattle.std.proofs.lemmas.List.Edits.{map_over_more}
 use Rattle.aml_namespace.specs.Namespace.{entry_released}
-use Rattle.aml_namespace.proofs.names.release_all.Goals as goal
+use Rattle.aml_namespace.proofs.mutexes.release_all.Goals as goal
 
 pub loop-entry-preserved : goal.loop-entry-preserved
 loop-entry-preserved c =
