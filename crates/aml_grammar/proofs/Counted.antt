@@ -7,7 +7,7 @@ use Rattle.std.specs.Map.{lookup}
 use Rattle.std.specs.Cmp.{IsTotalOrder, eq_by_cmp_equiv}
 use Rattle.std.specs.Cmp.Rules.{comparing}
 use Rattle.std.specs.FinMap.{get, insert, contains_key, from_entries, IsAntisymmetric, slice_cmp-IsAntisymmetric, get-insert}
-use Rattle.ar_space.specs.Maps.{get_entry, put_entry}
+use Rattle.aml_grammar.proofs.Entries.{get_entry, put_entry}
 use Rattle.aml_path.specs.declared.segment.Seg.{Seg}
 use Rattle.aml_path.specs.Segments.{seg_cmp_exact}
 use Rattle.aml_path.specs.Paths.{path_cmp, path_eq}

@@ -1,7 +1,7 @@
 use Rattle.std.proofs.Common.{◌∙◌, ap, sym}
 use Rattle.std.specs.Option.{option_copied}
 use Rattle.std.specs.FinMap as map
-use Rattle.ar_space.specs.Maps.{get_entry}
+use Rattle.aml_grammar.proofs.Entries.{get_entry}
 use Rattle.aml_grammar.specs.Counts.{count_in}
 use Rattle.aml_grammar.proofs.Counted.{path_total}
 use Rattle.aml_grammar.proofs.counts.CountMap.latest.Goals as goal

@@ -1,7 +1,7 @@
 use Rattle.std.proofs.Common.{◌≡◌, ◌∙◌, ap, sym, true, false, None, refl}
 use Rattle.std.specs.Option.{is_some}
 use Rattle.std.specs.FinMap as map
-use Rattle.ar_space.specs.Maps.{get_entry, put_entry}
+use Rattle.aml_grammar.proofs.Entries.{get_entry, put_entry}
 use Rattle.aml_grammar.specs.declared.counts.Counts.{Counts}
 use Rattle.aml_grammar.proofs.Counted.{path_total, only_equal}
 use Rattle.aml_grammar.proofs.counts.CountMap.make_room.Goals as goal
