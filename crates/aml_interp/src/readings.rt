@@ -17,7 +17,7 @@ use std::alloc::Global;
 
 /// The terms of a table, given without its header; the names that it declares take their arguments from now on. It is refused as
 /// `parse_table` refuses it, and then nothing changes.
-#[tactic(auto, unfolding(aml_meaning::specs::Calling::table_terms))]
+#[tactic(auto, using(crate::proofs::Tables::table_read))]
 pub(crate) fn read_table<S>(
     alloc: Global,
     world: &mut WorldState<S>,
@@ -25,13 +25,10 @@ pub(crate) fn read_table<S>(
 ) -> Result<Vec<Term>, Refusal>
     ensures { Does (seen (λ v. trees_of (map tree_view v.items)) result) world.new (table_terms bytes.now) world.old }
 {
-    match parse_table(alloc, bytes, world.arities()) {
-        Ok((terms, arities)) => {
-            world.set_arities(arities);
-            Ok(terms)
-        }
-        Err(refusal) => Err(refusal),
-    }
+    let mut arities = world.take_arities(alloc);
+    let terms = parse_table(alloc, bytes, &mut arities);
+    world.set_arities(arities);
+    terms
 }
 
 /// The terms of the body of the control method at a path, with the arguments that names take now; refused as `parse_list`
@@ -45,8 +42,5 @@ pub(crate) fn read_body<S>(
 ) -> Result<Vec<Term>, Refusal>
     ensures { Does (seen (λ v. trees_of (map tree_view v.items)) result) world.now (body_terms path.now body.now) world.now }
 {
-    match world.body_arities(alloc) {
-        Ok(arities) => parse_list(alloc, body.as_slice(), path, true, &arities),
-        Err(refusal) => Err(refusal),
-    }
+    parse_list(alloc, body.as_slice(), path, true, world)
 }
