@@ -21,7 +21,8 @@ import tempfile
 
 HERE = os.path.dirname(os.path.abspath(__file__))
 TOOLS = os.path.join(os.path.dirname(HERE), "tools")
-ROWS = os.path.join(os.path.dirname(HERE), "crates/program_rows/data")
+CRATES = os.path.join(os.path.dirname(HERE), "crates")
+ROWS = os.path.join(CRATES, "program_rows/data")
 # The reports: each with its machine text and its command.
 REPORTS = {
     "two-links": ("two-links", ["route"]),
@@ -298,7 +299,9 @@ def main(words):
     check_machine_texts(check)
     check_faults(check)
     check_sources(check)
-    check_rows(check)
+    # a release has no crates
+    if os.path.isdir(CRATES):
+        check_rows(check)
     print(f"{check.passed} passed, {check.failed} failed")
     return 1 if check.failed else 0
 

@@ -1,0 +1,67 @@
+//! What C calls. `include/acpiroute.h` says how.
+ghost use Rattle.std.specs.Prelude.{codes};
+ghost use Rattle.acpiroute_c.specs.Calls.{IsCall};
+
+use crate::call::call;
+use crate::call_reply::CallReply;
+use std::alloc::Global;
+
+/// `route` over a machine text.
+#[unsafe(no_mangle)]
+pub extern "C" fn acpiroute_route(
+    alloc: Global,
+    options: &[u8],
+    machine: &[u8],
+    text: &mut [u8],
+    line: &mut [u8],
+    reply: &mut CallReply,
+) -> u32
+    ensures { IsCall (codes "route") options.now machine.now result (record { text = text.old; line = line.old; reply = reply.old }) (record { text = text.new; line = line.new; reply = reply.new }) }
+{
+    call(alloc, "route", options, machine, text, line, reply)
+}
+
+/// `check` over the text of a report.
+#[unsafe(no_mangle)]
+pub extern "C" fn acpiroute_check(
+    alloc: Global,
+    options: &[u8],
+    report: &[u8],
+    text: &mut [u8],
+    line: &mut [u8],
+    reply: &mut CallReply,
+) -> u32
+    ensures { IsCall (codes "check") options.now report.now result (record { text = text.old; line = line.old; reply = reply.old }) (record { text = text.new; line = line.new; reply = reply.new }) }
+{
+    call(alloc, "check", options, report, text, line, reply)
+}
+
+/// `names` over a machine text.
+#[unsafe(no_mangle)]
+pub extern "C" fn acpiroute_names(
+    alloc: Global,
+    options: &[u8],
+    machine: &[u8],
+    text: &mut [u8],
+    line: &mut [u8],
+    reply: &mut CallReply,
+) -> u32
+    ensures { IsCall (codes "names") options.now machine.now result (record { text = text.old; line = line.old; reply = reply.old }) (record { text = text.new; line = line.new; reply = reply.new }) }
+{
+    call(alloc, "names", options, machine, text, line, reply)
+}
+
+/// `eval` over a machine text; the path and the arguments are among the options.
+#[unsafe(no_mangle)]
+pub extern "C" fn acpiroute_eval(
+    alloc: Global,
+    options: &[u8],
+    machine: &[u8],
+    text: &mut [u8],
+    line: &mut [u8],
+    reply: &mut CallReply,
+) -> u32
+    ensures { IsCall (codes "eval") options.now machine.now result (record { text = text.old; line = line.old; reply = reply.old }) (record { text = text.new; line = line.new; reply = reply.new }) }
+{
+    call(alloc, "eval", options, machine, text, line, reply)
+}
