@@ -1,10 +1,13 @@
 #!/usr/bin/env python3
-"""refuse_memory.py PROGRAM [--every N] [MACHINE ..]: refuses each allocation of the built program in turn.
+"""refuse_memory.py PROGRAM [--every N] [--calls CALLS] [MACHINE ..]: refuses each allocation of the built program in turn.
 
 Each run is made once with ample memory, and then again and again with its first, second, third allocation refused, until none is left
 to refuse. A run whose allocation was refused has to end with status 1, an empty output and the one line `refused 99`, or with status 2
 where the command line was being read, or exactly as with ample memory where the program didn't need it. By default: route, names and
 check on examples/two-links.txt, route and a method on examples/i440fx.txt. With --every N only each Nth allocation is refused.
+
+With --calls, the built program of crates/library_calls is run in the same way. It makes each call of the libraries once, and tells by
+itself whether what is promised of want of memory holds.
 
 It needs a C compiler (`cc`), for the shim that refuses, and a program that is linked to the system's C library."""
 import os
@@ -70,6 +73,26 @@ def is_promised(found, ample):
     return found == ample or (status == 1 and output == b"" and errors == b"refused 99\n") or (status == 2 and output == b"")
 
 
+def is_told(found):
+    """Whether a run of every call told that what is promised holds, or could not tell anything for want of memory."""
+    status, output, errors = found
+    return (status == 0 and output in (b"every call answers\n", b"memory ran out, as promised\n")) or (status > 0 and output == b"" and b"emory" in errors)
+
+
+def refuse_calls(runs, every):
+    """Refuses each allocation of the program that makes every call."""
+    ample = runs.run([], b"")
+    count, ended = runs.made(), 0
+    if ample[:2] != (0, b"every call answers\n"):
+        sys.exit(f"the program of every call: status {ample[0]}, output {ample[1]!r}")
+    for number in range(1, count + 1, every):
+        found = runs.run([], b"", number)
+        if not is_told(found):
+            sys.exit(f"every call: with allocation {number} of {count} refused: status {found[0]}, output {found[1]!r}, errors {found[2]!r}")
+        ended += found[1] == b"memory ran out, as promised\n"
+    print(f"every call: {count} allocations, {ended} of {len(range(1, count + 1, every))} refused ended one of the calls, as promised", flush=True)
+
+
 def refuse_each(runs, words, text, every):
     """Refuses each allocation of one run in turn, and answers how many ended in 99."""
     ample = runs.run(words, text)
@@ -95,6 +118,11 @@ def main(words):
         at = words.index("--every")
         every = int(words[at + 1])
         del words[at:at + 2]
+    calls = None
+    if "--calls" in words:
+        at = words.index("--calls")
+        calls = words[at + 1]
+        del words[at:at + 2]
     if not words:
         sys.exit(__doc__)
     program, machines = words[0], words[1:]
@@ -107,6 +135,8 @@ def main(words):
         runs = Runs(program, folder)
         for arguments, file in plan:
             refuse_each(runs, arguments, read(file), every)
+        if calls:
+            refuse_calls(Runs(calls, folder), every)
 
 
 if __name__ == "__main__":

@@ -95,15 +95,10 @@ counted-numbers : (ms set : List ℕ) → map (λ (w : ℕ × ℕ). w.0) (map (c
 counted-numbers ms [] = refl
 counted-numbers ms (n ∷ ns) = ap (λ rest. n ∷ rest) (counted-numbers ms ns)
 
-pub are_counts : (ms set : List ℕ) (counts : List (ℕ × ℕ)) → set ≡ set_of ms → counts ≡ map (counted ms) set → counts ≡ wired_counts ms
+pub counts_ascend : (ms : List ℕ) (counts : List (ℕ × ℕ)) → IsStrictlySortedBy nat_cmp (set_of ms) → counts ≡ wired_counts ms → IsStrictlyIncreasing (map (λ (w : ℕ × ℕ). w.0) counts)
 unfolding wired_counts
-are_counts ms set counts s e = rw (e, s) refl
+counts_ascend ms counts s e = rw (e, counted-numbers ms (set_of ms)) (IsStrictlyIncreasing-from_sorted (set_of ms) s)
 
-pub counts_ascend : (ms set : List ℕ) (counts : List (ℕ × ℕ)) → IsStrictlySortedBy nat_cmp set → counts ≡ map (counted ms) set → IsStrictlyIncreasing (map (λ (w : ℕ × ℕ). w.0) counts)
-counts_ascend ms set counts s e = rw (e, counted-numbers ms set) (IsStrictlyIncreasing-from_sorted set s)
-
-pub counts_within : (ms set : List ℕ) (counts : List (ℕ × ℕ)) (k : ℕ) → length ms ≤ k → IsStrictlySortedBy nat_cmp set → counts ≡ map (counted ms) set → sum_by (λ (w : ℕ × ℕ). w.1) counts ≤ k
-counts_within ms set counts k l s e = rw e (let h = counts-few set ms s in omega arith)
-
-pub counts_as_many : (ms set : List ℕ) (counts : List (ℕ × ℕ)) (k : ℕ) → length ms ≤ k → length set ≤ length ms → counts ≡ map (counted ms) set → length counts ≤ k
-counts_as_many ms set counts k l s e = rw (e, length-map) (omega arith)
+pub counts_within : (ms : List ℕ) (counts : List (ℕ × ℕ)) (k : ℕ) → length ms ≤ k → IsStrictlySortedBy nat_cmp (set_of ms) → counts ≡ wired_counts ms → sum_by (λ (w : ℕ × ℕ). w.1) counts ≤ k
+unfolding wired_counts
+counts_within ms counts k l s e = rw e (let h = counts-few (set_of ms) ms s in omega arith)

@@ -7,4 +7,5 @@ pub mod Members
 pub mod Named
 pub mod Posed
 pub mod Settled
+pub mod Tally
 pub mod Wired

@@ -1,12 +1,14 @@
 //! The routing problem of present links, of wired pins and of the System Control Interrupt.
-ghost use Rattle.std.specs.Prelude.{◌≡◌, ◌≤◌, ◌==◌, ◌+◌, ◌++◌, false, Ok, OnOk, IfOk, All, length, map, count_by, sum_by, option_to_list};
+ghost use Rattle.std.specs.Prelude.{◌≡◌, ◌≤◌, ◌<◌, ◌+◌, ◌++◌, false, Some, Ok, OnOk, IfOk, All, length, map, sum_by, option_to_list, unwrap_or};
+ghost use Rattle.std.specs.BTreeMap.{get, insert_entry, Updates};
+ghost use Rattle.std.specs.Map.{keys_of};
 ghost use Rattle.std.specs.List.Sorted.{IsStrictlyIncreasing, IsStrictlySortedBy};
 ghost use Rattle.std.specs.Ordering.{nat_cmp};
 ghost use Rattle.ar_space.specs.Outcome.{Answers, seen};
 ghost use Rattle.aml_path.specs.Paths.{path_cmp};
 ghost use Rattle.acpi_resources.specs.Numbers.{set_of};
 ghost use Rattle.route_solve.specs.Fits.{Fits, IsOffer};
-ghost use Rattle.acpi_links.specs.Problems.{wired_number, with_number, wired_numbers, counted, wired_counts, pin_counts, source_numbers, offering, problem_of};
+ghost use Rattle.acpi_links.specs.Problems.{wired_number, with_number, wired_numbers, wired_counts, pin_counts, source_numbers, offering, problem_of};
 ghost use Rattle.acpi_links.specs.Links.{HasLeft};
 ghost use Rattle.route_model.specs.Avoided.{are_all_avoided, without};
 
@@ -18,7 +20,7 @@ use ar_space::Refusal;
 use route_model::{Link, without};
 use route_solve::Problem;
 use std::alloc::{AllocError, Global};
-use std::collections::BTreeSet;
+use std::collections::{BTreeMap, BTreeSet};
 
 /// The problem of some present links, in path order, of the pins that are wired to an interrupt, and of the System Control
 /// Interrupt, if it has a source. No link offers an interrupt that is avoided.
@@ -135,20 +137,41 @@ fn wired_counts(alloc: Global, numbers: &[u32]) -> Result<Vec<(u32, u32)>, Alloc
     ensures counts { IfOk result (λ list. sum_by (λ w. w.1) list.items ≤ 4096) }
     ensures few { IfOk result (λ list. length list.items ≤ 4096) }
 {
-    let set = set_of(alloc, numbers)?;
-    Ok(counts_of(alloc, numbers, set)?)
+    let counts = counts_of(alloc, numbers)?;
+    Ok(counts)
 }
 
-/// Each of some numbers, and how often a list has it.
-fn counts_of(alloc: Global, numbers: &[u32], set: Vec<u32>) -> Result<Vec<(u32, u32)>, AllocError>
+/// How often each number of a list is listed. Each is found by halving.
+fn counts_of(alloc: Global, numbers: &[u32]) -> Result<Vec<(u32, u32)>, AllocError>
     requires { length numbers.now ≤ 4096 }
-    ensures { IfOk result (λ list. list.items ≡ map (counted numbers.now) set.items) }
+    ensures value { IfOk result (λ list. list.items ≡ wired_counts numbers.now) }
+    ensures keys { IfOk result (λ list. keys_of list.items ≡ set_of numbers.now) }
+    ensures ascending { IfOk result (λ list. IsStrictlySortedBy nat_cmp (keys_of list.items)) }
+    ensures few { IfOk result (λ list. length list.items ≤ length numbers.now) }
 {
-    let mut counts = Vec::new(alloc);
-    for n in set {
-        counts.push((n, count(numbers, n) as u32))?;
+    let mut counts = BTreeMap::new(alloc);
+    for n in numbers {
+        count_one(&mut counts, *n)?;
     }
-    Ok(counts)
+    Ok(counts_in_order(alloc, counts)?)
+}
+
+/// Counts a number once more.
+fn count_one(counts: &mut BTreeMap<u32, u32>, n: u32) -> Result<(), AllocError>
+    requires { unwrap_or (get nat_cmp counts.old n) 0 < 4096 }
+    ensures count { OnOk result (Updates nat_cmp counts.old counts.new n (Some (unwrap_or (get nat_cmp counts.old n) 0 + 1))) }
+    ensures entries { OnOk result (counts.new.entries ≡ insert_entry nat_cmp counts.old.entries n (unwrap_or (get nat_cmp counts.old n) 0 + 1)) }
+{
+    let before = counts.get(&n).copied().unwrap_or(0);
+    counts.insert(n, before + 1)?;
+    Ok(())
+}
+
+fn counts_in_order(alloc: Global, counts: BTreeMap<u32, u32>) -> Result<Vec<(u32, u32)>, AllocError>
+    ensures value { IfOk result (λ list. list.items ≡ counts.entries) }
+    ensures ascending { IfOk result (λ list. IsStrictlySortedBy nat_cmp (keys_of list.items)) }
+{
+    counts.into_iter().collect(alloc)
 }
 
 /// The numbers of a list, ascending, each once.
@@ -169,12 +192,4 @@ fn ascending(alloc: Global, set: BTreeSet<u32>) -> Result<Vec<u32>, AllocError>
     ensures ascending { IfOk result (λ list. IsStrictlySortedBy nat_cmp list.items) }
 {
     set.into_iter().collect(alloc)
-}
-
-/// How often a number is listed.
-fn count(numbers: &[u32], n: u32) -> usize
-    ensures value { result ≡ count_by (λ m. m == n) numbers.now }
-    ensures few { result ≤ length numbers.now }
-{
-    numbers.iter().filter(|m| **m == n).count()
 }

@@ -2,6 +2,7 @@
 ghost use Rattle.std.specs.Prelude.{Ok, Err, ◌∷◌, [], map, Contains};
 ghost use Rattle.ar_space.specs.Outcome.{Answers, seen};
 ghost use Rattle.ar_space.specs.Change.{Does};
+ghost use Rattle.acpi_machine.specs.Evaluations.{Leaves, is_asked, is_any};
 ghost use Rattle.ar_space.specs.declared.refusal.Refusal.TheVariants as refusals;
 ghost use Rattle.ar_space.specs.declared.refusal.RoutingFault.TheVariants as routing;
 ghost use Rattle.aml_path.specs.Text.{text_of};
@@ -24,27 +25,29 @@ use std::alloc::Global;
 ///
 /// Without `_PRS` it is refused as `NoOffer`, with the link's path. An answer that is no buffer is refused as `WrongType`, and
 /// bytes that are no offer of interrupts as `possible` says; a refusal of the evaluation is handed on.
-#[tactic(auto, using(ar_space::specs::Change::changing), unfolding(crate::specs::Resources::possible_resources))]
+#[tactic(auto, using(ar_space::specs::Change::changing, acpi_machine::specs::Evaluations::leaving), unfolding(crate::specs::Resources::possible_resources))]
 pub fn get_possible_resources<S: Space>(
     alloc: Global,
     machine: &mut Machine<S>,
     link: &Path,
 ) -> Result<Offer, Refusal>
-    ensures { Does result machine.new (possible_resources S.accesses link.now) machine.old }
+    ensures value { Does result machine.new (possible_resources S.accesses link.now) machine.old }
+    ensures evaluated { Leaves S.accesses is_asked machine.old machine.new }
 {
     let path = child_named(alloc, link, *b"_PRS")?;
     possible_at(alloc, machine, link, &path)
 }
 
 /// What a link device offers whose `_PRS` stands at a path, if it does.
-#[tactic(auto, unfolding(crate::specs::Resources::possible_at))]
+#[tactic(auto, using(acpi_machine::specs::Evaluations::leaving), unfolding(crate::specs::Resources::possible_at))]
 fn possible_at<S: Space>(
     alloc: Global,
     machine: &mut Machine<S>,
     link: &Path,
     path: &Path,
 ) -> Result<Offer, Refusal>
-    ensures { Does result machine.new (possible_at S.accesses link.now path.now) machine.old }
+    ensures value { Does result machine.new (possible_at S.accesses link.now path.now) machine.old }
+    ensures evaluated { Leaves S.accesses is_asked machine.old machine.new }
 {
     if stands(machine, path) {
         offer_at(alloc, machine, path)
@@ -62,13 +65,14 @@ fn no_offer(alloc: Global, link: &Path) -> Result<Offer, Refusal>
 }
 
 /// The offer in the buffer that an object answers.
-#[tactic(auto, using(ar_space::specs::Change::changing), unfolding(crate::specs::Resources::offer_at))]
+#[tactic(auto, using(ar_space::specs::Change::changing, acpi_machine::specs::Evaluations::leaving), unfolding(crate::specs::Resources::offer_at))]
 fn offer_at<S: Space>(
     alloc: Global,
     machine: &mut Machine<S>,
     path: &Path,
 ) -> Result<Offer, Refusal>
-    ensures { Does result machine.new (offer_at S.accesses path.now) machine.old }
+    ensures value { Does result machine.new (offer_at S.accesses path.now) machine.old }
+    ensures evaluated { Leaves S.accesses is_asked machine.old machine.new }
 {
     let bytes = buffer_at(alloc, machine, path)?;
     possible(alloc, bytes.as_slice())
@@ -78,26 +82,28 @@ fn offer_at<S: Space>(
 ///
 /// An answer that is no buffer is refused as `WrongType`, and bytes that are no resource descriptors as `current` says; a
 /// refusal of the evaluation is handed on.
-#[tactic(auto, using(ar_space::specs::Change::changing), unfolding(crate::specs::Resources::current_resources))]
+#[tactic(auto, using(ar_space::specs::Change::changing, acpi_machine::specs::Evaluations::leaving), unfolding(crate::specs::Resources::current_resources))]
 pub fn get_current_resources<S: Space>(
     alloc: Global,
     machine: &mut Machine<S>,
     link: &Path,
 ) -> Result<Option<InterruptNumbers>, Refusal>
-    ensures { Does result machine.new (current_resources S.accesses link.now) machine.old }
+    ensures value { Does result machine.new (current_resources S.accesses link.now) machine.old }
+    ensures evaluated { Leaves S.accesses is_asked machine.old machine.new }
 {
     let path = child_named(alloc, link, *b"_CRS")?;
     current_at(alloc, machine, &path)
 }
 
 /// What a link device is set to whose `_CRS` stands at a path, if it does.
-#[tactic(auto, unfolding(crate::specs::Resources::current_at))]
+#[tactic(auto, using(acpi_machine::specs::Evaluations::leaving), unfolding(crate::specs::Resources::current_at))]
 fn current_at<S: Space>(
     alloc: Global,
     machine: &mut Machine<S>,
     path: &Path,
 ) -> Result<Option<InterruptNumbers>, Refusal>
-    ensures { Does result machine.new (current_at S.accesses path.now) machine.old }
+    ensures value { Does result machine.new (current_at S.accesses path.now) machine.old }
+    ensures evaluated { Leaves S.accesses is_asked machine.old machine.new }
 {
     if stands(machine, path) {
         numbers_at(alloc, machine, path)
@@ -107,13 +113,14 @@ fn current_at<S: Space>(
 }
 
 /// The numbers in the buffer that an object answers.
-#[tactic(auto, using(ar_space::specs::Change::changing), unfolding(crate::specs::Resources::numbers_at))]
+#[tactic(auto, using(ar_space::specs::Change::changing, acpi_machine::specs::Evaluations::leaving), unfolding(crate::specs::Resources::numbers_at))]
 fn numbers_at<S: Space>(
     alloc: Global,
     machine: &mut Machine<S>,
     path: &Path,
 ) -> Result<Option<InterruptNumbers>, Refusal>
-    ensures { Does result machine.new (numbers_at S.accesses path.now) machine.old }
+    ensures value { Does result machine.new (numbers_at S.accesses path.now) machine.old }
+    ensures evaluated { Leaves S.accesses is_asked machine.old machine.new }
 {
     let bytes = buffer_at(alloc, machine, path)?;
     let numbers = current(alloc, bytes.as_slice())?;
@@ -124,7 +131,7 @@ fn numbers_at<S: Space>(
 ///
 /// The argument of `_SRS` is `acpi_resources::setting` of the interrupt. What it answers is dropped; a refusal of its evaluation
 /// is handed on.
-#[tactic(auto, using(ar_space::specs::Change::changing), unfolding(crate::specs::Settings::resources_set))]
+#[tactic(auto, using(ar_space::specs::Change::changing, acpi_machine::specs::Evaluations::leaving), unfolding(crate::specs::Settings::resources_set))]
 pub fn set_current_resources<S: Space>(
     alloc: Global,
     machine: &mut Machine<S>,
@@ -133,14 +140,15 @@ pub fn set_current_resources<S: Space>(
     number: u32,
 ) -> Result<bool, Refusal>
     requires { Contains offer.now.numbers number }
-    ensures { Does result machine.new (resources_set S.accesses link.now offer.now number) machine.old }
+    ensures value { Does result machine.new (resources_set S.accesses link.now offer.now number) machine.old }
+    ensures evaluated { Leaves S.accesses is_any machine.old machine.new }
 {
     let path = child_named(alloc, link, *b"_SRS")?;
     set_at(alloc, machine, &path, offer, number)
 }
 
 /// Sets a link device whose `_SRS` stands at a path, if it does.
-#[tactic(auto, unfolding(crate::specs::Settings::set_at))]
+#[tactic(auto, using(acpi_machine::specs::Evaluations::leaving), unfolding(crate::specs::Settings::set_at))]
 fn set_at<S: Space>(
     alloc: Global,
     machine: &mut Machine<S>,
@@ -149,7 +157,8 @@ fn set_at<S: Space>(
     number: u32,
 ) -> Result<bool, Refusal>
     requires { Contains offer.now.numbers number }
-    ensures { Does result machine.new (set_at S.accesses path.now offer.now number) machine.old }
+    ensures value { Does result machine.new (set_at S.accesses path.now offer.now number) machine.old }
+    ensures evaluated { Leaves S.accesses is_any machine.old machine.new }
 {
     if stands(machine, path) {
         hand_setting(alloc, machine, path, offer, number)
@@ -159,7 +168,7 @@ fn set_at<S: Space>(
 }
 
 /// Calls the method at a path with a setting.
-#[tactic(auto, using(ar_space::specs::Change::changing), unfolding(crate::specs::Settings::setting_handed))]
+#[tactic(auto, using(ar_space::specs::Change::changing, acpi_machine::specs::Evaluations::leaving), unfolding(crate::specs::Settings::setting_handed))]
 fn hand_setting<S: Space>(
     alloc: Global,
     machine: &mut Machine<S>,
@@ -168,7 +177,8 @@ fn hand_setting<S: Space>(
     number: u32,
 ) -> Result<bool, Refusal>
     requires { Contains offer.now.numbers number }
-    ensures { Does result machine.new (setting_handed S.accesses path.now offer.now number) machine.old }
+    ensures value { Does result machine.new (setting_handed S.accesses path.now offer.now number) machine.old }
+    ensures evaluated { Leaves S.accesses is_any machine.old machine.new }
 {
     let arguments = arguments_of(alloc, offer, number)?;
     machine.evaluate_object(alloc, path, arguments)?;

@@ -1,4 +1,5 @@
 pub mod Calls
+pub mod Evaluations
 pub mod FixedPaths
 pub mod Kinds
 pub mod Loading

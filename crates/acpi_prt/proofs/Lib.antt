@@ -1,3 +1,4 @@
 pub mod Entries
 pub mod Firsts
+pub mod Places
 pub mod Turns

@@ -1,6 +1,7 @@
 pub mod Children
 pub mod Entries
 pub mod Finding
+pub mod FirstPins
 pub mod Links
 pub mod Pins
 pub mod RoutingTables

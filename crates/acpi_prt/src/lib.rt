@@ -2,6 +2,7 @@
 #![tactic(auto)]
 
 mod entry;
+mod first_pins;
 pub mod laws;
 mod link;
 mod pin;

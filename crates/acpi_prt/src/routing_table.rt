@@ -2,14 +2,16 @@
 ghost use Rattle.std.specs.Prelude.{◌≡◌, [], Ok, map};
 ghost use Rattle.ar_space.specs.Outcome.{Answers, seen};
 ghost use Rattle.ar_space.specs.Change.{Does};
+ghost use Rattle.acpi_machine.specs.Evaluations.{Leaves, is_asked};
 ghost use Rattle.aml_meaning.specs.Given.{given_of};
 ghost use Rattle.acpi_prt.specs.RoutingTables.{linked, route_of, pin_among, pin_with, pin_of, pins_from, routing_table};
 
 use crate::entry::{
     BAD_ENTRY, device_number, entries_of, letter_of, no_index, source_tested, word_of,
 };
+use crate::first_pins::FirstPins;
 use crate::link::{child_named, link_at};
-use crate::pin::{Pin, Route, take};
+use crate::pin::{Pin, Route};
 use acpi_machine::Machine;
 use aml_meaning::Datum;
 use aml_path::Path;
@@ -24,13 +26,14 @@ use std::alloc::Global;
 /// index no integer of at most 32 bits, or its source neither 0 nor a name; `BadPin` where the pin is above 3; `NotALink`
 /// where the source names no link device: a Device whose `_HID` is a name that holds EISAID("PNP0C0F") or "PNP0C0F";
 /// `SourceIndex` where the source index at a link device isn't 0. `Spent` where an earlier call ran out of memory.
-#[tactic(auto, using(ar_space::specs::Change::changing), unfolding(crate::specs::RoutingTables::routing_table))]
+#[tactic(auto, using(ar_space::specs::Change::changing, acpi_machine::specs::Evaluations::leaving), unfolding(crate::specs::RoutingTables::routing_table))]
 pub fn get_irq_routing_table<S: Space>(
     alloc: Global,
     machine: &mut Machine<S>,
     device: &Path,
 ) -> Result<Vec<Pin>, Refusal>
-    ensures { Does (seen (λ pins. pins.items) result) machine.new (routing_table S.accesses device.now) machine.old }
+    ensures value { Does (seen (λ pins. pins.items) result) machine.new (routing_table S.accesses device.now) machine.old }
+    ensures evaluated { Leaves S.accesses is_asked machine.old machine.new }
 {
     let name = child_named(alloc, device, *b"_PRT")?;
     let answer = machine.evaluate_object(alloc, &name, Vec::new(alloc))?;
@@ -44,24 +47,26 @@ fn pins_from<S: Space>(
     machine: &mut Machine<S>,
     entries: &[Datum],
 ) -> Result<Vec<Pin>, Refusal>
-    ensures { Does (seen (λ pins. pins.items) result) machine.new (pins_from S.accesses (map given_of entries.now) []) machine.old }
+    ensures value { Does (seen (λ pins. pins.items) result) machine.new (pins_from S.accesses (map given_of entries.now) []) machine.old }
+    ensures evaluated { Leaves S.accesses is_asked machine.old machine.new }
 {
-    let mut pins = Vec::new(alloc);
+    let mut pins = FirstPins::new(alloc);
     for entry in entries {
         let pin = pin_of(alloc, machine, entry)?;
-        pins = take(pins, pin)?;
+        pins = pins.take(pin)?;
     }
-    Ok(pins)
+    Ok(pins.into_pins())
 }
 
 /// The pin of an entry; none of one that was left out.
-#[tactic(auto, using(ar_space::specs::Change::changing, crate::specs::Entries::rows))]
+#[tactic(auto, using(ar_space::specs::Change::changing, acpi_machine::specs::Evaluations::leaving, crate::specs::Entries::rows))]
 fn pin_of<S: Space>(
     alloc: Global,
     machine: &mut Machine<S>,
     entry: &Datum,
 ) -> Result<Option<Pin>, Refusal>
-    ensures { Does result machine.new (pin_of S.accesses (given_of entry.now)) machine.old }
+    ensures value { Does result machine.new (pin_of S.accesses (given_of entry.now)) machine.old }
+    ensures evaluated { Leaves S.accesses is_asked machine.old machine.new }
 {
     match entry {
         Datum::Nothing => Ok(None),
@@ -71,13 +76,14 @@ fn pin_of<S: Space>(
 }
 
 /// The pin of an entry of four parts.
-#[tactic(auto, using(crate::proofs::Entries::others_refused))]
+#[tactic(auto, using(crate::proofs::Entries::others_refused, acpi_machine::specs::Evaluations::leaving))]
 fn pin_among<S: Space>(
     alloc: Global,
     machine: &mut Machine<S>,
     parts: &[Datum],
 ) -> Result<Option<Pin>, Refusal>
-    ensures { Does result machine.new (pin_among S.accesses (map given_of parts.now)) machine.old }
+    ensures value { Does result machine.new (pin_among S.accesses (map given_of parts.now)) machine.old }
+    ensures evaluated { Leaves S.accesses is_asked machine.old machine.new }
 {
     if parts.len() != 4 {
         return Err(BAD_ENTRY);
@@ -86,7 +92,7 @@ fn pin_among<S: Space>(
     pin_with(alloc, machine, address, pin, source, index)
 }
 
-#[tactic(auto, using(ar_space::specs::Change::changing), unfolding(crate::specs::RoutingTables::pin_with))]
+#[tactic(auto, using(ar_space::specs::Change::changing, acpi_machine::specs::Evaluations::leaving), unfolding(crate::specs::RoutingTables::pin_with))]
 fn pin_with<S: Space>(
     alloc: Global,
     machine: &mut Machine<S>,
@@ -95,7 +101,8 @@ fn pin_with<S: Space>(
     source: &Datum,
     index: &Datum,
 ) -> Result<Option<Pin>, Refusal>
-    ensures { Does result machine.new (pin_with S.accesses (given_of address.now) (given_of pin.now) (given_of source.now) (given_of index.now)) machine.old }
+    ensures value { Does result machine.new (pin_with S.accesses (given_of address.now) (given_of pin.now) (given_of source.now) (given_of index.now)) machine.old }
+    ensures evaluated { Leaves S.accesses is_asked machine.old machine.new }
 {
     let address = word_of(address)?;
     let pin = word_of(pin)?;
@@ -111,14 +118,15 @@ fn pin_with<S: Space>(
 }
 
 /// Where a source leads to with an index.
-#[tactic(auto, using(ar_space::specs::Change::changing))]
+#[tactic(auto, using(ar_space::specs::Change::changing, acpi_machine::specs::Evaluations::leaving))]
 fn route_of<S: Space>(
     alloc: Global,
     machine: &mut Machine<S>,
     source: &Datum,
     index: u32,
 ) -> Result<Route, Refusal>
-    ensures { Does result machine.new (route_of S.accesses (given_of source.now) index) machine.old }
+    ensures value { Does result machine.new (route_of S.accesses (given_of source.now) index) machine.old }
+    ensures evaluated { Leaves S.accesses is_asked machine.old machine.new }
 {
     match source {
         Datum::Integer(_) => Ok(Route::Wired(index)),
@@ -131,14 +139,15 @@ fn route_of<S: Space>(
     }
 }
 
-#[tactic(auto, using(ar_space::specs::Change::changing), unfolding(crate::specs::RoutingTables::linked))]
+#[tactic(auto, using(ar_space::specs::Change::changing, acpi_machine::specs::Evaluations::leaving), unfolding(crate::specs::RoutingTables::linked))]
 fn linked<S: Space>(
     alloc: Global,
     machine: &mut Machine<S>,
     path: &Path,
     index: u32,
 ) -> Result<Route, Refusal>
-    ensures { Does result machine.new (linked S.accesses path.now index) machine.old }
+    ensures value { Does result machine.new (linked S.accesses path.now index) machine.old }
+    ensures evaluated { Leaves S.accesses is_asked machine.old machine.new }
 {
     let link = link_at(alloc, machine, path)?;
     no_index(index)?;

@@ -1,17 +1,20 @@
 use Rattle.std.proofs.Common.{◌++◌, arith, refl}
 use Rattle.ar_space.specs.Change.{does_same, does_seen_err, same_ok}
+use Rattle.acpi_machine.specs.Evaluations.{leaves_next}
 use Rattle.acpi_links.specs.Folds.{same_turn, same_added, fold_end}
 use Rattle.acpi_links.specs.Devices.{pins_of_device}
 use Rattle.acpi_links.proofs.devices.pins_of_each.Goals as goal
 
 pub loop-device-preserved : goal.loop-device-preserved
-loop-device-preserved g c =
-    same_added _ _ _ _ _ (same_ok _ _ (same_turn ◌++◌ (pins_of_device g.S.Space.accesses) c.args.devices.now c.loop-device.list.items c.loop-device.device-index _ c.loop-device.invariant (omega arith) c.device-item.is) c.in_ok-pins.ensures) c.in_ok-append.ensures.items
+loop-device-preserved g c = (
+  same_added _ _ _ _ _ (same_ok _ _ (same_turn ◌++◌ (pins_of_device g.S.Space.accesses) c.args.devices.now c.loop-device.list.items c.loop-device.device-index _ c.loop-device.invariant.0 (omega arith) c.device-item.is) c.in_ok-pins.ensures.value) c.in_ok-append.ensures.items,
+  leaves_next c.loop-device.invariant.1 c.in_ok-pins.ensures.evaluated,
+)
 
-pub returns-in_err-pins : goal.returns-in_err-pins
-returns-in_err-pins g c =
-    does_same (same_turn ◌++◌ (pins_of_device g.S.Space.accesses) c.args.devices.now c.loop-device.list.items c.loop-device.device-index _ c.loop-device.invariant (omega arith) c.device-item.is)
-    (does_seen_err _ _ _ _ c.in_err-pins.ensures c.from_residual.ensures)
+pub returns-in_err-pins-clause-value : goal.returns-in_err-pins-clause-value
+returns-in_err-pins-clause-value g c =
+    does_same (same_turn ◌++◌ (pins_of_device g.S.Space.accesses) c.args.devices.now c.loop-device.list.items c.loop-device.device-index _ c.loop-device.invariant.0 (omega arith) c.device-item.is)
+    (does_seen_err _ _ _ _ c.in_err-pins.ensures.value c.from_residual.ensures)
 
-pub returns : goal.returns
-returns g c = fold_end ◌++◌ (pins_of_device g.S.Space.accesses) c.args.devices.now c.loop-device.list.items c.loop-device.device-index c.loop-device.invariant (omega arith) refl
+pub returns-clause-value : goal.returns-clause-value
+returns-clause-value g c = fold_end ◌++◌ (pins_of_device g.S.Space.accesses) c.args.devices.now c.loop-device.list.items c.loop-device.device-index c.loop-device.invariant.0 (omega arith) refl

@@ -1,5 +1,6 @@
 use Rattle.std.proofs.Common.{arith, refl}
 use Rattle.ar_space.specs.Change.{does_same, does_seen_err, same_ok}
+use Rattle.acpi_machine.specs.Evaluations.{leaves_next}
 use Rattle.acpi_links.specs.Folds.{same_turn, same_added, fold_end}
 use Rattle.acpi_links.specs.Links.{with_link, link_asked}
 use Rattle.acpi_links.proofs.Kept.{kept_in_order, kept_few, kept_left, end_in_order}
@@ -11,6 +12,7 @@ loop-link-preserved g c = (
   kept_few _ _ _ _ c.in_ok-push_found.ensures.items c.loop-link.invariant.1,
   λ s. kept_in_order _ _ _ c.args.links.now c.loop-link.link-index _ c.in_ok-push_found.ensures.items c.in_ok-found.ensures.path (omega arith) c.link-item.is (c.loop-link.invariant.2 s),
   kept_left _ _ _ _ c.in_ok-push_found.ensures.items c.in_ok-found.ensures.left c.loop-link.invariant.3,
+  leaves_next c.loop-link.invariant.4 c.in_ok-found.ensures.evaluated,
 )
 
 pub returns-in_err-found-clause-value : goal.returns-in_err-found-clause-value

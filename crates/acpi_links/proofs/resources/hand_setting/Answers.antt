@@ -2,10 +2,10 @@ use Rattle.ar_space.specs.Change.{does_ok, does_err, does_made, does_give}
 use Rattle.acpi_links.specs.Settings.{setting_handed}
 use Rattle.acpi_links.proofs.resources.hand_setting.Goals as goal
 
-pub returns-in_err-evaluate_object : goal.returns-in_err-evaluate_object
+pub returns-in_err-evaluate_object-clause-value : goal.returns-in_err-evaluate_object-clause-value
 unfolding setting_handed
-returns-in_err-evaluate_object g c = does_ok _ _ (does_made _ _ c.in_ok-arguments.ensures) (does_err _ _ c.in_err-evaluate_object.ensures.answer c.from_residual-in_err-evaluate_object.ensures)
+returns-in_err-evaluate_object-clause-value g c = does_ok _ _ (does_made _ _ c.in_ok-arguments.ensures) (does_err _ _ c.in_err-evaluate_object.ensures.answer c.from_residual-in_err-evaluate_object.ensures)
 
-pub returns : goal.returns
+pub returns-clause-value : goal.returns-clause-value
 unfolding setting_handed
-returns g c = does_ok _ _ (does_made _ _ c.in_ok-arguments.ensures) (does_ok _ _ c.in_ok-evaluate_object.ensures.answer does_give)
+returns-clause-value g c = does_ok _ _ (does_made _ _ c.in_ok-arguments.ensures) (does_ok _ _ c.in_ok-evaluate_object.ensures.answer does_give)

@@ -1,0 +1,57 @@
+//! Makes every public call of the libraries once, over a small machine, and tells whether what is promised of want of memory holds.
+//!
+//! With ample memory each call answers. Where memory runs out in a call, the call says so; after a call of the machine itself each
+//! later one is refused as spent, and after a call of a library above it the machine goes on, unless it is spent. Run it with each
+//! allocation refused in turn: `rt try --fail-alloc 1..`.
+#![tactic(auto)]
+
+mod machine;
+mod machine_calls;
+mod promise;
+mod route_calls;
+
+use crate::machine::TEXT;
+use crate::machine_calls::call_machine;
+use crate::promise::{Ended, answered};
+use crate::route_calls::call_routes;
+use acpi_machine::{Machine, load_tables};
+use ar_space::{Refusal, Sparse};
+use ar_tables::find_tables;
+use machine_text::read_machine;
+use std::alloc::Global;
+use std::io;
+use std::process::ExitCode;
+
+/// How many steps each table and each evaluation may take.
+const STEPS: u64 = 1_000_000;
+
+/// The machine of the text, with its tables loaded. Where loading is refused, the register space comes back.
+fn loaded(alloc: Global) -> Result<Machine<Sparse>, Ended> {
+    let said = answered("read_machine", read_machine(alloc, TEXT))?;
+    let tables = answered(
+        "find_tables",
+        find_tables(alloc, said.space.memory(), said.rsdp),
+    )?;
+    match load_tables(alloc, tables, said.space, STEPS, Vec::new(alloc)) {
+        Ok(machine) => Ok(machine),
+        Err((Refusal::OutOfMemory, _space)) => Err(Ended::OutOfMemory),
+        Err(_) => Err(Ended::Broken("load_tables")),
+    }
+}
+
+/// Every call, once.
+fn call_all(alloc: Global) -> Result<(), Ended> {
+    let mut machine = loaded(alloc)?;
+    call_machine(alloc, &mut machine)?;
+    call_routes(alloc, &mut machine)
+}
+
+fn main(rt: HostRuntime) -> io::Result<ExitCode> {
+    let (line, status) = match call_all(rt.alloc()) {
+        Ok(()) => ("every call answers", 0),
+        Err(Ended::OutOfMemory) => ("memory ran out, as promised", 0),
+        Err(Ended::Broken(call)) => (call, 1),
+    };
+    println!(rt; "{line}")?;
+    Ok(ExitCode::from(status))
+}
