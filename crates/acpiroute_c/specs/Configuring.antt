@@ -3,7 +3,6 @@ use Rattle.std.specs.Prelude.{◌≡◌, ◌⊎◌, ℕ, ◌==◌, nat_lt, Bool,
 use Rattle.ar_space.specs.Outcome.{Outcome, NotMemory}
 use Rattle.ar_tables.specs.declared.mode.Mode.{Mode}
 use Rattle.ar_tables.specs.declared.mode.Mode.TheVariants.{Pic, Apic}
-use Rattle.space_trace.specs.declared.access.Access.{Access}
 use Rattle.recorded_space.specs.declared.exchange.Exchange.{Exchange}
 use Rattle.recorded_route.specs.declared.ending.Ending.{Ending}
 use Rattle.recorded_route.specs.declared.ending.Ending.TheVariants as ends

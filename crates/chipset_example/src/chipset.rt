@@ -105,7 +105,7 @@ impl Space for Chipset {
     fn write(&mut self, place: Place, width: Width, value: u64) -> Result<(), SpaceFault> {
         match register_at(place, width) {
             Some(pin) => {
-                self.set(pin, value as u8);
+                self.set(pin, (value % 256) as u8);
                 Ok(())
             }
             None => Err(SpaceFault::NoRegister),

@@ -1,12 +1,10 @@
 -- Taking arguments in and handing an answer out go the same way over two register spaces.
-use Rattle.std.specs.Prelude.{◌≡◌, ℕ, zero, suc, List, [], ◌∷◌, length, take, Ok, Err, refl}
-use Rattle.std.proofs.Common.{sym, ◌∙◌, ap, subst}
+use Rattle.std.specs.Prelude.{◌≡◌, ℕ, zero, suc, List, [], ◌∷◌, length, Ok, Err, refl}
 use Rattle.ar_space.specs.Accesses.{Accesses}
 use Rattle.ar_space.specs.Outcome.{Outcome}
 use Rattle.ar_space.specs.Change.{Change}
 use Rattle.aml_path.specs.declared.segment.Seg.{Seg}
 use Rattle.aml_path.specs.Paths.{Name}
-use Rattle.aml_objects.specs.Objects.{Objects}
 use Rattle.aml_objects.specs.declared.value.Value.{Value}
 use Rattle.aml_objects.specs.declared.value.Value.TheVariants as value
 use Rattle.aml_objects.specs.declared.value.Reference.{Reference}
@@ -16,9 +14,8 @@ use Rattle.aml_objects.specs.declared.object.Element.TheVariants as element
 use Rattle.aml_meaning.specs.declared.name_use.NameUse.{NameUse}
 use Rattle.aml_meaning.specs.declared.name_use.NameUse.TheVariants as uses
 use Rattle.aml_meaning.specs.Given.{Given, Nothing, Integer, Text, Bytes, Package, Named, Reference as Unnamed, Givens, none, more}
-use Rattle.aml_meaning.specs.State.{State, on_objects}
+use Rattle.aml_meaning.specs.State.{State}
 use Rattle.aml_meaning.specs.Run.{Run}
-use Rattle.aml_meaning.specs.Readings.{integer_kept, entry_found}
 use Rattle.aml_meaning.specs.Importing.{reference_to, imported_by, each_imported, elements_imported, package_imported, taken_back, imported, all_imported}
 use Rattle.aml_meaning.specs.Exporting.{text_exported, bytes_exported, path_of, reference_exported, value_exported, name_use, use_exported, name_exported, held_exported, element_exported, each_exported, elements_exported, package_exported, exported}
 use Rattle.recorded_laws.proofs.Together.{SideBySide, Together, give_together, plain, stop_together, then_together, wrapped_together}
@@ -26,7 +23,7 @@ use Rattle.recorded_laws.proofs.Worlds.{charge_together, lift_together, objects_
 use Rattle.recorded_laws.proofs.ChangesTogether.{entry_found_together, integer_kept_together}
 use Rattle.recorded_laws.proofs.FieldsTogether.{field_given_together}
 use Rattle.recorded_laws.proofs.OperandsTogether.{called_at_together}
-use Rattle.recorded_laws.proofs.RulesTogether.{meaning_together}
+use Rattle.recorded_laws.proofs.MeaningTogether.{meaning_together}
 
 -- ---- arguments
 

@@ -1,9 +1,6 @@
 -- Finding names, making objects and names, operators and calls go the same way over two register spaces.
-use Rattle.std.specs.Prelude.{◌≡◌, ℕ, List, Bool, Ok, Err, refl}
-use Rattle.std.proofs.Common.{ap, ◌∙◌}
+use Rattle.std.specs.Prelude.{ℕ, List, Bool, refl}
 use Rattle.ar_space.specs.Accesses.{Accesses}
-use Rattle.ar_space.specs.Change.{Change, give, settle, go_on, ◌>>=◌}
-use Rattle.ar_space.specs.Outcome.{Outcome}
 use Rattle.aml_path.specs.declared.segment.Seg.{Seg}
 use Rattle.aml_path.specs.Paths.{Name}
 use Rattle.aml_objects.specs.declared.value.Value.{Value}
@@ -24,15 +21,12 @@ use Rattle.aml_meaning.specs.declared.term_kind.Test.{Test}
 use Rattle.aml_meaning.specs.declared.term_kind.Test.TheVariants as test
 use Rattle.aml_meaning.specs.declared.term_kind.Count.{Count}
 use Rattle.aml_meaning.specs.declared.term_kind.Count.TheVariants as count
-use Rattle.aml_meaning.specs.State.{State}
 use Rattle.aml_meaning.specs.Readings.{integer_kept, integer_in, entry_found, path_found, scope_found, arguments_found}
 use Rattle.aml_meaning.specs.NewObjects.{within, new_buffer, new_package}
 use Rattle.aml_meaning.specs.Declaring.{not_in_method, new_name, new_method}
 use Rattle.aml_meaning.specs.TargetTerms.{target_named}
-use Rattle.aml_objects.specs.Contents.{Content}
-use Rattle.aml_objects.specs.Contents as held
 use Rattle.aml_meaning.specs.Osi.{osi_answered}
-use Rattle.aml_meaning.specs.Operations.{made_of, integers_operated, operated, divided_in, integer_operated, operated_on_one, integers_tested, operated_logically, integer_turned, turned, next_integer, integer_before, compared_in, joined_contents, joined, joined_items, joined_resources, to_integer_in, buffer_bytes, new_buffer_of, to_buffer_in, size_held, element_indexed, byte_indexed, indexed, size_in}
+use Rattle.aml_meaning.specs.Operations.{integers_operated, operated, divided_in, integer_operated, operated_on_one, integers_tested, operated_logically, integer_turned, turned, next_integer, integer_before, compared_in, joined_contents, joined, joined_items, joined_resources, to_integer_in, buffer_bytes, new_buffer_of, to_buffer_in, size_held, element_indexed, byte_indexed, indexed, size_in}
 use Rattle.aml_meaning.specs.OperatorTerms.{result_of_two, result_of_one, result_of_test, counted_by}
 use Rattle.aml_meaning.specs.Invocations.{body_terms, named_use, invocation_found}
 use Rattle.recorded_laws.proofs.Together.{SideBySide, Together, give_together, plain, settle_together, stop_together, then_together}

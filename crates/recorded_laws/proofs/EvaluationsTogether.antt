@@ -18,7 +18,7 @@ use Rattle.recorded_laws.proofs.Together.{SideBySide, Together, give_together, p
 use Rattle.recorded_laws.proofs.Worlds.{counted_together, ending_together, in_frame_together, lift_together, names_together, objects_together, runs, with_steps_together, world_over, worlds}
 use Rattle.recorded_laws.proofs.ChangesTogether.{invocation_found_together, osi_answered_together}
 use Rattle.recorded_laws.proofs.OperandsTogether.{field_read_together, method_value_together}
-use Rattle.recorded_laws.proofs.RulesTogether.{list_together, meaning_together}
+use Rattle.recorded_laws.proofs.MeaningTogether.{list_together, meaning_together}
 use Rattle.recorded_laws.proofs.AnswersTogether.{all_imported_together, exported_together}
 
 terms_kept_space : {S : Type 0} (r : Outcome (List Tree × List Arity)) (w : State S) → (terms_kept r w).1.space ≡ w.space

@@ -1,9 +1,8 @@
 -- A record beside a register space that gives its answers: they are in step until an access is missing.
-use Rattle.std.specs.Prelude.{◌≡◌, ◌⊎◌, ℕ, suc, zero, ◌+◌, List, [], ◌∷◌, ◌++◌, length, drop, Option, Some, None, Result, Ok, Err, slice_get, refl}
+use Rattle.std.specs.Prelude.{◌≡◌, ◌⊎◌, ℕ, suc, zero, ◌+◌, List, [], ◌∷◌, ◌++◌, length, drop, Option, Some, None, Result, slice_get, refl}
 use Rattle.std.proofs.Common.{inl, inr, sym, subst, ap, ◌∙◌}
 use Rattle.std.proofs.lemmas.List.{length_push}
 use Rattle.ar_space.specs.declared.refusal.SpaceFault.{SpaceFault}
-use Rattle.ar_space.specs.declared.refusal.SpaceFault.TheVariants.{Device}
 use Rattle.ar_space.specs.declared.space.Width.{Width}
 use Rattle.ar_space.specs.declared.space.Place.{Place}
 use Rattle.ar_space.specs.Accesses.{Accesses}
@@ -11,7 +10,7 @@ use Rattle.space_trace.specs.declared.access.Access.{Access}
 use Rattle.space_trace.specs.declared.access.Access.TheVariants.{Read, Write}
 use Rattle.recorded_space.specs.declared.exchange.Exchange.{Exchange}
 use Rattle.recorded_space.specs.Exchanges.{read_answer, write_answer}
-use Rattle.recorded_space.specs.Recordings.{Recording, begun, recorded, said_by, answered, missed}
+use Rattle.recorded_space.specs.Recordings.{Recording, recorded, said_by, answered}
 use Rattle.recorded_space.specs.Deciding.{Gives}
 use Rattle.recorded_space.proofs.Entries.{got_behind, found_read, found_write}
 use Rattle.recorded_laws.specs.Listed.{listed}

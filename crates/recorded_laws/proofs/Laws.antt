@@ -1,6 +1,6 @@
 -- What a record says of runs over the register spaces that give its answers.
-use Rattle.std.specs.Prelude.{◌≡◌, ◌⊎◌, ℕ, List, [], Bool, Option, Some, None, Ok, Err, slice_get, refl}
-use Rattle.std.proofs.Common.{inl, inr, sym, subst, ap, ◌∙◌}
+use Rattle.std.specs.Prelude.{◌≡◌, ℕ, List, [], Some, None, Ok, Err, slice_get, refl}
+use Rattle.std.proofs.Common.{inl, inr, sym, ap, ◌∙◌}
 use Rattle.ar_space.specs.Accesses.{Accesses}
 use Rattle.ar_space.specs.Outcome.{Outcome}
 use Rattle.space_trace.specs.declared.access.Access.{Access}
@@ -9,7 +9,7 @@ use Rattle.aml_meaning.specs.State.{State}
 use Rattle.acpi_machine.specs.Calls.{initialized}
 use Rattle.acpi_machine.specs.MachineStates.{MachineState, machine_of}
 use Rattle.acpi_links.specs.Gathering.{Gathering}
-use Rattle.acpi_configure.specs.Configured.{Solves, IsReport}
+use Rattle.acpi_configure.specs.Configured.{Solves}
 use Rattle.acpi_configure.proofs.One.{one_report}
 use Rattle.route_solve.specs.Problems.{RoutingProblem, RoutingAnswer}
 use Rattle.route_report.specs.Reports.{RoutingReport}
@@ -19,7 +19,7 @@ use Rattle.recorded_space.specs.Deciding.{Gives}
 use Rattle.recorded_route.specs.declared.settings.Settings.{Settings}
 use Rattle.recorded_route.specs.Runs.{Description, described, IsConfigured, IsConfiguredIf, IsMachineRun, IsLoadedRun, IsDescribedRun, IsRun, world_over as first_world}
 use Rattle.recorded_laws.specs.Listed.{listed}
-use Rattle.recorded_laws.proofs.Following.{HasMissed, HasMissedNext, following, following_listed}
+use Rattle.recorded_laws.proofs.Following.{following, following_listed}
 use Rattle.recorded_laws.proofs.Running.{Carried, run_carried}
 use Rattle.recorded_laws.proofs.Meeting.{Meet, runs_meet}
 

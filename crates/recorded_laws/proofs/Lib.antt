@@ -6,6 +6,7 @@ mod StoreTargetsTogether
 mod FieldsTogether
 mod OperandsTogether
 mod RulesTogether
+mod MeaningTogether
 mod AnswersTogether
 mod EvaluationsTogether
 mod Machines

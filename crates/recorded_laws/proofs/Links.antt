@@ -1,23 +1,22 @@
 -- Routing tables and link devices, over two register spaces.
-use Rattle.std.specs.Prelude.{ℕ, List, [], ◌∷◌, Bool, true, false, Option, Some, None, Ok, Err, refl}
+use Rattle.std.specs.Prelude.{ℕ, List, [], ◌∷◌, Bool, true, false, Option, refl}
 use Rattle.ar_space.specs.Accesses.{Accesses}
 use Rattle.ar_space.specs.Change.{Change}
 use Rattle.aml_path.specs.declared.segment.Seg.{Seg}
 use Rattle.aml_meaning.specs.Given.{Given}
 use Rattle.aml_meaning.specs.Given as given
 use Rattle.acpi_resources.specs.Records.{InterruptOffer}
-use Rattle.acpi_machine.specs.MachineStates.{MachineState}
 use Rattle.acpi_prt.specs.declared.pin.Pin.{Pin}
 use Rattle.acpi_prt.specs.Entries.{list_of}
 use Rattle.acpi_prt.specs.Links.{device_at, id_at, link_at}
 use Rattle.acpi_prt.specs.RoutingTables.{linked, route_of, pin_with, pin_among, pin_of, pins_from, routing_table}
 use Rattle.acpi_links.specs.Answered.{stands, buffer_at}
 use Rattle.acpi_links.specs.Folds.{folded}
-use Rattle.acpi_links.specs.Devices.{devices, devices_listed, pins_at, pins_of_device, pins_of_each}
+use Rattle.acpi_links.specs.Devices.{devices, devices_listed, pins_at, pins_of_device}
 use Rattle.acpi_links.specs.Presence.{status_at, presence_at, is_present}
 use Rattle.acpi_links.specs.Resources.{offer_at, possible_at, possible_resources, numbers_at, current_at, current_resources}
 use Rattle.acpi_links.specs.Settings.{setting_handed, set_at, resources_set}
-use Rattle.acpi_links.specs.Links.{link_found, link_if, link_asked, links_of_each}
+use Rattle.acpi_links.specs.Links.{link_found, link_if, link_asked}
 use Rattle.acpi_links.specs.Gatherings.{sci_shown, pins_found, links_found, gathered}
 use Rattle.recorded_laws.proofs.Together.{SideBySide, Shape, Together, plain, give_together, settle_together, stop_together, then_together, choice_together}
 use Rattle.recorded_laws.proofs.Machines.{machines, evaluated_object_together}

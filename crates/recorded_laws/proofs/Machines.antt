@@ -1,5 +1,5 @@
 -- Changes of machines: tables that are loaded, objects that are evaluated, and initializing.
-use Rattle.std.specs.Prelude.{ℕ, List, [], ◌∷◌, Ok, codes, refl}
+use Rattle.std.specs.Prelude.{ℕ, List, [], ◌∷◌, refl}
 use Rattle.std.specs.FinMap.{contains_key}
 use Rattle.std.proofs.Common.{inl, inr, ap}
 use Rattle.ar_space.specs.Accesses.{Accesses}

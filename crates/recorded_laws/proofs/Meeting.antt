@@ -1,6 +1,6 @@
 -- A run over a register space, and any run over another one that was in step with it: at their ends the spaces have parted, or are in step
 -- with something still.
-use Rattle.std.specs.Prelude.{◌≡◌, ◌⊎◌, ℕ, List, Bool, Ok, Err, refl}
+use Rattle.std.specs.Prelude.{◌≡◌, ◌⊎◌, ℕ, List, Ok, Err, refl}
 use Rattle.std.proofs.Common.{inl, inr, sym, subst, ap, ◌∙◌}
 use Rattle.ar_space.specs.declared.refusal.Refusal.{Refusal}
 use Rattle.ar_space.specs.Accesses.{Accesses}
@@ -12,12 +12,10 @@ use Rattle.acpi_machine.specs.Calls.{initialized}
 use Rattle.acpi_machine.specs.MachineStates.{MachineState, machine_of}
 use Rattle.acpi_links.specs.Gathering.{Gathering}
 use Rattle.acpi_links.specs.Gatherings.{gathered}
-use Rattle.acpi_links.specs.Links.{PresentLink}
 use Rattle.acpi_configure.specs.Configured.{Solves, IsReport}
 use Rattle.acpi_configure.specs.Settling.{settled_unless}
 use Rattle.route_solve.specs.Problems.{RoutingProblem, RoutingAnswer}
-use Rattle.route_report.specs.declared.report.SetLine.{SetLine}
-use Rattle.route_report.specs.Reports.{RoutingReport, ReportedAfter}
+use Rattle.route_report.specs.Reports.{RoutingReport}
 use Rattle.recorded_route.specs.declared.settings.Settings.{Settings}
 use Rattle.recorded_route.specs.Runs.{Description, described, IsConfigured, IsConfiguredIf, IsStarted, IsMachineRun, IsLoadedRun, IsRunOver, IsDescribedRun, IsRun, world_over as first_world}
 use Rattle.recorded_laws.proofs.Together.{SideBySide, Goes}

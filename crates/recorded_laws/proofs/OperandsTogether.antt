@@ -1,5 +1,5 @@
 -- Operands, lists of terms, calls of control methods and fields go the same way over two register spaces, where the parts of a term do.
-use Rattle.std.specs.Prelude.{ℕ, zero, suc, List, Bool, true, false, refl, if◌then◌else◌}
+use Rattle.std.specs.Prelude.{ℕ, zero, suc, List, Bool, true, false, if◌then◌else◌}
 use Rattle.ar_space.specs.Accesses.{Accesses}
 use Rattle.ar_space.specs.Change.{give}
 use Rattle.aml_path.specs.declared.segment.Seg.{Seg}
@@ -16,7 +16,6 @@ use Rattle.aml_meaning.specs.declared.store_target.Held.TheVariants as held
 use Rattle.aml_meaning.specs.declared.store_target.Stored.{Stored}
 use Rattle.aml_meaning.specs.declared.store_target.Stored.TheVariants as store
 use Rattle.aml_objects.specs.declared.entry.Field.{Field}
-use Rattle.aml_meaning.specs.State.{State}
 use Rattle.aml_meaning.specs.Run.{Run}
 use Rattle.aml_meaning.specs.Tasks.{Task, operand_value, value_at, two_values, operand_integer, goes_on, in_turn}
 use Rattle.aml_meaning.specs.Invocations.{invoked, method_value}

@@ -1,26 +1,21 @@
 -- Spaces that have parted stay so to the end of a run, over either of them.
-use Rattle.std.specs.Prelude.{◌≡◌, ◌⊎◌, ℕ, List, Bool, Ok, Err, refl}
-use Rattle.std.proofs.Common.{inl, inr, sym, subst, ap, ◌∙◌}
-use Rattle.ar_space.specs.declared.refusal.Refusal.{Refusal}
+use Rattle.std.specs.Prelude.{◌≡◌, ℕ, List, Ok, Err}
+use Rattle.std.proofs.Common.{sym, subst}
 use Rattle.ar_space.specs.Accesses.{Accesses}
 use Rattle.ar_space.specs.Outcome.{Outcome}
 use Rattle.ar_tables.specs.declared.tables.Tables.{Tables}
 use Rattle.aml_meaning.specs.State.{State}
-use Rattle.aml_meaning.specs.Predefined.{fresh}
 use Rattle.acpi_machine.specs.Calls.{initialized}
 use Rattle.acpi_machine.specs.MachineStates.{MachineState, machine_of}
 use Rattle.acpi_links.specs.Gathering.{Gathering}
-use Rattle.acpi_links.specs.Gatherings.{gathered}
 use Rattle.acpi_links.specs.Links.{PresentLink}
-use Rattle.acpi_configure.specs.Configured.{Solves, IsReport}
 use Rattle.acpi_configure.specs.Settling.{settled_unless}
 use Rattle.route_report.specs.declared.report.SetLine.{SetLine}
 use Rattle.route_report.specs.Reports.{RoutingReport, ReportedAfter}
 use Rattle.recorded_route.specs.declared.settings.Settings.{Settings}
-use Rattle.recorded_route.specs.Runs.{Description, described, IsConfigured, IsConfiguredIf, IsStarted, IsMachineRun, IsLoadedRun, IsRunOver, IsDescribedRun, IsRun, world_over as first_world}
-use Rattle.recorded_laws.proofs.Together.{SideBySide, Goes}
-use Rattle.recorded_laws.proofs.Worlds.{world_over, worlds}
-use Rattle.recorded_laws.proofs.Machines.{machine_over, machines, loaded_tables_together, initialized_together}
+use Rattle.recorded_route.specs.Runs.{IsConfigured, IsConfiguredIf, IsMachineRun, IsLoadedRun}
+use Rattle.recorded_laws.proofs.Together.{SideBySide}
+use Rattle.recorded_laws.proofs.Machines.{initialized_together}
 use Rattle.recorded_laws.proofs.Links.{gathered_together}
 use Rattle.recorded_laws.proofs.Settings.{settled_unless_together}
 

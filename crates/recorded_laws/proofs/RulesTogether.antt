@@ -1,6 +1,5 @@
 -- The rule of each term goes the same way over two register spaces, where its parts do; so every evaluation does.
-use Rattle.std.specs.Prelude.{ℕ, zero, suc, List, Bool, true, false, Option, Some, None, refl}
-use Rattle.std.proofs.Common.{inr}
+use Rattle.std.specs.Prelude.{ℕ, zero, suc, List, Bool, true, false, Option, Some, None}
 use Rattle.ar_space.specs.Accesses.{Accesses}
 use Rattle.aml_path.specs.declared.segment.Seg.{Seg}
 use Rattle.aml_grammar.specs.declared.opcode.Opcode.{Opcode}
@@ -35,10 +34,9 @@ use Rattle.aml_meaning.specs.declared.store_target.TargetKind.TheVariants as tar
 use Rattle.aml_objects.specs.declared.value.Reference.{Reference}
 use Rattle.aml_meaning.specs.declared.term_kind.RegionKind.{RegionKind}
 use Rattle.aml_meaning.specs.declared.term_kind.RegionKind.TheVariants as regions
-use Rattle.aml_meaning.specs.State.{State}
 use Rattle.aml_meaning.specs.Run.{Run}
 use Rattle.aml_meaning.specs.Terms.{kind_of, target_kind}
-use Rattle.aml_meaning.specs.Tasks.{Task, in_turn}
+use Rattle.aml_meaning.specs.Tasks.{Task}
 use Rattle.aml_meaning.specs.DataTerms.{constant_rule, integer_rule, string_rule, buffer_rule, named_element, valued_element, element_by, elements_in_turn, package_of, package_rule, var_package_rule, data_rule}
 use Rattle.aml_meaning.specs.DeclarationTerms.{declaring, name_rule, alias_rule, method_rule, scope_rule, new_scope, declaration_rule}
 use Rattle.aml_meaning.specs.TargetTerms.{indexed_target, dereferenced_target, target_by_kind, target_of, first_target, part_target, name_target, target_by, target_at, targeted}
@@ -47,9 +45,8 @@ use Rattle.aml_meaning.specs.StatementTerms.{otherwise, branch, if_rule, else_ru
 use Rattle.aml_meaning.specs.InvocationTerms.{arguments_in_turn, call_rule, osi_rule, field_rule, invocation_rule, name_value}
 use Rattle.aml_meaning.specs.FieldTerms.{fields_laid, region_rule, field_list_rule, index_list_rule, sized_field_rule, bits_field_rule, region_term_rule}
 use Rattle.aml_meaning.specs.Evaluation.{kind_rule, code_rule, rule}
-use Rattle.aml_meaning.specs.Meaning.{meaning, evaluated_within}
-use Rattle.recorded_laws.proofs.Together.{Goes, SideBySide, Together, give_together, plain, settle_together, stop_together, then_together}
-use Rattle.recorded_laws.proofs.Worlds.{charge_together, lift_together, objects_together, runs, world_over}
+use Rattle.recorded_laws.proofs.Together.{SideBySide, Together, give_together, settle_together, stop_together, then_together}
+use Rattle.recorded_laws.proofs.Worlds.{charge_together, lift_together, objects_together, runs}
 use Rattle.recorded_laws.proofs.ChangesTogether.{arguments_found_together, counted_by_together, divided_in_together, integer_in_together, integer_kept_together, named_use_together, new_buffer_together, new_method_together, new_name_together, new_package_together, osi_answered_together, path_found_together, result_of_one_together, result_of_test_together, result_of_two_together, scope_found_together, size_in_together, target_named_together, turned_together, within_together}
 use Rattle.recorded_laws.proofs.StoreTargetsTogether.{acquired_at_together, copied_to_together, dereferenced_together, given_back_at_together, if_initialized_together, reference_if_found_together, reference_of_together, slot_read_together, target_read_together, target_referent_together, tested_together, value_referent_together}
 use Rattle.recorded_laws.proofs.FieldsTogether.{elements_laid_together, field_found_together, region_found_together}
@@ -482,46 +479,3 @@ module _ {S T : Type 0} {accesses : Accesses S} {accesses2 : Accesses T} {side :
   pub rule_together : (t : Task) → Together side runs (rule accesses ev t) (rule accesses2 ev2 t)
   unfolding rule
   rule_together t = code_rule_together (code_of t.term) t.scope t.depth t.term
-
--- ---- evaluations
-
--- one step more than the parts of a term have
-module _ {S T : Type 0} {accesses : Accesses S} {accesses2 : Accesses T} (side : SideBySide accesses accesses2) (n : ℕ) (task : Task) (h : Together side runs (rule accesses (evaluated_within accesses n) task) (rule accesses2 (evaluated_within accesses2 n) task)) where
-  step_left : (w : State S) (b : ℕ) (t : T) → side.Parted w.space t → side.Parted (evaluated_within accesses (suc n) task (w, b)).1.0.space t
-  unfolding evaluated_within
-  step_left w zero t p = p
-  step_left w (suc b) t p = h.left_parted (w, b) t p
-
-  step_right : (s : S) (v : State T) (b : ℕ) → side.Parted s v.space → side.Parted s (evaluated_within accesses2 (suc n) task (v, b)).1.0.space
-  unfolding evaluated_within
-  step_right s v zero p = p
-  step_right s v (suc b) p = h.right_parted s (v, b) p
-
-  step_goes : (w : State S) (b : ℕ) (t : T) → side.InStep w.space t → Goes side runs (evaluated_within accesses (suc n) task (w, b)) (evaluated_within accesses2 (suc n) task (world_over w t, b))
-  unfolding evaluated_within
-  step_goes w zero t i = inr (t, refl, i)
-  step_goes w (suc b) t i = h.goes (w, b) t i
-
-module _ {S T : Type 0} {accesses : Accesses S} {accesses2 : Accesses T} {side : SideBySide accesses accesses2} where
-  none_together : (task : Task) → Together side runs (evaluated_within accesses zero task) (evaluated_within accesses2 zero task)
-  unfolding evaluated_within
-  none_together task = plain (λ s. refl) (λ s. refl) (λ s t. refl)
-
-  bounded_together : (n : ℕ) (task : Task) → Together side runs (evaluated_within accesses n task) (evaluated_within accesses2 n task)
-  bounded_together zero task = none_together task
-  bounded_together (suc n) task = record {
-    left_parted = λ s t p. step_left side n task (rule_together (bounded_together n) task) s.0 s.1 t p;
-    right_parted = λ s u p. step_right side n task (rule_together (bounded_together n) task) s u.0 u.1 p;
-    goes = λ s t i. step_goes side n task (rule_together (bounded_together n) task) s.0 s.1 t i;
-  }
-
-  pub meaning_together : (task : Task) → Together side runs (meaning accesses task) (meaning accesses2 task)
-  unfolding meaning
-  meaning_together task = record {
-    left_parted = λ s t h. (bounded_together s.1 task).left_parted s t h;
-    right_parted = λ s u h. (bounded_together u.1 task).right_parted s u h;
-    goes = λ s t i. (bounded_together s.1 task).goes s t i;
-  }
-
-  pub list_together : (scope : List Seg) (depth : ℕ) (ts : Trees) → Together side runs (in_turn (meaning accesses) scope depth ts) (in_turn (meaning accesses2) scope depth ts)
-  list_together scope depth ts = in_turn_together meaning_together scope depth ts

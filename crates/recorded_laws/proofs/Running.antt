@@ -1,6 +1,6 @@
 -- Runs over two register spaces that are in step.
-use Rattle.std.specs.Prelude.{◌≡◌, ◌⊎◌, ℕ, List, Bool, Ok, Err, refl}
-use Rattle.std.proofs.Common.{inl, inr, sym, subst, ap, ◌∙◌}
+use Rattle.std.specs.Prelude.{◌≡◌, ◌⊎◌, ℕ, List, Ok, Err, refl}
+use Rattle.std.proofs.Common.{inl, inr, sym, subst, ap}
 use Rattle.ar_space.specs.declared.refusal.Refusal.{Refusal}
 use Rattle.ar_space.specs.Accesses.{Accesses}
 use Rattle.ar_space.specs.Outcome.{Outcome}
@@ -8,11 +8,9 @@ use Rattle.ar_tables.specs.declared.tables.Tables.{Tables}
 use Rattle.aml_meaning.specs.State.{State}
 use Rattle.aml_meaning.specs.Predefined.{fresh}
 use Rattle.acpi_machine.specs.Calls.{initialized}
-use Rattle.acpi_machine.specs.Loading.{loaded_tables}
 use Rattle.acpi_machine.specs.MachineStates.{MachineState, machine_of}
 use Rattle.acpi_links.specs.Gathering.{Gathering}
 use Rattle.acpi_links.specs.Gatherings.{gathered}
-use Rattle.acpi_links.specs.Links.{PresentLink}
 use Rattle.acpi_configure.specs.Configured.{IsReport}
 use Rattle.acpi_configure.specs.Settling.{settled_unless}
 use Rattle.route_report.specs.declared.report.SetLine.{SetLine}

@@ -1,11 +1,11 @@
 -- Links that are set one after another, and read again, over two register spaces.
-use Rattle.std.specs.Prelude.{ℕ, List, [], ◌∷◌, ◌++◌, Bool, true, false, Ok, refl}
+use Rattle.std.specs.Prelude.{ℕ, List, [], ◌∷◌, Bool, true, false, Ok, refl}
 use Rattle.ar_space.specs.Accesses.{Accesses}
 use Rattle.ar_space.specs.Change.{Change}
 use Rattle.ar_space.specs.Outcome.{Outcome}
 use Rattle.acpi_machine.specs.MachineStates.{MachineState}
 use Rattle.acpi_links.specs.Links.{PresentLink}
-use Rattle.acpi_configure.specs.Settling.{attempted, link_set, links_set, link_read, links_read, settled, settled_unless}
+use Rattle.acpi_configure.specs.Settling.{attempted, link_set, links_set, link_read, settled, settled_unless}
 use Rattle.route_report.specs.declared.report.SetLine.{SetLine}
 use Rattle.recorded_laws.proofs.Together.{SideBySide, Together, give_together, then_together, wrapped_together}
 use Rattle.recorded_laws.proofs.Machines.{machines}

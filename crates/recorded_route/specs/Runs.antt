@@ -1,5 +1,5 @@
 -- A run over any register space: the tables of a machine are loaded over it, the machine is initialized, and its links are configured.
-use Rattle.std.specs.Prelude.{◌≡◌, ℕ, List, Bool, Ok, Err}
+use Rattle.std.specs.Prelude.{◌≡◌, ℕ, List, Ok, Err}
 use Rattle.ar_space.specs.Accesses.{Accesses}
 use Rattle.ar_space.specs.Outcome.{Outcome, ◌>>=◌}
 use Rattle.ar_tables.specs.declared.tables.Tables.{Tables}
