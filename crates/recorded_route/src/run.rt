@@ -97,13 +97,13 @@ pub fn configure_recorded(
     text: &[u8],
     settings: &Settings,
     avoid: &[u32],
-    record: &[Exchange],
+    entries: &[Exchange],
 ) -> Ending
-    ensures { NotOutOfMemory result → IsEnding settings.now avoid.now text.now record.now result }
+    ensures { NotOutOfMemory result → IsEnding settings.now avoid.now text.now entries.now result }
 {
-    match Vec::from_slice(alloc, record) {
-        Ok(entries) => {
-            let (outcome, missing) = run(alloc, text, settings, avoid, Recorded::new(entries));
+    match Vec::from_slice(alloc, entries) {
+        Ok(copy) => {
+            let (outcome, missing) = run(alloc, text, settings, avoid, Recorded::new(copy));
             ending_of(outcome, missing)
         }
         Err(_) => Ending::Refused(Refusal::OutOfMemory),
