@@ -17,3 +17,4 @@ mod Running
 mod Following
 mod Meeting
 mod Laws
+mod Growing

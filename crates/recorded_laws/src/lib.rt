@@ -1,7 +1,7 @@
 //! What holds of all runs over a record of accesses: each law is the contract of a function that does nothing.
 #![tactic(auto)]
 
-ghost use Rattle.std.specs.Prelude.{◌≡◌, ℕ, List, [], None, Some, slice_get};
+ghost use Rattle.std.specs.Prelude.{◌≡◌, ◌++◌, ℕ, List, [], None, Some, slice_get};
 ghost use Rattle.ar_space.specs.Accesses.{Accesses};
 ghost use Rattle.ar_space.specs.Outcome.{Outcome};
 ghost use Rattle.space_trace.specs.declared.access.Access.{Access};
@@ -11,6 +11,7 @@ ghost use Rattle.recorded_space.specs.Recordings.{Recording, begun, recorded};
 ghost use Rattle.route_report.specs.Reports.{RoutingReport};
 ghost use Rattle.recorded_route.specs.declared.settings.Settings.{Settings};
 ghost use Rattle.recorded_route.specs.Runs.{IsRun};
+ghost use Rattle.recorded_laws.specs.Grown.{left_by};
 ghost use Rattle.recorded_laws.specs.Listed.{listed};
 
 use acpi_configure::laws::a_problem_has_one_answer;
@@ -39,3 +40,9 @@ pub fn the_wanted_access_is_the_next_one<S>()
 {
     a_problem_has_one_answer();
 }
+
+/// Where a register space gives the answers of a record, and then answers further accesses so, it gives the answers of the longer
+/// record: what a caller appends access by access stays a record of its registers.
+pub fn a_record_grows_with_the_answers_of_a_space<S>()
+    ensures { (accesses : Accesses S) (space : S) (entries more : List Exchange) → Gives accesses entries space → Gives accesses more (left_by accesses entries space) → Gives accesses (entries ++ more) space }
+{}
