@@ -1,12 +1,15 @@
 #!/usr/bin/env python3
 """embedding.py [--library FILE].. [--program PROGRAM]
 
-Builds the host programs examples/c/host.c, with `cc`, and examples/rust/host.rs, with `rustc` where it is installed, over the static
-library, and runs them over the examples of this folder:
+Builds the host programs of examples/c, with `cc`, and of examples/rust, with `rustc` where it is installed, over the static library,
+and runs them over the examples of this folder. Of `host`, which hands a whole machine text in:
 
 - each has to write the stored report, and to end with the status of a run that went well;
 - a refused machine and faulty options have to give the error lines and statuses of the program;
 - with --program, everything is compared with what the built program does, too.
+
+Of `configure`, which makes each access on the model of a chipset: it has to write the report of the same machine, and the registers of
+the model have to be set as that report says.
 
 --library names the static libraries in the order in which they are linked. Left out, they are those that `rt lib` makes in
 crates/acpiroute_c, and the kit's own, by which a library takes memory.
@@ -37,6 +40,16 @@ REFUSALS = [
     ("refused", [], 1, "refused 101\n"),
 ]
 
+# Machines on the model of a chipset: the stored report, what a register of its own makes other in it, and the registers at the end.
+# Behind the index register each register keeps its own value, where a machine text has one byte for both.
+ROUTED = "pci 0 0 1 0 60 05 05 0A 0A\nbehind C00 05 05\n"
+AS_BEFORE = "pci 0 0 1 0 60 80 80 80 80\nbehind C00 05 05\n"
+CONFIGURED = [
+    ("i440fx", ("", ""), ROUTED),
+    ("index", ("after \\_SB_.LNKA 10\n", "after \\_SB_.LNKA 5\n"), "pci 0 0 1 0 60 80 80 80 80\nbehind C00 05 0A\n"),
+    ("two-links", ("", ""), AS_BEFORE),
+]
+
 
 def kit_library():
     rt = shutil.which("rt")
@@ -45,17 +58,28 @@ def kit_library():
     return os.path.join(os.path.dirname(os.path.dirname(os.path.realpath(rt))), "c", "liblibc_c.a")
 
 
-def built(libraries, folder):
-    """The host programs, by their language."""
-    hosts = {"C": os.path.join(folder, "host_c")}
+def built_in_c(libraries, folder, name, sources):
+    host = os.path.join(folder, f"{name}_c")
     subprocess.run(["cc", "-std=c11", "-Wall", "-Wextra", "-Werror", "-O2", "-I", os.path.join(TOP, "include"),
-                    os.path.join(HERE, "c/host.c"), *libraries, "-o", hosts["C"]], check=True)
-    if shutil.which("rustc") is None:
-        print("rustc is not installed: the host in Rust is left out")
-        return hosts
-    hosts["Rust"] = os.path.join(folder, "host_rust")
+                    *(os.path.join(HERE, "c", it) for it in sources), *libraries, "-o", host], check=True)
+    return host
+
+
+def built_in_rust(libraries, folder, name):
+    host = os.path.join(folder, f"{name}_rust")
     words = [word for it in libraries for word in ("-C", f"link-arg={os.path.abspath(it)}")]
-    subprocess.run(["rustc", "--edition", "2021", "-O", os.path.join(HERE, "rust/host.rs"), *words, "-o", hosts["Rust"]], check=True)
+    subprocess.run(["rustc", "--edition", "2021", "-O", os.path.join(HERE, f"rust/{name}.rs"), *words, "-o", host], check=True)
+    return host
+
+
+def built(libraries, folder):
+    """The host programs of each language: `host` and `configure`."""
+    hosts = {"C": (built_in_c(libraries, folder, "host", ["host.c", "bytes.c"]),
+                   built_in_c(libraries, folder, "configure", ["configure.c", "chipset.c", "bytes.c"]))}
+    if shutil.which("rustc") is None:
+        print("rustc is not installed: the hosts in Rust are left out")
+        return hosts
+    hosts["Rust"] = tuple(built_in_rust(libraries, folder, name) for name in ("host", "configure"))
     return hosts
 
 
@@ -92,6 +116,22 @@ def check_host(check, language, host):
         check.same(f"{language}: {machine} {' '.join(options)}", found, (status, "", line))
 
 
+def unset(report):
+    """The report of a run that sets no link."""
+    return "".join(line for line in report.splitlines(keepends=True) if not line.startswith(("set ", "after ")))
+
+
+def check_configure(check, language, host):
+    for machine, (old, new), registers in CONFIGURED:
+        report = text_of(f"{machine}.report").decode()
+        found = ran([host, os.path.join(HERE, f"{machine}.txt")])
+        check.same(f"{language}, on a chipset: {machine}", found, (0, report.replace(old, new) if old else report, registers))
+        found = ran([host, os.path.join(HERE, f"{machine}.txt"), "dry"])
+        check.same(f"{language}, on a chipset, no link set: {machine}", found, (0, unset(report), AS_BEFORE))
+    found = ran([host, os.path.join(HERE, "refused.txt")])
+    check.same(f"{language}, on a chipset: refused", found, (1, "", "refused 101\n" + AS_BEFORE))
+
+
 def check_beside(check, language, host, program):
     for machine, options in [*REPORTS.values(), *((it[0], it[1]) for it in REFUSALS), ("two-links", ["--steps", "0"])]:
         found = ran([host, os.path.join(HERE, f"{machine}.txt"), *options])
@@ -107,8 +147,9 @@ def main():
     libraries = asked.library or [os.path.join(TOP, "crates/acpiroute_c/out/libacpiroute_c.a"), kit_library()]
     check = Check()
     with tempfile.TemporaryDirectory() as folder:
-        for language, host in built(libraries, folder).items():
+        for language, (host, configure) in built(libraries, folder).items():
             check_host(check, language, host)
+            check_configure(check, language, configure)
             if asked.program:
                 check_beside(check, language, host, os.path.abspath(asked.program))
     print(f"{check.passed} passed, {check.failed} failed")

@@ -1,14 +1,16 @@
 /*
  * acpiroute: a proved ACPI interrupt router, over memory.
  *
- * Each call does what a command of the program `acpiroute` does, with its input, its output and its error line in memory. It is
- * proved to have the contract of that program, whose README says what the commands do, and what their options are.
+ * Each call but one does what a command of the program `acpiroute` does, with its input, its output and its error line in memory. It
+ * is proved to have the contract of that program, whose README says what the commands do, and what their options are. That one,
+ * `acpiroute_configure`, does what `route` does on a machine whose registers only the caller can access.
  *
  * What a caller has to keep to, which nothing checks:
  *
- * - No pointer is NULL, also where the length behind it is 0. Each points to as many bytes as the length behind it says; no
- *   length is above PTRDIFF_MAX.
- * - The bytes that are read don't change during a call. The two buffers and the reply overlap neither one another nor what is read.
+ * - No pointer is NULL, also where the length behind it is 0. Each points to as many elements as the length behind it says, and is
+ *   aligned for them; what is read and what is filled is in no case above PTRDIFF_MAX bytes.
+ * - What is read doesn't change during a call. The two buffers, the reply and the place of an access overlap neither one another nor
+ *   what is read.
  * - Calls take memory from `malloc`, `realloc` and `free`, which are one allocator, and give all of it back before they return. So
  *   no call is made from a signal handler, nor from the child of a fork in a program with threads.
  *
@@ -40,7 +42,14 @@ enum {
     /* Memory ran out. Buffers and `reply` are as they were. */
     ACPIROUTE_NO_MEMORY = 2,
     /* A word of the options is not UTF-8. Buffers and `reply` are as they were. */
-    ACPIROUTE_NOT_UTF8 = 3
+    ACPIROUTE_NOT_UTF8 = 3,
+    /* An access is wanted, and stands in `wanted`. Buffers and `reply` are as they were. Only `acpiroute_configure` says so. */
+    ACPIROUTE_WANTED = 4,
+    /*
+     * A number of the settings or of an access in the record is none of those that are listed here. Buffers, `reply` and `wanted` are
+     * as they were. Only `acpiroute_configure` says so.
+     */
+    ACPIROUTE_MALFORMED = 5
 };
 
 /* What a call has said. */
@@ -85,6 +94,84 @@ uint32_t acpiroute_names(const uint8_t *options, size_t options_length, const ui
 uint32_t acpiroute_eval(const uint8_t *options, size_t options_length, const uint8_t *machine, size_t machine_length,
                         uint8_t *text, size_t text_capacity, uint8_t *line, size_t line_capacity,
                         struct acpiroute_reply *reply);
+
+/* Which address space an access is in. */
+enum {
+    /* Memory: `address` is a physical address. */
+    ACPIROUTE_MEMORY = 0,
+    /* I/O ports: `address` is a port. */
+    ACPIROUTE_IO = 1,
+    /* The configuration space of a PCI function: `address` is a register of it, and segment to function say of which. */
+    ACPIROUTE_PCI = 2
+};
+
+/* What an access does. */
+enum { ACPIROUTE_READ = 0, ACPIROUTE_WRITE = 1 };
+
+/* How an access was answered. */
+enum {
+    /* It was made. Of a read, `value` is what was read. */
+    ACPIROUTE_ANSWERED = 0,
+    /* No register stands there. */
+    ACPIROUTE_NO_REGISTER = 1,
+    /* The device did not answer. */
+    ACPIROUTE_DEVICE_FAILED = 2
+};
+
+/*
+ * An access of a register. One that is wanted has the answer ACPIROUTE_ANSWERED, and the value 0 if it is a read. The caller makes it,
+ * puts the value that was read into `value` and how it was answered into `answer`, and changes nothing else of it in the record.
+ *
+ * A value that was read has to fit the width: one that does not makes no entry of this access, which is then wanted again.
+ */
+struct acpiroute_access {
+    uint64_t address;
+    /* The value that is written, or the one that was read. */
+    uint64_t value;
+    /* Of a PCI function; else 0. */
+    uint16_t segment;
+    uint8_t bus;
+    uint8_t device;
+    uint8_t function;
+    uint8_t space;
+    /* How many bits it takes: 8, 16, 32 or 64. It is to be made as one access of this width. */
+    uint8_t width;
+    uint8_t kind;
+    uint8_t answer;
+};
+
+/* Which interrupt controllers the machine is told that it uses. */
+enum { ACPIROUTE_PIC = 0, ACPIROUTE_APIC = 1 };
+
+/* How a machine is configured. */
+struct acpiroute_settings {
+    /* The budget of steps for each table and each evaluation, from 1 to 1,000,000,000. */
+    uint64_t steps;
+    uint8_t mode;
+    /* 1 where no link is to be set, and else 0. */
+    uint8_t dry;
+};
+
+/*
+ * Chooses interrupts for the links of a machine, none of those to avoid, sets the links in its registers, and writes the report.
+ *
+ * Of the machine text only the tables in its memory are read, and the texts of `_OSI`: its registers are passed over. Each access of a
+ * register is answered from the record, in order, from the first of its entries on; accesses of memory that tables ask for are among
+ * them. The call ends at the first access that the record does not hold, with ACPIROUTE_WANTED. So a caller
+ *
+ *  1. calls with an empty record;
+ *  2. makes the access that is wanted, appends it with its answer to the record, and calls again, with all else as before;
+ *  3. goes on so until the call answers something else. Where that is ACPIROUTE_REPLIED, the links are set, unless the reply says
+ *     that the machine was refused.
+ *
+ * The record is read anew by each call, and keeps to the order in which accesses were made. Between two accesses the caller may do
+ * what it likes, but nothing else is to change the registers that the tables use. After ACPIROUTE_TOO_SMALL or ACPIROUTE_NO_MEMORY
+ * the same call may be made again: no access is lost.
+ */
+uint32_t acpiroute_configure(const struct acpiroute_settings *settings, const uint32_t *avoid, size_t avoid_length,
+                             const uint8_t *machine, size_t machine_length, const struct acpiroute_access *record,
+                             size_t record_length, uint8_t *text, size_t text_capacity, uint8_t *line, size_t line_capacity,
+                             struct acpiroute_reply *reply, struct acpiroute_access *wanted);
 
 #ifdef __cplusplus
 }

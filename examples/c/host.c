@@ -11,12 +11,7 @@
 #include <string.h>
 
 #include "acpiroute.h"
-
-/* Bytes of this host's own. */
-struct bytes {
-    uint8_t *at;
-    size_t length;
-};
+#include "bytes.h"
 
 /* A reply with its text and its line. */
 struct answer {
@@ -27,32 +22,6 @@ struct answer {
 
 typedef uint32_t (*call)(const uint8_t *, size_t, const uint8_t *, size_t, uint8_t *, size_t, uint8_t *, size_t,
                          struct acpiroute_reply *);
-
-static void stop(const char *why) {
-    fprintf(stderr, "host: %s\n", why);
-    exit(98);
-}
-
-/* Room for bytes; it is never NULL, also where there are none. */
-static struct bytes room(size_t length) {
-    struct bytes made = {malloc(length > 0 ? length : 1), length};
-    if (made.at == NULL)
-        stop("out of memory");
-    return made;
-}
-
-/* The whole file. */
-static struct bytes read_file(const char *name) {
-    FILE *file = fopen(name, "rb");
-    long size;
-    if (file == NULL || fseek(file, 0, SEEK_END) != 0 || (size = ftell(file)) < 0 || fseek(file, 0, SEEK_SET) != 0)
-        stop("the machine text can't be read");
-    struct bytes whole = room((size_t)size);
-    if (fread(whole.at, 1, whole.length, file) != whole.length)
-        stop("the machine text can't be read");
-    fclose(file);
-    return whole;
-}
 
 /* Options, parted by single blanks. */
 static struct bytes joined(int count, char **words) {

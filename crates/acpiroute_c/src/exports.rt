@@ -1,9 +1,13 @@
 //! What C calls. `include/acpiroute.h` says how.
 ghost use Rattle.std.specs.Prelude.{codes};
 ghost use Rattle.acpiroute_c.specs.Calls.{IsCall};
+ghost use Rattle.acpiroute_c.specs.Configuring.{IsConfigureCall};
 
 use crate::call::call;
+use crate::call_access::CallAccess;
 use crate::call_reply::CallReply;
+use crate::call_settings::CallSettings;
+use crate::configure_call::configure_call;
 use std::alloc::Global;
 
 /// `route` over a machine text.
@@ -64,4 +68,24 @@ pub extern "C" fn acpiroute_eval(
     ensures { IsCall (codes "eval") options.now machine.now result (record { text = text.old; line = line.old; reply = reply.old }) (record { text = text.new; line = line.new; reply = reply.new }) }
 {
     call(alloc, "eval", options, machine, text, line, reply)
+}
+
+/// `route` over the tables of a machine text, whose registers answer from a record of accesses.
+#[unsafe(no_mangle)]
+pub extern "C" fn acpiroute_configure(
+    alloc: Global,
+    settings: &CallSettings,
+    avoid: &[u32],
+    machine: &[u8],
+    accesses: &[CallAccess],
+    text: &mut [u8],
+    line: &mut [u8],
+    reply: &mut CallReply,
+    wanted: &mut CallAccess,
+) -> u32
+    ensures { IsConfigureCall settings.now avoid.now machine.now accesses.now result (record { filled = record { text = text.old; line = line.old; reply = reply.old }; wanted = wanted.old }) (record { filled = record { text = text.new; line = line.new; reply = reply.new }; wanted = wanted.new }) }
+{
+    configure_call(
+        alloc, settings, avoid, machine, accesses, text, line, reply, wanted,
+    )
 }

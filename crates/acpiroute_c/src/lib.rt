@@ -3,8 +3,14 @@
 #![tactic(auto)]
 
 mod call;
+mod call_access;
 mod call_reply;
+mod call_settings;
 mod call_words;
+mod configure_call;
 mod exports;
+pub mod laws;
 
+pub use call_access::CallAccess;
 pub use call_reply::CallReply;
+pub use call_settings::CallSettings;

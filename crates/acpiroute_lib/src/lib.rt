@@ -19,4 +19,5 @@ pub use acpiroute_words::{
 };
 pub use memory::{Reply, run_over};
 pub use program::run;
+pub use route_command::report_answer;
 pub use value_text::value_line;

@@ -41,8 +41,8 @@ fn is_refused(outcome: SetOutcome) -> bool
     }
 }
 
-/// A report as text.
-fn printed(alloc: Global, report: &Report) -> Result<Answer, Refusal>
+/// What `route` answers of a report: its text, and whether a setting was refused.
+pub fn report_answer(alloc: Global, report: &Report) -> Result<Answer, Refusal>
     ensures text { Answers result (Ok (printed report.now)) }
     ensures read_back { IfOk result (λ w. IsReadable report.now → claim_of_text w.text ≡ Ok (claim_of_report report.now)) }
 {
@@ -63,7 +63,7 @@ fn routed(
     ensures { NotMemory result → IsRouted dry avoid.now machine.old result }
 {
     let report = configure(alloc, machine, dry, avoid)?;
-    printed(alloc, &report)
+    report_answer(alloc, &report)
 }
 
 /// What `route` answers over a machine text, in a mode and with a budget of steps for each table and each evaluation: its report.

@@ -1,2 +1,2 @@
-mod Entries
+pub mod Entries
 mod Runs

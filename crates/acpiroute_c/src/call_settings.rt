@@ -1,0 +1,58 @@
+//! How a machine is configured, as C has it.
+ghost use Rattle.std.specs.Prelude.{◌≡◌};
+ghost use Rattle.acpiroute_c.specs.Configuring.{mode_of, flag_of, steps_of, settings_of};
+
+use acpi_machine::Mode;
+use recorded_route::Settings;
+
+/// How a machine is configured.
+#[repr(C)]
+#[derive(Clone, Copy, Debug)]
+pub struct CallSettings {
+    /// The budget of steps for each table and each evaluation, from 1 to 1,000,000,000.
+    pub steps: u64,
+    /// 0 for the 8259 controllers, 1 for I/O APICs.
+    pub mode: u8,
+    /// 1 where no link is to be set, and else 0.
+    pub dry: u8,
+}
+
+fn mode_of(mode: u8) -> Option<Mode>
+    ensures { result ≡ mode_of mode }
+{
+    match mode {
+        0 => Some(Mode::Pic),
+        1 => Some(Mode::Apic),
+        _ => None,
+    }
+}
+
+fn flag_of(flag: u8) -> Option<bool>
+    ensures { result ≡ flag_of flag }
+{
+    match flag {
+        0 => Some(false),
+        1 => Some(true),
+        _ => None,
+    }
+}
+
+fn steps_of(steps: u64) -> Option<u64>
+    ensures { result ≡ steps_of steps }
+{
+    if steps == 0 || steps > 1_000_000_000 {
+        None
+    } else {
+        Some(steps)
+    }
+}
+
+/// The settings, where each of them means something.
+pub(crate) fn settings_of(settings: &CallSettings) -> Option<Settings>
+    ensures { result ≡ settings_of settings.now }
+{
+    let mode = mode_of(settings.mode)?;
+    let steps = steps_of(settings.steps)?;
+    let dry = flag_of(settings.dry)?;
+    Some(Settings { mode, steps, dry })
+}

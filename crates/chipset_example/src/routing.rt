@@ -1,0 +1,72 @@
+//! A machine with the registers of the chipset.
+use crate::chipset::Chipset;
+use acpi_configure::configure;
+use acpi_machine::{Machine, Mode, load_tables};
+use ar_space::{Refusal, Space, SpaceFault};
+use ar_tables::find_tables;
+use machine_text::read_machine;
+use recorded_route::{Access, Ending, Exchange, Settings, configure_recorded};
+use route_report::{Report, print};
+use std::alloc::Global;
+
+const SETTINGS: Settings = Settings {
+    mode: Mode::Apic,
+    steps: 1_000_000,
+    dry: false,
+};
+
+/// The tables in the memory of a machine text, over the registers of a chipset.
+fn machine(alloc: Global, text: &[u8]) -> Result<Machine<Chipset>, Refusal> {
+    let said = read_machine(alloc, text)?;
+    let tables = find_tables(alloc, said.space.memory(), said.rsdp)?;
+    match load_tables(
+        alloc,
+        tables,
+        Chipset::new(),
+        SETTINGS.steps,
+        Vec::new(alloc),
+    ) {
+        Ok(machine) => Ok(machine),
+        Err((refusal, _)) => Err(refusal),
+    }
+}
+
+/// A report as text.
+fn text_of(alloc: Global, report: &Report) -> anyhow::Result<String> {
+    Ok(String::from_utf8(print(alloc, report)?)?)
+}
+
+/// The report of a machine whose registers are the chipset's.
+pub fn report_over_registers(alloc: Global, text: &[u8]) -> anyhow::Result<String> {
+    let mut machine = machine(alloc, text)?;
+    machine.initialize(alloc, SETTINGS.mode)?;
+    let report = configure(alloc, &mut machine, SETTINGS.dry, &[])?;
+    text_of(alloc, &report)
+}
+
+/// An access, made on the chipset, with its answer.
+fn made(chipset: &mut Chipset, access: Access) -> Exchange {
+    match access {
+        Access::Read(place, width) => Exchange::Read(place, width, chipset.read(place, width)),
+        Access::Write(place, width, value) => {
+            Exchange::Write(place, width, value, chipset.write(place, width, value))
+        }
+    }
+}
+
+/// How many accesses are made at most.
+const MAX_ACCESSES: usize = 1000;
+
+/// The same report, from a record of accesses that grows with each run until no access is wanted.
+pub fn report_by_record(alloc: Global, text: &[u8]) -> anyhow::Result<String> {
+    let mut chipset = Chipset::new();
+    let mut record = Vec::new(alloc);
+    for _ in 0..MAX_ACCESSES {
+        match configure_recorded(alloc, text, &SETTINGS, &[], record.as_slice()) {
+            Ending::Wanted(access) => record.push(made(&mut chipset, access))?,
+            Ending::Reported(report) => return text_of(alloc, &report),
+            Ending::Refused(refusal) => return Err(refusal.into()),
+        }
+    }
+    Err(Refusal::Space(SpaceFault::Device).into())
+}

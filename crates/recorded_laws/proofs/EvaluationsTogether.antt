@@ -1,0 +1,96 @@
+-- Loading a table and evaluating an object go the same way over two register spaces.
+use Rattle.std.specs.Prelude.{◌≡◌, ℕ, List, [], length, Ok, Err, refl}
+use Rattle.ar_space.specs.Accesses.{Accesses}
+use Rattle.ar_space.specs.Outcome.{Outcome}
+use Rattle.aml_path.specs.declared.segment.Seg.{Seg}
+use Rattle.aml_grammar.specs.declared.arities.Arity.{Arity}
+use Rattle.aml_grammar.specs.Tree.{Tree, Trees}
+use Rattle.aml_grammar.specs.Grammar.{table_reading}
+use Rattle.aml_objects.specs.declared.value.Value.{Value}
+use Rattle.aml_objects.specs.declared.entry.NamedObject.{NamedObject}
+use Rattle.aml_meaning.specs.declared.invocation.Invocation.{Invocation}
+use Rattle.aml_meaning.specs.declared.invocation.Invocation.TheVariants as invocations
+use Rattle.aml_meaning.specs.Given.{Given}
+use Rattle.aml_meaning.specs.State.{State}
+use Rattle.aml_meaning.specs.Predefined as predefined
+use Rattle.aml_meaning.specs.Calling.{terms_kept, table_terms, at_root, table_run, loaded, value_of, called, evaluated, answer_exported, answered}
+use Rattle.recorded_laws.proofs.Together.{SideBySide, Together, give_together, plain, settle_together, then_together}
+use Rattle.recorded_laws.proofs.Worlds.{counted_together, ending_together, in_frame_together, lift_together, names_together, objects_together, runs, with_steps_together, world_over, worlds}
+use Rattle.recorded_laws.proofs.ChangesTogether.{invocation_found_together, osi_answered_together}
+use Rattle.recorded_laws.proofs.OperandsTogether.{field_read_together, method_value_together}
+use Rattle.recorded_laws.proofs.MeaningTogether.{list_together, meaning_together}
+use Rattle.recorded_laws.proofs.AnswersTogether.{all_imported_together, exported_together}
+
+terms_kept_space : {S : Type 0} (r : Outcome (List Tree × List Arity)) (w : State S) → (terms_kept r w).1.space ≡ w.space
+terms_kept_space (Ok (ts, after)) w = refl
+terms_kept_space (Err e) w = refl
+
+terms_kept_over : {S T : Type 0} (r : Outcome (List Tree × List Arity)) (w : State S) (t : T) → terms_kept r (world_over w t) ≡ ((terms_kept r w).0, world_over (terms_kept r w).1 t)
+terms_kept_over (Ok (ts, after)) w t = refl
+terms_kept_over (Err e) w t = refl
+
+module _ {S T : Type 0} {accesses : Accesses S} {accesses2 : Accesses T} {side : SideBySide accesses accesses2} where
+  -- ---- tables
+
+  table_terms_together : (bytes : List ℕ) → Together side worlds (table_terms bytes) (table_terms bytes)
+  unfolding table_terms
+  table_terms_together bytes = plain (λ w. terms_kept_space (table_reading bytes w.arities) w) (λ w. terms_kept_space (table_reading bytes w.arities) w) (λ w t. terms_kept_over (table_reading bytes w.arities) w t)
+
+  at_root_together : (ts : Trees) → Together side runs (at_root accesses ts) (at_root accesses2 ts)
+  unfolding at_root
+  at_root_together ts = then_together (list_together [] 0 ts) (λ last. give_together _)
+
+  table_run_together : (steps : ℕ) (bytes : List ℕ) → Together side worlds (table_run accesses steps bytes) (table_run accesses2 steps bytes)
+  unfolding table_run
+  table_run_together steps bytes = then_together (table_terms_together bytes) (λ ts. in_frame_together _ (with_steps_together _ (at_root_together ts)))
+
+  pub loaded_together : (bytes : List ℕ) (steps : ℕ) → Together side worlds (loaded accesses bytes steps) (loaded accesses2 bytes steps)
+  unfolding loaded
+  loaded_together bytes steps = ending_together (table_run_together steps bytes)
+
+  -- ---- objects that are evaluated
+
+  value_of_together : (i : Invocation) (arguments : List Value) → Together side runs (value_of accesses i arguments) (value_of accesses2 i arguments)
+  value_of_together (invocations.Value v) arguments = give_together _
+  value_of_together (invocations.Field f) arguments = field_read_together meaning_together 1 f
+  value_of_together (invocations.Method q body) arguments = method_value_together meaning_together 0 q body arguments
+  value_of_together invocations.Osi arguments = lift_together (osi_answered_together arguments)
+
+  called_together : (p : List Seg) (arguments : List Value) → Together side runs (called accesses p arguments) (called accesses2 p arguments)
+  unfolding called
+  called_together p arguments = then_together (lift_together (invocation_found_together _ _ _)) (λ i. value_of_together i arguments)
+
+  pub evaluated_together : (p : List Seg) (arguments : List Value) (steps : ℕ) → Together side worlds (evaluated accesses p arguments steps) (evaluated accesses2 p arguments steps)
+  unfolding evaluated
+  evaluated_together p arguments steps = counted_together steps (called_together p arguments)
+
+  answer_exported_together : (p : List Seg) (count : ℕ) (arguments : List Given) → Together side runs (answer_exported accesses p count arguments) (answer_exported accesses2 p count arguments)
+  unfolding answer_exported
+  answer_exported_together p count arguments =
+      then_together (lift_together (invocation_found_together _ _ _)) (λ i. then_together (lift_together (all_imported_together arguments [])) (λ vs. then_together (value_of_together i vs) (λ v. exported_together v)))
+
+  pub answered_together : (p : List Seg) (arguments : List Given) (steps : ℕ) → Together side worlds (answered accesses p arguments steps) (answered accesses2 p arguments steps)
+  unfolding answered
+  answered_together p arguments steps = ending_together (with_steps_together _ (answer_exported_together p (length arguments) arguments))
+
+  -- ---- the predefined names
+
+  takes_together : (path : List Seg) (count : ℕ) → Together side worlds (predefined.takes path count) (predefined.takes path count)
+  unfolding predefined.takes
+  takes_together path count = plain (λ w. refl) (λ w. refl) (λ w t. refl)
+
+  predefined_at_root_together : (text : List ℕ) (o : NamedObject) (count : ℕ) → Together side worlds (predefined.at_root text o count) (predefined.at_root text o count)
+  unfolding predefined.at_root
+  predefined_at_root_together text o count = then_together (settle_together _) (λ s. then_together (settle_together _) (λ p. then_together (names_together _) (λ n. then_together (settle_together _) (λ q. takes_together q count))))
+
+  predefined_scopes_together : Together side worlds predefined.predefined_scopes predefined.predefined_scopes
+  unfolding predefined.predefined_scopes
+  predefined_scopes_together = then_together (predefined_at_root_together _ _ _) (λ a. then_together (predefined_at_root_together _ _ _) (λ b. then_together (predefined_at_root_together _ _ _) (λ c. then_together (predefined_at_root_together _ _ _) (λ d. predefined_at_root_together _ _ _))))
+
+  predefined_objects_together : Together side worlds predefined.predefined_objects predefined.predefined_objects
+  unfolding predefined.predefined_objects
+  predefined_objects_together = then_together (predefined_at_root_together _ _ _) (λ a. then_together (objects_together _) (λ text. then_together (predefined_at_root_together _ _ _) (λ b. then_together (predefined_at_root_together _ _ _) (λ c. predefined_at_root_together _ _ _))))
+
+  pub predefined_together : Together side worlds predefined.predefined predefined.predefined
+  unfolding predefined.predefined
+  predefined_together = then_together predefined_scopes_together (λ u. predefined_objects_together)

@@ -1,0 +1,121 @@
+-- Runs over two register spaces that are in step.
+use Rattle.std.specs.Prelude.{◌≡◌, ◌⊎◌, ℕ, List, Ok, Err, refl}
+use Rattle.std.proofs.Common.{inl, inr, sym, subst, ap}
+use Rattle.ar_space.specs.declared.refusal.Refusal.{Refusal}
+use Rattle.ar_space.specs.Accesses.{Accesses}
+use Rattle.ar_space.specs.Outcome.{Outcome}
+use Rattle.ar_tables.specs.declared.tables.Tables.{Tables}
+use Rattle.aml_meaning.specs.State.{State}
+use Rattle.aml_meaning.specs.Predefined.{fresh}
+use Rattle.acpi_machine.specs.Calls.{initialized}
+use Rattle.acpi_machine.specs.MachineStates.{MachineState, machine_of}
+use Rattle.acpi_links.specs.Gathering.{Gathering}
+use Rattle.acpi_links.specs.Gatherings.{gathered}
+use Rattle.acpi_configure.specs.Configured.{IsReport}
+use Rattle.acpi_configure.specs.Settling.{settled_unless}
+use Rattle.route_report.specs.declared.report.SetLine.{SetLine}
+use Rattle.route_report.specs.Reports.{RoutingReport, ReportedAfter}
+use Rattle.recorded_route.specs.declared.settings.Settings.{Settings}
+use Rattle.recorded_route.specs.Runs.{Description, described, IsConfigured, IsConfiguredIf, IsStarted, IsMachineRun, IsLoadedRun, IsRunOver, IsDescribedRun, IsRun, world_over as first_world}
+use Rattle.recorded_laws.proofs.Together.{SideBySide, Goes}
+use Rattle.recorded_laws.proofs.Worlds.{world_over, worlds}
+use Rattle.recorded_laws.proofs.Machines.{machine_over, machines, loaded_tables_together, initialized_together}
+use Rattle.recorded_laws.proofs.Links.{gathered_together}
+use Rattle.recorded_laws.proofs.Settings.{settled_unless_together}
+use Rattle.recorded_laws.proofs.Parting.{settled_left, configured_if_left, loaded_run_left}
+
+-- the spaces have parted, or the same is so over the other space, and they are in step
+abbrev pub Carried : {S T : Type 0} {accesses : Accesses S} {accesses2 : Accesses T} → SideBySide accesses accesses2 → S → (T → Type 0) → Type 0
+Carried {T = T} side s is = ((t : T) × side.Parted s t) ⊎ ((t : T) × is t × side.InStep s t)
+
+module _ {S T : Type 0} {accesses : Accesses S} {accesses2 : Accesses T} (side : SideBySide accesses accesses2) (settings : Settings) (avoid : List ℕ) where
+  -- ---- a run is the same over a space that is in step with that of another
+
+  settled_carried : (m after : MachineState S) (report : RoutingReport) (t u : T) (is : IsReport accesses settings.dry avoid m after report) → gathered accesses2 avoid (machine_over m t) ≡ (Ok is.found, machine_over is.chosen_in u)
+      → Goes side machines (Ok is.settings, after) (settled_unless accesses2 settings.dry is.found.links is.answer.choice (machine_over is.chosen_in u))
+      → Carried side after.world.space (λ v. IsReport accesses2 settings.dry avoid (machine_over m t) (machine_over after v) report)
+  settled_carried m after report t u is found (inl parted) = inl (_, parted)
+  settled_carried m after report t u is found (inr (v, same, i)) = inr (
+    v,
+    record {
+      found = is.found;
+      chosen_in = machine_over is.chosen_in u;
+      is_found = found;
+      answer = is.answer;
+      solves = is.solves;
+      settings = is.settings;
+      is_settled = same;
+      lines = is.lines;
+      readable = is.readable;
+      claims = is.claims;
+      valid = is.valid;
+      paths = is.paths;
+      offers = is.offers;
+      counts = is.counts;
+    },
+    i,
+  )
+
+  report_carried : (m after : MachineState S) (report : RoutingReport) (t : T) (is : IsReport accesses settings.dry avoid m after report) → Goes side machines (Ok is.found, is.chosen_in) (gathered accesses2 avoid (machine_over m t))
+      → Carried side after.world.space (λ v. IsReport accesses2 settings.dry avoid (machine_over m t) (machine_over after v) report)
+  report_carried m after report t is (inl parted) =
+      let u = (gathered accesses2 avoid (machine_over m t)).1.world.space in
+      inl (u, settled_left side settings avoid is.found.links is.answer.choice is.chosen_in after (Ok is.settings) u is.is_settled parted)
+  report_carried m after report t is (inr (u, same, i)) =
+      settled_carried m after report t u is same
+      (subst (λ (x : Outcome (List SetLine × List ReportedAfter) × MachineState S). Goes side machines x (settled_unless accesses2 settings.dry is.found.links is.answer.choice (machine_over is.chosen_in u))) is.is_settled
+      ((settled_unless_together {side = side} settings.dry is.found.links is.answer.choice).goes is.chosen_in u i))
+
+  refusal_carried : (m after : MachineState S) (e : Refusal) (t : T) → Goes side machines (Err e, after) (gathered accesses2 avoid (machine_over m t)) → Carried side after.world.space (λ v. gathered accesses2 avoid (machine_over m t) ≡ (Err e, machine_over after v))
+  refusal_carried m after e t (inl parted) = inl (_, parted)
+  refusal_carried m after e t (inr (u, same, i)) = inr (u, same, i)
+
+  configured_carried : (m after : MachineState S) (outcome : Outcome RoutingReport) (t : T) → IsConfigured accesses settings avoid m outcome after → side.InStep m.world.space t
+      → Carried side after.world.space (λ v. IsConfigured accesses2 settings avoid (machine_over m t) outcome (machine_over after v))
+  configured_carried m after (Ok report) t is i =
+      report_carried m after report t is (subst (λ (x : Outcome Gathering × MachineState S). Goes side machines x (gathered accesses2 avoid (machine_over m t))) is.is_found ((gathered_together {side = side} avoid).goes m t i))
+  configured_carried m after (Err e) t is i =
+      refusal_carried m after e t (subst (λ (x : Outcome Gathering × MachineState S). Goes side machines x (gathered accesses2 avoid (machine_over m t))) is ((gathered_together {side = side} avoid).goes m t i))
+
+  -- the machine after initializing, over both spaces
+  ready_carried : (r : Outcome (Unit {0})) (m after : MachineState S) (outcome : Outcome RoutingReport) (t : T) → IsConfiguredIf accesses settings avoid r m outcome after → side.InStep m.world.space t
+      → Carried side after.world.space (λ v. IsConfiguredIf accesses2 settings avoid r (machine_over m t) outcome (machine_over after v))
+  ready_carried (Ok u) m after outcome t is i = configured_carried m after outcome t is i
+  ready_carried (Err e) m after outcome t is i = inr (t, (is.0, ap (λ (x : MachineState S). machine_over x t) is.1), subst (λ (x : MachineState S). side.InStep x.world.space t) (sym is.1) i)
+
+  started_carried : (m after : MachineState S) (outcome : Outcome RoutingReport) (t : T) → IsStarted accesses settings avoid m outcome after → Goes side machines (initialized accesses settings.mode m) (initialized accesses2 settings.mode (machine_over m t))
+      → Carried side after.world.space (λ v. IsStarted accesses2 settings avoid (machine_over m t) outcome (machine_over after v))
+  started_carried m after outcome t is (inl parted) = inl (_, configured_if_left side settings avoid (initialized accesses settings.mode m).0 (initialized accesses settings.mode m).1 after outcome _ is parted)
+  started_carried m after outcome t is (inr (u, same, i)) =
+      subst (λ (q : Outcome (Unit {0}) × MachineState T). Carried side after.world.space (λ v. IsConfiguredIf accesses2 settings avoid q.0 q.1 outcome (machine_over after v))) (sym same)
+      (ready_carried (initialized accesses settings.mode m).0 (initialized accesses settings.mode m).1 after outcome u is i)
+
+  machine_run_of : (m after : MachineState S) (outcome : Outcome RoutingReport) (space : S) (t : T) → after.world.space ≡ space → Carried side after.world.space (λ v. IsStarted accesses2 settings avoid (machine_over m t) outcome (machine_over after v))
+      → Carried side space (λ v. IsMachineRun accesses2 settings avoid (machine_over m t) outcome v)
+  machine_run_of m after outcome space t at (inl (u, parted)) = inl (u, subst (λ s. side.Parted s u) at parted)
+  machine_run_of m after outcome space t at (inr (u, is, i)) = inr (u, record { after = machine_over after u; is_started = is; is_space = refl }, subst (λ s. side.InStep s u) at i)
+
+  machine_run_carried : (m : MachineState S) (outcome : Outcome RoutingReport) (space : S) (t : T) → IsMachineRun accesses settings avoid m outcome space → side.InStep m.world.space t
+      → Carried side space (λ v. IsMachineRun accesses2 settings avoid (machine_over m t) outcome v)
+  machine_run_carried m outcome space t is i = machine_run_of m is.after outcome space t is.is_space (started_carried m is.after outcome t is.is_started ((initialized_together {side = side} settings.mode).goes m t i))
+
+  loaded_run_carried : (tables : Tables) (r : Outcome (Unit {0})) (w : State S) (outcome : Outcome RoutingReport) (space : S) (t : T) → IsLoadedRun accesses settings avoid tables r w outcome space → side.InStep w.space t
+      → Carried side space (λ v. IsLoadedRun accesses2 settings avoid tables r (world_over w t) outcome v)
+  loaded_run_carried tables (Ok u) w outcome space t is i = machine_run_carried (machine_of tables settings.steps w) outcome space t is i
+  loaded_run_carried tables (Err e) w outcome space t is i = inr (t, (is.0, refl), subst (λ s. side.InStep s t) is.1 i)
+
+  run_over_goes : (d : Description) (before : S) (outcome : Outcome RoutingReport) (space : S) (t : T) → IsRunOver accesses settings avoid d before outcome space → Goes side worlds (first_world accesses settings avoid d before) (first_world accesses2 settings avoid d t)
+      → Carried side space (λ v. IsRunOver accesses2 settings avoid d t outcome v)
+  run_over_goes d before outcome space t is (inl parted) = inl (_, loaded_run_left side settings avoid d.0 (first_world accesses settings avoid d before).0 (first_world accesses settings avoid d before).1 outcome space _ is parted)
+  run_over_goes d before outcome space t is (inr (u, same, i)) =
+      subst (λ (q : Outcome (Unit {0}) × State T). Carried side space (λ v. IsLoadedRun accesses2 settings avoid d.0 q.0 q.1 outcome v)) (sym same)
+      (loaded_run_carried d.0 (first_world accesses settings avoid d before).0 (first_world accesses settings avoid d before).1 outcome space u is i)
+
+  described_run_carried : (d : Outcome Description) (before : S) (outcome : Outcome RoutingReport) (space : S) (t : T) → IsDescribedRun accesses settings avoid d before outcome space → side.InStep before t
+      → Carried side space (λ v. IsDescribedRun accesses2 settings avoid d t outcome v)
+  described_run_carried (Ok d) before outcome space t is i = run_over_goes d before outcome space t is ((loaded_tables_together {side = side} d.0 settings.steps d.1).goes (fresh d.0.width d.1 before) t i)
+  described_run_carried (Err e) before outcome space t is i = inr (t, (is.0, refl), subst (λ s. side.InStep s t) is.1 i)
+
+  pub run_carried : (text : List ℕ) (before : S) (outcome : Outcome RoutingReport) (space : S) (t : T) → IsRun accesses settings avoid text before outcome space → side.InStep before t
+      → Carried side space (λ v. IsRun accesses2 settings avoid text t outcome v)
+  run_carried text before outcome space t is i = described_run_carried (described text) before outcome space t is i

@@ -1,0 +1,48 @@
+//! What holds of all runs over a record of accesses: each law is the contract of a function that does nothing.
+#![tactic(auto)]
+
+ghost use Rattle.std.specs.Prelude.{◌≡◌, ◌++◌, ℕ, List, [], None, Some, slice_get};
+ghost use Rattle.ar_space.specs.Accesses.{Accesses};
+ghost use Rattle.ar_space.specs.Outcome.{Outcome};
+ghost use Rattle.space_trace.specs.declared.access.Access.{Access};
+ghost use Rattle.recorded_space.specs.declared.exchange.Exchange.{Exchange};
+ghost use Rattle.recorded_space.specs.Deciding.{Gives};
+ghost use Rattle.recorded_space.specs.Recordings.{Recording, begun, recorded};
+ghost use Rattle.route_report.specs.Reports.{RoutingReport};
+ghost use Rattle.recorded_route.specs.declared.settings.Settings.{Settings};
+ghost use Rattle.recorded_route.specs.Runs.{IsRun};
+ghost use Rattle.recorded_laws.specs.Grown.{left_by};
+ghost use Rattle.recorded_laws.specs.Listed.{listed};
+
+use acpi_configure::laws::a_problem_has_one_answer;
+
+/// Where no access is missing from a record, the run over the record is one over any register space that gives its answers: it comes
+/// out with the same report or refusal.
+pub fn a_run_over_a_whole_record_is_one_over_any_space<S>()
+    ensures { (accesses : Accesses S) (space : S) (settings : Settings) (avoid text : List ℕ) (entries : List Exchange) (outcome : Outcome RoutingReport) (after : Recording) → Gives accesses entries space
+        → IsRun recorded settings avoid text (begun entries) outcome after → after.missing ≡ None → (left : S) × IsRun accesses settings avoid text space outcome left }
+{}
+
+/// A run over a register space comes out in one way, and leaves one space.
+pub fn a_run_comes_out_in_one_way<S>()
+    ensures { (accesses : Accesses S) (space : S) (settings : Settings) (avoid text : List ℕ) (one other : Outcome RoutingReport) (left left2 : S) → IsRun accesses settings avoid text space one left
+        → IsRun accesses settings avoid text space other left2 → (one ≡ other) × (left ≡ left2) }
+{
+    a_problem_has_one_answer();
+}
+
+/// The access that is missing from a record is made by each run over any register space that gives the record's answers, as the next
+/// one after as many accesses as entries were used.
+pub fn the_wanted_access_is_the_next_one<S>()
+    ensures { (accesses : Accesses S) (space : S) (settings : Settings) (avoid text : List ℕ) (entries : List Exchange) (outcome : Outcome RoutingReport) (after : Recording) (access : Access) → Gives accesses entries space
+        → IsRun recorded settings avoid text (begun entries) outcome after → after.missing ≡ Some access
+        → (outcome2 : Outcome RoutingReport) (left : S × List Access) → IsRun (listed accesses) settings avoid text (space, []) outcome2 left → slice_get left.1 after.used ≡ Some access }
+{
+    a_problem_has_one_answer();
+}
+
+/// Where a register space gives the answers of a record, and then answers further accesses so, it gives the answers of the longer
+/// record: what a caller appends access by access stays a record of its registers.
+pub fn a_record_grows_with_the_answers_of_a_space<S>()
+    ensures { (accesses : Accesses S) (space : S) (entries more : List Exchange) → Gives accesses entries space → Gives accesses more (left_by accesses entries space) → Gives accesses (entries ++ more) space }
+{}

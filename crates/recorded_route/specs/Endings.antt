@@ -1,0 +1,37 @@
+-- How a run over a record ends.
+use Rattle.std.specs.Prelude.{◌≡◌, ◌≢◌, ℕ, List, Option, Some, None, Ok, Err}
+use Rattle.ar_space.specs.declared.refusal.Refusal.TheVariants.{OutOfMemory}
+use Rattle.ar_space.specs.Outcome.{Outcome}
+use Rattle.space_trace.specs.declared.access.Access.{Access}
+use Rattle.recorded_space.specs.declared.exchange.Exchange.{Exchange}
+use Rattle.recorded_space.specs.Recordings.{Recording, begun, recorded}
+use Rattle.route_report.specs.Reports.{RoutingReport}
+use Rattle.recorded_route.specs.declared.ending.Ending.{Ending}
+use Rattle.recorded_route.specs.declared.ending.Ending.TheVariants.{Reported, Refused, Wanted}
+use Rattle.recorded_route.specs.declared.settings.Settings.{Settings}
+use Rattle.recorded_route.specs.Runs.{IsRun}
+
+-- a missing access is wanted, whatever came out without its answer
+abbrev pub ending_of : Outcome RoutingReport → Option Access → Ending
+ending_of (Ok report) None = Reported report
+ending_of (Err e) None = Refused e
+ending_of outcome (Some access) = Wanted access
+
+-- memory didn't run out
+abbrev pub NotOutOfMemory : Ending → Type 0
+NotOutOfMemory (Reported report) = Unit {0}
+NotOutOfMemory (Refused e) = e ≢ OutOfMemory
+NotOutOfMemory (Wanted access) = Unit {0}
+
+-- the record after a run, of which this access is missing
+pub record Leaves (run : Recording → Type 0) (missing : Option Access) : Type 0 where
+  pub after : Recording
+  pub is_run : run after
+  pub is_missing : missing ≡ after.missing
+
+-- A run over a record, from its first entry on, ends like this.
+pub record IsEnding (settings : Settings) (avoid text : List ℕ) (entries : List Exchange) (ending : Ending) : Type 0 where
+  pub outcome : Outcome RoutingReport
+  pub after : Recording
+  pub is_run : IsRun recorded settings avoid text (begun entries) outcome after
+  pub is_told : ending ≡ ending_of outcome after.missing

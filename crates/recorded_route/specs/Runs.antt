@@ -1,0 +1,70 @@
+-- A run over any register space: the tables of a machine are loaded over it, the machine is initialized, and its links are configured.
+use Rattle.std.specs.Prelude.{◌≡◌, ℕ, List, Ok, Err}
+use Rattle.ar_space.specs.Accesses.{Accesses}
+use Rattle.ar_space.specs.Outcome.{Outcome, ◌>>=◌}
+use Rattle.ar_tables.specs.declared.tables.Tables.{Tables}
+use Rattle.ar_tables.specs.FindTables.{tables_of}
+use Rattle.machine_text.specs.MachineText.{machine_text}
+use Rattle.aml_meaning.specs.State.{State}
+use Rattle.aml_meaning.specs.Predefined.{fresh}
+use Rattle.acpi_machine.specs.Calls.{initialized}
+use Rattle.acpi_machine.specs.Loading.{loaded_tables}
+use Rattle.acpi_machine.specs.MachineStates.{MachineState, machine_of}
+use Rattle.acpi_links.specs.Gatherings.{gathered}
+use Rattle.acpi_configure.specs.Configured.{IsReport}
+use Rattle.route_report.specs.Reports.{RoutingReport}
+use Rattle.recorded_route.specs.declared.settings.Settings.{Settings}
+
+-- the tables of a machine, and the texts that `_OSI` knows
+abbrev pub Description : Type 0
+Description = Tables × List (List ℕ)
+
+-- what a machine text describes beside its registers: its memory is the image of the tables
+unfoldable pub described : List ℕ → Outcome Description
+described text = do
+  m ← machine_text text
+  t ← tables_of m.space.memory m.rsdp
+  Ok (t, m.osi)
+
+-- accesses: what the register space makes of them; settings and avoid: what the caller wants
+module _ {S : Type 0} (accesses : Accesses S) (settings : Settings) (avoid : List ℕ) where
+  -- the report of a machine, or the refusal of what it has to find, and the machine after it
+  abbrev pub IsConfigured : MachineState S → Outcome RoutingReport → MachineState S → Type 0
+  IsConfigured m (Ok report) after = IsReport accesses settings.dry avoid m after report
+  IsConfigured m (Err e) after = gathered accesses avoid m ≡ (Err e, after)
+
+  -- the same of a machine as initializing left it, whose refusal ends the run
+  abbrev pub IsConfiguredIf : Outcome (Unit {0}) → MachineState S → Outcome RoutingReport → MachineState S → Type 0
+  IsConfiguredIf (Ok u) m outcome after = IsConfigured m outcome after
+  IsConfiguredIf (Err e) m outcome after = (outcome ≡ Err e) × (after ≡ m)
+
+  -- a machine is initialized, and then configured
+  abbrev pub IsStarted : MachineState S → Outcome RoutingReport → MachineState S → Type 0
+  IsStarted m outcome after = IsConfiguredIf (initialized accesses settings.mode m).0 (initialized accesses settings.mode m).1 outcome after
+
+  -- the same, where the register space is told that is left
+  pub record IsMachineRun (m : MachineState S) (outcome : Outcome RoutingReport) (space : S) : Type 0 where
+    pub after : MachineState S
+    pub is_started : IsStarted m outcome after
+    pub is_space : after.world.space ≡ space
+
+  -- from a world as loading left it, whose refusal ends the run
+  abbrev pub IsLoadedRun : Tables → Outcome (Unit {0}) → State S → Outcome RoutingReport → S → Type 0
+  IsLoadedRun tables (Ok u) w outcome space = IsMachineRun (machine_of tables settings.steps w) outcome space
+  IsLoadedRun tables (Err e) w outcome space = (outcome ≡ Err e) × (w.space ≡ space)
+
+  -- tables are loaded over a register space, where `_OSI` knows these texts
+  abbrev pub world_over : Description → S → Outcome (Unit {0}) × State S
+  world_over d before = loaded_tables accesses d.0 settings.steps d.1 (fresh d.0.width d.1 before)
+
+  abbrev pub IsRunOver : Description → S → Outcome RoutingReport → S → Type 0
+  IsRunOver d before outcome space = IsLoadedRun d.0 (world_over d before).0 (world_over d before).1 outcome space
+
+  -- what is described, or the refusal of the text or of its tables
+  abbrev pub IsDescribedRun : Outcome Description → S → Outcome RoutingReport → S → Type 0
+  IsDescribedRun (Ok d) before outcome space = IsRunOver d before outcome space
+  IsDescribedRun (Err e) before outcome space = (outcome ≡ Err e) × (before ≡ space)
+
+  -- A run over a register space: how it comes out, and the space that it leaves.
+  abbrev pub IsRun : List ℕ → S → Outcome RoutingReport → S → Type 0
+  IsRun text before outcome space = IsDescribedRun (described text) before outcome space

@@ -1,0 +1,111 @@
+//! A run over a record.
+ghost use Rattle.ar_space.specs.Outcome.{NotMemory};
+ghost use Rattle.recorded_space.specs.Recordings.{begun, recorded};
+ghost use Rattle.recorded_route.specs.Endings.{IsEnding, Leaves, NotOutOfMemory};
+ghost use Rattle.recorded_route.specs.Runs.{IsStarted, IsMachineRun, IsRunOver, IsRun};
+
+use crate::description::{Description, described};
+use crate::ending::{Ending, ending_of};
+use crate::settings::Settings;
+use acpi_configure::configure;
+use acpi_machine::{Machine, load_tables};
+use ar_space::{Refusal, Space};
+use recorded_space::{Access, Exchange, Recorded};
+use route_report::Report;
+use std::alloc::Global;
+
+/// How a run came out, and which access was missing.
+type Outcome = (Result<Report, Refusal>, Option<Access>);
+
+/// Initializes a machine, and configures its links.
+#[tactic(auto, using(crate::proofs::Starting::starting))]
+fn start<S: Space>(
+    alloc: Global,
+    machine: &mut Machine<S>,
+    settings: &Settings,
+    avoid: &[u32],
+) -> Result<Report, Refusal>
+    ensures { NotMemory result → IsStarted S.accesses settings.now avoid.now machine.old result machine.new }
+{
+    machine.initialize(alloc, settings.mode)?;
+    configure(alloc, machine, settings.dry, avoid)
+}
+
+/// Starts a machine whose registers are a record.
+fn machine_run(
+    alloc: Global,
+    machine: Machine<Recorded>,
+    settings: &Settings,
+    avoid: &[u32],
+) -> Outcome
+    ensures { NotMemory result.0 → Leaves (IsMachineRun recorded settings.now avoid.now machine result.0) result.1 }
+{
+    let mut machine = machine;
+    let outcome = start(alloc, &mut machine, settings, avoid);
+    (outcome, machine.space().missing())
+}
+
+/// Loads what is described over a record, and starts the machine.
+fn run_over(
+    alloc: Global,
+    description: Description,
+    settings: &Settings,
+    avoid: &[u32],
+    space: Recorded,
+) -> Outcome
+    ensures { NotMemory result.0 → Leaves (IsRunOver recorded settings.now avoid.now (description.0, description.1.items) space result.0) result.1 }
+{
+    let (tables, osi) = description;
+    match load_tables(alloc, tables, space, settings.steps, osi) {
+        Ok(machine) => machine_run(alloc, machine, settings, avoid),
+        Err((refusal, space)) => (Err(refusal), space.missing()),
+    }
+}
+
+/// The same from a machine text.
+fn run(alloc: Global, text: &[u8], settings: &Settings, avoid: &[u32], space: Recorded) -> Outcome
+    ensures { NotMemory result.0 → Leaves (IsRun recorded settings.now avoid.now text.now space result.0) result.1 }
+{
+    match described(alloc, text) {
+        Ok(description) => run_over(alloc, description, settings, avoid, space),
+        Err(refusal) => (Err(refusal), space.missing()),
+    }
+}
+
+/// Loads the tables of a machine text, initializes the machine, and configures its links as `acpi_configure::configure` does, where
+/// each access of a register is answered from a record. Only the memory of the text is read, as the image of the tables, and its
+/// texts of `_OSI`: its registers are passed over, and accesses of memory are answered from the record too.
+///
+/// A caller begins with an empty record. It makes each access that is wanted on its hardware, appends the access with what the
+/// hardware answered, and asks again, until no access is wanted. Then the links are set.
+///
+/// Refused are the machine text, its tables, their loading, initializing, and then what the report has to find, but only where the
+/// record held every access until then. `Refused(OutOfMemory)` where memory ran out; a call with the same record may then be made again.
+///
+/// ```
+/// let mut record = Vec::new(alloc);
+/// loop {
+///     match configure_recorded(alloc, text, &settings, &[], record.as_slice()) {
+///         Ending::Wanted(access) => record.push(made_on_the_hardware(access))?,
+///         Ending::Reported(report) => return Ok(report),
+///         Ending::Refused(refusal) => return Err(refusal),
+///     }
+/// }
+/// ```
+pub fn configure_recorded(
+    alloc: Global,
+    text: &[u8],
+    settings: &Settings,
+    avoid: &[u32],
+    entries: &[Exchange],
+) -> Ending
+    ensures { NotOutOfMemory result → IsEnding settings.now avoid.now text.now entries.now result }
+{
+    match Vec::from_slice(alloc, entries) {
+        Ok(copy) => {
+            let (outcome, missing) = run(alloc, text, settings, avoid, Recorded::new(copy));
+            ending_of(outcome, missing)
+        }
+        Err(_) => Ending::Refused(Refusal::OutOfMemory),
+    }
+}

@@ -1,0 +1,13 @@
+//! How a machine is configured.
+use acpi_machine::Mode;
+
+/// How a machine is configured.
+#[derive(Clone, Copy, Debug)]
+pub struct Settings {
+    /// The interrupt controllers that the machine is told it uses.
+    pub mode: Mode,
+    /// The budget of steps for each table and each evaluation, from 1 to 1,000,000,000.
+    pub steps: u64,
+    /// No link is set.
+    pub dry: bool,
+}
