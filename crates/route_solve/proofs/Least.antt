@@ -8,7 +8,7 @@ use Rattle.route_model.proofs.Counting.{one_if}
 use Rattle.route_model.proofs.Hall.{no_place}
 use Rattle.route_model.proofs.Loads.{load-le, busiest-le}
 use Rattle.route_model.proofs.Assignments.{given_taken, placement_at, placement_whole, placement_from, assignment_from, length_assignment, assignment_at}
-use Rattle.route_solve.specs.Search.{room_of}
+use Rattle.route_solve.specs.Room.{room_of}
 use Rattle.route_solve.specs.Certificate.{IsCertificate, IsSpread}
 use Rattle.route_solve.specs.First.{Completes, IsLeastAt}
 use Rattle.route_solve.specs.Floor.{IsFloor}

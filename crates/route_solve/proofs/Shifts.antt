@@ -7,7 +7,7 @@ use Rattle.route_model.specs.Routing.{wired_to}
 use Rattle.route_model.specs.Placement.{is_at, place_of, Offers, taken, IsPlacement, CanPlace, IsStuck}
 use Rattle.route_model.proofs.Counting.{one_if}
 use Rattle.route_model.proofs.Hall.{counted_somewhere, zero_or_more, is_at_true, no_place}
-use Rattle.route_solve.specs.Search.{room_of}
+use Rattle.route_solve.specs.Room.{room_of}
 use Rattle.route_solve.specs.First.{Completes}
 use Rattle.route_solve.proofs.Exchange.{offered-set, taken-set, place_cases, none_is_some}
 use Rattle.route_solve.proofs.Parts.{taken-append}

@@ -1,14 +1,10 @@
 -- How far a search from a link has come.
-use Rattle.std.specs.Prelude.{◌≡◌, ◌≢◌, ℕ, ◌+◌, ◌-◌, ◌<◌, ◌≤◌, Bool, true, false, Option, Some, None, List, length, IsSome, cond}
+use Rattle.std.specs.Prelude.{◌≡◌, ◌≢◌, ℕ, ◌+◌, ◌<◌, ◌≤◌, Bool, true, false, Option, Some, None, List, length, IsSome, cond}
 use Rattle.route_solve.specs.declared.rooms.Rooms.{Rooms}
-use Rattle.route_model.specs.Routing.{wired_to}
+use Rattle.route_solve.specs.Room.{room_of}
 use Rattle.route_model.specs.Placement.{is_at, place_of, is_reached, Offers, taken, IsPlacement}
 
--- how often an interrupt can be given: its wired sources and the links that stay count
-abbrev pub room_of : ℕ → List (ℕ × ℕ) → List (Option ℕ) → ℕ → ℕ
-room_of limit wired fixed n = limit - (wired_to wired n + taken fixed n)
-
--- the same for the rooms of the code
+-- how often an interrupt can be given in the rooms of the code
 abbrev pub room_in : Rooms → ℕ → ℕ
 room_in rooms = room_of rooms.limit rooms.wired.now rooms.fixed.now
 

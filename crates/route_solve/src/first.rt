@@ -4,7 +4,7 @@ ghost use Rattle.std.specs.Bool.{OnTrue, OnFalse};
 ghost use Rattle.std.specs.List.Sorted.{IsStrictlyIncreasing};
 ghost use Rattle.route_model.specs.Links.{offers_of};
 ghost use Rattle.route_model.specs.Placement.{place_of, Offers, IsPlacement, IsWhole};
-ghost use Rattle.route_solve.specs.Search.{room_of};
+ghost use Rattle.route_solve.specs.Room.{room_of};
 ghost use Rattle.route_solve.specs.First.{Completes, IsLeastAt};
 
 use crate::rooms::{Rooms, count, wired_sources};

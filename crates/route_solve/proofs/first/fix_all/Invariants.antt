@@ -1,7 +1,7 @@
 use Rattle.std.proofs.Common.{◌<◌, ℕ, []}
 use Rattle.route_model.specs.Placement.{IsPlacement, IsWhole}
 use Rattle.route_model.specs.Links.{offers_of}
-use Rattle.route_solve.specs.Search.{room_of}
+use Rattle.route_solve.specs.Room.{room_of}
 use Rattle.route_solve.specs.First.{IsLeastAt}
 use Rattle.route_solve.proofs.first.fix_all.Given as goal
 

@@ -3,7 +3,7 @@ use Rattle.std.proofs.lemmas.Bool.{OnTrue_at, OnFalse_at}
 use Rattle.std.proofs.lemmas.List.{take_rest, length-drop, set-set, set-get_or}
 use Rattle.route_model.specs.Placement.{IsPlacement}
 use Rattle.route_model.specs.Links.{offers_of}
-use Rattle.route_solve.specs.Search.{room_of}
+use Rattle.route_solve.specs.Room.{room_of}
 use Rattle.route_solve.proofs.Parts.{offers_drop, placed_within}
 use Rattle.route_solve.proofs.Shifts.{shift_free, shift_out, restored, closed_by_search, closed_by_count, placement_drop, placement_join}
 use Rattle.route_solve.proofs.first.shift.Goals as goal

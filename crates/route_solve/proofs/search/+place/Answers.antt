@@ -5,7 +5,8 @@ use Rattle.std.proofs.lemmas.Bool.{OnTrue_at, OnFalse_at, cases_lt}
 use Rattle.std.proofs.lemmas.List.Elements.{Contains-get_or}
 use Rattle.route_model.specs.Placement.{is_reached, place_of, Offers}
 use Rattle.route_model.specs.Links.{offers_of}
-use Rattle.route_solve.specs.Search.{room_of, Moved, IsHandled, Explores, Fails}
+use Rattle.route_solve.specs.Room.{room_of}
+use Rattle.route_solve.specs.Search.{Moved, IsHandled, Explores, Fails}
 use Rattle.route_model.proofs.Offers.{offers_at}
 use Rattle.route_solve.proofs.Exchange.{moved_directly, moved_after, spares_step, explores_more, fewer_left, handled_grown, IsGrown, same_option, other_option}
 use Rattle.route_solve.proofs.search.+place.Goals as goal

@@ -2,7 +2,8 @@ use Rattle.std.proofs.Common.{◌≡◌, ℕ, ◌<◌, ◌≤◌, [], Some, get_
 use Rattle.std.specs.Prelude.{count_by, not, true, slice_index_or}
 use Rattle.route_model.specs.Placement.{taken, is_reached, place_of}
 use Rattle.route_model.specs.Links.{offers_of}
-use Rattle.route_solve.specs.Search.{room_of, Explores, IsHandled}
+use Rattle.route_solve.specs.Room.{room_of}
+use Rattle.route_solve.specs.Search.{Explores, IsHandled}
 use Rattle.route_solve.proofs.search.+place.Given as goal
 
 -- the links that are left to reach

@@ -1,7 +1,7 @@
 use Rattle.std.proofs.Common.{◌≤◌, ◌∙◌, arith, subst}
 use Rattle.std.proofs.lemmas.List.{get_or_default}
 use Rattle.route_model.specs.Placement.{taken}
-use Rattle.route_solve.specs.Search.{room_of}
+use Rattle.route_solve.specs.Room.{room_of}
 use Rattle.route_solve.proofs.search.first_free.Goals as goal
 
 pub returns : goal.returns

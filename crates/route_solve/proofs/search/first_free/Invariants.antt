@@ -1,6 +1,6 @@
 use Rattle.std.proofs.Common.{◌≤◌, ◌<◌, ℕ, get_or}
 use Rattle.route_model.specs.Placement.{taken}
-use Rattle.route_solve.specs.Search.{room_of}
+use Rattle.route_solve.specs.Room.{room_of}
 use Rattle.route_solve.proofs.search.first_free.Given as goal
 
 abbrev pub invariant-loop-n : goal.invariant-loop-n

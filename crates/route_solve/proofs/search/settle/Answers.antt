@@ -2,7 +2,7 @@ use Rattle.std.proofs.Common.{◌≡◌, ◌∙◌, ap, arith, ℕ, false, lengt
 use Rattle.std.proofs.lemmas.Bool.{OnFalse_from, OnFalse_at}
 use Rattle.route_model.specs.Placement.{is_reached}
 use Rattle.route_model.specs.Links.{offers_of}
-use Rattle.route_solve.specs.Search.{room_of}
+use Rattle.route_solve.specs.Room.{room_of}
 use Rattle.route_solve.proofs.Exchange.{stuck_from, but_from, none_reached}
 use Rattle.route_solve.proofs.search.settle.Goals as goal
 
