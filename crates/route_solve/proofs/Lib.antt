@@ -21,3 +21,8 @@ pub mod Truncated
 pub mod Placing
 pub mod Crowded
 pub mod Assigned
+pub mod LeftBits
+pub mod Searching
+pub mod Handing
+pub mod Fixing
+pub mod Unnamed

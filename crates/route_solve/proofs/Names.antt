@@ -36,7 +36,7 @@ some_named numbers (Some i) s = refl
 pub unnamed : (numbers : List ℕ) (p : List (Option ℕ)) (k n : ℕ) → place_of (named numbers p) k ≡ Some n → (i : ℕ) × (place_of p k ≡ Some i) × (number_at numbers i ≡ n)
 unnamed numbers p k n h = name_from numbers (place_of p k) n (sym (place_named numbers p k) ∙ h)
 
-at_is : (n : ℕ) (o : Option ℕ) → o ≡ Some n → is_at n o ≡ true
+pub at_is : (n : ℕ) (o : Option ℕ) → o ≡ Some n → is_at n o ≡ true
 at_is n o h = ap (is_at n) h ∙ eq-eqb n n refl
 
 pub whole_named : (numbers : List ℕ) (p : List (Option ℕ)) → IsWhole p → IsWhole (named numbers p)

@@ -10,5 +10,6 @@ pub mod Shown
 pub mod Numbers
 pub mod Rows
 pub mod Levels
+pub mod Ready
 pub mod Paths
 pub mod Named

@@ -12,6 +12,8 @@ ghost use Rattle.route_solve.specs.Levels.{at, room_at, IsCounted, IsTrail, IsQu
 pub(crate) struct Board<'a> {
     /// For each link the places of what it offers.
     pub offers: &'a [Vec<usize>],
+    /// For each interrupt the row of the links that offer it.
+    pub rows: &'a [u64],
     /// How many sources are wired to each interrupt.
     pub sources: &'a [usize],
     /// How many sources an interrupt may serve.

@@ -1,6 +1,6 @@
 //! The links from which a search begins.
 ghost use Rattle.std.specs.Prelude.{◌≡◌, ◌≤◌, ◌<◌, ◌+◌, ℕ, None, false, length};
-ghost use Rattle.route_model.specs.Placement.{is_reached, place_of, IsWhole};
+ghost use Rattle.route_model.specs.Placement.{is_reached, place_of};
 ghost use Rattle.route_solve.specs.Numbers.{lists_of};
 ghost use Rattle.route_solve.specs.Levels.{at, room_at, IsTrail, IsQueue, AreClosed};
 
@@ -69,34 +69,4 @@ pub(crate) fn begin_at(
 {
     clear(reached, seen);
     add_root(board, choice, reached, queue, from, 0, link);
-}
-
-/// Begins from all links that have no interrupt, and gives their number.
-pub(crate) fn begin_all(
-    board: &Board<'_>,
-    choice: &[Option<usize>],
-    reached: &mut [bool],
-    seen: &mut [bool],
-    queue: &mut [usize],
-    from: &mut [usize],
-) -> usize
-    requires marks { length reached.old ≡ length choice.now }
-    requires queue { length queue.old ≡ length choice.now }
-    requires from { length from.old ≡ length choice.now }
-    requires all { board.now.low ≡ 0 }
-    ensures trail { IsTrail (lists_of board.now.offers.now) choice.now board.now.low queue.new from.new result }
-    ensures listed { IsQueue reached.new queue.new result }
-    ensures closed { AreClosed (room_at board.now.limit board.now.sources.now) choice.now board.now.low reached.new seen.new }
-    ensures unplaced { (k : ℕ) → k < result → place_of choice.now (at queue.new k) ≡ None }
-    ensures whole { result ≡ 0 → IsWhole choice.now }
-{
-    clear(reached, seen);
-    let mut tail = 0;
-    for link in 0..choice.len() {
-        if choice[link].is_none() {
-            add_root(board, choice, reached, queue, from, tail, link);
-            tail += 1;
-        }
-    }
-    tail
 }

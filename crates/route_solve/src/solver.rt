@@ -1,5 +1,5 @@
 //! The public calls: memory first, then a search that takes none.
-ghost use Rattle.std.specs.Prelude.{◌≡◌, ◌≤◌, ◌<◌, ◌+◌, ◌⊎◌, ℕ, List, [], IfOk, MatchOption, None, Option, true, length, replicate, slice_index_or, sum_by};
+ghost use Rattle.std.specs.Prelude.{◌≡◌, ◌≤◌, ◌<◌, ◌+◌, ◌⊎◌, ℕ, List, [], IfOk, IsSome, MatchOption, None, Option, Some, true, length, replicate, slice_index_or, sum_by};
 ghost use Rattle.std.specs.List.{range_with_len};
 ghost use Rattle.std.specs.List.Sorted.{IsStrictlyIncreasing};
 ghost use Rattle.route_model.specs.Links.{offers_of};
@@ -10,7 +10,7 @@ ghost use Rattle.route_solve.specs.Fits.{Fits, IsOffer};
 ghost use Rattle.route_solve.specs.Floor.{IsFloor};
 ghost use Rattle.route_solve.specs.Marks.{HasAll};
 ghost use Rattle.route_solve.specs.Levels.{IsCounted};
-ghost use Rattle.route_solve.specs.Named.{AreSources};
+ghost use Rattle.route_solve.specs.Named.{name_of, named, AreSources};
 ghost use Rattle.route_solve.specs.Numbers.{is_offered, lists_of, HasOffered, IsNumbered};
 ghost use Rattle.route_solve.specs.Rows.{IsRow, HasRows};
 ghost use Rattle.route_model.specs.Bound.{IsLowerBound};
@@ -21,14 +21,13 @@ use crate::buffers::{all_interrupts, all_places};
 use crate::crowd::mark_set;
 use crate::fill::place_all;
 use crate::first::fix_all;
-use crate::naming::name_all;
+use crate::levels::Board;
 use crate::numbers::{all_offered, all_places_offered, place_among};
 use crate::problem::Problem;
-use crate::rooms::wired_sources;
+use crate::sources::{all_sources, wired_sources};
 use crate::rows::{all_rows, row_at};
 use crate::set::show;
-use crate::sources::all_sources;
-use route_model::Link;
+use crate::ways::{NO_WAY, Way};
 use std::alloc::{AllocError, Global};
 
 /// The greatest number of sources that are wired to one interrupt.
@@ -48,70 +47,80 @@ fn greatest_wired(wired: &[(u32, u32)]) -> usize
     greatest
 }
 
-/// Writes out the interrupts of the links.
-fn write_out(choice: &[Option<u32>], given: &mut [u32])
-    requires lengths { length given.old ≡ length choice.now }
-    requires whole { IsWhole choice.now }
-    ensures { placement_of given.new ≡ choice.now }
+/// The number of the interrupt of a link that has one.
+fn number_held(numbers: &[u32], choice: &[Option<usize>], link: usize) -> u32
+    requires link { link < length choice.now }
+    requires placed { IsSome (place_of choice.now link) }
+    requires known { (i : ℕ) → place_of choice.now link ≡ Some i → i < length numbers.now }
+    ensures { name_of numbers.now (place_of choice.now link) ≡ Some result }
 {
-    for (k, number) in choice.iter().enumerate() {
-        if let Some(n) = number {
-            given[k] = *n;
-        }
+    match choice[link] {
+        Some(i) => numbers[i],
+        None => 0,
     }
 }
 
-/// Finds the first least assignment, and gives how many sources its busiest interrupt serves.
+/// Writes out the numbers of the interrupts that the links have.
+fn write_out(numbers: &[u32], choice: &[Option<usize>], given: &mut [u32])
+    requires lengths { length given.old ≡ length choice.now }
+    requires whole { IsWhole choice.now }
+    requires known { (k i : ℕ) → place_of choice.now k ≡ Some i → i < length numbers.now }
+    ensures { placement_of given.new ≡ named numbers.now choice.now }
+{
+    for k in 0..choice.len() {
+        given[k] = number_held(numbers, choice, k);
+    }
+}
+
+/// Finds the first least assignment of a problem, and gives how many sources its busiest interrupt serves.
 fn assign(
-    wired: &[(u32, u32)],
-    links: &[Link],
+    problem: &Problem,
     numbers: &[u32],
-    offers: &[Vec<usize>],
-    sources: &[usize],
-    at: &mut [Option<usize>],
+    board: &Board<'_>,
+    choice: &mut [Option<usize>],
     counts: &mut [usize],
-    choice: &mut [Option<u32>],
+    left: &mut [u64],
+    ready: &mut [bool],
+    ways: &mut [Way],
     reached: &mut [bool],
-    seen: &mut [bool],
     queue: &mut [usize],
     from: &mut [usize],
     given: &mut [u32],
-    floor: usize,
 ) -> usize
-    requires counts { sum_by (λ w. w.1) wired.now ≤ 4096 }
     requires up { IsStrictlyIncreasing numbers.now }
-    requires numbered { IsNumbered (offers_of links.now) numbers.now (lists_of offers.now) }
-    requires sources { AreSources numbers.now wired.now sources.now }
-    requires long { length offers.now ≡ length links.now }
-    requires places { length at.old ≡ length links.now }
-    requires room { length counts.old ≡ length sources.now }
-    requires choices { length choice.old ≡ length links.now }
-    requires marks { length reached.old ≡ length links.now }
-    requires seen { length seen.old ≡ length sources.now }
-    requires queue { length queue.old ≡ length links.now }
-    requires from { length from.old ≡ length links.now }
-    requires answers { length given.old ≡ length links.now }
-    requires few { length links.now ≤ 256 }
-    requires offered { (k : ℕ) → k < length links.now → 0 < length (slice_index_or (offers_of links.now) k []) }
-    requires ascending { (k : ℕ) → k < length links.now → IsStrictlyIncreasing (slice_index_or (offers_of links.now) k []) }
-    requires unplaced { (k : ℕ) → place_of at.old k ≡ None }
-    requires counted { IsCounted counts.old at.old }
-    requires floor { floor ≤ 4096 }
-    requires floor_is { IsFloor wired.now floor }
-    requires wired_below { (i : ℕ) → wired_to wired.now i ≤ floor }
-    ensures first_least { IsFirstLeast (offers_of links.now) wired.now given.new }
-    ensures busiest { busiest wired.now given.new ≡ result }
-    ensures limit { (p : List (Option ℕ)) × IsSpread (offers_of links.now) wired.now floor result p reached.new }
+    requires numbered { IsNumbered (offers_of problem.now.links) numbers.now (lists_of board.now.offers.now) }
+    requires from_wired { AreSources numbers.now problem.now.wired board.now.sources.now }
+    requires rows { HasRows (offers_of problem.now.links) numbers.now board.now.rows.now }
+    requires long { length board.now.offers.now ≡ length problem.now.links }
+    requires choices { length choice.old ≡ length problem.now.links }
+    requires room { length counts.old ≡ length numbers.now }
+    requires four { length left.old ≡ 4 }
+    requires ready { length ready.old ≡ length numbers.now }
+    requires ways { length ways.old ≡ length numbers.now }
+    requires marks { length reached.old ≡ length problem.now.links }
+    requires queue { length queue.old ≡ length problem.now.links }
+    requires from { length from.old ≡ length problem.now.links }
+    requires answers { length given.old ≡ length problem.now.links }
+    requires few { length problem.now.links ≤ 256 }
+    requires offered { (k : ℕ) → k < length problem.now.links → 0 < length (slice_index_or (offers_of problem.now.links) k []) }
+    requires ascending { (k : ℕ) → k < length problem.now.links → IsStrictlyIncreasing (slice_index_or (offers_of problem.now.links) k []) }
+    requires all { board.now.low ≡ 0 }
+    requires unplaced { (k : ℕ) → place_of choice.old k ≡ None }
+    requires counted { IsCounted counts.old choice.old }
+    requires floor { board.now.limit ≤ 4096 }
+    requires floor_is { IsFloor problem.now.wired board.now.limit }
+    requires wired_below { (i : ℕ) → wired_to problem.now.wired i ≤ board.now.limit }
+    ensures first_least { IsFirstLeast (offers_of problem.now.links) problem.now.wired given.new }
+    ensures busiest { busiest problem.now.wired given.new ≡ result }
+    ensures limit { (p : List (Option ℕ)) × IsSpread (offers_of problem.now.links) problem.now.wired board.now.limit result p reached.new }
     ensures small { result ≤ 4352 }
 {
-    let limit = place_all(
-        offers, sources, at, counts, reached, seen, queue, from, floor,
-    );
-    name_all(numbers, at, choice);
-    fix_all(wired, links, choice, reached, limit);
-    write_out(choice, given);
+    let limit = place_all(board, choice, counts, left, ready, ways);
+    let within = Board { limit, ..*board };
+    fix_all(&within, choice, counts, left, ready, ways);
+    write_out(numbers, choice, given);
     mark_set(
-        offers, sources, at, counts, reached, seen, queue, from, floor, limit,
+        board, choice, counts, left, ready, ways, reached, queue, from, limit,
     );
     limit
 }
@@ -129,16 +138,18 @@ pub struct Solver<'a> {
     /// How many sources are wired to each interrupt.
     sources: Vec<usize>,
     /// The places of the interrupts that the links have so far.
-    at: Vec<Option<usize>>,
+    choice: Vec<Option<usize>>,
     /// How many links have each interrupt.
     counts: Vec<usize>,
-    /// The interrupts that the links have so far.
-    choice: Vec<Option<u32>>,
-    /// The links that the search in hand has reached.
+    /// The links that the search in hand has not come to.
+    left: Vec<u64>,
+    /// The interrupts that it has found to be ready.
+    ready: Vec<bool>,
+    /// How it found them.
+    ways: Vec<Way>,
+    /// The links that a search by levels has reached.
     reached: Vec<bool>,
-    /// The interrupts that it has seen.
-    seen: Vec<bool>,
-    /// The links that it has reached, level after level.
+    /// The same, level after level.
     queue: Vec<usize>,
     /// For each of these the place in the queue of the one from which it was reached.
     from: Vec<usize>,
@@ -151,11 +162,12 @@ pub struct Solver<'a> {
     ghost few: { length problem.now.links ≤ 256 },
     ghost each_offer: { (k : ℕ) → k < length problem.now.links → IsOffer (slice_index_or (offers_of problem.now.links) k []) },
     ghost few_sources: { sum_by (λ w. w.1) problem.now.wired ≤ 4096 },
-    ghost choices: { length choice.items ≡ length problem.now.links },
-    ghost marks: { length reached.items ≡ length problem.now.links },
-    ghost unplaced: { at.items ≡ replicate (length problem.now.links) None },
+    ghost unplaced: { choice.items ≡ replicate (length problem.now.links) None },
     ghost uncounted: { counts.items ≡ replicate (length numbers.items) 0 },
-    ghost unseen: { length seen.items ≡ length numbers.items },
+    ghost words: { length left.items ≡ 4 },
+    ghost marks: { length ready.items ≡ length numbers.items },
+    ghost each_way: { length ways.items ≡ length numbers.items },
+    ghost reaches: { length reached.items ≡ length problem.now.links },
     ghost in_queue: { length queue.items ≡ length problem.now.links },
     ghost parents: { length from.items ≡ length problem.now.links },
     ghost by_place: { IsNumbered (offers_of problem.now.links) numbers.items (lists_of offers.items) },
@@ -191,11 +203,12 @@ impl<'a> Solver<'a> {
             rows,
             offers,
             sources,
-            at: vec![in alloc; None; n]?,
-            counts: vec![in alloc; 0; m]?,
             choice: vec![in alloc; None; n]?,
+            counts: vec![in alloc; 0; m]?,
+            left: vec![in alloc; 0; 4]?,
+            ready: vec![in alloc; false; m]?,
+            ways: vec![in alloc; NO_WAY; m]?,
             reached: vec![in alloc; false; n]?,
-            seen: vec![in alloc; false; m]?,
             queue: vec![in alloc; 0; n]?,
             from: vec![in alloc; 0; n]?,
             given: vec![in alloc; 0; n]?,
@@ -226,14 +239,15 @@ impl<'a> Solver<'a> {
         let Solver {
             problem,
             numbers,
-            rows: _,
+            rows,
             offers,
             sources,
-            mut at,
-            mut counts,
             mut choice,
+            mut counts,
+            mut left,
+            mut ready,
+            mut ways,
             mut reached,
-            mut seen,
             mut queue,
             mut from,
             mut given,
@@ -243,21 +257,26 @@ impl<'a> Solver<'a> {
         let links = problem.links();
         let wired = problem.wired();
         let floor = greatest_wired(wired);
+        let board = Board {
+            offers: &offers,
+            rows: &rows,
+            sources: &sources,
+            limit: floor,
+            low: 0,
+        };
         let limit = assign(
-            wired,
-            links,
+            problem,
             &numbers,
-            &offers,
-            &sources,
-            &mut at,
-            &mut counts,
+            &board,
             &mut choice,
+            &mut counts,
+            &mut left,
+            &mut ready,
+            &mut ways,
             &mut reached,
-            &mut seen,
             &mut queue,
             &mut from,
             &mut given,
-            floor,
         );
         show(
             wired,

@@ -9,6 +9,21 @@ ghost use Rattle.route_solve.specs.Named.{AreSources};
 use crate::numbers::place_among;
 use std::alloc::{AllocError, Global};
 
+/// How many sources are wired to an interrupt.
+pub(crate) fn wired_sources(wired: &[(u32, u32)], n: u32) -> usize
+    requires { sum_by (λ w. w.1) wired.now ≤ 4096 }
+    ensures value { result ≡ wired_to wired.now n }
+    ensures small { result ≤ 4096 }
+{
+    let mut total = 0;
+    for w in wired {
+        if w.0 == n {
+            total += w.1 as usize;
+        }
+    }
+    total
+}
+
 /// Adds sources to those of the interrupt at a place.
 fn add_at(sources: &mut [usize], i: usize, more: u32)
     requires known { i < length sources.old }

@@ -8,7 +8,7 @@ use Rattle.route_solve.proofs.crowd.mark_set.Goals as goal
 pub mark_crowd-requires-clause-crowded : goal.mark_crowd-requires-clause-crowded
 mark_crowd-requires-clause-crowded c = go c.requires.least
   where
-    go : (c.args.limit ≡ c.args.floor) ⊎ (CanPlace (lists_of c.args.offers.now) (room_at (c.args.limit - 1) c.args.sources.now) → ⊥) → CanPlace (lists_of c.args.offers.now) (room_at (c.args.limit - 1) c.args.sources.now) → ⊥
+    go : (c.args.limit ≡ c.args.board.now.limit) ⊎ (CanPlace (lists_of c.args.board.now.offers.now) (room_at (c.args.limit - 1) c.args.board.now.sources.now) → ⊥) → CanPlace (lists_of c.args.board.now.offers.now) (room_at (c.args.limit - 1) c.args.board.now.sources.now) → ⊥
     go (inl e) = absurd (c.if-limit-floor.false e)
     go (inr f) = f
 

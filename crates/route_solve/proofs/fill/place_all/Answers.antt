@@ -1,81 +1,82 @@
-use Rattle.std.proofs.Common.{◌≡◌, ◌≤◌, ◌<◌, ◌+◌, ◌-◌, ℕ, List, Option, None, length, ◌∙◌, ap, refl, arith, inl, inr}
-use Rattle.std.specs.Prelude.{◌⊎◌, count_by, is_none}
-use Rattle.std.proofs.lemmas.List.Sums.{count_by-le-length}
+use Rattle.std.proofs.Common.{◌≡◌, ◌≤◌, ◌<◌, ◌+◌, ◌-◌, ℕ, List, Option, None, Some, set, length, sym, ◌∙◌, ap, subst, refl, arith, inl, inr}
+use Rattle.std.specs.Prelude.{◌⊎◌}
+use Rattle.std.proofs.lemmas.Bool.{OnTrue_at, OnFalse_at}
 use Rattle.route_model.specs.Placement.{place_of, IsPlacement, CanPlace}
 use Rattle.route_model.proofs.Hall.{no_place}
 use Rattle.route_solve.specs.Numbers.{lists_of}
-use Rattle.route_solve.specs.Levels.{at, room_at, IsCounted}
+use Rattle.route_solve.specs.Levels.{at, room_at}
+use Rattle.route_solve.proofs.Handing.{settled_whole, settled_unplaced, settled_directly}
 use Rattle.route_solve.proofs.Numbered.{lists_length}
-use Rattle.route_solve.proofs.Placing.{placed_none, given_counted, moved_counted, whole_from, raised}
-use Rattle.route_solve.proofs.Stuck.{stuck_at_root}
+use Rattle.route_solve.proofs.Placing.{placed_none, raised}
+use Rattle.route_solve.proofs.Shifts.{is_shut, unready_stuck}
 use Rattle.route_solve.proofs.fill.place_all.Goals as goal
-use Rattle.route_solve.proofs.fill.place_all.Goals.{in-Some, in-None}
 
-pub loop-turn-init : goal.loop-turn-init
-loop-turn-init c = record {
-  placed = placed_none (lists_of c.args.offers.now) (room_at c.args.floor c.args.sources.now) c.args.choice.now (let e = lists_length c.args.offers.now in let f = c.requires.choices in omega arith) c.requires.unplaced;
+pub loop-link-init : goal.loop-link-init
+loop-link-init c = record {
+  placed = placed_none (lists_of c.args.board.now.offers.now) (room_at c.args.board.now.limit c.args.board.now.sources.now) c.args.choice.now (let e = lists_length c.args.board.now.offers.now in let f = c.requires.choices in omega arith) c.requires.unplaced;
   counted = c.requires.counted;
+  whole = λ k b. absurd (omega arith);
+  unplaced = λ k b. c.requires.unplaced k;
   above = omega arith;
   small = omega arith;
   least = inl refl;
-  left = let e = count_by-le-length is_none c.args.choice.now in let f = c.requires.choices in omega arith;
 }
 
-pub explore-requires-clause-below : goal.explore-requires-clause-below
-explore-requires-clause-below c l i o = let b = c.requires.below l i o in let e = c.loop-turn.auto.counts in let f = c.requires.counts in omega arith
-
--- what one turn leaves
-record Turn (offers : List (List ℕ)) (sources : List ℕ) (floor limit turn : ℕ) (p : List (Option ℕ)) (counts : List ℕ) : Type 0 where
-  placed : IsPlacement offers (room_at limit sources) p
-  counted : IsCounted counts p
-  above : floor ≤ limit
-  small : limit ≤ floor + turn
-  least : (limit ≡ floor) ⊎ (CanPlace offers (room_at (limit - 1) sources) → ⊥)
-  left : count_by is_none p + turn ≤ length offers
-
-pub returns-clause-whole : goal.returns-clause-whole
-returns-clause-whole c = whole_from c.loop-turn.choice (let l = c.loop-turn.invariant.left in let t = c.loop-turn-test.false in omega arith)
-
-pub loop-turn-preserved : goal.loop-turn-preserved
-loop-turn-preserved c =
-    let offers = lists_of c.args.offers.now in
-    let sources = c.args.sources.now in
-    let inv = c.loop-turn.invariant in
-    let p = c.loop-turn.choice in
-    let limit = c.loop-turn.limit in
-    let t = c.loop-turn._turn in
-    let left = inv.left in
+pub loop-link-preserved-then-place : goal.loop-link-preserved-then-place
+loop-link-preserved-then-place c =
+    let inv = c.loop-link.invariant in
+    let s = OnTrue_at c.if-place.true c.place.ensures.settled in
     let small = inv.small in
-    let above = inv.above in
-    let long = lists_length c.args.offers.now in
-    let turn : Turn offers sources c.args.floor c.match-explore.limit (t + 1) c.match-explore.choice c.match-explore.counts =
-    elim c.match-explore.branch [
-      | in-Some w ↦
-          let fewer = moved_counted 0 p w.augment.new.choice c.explore.new.queue c.explore.new.from w.in-Some.pos w.in-Some.i (let a = w.augment.ensures.placed.same_length in let b = inv.placed.same_length in omega arith) w.augment.ensures.moved in
-          rw (w.choice-is, w.counts-is, w.limit-is) (record { placed = w.augment.ensures.placed; counted = w.augment.ensures.counted; above = above; small = omega arith; least = inv.least; left = omega arith })
-      | in-None w ↦
-          let q = c.explore.new.queue in
-          let tail = c.explore.new.tail in
-          let more = c.explore.ensures.longer.longer in
-          let some : 0 < tail = let z = c.if-tail-eq0.false in omega arith in
-          let unplaced : place_of p (at q 0) ≡ None = ap (place_of p) (c.explore.ensures.longer.kept 0 (let z = c.if-tail-eq0.false in omega arith)) ∙ c.begin_all-tail.ensures.unplaced 0 (let z = c.if-tail-eq0.false in omega arith) in
-          let known = c.explore.ensures.trail.known 0 some in
-          let stuck = stuck_at_root offers (room_at limit sources) p q c.explore.new.from tail c.explore.new.reached c.explore.new.seen c.explore.ensures.trail c.explore.ensures.reached c.explore.ensures.closed w.in-None.ensures.found some unplaced in
-          let count = given_counted p (at q 0) w.first_offer-i.result known unplaced in
-          let back : (limit + 1) - 1 ≡ limit = omega arith in
-          rw (w.choice-is, w.counts-is, w.limit-is) (record {
-            placed = rw w.give.ensures.given (raised offers sources limit p (at q 0) w.first_offer-i.result (λ j. let b = c.requires.wired j in omega arith) known inv.placed w.first_offer-i.ensures);
-            counted = w.give.ensures.counted;
-            above = omega arith;
-            small = omega arith;
-            least = inr (rw back (λ can. no_place offers (room_at limit sources) p c.explore.new.reached (at q 0) stuck can inv.placed.same_length));
-            left = rw w.give.ensures.given (omega arith);
-          })
-    ] in
-    record { placed = turn.placed; counted = turn.counted; above = turn.above; small = turn.small; least = turn.least; left = let l = turn.left in omega arith }
+    record {
+      placed = c.place.ensures.placed;
+      counted = c.place.ensures.counted;
+      whole = settled_whole c.args.board.now.low c.loop-link.choice c.loop-link.link c.place.new.choice s inv.whole;
+      unplaced = settled_unplaced c.args.board.now.low c.loop-link.choice c.loop-link.link c.place.new.choice s inv.unplaced;
+      above = inv.above;
+      small = omega arith;
+      least = inv.least;
+    }
 
-pub augment-requires-clause-below : goal.augment-requires-clause-below
-augment-requires-clause-below c l i o = let b = c.requires.below l i o in let e = c.loop-turn.auto.counts in let f = c.requires.counts in omega arith
+pub place-requires-clause-below : goal.place-requires-clause-below
+place-requires-clause-below c l i o = let b = c.requires.below l i o in let e = c.loop-link.auto.counts in omega arith
+
+pub first_offer-i-requires-clause-some : goal.first_offer-i-requires-clause-some
+first_offer-i-requires-clause-some c = c.requires.some
 
 pub give-requires-clause-known : goal.give-requires-clause-known
-give-requires-clause-known c = let b = c.requires.below _ c.first_offer-i.result c.first_offer-i.ensures in let e = c.loop-turn.auto.counts in let f = c.requires.counts in omega arith
+give-requires-clause-known c = let b = c.requires.below _ _ c.first_offer-i.ensures in let e = c.loop-link.auto.counts in let f = c.place.auto.counts in omega arith
+
+pub give-requires-clause-unplaced : goal.give-requires-clause-unplaced
+give-requires-clause-unplaced c = ap (λ p. place_of p c.loop-link.link) (OnFalse_at c.if-place.false c.place.ensures.unchanged) ∙ c.loop-link.invariant.unplaced c.loop-link.link (omega arith)
+
+pub loop-link-preserved : goal.loop-link-preserved
+loop-link-preserved c =
+    let offers = lists_of c.args.board.now.offers.now in
+    let sources = c.args.board.now.sources.now in
+    let inv = c.loop-link.invariant in
+    let limit = c.loop-link.limit in
+    let link = c.loop-link.link in
+    let p = c.loop-link.choice in
+    let same : c.place.new.choice ≡ p = OnFalse_at c.if-place.false c.place.ensures.unchanged in
+    let ready = OnFalse_at c.if-place.false c.place.ensures.ready in
+    let none = OnFalse_at c.if-place.false c.place.ensures.none in
+    let small = inv.small in
+    let above = inv.above in
+    let bound : link < length p = let t = c.loop-link-test.true in let a = c.loop-link.auto.choice in omega arith in
+    let i = c.first_offer-i.result in
+    let s = settled_directly offers (room_at limit sources) c.args.board.now.low p link i bound in
+    let is : c.give.new.choice ≡ set p link (Some i) = c.give.ensures.given ∙ ap (λ (q : List (Option ℕ)). set q link (Some i)) same in
+    let stuck = unready_stuck offers (room_at limit sources) p c.args.board.now.low c.place.new.ready ready (λ k n o. let b = c.requires.below k n o in let e = c.place.auto.ready in let f = c.loop-link.auto.ready in let g = c.requires.ready in omega arith) inv.placed c.requires.all link bound (inv.unplaced link (omega arith)) none in
+    let crowded : CanPlace offers (room_at limit sources) → ⊥ = λ can. no_place offers (room_at limit sources) p _ link stuck can inv.placed.same_length in
+    record {
+      placed = rw is (raised offers sources limit p link i (λ j. let w = c.requires.wired j in omega arith) bound inv.placed c.first_offer-i.ensures);
+      counted = c.give.ensures.counted;
+      whole = rw is (settled_whole c.args.board.now.low p link (set p link (Some i)) s inv.whole);
+      unplaced = rw is (settled_unplaced c.args.board.now.low p link (set p link (Some i)) s inv.unplaced);
+      above = omega arith;
+      small = omega arith;
+      least = inr (subst (λ k. CanPlace offers (room_at k sources) → ⊥) (let e : limit ≡ limit + 1 - 1 = omega arith in e) crowded);
+    }
+
+pub returns-clause-whole : goal.returns-clause-whole
+returns-clause-whole c k b = c.loop-link.invariant.whole k (let t = c.loop-link-test.false in let e = c.loop-link.auto.choice in omega arith)

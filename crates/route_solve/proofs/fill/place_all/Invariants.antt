@@ -1,16 +1,17 @@
-use Rattle.std.proofs.Common.{◌≡◌, ◌≤◌, ◌+◌, ◌-◌, length}
-use Rattle.std.specs.Prelude.{◌⊎◌, count_by, is_none}
-use Rattle.route_model.specs.Placement.{IsPlacement, CanPlace}
+use Rattle.std.proofs.Common.{◌≡◌, ◌≤◌, ◌<◌, ◌+◌, ◌-◌, ℕ, None}
+use Rattle.std.specs.Prelude.{◌⊎◌, IsSome}
+use Rattle.route_model.specs.Placement.{place_of, IsPlacement, CanPlace}
 use Rattle.route_solve.specs.Numbers.{lists_of}
 use Rattle.route_solve.specs.Levels.{room_at, IsCounted}
 use Rattle.route_solve.proofs.fill.place_all.Given as goal
 
-abbrev pub invariant-loop-turn : goal.invariant-loop-turn
-invariant-loop-turn l = record {
-  placed : IsPlacement (lists_of l.offers) (room_at l.limit l.sources) l.choice;
+abbrev pub invariant-loop-link : goal.invariant-loop-link
+invariant-loop-link l = record {
+  placed : IsPlacement (lists_of l.board.offers.now) (room_at l.limit l.board.sources.now) l.choice;
   counted : IsCounted l.counts l.choice;
-  above : l.floor ≤ l.limit;
-  small : l.limit ≤ l.floor + l._turn;
-  least : (l.limit ≡ l.floor) ⊎ (CanPlace (lists_of l.offers) (room_at (l.limit - 1) l.sources) → ⊥);
-  left : count_by is_none l.choice + l._turn ≤ length l.offers;
+  whole : (k : ℕ) → k < l.link → IsSome (place_of l.choice k);
+  unplaced : (k : ℕ) → l.link ≤ k → place_of l.choice k ≡ None;
+  above : l.board.limit ≤ l.limit;
+  small : l.limit ≤ l.board.limit + l.link;
+  least : (l.limit ≡ l.board.limit) ⊎ (CanPlace (lists_of l.board.offers.now) (room_at (l.limit - 1) l.board.sources.now) → ⊥);
 }
