@@ -24,9 +24,9 @@ use crate::first::fix_all;
 use crate::levels::Board;
 use crate::numbers::{all_offered, all_places_offered, place_among};
 use crate::problem::Problem;
-use crate::sources::{all_sources, wired_sources};
 use crate::rows::{all_rows, row_at};
 use crate::set::show;
+use crate::sources::{all_sources, wired_sources};
 use crate::ways::{NO_WAY, Way};
 use std::alloc::{AllocError, Global};
 

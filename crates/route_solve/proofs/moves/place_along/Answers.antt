@@ -19,7 +19,7 @@ pub has_room-requires-clause-known : goal.has_room-requires-clause-known
 has_room-requires-clause-known c = let b = c.requires.below _ _ c.loop-pos.invariant.handed.offered in let e = c.loop-pos.auto.counts in omega arith
 
 pub free-requires-clause-link : goal.free-requires-clause-link
-free-requires-clause-link c = 
+free-requires-clause-link c =
     let x = ready_at c.args.ways.now c.loop-pos.pos in
     let full : room_at c.args.board.now.limit c.args.board.now.sources.now x ≤ taken c.loop-pos.choice x =
     let no = OnFalse_at c.loop-pos-test.true c.has_room.ensures.no in
@@ -33,7 +33,7 @@ pub free-requires-clause-known : goal.free-requires-clause-known
 free-requires-clause-known c = let b = c.requires.below _ _ c.loop-pos.invariant.handed.offered in let e = c.loop-pos.auto.counts in omega arith
 
 pub free-requires-clause-held : goal.free-requires-clause-held
-free-requires-clause-held c = 
+free-requires-clause-held c =
     let x = ready_at c.args.ways.now c.loop-pos.pos in
     let full : room_at c.args.board.now.limit c.args.board.now.sources.now x ≤ taken c.loop-pos.choice x =
     let no = OnFalse_at c.loop-pos-test.true c.has_room.ensures.no in
@@ -47,7 +47,7 @@ pub give-requires-clause-known : goal.give-requires-clause-known
 give-requires-clause-known c = let b = c.requires.below _ _ c.loop-pos.invariant.handed.offered in let e = c.loop-pos.auto.counts in let f = c.free.auto.counts in omega arith
 
 pub loop-pos-smaller : goal.loop-pos-smaller
-loop-pos-smaller c = 
+loop-pos-smaller c =
     let x = ready_at c.args.ways.now c.loop-pos.pos in
     let full : room_at c.args.board.now.limit c.args.board.now.sources.now x ≤ taken c.loop-pos.choice x =
     let no = OnFalse_at c.loop-pos-test.true c.has_room.ensures.no in
@@ -58,7 +58,7 @@ loop-pos-smaller c =
     (passing (lists_of c.args.board.now.offers.now) (room_at c.args.board.now.limit c.args.board.now.sources.now) c.args.board.now.low c.args.choice.now c.args.ways.now c.args.tail c.args.link c.args.start c.requires.unplaced c.requires.ways c.loop-pos.choice c.loop-pos.to_place c.loop-pos.pos c.loop-pos.invariant.handed c.loop-pos.invariant.within full).before
 
 pub loop-pos-preserved : goal.loop-pos-preserved
-loop-pos-preserved c = 
+loop-pos-preserved c =
     let x = ready_at c.args.ways.now c.loop-pos.pos in
     let full : room_at c.args.board.now.limit c.args.board.now.sources.now x ≤ taken c.loop-pos.choice x =
     let no = OnFalse_at c.loop-pos-test.true c.has_room.ensures.no in
@@ -66,7 +66,6 @@ loop-pos-preserved c =
     let e = c.loop-pos.auto.counts in
     let f = c.loop-pos.invariant.counted x (omega arith) in
     omega arith in
-   
     let q = c.loop-pos.choice in
     let j = (way_at c.args.ways.now c.loop-pos.pos).link in
     let k = c.loop-pos.to_place in
@@ -83,7 +82,7 @@ pub give-requires-2-clause-known : goal.give-requires-2-clause-known
 give-requires-2-clause-known c = let b = c.requires.below _ _ c.loop-pos.invariant.handed.offered in let e = c.loop-pos.auto.counts in omega arith
 
 pub returns-clause-placed : goal.returns-clause-placed
-returns-clause-placed c = 
+returns-clause-placed c =
     let x = ready_at c.args.ways.now c.loop-pos.pos in
     let free : taken c.loop-pos.choice x < room_at c.args.board.now.limit c.args.board.now.sources.now x =
     let yes = OnTrue_at c.loop-pos-test.false c.has_room.ensures.yes in
@@ -94,7 +93,7 @@ returns-clause-placed c =
     rw c.give-2.ensures.given (last_placed (lists_of c.args.board.now.offers.now) (room_at c.args.board.now.limit c.args.board.now.sources.now) c.args.board.now.low c.args.choice.now c.args.ways.now c.args.tail c.args.link c.args.start c.requires.unplaced c.requires.ways c.loop-pos.choice c.loop-pos.to_place c.loop-pos.pos c.loop-pos.invariant.handed free)
 
 pub returns-clause-settled : goal.returns-clause-settled
-returns-clause-settled c = 
+returns-clause-settled c =
     let x = ready_at c.args.ways.now c.loop-pos.pos in
     let free : taken c.loop-pos.choice x < room_at c.args.board.now.limit c.args.board.now.sources.now x =
     let yes = OnTrue_at c.loop-pos-test.false c.has_room.ensures.yes in
@@ -105,7 +104,7 @@ returns-clause-settled c =
     rw c.give-2.ensures.given (last_settled (lists_of c.args.board.now.offers.now) (room_at c.args.board.now.limit c.args.board.now.sources.now) c.args.board.now.low c.args.choice.now c.args.ways.now c.args.tail c.args.link c.args.start c.requires.unplaced c.requires.ways c.loop-pos.choice c.loop-pos.to_place c.loop-pos.pos c.loop-pos.invariant.handed free)
 
 pub returns-clause-given : goal.returns-clause-given
-returns-clause-given c = 
+returns-clause-given c =
     let x = ready_at c.args.ways.now c.loop-pos.pos in
     let free : taken c.loop-pos.choice x < room_at c.args.board.now.limit c.args.board.now.sources.now x =
     let yes = OnTrue_at c.loop-pos-test.false c.has_room.ensures.yes in
