@@ -4,7 +4,8 @@ use Rattle.std.specs.Prelude.{◌⊎◌, bit_and}
 use Rattle.std.specs.Int.{bit_at, bit_not, w64}
 use Rattle.std.proofs.lemmas.Bool.{cases_eq, cases_lt}
 use Rattle.std.proofs.lemmas.List.{get_or_past}
-use Rattle.std.proofs.lemmas.Nat.{and_le_l}
+use Rattle.std.proofs.Math.Nat.{mod-eq_of_lt}
+use Rattle.std.proofs.lemmas.Nat.{and_le_l, pow_below}
 use Rattle.std.proofs.lemmas.Nat.Bits.{bit_at_and, bit_at-lt, bit_at-zero, bit_at_clear_same, bit_at_clear_other, bit_at_mask_below}
 use Rattle.route_solve.specs.Ready.{IsCleared}
 use Rattle.route_solve.specs.Levels.{at}
@@ -84,3 +85,10 @@ module _ (left : List ℕ) (link : ℕ) (four : length left ≡ 4) (few : link <
           let g = bit_at_clear_other w64 (get_or left (link / 64) 0) (link % 64) bit_below (k % 64) (omega arith) apart in
           ap (λ m. bit_at (get_or (without left link) m 0) (k % 64)) e ∙ (ap (λ w. bit_at w (k % 64)) at_word ∙ (g ∙ (ap (λ m. bit_at (get_or left m 0) (k % 64)) (sym e) ∙ h)))
       others k ne h (inr nw) = ap (λ w. bit_at w (k % 64)) (other_word (k / 64) nw) ∙ h
+
+-- the bit of a link
+pub one_shl : (k : ℕ) → k < 64 → 1 * 2 ^ k % 2 ^ bits w64 ≡ 2 ^ k
+one_shl k b =
+    let e = pow_below k 64 b in
+    let f : 1 * 2 ^ k ≡ 2 ^ k = omega arith in
+    mod-eq_of_lt {n = 1 * 2 ^ k} {m = 2 ^ bits w64} (rw f e) ∙ f

@@ -114,13 +114,13 @@ module _ (offers : List (List ℕ)) (room : ℕ → ℕ) (p : List (Option ℕ))
       go j x le out h (inr ne) = s.gone j x le (λ b. out (cleared.others j ne b)) h
 
   -- nothing is ready at the start
-  pub search_none : (left : List ℕ) (ready : List Bool) (ways : List Way) → length ways ≡ length ready → ((k : ℕ) → is_reached ready k ≡ false) → length p ≤ 256 → ((j : ℕ) → j < 256 → low ≤ j → HasBit left j) → ((j : ℕ) → HasBit left j → low ≤ j) → IsSearch offers room p low left ready ways 0
-  search_none left ready ways fits none few all only = record {
+  pub search_none : (left : List ℕ) (ready : List Bool) (ways : List Way) → length ways ≡ length ready → ((k : ℕ) → is_reached ready k ≡ false) → ((j : ℕ) → j < length p → low ≤ j → HasBit left j) → ((j : ℕ) → HasBit left j → low ≤ j) → IsSearch offers room p low left ready ways 0
+  search_none left ready ways fits none all only = record {
     fits = fits;
     all = record { once = λ j k lt b. absurd (omega arith); each = λ k b. absurd (omega arith) };
     marked = λ k b. absurd (omega arith);
     listed = λ i h. absurd (false≢true (sym (none i) ∙ h));
     counted = let e = all_left ready none in omega arith;
     movable = only;
-    gone = λ j x le out h. absurd (out (all j (let b = placed_within p j x h in omega arith) le));
+    gone = λ j x le out h. absurd (out (all j (placed_within p j x h) le));
   }

@@ -1,33 +1,47 @@
 //! The links that a search has not come to: a bit for each, in four words.
 ghost use Rattle.std.specs.Prelude.{◌≡◌, ◌≤◌, ◌<◌, ◌*◌, ◌+◌, ◌/◌, ◌%◌, ℕ, MatchOption, length};
+ghost use Rattle.std.specs.Bool.{OnFalse};
 ghost use Rattle.std.specs.Int.{bit_at};
 ghost use Rattle.route_solve.specs.Ready.{IsCleared};
 ghost use Rattle.route_solve.specs.Rows.{bit_of, HasBit};
 
-/// The bits of a word for the links from one on.
-fn bits_from(low: usize, w: usize) -> u64
+/// The bits of a word for the links from one on, up to an end.
+fn bits_between(low: usize, end: usize, w: usize) -> u64
     requires { w < 4 }
-    ensures all { (j : ℕ) → j / 64 ≡ w → low ≤ j → bit_at result (j % 64) ≡ 1 }
+    ensures all { (j : ℕ) → j / 64 ≡ w → low ≤ j → j < end → bit_at result (j % 64) ≡ 1 }
     ensures only { (j : ℕ) → j / 64 ≡ w → bit_at result (j % 64) ≡ 1 → low ≤ j }
 {
-    if low <= 64 * w {
-        return u64::MAX;
-    }
-    if 64 * w + 64 <= low {
+    if end <= 64 * w || end <= low || 64 * w + 64 <= low {
         return 0;
     }
-    u64::MAX << (low - 64 * w)
+    let first = low.saturating_sub(64 * w);
+    if 64 * w + 64 <= end {
+        return u64::MAX << first;
+    }
+    (1u64 << (end - 64 * w)) - (1u64 << first)
 }
 
-/// Begins with all links from one on.
-pub(crate) fn begin_left(left: &mut [u64], low: usize)
+/// Begins with all links from one on, up to an end.
+pub(crate) fn begin_left(left: &mut [u64], low: usize, end: usize)
     requires { length left.old ≡ 4 }
-    ensures all { (j : ℕ) → j < 256 → low ≤ j → HasBit left.new j }
+    ensures all { (j : ℕ) → j < 256 → low ≤ j → j < end → HasBit left.new j }
     ensures only { (j : ℕ) → HasBit left.new j → low ≤ j }
 {
     for w in 0..4 {
-        left[w] = bits_from(low, w);
+        left[w] = bits_between(low, end, w);
     }
+}
+
+/// Whether any link is left.
+pub(crate) fn has_left(left: &[u64]) -> bool
+    ensures { OnFalse result ((j : ℕ) → HasBit left.now j → ⊥) }
+{
+    for word in left {
+        if *word != 0 {
+            return true;
+        }
+    }
+    false
 }
 
 /// The first link of a word that is left and offers an interrupt.

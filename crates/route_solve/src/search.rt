@@ -6,7 +6,7 @@ ghost use Rattle.route_solve.specs.Numbers.{lists_of};
 ghost use Rattle.route_solve.specs.Ready.{AreReady, IsSearch};
 ghost use Rattle.route_solve.specs.Rows.{AreRows};
 
-use crate::left::begin_left;
+use crate::left::{begin_left, has_left};
 use crate::levels::{Board, has_room};
 use crate::ways::{Way, add_way, spread};
 
@@ -28,7 +28,7 @@ fn begin(
     ensures search { IsSearch (lists_of board.now.offers.now) (room_at board.now.limit board.now.sources.now) choice.now board.now.low left.new ready.new ways.new result }
     ensures room { (i : ℕ) → i < length ready.new → taken choice.now i < room_at board.now.limit board.now.sources.now i → is_reached ready.new i ≡ true }
 {
-    begin_left(left, board.low);
+    begin_left(left, board.low, choice.len());
     ready.fill(false);
     let mut tail = 0;
     for interrupt in 0..counts.len() {
@@ -68,6 +68,9 @@ pub(crate) fn search(
     let mut tail = begin(board, choice, counts, left, ready, ways);
     let mut pos = 0;
     while pos < tail {
+        if !has_left(left) {
+            return tail;
+        }
         tail = spread(board, choice, left, ready, ways, tail, pos);
         pos += 1;
     }

@@ -191,8 +191,8 @@ impl<'a> Solver<'a> {
         let links = problem.links();
         let n = links.len();
         let places = all_places(alloc, n)?;
-        let interrupts = all_interrupts(alloc, links, problem.wired())?;
         let numbers = all_offered(alloc, links)?;
+        let interrupts = all_interrupts(alloc, &numbers, problem.wired())?;
         let offers = all_places_offered(alloc, &numbers, links)?;
         let rows = all_rows(alloc, &numbers, &offers)?;
         let sources = all_sources(alloc, &numbers, problem.wired())?;

@@ -11,7 +11,7 @@ use Rattle.route_solve.proofs.search.begin.Goals.{then-has_room, else-has_room}
 
 pub loop-interrupt-init : goal.loop-interrupt-init
 loop-interrupt-init c = record {
-  search = search_none (lists_of c.args.board.now.offers.now) (room_at c.args.board.now.limit c.args.board.now.sources.now) c.args.choice.now c.args.board.now.low c.begin_left.new.left c.fill.new.self c.args.ways.now (let f = c.fill.auto.self in let a = c.requires.ready in let b = c.requires.ways in omega arith) (λ k. ap (λ r. is_reached r k) (c.fill.ensures.after (λ y e. e)) ∙ none_reached (length c.args.ready.now) k) c.requires.few c.begin_left.ensures.all c.begin_left.ensures.only;
+  search = search_none (lists_of c.args.board.now.offers.now) (room_at c.args.board.now.limit c.args.board.now.sources.now) c.args.choice.now c.args.board.now.low c.begin_left.new.left c.fill.new.self c.args.ways.now (let f = c.fill.auto.self in let a = c.requires.ready in let b = c.requires.ways in omega arith) (λ k. ap (λ r. is_reached r k) (c.fill.ensures.after (λ y e. e)) ∙ none_reached (length c.args.ready.now) k) (λ j b le. c.begin_left.ensures.all j (let f = c.requires.few in omega arith) le b) c.begin_left.ensures.only;
   rooms = λ i b. absurd (omega arith);
 }
 

@@ -30,6 +30,9 @@ loop-pos-preserved c =
         let o' = subst (λ i. Offers (lists_of c.args.board.now.offers.now) m (ready_at c.spread-tail.new.ways i)) here o in
         c.spread-tail.ensures.ready m x low (subst (Offers (lists_of c.args.board.now.offers.now) m) (ap (λ (v : Way). v.interrupt) (c.spread-tail.ensures.further.same c.loop-pos.pos t)) o') h
 
+pub returns-then-not-has_left-clause-ready : goal.returns-then-not-has_left-clause-ready
+returns-then-not-has_left-clause-ready c = let inv = c.loop-pos.invariant in record { rooms = inv.rooms; held = λ j i x low o r h. inv.search.gone j x low (c.if-not-has_left.ensures j) h }
+
 pub returns-clause-ready : goal.returns-clause-ready
 returns-clause-ready c =
     let inv = c.loop-pos.invariant in
