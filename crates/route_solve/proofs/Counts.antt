@@ -1,8 +1,8 @@
 -- How many links have each interrupt, as one link gets another.
-use Rattle.std.proofs.Common.{◌≡◌, ◌≢◌, ℕ, ◌+◌, ◌-◌, ◌<◌, ◌≤◌, List, length, refl, sym, ◌∙◌, ap, arith, Option, Some, None, set, inl, inr, get_or-set_same, get_or-set_other, length-set}
+use Rattle.std.proofs.Common.{◌≡◌, ◌≢◌, ℕ, ◌+◌, ◌-◌, ◌<◌, ◌≤◌, List, length, refl, sym, ◌∙◌, ap, arith, Option, Some, None, set, take, inl, inr, get_or-set_same, get_or-set_other, length-set}
 use Rattle.std.specs.Prelude.{◌⊎◌}
 use Rattle.std.proofs.lemmas.Bool.{cases_eq, eq-eqb, ne_eqb}
-use Rattle.std.proofs.lemmas.List.Sums.{count_by-le-length}
+use Rattle.std.proofs.lemmas.List.Sums.{count_by-le-length, sum_by_more}
 use Rattle.route_model.specs.Placement.{is_at, place_of, taken}
 use Rattle.route_model.proofs.Counting.{one_if}
 use Rattle.route_solve.specs.Levels.{at, IsCounted}
@@ -82,3 +82,33 @@ counted_more counts p l i bl bi none counted m bm = go (cases_eq m i)
 
 pub taken_few : (p : List (Option ℕ)) (n : ℕ) → taken p n ≤ length p
 taken_few p n = count_by-le-length (is_at n) p
+
+-- the next link is counted too
+pub counted_next : (kept : List ℕ) (p : List (Option ℕ)) (l x : ℕ) → l < length p → x < length kept → place_of p l ≡ Some x → IsCounted kept (take l p) → IsCounted (set kept x (at kept x + 1)) (take (l + 1) p)
+counted_next kept p l x bl bx held counted m bm = go (cases_eq m x)
+  where
+    few : m < length kept
+    few = let e = length-set kept x (at kept x + 1) in omega arith
+
+    more : taken (take (l + 1) p) m ≡ taken (take l p) m + one_if (is_at m (place_of p l))
+    more = sum_by_more (λ o. one_if (is_at m o)) p l None bl
+
+    was : one_if (is_at m (place_of p l)) ≡ one_if (is_at m (Some x))
+    was = ap (λ o. one_if (is_at m o)) held
+
+    go : (m ≡ x) ⊎ (m ≡ x → ⊥) → at (set kept x (at kept x + 1)) m ≡ taken (take (l + 1) p) m
+    go (inl e) =
+        let f : at (set kept x (at kept x + 1)) m ≡ at kept x + 1 = ap (at (set kept x (at kept x + 1))) e ∙ get_or-set_same kept x (at kept x + 1) 0 bx in
+        let g : one_if (is_at m (Some x)) ≡ 1 = ap (λ k. one_if (is_at k (Some x))) e ∙ one_at x in
+        let b : at kept m ≡ taken (take l p) m = counted m few in
+        let c : at kept m ≡ at kept x = ap (at kept) e in
+        let w = was in
+        let t = more in
+        omega arith
+    go (inr ne) =
+        let f = get_or-set_other kept x m (at kept x + 1) 0 ne in
+        let g = none_at_other x m (λ e. ne (sym e)) in
+        let b : at kept m ≡ taken (take l p) m = counted m few in
+        let w = was in
+        let t = more in
+        omega arith

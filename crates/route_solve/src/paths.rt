@@ -25,7 +25,7 @@ fn lower(counts: &mut [usize], x: usize)
 }
 
 /// One link more has an interrupt.
-fn raise(counts: &mut [usize], i: usize)
+pub(crate) fn raise(counts: &mut [usize], i: usize)
     requires known { i < length counts.old }
     requires few { at counts.old i ≤ 256 }
     ensures { counts.new ≡ slice_set counts.old i (at counts.old i + 1) }

@@ -79,6 +79,7 @@ fn assign(
     board: &Board<'_>,
     choice: &mut [Option<usize>],
     counts: &mut [usize],
+    kept: &mut [usize],
     left: &mut [u64],
     ready: &mut [bool],
     ways: &mut [Way],
@@ -94,6 +95,7 @@ fn assign(
     requires long { length board.now.offers.now ≡ length problem.now.links }
     requires choices { length choice.old ≡ length problem.now.links }
     requires room { length counts.old ≡ length numbers.now }
+    requires kept { length kept.old ≡ length numbers.now }
     requires four { length left.old ≡ 4 }
     requires ready { length ready.old ≡ length numbers.now }
     requires ways { length ways.old ≡ length numbers.now }
@@ -117,7 +119,7 @@ fn assign(
 {
     let limit = place_all(board, choice, counts, left, ready, ways);
     let within = Board { limit, ..*board };
-    fix_all(&within, choice, counts, left, ready, ways);
+    fix_all(&within, choice, counts, kept, left, ready, ways);
     write_out(numbers, choice, given);
     mark_set(
         board, choice, counts, left, ready, ways, reached, queue, from, limit,
@@ -141,6 +143,8 @@ pub struct Solver<'a> {
     choice: Vec<Option<usize>>,
     /// How many links have each interrupt.
     counts: Vec<usize>,
+    /// How many of the links that were fixed have each interrupt.
+    kept: Vec<usize>,
     /// The links that the search in hand has not come to.
     left: Vec<u64>,
     /// The interrupts that it has found to be ready.
@@ -164,6 +168,7 @@ pub struct Solver<'a> {
     ghost few_sources: { sum_by (λ w. w.1) problem.now.wired ≤ 4096 },
     ghost unplaced: { choice.items ≡ replicate (length problem.now.links) None },
     ghost uncounted: { counts.items ≡ replicate (length numbers.items) 0 },
+    ghost keeps: { length kept.items ≡ length numbers.items },
     ghost words: { length left.items ≡ 4 },
     ghost marks: { length ready.items ≡ length numbers.items },
     ghost each_way: { length ways.items ≡ length numbers.items },
@@ -205,6 +210,7 @@ impl<'a> Solver<'a> {
             sources,
             choice: vec![in alloc; None; n]?,
             counts: vec![in alloc; 0; m]?,
+            kept: vec![in alloc; 0; m]?,
             left: vec![in alloc; 0; 4]?,
             ready: vec![in alloc; false; m]?,
             ways: vec![in alloc; NO_WAY; m]?,
@@ -244,6 +250,7 @@ impl<'a> Solver<'a> {
             sources,
             mut choice,
             mut counts,
+            mut kept,
             mut left,
             mut ready,
             mut ways,
@@ -270,6 +277,7 @@ impl<'a> Solver<'a> {
             &board,
             &mut choice,
             &mut counts,
+            &mut kept,
             &mut left,
             &mut ready,
             &mut ways,

@@ -39,6 +39,7 @@ invariant_of-result c = record {
   few_sources = search rules;
   unplaced = search rules;
   uncounted = search rules;
+  keeps = search rules;
   words = search rules;
   marks = search rules;
   each_way = search rules;
