@@ -1,12 +1,11 @@
 use Rattle.std.proofs.Common.{◌≡◌, ◌≢◌, ℕ, ◌+◌, ◌<◌, ◌≤◌, Bool, true, false, cond, List, length, refl, sym, ◌∙◌, ap, subst, arith, eqb, Option, Some, None, set, inl, inr, length-set, get_or-set_same, get_or-set_other, replicate}
 use Rattle.std.proofs.lemmas.List.{get_or-replicate, length-replicate, get_or_past}
-use Rattle.std.specs.Prelude.{count_by, ◌⊎◌, is_some, IsSome, not}
+use Rattle.std.specs.Prelude.{◌⊎◌, is_some, IsSome}
 use Rattle.std.proofs.lemmas.Bool.{eqb-true, eq-eqb, ne_eqb, cases_eq, cases_lt, false≢true, true≢false}
 use Rattle.std.proofs.lemmas.List.Sums.{sum_by-set}
 use Rattle.std.specs.Option.{option_eq}
-use Rattle.route_model.specs.Placement.{is_at, place_of, is_reached, Offers, taken, IsPlacement, CanPlaceBut, IsStuck}
+use Rattle.route_model.specs.Placement.{is_at, place_of, is_reached, Offers, taken, IsPlacement}
 use Rattle.route_model.proofs.Counting.{one_if}
-use Rattle.route_model.proofs.Hall.{count_pointwise_less}
 use Rattle.route_solve.specs.Search.{Spares, Moved}
 
 -- a write changes the count at the number that goes and at the one that comes

@@ -1,7 +1,7 @@
 -- A link is freed and gets the first of its offers that is ready.
-use Rattle.std.proofs.Common.{◌≡◌, ◌≢◌, ℕ, ◌+◌, ◌-◌, ◌<◌, ◌≤◌, Bool, true, false, List, [], length, refl, sym, ◌∙◌, ap, subst, arith, Option, Some, None, get_or, set, take, inl, inr, length-set}
+use Rattle.std.proofs.Common.{◌≡◌, ℕ, ◌+◌, ◌<◌, Bool, true, false, List, [], length, refl, sym, ◌∙◌, ap, subst, arith, Option, Some, None, get_or, set, take, inl, inr, length-set}
 use Rattle.std.specs.Prelude.{◌⊎◌, ⊤, is_some, IsSome, Contains, AllPairs, MatchOption}
-use Rattle.std.proofs.lemmas.Bool.{cases_eq, cases_lt, true≢false}
+use Rattle.std.proofs.lemmas.Bool.{cases_eq, true≢false}
 use Rattle.std.proofs.lemmas.List.{ext_get_or, get_or-take, length-take-le, take-set-le}
 use Rattle.std.proofs.lemmas.List.Elements.{Contains-get_or}
 use Rattle.route_model.specs.Placement.{is_at, place_of, is_reached, Offers, taken, IsPlacement, IsWhole}

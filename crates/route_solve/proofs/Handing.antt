@@ -1,5 +1,5 @@
 -- A link gets the interrupt of a way, and the link that had it is to be placed.
-use Rattle.std.proofs.Common.{◌≡◌, ◌≢◌, ℕ, ◌+◌, ◌<◌, ◌≤◌, true, List, [], length, refl, sym, ◌∙◌, ap, subst, arith, Option, Some, None, set, inl, inr, length-set}
+use Rattle.std.proofs.Common.{◌≡◌, ◌≢◌, ℕ, ◌+◌, ◌<◌, ◌≤◌, List, [], length, refl, sym, ◌∙◌, ap, subst, arith, Option, Some, None, set, inl, inr, length-set}
 use Rattle.std.specs.Prelude.{◌⊎◌, is_some, IsSome}
 use Rattle.std.proofs.lemmas.Bool.{cases_eq, cases_lt, true≢false}
 use Rattle.route_model.specs.Placement.{is_at, place_of, taken, Offers, IsPlacement}

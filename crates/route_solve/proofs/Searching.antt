@@ -1,12 +1,11 @@
 -- One more interrupt that is ready.
-use Rattle.std.proofs.Common.{◌≡◌, ◌≢◌, ℕ, ◌+◌, ◌/◌, ◌<◌, ◌≤◌, Bool, true, false, List, length, refl, sym, ◌∙◌, ap, subst, arith, Option, Some, set, inl, inr, length-set, get_or-set_same, get_or-set_other}
-use Rattle.std.specs.Prelude.{◌⊎◌, not, count_by}
+use Rattle.std.proofs.Common.{◌≡◌, ◌≢◌, ℕ, ◌+◌, ◌<◌, ◌≤◌, Bool, true, false, List, length, refl, sym, ◌∙◌, ap, subst, arith, Option, Some, set, inl, inr, length-set, get_or-set_same, get_or-set_other}
+use Rattle.std.specs.Prelude.{◌⊎◌}
 use Rattle.std.proofs.lemmas.Bool.{cases_eq, cases_lt, true≢false, false≢true}
 use Rattle.std.proofs.lemmas.List.{get_or_past}
-use Rattle.route_model.specs.Placement.{place_of, is_reached, taken, Offers}
+use Rattle.route_model.specs.Placement.{place_of, is_reached, Offers}
 use Rattle.route_solve.specs.declared.ways.Way.{Way}
-use Rattle.route_solve.specs.Levels.{at, IsKept}
-use Rattle.route_solve.specs.Ready.{no_way, way_at, ready_at, IsPassing, IsWay, AreWays, IsSearch, IsFurther, IsCleared}
+use Rattle.route_solve.specs.Ready.{no_way, way_at, ready_at, IsWay, IsSearch, IsFurther, IsCleared}
 use Rattle.route_solve.specs.Rows.{HasBit}
 use Rattle.route_solve.proofs.Reaching.{kept_set, marked_now, one_more, all_left}
 use Rattle.route_solve.proofs.Parts.{placed_within}

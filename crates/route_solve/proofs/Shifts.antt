@@ -1,7 +1,6 @@
 -- The first links, and the others in the rooms that those leave.
 use Rattle.std.proofs.Common.{◌≡◌, ◌≢◌, ℕ, zero, suc, ◌+◌, ◌-◌, ◌<◌, ◌≤◌, Bool, true, false, cond, List, [], ◌∷◌, ◌++◌, length, refl, sym, ◌∙◌, ap, subst, arith, Option, Some, None, get_or, set, take, drop, map, inl, inr, length-set}
 use Rattle.std.specs.Prelude.{◌⊎◌, ◌&&◌, Contains, not}
-use Rattle.std.specs.List.{list_all}
 use Rattle.std.proofs.lemmas.List.{length-drop, length-map, length-take-le, get_or-map, get_or-drop, get_or_default, get_or_past, take_more_set, take-set-le}
 use Rattle.std.proofs.lemmas.List.Sums.{sum_by-take-drop}
 use Rattle.std.proofs.lemmas.Bool.{cases_lt, cases_eq, true≢false, false≢true}
@@ -10,10 +9,9 @@ use Rattle.route_model.proofs.Counting.{one_if}
 use Rattle.route_model.proofs.Hall.{counted_somewhere, zero_or_more, is_at_true, no_place}
 use Rattle.route_solve.specs.First.{Completes}
 use Rattle.route_solve.specs.Ready.{AreReady}
-use Rattle.route_solve.proofs.Exchange.{taken-set, place_same, place_other, place_cases}
-use Rattle.route_solve.proofs.Filtered.{offers_within}
+use Rattle.route_solve.proofs.Exchange.{taken-set, place_same, place_other}
 use Rattle.route_solve.proofs.Handing.{not_both}
-use Rattle.route_solve.proofs.Parts.{taken-append, placed_within}
+use Rattle.route_solve.proofs.Parts.{placed_within}
 
 -- a number that no link has
 pub none_at : (p : List (Option ℕ)) (n : ℕ) → ((k : ℕ) → place_of p k ≡ Some n → ⊥) → taken p n ≡ 0

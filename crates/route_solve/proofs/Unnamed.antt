@@ -1,19 +1,19 @@
 -- Numbers as places again.
-use Rattle.std.proofs.Common.{◌≡◌, ℕ, zero, suc, ◌+◌, ◌-◌, ◌<◌, ◌≤◌, Bool, true, false, cond, List, [], ◌∷◌, ◌++◌, length, refl, sym, ◌∙◌, ap, subst, arith, Option, Some, None, map, take, drop, get_or, inl, inr}
+use Rattle.std.proofs.Common.{◌≡◌, ℕ, zero, suc, ◌+◌, ◌-◌, ◌<◌, ◌≤◌, cond, List, [], ◌∷◌, ◌++◌, length, refl, sym, ◌∙◌, ap, subst, arith, Option, Some, None, map, take, drop, get_or, inl, inr}
 use Rattle.std.specs.Prelude.{◌⊎◌, ◌==◌, is_some, IsSome, Contains, AllPairs}
 use Rattle.std.specs.List.Sorted.{IsStrictlyIncreasing}
-use Rattle.std.proofs.lemmas.Bool.{cases_eq, cases_lt, cases_order, eq-eqb, ne_eqb}
-use Rattle.std.proofs.lemmas.List.{length-map, length-take, length-drop, drop-map, take-map, map-append, get_or-map, get_or-drop}
+use Rattle.std.proofs.lemmas.Bool.{cases_eq, cases_order, eq-eqb, ne_eqb}
+use Rattle.std.proofs.lemmas.List.{length-map, drop-map, take-map, map-append, get_or-map, get_or-drop}
 use Rattle.std.proofs.lemmas.List.Elements.{Contains-get_or}
 use Rattle.std.proofs.lemmas.List.Kept.{AllPairs-from_increasing}
 use Rattle.std.proofs.Math.ListN as list_n
-use Rattle.route_model.specs.Placement.{is_at, place_of, Offers, taken, IsPlacement, IsWhole, CanPlace}
+use Rattle.route_model.specs.Placement.{is_at, place_of, Offers, taken, IsPlacement, CanPlace}
 use Rattle.route_model.proofs.Hall.{counted_somewhere, zero_or_more, is_at_true, count_pointwise}
 use Rattle.route_solve.specs.First.{Completes, IsLeastAt}
 use Rattle.route_solve.specs.Named.{name_of, named}
 use Rattle.route_solve.specs.Numbers.{number_at}
 use Rattle.route_solve.proofs.Names.{length-named, place_named, unnamed, at_is}
-use Rattle.route_solve.proofs.Numbered.{offers_named, offers_unnamed, one_place}
+use Rattle.route_solve.proofs.Numbered.{offers_unnamed, one_place}
 
 -- the place of a number
 abbrev place_in : List ℕ → ℕ → ℕ

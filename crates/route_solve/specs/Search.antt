@@ -1,5 +1,5 @@
 -- What moving one link leaves.
-use Rattle.std.specs.Prelude.{◌≡◌, ◌≢◌, ℕ, ◌+◌, ◌<◌, ◌≤◌, Bool, true, false, Option, Some, None, List, length, IsSome, cond}
+use Rattle.std.specs.Prelude.{◌≡◌, ◌≢◌, ℕ, ◌+◌, ◌<◌, ◌≤◌, Bool, true, false, Option, None, List, length, IsSome, cond}
 use Rattle.route_model.specs.Placement.{is_at, place_of, is_reached, taken, IsPlacement}
 
 -- The others can be placed without link l, and those that were not reached stay where they are.

@@ -23,7 +23,7 @@ pub(crate) fn put_in_order(numbers: &mut Vec<u32>) -> Result<(), AllocError>
 }
 
 /// How many places are looked at before a number is found by halves.
-const NEAR: usize = 4;
+const NEAR: usize = 8;
 
 /// Looks for a number at a few places from one on.
 fn near(numbers: &[u32], from: usize, n: u32) -> Option<usize>
@@ -38,17 +38,24 @@ fn near(numbers: &[u32], from: usize, n: u32) -> Option<usize>
     None
 }
 
-/// Looks for a number among the first so many, where it is found if these ascend.
-fn among_first(numbers: &[u32], count: usize, from: usize, n: u32) -> Option<usize>
-    ensures { IfSome result (λ i. (i < length numbers.now) × (slice_index_or numbers.now i 0 ≡ n)) }
+/// Looks for a number from a place on among the first so many, where it is found if these ascend and the ones before the place
+/// are smaller. Where it isn't, gives the place from which on to look for a greater one.
+fn among_first(numbers: &[u32], count: usize, from: usize, n: u32) -> Result<usize, usize>
+    ensures { IfOk result (λ i. (i < length numbers.now) × (slice_index_or numbers.now i 0 ≡ n)) }
 {
-    if let Some(i) = near(numbers, from, n) {
-        return Some(i);
-    }
     let first = &numbers[..count.min(numbers.len())];
+    let end = first.len().min(from.saturating_add(NEAR));
+    for i in from..end {
+        if numbers[i] == n {
+            return Ok(i);
+        }
+        if numbers[i] > n {
+            return Err(i);
+        }
+    }
     match first.binary_search(&n) {
-        Ok(i) if numbers[i] == n => Some(i),
-        _ => None,
+        Ok(i) if numbers[i] == n => Ok(i),
+        Ok(i) | Err(i) => Err(i),
     }
 }
 
@@ -58,11 +65,13 @@ fn add_offer(numbers: &mut Vec<u32>, count: usize, from: usize, n: u32) -> Resul
     ensures added { OnOk result (Contains numbers.new.items n) }
     ensures only { OnOk result ((m : ℕ) → Contains numbers.new.items m → Contains numbers.old.items m ⊎ (n ≡ m)) }
 {
-    if let Some(i) = among_first(numbers, count, from, n) {
-        return Ok(i + 1);
+    match among_first(numbers, count, from, n) {
+        Ok(i) => Ok(i + 1),
+        Err(next) => {
+            numbers.push(n)?;
+            Ok(next)
+        }
     }
-    numbers.push(n)?;
-    Ok(from)
 }
 
 /// Adds what a link offers, except what is seen to be there.

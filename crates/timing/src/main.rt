@@ -6,6 +6,8 @@
 
 mod links;
 
+ghost use Rattle.route_solve.specs.Fits.{Fits};
+
 use crate::links::problem;
 use machine_text::read_machine;
 use route_solve::{Answer, Problem, fits, solve};
@@ -30,7 +32,9 @@ enum Which {
 }
 
 /// What a solver answers.
-fn solved(alloc: Global, which: Which, problem: &Problem) -> Result<Answer, AllocError> {
+fn solved(alloc: Global, which: Which, problem: &Problem) -> Result<Answer, AllocError>
+    requires { Fits problem.now }
+{
     match which {
         Which::Now => solve(alloc, problem),
         Which::Earlier => earlier::solve(alloc, problem),

@@ -1,4 +1,4 @@
-use Rattle.std.proofs.Common.{arith, ℕ, get_or, subst, below_more}
+use Rattle.std.proofs.Common.{arith, get_or, subst, below_more}
 use Rattle.std.specs.Prelude.{Contains}
 use Rattle.std.proofs.lemmas.List.Elements.{Contains-append_left, Contains-append_right, Contains-push}
 use Rattle.route_model.proofs.Loads.{wired_somewhere}

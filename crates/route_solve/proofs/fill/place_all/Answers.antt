@@ -1,14 +1,13 @@
-use Rattle.std.proofs.Common.{◌≡◌, ◌≤◌, ◌<◌, ◌+◌, ◌-◌, ℕ, List, Option, None, Some, set, length, sym, ◌∙◌, ap, subst, refl, arith, inl, inr}
-use Rattle.std.specs.Prelude.{◌⊎◌}
+use Rattle.std.proofs.Common.{◌≡◌, ◌<◌, ◌+◌, ◌-◌, ℕ, List, Option, Some, set, length, ◌∙◌, ap, subst, refl, arith, inl, inr}
 use Rattle.std.proofs.lemmas.Bool.{OnTrue_at, OnFalse_at}
-use Rattle.route_model.specs.Placement.{place_of, IsPlacement, CanPlace}
+use Rattle.route_model.specs.Placement.{place_of, CanPlace}
 use Rattle.route_model.proofs.Hall.{no_place}
 use Rattle.route_solve.specs.Numbers.{lists_of}
-use Rattle.route_solve.specs.Levels.{at, room_at}
+use Rattle.route_solve.specs.Levels.{room_at}
 use Rattle.route_solve.proofs.Handing.{settled_whole, settled_unplaced, settled_directly}
 use Rattle.route_solve.proofs.Numbered.{lists_length}
 use Rattle.route_solve.proofs.Placing.{placed_none, raised}
-use Rattle.route_solve.proofs.Shifts.{is_shut, unready_stuck}
+use Rattle.route_solve.proofs.Shifts.{unready_stuck}
 use Rattle.route_solve.proofs.fill.place_all.Goals as goal
 
 pub loop-link-init : goal.loop-link-init

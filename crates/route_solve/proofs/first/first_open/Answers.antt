@@ -1,4 +1,4 @@
-use Rattle.std.proofs.Common.{◌≡◌, ◌≤◌, ◌<◌, ℕ, List, [], length, get_or, arith, refl, sym, ◌∙◌, ap, subst, below_more}
+use Rattle.std.proofs.Common.{◌≡◌, ◌≤◌, ℕ, List, [], get_or, refl, sym, ◌∙◌, ap, subst, below_more}
 use Rattle.std.specs.Global.{Vec}
 use Rattle.std.specs.Prelude.{Contains}
 use Rattle.std.proofs.lemmas.Bool.{OnFalse_at}

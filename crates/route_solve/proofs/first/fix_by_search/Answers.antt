@@ -1,10 +1,7 @@
-use Rattle.std.proofs.Common.{◌≡◌, ◌≤◌, ◌<◌, ◌+◌, ℕ, List, [], Option, None, Some, take, set, length, get_or, refl, sym, ◌∙◌, ap, subst, arith}
-use Rattle.route_model.specs.Placement.{place_of, Offers, IsPlacement}
+use Rattle.std.proofs.Common.{sym, arith}
 use Rattle.route_solve.specs.Numbers.{lists_of}
-use Rattle.route_solve.specs.Levels.{at, room_at}
-use Rattle.route_solve.specs.First.{IsLeastAt}
+use Rattle.route_solve.specs.Levels.{room_at}
 use Rattle.route_solve.proofs.Fixing.{freed_placed, fixed_whole, fixed_front, fixed_least}
-use Rattle.route_solve.proofs.Numbered.{lists_length}
 use Rattle.route_solve.proofs.first.fix_by_search.Goals as goal
 
 pub free-requires-clause-known : goal.free-requires-clause-known

@@ -1,9 +1,6 @@
-use Rattle.std.proofs.Common.{◌≡◌, ℕ, List, [], Bool, true, false, get_or, arith, refl}
-use Rattle.std.specs.Prelude.{Contains}
+use Rattle.std.proofs.Common.{◌≡◌, Bool, true, false, arith, refl}
 use Rattle.std.specs.Bool.{OnTrue}
 use Rattle.std.proofs.lemmas.Bool.{OnTrue_at}
-use Rattle.std.proofs.lemmas.List.Elements.{Contains-get_or}
-use Rattle.route_model.specs.Placement.{Offers}
 use Rattle.route_solve.specs.First.{IsLeastAt}
 use Rattle.route_solve.specs.Levels.{room_at}
 use Rattle.route_solve.specs.Numbers.{lists_of}

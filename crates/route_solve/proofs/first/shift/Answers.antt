@@ -1,6 +1,5 @@
-use Rattle.std.proofs.Common.{arith, ◌∙◌, ap}
+use Rattle.std.proofs.Common.{arith}
 use Rattle.std.proofs.lemmas.Bool.{OnTrue_at}
-use Rattle.route_model.specs.Placement.{place_of}
 use Rattle.route_solve.specs.Numbers.{lists_of}
 use Rattle.route_solve.specs.Levels.{room_at}
 use Rattle.route_solve.proofs.Fixing.{shifted_placed, shifted_whole, shifted_front, shifted_there}

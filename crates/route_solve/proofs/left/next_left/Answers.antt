@@ -1,7 +1,6 @@
 use Rattle.std.proofs.Common.{rules, arith, ℕ, ◌+◌, ◌*◌, ◌%◌, sym, ◌∙◌, ap, get_or, w64}
 use Rattle.std.specs.Prelude.{bit_and}
 use Rattle.std.specs.Int.{bit_at, trailing_zeros}
-use Rattle.std.proofs.lemmas.Nat.{and_le_l}
 use Rattle.std.proofs.lemmas.Nat.Bits.{bit_at-trailing_zeros}
 use Rattle.route_solve.proofs.LeftBits.{no_hit, hit_is}
 use Rattle.route_solve.proofs.left.next_left.Goals as goal

@@ -1,7 +1,7 @@
-use Rattle.std.proofs.Common.{◌≡◌, ◌<◌, ℕ, List, [], Some, length, get_or, arith, sym, ◌∙◌, ap, subst}
+use Rattle.std.proofs.Common.{◌≡◌, ℕ, List, [], get_or, arith, sym, ◌∙◌, ap, subst}
 use Rattle.std.specs.Global.{Vec}
 use Rattle.std.specs.Prelude.{Contains}
-use Rattle.route_model.specs.Placement.{Offers, taken}
+use Rattle.route_model.specs.Placement.{Offers}
 use Rattle.route_solve.specs.Numbers.{lists_of}
 use Rattle.route_solve.specs.Levels.{room_at}
 use Rattle.route_solve.proofs.Exchange.{moved_directly}

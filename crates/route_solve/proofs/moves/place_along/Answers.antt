@@ -1,8 +1,8 @@
-use Rattle.std.proofs.Common.{◌≡◌, ◌≤◌, ◌<◌, ℕ, List, Option, None, Some, set, arith, sym, ◌∙◌, ap}
+use Rattle.std.proofs.Common.{◌≡◌, ◌≤◌, ◌<◌, ℕ, List, Option, None, Some, set, arith, ◌∙◌, ap}
 use Rattle.std.proofs.lemmas.Bool.{OnTrue_at, OnFalse_at}
-use Rattle.route_model.specs.Placement.{place_of, taken}
+use Rattle.route_model.specs.Placement.{taken}
 use Rattle.route_solve.specs.Numbers.{lists_of}
-use Rattle.route_solve.specs.Levels.{at, room_at}
+use Rattle.route_solve.specs.Levels.{room_at}
 use Rattle.route_solve.specs.Ready.{way_at, ready_at}
 use Rattle.route_solve.proofs.Handing.{handed_none, passing, held_still, handed_on, last_placed, last_given, last_settled}
 use Rattle.route_solve.proofs.Parts.{placed_within}

@@ -1,10 +1,9 @@
-use Rattle.std.proofs.Common.{◌≡◌, ◌<◌, ℕ, List, [], length, get_or, arith, sym, ◌∙◌, ap, subst}
+use Rattle.std.proofs.Common.{◌≡◌, ℕ, List, [], get_or, arith, sym, ◌∙◌, ap, subst}
 use Rattle.std.specs.Global.{Vec}
 use Rattle.std.specs.Prelude.{Contains}
 use Rattle.std.proofs.lemmas.List.Elements.{Contains-get_or}
 use Rattle.route_model.specs.Placement.{Offers}
 use Rattle.route_solve.specs.Numbers.{lists_of}
-use Rattle.route_solve.specs.Ready.{ready_at}
 use Rattle.route_solve.proofs.Numbered.{lists_at}
 use Rattle.route_solve.proofs.moves.settle.Goals as goal
 

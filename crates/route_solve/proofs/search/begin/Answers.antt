@@ -1,9 +1,8 @@
-use Rattle.std.proofs.Common.{◌≡◌, ◌<◌, ◌+◌, ◌∙◌, ℕ, true, length, arith, ap, subst, sym, inl, inr, below_more}
+use Rattle.std.proofs.Common.{◌≡◌, ◌<◌, ◌∙◌, true, length, arith, ap, inl, below_more}
 use Rattle.std.proofs.lemmas.Bool.{OnTrue_at, OnFalse_at}
 use Rattle.route_model.specs.Placement.{taken, is_reached}
 use Rattle.route_solve.specs.Numbers.{lists_of}
-use Rattle.route_solve.specs.Levels.{at, room_at}
-use Rattle.route_solve.specs.Ready.{IsSearch}
+use Rattle.route_solve.specs.Levels.{room_at}
 use Rattle.route_solve.proofs.Exchange.{none_reached}
 use Rattle.route_solve.proofs.Searching.{search_none}
 use Rattle.route_solve.proofs.search.begin.Goals as goal

@@ -1,9 +1,8 @@
-use Rattle.std.proofs.Common.{arith, List, ℕ, length, subst, sym}
+use Rattle.std.proofs.Common.{arith}
 use Rattle.route_model.specs.Links.{offers_of}
 use Rattle.route_model.proofs.Offers.{offers_length}
 use Rattle.route_solve.specs.Named.{named}
 use Rattle.route_solve.specs.Numbers.{lists_of}
-use Rattle.route_solve.specs.Rows.{AreRows}
 use Rattle.route_solve.proofs.Least.{first_least}
 use Rattle.route_solve.proofs.Assigned.{placed_by_number, spread_by_number, least_by_number, places_up, rows_by_place, sources_below, places_some, places_below}
 use Rattle.route_solve.proofs.Numbered.{lists_length}

@@ -1,10 +1,9 @@
-use Rattle.std.proofs.Common.{◌≡◌, ◌<◌, ◌/◌, ℕ, List, [], Some, true, length, arith, sym, ◌∙◌, ap, subst, cond}
-use Rattle.std.proofs.lemmas.Bool.{true≢false}
-use Rattle.route_model.specs.Placement.{place_of, is_reached, Offers}
+use Rattle.std.proofs.Common.{◌<◌, length, arith, sym, ap, subst}
+use Rattle.route_model.specs.Placement.{Offers}
 use Rattle.route_solve.specs.declared.ways.Way.{Way}
 use Rattle.route_solve.specs.Levels.{room_at}
 use Rattle.route_solve.specs.Numbers.{lists_of}
-use Rattle.route_solve.specs.Ready.{ready_at, IsFurther}
+use Rattle.route_solve.specs.Ready.{ready_at}
 use Rattle.route_solve.specs.Rows.{HasBit}
 use Rattle.route_solve.proofs.Filtered.{offers_within}
 use Rattle.route_solve.proofs.Numbered.{lists_length}
