@@ -1,52 +1,158 @@
 #!/usr/bin/env python3
-"""How long the first least assignment of many links takes.
+"""How long the first least assignment of many links takes, beside the earlier solver that is kept for tests.
 
-    benches/route_solve.py [PROGRAM [WORD..]]
+    benches/route_solve.py [--count] [PROGRAM]
 
-The program is run on texts of one line a link, with the interrupts that it offers, and the seconds of the fastest of three
-runs are printed for each. With no program named, it is `timing solver`: build it first by `rt run` in
-crates/timing. The texts are the same at each call: links that all offer 1 to 255, and links that each offer some
-of 255 or of 24 interrupts at random, one in four of them.
+The program is crates/timing/out/timing: build it first by `rt run` in crates/timing. Each problem is solved many times in one run
+of it, by `timing solver TIMES` and by `timing earlier-solver TIMES` in turn, and what a run with no solution takes is taken off.
+The microseconds of a solution are those of the fastest of five runs. With --count the instructions of a solution are counted in
+place of that, by valgrind's callgrind, which other work on the machine doesn't disturb. The problems are the same at each call.
 """
 import pathlib
 import random
+import re
 import subprocess
 import sys
+import tempfile
 import time
 
-PROGRAM = [pathlib.Path(__file__).parent.parent / "crates/timing/out/timing", "solver"]
+PROGRAM = str(pathlib.Path(__file__).parent.parent / "crates/timing/out/timing")
+SOLVERS = ("earlier-solver", "solver")
 
 
-def all_offered(links, interrupts):
-    return [list(range(1, interrupts + 1))] * links
+class Problem:
+    def __init__(self, offers, wired=()):
+        self.offers, self.wired = [sorted(set(it)) for it in offers], sorted(wired)
+
+    def text(self):
+        lines = [" ".join(map(str, it)) for it in self.offers] + [f"wired {n} {count}" for n, count in self.wired]
+        return "".join(f"{it}\n" for it in lines).encode()
 
 
-def some_offered(links, interrupts):
-    generator = random.Random(links * 1000 + interrupts)
-    return [sorted(generator.sample(range(1, interrupts + 1), max(1, interrupts // 4))) for _ in range(links)]
+# ---- problems of so many links and interrupts
 
 
-def fastest(command, offers):
-    text = "".join(" ".join(str(n) for n in link) + "\n" for link in offers).encode()
-    seconds = []
-    for _ in range(3):
-        start = time.monotonic()
+def dense(links, interrupts):
+    """All offer all."""
+    return Problem([range(1, interrupts + 1)] * links)
+
+
+def sparse(links, interrupts):
+    """Each offers a quarter."""
+    chosen = random.Random(links * 1000 + interrupts)
+    return Problem([chosen.sample(range(1, interrupts + 1), max(1, interrupts // 4)) for _ in range(links)])
+
+
+def few(links, interrupts):
+    """Each offers three."""
+    chosen = random.Random(links * 1000 + interrupts)
+    return Problem([chosen.sample(range(1, interrupts + 1), 3) for _ in range(links)])
+
+
+def tight_wired(links, interrupts):
+    """So many sources are wired that all but one interrupt are full when all links, which offer all, are placed."""
+    limit = -(-(links + 1) // interrupts)
+    wired = [0] * interrupts
+    for at in range(limit * interrupts - 1 - links):
+        wired[(at * 7) % interrupts] += 1
+    return Problem([range(1, interrupts + 1)] * links, [(n + 1, count) for n, count in enumerate(wired) if count])
+
+
+def tight(links, interrupts):
+    """Each is sure to offer one interrupt of its own and a few others, and all but one are full when all are placed."""
+    chosen = random.Random(links * 1000 + interrupts)
+    last = min(links, interrupts - 1)
+    own = [1 + link % last for link in range(links)]
+    chosen.shuffle(own)
+    return Problem([[n, *chosen.sample(range(1, last + 2), 3)] for n in own])
+
+
+def stairs(links, interrupts):
+    """Each offers two neighbours, the first link the last ones."""
+    return Problem([[1 + at % interrupts, 1 + (at + 1) % interrupts] for at in range(links, 0, -1)])
+
+
+def stairs_up(links, interrupts):
+    """Each offers two neighbours, and the last link the first interrupt only, for which all others move."""
+    offers = [[1 + at % interrupts, 1 + (at + 1) % interrupts] for at in range(links - 1)]
+    return Problem([*offers, [1]])
+
+
+def long_stairs(links, interrupts):
+    """Each offers the interrupt of its place and all after it, so the last links leave the earlier ones little room."""
+    return Problem([range(1 + at * interrupts // (links + 1), interrupts + 1) for at in range(links)])
+
+
+def nested(links, interrupts):
+    """Each offers the first interrupts only, the first link all and the last link one."""
+    return Problem([range(1, max(1, interrupts - at * interrupts // links) + 1) for at in range(links)])
+
+
+def halves(links, interrupts):
+    """Half of the links offer the first half of the interrupts, the others the second half, and one offers both."""
+    half = interrupts // 2
+    parts = [range(1, half + 1), range(half + 1, interrupts + 1)]
+    return Problem([*[parts[at * 2 // links] for at in range(links - 1)], range(1, interrupts + 1)])
+
+
+def crowd(links, interrupts):
+    """Half of the links offer the first few interrupts, the others all."""
+    first = range(1, max(2, interrupts // 8))
+    return Problem([first if at % 2 else range(1, interrupts + 1) for at in range(links)])
+
+
+def last_first(links, interrupts):
+    """Each offers a window of neighbours that begins before that of the link before it."""
+    width = max(2, interrupts // 4)
+    starts = [(links - at) * (interrupts - width) // links for at in range(links)]
+    return Problem([range(1 + start, 1 + start + width) for start in starts])
+
+
+KINDS = [dense, sparse, few, tight, tight_wired, stairs, stairs_up, long_stairs, nested, halves, crowd, last_first]
+
+
+# ---- measures
+
+
+def seconds(command, text):
+    start = time.monotonic()
+    done = subprocess.run(command, input=text, capture_output=True, check=True)
+    return time.monotonic() - start, done.stdout
+
+
+def fastest(program, solver, text):
+    """The microseconds of a solution, and what it came to."""
+    once, came = min(seconds([program, solver, "20"], text) for _ in range(2))
+    times = max(20, min(20000, int(0.1 / max(once / 20, 1e-6))))
+    none = min(seconds([program, solver, "0"], text)[0] for _ in range(5))
+    many = min(seconds([program, solver, str(times)], text)[0] for _ in range(5))
+    return (many - none) / times * 1e6, came
+
+
+def instructions(program, solver, times, text):
+    with tempfile.NamedTemporaryFile() as out:
+        command = ["valgrind", "--tool=callgrind", f"--callgrind-out-file={out.name}", program, solver, str(times)]
         done = subprocess.run(command, input=text, capture_output=True, check=True)
-        seconds.append(time.monotonic() - start)
-    return min(seconds), done.stdout.decode().strip()
+    return int(re.search(rb"Collected : (\d+)", done.stderr)[1]), done.stdout
 
 
-def main():
-    command = sys.argv[1:] or PROGRAM
-    for name, offers, interrupts in [
-        ("all of 255", all_offered, 255),
-        ("some of 255", some_offered, 255),
-        ("some of 24", some_offered, 24),
-    ]:
-        for links in (32, 64, 128, 256):
-            seconds, answer = fastest(command, offers(links, interrupts))
-            print(f"{links} links, {name} interrupts: {seconds:.3f} seconds, {answer}")
+def counted(program, solver, text):
+    """The thousands of instructions of a solution, and what it came to."""
+    (none, _), (some, came) = instructions(program, solver, 0, text), instructions(program, solver, 4, text)
+    return (some - none) / 4 / 1000, came
+
+
+def main(words):
+    measure, unit = (counted, "thousand instructions") if "--count" in words else (fastest, "microseconds")
+    program = next((it for it in words if not it.startswith("--")), PROGRAM)
+    print(f"{unit}: the earlier solver, the solver, and the second in parts of the first")
+    for kind in KINDS:
+        for links in (16, 64, 256):
+            text = kind(links, 255).text()
+            (before, came), (now, also) = (measure(program, it, text) for it in SOLVERS)
+            same = came.decode().strip() if came == also else f"{came} and {also}"
+            print(f"{links:3} links, {kind.__name__}: {before:.1f} {now:.1f} {now / before:.2f} ({same})", flush=True)
 
 
 if __name__ == "__main__":
-    main()
+    main(sys.argv[1:])

@@ -4,10 +4,13 @@
 
 mod answers;
 mod claims;
+mod earlier_solver;
 mod generated;
+mod generated_problems;
 mod pins;
 mod problems;
 mod questions;
+mod random;
 mod reports;
 mod row;
 mod small_problems;

@@ -1,5 +1,6 @@
 //! Problems: the links and the wired interrupts of a row, and what `route_solve` says of them.
 use crate::answers::{say_numbers, say_path};
+use crate::words::number;
 use route_check::Claim;
 use route_model::Link;
 use route_solve::{Answer, Problem, Solver, fits, solve};
@@ -9,7 +10,7 @@ use std::mem;
 use test_rows::Exchange;
 
 /// What a solver gives, if there was the memory for it.
-fn given<T: Drop>(asked: &mut Exchange, found: Result<T, AllocError>) -> Option<T> {
+pub fn given<T: Drop>(asked: &mut Exchange, found: Result<T, AllocError>) -> Option<T> {
     match found {
         Ok(found) => Some(found),
         Err(_) => {
@@ -98,6 +99,31 @@ fn say_tried(asked: &mut Exchange, problem: &Problem) {
     }
 }
 
+/// Answers four words in hexadecimal digits, the lowest first, and `none` in place of none.
+fn say_words(asked: &mut Exchange, words: Option<[u64; 4]>) {
+    match words {
+        Some(words) => {
+            for word in &words {
+                asked.say_hexadecimal(*word);
+            }
+        }
+        None => asked.say("none"),
+    }
+}
+
+/// `bits N`: the row of bits that a `Solver` has of an interrupt, where the problem fits.
+fn say_bits(asked: &mut Exchange, problem: &Problem) {
+    let n = number(asked);
+    if !fits(problem) {
+        asked.say("does not fit");
+        return;
+    }
+    match Solver::new(asked.alloc(), problem) {
+        Ok(solver) => say_words(asked, solver.row(n)),
+        Err(_) => asked.run_out(),
+    }
+}
+
 /// A question of a problem.
 #[derive(Clone, Copy)]
 pub enum Ask {
@@ -105,6 +131,7 @@ pub enum Ask {
     Solve,
     Search,
     Try,
+    Bits,
 }
 
 /// Answers a question of a problem.
@@ -120,6 +147,7 @@ fn of_problem(asked: &mut Exchange, problem: &Problem, ask: Ask) {
             say_answer(asked, problem, answer);
         }
         Ask::Try => say_tried(asked, problem),
+        Ask::Bits => say_bits(asked, problem),
     }
 }
 

@@ -1,4 +1,5 @@
 //! Which function answers which question.
+use crate::earlier_solver::on_generated;
 use crate::row::RouteRow;
 use crate::small_problems::both_solvers;
 use crate::words::named;
@@ -12,6 +13,7 @@ enum Ask {
     Problem(problems::Ask),
     Text(texts::Ask),
     BothSolvers,
+    Generated,
     Report,
     Print,
     Read,
@@ -21,7 +23,7 @@ enum Ask {
 }
 
 /// The questions, by their first words.
-const QUESTIONS: [(&str, Ask); 28] = [
+const QUESTIONS: [(&str, Ask); 30] = [
     ("link", Ask::Claim(claims::Ask::Link)),
     ("links", Ask::Claim(claims::Ask::Links)),
     ("wired", Ask::Claim(claims::Ask::Wired)),
@@ -38,12 +40,14 @@ const QUESTIONS: [(&str, Ask); 28] = [
     ("solve", Ask::Problem(problems::Ask::Solve)),
     ("search", Ask::Problem(problems::Ask::Search)),
     ("try", Ask::Problem(problems::Ask::Try)),
+    ("bits", Ask::Problem(problems::Ask::Bits)),
     ("text", Ask::Text(texts::Ask::Text)),
     ("bytes", Ask::Text(texts::Ask::Bytes)),
     ("repeat", Ask::Text(texts::Ask::Repeat)),
     ("crowd", Ask::Text(texts::Ask::Crowd)),
     ("line", Ask::Text(texts::Ask::Line)),
     ("both-solvers", Ask::BothSolvers),
+    ("generated", Ask::Generated),
     ("report", Ask::Report),
     ("print", Ask::Print),
     ("read", Ask::Read),
@@ -59,6 +63,7 @@ pub fn answer(row: &mut RouteRow, asked: &mut Exchange) {
         Ask::Problem(ask) => problems::answer(asked, &mut row.claim, ask),
         Ask::Text(ask) => texts::answer(asked, &mut row.text, ask),
         Ask::BothSolvers => both_solvers(asked),
+        Ask::Generated => on_generated(asked),
         Ask::Report => reports::add_line(asked, &mut row.report),
         Ask::Print => texts::print_report(asked, &mut row.text, &row.report),
         Ask::Read => texts::read_text(asked, &mut row.claim, row.text.as_slice()),

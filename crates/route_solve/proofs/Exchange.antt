@@ -1,42 +1,18 @@
 use Rattle.std.proofs.Common.{◌≡◌, ◌≢◌, ℕ, ◌+◌, ◌<◌, ◌≤◌, Bool, true, false, cond, List, length, refl, sym, ◌∙◌, ap, subst, arith, eqb, Option, Some, None, set, inl, inr, length-set, get_or-set_same, get_or-set_other, replicate}
 use Rattle.std.proofs.lemmas.List.{get_or-replicate, length-replicate, get_or_past}
-use Rattle.std.specs.Prelude.{count_by, ◌⊎◌, is_some, IsSome, not}
+use Rattle.std.specs.Prelude.{◌⊎◌, is_some, IsSome}
 use Rattle.std.proofs.lemmas.Bool.{eqb-true, eq-eqb, ne_eqb, cases_eq, cases_lt, false≢true, true≢false}
 use Rattle.std.proofs.lemmas.List.Sums.{sum_by-set}
 use Rattle.std.specs.Option.{option_eq}
-use Rattle.route_model.specs.Placement.{is_at, place_of, is_reached, Offers, taken, IsPlacement, CanPlaceBut, IsStuck}
+use Rattle.route_model.specs.Placement.{is_at, place_of, is_reached, Offers, taken, IsPlacement}
 use Rattle.route_model.proofs.Counting.{one_if}
-use Rattle.route_model.proofs.Hall.{count_pointwise_less}
-use Rattle.route_solve.specs.Search.{Spares, Moved, IsHandled, Explores, Fails}
-
--- what was reached stays reached
-abbrev pub IsGrown : List Bool → List Bool → Type 0
-IsGrown before reached = (k : ℕ) → is_reached before k ≡ true → is_reached reached k ≡ true
-
-pub fewer_left : (before reached : List Bool) (l : ℕ) → length reached ≡ length before → IsGrown before reached → l < length before → is_reached before l ≡ false → is_reached reached l ≡ true → count_by not reached < count_by not before
-fewer_left before reached l same grown bound old new =
-    count_pointwise_less not not false false reached before l (omega arith) (ap not new) (ap not old) same (λ k b h. go (is_reached before k) (grown k) h)
-  where
-    go : {b : Bool} (a : Bool) → (a ≡ true → b ≡ true) → not b ≡ true → not a ≡ true
-    go true f h = absurd (false≢true (sym (ap not (f refl)) ∙ h))
-    go false f h = refl
+use Rattle.route_solve.specs.Search.{Spares, Moved}
 
 -- a write changes the count at the number that goes and at the one that comes
 pub taken-set : (p : List (Option ℕ)) (l : ℕ) (x : Option ℕ) (n : ℕ) → l < length p → taken (set p l x) n + cond (is_at n (place_of p l)) 1 0 ≡ taken p n + cond (is_at n x) 1 0
 taken-set p l x n b = sum_by-set (λ o. cond (is_at n o) 1 0) p l x None b
 
 module _ (offers : List (List ℕ)) (room : ℕ → ℕ) (p : List (Option ℕ)) where
-  pub spares_grown : (reached reached' : List Bool) (l : ℕ) → IsGrown reached reached' → Spares offers room p reached l → Spares offers room p reached' l
-  spares_grown reached reached' l grown s =
-      record { others = s.others; placed = s.placed; left_out = s.left_out; whole = s.whole; kept = λ k f ne. s.kept k (go k (is_reached reached k) refl f) ne }
-    where
-      go : (k : ℕ) (b : Bool) → is_reached reached k ≡ b → is_reached reached' k ≡ false → is_reached reached k ≡ false
-      go k true e f = absurd (false≢true (sym f ∙ grown k e))
-      go k false e f = e
-
-  pub handled_grown : (reached reached' : List Bool) (n : ℕ) → IsGrown reached reached' → IsHandled room p reached n → IsHandled room p reached' n
-  handled_grown reached reached' n grown h = record { full = h.full; holders = λ j e. grown j (h.holders j e) }
-
   -- what a write leaves, place by place
   pub place_same : (q : List (Option ℕ)) (l : ℕ) (x : Option ℕ) → l < length q → place_of (set q l x) l ≡ x
   place_same q l x b = get_or-set_same q l x None b
@@ -120,91 +96,6 @@ module _ (offers : List (List ℕ)) (room : ℕ → ℕ) (p : List (Option ℕ))
 
       second : (m : ℕ) → taken (set (set s.others l (Some n)) j None) m + one_if (is_at m (Some n)) ≡ taken (set s.others l (Some n)) m
       second m = let e = taken-set (set s.others l (Some n)) j None m b1 in let f = ap (λ o. one_if (is_at m o)) there in omega arith
-
-  -- Link j went elsewhere, and link l takes its number.
-  pub moved_after : (before reached : List Bool) (q : List (Option ℕ)) (l j n : ℕ) → l < length p → IsGrown before reached → Moved offers room p q reached j → is_reached reached l ≡ true → is_reached reached j ≡ false → Offers offers l n → place_of p j ≡ Some n → length p ≡ length offers → Moved offers room p (set q l (Some n)) before l
-  moved_after before reached q l j n b grown moved rl rj offered held same =
-      record {
-        placed = record { same_length = length-set q l (Some n) ∙ moved.placed.same_length; offered = offered-set q l n bq offered moved.placed.offered; within = λ m. omega (arith, room_for m) };
-        free = room_for;
-        has = ap is_some (place_same q l (Some n) bq);
-        whole = λ k s. place_cases (λ o. IsSome o) q l (Some n) k bq (λ e. refl) (λ ne. moved.whole k s);
-        kept = λ k r ne. place_other q l k (Some n) ne ∙ moved.kept k (grown k r) (λ e. true≢false (sym (grown k r) ∙ (ap (is_reached reached) e ∙ rj)));
-      }
-    where
-      bq : l < length q
-      bq = let e = moved.placed.same_length in omega arith
-
-      apart : l ≢ j
-      apart e = true≢false (sym rl ∙ (ap (is_reached reached) e ∙ rj))
-
-      room_for : (m : ℕ) → taken (set q l (Some n)) m + cond (is_at m (place_of p l)) 1 0 ≤ room m
-      room_for m =
-          let e = taken-set q l (Some n) m bq in
-          let f = ap (λ o. one_if (is_at m o)) (moved.kept l rl apart) in
-          let g = ap (λ o. one_if (is_at m o)) held in
-          let h = moved.free m in
-          omega arith
-
-  pub explores_start : (reached : List Bool) (l : ℕ) → l < length reached → is_reached reached l ≡ false → Spares offers room p reached l → Explores offers room p reached (set reached l true) l
-  explores_start reached l b f s =
-      record {
-        grown = grown;
-        itself = get_or-set_same reached l true false b;
-        closed = λ k n old new ne _. absurd (true≢false (sym new ∙ (get_or-set_other reached l k true false ne ∙ old)));
-        spared = λ k old new. go k old new (cases_eq k l);
-      }
-    where
-      grown : IsGrown reached (set reached l true)
-      grown k h = grown_at (cases_eq k l)
-        where
-          grown_at : (k ≡ l) ⊎ (k ≡ l → ⊥) → is_reached (set reached l true) k ≡ true
-          grown_at (inl e) = ap (is_reached (set reached l true)) e ∙ get_or-set_same reached l true false b
-          grown_at (inr ne) = get_or-set_other reached l k true false ne ∙ h
-
-      go : (k : ℕ) → is_reached reached k ≡ false → is_reached (set reached l true) k ≡ true → (k ≡ l) ⊎ (k ≡ l → ⊥) → Spares offers room p (set reached l true) k
-      go k old new (inl e) = subst (Spares offers room p (set reached l true)) (sym e) (spares_grown reached (set reached l true) l grown s)
-      go k old new (inr ne) = absurd (true≢false (sym new ∙ (get_or-set_other reached l k true false ne ∙ old)))
-
-  -- The search from a further link failed: what it reached is done.
-  pub explores_more : (before reached reached' : List Bool) (l j : ℕ) → Explores offers room p before reached l → Explores offers room p reached reached' j → ((n : ℕ) → Offers offers j n → IsHandled room p reached' n) → Explores offers room p before reached' l
-  explores_more before reached reached' l j x y done =
-      record {
-        grown = λ k h. y.grown k (x.grown k h);
-        itself = y.grown l x.itself;
-        closed = λ k n old new ne o. go k n old new ne o (is_reached reached k) refl;
-        spared = λ k old new. spared k old new (is_reached reached k) refl;
-      }
-    where
-      last : (k n : ℕ) → Offers offers k n → is_reached reached k ≡ false → is_reached reached' k ≡ true → (k ≡ j) ⊎ (k ≡ j → ⊥) → IsHandled room p reached' n
-      last k n o f t (inl e) = done n (subst (λ i. Offers offers i n) e o)
-      last k n o f t (inr ne) = y.closed k n f t ne o
-
-      go : (k n : ℕ) → is_reached before k ≡ false → is_reached reached' k ≡ true → k ≢ l → Offers offers k n → (b : Bool) → is_reached reached k ≡ b → IsHandled room p reached' n
-      go k n old new ne o true e = handled_grown reached reached' n y.grown (x.closed k n old e ne o)
-      go k n old new ne o false e = last k n o e new (cases_eq k j)
-
-      spared : (k : ℕ) → is_reached before k ≡ false → is_reached reached' k ≡ true → (b : Bool) → is_reached reached k ≡ b → Spares offers room p reached' k
-      spared k old new true e = spares_grown reached reached' k y.grown (x.spared k old e)
-      spared k old new false e = y.spared k e new
-
-  -- A failed search that began with no link reached is stuck.
-  pub stuck_from : (q : List (Option ℕ)) (before reached : List Bool) (l : ℕ) → ((k : ℕ) → is_reached before k ≡ false) → l < length p → place_of p l ≡ None → Fails offers room p q before reached l → IsStuck offers room p reached l
-  stuck_from q before reached l none b unplaced fails =
-      record {
-        within_links = b;
-        begins = fails.explores.itself;
-        unplaced = unplaced;
-        full = λ k n r o. (handled k n r o (cases_eq k l)).full;
-        holders = λ k j n r o e. (handled k n r o (cases_eq k l)).holders j e;
-      }
-    where
-      handled : (k n : ℕ) → is_reached reached k ≡ true → Offers offers k n → (k ≡ l) ⊎ (k ≡ l → ⊥) → IsHandled room p reached n
-      handled k n r o (inl e) = fails.done n (subst (λ i. Offers offers i n) e o)
-      handled k n r o (inr ne) = fails.explores.closed k n (none k) r ne o
-
-  pub but_from : (reached : List Bool) (k : ℕ) → Spares offers room p reached k → CanPlaceBut offers room k
-  but_from reached k s = let e = s.placed.same_length in (s.others, s.placed, s.left_out, λ j b ne. s.whole j (omega arith) ne)
 
 pub none_reached : (n k : ℕ) → is_reached (replicate n false) k ≡ false
 none_reached n k = go (cases_lt k n)

@@ -8,7 +8,7 @@ use Rattle.route_model.proofs.Counting.{one_if}
 use Rattle.route_model.proofs.Hall.{no_place}
 use Rattle.route_model.proofs.Loads.{load-le, busiest-le}
 use Rattle.route_model.proofs.Assignments.{given_taken, placement_at, placement_whole, placement_from, assignment_from, length_assignment, assignment_at}
-use Rattle.route_solve.specs.Search.{room_of}
+use Rattle.route_solve.specs.Room.{room_of}
 use Rattle.route_solve.specs.Certificate.{IsCertificate, IsSpread}
 use Rattle.route_solve.specs.First.{Completes, IsLeastAt}
 use Rattle.route_solve.specs.Floor.{IsFloor}
@@ -47,12 +47,12 @@ module _ (offers : List (List ℕ)) (wired : List (ℕ × ℕ)) where
     pub busiest-le-limit : ((i : ℕ) → wired_to wired i ≤ limit) → busiest wired a ≤ limit
     busiest-le-limit below = busiest-le wired a limit (λ i. let e = given_taken a i in let f = placed.within i in let g = below i in omega arith)
 
-    module _ (least : (l : ℕ) → l < length a → IsLeastAt offers wired limit (placement_of a) l) (b : List ℕ) (assigned : IsAssignment offers b) (below : busiest wired b ≤ limit) where
+    module _ (least : (l : ℕ) → l < length a → IsLeastAt offers (room_of limit wired []) (placement_of a) l) (b : List ℕ) (assigned : IsAssignment offers b) (below : busiest wired b ≤ limit) where
       same_long : length a ≡ length b
       same_long = let e = placed.same_length in let f = length-map a (λ (n : ℕ). Some n) in let g = length_assignment offers b assigned in omega arith
 
       -- the number that b has at m would do after the first m of a
-      completes : (m : ℕ) → m < length b → take m a ≡ take m b → Completes offers wired limit (take m (placement_of a)) (get_or b m 0)
+      completes : (m : ℕ) → m < length b → take m a ≡ take m b → Completes offers (room_of limit wired []) (take m (placement_of a)) (get_or b m 0)
       completes m bound same =
           let n = get_or b m 0 in
           let q = placement_of b in
@@ -63,7 +63,7 @@ module _ (offers : List (List ℕ)) (wired : List (ℕ × ℕ)) where
           let fits = (placement_take (m + 1) offers (room_of limit wired []) q p).within n in
           let count = ap (λ r. taken r n) more ∙ taken-append (take m q) (Some n ∷ []) n in
           let last : taken (Some n ∷ []) n ≡ 1 = ap (λ t. 0 + one_if t) (eq-eqb n n refl) in
-          let rest = placement_drop (m + 1) offers wired limit q p in
+          let rest = placement_drop (m + 1) offers (room_of limit wired []) q p in
           let cut = length-take-le m q (omega arith) in
           rw front (record {
             free = omega arith;
@@ -86,7 +86,7 @@ module _ (offers : List (List ℕ)) (wired : List (ℕ × ℕ)) where
       not_after = not_after_from (length a) 0 (omega arith) refl
 
   -- the theorem, over lists
-  pub first_least : (floor limit : ℕ) (p : List (Option ℕ)) (a : List ℕ) (old : List (Option ℕ)) (reached : List Bool) → IsFloor wired floor → ((i : ℕ) → wired_to wired i ≤ floor) → IsSpread offers wired floor limit old reached → placement_of a ≡ p → IsPlacement offers (room_of limit wired []) p → ((l : ℕ) → l < length offers → IsLeastAt offers wired limit p l) → IsFirstLeast offers wired a × (busiest wired a ≡ limit)
+  pub first_least : (floor limit : ℕ) (p : List (Option ℕ)) (a : List ℕ) (old : List (Option ℕ)) (reached : List Bool) → IsFloor wired floor → ((i : ℕ) → wired_to wired i ≤ floor) → IsSpread offers wired floor limit old reached → placement_of a ≡ p → IsPlacement offers (room_of limit wired []) p → ((l : ℕ) → l < length offers → IsLeastAt offers (room_of limit wired []) p l) → IsFirstLeast offers wired a × (busiest wired a ≡ limit)
   first_least floor limit p a old reached is_floor above spread same placed' least' =
       let placed = subst (IsPlacement offers (room_of limit wired [])) (sym same) placed' in
       let assigned = assignment_from offers (room_of limit wired []) a placed in
@@ -94,7 +94,7 @@ module _ (offers : List (List ℕ)) (wired : List (ℕ × ℕ)) where
       let lower = limit-le floor limit old reached is_floor spread in
       let at_a = lower a assigned in
       let long = length_assignment offers a assigned in
-      let least : (l : ℕ) → l < length a → IsLeastAt offers wired limit (placement_of a) l = λ l b. rw same (least' l (omega arith)) in (
+      let least : (l : ℕ) → l < length a → IsLeastAt offers (room_of limit wired []) (placement_of a) l = λ l b. rw same (least' l (omega arith)) in (
         record {
           is_least = record { offered = assigned; least = λ b h. let f = lower b h in omega arith };
           first = λ b h. not_after limit a placed least b h.offered (let f = h.least a assigned in omega arith);

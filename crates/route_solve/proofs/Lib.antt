@@ -1,6 +1,5 @@
 pub mod Exchange
 pub mod Parts
-pub mod Spreads
 pub mod Shifts
 pub mod Firsts
 pub mod Least
@@ -10,3 +9,20 @@ pub mod Showing
 pub mod Ascending
 pub mod PathOrder
 pub mod Unique
+pub mod Numbered
+pub mod Bits
+pub mod RowsOf
+pub mod Reaching
+pub mod Counts
+pub mod Moving
+pub mod Names
+pub mod Stuck
+pub mod Truncated
+pub mod Placing
+pub mod Crowded
+pub mod Assigned
+pub mod LeftBits
+pub mod Searching
+pub mod Handing
+pub mod Fixing
+pub mod Unnamed

@@ -11,7 +11,7 @@ use Rattle.route_model.specs.Bound.{IsDistinct}
 use Rattle.route_model.proofs.Counting.{one_if, count_cons}
 use Rattle.route_model.proofs.Hall.{no_place, no_place_but, count_pointwise_less, zero_or_more, counted_somewhere}
 use Rattle.route_model.proofs.Bounds.{among, among_contains, contains_among, count_once, nat_tells}
-use Rattle.route_solve.specs.Search.{room_of}
+use Rattle.route_solve.specs.Room.{room_of}
 use Rattle.route_solve.specs.Certificate.{IsCertificate}
 use Rattle.route_solve.specs.Shown.{IsCrowdedSet}
 use Rattle.route_solve.specs.Marks.{places_from}

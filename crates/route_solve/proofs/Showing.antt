@@ -9,7 +9,7 @@ use Rattle.std.proofs.lemmas.Bool.{false≢true, eqb-true, eq-eqb, cases_lt}
 use Rattle.route_model.specs.Routing.{wired_to}
 use Rattle.route_model.specs.Bound.{IsDistinct, IsLowerBound}
 use Rattle.route_model.specs.Placement.{is_reached, Offers}
-use Rattle.route_solve.specs.Search.{room_of}
+use Rattle.route_solve.specs.Room.{room_of}
 use Rattle.route_solve.specs.Floor.{IsFloor}
 use Rattle.route_solve.specs.Certificate.{IsCertificate}
 use Rattle.route_solve.specs.Shown.{IsCrowdedSet, Shown}

@@ -8,7 +8,7 @@ use Rattle.std.proofs.lemmas.List.Kept.{AllPairs-from_increasing}
 use Rattle.route_model.specs.Routing.{wired_to, NotAfter, IsFirstLeast}
 use Rattle.route_model.specs.Placement.{IsPlacement, CanPlace, CanPlaceBut}
 use Rattle.route_model.proofs.Assignments.{length_assignment}
-use Rattle.route_solve.specs.Search.{room_of}
+use Rattle.route_solve.specs.Room.{room_of}
 use Rattle.route_solve.specs.Shown.{Shown, IsCrowdedSet}
 use Rattle.route_solve.specs.Shown.Shown.{Idle, Wired, Crowded}
 use Rattle.route_solve.proofs.Parts.{placement_take}

@@ -1,6 +1,6 @@
 use Rattle.std.specs.Prelude.{◌≡◌, ◌<◌, ◌≤◌, ◌+◌, ◌⊎◌, ℕ, Bool, true, false, Option, List, [], length, take}
 use Rattle.route_model.specs.Placement.{is_reached, IsPlacement, CanPlace, CanPlaceBut, IsStuck}
-use Rattle.route_solve.specs.Search.{room_of}
+use Rattle.route_solve.specs.Room.{room_of}
 
 -- Why the rooms don't do: the links before the last one can be placed, the search from the last one is stuck,
 -- and without any one of those that it reached the others can be placed.

@@ -1,8 +1,15 @@
 pub mod Problems
 pub mod Fits
+pub mod Room
 pub mod Search
 pub mod Certificate
 pub mod First
 pub mod Floor
 pub mod Marks
 pub mod Shown
+pub mod Numbers
+pub mod Rows
+pub mod Levels
+pub mod Ready
+pub mod Paths
+pub mod Named

@@ -3,7 +3,7 @@ use Rattle.std.specs.Prelude.{◌≡◌, ◌≢◌, ◌<◌, ◌≤◌, ◌+◌,
 use Rattle.std.specs.List.Sorted.{IsStrictlyIncreasing}
 use Rattle.route_model.specs.Routing.{wired_to}
 use Rattle.route_model.specs.Placement.{Offers, CanPlace, CanPlaceBut}
-use Rattle.route_solve.specs.Search.{room_of}
+use Rattle.route_solve.specs.Room.{room_of}
 
 -- Of the links up to the first one with which they can't all be placed, those without which the others can, and all that
 -- those offer.

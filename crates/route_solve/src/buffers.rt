@@ -1,11 +1,11 @@
 //! All places and all interrupts, in memory that the search takes its set from.
-ghost use Rattle.std.specs.Prelude.{◌≡◌, IfOk};
+ghost use Rattle.std.specs.Prelude.{◌≡◌, ◌<◌, ℕ, IfOk, true};
 ghost use Rattle.std.specs.List.{range_with_len};
 ghost use Rattle.std.specs.List.Sorted.{IsStrictlyIncreasing};
-ghost use Rattle.route_model.specs.Links.{offers_of};
-ghost use Rattle.route_solve.specs.Marks.{HasAll};
+ghost use Rattle.route_model.specs.Routing.{wired_to};
+ghost use Rattle.route_solve.specs.Marks.{has};
 
-use route_model::Link;
+use crate::numbers::put_in_order;
 use std::alloc::{AllocError, Global};
 
 /// The numbers below n.
@@ -19,23 +19,21 @@ pub(crate) fn all_places(alloc: Global, n: usize) -> Result<Vec<usize>, AllocErr
     Ok(places)
 }
 
-/// All interrupts that are offered or wired, ascending.
+/// The offered interrupts and those that are wired, ascending.
 pub(crate) fn all_interrupts(
     alloc: Global,
-    links: &[Link],
+    numbers: &[u32],
     wired: &[(u32, u32)],
 ) -> Result<Vec<u32>, AllocError>
-    ensures ascending { IfOk result (λ numbers. IsStrictlyIncreasing numbers.items) }
-    ensures all { IfOk result (λ numbers. HasAll (offers_of links.now) wired.now numbers.items) }
+    ensures ascending { IfOk result (λ interrupts. IsStrictlyIncreasing interrupts.items) }
+    ensures offered { IfOk result (λ interrupts. (n : ℕ) → has numbers.now n ≡ true → has interrupts.items n ≡ true) }
+    ensures sources { IfOk result (λ interrupts. (n : ℕ) → 0 < wired_to wired.now n → has interrupts.items n ≡ true) }
 {
-    let mut interrupts = Vec::new(alloc);
-    for link in links {
-        interrupts.extend_from_slice(link.offers())?;
-    }
+    let mut interrupts = Vec::with_capacity(alloc, numbers.len().saturating_add(wired.len()))?;
+    interrupts.extend_from_slice(numbers)?;
     for w in wired {
         interrupts.push(w.0)?;
     }
-    interrupts.sort()?;
-    interrupts.dedup();
+    put_in_order(&mut interrupts)?;
     Ok(interrupts)
 }

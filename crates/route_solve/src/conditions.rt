@@ -8,7 +8,7 @@ ghost use Rattle.route_solve.specs.Fits.{Fits, IsOffer};
 use crate::problem::Problem;
 use route_model::Link;
 
-fn ascends(numbers: &[u32]) -> bool
+pub(crate) fn ascends(numbers: &[u32]) -> bool
     ensures { IsTrue result ↔ IsStrictlyIncreasing numbers.now }
 {
     for i in 1..numbers.len() {

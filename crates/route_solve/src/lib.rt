@@ -1,22 +1,34 @@
 //! Chooses an interrupt for each link so that the busiest interrupt serves as few sources as any assignment allows, and of
 //! such assignments the first; and gives the links and interrupts that show why none is less busy.
 //!
-//! From the bottom: how much room an interrupt has (`rooms`), a search that places one more link (`search`), the least
-//! limit within which all can be placed (`limit`), the first of the assignments within it (`first`), the set (`set`),
-//! memory (`buffers`), and the public calls (`solver`).
+//! From the bottom: the offered interrupts by their places in ascending order (`numbers`), a row of bits for each (`rows`),
+//! and how many sources are wired to it (`sources`); a search back from the interrupts that have room (`left`, `ways`,
+//! `search`), moving links along the way that it found (`moves`), the least limit within which all can be placed (`fill`) and
+//! the first of the assignments within it (`first`); a search by levels (`levels`) from a link that can't be placed (`roots`,
+//! `paths`), for the links that show why none is less busy (`crowd`); the set (`set`), memory (`buffers`), and the public calls
+//! (`solver`).
 #![tactic(auto)]
 
 mod answer;
 mod buffers;
 mod conditions;
+mod crowd;
+mod fill;
 mod first;
 pub mod laws;
-mod limit;
+mod left;
+mod levels;
+mod moves;
+mod numbers;
+mod paths;
 mod problem;
-mod rooms;
+mod roots;
+mod rows;
 mod search;
 mod set;
 mod solver;
+mod sources;
+mod ways;
 
 pub use answer::Answer;
 pub use conditions::fits;

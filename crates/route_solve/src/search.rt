@@ -1,89 +1,78 @@
-//! Places one more link, for which others may be moved.
-ghost use Rattle.std.specs.Prelude.{◌≡◌, ◌≤◌, ◌<◌, ℕ, Contains, MatchOption, None, true, false, length, sum_by};
-ghost use Rattle.std.specs.Bool.{OnTrue, OnFalse};
-ghost use Rattle.route_model.specs.Links.{offers_of};
-ghost use Rattle.route_model.specs.Placement.{taken, is_reached, place_of, IsPlacement, IsWhole, IsWholeBut, IsStuck, CanPlaceBut};
-ghost use Rattle.route_solve.specs.Search.{room_in, Spares, Moved, Fails};
+//! Finds all interrupts that are ready.
+ghost use Rattle.std.specs.Prelude.{◌≡◌, ◌≤◌, ◌<◌, ℕ, Some, true, length};
+ghost use Rattle.route_model.specs.Placement.{is_reached, place_of, taken, Offers};
+ghost use Rattle.route_solve.specs.Levels.{room_at, IsCounted};
+ghost use Rattle.route_solve.specs.Numbers.{lists_of};
+ghost use Rattle.route_solve.specs.Ready.{AreReady, IsSearch};
+ghost use Rattle.route_solve.specs.Rows.{AreRows};
 
-use crate::rooms::{Rooms, count};
-use route_model::Link;
+use crate::left::{begin_left, has_left};
+use crate::levels::{Board, has_room};
+use crate::ways::{Way, add_way, spread};
 
-/// The first of some interrupts that has room.
-fn first_free(rooms: &Rooms<'_>, offers: &[u32], choice: &[Option<u32>]) -> Option<u32>
-    requires { sum_by (λ w. w.1) rooms.now.wired.now ≤ 4096 }
-    ensures { MatchOption result ((n : ℕ) → Contains offers.now n → room_in rooms.now n ≤ taken choice.now n) (λ n. Contains offers.now n × (taken choice.now n < room_in rooms.now n)) }
+/// Begins with the interrupts that have room, and gives their number.
+fn begin(
+    board: &Board<'_>,
+    choice: &[Option<usize>],
+    counts: &[usize],
+    left: &mut [u64],
+    ready: &mut [bool],
+    ways: &mut [Way],
+) -> usize
+    requires few { length choice.now ≤ 256 }
+    requires four { length left.old ≡ 4 }
+    requires ready { length ready.old ≡ length counts.now }
+    requires ways { length ways.old ≡ length counts.now }
+    requires sources { length board.now.sources.now ≡ length counts.now }
+    requires counted { IsCounted counts.now choice.now }
+    ensures search { IsSearch (lists_of board.now.offers.now) (room_at board.now.limit board.now.sources.now) choice.now board.now.low left.new ready.new ways.new result }
+    ensures room { (i : ℕ) → i < length ready.new → taken choice.now i < room_at board.now.limit board.now.sources.now i → is_reached ready.new i ≡ true }
 {
-    for n in offers {
-        if count(choice, *n) < rooms.of(*n) {
-            return Some(*n);
+    begin_left(left, board.low, choice.len());
+    ready.fill(false);
+    let mut tail = 0;
+    for interrupt in 0..counts.len() {
+        if has_room(board, counts, interrupt) {
+            let way = Way {
+                interrupt,
+                link: 0,
+                next: 0,
+            };
+            tail = add_way(board, choice, left, ready, ways, tail, way);
         }
     }
-    None
+    tail
 }
 
-/// Finds an interrupt for a link, for which others may be moved, but none that was reached.
-///
-/// An interrupt that has room is looked for before any link is moved: without that, a chain through all links would be
-/// tried for each of them.
-fn place(
-    rooms: &Rooms<'_>,
-    links: &[Link],
-    choice: &mut [Option<u32>],
-    reached: &mut [bool],
-    link: usize,
-) -> bool
-    requires counts { sum_by (λ w. w.1) rooms.now.wired.now ≤ 4096 }
-    requires choices { length choice.old ≡ length links.now }
-    requires marks { length reached.old ≡ length links.now }
-    requires link { link < length links.now }
-    requires fresh { is_reached reached.old link ≡ false }
-    requires placed { IsPlacement (offers_of links.now) (room_in rooms.now) choice.old }
-    requires spares { Spares (offers_of links.now) (room_in rooms.now) choice.old reached.old link }
-    ensures moved { OnTrue result (Moved (offers_of links.now) (room_in rooms.now) choice.old choice.new reached.old link) }
-    ensures fails { OnFalse result (Fails (offers_of links.now) (room_in rooms.now) choice.old choice.new reached.old reached.new link) }
+/// Finds all interrupts that are ready, where the links from one on may be moved, and gives their number.
+pub(crate) fn search(
+    board: &Board<'_>,
+    choice: &[Option<usize>],
+    counts: &[usize],
+    left: &mut [u64],
+    ready: &mut [bool],
+    ways: &mut [Way],
+) -> usize
+    requires few { length choice.now ≤ 256 }
+    requires choices { length choice.now ≡ length board.now.offers.now }
+    requires four { length left.old ≡ 4 }
+    requires ready { length ready.old ≡ length counts.now }
+    requires ways { length ways.old ≡ length counts.now }
+    requires sources { length board.now.sources.now ≡ length counts.now }
+    requires rows { AreRows (lists_of board.now.offers.now) (length counts.now) board.now.rows.now }
+    requires known { (l x : ℕ) → place_of choice.now l ≡ Some x → x < length counts.now }
+    requires counted { IsCounted counts.now choice.now }
+    ensures search { IsSearch (lists_of board.now.offers.now) (room_at board.now.limit board.now.sources.now) choice.now board.now.low left.new ready.new ways.new result }
+    ensures ready { AreReady (lists_of board.now.offers.now) (room_at board.now.limit board.now.sources.now) choice.now board.now.low ready.new }
 {
-    reached[link] = true;
-    let offers = links[link].offers();
-    match first_free(rooms, offers, choice) {
-        Some(n) => {
-            choice[link] = Some(n);
-            return true;
+    let mut tail = begin(board, choice, counts, left, ready, ways);
+    let mut pos = 0;
+    while pos < tail {
+        if !has_left(left) {
+            return tail;
         }
-        None => {}
+        tail = spread(board, choice, left, ready, ways, tail, pos);
+        pos += 1;
     }
-    for n in offers {
-        for j in 0..choice.len() {
-            if !reached[j] && choice[j] == Some(*n) && place(rooms, links, choice, reached, j) {
-                choice[link] = Some(*n);
-                return true;
-            }
-        }
-    }
-    false
-}
-
-/// Finds an interrupt for the one link that has none, for which others may be moved. Where there is none, `reached` marks
-/// links that offer full interrupts alone, and all links that have one of these.
-pub(crate) fn settle(
-    rooms: &Rooms<'_>,
-    links: &[Link],
-    choice: &mut [Option<u32>],
-    reached: &mut [bool],
-    link: usize,
-) -> bool
-    requires counts { sum_by (λ w. w.1) rooms.now.wired.now ≤ 4096 }
-    requires choices { length choice.old ≡ length links.now }
-    requires marks { length reached.old ≡ length links.now }
-    requires link { link < length links.now }
-    requires placed { IsPlacement (offers_of links.now) (room_in rooms.now) choice.old }
-    requires left_out { place_of choice.old link ≡ None }
-    requires others { IsWholeBut link choice.old }
-    ensures placed { OnTrue result (IsPlacement (offers_of links.now) (room_in rooms.now) choice.new) }
-    ensures whole { OnTrue result (IsWhole choice.new) }
-    ensures unchanged { OnFalse result (choice.new ≡ choice.old) }
-    ensures stuck { OnFalse result (IsStuck (offers_of links.now) (room_in rooms.now) choice.old reached.new link) }
-    ensures spared { OnFalse result ((k : ℕ) → is_reached reached.new k ≡ true → CanPlaceBut (offers_of links.now) (room_in rooms.now) k) }
-{
-    reached.fill(false);
-    place(rooms, links, choice, reached, link)
+    tail
 }

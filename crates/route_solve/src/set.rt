@@ -11,7 +11,7 @@ ghost use Rattle.route_solve.specs.Marks.{is_offered_by, HasAll};
 ghost use Rattle.route_model.specs.Bound.{IsLowerBound};
 ghost use Rattle.route_solve.specs.Shown.{Shown};
 
-use crate::rooms::wired_sources;
+use crate::sources::wired_sources;
 use route_model::Link;
 
 fn is_marked(marks: &[bool], link: usize) -> bool

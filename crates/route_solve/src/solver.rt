@@ -1,25 +1,33 @@
 //! The public calls: memory first, then a search that takes none.
-ghost use Rattle.std.specs.Prelude.{◌≡◌, ◌≤◌, ◌<◌, ◌+◌, ◌⊎◌, ℕ, List, [], IfOk, None, Option, false, length, replicate, slice_index_or, sum_by};
+ghost use Rattle.std.specs.Prelude.{◌≡◌, ◌≤◌, ◌<◌, ◌+◌, ◌⊎◌, ℕ, List, [], IfOk, IsSome, MatchOption, None, Option, Some, true, length, replicate, slice_index_or, sum_by};
 ghost use Rattle.std.specs.List.{range_with_len};
 ghost use Rattle.std.specs.List.Sorted.{IsStrictlyIncreasing};
 ghost use Rattle.route_model.specs.Links.{offers_of};
 ghost use Rattle.route_model.specs.Routing.{wired_to, busiest, IsAssignment, IsFirstLeast};
-ghost use Rattle.route_model.specs.Placement.{placement_of, is_reached, place_of, IsWhole};
+ghost use Rattle.route_model.specs.Placement.{placement_of, place_of, IsWhole, Offers};
 ghost use Rattle.route_solve.specs.Certificate.{IsSpread};
 ghost use Rattle.route_solve.specs.Fits.{Fits, IsOffer};
 ghost use Rattle.route_solve.specs.Floor.{IsFloor};
 ghost use Rattle.route_solve.specs.Marks.{HasAll};
+ghost use Rattle.route_solve.specs.Levels.{IsCounted};
+ghost use Rattle.route_solve.specs.Named.{name_of, named, AreSources};
+ghost use Rattle.route_solve.specs.Numbers.{is_offered, lists_of, HasOffered, IsNumbered};
+ghost use Rattle.route_solve.specs.Rows.{IsRow, HasRows};
 ghost use Rattle.route_model.specs.Bound.{IsLowerBound};
 ghost use Rattle.route_solve.specs.Shown.{Shown};
 
 use crate::answer::Answer;
 use crate::buffers::{all_interrupts, all_places};
+use crate::crowd::mark_set;
+use crate::fill::place_all;
 use crate::first::fix_all;
-use crate::limit::spread;
+use crate::levels::Board;
+use crate::numbers::{all_offered, all_places_offered, place_among};
 use crate::problem::Problem;
-use crate::rooms::wired_sources;
+use crate::rows::{all_rows, row_at};
 use crate::set::show;
-use route_model::Link;
+use crate::sources::{all_sources, wired_sources};
+use crate::ways::{NO_WAY, Way};
 use std::alloc::{AllocError, Global};
 
 /// The greatest number of sources that are wired to one interrupt.
@@ -39,50 +47,83 @@ fn greatest_wired(wired: &[(u32, u32)]) -> usize
     greatest
 }
 
-/// Writes out the interrupts of the links.
-fn write_out(choice: &[Option<u32>], given: &mut [u32])
-    requires lengths { length given.old ≡ length choice.now }
-    requires whole { IsWhole choice.now }
-    ensures { placement_of given.new ≡ choice.now }
+/// The number of the interrupt of a link that has one.
+fn number_held(numbers: &[u32], choice: &[Option<usize>], link: usize) -> u32
+    requires link { link < length choice.now }
+    requires placed { IsSome (place_of choice.now link) }
+    requires known { (i : ℕ) → place_of choice.now link ≡ Some i → i < length numbers.now }
+    ensures { name_of numbers.now (place_of choice.now link) ≡ Some result }
 {
-    for (k, number) in choice.iter().enumerate() {
-        if let Some(n) = number {
-            given[k] = *n;
-        }
+    match choice[link] {
+        Some(i) => numbers[i],
+        None => 0,
     }
 }
 
-/// Finds the first least assignment, and gives how many sources its busiest interrupt serves.
+/// Writes out the numbers of the interrupts that the links have.
+fn write_out(numbers: &[u32], choice: &[Option<usize>], given: &mut [u32])
+    requires lengths { length given.old ≡ length choice.now }
+    requires whole { IsWhole choice.now }
+    requires known { (k i : ℕ) → place_of choice.now k ≡ Some i → i < length numbers.now }
+    ensures { placement_of given.new ≡ named numbers.now choice.now }
+{
+    for k in 0..choice.len() {
+        given[k] = number_held(numbers, choice, k);
+    }
+}
+
+/// Finds the first least assignment of a problem, and gives how many sources its busiest interrupt serves.
 fn assign(
-    wired: &[(u32, u32)],
-    links: &[Link],
-    choice: &mut [Option<u32>],
+    problem: &Problem,
+    numbers: &[u32],
+    board: &Board<'_>,
+    choice: &mut [Option<usize>],
+    counts: &mut [usize],
+    kept: &mut [usize],
+    left: &mut [u64],
+    ready: &mut [bool],
+    ways: &mut [Way],
     reached: &mut [bool],
-    stuck: &mut [bool],
+    queue: &mut [usize],
+    from: &mut [usize],
     given: &mut [u32],
-    floor: usize,
 ) -> usize
-    requires counts { sum_by (λ w. w.1) wired.now ≤ 4096 }
-    requires choices { length choice.old ≡ length links.now }
-    requires marks { length reached.old ≡ length links.now }
-    requires more_marks { length stuck.old ≡ length links.now }
-    requires numbers { length given.old ≡ length links.now }
-    requires few { length links.now ≤ 256 }
-    requires offered { (k : ℕ) → k < length links.now → 0 < length (slice_index_or (offers_of links.now) k []) }
-    requires ascending { (k : ℕ) → k < length links.now → IsStrictlyIncreasing (slice_index_or (offers_of links.now) k []) }
+    requires up { IsStrictlyIncreasing numbers.now }
+    requires numbered { IsNumbered (offers_of problem.now.links) numbers.now (lists_of board.now.offers.now) }
+    requires from_wired { AreSources numbers.now problem.now.wired board.now.sources.now }
+    requires rows { HasRows (offers_of problem.now.links) numbers.now board.now.rows.now }
+    requires long { length board.now.offers.now ≡ length problem.now.links }
+    requires choices { length choice.old ≡ length problem.now.links }
+    requires room { length counts.old ≡ length numbers.now }
+    requires kept { length kept.old ≡ length numbers.now }
+    requires four { length left.old ≡ 4 }
+    requires ready { length ready.old ≡ length numbers.now }
+    requires ways { length ways.old ≡ length numbers.now }
+    requires marks { length reached.old ≡ length problem.now.links }
+    requires queue { length queue.old ≡ length problem.now.links }
+    requires from { length from.old ≡ length problem.now.links }
+    requires answers { length given.old ≡ length problem.now.links }
+    requires few { length problem.now.links ≤ 256 }
+    requires offered { (k : ℕ) → k < length problem.now.links → 0 < length (slice_index_or (offers_of problem.now.links) k []) }
+    requires ascending { (k : ℕ) → k < length problem.now.links → IsStrictlyIncreasing (slice_index_or (offers_of problem.now.links) k []) }
+    requires all { board.now.low ≡ 0 }
     requires unplaced { (k : ℕ) → place_of choice.old k ≡ None }
-    requires unreached { (k : ℕ) → is_reached reached.old k ≡ false }
-    requires floor { floor ≤ 4096 }
-    requires floor_is { IsFloor wired.now floor }
-    requires wired_below { (i : ℕ) → wired_to wired.now i ≤ floor }
-    ensures first_least { IsFirstLeast (offers_of links.now) wired.now given.new }
-    ensures busiest { busiest wired.now given.new ≡ result }
-    ensures limit { (p : List (Option ℕ)) × IsSpread (offers_of links.now) wired.now floor result p stuck.new }
+    requires counted { IsCounted counts.old choice.old }
+    requires floor { board.now.limit ≤ 4096 }
+    requires floor_is { IsFloor problem.now.wired board.now.limit }
+    requires wired_below { (i : ℕ) → wired_to problem.now.wired i ≤ board.now.limit }
+    ensures first_least { IsFirstLeast (offers_of problem.now.links) problem.now.wired given.new }
+    ensures busiest { busiest problem.now.wired given.new ≡ result }
+    ensures limit { (p : List (Option ℕ)) × IsSpread (offers_of problem.now.links) problem.now.wired board.now.limit result p reached.new }
     ensures small { result ≤ 4352 }
 {
-    let limit = spread(wired, links, choice, reached, stuck, floor);
-    fix_all(wired, links, choice, reached, limit);
-    write_out(choice, given);
+    let limit = place_all(board, choice, counts, left, ready, ways);
+    let within = Board { limit, ..*board };
+    fix_all(&within, choice, counts, kept, left, ready, ways);
+    write_out(numbers, choice, given);
+    mark_set(
+        board, choice, counts, left, ready, ways, reached, queue, from, limit,
+    );
     limit
 }
 
@@ -90,12 +131,32 @@ fn assign(
 #[derive(Drop)]
 pub struct Solver<'a> {
     problem: &'a Problem,
-    /// The interrupts that the links have so far.
-    choice: Vec<Option<u32>>,
-    /// The links that the search in hand has reached.
+    /// The interrupts that links offer, ascending.
+    numbers: Vec<u32>,
+    /// The row of each of these, four words long.
+    rows: Vec<u64>,
+    /// For each link the places of what it offers.
+    offers: Vec<Vec<usize>>,
+    /// How many sources are wired to each interrupt.
+    sources: Vec<usize>,
+    /// The places of the interrupts that the links have so far.
+    choice: Vec<Option<usize>>,
+    /// How many links have each interrupt.
+    counts: Vec<usize>,
+    /// How many of the links that were fixed have each interrupt.
+    kept: Vec<usize>,
+    /// The links that the search in hand has not come to.
+    left: Vec<u64>,
+    /// The interrupts that it has found to be ready.
+    ready: Vec<bool>,
+    /// How it found them.
+    ways: Vec<Way>,
+    /// The links that a search by levels has reached.
     reached: Vec<bool>,
-    /// The links that the last search within too small a limit reached.
-    stuck: Vec<bool>,
+    /// The same, level after level.
+    queue: Vec<usize>,
+    /// For each of these the place in the queue of the one from which it was reached.
+    from: Vec<usize>,
     /// Room for the choice.
     given: Vec<u32>,
     /// All places, of which those of the set stay.
@@ -103,15 +164,27 @@ pub struct Solver<'a> {
     /// All interrupts, of which those of the set stay.
     interrupts: Vec<u32>,
     ghost few: { length problem.now.links ≤ 256 },
-    ghost offers: { (k : ℕ) → k < length problem.now.links → IsOffer (slice_index_or (offers_of problem.now.links) k []) },
-    ghost counts: { sum_by (λ w. w.1) problem.now.wired ≤ 4096 },
-    ghost choices: { choice.items ≡ replicate (length problem.now.links) None },
-    ghost marks: { reached.items ≡ replicate (length problem.now.links) false },
-    ghost more_marks: { length stuck.items ≡ length problem.now.links },
-    ghost numbers: { length given.items ≡ length problem.now.links },
+    ghost each_offer: { (k : ℕ) → k < length problem.now.links → IsOffer (slice_index_or (offers_of problem.now.links) k []) },
+    ghost few_sources: { sum_by (λ w. w.1) problem.now.wired ≤ 4096 },
+    ghost unplaced: { choice.items ≡ replicate (length problem.now.links) None },
+    ghost uncounted: { counts.items ≡ replicate (length numbers.items) 0 },
+    ghost keeps: { length kept.items ≡ length numbers.items },
+    ghost words: { length left.items ≡ 4 },
+    ghost marks: { length ready.items ≡ length numbers.items },
+    ghost each_way: { length ways.items ≡ length numbers.items },
+    ghost reaches: { length reached.items ≡ length problem.now.links },
+    ghost in_queue: { length queue.items ≡ length problem.now.links },
+    ghost parents: { length from.items ≡ length problem.now.links },
+    ghost by_place: { IsNumbered (offers_of problem.now.links) numbers.items (lists_of offers.items) },
+    ghost each_link: { length offers.items ≡ length problem.now.links },
+    ghost each_source: { AreSources numbers.items problem.now.wired sources.items },
+    ghost answers: { length given.items ≡ length problem.now.links },
     ghost all_there: { places.items ≡ range_with_len 0 (length problem.now.links) },
     ghost ascending: { IsStrictlyIncreasing interrupts.items },
     ghost all: { HasAll (offers_of problem.now.links) problem.now.wired interrupts.items },
+    ghost in_order: { IsStrictlyIncreasing numbers.items },
+    ghost offered: { HasOffered (offers_of problem.now.links) numbers.items },
+    ghost bits: { HasRows (offers_of problem.now.links) numbers.items rows.items },
 }
 
 impl<'a> Solver<'a> {
@@ -123,16 +196,42 @@ impl<'a> Solver<'a> {
         let links = problem.links();
         let n = links.len();
         let places = all_places(alloc, n)?;
-        let interrupts = all_interrupts(alloc, links, problem.wired())?;
+        let numbers = all_offered(alloc, links)?;
+        let interrupts = all_interrupts(alloc, &numbers, problem.wired())?;
+        let offers = all_places_offered(alloc, &numbers, links)?;
+        let rows = all_rows(alloc, &numbers, &offers)?;
+        let sources = all_sources(alloc, &numbers, problem.wired())?;
+        let m = numbers.len();
         Ok(Solver {
             problem,
+            numbers,
+            rows,
+            offers,
+            sources,
             choice: vec![in alloc; None; n]?,
+            counts: vec![in alloc; 0; m]?,
+            kept: vec![in alloc; 0; m]?,
+            left: vec![in alloc; 0; 4]?,
+            ready: vec![in alloc; false; m]?,
+            ways: vec![in alloc; NO_WAY; m]?,
             reached: vec![in alloc; false; n]?,
-            stuck: vec![in alloc; false; n]?,
+            queue: vec![in alloc; 0; n]?,
+            from: vec![in alloc; 0; n]?,
             given: vec![in alloc; 0; n]?,
             places,
             interrupts,
         })
+    }
+
+    /// The row of an interrupt, four words with the lowest bit first: bit i is set exactly where link i of the problem,
+    /// counted from 0, offers it. None where no link does. It takes no memory.
+    pub fn row(&self, n: u32) -> Option<[u64; 4]>
+        ensures { MatchOption result ((l : ℕ) → Offers (offers_of self.now.problem.now.links) l n → ⊥) (λ row. (is_offered (offers_of self.now.problem.now.links) n ≡ true) × IsRow (offers_of self.now.problem.now.links) n row) }
+    {
+        match place_among(&self.numbers, n) {
+            Some(i) => Some(row_at(&self.rows, i)),
+            None => None,
+        }
     }
 
     /// Finds the first least assignment, and the set that shows why none is less busy. It takes no memory.
@@ -145,9 +244,19 @@ impl<'a> Solver<'a> {
     {
         let Solver {
             problem,
+            numbers,
+            rows,
+            offers,
+            sources,
             mut choice,
+            mut counts,
+            mut kept,
+            mut left,
+            mut ready,
+            mut ways,
             mut reached,
-            mut stuck,
+            mut queue,
+            mut from,
             mut given,
             mut places,
             mut interrupts,
@@ -155,19 +264,32 @@ impl<'a> Solver<'a> {
         let links = problem.links();
         let wired = problem.wired();
         let floor = greatest_wired(wired);
+        let board = Board {
+            offers: &offers,
+            rows: &rows,
+            sources: &sources,
+            limit: floor,
+            low: 0,
+        };
         let limit = assign(
-            wired,
-            links,
+            problem,
+            &numbers,
+            &board,
             &mut choice,
+            &mut counts,
+            &mut kept,
+            &mut left,
+            &mut ready,
+            &mut ways,
             &mut reached,
-            &mut stuck,
+            &mut queue,
+            &mut from,
             &mut given,
-            floor,
         );
         show(
             wired,
             links,
-            &stuck,
+            &reached,
             floor,
             limit,
             &mut places,

@@ -1,14 +1,18 @@
 //! For measuring parts of the program by themselves: `timing machine-text` reads a machine text from the standard input and
-//! prints the address of its RSDP; `timing solver` reads links and prints how many sources the busiest interrupt of their first
-//! least assignment serves.
+//! prints the address of its RSDP; `timing solver TIMES` reads links and wired interrupts, solves the problem so many times, once
+//! where no number is given, and prints how many sources the busiest interrupt of its first least assignment serves; and
+//! `timing earlier-solver TIMES` does the same by the earlier solver, which is there for tests.
 #![tactic(auto)]
 
 mod links;
 
+ghost use Rattle.route_solve.specs.Fits.{Fits};
+
 use crate::links::problem;
 use machine_text::read_machine;
-use route_solve::{fits, solve};
-use std::alloc::Global;
+use route_solve::{Answer, Problem, fits, solve};
+use route_try::earlier;
+use std::alloc::{AllocError, Global};
 use std::env;
 use std::io::Read;
 
@@ -20,14 +24,47 @@ fn machine_line(alloc: Global, text: &[u8]) -> anyhow::Result<String> {
     })
 }
 
-/// What links come to.
-fn solver_line(alloc: Global, text: &[u8]) -> anyhow::Result<String> {
+/// A solver.
+#[derive(Clone, Copy)]
+enum Which {
+    Now,
+    Earlier,
+}
+
+/// What a solver answers.
+fn solved(alloc: Global, which: Which, problem: &Problem) -> Result<Answer, AllocError>
+    requires { Fits problem.now }
+{
+    match which {
+        Which::Now => solve(alloc, problem),
+        Which::Earlier => earlier::solve(alloc, problem),
+    }
+}
+
+/// What links come to, solved so many times.
+fn solver_line(alloc: Global, text: &[u8], which: Which, times: u32) -> anyhow::Result<String> {
     let problem = problem(alloc, text)?;
     if !fits(&problem) {
         return Ok("not a problem that fits".to_string(alloc)?);
     }
-    let answer = solve(alloc, &problem)?;
-    Ok(format!(in alloc; "busiest {}", answer.busiest)?)
+    let mut busiest = 0;
+    for _ in 0..times {
+        busiest = solved(alloc, which, &problem)?.busiest;
+    }
+    Ok(format!(in alloc; "busiest {busiest}")?)
+}
+
+/// What the words of the command line ask for.
+fn line(alloc: Global, words: &[String], text: &[u8]) -> anyhow::Result<String> {
+    let word = words.get(1).map_or("", |word| word.as_str());
+    let times = words.get(2).map_or("1", |word| word.as_str());
+    let times = u32::from_str_radix(times, 10).unwrap_or(0);
+    match word {
+        "machine-text" => machine_line(alloc, text),
+        "solver" => solver_line(alloc, text, Which::Now, times),
+        "earlier-solver" => solver_line(alloc, text, Which::Earlier, times),
+        _ => Ok("machine-text, solver or earlier-solver?".to_string(alloc)?),
+    }
 }
 
 fn main(rt: HostRuntime) -> anyhow::Result<()> {
@@ -35,11 +72,7 @@ fn main(rt: HostRuntime) -> anyhow::Result<()> {
     let words: Vec<String> = env::args(&rt)?.collect(alloc)?;
     let mut text = Vec::new(alloc);
     rt.reader().read_to_end(&mut text)?;
-    let line = match words.get(1) {
-        Some(word) if word.as_str() == "machine-text" => machine_line(alloc, &text)?,
-        Some(word) if word.as_str() == "solver" => solver_line(alloc, &text)?,
-        _ => "machine-text or solver?".to_string(alloc)?,
-    };
+    let line = line(alloc, &words, &text)?;
     println!(rt; "{line}")?;
     Ok(())
 }

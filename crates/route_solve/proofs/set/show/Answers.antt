@@ -4,7 +4,7 @@ use Rattle.std.specs.List.{range_with_len}
 use Rattle.route_model.specs.Routing.{wired_to}
 use Rattle.route_model.specs.Placement.{is_reached}
 use Rattle.route_model.specs.Links.{offers_of}
-use Rattle.route_solve.specs.Search.{room_of}
+use Rattle.route_solve.specs.Room.{room_of}
 use Rattle.route_solve.specs.Certificate.{IsCertificate}
 use Rattle.route_solve.specs.Floor.{IsFloor}
 use Rattle.route_solve.specs.Shown.{Shown}

@@ -1,0 +1,187 @@
+//! The offered interrupts in ascending order. Each is known by its place among them.
+ghost use Rattle.std.specs.Prelude.{◌≡◌, ◌≤◌, ◌<◌, ◌⊎◌, ℕ, [], Contains, IfOk, IfSome, OnOk, MatchOption, length, map, slice_index_or, true};
+ghost use Rattle.std.specs.List.Sorted.{IsStrictlyIncreasing};
+ghost use Rattle.route_model.specs.Links.{offers_of};
+ghost use Rattle.route_solve.specs.Numbers.{is_offered, lists_of, HasOffered, IsNumbered};
+
+use crate::conditions::ascends;
+use route_model::Link;
+use std::alloc::{AllocError, Global};
+
+/// Puts numbers in ascending order, each of them once.
+pub(crate) fn put_in_order(numbers: &mut Vec<u32>) -> Result<(), AllocError>
+    ensures ascending { OnOk result (IsStrictlyIncreasing numbers.new.items) }
+    ensures kept { OnOk result ((n : ℕ) → Contains numbers.old.items n → Contains numbers.new.items n) }
+    ensures only { OnOk result ((n : ℕ) → Contains numbers.new.items n → Contains numbers.old.items n) }
+{
+    if ascends(numbers) {
+        return Ok(());
+    }
+    numbers.sort()?;
+    numbers.dedup();
+    Ok(())
+}
+
+/// How many places are looked at before a number is found by halves.
+const NEAR: usize = 8;
+
+/// Looks for a number at a few places from one on.
+fn near(numbers: &[u32], from: usize, n: u32) -> Option<usize>
+    ensures { IfSome result (λ i. (i < length numbers.now) × (slice_index_or numbers.now i 0 ≡ n)) }
+{
+    let end = numbers.len().min(from.saturating_add(NEAR));
+    for i in from..end {
+        if numbers[i] == n {
+            return Some(i);
+        }
+    }
+    None
+}
+
+/// Looks for a number from a place on among the first so many, where it is found if these ascend and the ones before the place
+/// are smaller. Where it isn't, gives the place from which on to look for a greater one.
+fn among_first(numbers: &[u32], count: usize, from: usize, n: u32) -> Result<usize, usize>
+    ensures { IfOk result (λ i. (i < length numbers.now) × (slice_index_or numbers.now i 0 ≡ n)) }
+{
+    let first = &numbers[..count.min(numbers.len())];
+    let end = first.len().min(from.saturating_add(NEAR));
+    for i in from..end {
+        if numbers[i] == n {
+            return Ok(i);
+        }
+        if numbers[i] > n {
+            return Err(i);
+        }
+    }
+    match first.binary_search(&n) {
+        Ok(i) if numbers[i] == n => Ok(i),
+        Ok(i) | Err(i) => Err(i),
+    }
+}
+
+/// Adds a number that a link offers, unless it is seen to be there, and gives the place from which on to look for the next.
+fn add_offer(numbers: &mut Vec<u32>, count: usize, from: usize, n: u32) -> Result<usize, AllocError>
+    ensures kept { OnOk result ((m : ℕ) → Contains numbers.old.items m → Contains numbers.new.items m) }
+    ensures added { OnOk result (Contains numbers.new.items n) }
+    ensures only { OnOk result ((m : ℕ) → Contains numbers.new.items m → Contains numbers.old.items m ⊎ (n ≡ m)) }
+{
+    match among_first(numbers, count, from, n) {
+        Ok(i) => Ok(i + 1),
+        Err(next) => {
+            numbers.push(n)?;
+            Ok(next)
+        }
+    }
+}
+
+/// Adds what a link offers, except what is seen to be there.
+fn add_offers(numbers: &mut Vec<u32>, count: usize, offers: &[u32]) -> Result<(), AllocError>
+    ensures kept { OnOk result ((n : ℕ) → Contains numbers.old.items n → Contains numbers.new.items n) }
+    ensures added { OnOk result ((n : ℕ) → Contains offers.now n → Contains numbers.new.items n) }
+    ensures only { OnOk result ((n : ℕ) → Contains numbers.new.items n → Contains numbers.old.items n ⊎ Contains offers.now n) }
+{
+    let mut from = 0;
+    for n in offers {
+        from = add_offer(numbers, count, from, *n)?;
+    }
+    Ok(())
+}
+
+/// Adds what a link offers to numbers of which the first so many ascend, and gives how many do then: all, if they are more than
+/// twice as many.
+fn gather(numbers: &mut Vec<u32>, count: usize, offers: &[u32]) -> Result<usize, AllocError>
+    ensures kept { OnOk result ((n : ℕ) → Contains numbers.old.items n → Contains numbers.new.items n) }
+    ensures added { OnOk result ((n : ℕ) → Contains offers.now n → Contains numbers.new.items n) }
+    ensures only { OnOk result ((n : ℕ) → Contains numbers.new.items n → Contains numbers.old.items n ⊎ Contains offers.now n) }
+{
+    add_offers(numbers, count, offers)?;
+    if numbers.len() / 2 < count {
+        return Ok(count);
+    }
+    put_in_order(numbers)?;
+    Ok(numbers.len())
+}
+
+/// All interrupts that a link offers, ascending.
+pub(crate) fn all_offered(alloc: Global, links: &[Link]) -> Result<Vec<u32>, AllocError>
+    ensures ascending { IfOk result (λ numbers. IsStrictlyIncreasing numbers.items) }
+    ensures all { IfOk result (λ numbers. HasOffered (offers_of links.now) numbers.items) }
+{
+    let mut numbers = Vec::new(alloc);
+    let mut count = 0;
+    for link in links {
+        count = gather(&mut numbers, count, link.offers())?;
+    }
+    put_in_order(&mut numbers)?;
+    Ok(numbers)
+}
+
+/// The place of a number among ascending ones, found by halves.
+pub(crate) fn place_among(numbers: &[u32], n: u32) -> Option<usize>
+    requires { IsStrictlyIncreasing numbers.now }
+    ensures { MatchOption result (Contains numbers.now n → ⊥) (λ i. (i < length numbers.now) × (slice_index_or numbers.now i 0 ≡ n)) }
+{
+    let mut low: usize = 0;
+    let mut high: usize = numbers.len();
+    while low < high {
+        let middle = low + (high - low) / 2;
+        if numbers[middle] == n {
+            return Some(middle);
+        }
+        if numbers[middle] < n {
+            low = middle + 1;
+        } else {
+            high = middle;
+        }
+    }
+    None
+}
+
+/// The place of a number among ascending ones, looked for from a place on first.
+fn place_near(numbers: &[u32], from: usize, n: u32) -> Option<usize>
+    requires { IsStrictlyIncreasing numbers.now }
+    ensures { MatchOption result (Contains numbers.now n → ⊥) (λ i. (i < length numbers.now) × (slice_index_or numbers.now i 0 ≡ n)) }
+{
+    match near(numbers, from, n) {
+        Some(i) => Some(i),
+        None => place_among(numbers, n),
+    }
+}
+
+/// The places of what a link offers.
+fn places_of(alloc: Global, numbers: &[u32], offers: &[u32]) -> Result<Vec<usize>, AllocError>
+    requires ascending { IsStrictlyIncreasing numbers.now }
+    requires all { (n : ℕ) → Contains offers.now n → Contains numbers.now n }
+    ensures below { IfOk result (λ places. (i : ℕ) → Contains places.items i → i < length numbers.now) }
+    ensures named { IfOk result (λ places. map (λ i. slice_index_or numbers.now i 0) places.items ≡ offers.now) }
+{
+    let mut places = Vec::with_capacity(alloc, offers.len())?;
+    let mut from = 0;
+    for n in offers {
+        match place_near(numbers, from, *n) {
+            Some(i) => {
+                places.push(i)?;
+                from = i + 1;
+            }
+            None => {}
+        }
+    }
+    Ok(places)
+}
+
+/// For each link the places of what it offers.
+pub(crate) fn all_places_offered(
+    alloc: Global,
+    numbers: &[u32],
+    links: &[Link],
+) -> Result<Vec<Vec<usize>>, AllocError>
+    requires ascending { IsStrictlyIncreasing numbers.now }
+    requires all { HasOffered (offers_of links.now) numbers.now }
+    ensures { IfOk result (λ places. IsNumbered (offers_of links.now) numbers.now (lists_of places.items)) }
+{
+    let mut places = Vec::new(alloc);
+    for link in links {
+        places.push(places_of(alloc, numbers, link.offers())?)?;
+    }
+    Ok(places)
+}
