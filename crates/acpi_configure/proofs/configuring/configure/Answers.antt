@@ -1,6 +1,8 @@
 use Rattle.std.proofs.Common.{◌≤◌, length, subst, ◌∙◌, arith}
+use Rattle.acpi_machine.specs.Evaluations.{leaves_next}
 use Rattle.acpi_links.specs.Problems.{pin_counts}
 use Rattle.acpi_configure.specs.Configured.{Solves}
+use Rattle.acpi_configure.specs.Settling.{leaves_in}
 use Rattle.acpi_configure.proofs.Claims.{Bounded, Laws}
 use Rattle.acpi_configure.proofs.Reported.{reported, memory, told, offers_told}
 use Rattle.acpi_configure.proofs.Settled.{chosen_each, offered_each}
@@ -37,3 +39,9 @@ returns-clause-report g c =
     (subst (λ p. Solves p a) c.problem.ensures c.in_ok-answer.ensures.solves) (subst (λ p. Bounded p a) c.problem.ensures c.in_ok-answer.ensures.bound)
     c.in_ok-settings.ensures.value
     (c.with_settings.ensures ∙ told c.in_ok-report.report _ _ c.in_ok-report.ensures.lines) c.sci-sci.ensures
+
+pub returns-in_err-settings-clause-evaluated : goal.returns-in_err-settings-clause-evaluated
+returns-in_err-settings-clause-evaluated g c = leaves_next (leaves_in c.args.dry c.in_ok-gathered.ensures.evaluated) c.in_err-settings.ensures.evaluated
+
+pub returns-clause-evaluated : goal.returns-clause-evaluated
+returns-clause-evaluated g c = leaves_next (leaves_in c.args.dry c.in_ok-gathered.ensures.evaluated) c.in_ok-settings.ensures.evaluated
