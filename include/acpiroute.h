@@ -36,10 +36,14 @@ enum {
     ACPIROUTE_REPLIED = 0,
     /*
      * A buffer is too small. Both buffers are as they were, and `reply` has the sizes and the status. A second call with buffers
-     * of these sizes has the same reply, unless memory runs out.
+     * of these sizes has the same reply, unless memory runs out. That is proved of what a run says; where the options have a
+     * fault, it is so of the library that reads them.
      */
     ACPIROUTE_TOO_SMALL = 1,
-    /* Memory ran out. Buffers and `reply` are as they were. */
+    /*
+     * Memory ran out before there was a reply. Buffers and `reply` are as they were. Where memory runs out in the run itself, there is
+     * a reply: status 1 and the line `refused 99`, or status 2 while the options are read.
+     */
     ACPIROUTE_NO_MEMORY = 2,
     /* A word of the options is not UTF-8. Buffers and `reply` are as they were. */
     ACPIROUTE_NOT_UTF8 = 3,
@@ -57,13 +61,13 @@ struct acpiroute_reply {
     /* How many bytes the text has: what the program would write to its output. They are at the start of the buffer `text`. */
     size_t text_length;
     /*
-     * How many bytes the line has: what the program would write to its errors, with a line feed at its end; 0 where it writes
-     * nothing there. They are at the start of the buffer `line`.
+     * How many bytes the line has: what the program would write to its errors; 0 where it writes nothing there. They are at the
+     * start of the buffer `line`. A refusal is one line with a line feed at its end.
      */
     size_t line_length;
     /*
-     * The exit status of the program: 0 it did its work, 1 refused, 2 the options are wrong, 3 the report is written and a link
-     * refused its setting, 4 `check` says no.
+     * The exit status of the program: 0 it did its work, 1 refused, 2 the options are wrong or memory ran out while they were read, 3
+     * the report is written and a link refused its setting, 4 `check` says no.
      */
     uint8_t status;
 };
