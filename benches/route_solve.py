@@ -5,8 +5,9 @@
 
 The program is crates/timing/out/timing: build it first by `rt run` in crates/timing. Each problem is solved many times in one run
 of it, by `timing solver TIMES` and by `timing earlier-solver TIMES` in turn, and what a run with no solution takes is taken off.
-The microseconds of a solution are those of the fastest of five runs. With --count the instructions of a solution are counted in
-place of that, by valgrind's callgrind, which other work on the machine doesn't disturb. The problems are the same at each call.
+The microseconds of a solution are those of the fastest of five runs, of one run where a solution takes half a second. With --count
+the instructions of one solution are counted in place of that, by valgrind's callgrind, which other work on the machine doesn't
+disturb. The problems are the same at each call.
 """
 import pathlib
 import random
@@ -122,11 +123,14 @@ def seconds(command, text):
 
 def fastest(program, solver, text):
     """The microseconds of a solution, and what it came to."""
-    once, came = min(seconds([program, solver, "20"], text) for _ in range(2))
-    times = max(20, min(20000, int(0.1 / max(once / 20, 1e-6))))
-    none = min(seconds([program, solver, "0"], text)[0] for _ in range(5))
-    many = min(seconds([program, solver, str(times)], text)[0] for _ in range(5))
-    return (many - none) / times * 1e6, came
+    once, came = seconds([program, solver, "1"], text)
+    runs = 5 if once < 0.5 else 1
+    times = max(1, min(20000, int(0.1 / once)))
+    once = min(seconds([program, solver, str(times)], text)[0] for _ in range(runs)) / times
+    times = max(1, min(20000, int(0.1 / once)))
+    none = min(seconds([program, solver, "0"], text)[0] for _ in range(runs))
+    many = min(seconds([program, solver, str(times)], text)[0] for _ in range(runs))
+    return max(many - none, 0) / times * 1e6, came
 
 
 def instructions(program, solver, times, text):
@@ -138,8 +142,8 @@ def instructions(program, solver, times, text):
 
 def counted(program, solver, text):
     """The thousands of instructions of a solution, and what it came to."""
-    (none, _), (some, came) = instructions(program, solver, 0, text), instructions(program, solver, 4, text)
-    return (some - none) / 4 / 1000, came
+    (none, _), (some, came) = instructions(program, solver, 0, text), instructions(program, solver, 1, text)
+    return (some - none) / 1000, came
 
 
 def main(words):
