@@ -11,7 +11,7 @@ use aml_path::Path;
 use ar_space::Sparse;
 use route_check::check;
 use route_report::{Report, print, read};
-use route_solve::solve;
+use route_solve::{fits, solve};
 use std::alloc::Global;
 
 /// The path of a text.
@@ -43,7 +43,11 @@ fn call_link(alloc: Global, machine: &mut Machine<Sparse>) -> Result<(), Ended> 
 
 /// The answer to a machine's problem.
 fn call_solver(alloc: Global, gathered: &Gathered) -> Result<(), Ended> {
-    match solve(alloc, gathered.problem()) {
+    let problem = gathered.problem();
+    if !fits(problem) {
+        return Err(Ended::Broken("fits"));
+    }
+    match solve(alloc, problem) {
         Ok(_) => Ok(()),
         Err(_) => Err(Ended::OutOfMemory),
     }
