@@ -51,10 +51,11 @@ filled_by r f = if is_too_small r f then record f { reply = sizes_of r } else re
 
 -- ---- the call
 
--- there is a reply: that of the program to these words over this input
-pub record IsReplied (words : List (List ℕ)) (input : List ℕ) (code : ℕ) (before after : Filled) : Type 0 where
+-- there is a reply: that of the program to the words of a command and its options, which are all UTF-8, over this input
+pub record IsReplied (command options input : List ℕ) (code : ℕ) (before after : Filled) : Type 0 where
+  pub utf8 : All IsUtf8 (options_of options)
   pub reply : Reply
-  pub is_reply : IsReply words false input reply
+  pub is_reply : IsReply (words_of command options) false input reply
   pub code_is : code ≡ code_of reply before
   pub is_filled : after ≡ filled_by reply before
 
@@ -71,4 +72,4 @@ pub record IsUnsaid (options : List (List ℕ)) (code : ℕ) (before after : Fil
 
 abbrev pub IsCall : List ℕ → List ℕ → List ℕ → ℕ → Filled → Filled → Type 0
 IsCall command options input code before after =
-    IsReplied (words_of command options) input code before after ⊎ IsUnsaid (options_of options) code before after
+    IsReplied command options input code before after ⊎ IsUnsaid (options_of options) code before after

@@ -13,6 +13,7 @@ use std::alloc::Global;
 /// What a run of the program over these words and this input has to say.
 fn said(alloc: Global, command: &str, options: &[u8], input: &[u8]) -> Result<Reply, Unsaid>
     ensures reply { IfOk result (λ r. IsReply (words_of command.now options.now) false input.now r) }
+    ensures utf8 { IfOk result (λ _. All IsUtf8 (options_of options.now)) }
     ensures fault { IfErr result (λ why. why ≡ NotUtf8 → ¬ (All IsUtf8 (options_of options.now))) }
 {
     let words = match words_of(alloc, command, options) {
