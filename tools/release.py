@@ -114,8 +114,9 @@ def main():
     for name in (PROGRAM, LIBRARY):
         if not os.path.exists(os.path.join(TOP, name)):
             sys.exit(f"release.py: {name} is not built")
+    archive = packed(contents(), f"acpiroute-{version()}")
     with open(asked.archive, "wb") as file:
-        file.write(packed(contents(), f"acpiroute-{version()}"))
+        file.write(archive)
     if asked.check:
         sys.exit(unpacked_runs(asked.archive))
 
