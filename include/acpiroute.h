@@ -47,7 +47,8 @@ enum {
     ACPIROUTE_NO_MEMORY = 2,
     /* A word of the options is not UTF-8. Buffers and `reply` are as they were. */
     ACPIROUTE_NOT_UTF8 = 3,
-    /* An access is wanted, and stands in `wanted`. Buffers and `reply` are as they were. Only `acpiroute_configure` says so. */
+    /* An access is wanted, and stands in `wanted`. Buffers and `reply` are as they were. Only `acpiroute_configure` says so, and
+     * with any other result `wanted` is as it was. */
     ACPIROUTE_WANTED = 4,
     /*
      * A number of the settings or of an access in the record is none of those that are listed here. Buffers, `reply` and `wanted` are
@@ -126,7 +127,8 @@ enum {
  * An access of a register. One that is wanted has the answer ACPIROUTE_ANSWERED, and the value 0 if it is a read. The caller makes it,
  * puts the value that was read into `value` and how it was answered into `answer`, and changes nothing else of it in the record.
  *
- * A value that was read has to fit the width: one that does not makes no entry of this access, which is then wanted again.
+ * A value that was read has to fit the width, and a port or a register is below 65,536; else the call answers
+ * ACPIROUTE_MALFORMED.
  */
 struct acpiroute_access {
     uint64_t address;
@@ -161,16 +163,22 @@ struct acpiroute_settings {
  *
  * Of the machine text only the tables in its memory are read, and the texts of `_OSI`: its registers are passed over. Each access of a
  * register is answered from the record, in order, from the first of its entries on; accesses of memory that tables ask for are among
- * them. The call ends at the first access that the record does not hold, with ACPIROUTE_WANTED. So a caller
+ * them. At the first access that the record does not hold, the entries end to count: the run goes on to its end with each further access
+ * refused, which changes nothing outside of the call, and the call answers ACPIROUTE_WANTED with that first access. So a caller
  *
  *  1. calls with an empty record;
  *  2. makes the access that is wanted, appends it with its answer to the record, and calls again, with all else as before;
- *  3. goes on so until the call answers something else. Where that is ACPIROUTE_REPLIED, the links are set, unless the reply says
- *     that the machine was refused.
+ *  3. goes on so until the call answers something else. Where that is ACPIROUTE_REPLIED, the status says how the run came out: 0 the
+ *     links are set (none where `dry` is 1), 3 they are set but for those that refused it, as the text says, 1 the machine is refused,
+ *     for the reason in the line.
+ *
+ * Where the access that is wanted is the one that was appended last, the record is not of this run: other settings, another text, or
+ * an entry that was changed. Begin anew with an empty record. That a run ends in all cases is not proved: registers may answer so that
+ * its steps run out (70).
  *
  * The record is read anew by each call, and keeps to the order in which accesses were made. Between two accesses the caller may do
- * what it likes, but nothing else is to change the registers that the tables use. After ACPIROUTE_TOO_SMALL or ACPIROUTE_NO_MEMORY
- * the same call may be made again: no access is lost.
+ * what it likes, but nothing else is to change the registers that the tables use. After ACPIROUTE_TOO_SMALL, ACPIROUTE_NO_MEMORY or
+ * the line `refused 99` the same call may be made again: no access is lost.
  */
 uint32_t acpiroute_configure(const struct acpiroute_settings *settings, const uint32_t *avoid, size_t avoid_length,
                              const uint8_t *machine, size_t machine_length, const struct acpiroute_access *record,

@@ -1,5 +1,5 @@
 -- An access that is wanted, read back with its answer.
-use Rattle.std.specs.Prelude.{◌≡◌, ℕ, Some, Ok, Err, refl}
+use Rattle.std.specs.Prelude.{◌≡◌, ◌<◌, ◌^◌, ℕ, Some, Ok, Err, refl}
 use Rattle.std.proofs.lemmas.Bool.{lt-ltb}
 use Rattle.ar_space.specs.declared.refusal.SpaceFault.TheVariants.{NoRegister, Device}
 use Rattle.ar_space.specs.declared.space.Place.{Place}
@@ -17,10 +17,10 @@ widths W16 = refl
 widths W32 = refl
 widths W64 = refl
 
-pub read_done : (place : Place) (width : Width) (value : ℕ) → IsPlace place → exchange_of (record (access_form (access.Read place width)) { value = value }) ≡ Some (exchange.Read place width (Ok value))
-read_done (Memory address) width value is = rw (widths width) refl
-read_done (Io port) width value is = rw (lt-ltb port 65536 is, widths width) refl
-read_done (Pci seg bus dev func reg) width value is = rw (lt-ltb reg 65536 is, widths width) refl
+pub read_done : (place : Place) (width : Width) (value : ℕ) → IsPlace place → value < 2 ^ bit_count width → exchange_of (record (access_form (access.Read place width)) { value = value }) ≡ Some (exchange.Read place width (Ok value))
+read_done (Memory address) width value is fits = rw (widths width, lt-ltb value (2 ^ bit_count width) fits) refl
+read_done (Io port) width value is fits = rw (lt-ltb port 65536 is, widths width, lt-ltb value (2 ^ bit_count width) fits) refl
+read_done (Pci seg bus dev func reg) width value is fits = rw (lt-ltb reg 65536 is, widths width, lt-ltb value (2 ^ bit_count width) fits) refl
 
 pub read_no_register : (place : Place) (width : Width) → IsPlace place → exchange_of (record (access_form (access.Read place width)) { answer = 1 }) ≡ Some (exchange.Read place width (Err NoRegister))
 read_no_register (Memory address) width is = rw (widths width) refl

@@ -11,6 +11,7 @@ use Rattle.space_trace.specs.declared.access.Access.{Access}
 use Rattle.space_trace.specs.declared.access.Access.TheVariants as access
 use Rattle.recorded_space.specs.declared.exchange.Exchange.{Exchange}
 use Rattle.recorded_space.specs.declared.exchange.Exchange.TheVariants as exchange
+use Rattle.recorded_space.specs.Exchanges.{kept}
 use Rattle.acpiroute_c.specs.declared.call_access.CallAccess.{CallAccess}
 
 abbrev pub port_at : ℕ → Option Place
@@ -35,10 +36,15 @@ abbrev pub done : Result ℕ SpaceFault → Result (Unit {0}) SpaceFault
 done (Ok value) = Ok tt
 done (Err fault) = Err fault
 
+-- a value that was read fits the width
+abbrev pub read_with : Place → Width → Option (Result ℕ SpaceFault) → Option Exchange
+read_with place width (Some answer) = Some (exchange.Read place width answer)
+read_with place width None = None
+
 -- 0 a read, 1 a write
 abbrev pub exchange_with : ℕ → Place → Width → ℕ → Result ℕ SpaceFault → Option Exchange
 exchange_with kind place width value answer =
-    if kind == 0 then Some (exchange.Read place width answer) else (if kind == 1 then Some (exchange.Write place width value (done answer)) else None)
+    if kind == 0 then read_with place width (kept width answer) else (if kind == 1 then Some (exchange.Write place width value (done answer)) else None)
 
 abbrev with_answer : CallAccess → Place → Width → Option (Result ℕ SpaceFault) → Option Exchange
 with_answer a place width (Some answer) = exchange_with a.kind place width a.value answer

@@ -1,6 +1,6 @@
 -- What a call over a record comes to: the reply of a run that ended, or the access that it wants.
 use Rattle.std.specs.Prelude.{◌≡◌, ◌⊎◌, ℕ, ◌==◌, nat_lt, Bool, true, false, List, All, map, Option, Some, None, Ok, Err, if◌then◌else◌}
-use Rattle.ar_space.specs.Outcome.{Outcome, NotMemory}
+use Rattle.ar_space.specs.Outcome.{Outcome, Answers}
 use Rattle.ar_tables.specs.declared.mode.Mode.{Mode}
 use Rattle.ar_tables.specs.declared.mode.Mode.TheVariants.{Pic, Apic}
 use Rattle.recorded_space.specs.declared.exchange.Exchange.{Exchange}
@@ -58,15 +58,15 @@ pub record IsToldReply (outcome : Outcome Written) (reply : Reply) : Type 0 wher
   pub is_told : IsToldAs outcome told
   pub is : reply ≡ reply_of told
 
--- a report is printed, and a refusal handed on
+-- a report is printed, unless memory runs out for its text, and a refusal handed on
 abbrev pub IsOutcomeOf : Ending → Outcome Written → Type 0
-IsOutcomeOf (ends.Reported report) outcome = outcome ≡ Ok (printed report)
+IsOutcomeOf (ends.Reported report) outcome = Answers outcome (Ok (printed report))
 IsOutcomeOf (ends.Refused e) outcome = outcome ≡ Err e
 IsOutcomeOf (ends.Wanted access) outcome = ⊥
 
 pub record IsReplyTo (ending : Ending) (reply : Reply) : Type 0 where
   pub outcome : Outcome Written
-  pub is_outcome : NotMemory outcome → IsOutcomeOf ending outcome
+  pub is_outcome : IsOutcomeOf ending outcome
   pub is_reply : IsToldReply outcome reply
 
 abbrev pub IsSaidOf : Ending → Said → Type 0

@@ -1,6 +1,8 @@
 //! Accesses of registers, as C has them.
-ghost use Rattle.std.specs.Prelude.{◌≡◌, All, IfOk, IfErr, Some, map};
-ghost use Rattle.acpiroute_c.specs.Accesses.{port_at, register_at, place_of, width_of, answer_of, done, exchange_with, exchange_of, place_form, access_form, IsEntry};
+ghost use Rattle.std.specs.Prelude.{◌≡◌, ◌^◌, nat_lt, All, IfOk, IfErr, Some, map};
+ghost use Rattle.ar_space.specs.Accesses.{bit_count};
+ghost use Rattle.recorded_space.specs.Exchanges.{kept};
+ghost use Rattle.acpiroute_c.specs.Accesses.{port_at, register_at, place_of, width_of, answer_of, done, read_with, exchange_with, exchange_of, place_form, access_form, IsEntry};
 ghost use Rattle.acpiroute_c.specs.declared.call_access.Unmade.TheVariants.{Malformed};
 
 use ar_space::{Place, SpaceFault, Width};
@@ -13,7 +15,7 @@ use std::alloc::Global;
 pub struct CallAccess {
     /// The address in memory, the port, or the register of a PCI function.
     pub address: u64,
-    /// The value that is written, or in a record the one that was read.
+    /// The value that is written, or in a record the one that was read, which fits the width.
     pub value: u64,
     /// The segment group of a PCI function.
     pub segment: u16,
@@ -111,6 +113,47 @@ fn done(answer: Result<u64, SpaceFault>) -> Result<(), SpaceFault>
     }
 }
 
+/// Whether a value has no bit above a width.
+fn fits(width: Width, value: u64) -> bool
+    ensures { result ≡ nat_lt value (2 ^ bit_count width) }
+{
+    match width {
+        Width::W8 => value < 0x100,
+        Width::W16 => value < 0x1_0000,
+        Width::W32 => value < 0x1_0000_0000,
+        Width::W64 => true,
+    }
+}
+
+/// An answer whose value fits the width.
+fn kept(width: Width, answer: Result<u64, SpaceFault>) -> Option<Result<u64, SpaceFault>>
+    ensures { result ≡ kept width answer }
+{
+    match answer {
+        Ok(value) => {
+            if fits(width, value) {
+                Some(Ok(value))
+            } else {
+                None
+            }
+        }
+        Err(fault) => Some(Err(fault)),
+    }
+}
+
+fn read_with(
+    place: Place,
+    width: Width,
+    answer: Option<Result<u64, SpaceFault>>,
+) -> Option<Exchange>
+    ensures { result ≡ read_with place width answer }
+{
+    match answer {
+        Some(answer) => Some(Exchange::Read(place, width, answer)),
+        None => None,
+    }
+}
+
 /// An access with its answer.
 fn exchange_of(access: &CallAccess) -> Option<Exchange>
     ensures { result ≡ exchange_of access.now }
@@ -131,7 +174,7 @@ fn exchange_with(
     ensures { result ≡ exchange_with kind place width value answer }
 {
     match kind {
-        0 => Some(Exchange::Read(place, width, answer)),
+        0 => read_with(place, width, kept(width, answer)),
         1 => Some(Exchange::Write(place, width, value, done(answer))),
         _ => None,
     }
