@@ -132,6 +132,15 @@ def check_configure(check, language, host):
     check.same(f"{language}, on a chipset: refused", found, (1, "", "refused 101\n" + AS_BEFORE))
 
 
+def check_settings(check, host):
+    """The other settings, by the host in C: an interrupt that is avoided, one link of which nothing is left, and the mode pic."""
+    machine = os.path.join(HERE, "two-links.txt")
+    check.same("C, on a chipset: 10 avoided", ran([host, machine, "avoid=10"]), (0, text_of("two-links.avoid.report").decode(), AS_BEFORE))
+    check.same("C, on a chipset: 5 avoided", ran([host, machine, "avoid=5"]), (1, "", "refused 123 \\_SB_.LNKB\n" + AS_BEFORE))
+    report = text_of("two-links.report").decode().replace("mode apic\n", "mode pic\n")
+    check.same("C, on a chipset: pic", ran([host, machine, "pic"]), (0, report, AS_BEFORE))
+
+
 def check_beside(check, language, host, program):
     for machine, options in [*REPORTS.values(), *((it[0], it[1]) for it in REFUSALS), ("two-links", ["--steps", "0"])]:
         found = ran([host, os.path.join(HERE, f"{machine}.txt"), *options])
@@ -150,6 +159,8 @@ def main():
         for language, (host, configure) in built(libraries, folder).items():
             check_host(check, language, host)
             check_configure(check, language, configure)
+            if language == "C":
+                check_settings(check, configure)
             if asked.program:
                 check_beside(check, language, host, os.path.abspath(asked.program))
     print(f"{check.passed} passed, {check.failed} failed")

@@ -1,7 +1,7 @@
 /*
  * A host in C whose registers only it can access: it configures the links of a machine on the model of a chipset.
  *
- *     configure MACHINE [dry]
+ *     configure MACHINE [dry] [pic] [avoid=NUMBER]
  *
  * It prints the report, and on its errors the registers as they are at the end. Its exit status is that of `acpiroute route`.
  */
@@ -44,9 +44,32 @@ static void print_registers(const struct chipset *chipset) {
     fprintf(stderr, "\n");
 }
 
+/* What the words ask for; at most one interrupt is avoided. */
+struct asked {
+    struct acpiroute_settings settings;
+    uint32_t avoid[1];
+    size_t avoid_length;
+};
+
+static struct asked asked_by(int count, char **words) {
+    struct asked asked = {{1000000, ACPIROUTE_APIC, 0}, {0}, 0};
+    for (int i = 2; i < count; i++) {
+        if (strcmp(words[i], "dry") == 0) {
+            asked.settings.dry = 1;
+        } else if (strcmp(words[i], "pic") == 0) {
+            asked.settings.mode = ACPIROUTE_PIC;
+        } else if (strncmp(words[i], "avoid=", 6) == 0) {
+            asked.avoid[0] = (uint32_t)strtoul(words[i] + 6, NULL, 10);
+            asked.avoid_length = 1;
+        } else {
+            stop("another word than dry, pic or avoid=NUMBER");
+        }
+    }
+    return asked;
+}
+
 /* Calls until no access is wanted, making each on the chipset. */
-static uint8_t configure(struct chipset *chipset, struct bytes machine, struct acpiroute_settings settings) {
-    const uint32_t avoid[1] = {0};
+static uint8_t configure(struct chipset *chipset, struct bytes machine, const struct asked *asked) {
     struct record record = {NULL, 0, 0};
     struct bytes text = room(256);
     struct bytes line = room(64);
@@ -54,8 +77,8 @@ static uint8_t configure(struct chipset *chipset, struct bytes machine, struct a
     for (;;) {
         struct acpiroute_reply reply;
         struct acpiroute_access wanted;
-        uint32_t came = acpiroute_configure(&settings, avoid, 0, machine.at, machine.length, record.at, record.length, text.at,
-                                            text.length, line.at, line.length, &reply, &wanted);
+        uint32_t came = acpiroute_configure(&asked->settings, asked->avoid, asked->avoid_length, machine.at, machine.length,
+                                            record.at, record.length, text.at, text.length, line.at, line.length, &reply, &wanted);
         if (came == ACPIROUTE_WANTED) {
             chipset_access(chipset, &wanted);
             append(&record, wanted);
@@ -77,10 +100,10 @@ static uint8_t configure(struct chipset *chipset, struct bytes machine, struct a
 int main(int count, char **words) {
     if (count < 2)
         stop("a machine text is wanted");
-    struct acpiroute_settings settings = {1000000, ACPIROUTE_APIC, count > 2 && strcmp(words[2], "dry") == 0};
+    struct asked asked = asked_by(count, words);
     struct chipset chipset;
     chipset_reset(&chipset);
-    uint8_t status = configure(&chipset, read_file(words[1]), settings);
+    uint8_t status = configure(&chipset, read_file(words[1]), &asked);
     print_registers(&chipset);
     return status;
 }
