@@ -15,7 +15,7 @@ use Rattle.aml_path.specs.declared.segment.Seg.{Seg}
 use Rattle.aml_path.specs.Segments.{seg_cmp}
 use Rattle.aml_path.specs.Paths.{path_cmp, path_eq, is_below}
 use Rattle.aml_namespace.specs.Namespace.{Map}
-use Rattle.aml_namespace.proofs.Kept.{only_equal}
+use Rattle.aml_namespace.proofs.Paths.{only_equal}
 use Rattle.aml_namespace.specs.Walks.{child_of, children, named, walked, Ascending}
 
 bytes_itself : (bs : List ℕ) → slice_cmp nat_cmp bs bs ≡ Equal
@@ -44,13 +44,13 @@ module _ {K X : Type 0} (R : K → K → Ordering) where
   all_below x (e ∷ es) h = (less (R x e.0) (first _ _ h), all_below x es (second _ _ h))
 
   -- the keys of entries in order ascend
-  keys_ascend : (es : List (K × X)) → T (is_sorted R es) → Ascending R (map (λ e. e.0) es)
+  pub keys_ascend : (es : List (K × X)) → T (is_sorted R es) → Ascending R (map (λ e. e.0) es)
   keys_ascend [] h = tt
   keys_ascend (e ∷ es) h = (all_below e.0 es (first _ _ h), keys_ascend es (second _ _ h))
 
 -- a pick that keeps the order
-record Keeps {A B : Type 0} (R : A → A → Ordering) (S : B → B → Ordering) (f : A → Option B) : Type 0 where
-  keeps : (x y : A) (a b : B) → R x y ≡ Less → f x ≡ Some a → f y ≡ Some b → S a b ≡ Less
+pub record Keeps {A B : Type 0} (R : A → A → Ordering) (S : B → B → Ordering) (f : A → Option B) : Type 0 where
+  pub keeps : (x y : A) (a b : B) → R x y ≡ Less → f x ≡ Some a → f y ≡ Some b → S a b ≡ Less
 
 module _ {A B : Type 0} (R : A → A → Ordering) (S : B → B → Ordering) (f : A → Option B) (kept : Keeps R S f) where
   rest_by : (x : A) (a : B) (y : A) (ys : List A) (o : Option B) → f y ≡ o → f x ≡ Some a → R x y ≡ Less → AllByRecursion (λ b. S a b ≡ Less) (filter_map f ys) → AllByRecursion (λ b. S a b ≡ Less) (filter_map f (y ∷ ys))
@@ -65,7 +65,7 @@ module _ {A B : Type 0} (R : A → A → Ordering) (S : B → B → Ordering) (f
   pick_by x xs None is h more = rw is more
   pick_by x xs (Some a) is h more = rw is (rest_at x a xs is h, more)
 
-  picks_ascend : (xs : List A) → Ascending R xs → Ascending S (filter_map f xs)
+  pub picks_ascend : (xs : List A) → Ascending R xs → Ascending S (filter_map f xs)
   picks_ascend [] h = tt
   picks_ascend (x ∷ xs) h = pick_by x xs (f x) refl h.0 (picks_ascend xs h.1)
 
@@ -99,7 +99,7 @@ chosen : {A : Type 0} (b : Bool) (o : Option A) (s : A) → (if b then o else No
 chosen true o s is = (refl, is)
 chosen false o s is = absurd (cc is)
 
-child_path : (p q : List Seg) (s : Seg) → child_of p q ≡ Some s → q ≡ p ++ s ∷ []
+pub child_path : (p q : List Seg) (s : Seg) → child_of p q ≡ Some s → q ≡ p ++ s ∷ []
 child_path p q s is =
     let parts = chosen (length q == length p + 1 && is_below p q) (slice_get q (length p)) s is in
     let tests = both (length q == length p + 1) (is_below p q) parts.0 in
@@ -108,7 +108,7 @@ child_path p q s is =
     let front : take (length p) q ≡ p = only_equal (take (length p) q) p (equal _ fronts.1) in
     sym (take_all (length p + 1) q (omega arith)) ∙ take_more q (length p) s (omega arith) ∙ rw (front, get_or_from_slice_get q (length p) s s parts.1) refl
 
-itself : (p : List Seg) (x y : List Seg) → path_cmp (p ++ x) (p ++ y) ≡ path_cmp x y
+pub itself : (p : List Seg) (x y : List Seg) → path_cmp (p ++ x) (p ++ y) ≡ path_cmp x y
 itself [] x y = refl
 itself (s ∷ ss) x y = rw (same_segment s) (itself ss x y)
 

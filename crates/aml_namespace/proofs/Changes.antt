@@ -1,46 +1,139 @@
 -- What stands after an object is replaced, and after the mutexes are released.
-use Rattle.std.specs.Prelude.{◌≡◌, ℕ, List, Option, Some, None, Ok, Err, T, get_or, set}
-use Rattle.std.specs.Prelude as list
+use Rattle.std.proofs.Common.{◌≡◌, ◌≢◌, ℕ, ◌&&◌, Bool, true, false, cond, T, List, [], ◌∷◌, ◌++◌, map, inl, inr, Option, Some, None, Ok, Err, is_some, refl, ap, sym, subst, ◌∙◌}
+use Rattle.std.specs.Prelude.{option_and_then}
 use Rattle.std.specs.Option.{option_map}
-use Rattle.std.proofs.Common.{ap, sym, ◌∙◌, subst}
-use Rattle.std.specs.FinMap.{get, entries, entries-from_sorted, from_sorted, is_sorted}
+use Rattle.std.proofs.lemmas.Bool.{cases_eq}
+use Rattle.std.specs.Ordering.{nat_cmp, eq_by_cmp, is_eq, is_lt}
+use Rattle.std.specs.FinMap.{FinMap, get, insert, entries, entries_sorted, get-entries, get-insert, from_sorted, get-from_sorted, same_map, find, is_sorted}
+use Rattle.std.specs.FinMap.Entries.{below_all}
 use Rattle.ar_space.specs.declared.refusal.Refusal.TheVariants as refusal
 use Rattle.ar_space.specs.declared.refusal.NamespaceFault.TheVariants.{NotFound}
 use Rattle.aml_path.specs.declared.segment.Seg.{Seg}
 use Rattle.aml_path.specs.Paths.{path_cmp}
 use Rattle.aml_objects.specs.declared.entry.Entry.{Entry}
 use Rattle.aml_objects.specs.declared.entry.NamedObject.{NamedObject}
-use Rattle.aml_namespace.specs.Namespace.{Namespace, with_object, replaced_in, replaced, entry_released, mutexes_released}
-use Rattle.aml_namespace.specs.Entries.{StandsAt, find_entry}
-use Rattle.aml_namespace.proofs.Kept.{value_kept, found_there, set_sorted, map_set, map_values, get_values}
+use Rattle.aml_namespace.specs.declared.node.Node.{Node}
+use Rattle.aml_namespace.specs.Namespace.{Map, Namespace, with_object, replaced_in, replaced, entry_released, mutexes_released}
+use Rattle.aml_namespace.specs.Nodes.{NodeMap, object_in, object_put, with_node_object, node_released}
+use Rattle.aml_namespace.specs.Tree.{Children, down, path_to, map_of, lies, Linked}
+use Rattle.aml_namespace.proofs.Numbers.{here, apart, insert_here, insert_apart}
+use Rattle.aml_namespace.proofs.Paths.{path_total, only_equal, same_path, path_itself, get_map, there_is, stands_of, path_of_root, node_of_root}
+use Rattle.aml_namespace.proofs.Growth.{entry_of, changed_linked, changed_at}
 
--- the namespace of entries in order
-abbrev pub of_entries : List (List Seg × Entry) → ℕ → Namespace
-of_entries es next = record { map = from_sorted es; next = next }
+-- ---- values of a map through a function
 
-pub replaced_none : (p : List Seg) (o : NamedObject) (es : List (List Seg × Entry)) (next : ℕ) → T (is_sorted path_cmp es) → find_entry p es ≡ None → replaced p o (of_entries es next) ≡ (Err (refusal.Namespace NotFound), of_entries es next)
-unfolding replaced
-replaced_none p o es next h none = ap (replaced_in p o (of_entries es next)) (value_kept p es h ∙ ap (option_map (λ (e : List Seg × Entry). e.1)) none)
+module _ (f : Entry → Entry) where
+  abbrev pub with_values : List (List Seg × Entry) → List (List Seg × Entry)
+  with_values es = map (λ e. (e.0, f e.1)) es
 
--- the entry x that stands at the path is written over
-pub replaced_there : (p : List Seg) (o : NamedObject) (es : List (List Seg × Entry)) (next n : ℕ) (x : List Seg × Entry) → T (is_sorted path_cmp es) → StandsAt p es n → x ≡ get_or es n x → replaced p o (of_entries es next) ≡ (Ok tt, of_entries (set es n (x.0, with_object o x.1)) next)
-unfolding replaced
-replaced_there p o es next n x h at is =
-    ap (replaced_in p o (of_entries es next)) (value_kept p es h ∙ ap (option_map (λ (e : List Seg × Entry). e.1)) (found_there p es n x at ∙ ap Some (sym is)))
-    ∙ ap (λ m. (Ok tt, record { map = m; next = next })) (sym (map_set p (with_object o x.1) es n x h at) ∙ ap (λ (y : List Seg × Entry). from_sorted (set es n (y.0, with_object o x.1))) (sym is))
+  below_values : (k : List Seg) (es : List (List Seg × Entry)) → below_all path_cmp k (with_values es) ≡ below_all path_cmp k es
+  below_values k [] = refl
+  below_values k (e ∷ es) = ap (λ b. is_lt (path_cmp k e.0) && b) (below_values k es)
 
--- a place among the entries of a namespace is one among those that it was made of
-pub stands_in : (p : List Seg) (s : Namespace) (es : List (List Seg × Entry)) (next n : ℕ) → of_entries es next ≡ s → T (is_sorted path_cmp es) → StandsAt p (entries s.map) n → StandsAt p es n
-stands_in p s es next n view h at = subst (λ l. StandsAt p l n) (ap (λ (z : Namespace). entries z.map) (sym view) ∙ entries-from_sorted path_cmp es h) at
+  sorted_values : (es : List (List Seg × Entry)) → is_sorted path_cmp (with_values es) ≡ is_sorted path_cmp es
+  sorted_values [] = refl
+  sorted_values (e ∷ es) = λ i. below_values e.0 es i && sorted_values es i
 
-pub sorted_there : (p : List Seg) (o : NamedObject) (es : List (List Seg × Entry)) (n : ℕ) (x : List Seg × Entry) → T (is_sorted path_cmp es) → StandsAt p es n → x ≡ get_or es n x → T (is_sorted path_cmp (set es n (x.0, with_object o x.1)))
-sorted_there p o es n x h at is = subst (λ (y : List Seg × Entry). T (is_sorted path_cmp (set es n (y.0, with_object o x.1)))) (sym is) (set_sorted p (with_object o x.1) es n x h at)
+  value_by : (b : Bool) (x : Entry) (o r : Option Entry) → o ≡ option_map f r → cond b (Some (f x)) o ≡ option_map f (cond b (Some x) r)
+  value_by true x o r h = refl
+  value_by false x o r h = h
 
-pub released_kept : (es : List (List Seg × Entry)) (next : ℕ) → T (is_sorted path_cmp es) → of_entries (list.map (λ e. (e.0, entry_released e.1)) es) next ≡ mutexes_released (of_entries es next)
-unfolding mutexes_released
-released_kept es next h = ap (λ m. record { map = m; next = next }) (map_values entry_released es h)
+  find_values : (k : List Seg) (es : List (List Seg × Entry)) → find path_cmp k (with_values es) ≡ option_map f (find path_cmp k es)
+  find_values k [] = refl
+  find_values k (e ∷ es) = value_by (is_eq (path_cmp k e.0)) e.1 _ _ (find_values k es)
+
+  pub get_values : (m : Map) (k : List Seg) → get (from_sorted {R = path_cmp} (with_values (entries m))) k ≡ option_map f (get m k)
+  get_values m k =
+      get-from_sorted path_cmp _ k (subst T (sym (sorted_values (entries m))) (entries_sorted m))
+      ∙ find_values k (entries m) ∙ ap (option_map f) (sym (get-entries m k))
 
 -- what stands at a path after the mutexes are released: what stood there, released if it is a mutex
 pub released_at : (s : Namespace) (p : List Seg) → get (mutexes_released s).map p ≡ option_map entry_released (get s.map p)
 unfolding mutexes_released
 released_at s p = get_values entry_released s.map p
+
+module _ (m : NodeMap) (child : Children) (next : ℕ) (linked : Linked m child next) where
+  -- ---- the mutexes released
+
+  module _ (after : NodeMap) (released : (k : ℕ) → get after k ≡ option_map node_released (get m k)) where
+    pub released_linked : Linked after child next
+    released_linked = changed_linked m child next linked after (λ k y. node_released y) (λ k y. refl) (λ k y. refl) released
+
+    each_released : (q : List Seg) → get (map_of after) q ≡ get (mutexes_released (record { map = map_of m; next = next })).map q
+    each_released q =
+        changed_at m child next linked after (λ k y. node_released y) (λ k y. refl) (λ k y. refl) released q
+        ∙ by (down child 0 q) ∙ ap (option_map entry_released) (sym (get_map m child next linked q))
+        ∙ sym (released_at (record { map = map_of m; next = next }) q)
+      where
+        by_node : (o : Option Node) → entry_of (option_map node_released o) ≡ option_map entry_released (entry_of o)
+        by_node None = refl
+        by_node (Some x) = refl
+
+        by : (o : Option ℕ) → entry_of (option_and_then (λ k. option_map node_released (get m k)) o) ≡ option_map entry_released (entry_of (option_and_then (get m) o))
+        by None = refl
+        by (Some k) = by_node (get m k)
+
+    pub released_is : record { map = map_of after; next = next } ≡ mutexes_released (record { map = map_of m; next = next })
+    unfolding mutexes_released
+    released_is = ap (λ (n : Map). record { map = n; next = next }) (same_map path_total only_equal (map_of after) (mutexes_released (record { map = map_of m; next = next })).map each_released)
+
+  -- ---- another object
+
+  module _ (n : ℕ) (x : Node) (o : NamedObject) (at : get m n ≡ Some x) where
+    abbrev over : ℕ → Node → Node
+    over k y = cond (eq_by_cmp nat_cmp k n) (with_node_object o y) y
+
+    put_is : object_put m n o ≡ insert m n (with_node_object o x)
+    unfolding object_put
+    put_is = ap (object_in m n o) at
+
+    untouched : (b : Bool) (z : Option Node) → b ≡ false → z ≡ option_map (λ (y : Node). cond b (with_node_object o y) y) z
+    untouched true z is = absurd (cc is)
+    untouched false None is = refl
+    untouched false (Some y) is = refl
+
+    over_put : (k : ℕ) → get (object_put m n o) k ≡ option_map (over k) (get m k)
+    over_put k = ap (λ (a : NodeMap). get a k) put_is ∙ elim (cases_eq k n) [
+      | inl e ↦
+          ap (get (insert m n (with_node_object o x))) e ∙ insert_here m n (with_node_object o x)
+          ∙ sym (ap (λ (j : ℕ). option_map (over j) (get m j)) e ∙ ap (option_map (over n)) at ∙ ap (λ b. Some (cond b (with_node_object o x) x)) (here n))
+      | inr ne ↦ insert_apart m n (with_node_object o x) k ne ∙ untouched (eq_by_cmp nat_cmp k n) (get m k) (apart k n ne)
+    ]
+
+    lies_same : (b : Bool) (y : Node) → lies (Some (cond b (with_node_object o y) y)) ≡ lies (Some y)
+    lies_same true y = refl
+    lies_same false y = refl
+
+    number_same : (b : Bool) (y : Node) → (cond b (with_node_object o y) y).entry.number ≡ y.entry.number
+    number_same true y = refl
+    number_same false y = refl
+
+    pub over_linked : Linked (object_put m n o) child next
+    over_linked = changed_linked m child next linked (object_put m n o) over (λ k y. lies_same (eq_by_cmp nat_cmp k n) y) (λ k y. number_same (eq_by_cmp nat_cmp k n) y) over_put
+
+    over_at : (q : List Seg) (b : Bool) → eq_by_cmp path_cmp q (path_to m n) ≡ b → get (map_of (object_put m n o)) q ≡ cond b (Some (with_object o x.entry)) (get (map_of m) q)
+    over_at q true e =
+        changed_at m child next linked (object_put m n o) over (λ k y. lies_same (eq_by_cmp nat_cmp k n) y) (λ k y. number_same (eq_by_cmp nat_cmp k n) y) over_put q
+        ∙ ap (λ (j : Option ℕ). entry_of (option_and_then (λ k. option_map (over k) (get m k)) j)) (ap (down child 0) (same_path q (path_to m n) e) ∙ stands_of m child next linked n (ap is_some at))
+        ∙ ap (λ (z : Option Node). entry_of (option_map (over n) z)) at
+        ∙ ap (λ b. Some (cond b (with_node_object o x) x).entry) (here n)
+    over_at q false e =
+        changed_at m child next linked (object_put m n o) over (λ k y. lies_same (eq_by_cmp nat_cmp k n) y) (λ k y. number_same (eq_by_cmp nat_cmp k n) y) over_put q
+        ∙ by (down child 0 q) (λ k is same. absurd (cc (sym e ∙ ap (λ p. eq_by_cmp path_cmp p (path_to m n)) (sym (path_of_root m child next linked q k is) ∙ ap (path_to m) same) ∙ path_itself (path_to m n))))
+        ∙ sym (get_map m child next linked q)
+      where
+        by : (j : Option ℕ) → ((k : ℕ) → j ≡ Some k → k ≡ n → ⊥) → entry_of (option_and_then (λ k. option_map (over k) (get m k)) j) ≡ entry_of (option_and_then (get m) j)
+        by None h = refl
+        by (Some k) h = ap entry_of (sym (untouched (eq_by_cmp nat_cmp k n) (get m k) (apart k n (h k refl))))
+
+    pub over_map : map_of (object_put m n o) ≡ insert (map_of m) (path_to m n) (with_object o x.entry)
+    over_map = same_map path_total only_equal (map_of (object_put m n o)) (insert (map_of m) (path_to m n) (with_object o x.entry))
+        (λ q. over_at q (eq_by_cmp path_cmp q (path_to m n)) refl ∙ sym (get-insert path_total (map_of m) (path_to m n) (with_object o x.entry) q))
+
+pub replaced_none : (p : List Seg) (o : NamedObject) (s : Namespace) → get s.map p ≡ None → replaced p o s ≡ (Err (refusal.Namespace NotFound), s)
+unfolding replaced
+replaced_none p o s none = ap (replaced_in p o s) none
+
+pub replaced_some : (p : List Seg) (o : NamedObject) (s : Namespace) (e : Entry) → get s.map p ≡ Some e → replaced p o s ≡ (Ok tt, record s { map = insert s.map p (with_object o e) })
+unfolding replaced
+replaced_some p o s e is = ap (replaced_in p o s) is

@@ -1,110 +1,156 @@
--- Every change of a namespace keeps its numbers below the next one, and apart.
-use Rattle.std.specs.Prelude.{◌≡◌, ℕ, ◌+◌, ◌<◌, ◌≤◌, List, [], ◌∷◌, Bool, true, false, not, Option, Some, None, T, refl, cond, set, get_or}
+-- The numbers of declarations, and what stands under one.
+use Rattle.std.proofs.Common.{◌≡◌, ℕ, zero, suc, ◌+◌, ◌<◌, Bool, true, false, cond, T, List, [], ◌∷◌, ◌++◌, Option, Some, None, is_some, refl, ap, sym, subst, ◌∙◌, arith, eqb→eq}
+use Rattle.std.specs.Prelude.{option_and_then, ◌==◌, ◌&&◌, if◌then◌else◌}
 use Rattle.std.specs.Option.{option_map}
-use Rattle.std.proofs.Common.{ap, sym, ◌∙◌, subst, arith}
-use Rattle.std.specs.Ordering.{is_eq, eq_by_cmp}
+use Rattle.std.proofs.lemmas.Bool.{eq-eqb}
 use Rattle.std.specs.declared.cmp.Ordering.{Ordering}
 use Rattle.std.specs.declared.cmp.Ordering.TheVariants.{Less, Equal, Greater}
-use Rattle.std.specs.FinMap.{get, insert, get-insert, retain_keys, get-retain_keys, empty, get-empty, from_sorted, is_sorted}
+use Rattle.std.specs.Ordering.{is_lt, is_eq, eq_by_cmp}
+use Rattle.std.specs.FinMap.{get, entries, entries_sorted, get-entries, find, is_sorted}
+use Rattle.std.specs.FinMap.Entries.{below_all}
 use Rattle.aml_path.specs.declared.segment.Seg.{Seg}
-use Rattle.aml_path.specs.Paths.{path_cmp, is_below}
+use Rattle.aml_path.specs.Paths.{path_cmp}
 use Rattle.aml_objects.specs.declared.entry.Entry.{Entry}
-use Rattle.aml_objects.specs.declared.entry.NamedObject.{NamedObject}
-use Rattle.aml_objects.specs.declared.entry.NamedObject.TheVariants as object
-use Rattle.aml_namespace.specs.Namespace.{Map, Namespace, root_alone, without_below, with_object, entry_released, mutexes_released}
+use Rattle.aml_namespace.specs.declared.node.Node.{Node}
+use Rattle.aml_namespace.specs.Namespace.{Map, Namespace, with_number, numbered}
+use Rattle.aml_namespace.specs.Search.{Found, at_path}
 use Rattle.aml_namespace.specs.Numbering.{Numbered}
-use Rattle.aml_namespace.specs.Entries.{StandsAt}
-use Rattle.aml_namespace.proofs.Kept.{path_total, only_equal, value_kept, found_there, map_set}
-use Rattle.aml_namespace.proofs.Changes.{released_at}
+use Rattle.aml_namespace.specs.Nodes.{NodeMap}
+use Rattle.aml_namespace.specs.Tree.{Children, down, path_to, map_of, Linked}
+use Rattle.aml_namespace.proofs.Paths.{path_total, same_path, path_itself, get_map, down_append, there_is, stands_of, path_of_root, node_of_root, reached}
 
-equal : (r : Ordering) → is_eq r ≡ true → r ≡ Equal
-equal Less h = absurd (cc h)
-equal Equal h = refl
-equal Greater h = absurd (cc h)
+first : (a b : Bool) → T (a && b) → T a
+first true b p = tt
+first false b p = p
 
-same_path : (p q : List Seg) → eq_by_cmp path_cmp p q ≡ true → p ≡ q
-same_path p q h = only_equal p q (equal (path_cmp p q) h)
+second : (a b : Bool) → T (a && b) → T b
+second true b p = p
+second false b p = absurd p
 
--- ---- an entry put at a path
+less : (r : Ordering) → T (is_lt r) → r ≡ Less
+less Less p = refl
+less Equal p = absurd p
+less Greater p = absurd p
 
-same_entry : (v e : Entry) → ◌≡◌ {A = Option Entry} (Some v) (Some e) → v ≡ e
-same_entry v e h = cc h
+-- ---- the entries of a map that have a number
 
-put_below : (b : Bool) (v e : Entry) (o : Option Entry) (k : ℕ) → v.number < k → ((x : Entry) → o ≡ Some x → x.number < k) → cond b (Some v) o ≡ Some e → e.number < k
-put_below true v e o k h i is = subst (λ (x : Entry). x.number < k) (same_entry v e is) h
-put_below false v e o k h i is = i e is
+below_found : (x : List Seg) (es : List (List Seg × Entry)) (q : List Seg) (d : Entry) → T (below_all path_cmp x es) → find path_cmp q es ≡ Some d → path_cmp x q ≡ Less
+below_found x [] q d below is = absurd (cc is)
+below_found x (e ∷ es) q d below is = by (eq_by_cmp path_cmp q e.0) refl is (below_found x es q d (second _ _ below))
+  where
+    by : (b : Bool) → eq_by_cmp path_cmp q e.0 ≡ b → cond b (Some e.1) (find path_cmp q es) ≡ Some d → (find path_cmp q es ≡ Some d → path_cmp x q ≡ Less) → path_cmp x q ≡ Less
+    by true same is more = ap (path_cmp x) (same_path q e.0 same) ∙ less _ (first _ _ below)
+    by false differ is more = more is
 
-module _ (m : Map) (path : List Seg) (v : Entry) (apart : (q : List Seg) (e : Entry) → get m q ≡ Some e → e.number ≡ v.number → q ≡ path) (distinct : (p q : List Seg) (d e : Entry) → get m p ≡ Some d → get m q ≡ Some e → d.number ≡ e.number → p ≡ q) where
-  put_distinct : (a b : Bool) (p q : List Seg) (d e : Entry) → eq_by_cmp path_cmp p path ≡ a → eq_by_cmp path_cmp q path ≡ b → cond a (Some v) (get m p) ≡ Some d → cond b (Some v) (get m q) ≡ Some e → d.number ≡ e.number → p ≡ q
-  put_distinct true true p q d e is so h i n = same_path p path is ∙ sym (same_path q path so)
-  put_distinct true false p q d e is so h i n = same_path p path is ∙ sym (apart q e i (sym n ∙ ap (λ (x : Entry). x.number) (sym (same_entry v d h))))
-  put_distinct false true p q d e is so h i n = apart p d h (n ∙ ap (λ (x : Entry). x.number) (sym (same_entry v e i))) ∙ sym (same_path q path so)
-  put_distinct false false p q d e is so h i n = distinct p q d e h i n
+head_found : (e : List Seg × Entry) (es : List (List Seg × Entry)) → find path_cmp e.0 (e ∷ es) ≡ Some e.1
+head_found e es = ap (λ b. cond b (Some e.1) (find path_cmp e.0 es)) (path_itself e.0)
 
-pub numbered_put : (names : Namespace) (path : List Seg) (v : Entry) (k : ℕ) → Numbered names → names.next ≤ k → v.number < k → ((q : List Seg) (e : Entry) → get names.map q ≡ Some e → e.number ≡ v.number → q ≡ path) → Numbered (record { map = insert names.map path v; next = k })
-numbered_put names path v k h le l apart = record {
-  below = λ p e is. put_below (eq_by_cmp path_cmp p path) v e (get names.map p) k l (λ x at. let b = h.below p x at in omega arith) (sym (get-insert path_total names.map path v p) ∙ is);
-  distinct = λ p q d e is so n.
-      put_distinct names.map path v apart h.distinct (eq_by_cmp path_cmp p path) (eq_by_cmp path_cmp q path) p q d e refl refl
-      (sym (get-insert path_total names.map path v p) ∙ is) (sym (get-insert path_total names.map path v q) ∙ so) n;
-}
+tail_found : (e : List Seg × Entry) (es : List (List Seg × Entry)) (q : List Seg) (d : Entry) → T (below_all path_cmp e.0 es) → find path_cmp q es ≡ Some d → find path_cmp q (e ∷ es) ≡ Some d
+tail_found e es q d below is = by (eq_by_cmp path_cmp q e.0) refl
+  where
+    by : (b : Bool) → eq_by_cmp path_cmp q e.0 ≡ b → cond b (Some e.1) (find path_cmp q es) ≡ Some d
+    by true same =
+        let itself : eq_by_cmp path_cmp e.0 q ≡ true = ap (eq_by_cmp path_cmp e.0) (same_path q e.0 same) ∙ path_itself e.0 in
+        let apart : eq_by_cmp path_cmp e.0 q ≡ false = ap (λ r. is_eq r) (below_found e.0 es q d below is) in
+        absurd (cc (itself, apart))
+    by false differ = is
 
--- a new declaration takes the next number
-pub numbered_declared : (names : Namespace) (path : List Seg) (o : NamedObject) → Numbered names → Numbered (record { map = insert names.map path (record { number = names.next; object = o }); next = names.next + 1 })
-numbered_declared names path o h = numbered_put names path _ _ h (omega arith) (omega arith) (λ q e at is. let b = h.below q e at in absurd (omega arith))
+number_of : (n : ℕ) (e : Entry) → (e.number == n) ≡ true → e.number ≡ n
+number_of n e is = eqb→eq e.number n (subst T (sym is) tt)
 
--- another object under the same number
-pub numbered_replaced : (names : Namespace) (path : List Seg) (o : NamedObject) (e : Entry) → Numbered names → get names.map path ≡ Some e → Numbered (record { map = insert names.map path (with_object o e); next = names.next })
-numbered_replaced names path o e h at = numbered_put names path _ _ h (omega arith) (h.below path e at) (λ q x is n. h.distinct q path x e is at n)
+module _ (names : Map) (n : ℕ) where
+  none_in : (es : List (List Seg × Entry)) → T (is_sorted path_cmp es) → ((q : List Seg) (d : Entry) → find path_cmp q es ≡ Some d → get names q ≡ Some d) → ((q : List Seg) (d : Entry) → get names q ≡ Some d → d.number ≡ n → ⊥) → with_number n es ≡ None
+  none_in [] sorted stands none = refl
+  none_in (e ∷ es) sorted stands none = by (e.1.number == n) refl (none_in es (second _ _ sorted) (λ q d is. stands q d (tail_found e es q d (first _ _ sorted) is)) none)
+    where
+      by : (b : Bool) → (e.1.number == n) ≡ b → with_number n es ≡ None → (if b then Some e else with_number n es) ≡ None
+      by true is rest = absurd (none e.0 e.1 (stands e.0 e.1 (head_found e es)) (number_of n e.1 is))
+      by false is rest = rest
 
--- the same among entries in order
-pub numbered_there : (p : List Seg) (o : NamedObject) (es : List (List Seg × Entry)) (next n : ℕ) (x : List Seg × Entry) → T (is_sorted path_cmp es) → Numbered (record { map = from_sorted es; next = next }) → StandsAt p es n → x ≡ get_or es n x → Numbered (record { map = from_sorted (set es n (x.0, with_object o x.1)); next = next })
-numbered_there p o es next n x sorted h at is =
-    let found : get (from_sorted {R = path_cmp} es) p ≡ Some x.1 = value_kept p es sorted ∙ ap (option_map (λ (e : List Seg × Entry). e.1)) (found_there p es n x at ∙ ap Some (sym is)) in
-    let same : from_sorted {R = path_cmp} (set es n (x.0, with_object o x.1)) ≡ insert (from_sorted es) p (with_object o x.1) = ap (λ (y : List Seg × Entry). from_sorted (set es n (y.0, with_object o x.1))) is ∙ map_set p (with_object o x.1) es n x sorted at in
-    rw same (numbered_replaced _ p o x.1 h found)
+  one_in : (p : List Seg) (x : Entry) (es : List (List Seg × Entry)) → T (is_sorted path_cmp es) → ((q : List Seg) (d : Entry) → find path_cmp q es ≡ Some d → get names q ≡ Some d) → ((q : List Seg) (d : Entry) → get names q ≡ Some d → d.number ≡ n → q ≡ p)
+      → get names p ≡ Some x → x.number ≡ n → find path_cmp p es ≡ Some x → with_number n es ≡ Some (p, x)
+  one_in p x [] sorted stands only at number is = absurd (cc is)
+  one_in p x (e ∷ es) sorted stands only at number is = by (e.1.number == n) refl (one_in p x es (second _ _ sorted) (λ q d is. stands q d (tail_found e es q d (first _ _ sorted) is)) only at number)
+    where
+      tail : (b : Bool) → eq_by_cmp path_cmp p e.0 ≡ b → (e.1.number == n) ≡ false → cond b (Some e.1) (find path_cmp p es) ≡ Some x → find path_cmp p es ≡ Some x
+      tail true same other found =
+          let one : e.1 ≡ x = cc found in
+          let test : (e.1.number == n) ≡ true = eq-eqb e.1.number n (ap (λ (z : Entry). z.number) one ∙ number) in
+          absurd (cc (test, other))
+      tail false differ other found = found
 
--- ---- fewer entries
+      by : (b : Bool) → (e.1.number == n) ≡ b → (find path_cmp p es ≡ Some x → with_number n es ≡ Some (p, x)) → (if b then Some e else with_number n es) ≡ Some (p, x)
+      by true same rest =
+          let here = stands e.0 e.1 (head_found e es) in
+          let path : e.0 ≡ p = only e.0 e.1 here (number_of n e.1 same) in
+          let two : Some e.1 ≡ Some x = sym here ∙ ap (get names) path ∙ at in
+          let entry : e.1 ≡ x = cc two in
+          ap (λ (q : List Seg). Some (q, e.1)) path ∙ ap (λ (d : Entry). Some (p, d)) entry
+      by false other rest = rest (tail (eq_by_cmp path_cmp p e.0) refl other is)
 
-kept_by : (b : Bool) (o : Option Entry) (e : Entry) → cond b o None ≡ Some e → o ≡ Some e
-kept_by true o e h = h
-kept_by false o e h = absurd (cc h)
+  pub numbered_none : ((q : List Seg) (d : Entry) → get names q ≡ Some d → d.number ≡ n → ⊥) → numbered n names ≡ None
+  unfolding numbered
+  numbered_none none = none_in (entries names) (entries_sorted names) (λ q d is. get-entries names q ∙ is) none
 
-alike : (p r x : List Seg) → path_cmp r x ≡ Equal → not (is_below p x) ≡ not (is_below p r)
-alike p r x e = ap (λ y. not (is_below p y)) (sym (only_equal r x e))
+  pub numbered_one : (p : List Seg) (x : Entry) → get names p ≡ Some x → x.number ≡ n → ((q : List Seg) (d : Entry) → get names q ≡ Some d → d.number ≡ n → q ≡ p) → numbered n names ≡ Some (p, x)
+  unfolding numbered
+  numbered_one p x at number only = one_in p x (entries names) (entries_sorted names) (λ q d is. get-entries names q ∙ is) only at number (sym (get-entries names p) ∙ at)
 
-still_there : (m : Map) (p q : List Seg) (e : Entry) → get (retain_keys m (λ x. not (is_below p x))) q ≡ Some e → get m q ≡ Some e
-still_there m p q e h = kept_by (not (is_below p q)) (get m q) e (sym (get-retain_keys m (λ x. not (is_below p x)) q (alike p q)) ∙ h)
+-- ---- in the tree
 
-pub numbered_without : (p : List Seg) (names : Namespace) → Numbered names → Numbered (without_below p names)
-unfolding without_below
-numbered_without p names h = record {
-  below = λ q e is. h.below q e (still_there names.map p q e is);
-  distinct = λ q r d e is so n. h.distinct q r d e (still_there names.map p q d is) (still_there names.map p r e so) n;
-}
+-- the node that stands at a path
+pub record Standing (m : NodeMap) (child : Children) (q : List Seg) (e : Entry) : Type 0 where
+  pub number : ℕ
+  pub node : Node
+  pub at : get m number ≡ Some node
+  pub path : path_to m number ≡ q
+  pub entry : node.entry ≡ e
+  pub leads : down child 0 q ≡ Some number
 
--- ---- mutexes released
+module _ (m : NodeMap) (child : Children) (next : ℕ) (linked : Linked m child next) where
+  pub standing : (q : List Seg) (e : Entry) → get (map_of m) q ≡ Some e → Standing m child q e
+  standing q e is = by (down child 0 q) refl (sym (get_map m child next linked q) ∙ is)
+    where
+      node_by : (n : ℕ) (o : Option Node) → down child 0 q ≡ Some n → get m n ≡ o → option_map (λ (x : Node). x.entry) o ≡ Some e → Standing m child q e
+      node_by n None leads at is = absurd (cc is)
+      node_by n (Some x) leads at is = record { number = n; node = x; at = at; path = path_of_root m child next linked q n leads; entry = cc is; leads = leads }
 
-was_there : (o : Option Entry) (e : Entry) → option_map entry_released o ≡ Some e → (d : Entry) × ((o ≡ Some d) × (d.number ≡ e.number))
-was_there None e h = absurd (cc h)
-was_there (Some d) e h = (d, (refl, ap (λ (x : Entry). x.number) (same_entry (entry_released d) e h)))
+      by : (o : Option ℕ) → down child 0 q ≡ o → option_map (λ (x : Node). x.entry) (option_and_then (get m) o) ≡ Some e → Standing m child q e
+      by None leads is = absurd (cc is)
+      by (Some n) leads is = node_by n (get m n) leads refl is
 
-pub numbered_released : (names : Namespace) → Numbered names → Numbered (mutexes_released names)
-unfolding mutexes_released
-numbered_released names h =
-    let at : (p : List Seg) (e : Entry) → get (mutexes_released names).map p ≡ Some e → (d : Entry) × ((get names.map p ≡ Some d) × (d.number ≡ e.number)) = λ p e is. was_there (get names.map p) e (sym (released_at names p) ∙ is) in
-    record {
-      below = λ p e is. let d = at p e is in subst (λ n. n < names.next) d.1.1 (h.below p d.0 d.1.0);
-      distinct = λ p q d e is so n. let a = at p d is in let b = at q e so in h.distinct p q a.0 b.0 a.1.0 b.1.0 (a.1.1 ∙ n ∙ sym b.1.1);
-    }
+  pub entry_at : (n : ℕ) (x : Node) → get m n ≡ Some x → get (map_of m) (path_to m n) ≡ Some x.entry
+  entry_at n x is = get_map m child next linked (path_to m n) ∙ ap (λ o. option_map (λ (x : Node). x.entry) (option_and_then (get m) o)) (stands_of m child next linked n (ap is_some is)) ∙ ap (option_map (λ (x : Node). x.entry)) is
 
--- ---- the root alone
+  number_is : (q : List Seg) (d : Entry) (s : Standing m child q d) → d.number ≡ s.number
+  number_is q d s = ap (λ (z : Entry). z.number) (sym s.entry) ∙ linked.number s.number s.node s.at
 
-nothing : (q : List Seg) (e : Entry) → get (empty {X = Entry} {R = path_cmp}) q ≡ Some e → ⊥
-nothing q e is = absurd (cc (sym (get-empty path_cmp q) ∙ is))
+  numbered_by : (n : ℕ) (o : Option Node) → get m n ≡ o → numbered n (map_of m) ≡ option_map (λ (x : Node). (path_to m n, x.entry)) o
+  numbered_by n None is = numbered_none (map_of m) n (λ q d at number. let s = standing q d at in absurd (cc (sym is ∙ ap (get m) (sym number ∙ number_is q d s) ∙ s.at)))
+  numbered_by n (Some x) is = numbered_one (map_of m) n (path_to m n) x.entry (entry_at n x is) (linked.number n x is) (λ q d at number. let s = standing q d at in sym s.path ∙ ap (path_to m) (sym (number_is q d s) ∙ number))
 
-before_the_root : Numbered (record { map = empty; next = 0 })
-before_the_root = record { below = λ p e is. absurd (nothing p e is); distinct = λ p q d e is so n. absurd (nothing p d is) }
+  -- the declaration with a number is that of the node with it
+  pub numbered_get : (n : ℕ) → numbered n (map_of m) ≡ option_map (λ (x : Node). (path_to m n, x.entry)) (get m n)
+  numbered_get n = numbered_by n (get m n) refl
 
-pub numbered_root : Numbered root_alone
-numbered_root = numbered_put (record { map = empty; next = 0 }) [] (record { number = 0; object = object.Scope }) 1 before_the_root (omega arith) (omega arith) (λ q e is n. absurd (nothing q e is))
+  pub tree_numbered : Numbered (record { map = map_of m; next = next })
+  tree_numbered = record {
+    below = λ p e is. let s = standing p e is in subst (λ k. k < next) (sym (number_is p e s)) (linked.below s.number s.node s.at);
+    distinct = λ p q d e is so same. let s = standing p d is in let t = standing q e so in sym s.path ∙ ap (path_to m) (sym (number_is p d s) ∙ same ∙ number_is q e t) ∙ t.path;
+  }
+
+  -- what a walk down from a node finds
+  pub down_from : (a : ℕ) (ss : List Seg) → is_some (get m a) ≡ true → option_map (λ (k : ℕ). numbered k (map_of m)) (down child a ss) ≡ option_map Some (at_path (map_of m) (path_to m a ++ ss))
+  down_from a ss stands = by (down child a ss) refl
+    where
+      from_root : down child 0 (path_to m a ++ ss) ≡ down child a ss
+      from_root = down_append child 0 (path_to m a) ss ∙ ap (option_and_then (λ k. down child k ss)) (stands_of m child next linked a stands)
+
+      by : (o : Option ℕ) → down child a ss ≡ o → option_map (λ (k : ℕ). numbered k (map_of m)) o ≡ option_map Some (at_path (map_of m) (path_to m a ++ ss))
+      by None is = sym (ap (λ o. option_map Some (option_map (λ (e : Entry). (path_to m a ++ ss, e)) o)) (get_map m child next linked (path_to m a ++ ss) ∙ ap (λ o. option_map (λ (x : Node). x.entry) (option_and_then (get m) o)) (from_root ∙ is)))
+      by (Some k) is =
+          let to = reached m child next linked a ss k stands is in
+          let x = there_is (get m k) to.0 in
+          let at : get (map_of m) (path_to m a ++ ss) ≡ Some x.0.entry = ap (get (map_of m)) (sym to.1) ∙ entry_at k x.0 x.1 in
+          ap Some (numbered_get k ∙ ap (option_map (λ (x : Node). (path_to m k, x.entry))) x.1 ∙ ap (λ (p : List Seg). Some (p, x.0.entry)) to.1)
+          ∙ sym (ap (λ o. option_map Some (option_map (λ (e : Entry). (path_to m a ++ ss, e)) o)) at)

@@ -1,15 +1,28 @@
--- The declaration with a number, among the entries in order.
-use Rattle.std.specs.Prelude.{◌≡◌, ℕ, ◌+◌, ◌<◌, List, length, drop, get_or, ◌==◌, T, Some, if◌then◌else◌}
-use Rattle.std.proofs.Common.{refl, ap, drop-cons, add-one}
-use Rattle.std.specs.FinMap.{from_sorted, is_sorted, entries-from_sorted}
-use Rattle.aml_path.specs.declared.segment.Seg.{Seg}
-use Rattle.aml_path.specs.Paths.{path_cmp}
-use Rattle.aml_objects.specs.declared.entry.Entry.{Entry}
-use Rattle.aml_namespace.specs.Namespace.{with_number, numbered}
+-- Maps by numbers.
+use Rattle.std.proofs.Common.{◌≡◌, ℕ, true, false, cond, Option, Some, None, refl, ap, sym, ◌∙◌}
+use Rattle.std.proofs.lemmas.Bool.{eq-eqb, ne_eqb}
+use Rattle.std.specs.FinMap.{FinMap, get, insert, remove, get-insert, get-remove, same_map, nat_cmp-IsAntisymmetric}
+use Rattle.std.specs.Ordering.{nat_cmp, eq_by_cmp}
+use Rattle.std.specs.Cmp.{nat_cmp_total, unsigned_tied}
 
-pub number_step : (n : ℕ) (es : List (List Seg × Entry)) (i : ℕ) (e : List Seg × Entry) → i < length es → e ≡ get_or es i e → with_number n (drop i es) ≡ (if e.1.number == n then Some e else with_number n (drop (i + 1) es))
-number_step n es i e l at = rw (drop-cons es i e l, ← at, add-one) refl
+pub here : (q : ℕ) → eq_by_cmp nat_cmp q q ≡ true
+here q = unsigned_tied q q ∙ eq-eqb q q refl
 
-pub number_kept : (n : ℕ) (es : List (List Seg × Entry)) → T (is_sorted path_cmp es) → numbered n (from_sorted es) ≡ with_number n es
-unfolding numbered
-number_kept n es h = ap (with_number n) (entries-from_sorted path_cmp es h)
+pub apart : (q k : ℕ) → (q ≡ k → ⊥) → eq_by_cmp nat_cmp q k ≡ false
+apart q k ne = unsigned_tied q k ∙ ne_eqb q k ne
+
+module _ {X : Type 0} (m : FinMap nat_cmp X) where
+  pub insert_here : (k : ℕ) (x : X) → get (insert m k x) k ≡ Some x
+  insert_here k x = get-insert nat_cmp_total m k x k ∙ ap (λ b. cond b (Some x) (get m k)) (here k)
+
+  pub insert_apart : (k : ℕ) (x : X) (q : ℕ) → (q ≡ k → ⊥) → get (insert m k x) q ≡ get m q
+  insert_apart k x q ne = get-insert nat_cmp_total m k x q ∙ ap (λ b. cond b (Some x) (get m q)) (apart q k ne)
+
+  pub remove_here : (k : ℕ) → get (remove m k) k ≡ None
+  remove_here k = get-remove nat_cmp_total m k k ∙ ap (λ b. cond b None (get m k)) (here k)
+
+  pub remove_apart : (k q : ℕ) → (q ≡ k → ⊥) → get (remove m k) q ≡ get m q
+  remove_apart k q ne = get-remove nat_cmp_total m k q ∙ ap (λ b. cond b None (get m q)) (apart q k ne)
+
+  pub same_numbers : (n : FinMap nat_cmp X) → ((q : ℕ) → get m q ≡ get n q) → m ≡ n
+  same_numbers n h = same_map nat_cmp_total nat_cmp-IsAntisymmetric m n h

@@ -1,7 +1,8 @@
 pub mod Calls
-pub mod Entries
 pub mod Mutexes
 pub mod Namespace
+pub mod Nodes
 pub mod Numbering
 pub mod Search
 pub mod Walks
+pub mod Tree

@@ -1,5 +1,5 @@
 -- What a name finds from a scope (ACPI 6.5, 5.3).
-use Rattle.std.specs.Prelude.{ℕ, zero, suc, List, ◌++◌, length, take, Option, Some, None, Ok, Err, if◌then◌else◌}
+use Rattle.std.specs.Prelude.{◌≡◌, ◌≤◌, ◌-◌, ℕ, zero, suc, List, [], ◌∷◌, ◌++◌, length, take, Option, Some, None, Ok, Err, if◌then◌else◌}
 use Rattle.std.specs.Option.{option_map}
 use Rattle.std.specs.FinMap.{get}
 use Rattle.ar_space.specs.declared.refusal.Refusal.TheVariants as refusal
@@ -10,7 +10,7 @@ use Rattle.aml_path.specs.Paths.{Name, resolved, is_searched}
 use Rattle.aml_objects.specs.declared.entry.Entry.{Entry}
 use Rattle.aml_objects.specs.declared.entry.NamedObject.{NamedObject}
 use Rattle.aml_objects.specs.declared.entry.NamedObject.TheVariants as object
-use Rattle.aml_namespace.specs.Namespace.{Map}
+use Rattle.aml_namespace.specs.Namespace.{Map, numbered}
 
 -- a path, and what stands there
 abbrev pub Found : Type 0
@@ -29,7 +29,7 @@ unfoldable pub search_up : Map → List Seg → List Seg → ℕ → Option Foun
 search_up m scope segments zero = at_path m (take 0 scope ++ segments)
 search_up m scope segments (suc n) = or_else (at_path m (take (suc n) scope ++ segments)) (search_up m scope segments n)
 
-abbrev pub found_or_not : Option Found → Outcome Found
+abbrev pub found_or_not : {A : Type 0} → Option A → Outcome A
 found_or_not None = Err (refusal.Namespace NotFound)
 found_or_not (Some f) = Ok f
 
@@ -81,3 +81,37 @@ unfoldable pub found : Map → List Seg → Name → Outcome Found
 found m scope n = do
   f ← first_found m scope n
   through m f
+
+-- the same from a scope that is given by the number of its declaration; nothing is found from one that doesn't stand
+abbrev pub found_in : Map → Option Found → Name → Outcome Found
+found_in m None n = Err (refusal.Namespace NotFound)
+found_in m (Some f) n = found m f.0 n
+
+abbrev pub found_from : Map → ℕ → Name → Outcome Found
+found_from m number n = found_in m (numbered number m) n
+
+-- ---- ways through the tree, by the numbers of declarations
+
+-- the path that an alias leads to
+abbrev pub aliased : NamedObject → Option (List Seg)
+aliased (object.Alias t) = Some t
+aliased o = None
+
+-- the declaration with this number stands one level above a path, which ends with this segment
+pub record IsParent (m : Map) (path : List Seg) (number : ℕ) (segment : Seg) : Type 0 where
+  pub above : Found
+  pub stands : numbered number m ≡ Some above
+  pub ends : path ≡ above.0 ++ segment ∷ []
+
+-- so many levels above
+pub record IsAncestor (m : Map) (path : List Seg) (number : ℕ) (count : ℕ) : Type 0 where
+  pub above : Found
+  pub stands : numbered number m ≡ Some above
+  pub within : count ≤ length path
+  pub is : above.0 ≡ take (length path - count) path
+
+-- some segments below the declaration with this number make the path that a name stands for
+pub record IsFront (m : Map) (number : ℕ) (segments : List Seg) (path : Outcome (List Seg)) : Type 0 where
+  pub front : Found
+  pub stands : numbered number m ≡ Some front
+  pub makes : path ≡ Ok (front.0 ++ segments)

@@ -2,14 +2,15 @@
 ghost use Rattle.std.specs.Prelude.{◌≡◌, false, IfOk, OnOk, IsOkUnless};
 ghost use Rattle.ar_space.specs.declared.refusal.Refusal.TheVariants.{OutOfMemory};
 ghost use Rattle.ar_space.specs.Outcome.{NotMemory, seen};
-ghost use Rattle.aml_namespace.specs.Calls.{answered, inserted, removed, looked_up, replies_to, left_by};
+ghost use Rattle.aml_namespace.specs.Calls.{answered, inserted, removed, looked_up, located, children_listed, all_listed, object_replaced, all_released, replies_to, left_by};
 
 use crate::names::Names;
 use aml_objects::{Entry, NamedObject};
-use aml_path::{NameString, Path};
+use aml_path::{NameString, Path, Seg};
 use ar_space::Refusal;
 use std::alloc::Global;
 use std::collections::VecDeque;
+use std::marker::Model;
 
 /// A call of a namespace.
 #[derive(Debug, Drop)]
@@ -20,16 +21,83 @@ pub enum Call {
     RemoveBelow(Path),
     /// A search: the scope, and the name.
     Lookup(Path, NameString),
+    /// A search for the path alone: the scope, and the name.
+    Locate(Path, NameString),
+    /// The names one level below a path are listed.
+    Children(Path),
+    /// All names are listed.
+    Walk,
+    /// Another object in place of what stands at a path.
+    Replace(Path, NamedObject),
+    /// Every mutex is released.
+    ReleaseMutexes,
 }
 
 /// What a call answers.
-#[derive(Debug, PartialEq, Eq, Drop)]
+#[derive(Debug, Drop)]
 pub enum Reply {
     /// The number of the declaration, or why there is none.
     Declared(Result<u64, Refusal>),
     Removed,
     /// The number of the declaration that was found, or why there is none.
     Found(Result<u64, Refusal>),
+    /// The path of what was found, or why there is none.
+    Located(Result<Path, Refusal>),
+    /// The last segments of the names one level below a path, ascending.
+    Children(SegmentList),
+    /// The paths of all names but the root, in path order.
+    Walked(PathList),
+    /// Whether something stood at the path.
+    Replaced(Result<(), Refusal>),
+    Released,
+}
+
+/// Segments in a reply, seen as their list.
+#[derive(Debug, Drop)]
+pub struct SegmentList {
+    list: Vec<Seg>,
+}
+
+impl Model for SegmentList {
+    ghost use Rattle.std.specs.Prelude.{List};
+    ghost use Rattle.aml_path.specs.declared.segment.Seg.{Seg as Segment};
+
+    ghost Value = { List Segment };
+
+    ghost view = { λ s. s.list.items };
+}
+
+impl SegmentList {
+    /// The segments.
+    pub fn as_slice(&self) -> &[Seg]
+        ensures { result.now ≡ self.now }
+    {
+        &self.list
+    }
+}
+
+/// Paths in a reply, seen as their list.
+#[derive(Debug, Drop)]
+pub struct PathList {
+    list: Vec<Path>,
+}
+
+impl Model for PathList {
+    ghost use Rattle.std.specs.Prelude.{List};
+    ghost use Rattle.aml_path.specs.declared.segment.Seg.{Seg as Segment};
+
+    ghost Value = { List (List Segment) };
+
+    ghost view = { λ p. p.list.items };
+}
+
+impl PathList {
+    /// The paths.
+    pub fn as_slice(&self) -> &[Path]
+        ensures { result.now ≡ self.now }
+    {
+        &self.list
+    }
 }
 
 impl Names {
@@ -47,7 +115,7 @@ impl Names {
         let mut left = calls;
         let mut replies = Vec::new(alloc);
         while let Some(call) = left.pop_front() {
-            let reply = self.answer(call)?;
+            let reply = self.answer(alloc, call)?;
             replies.push(reply)?;
         }
         Ok(replies)
@@ -55,7 +123,7 @@ impl Names {
 
     /// Answers one call. A refusal of the call is its reply; only want of memory ends the run.
     #[tactic(auto, unfolding(crate::specs::Calls::answered))]
-    fn answer(&mut self, call: Call) -> Result<Reply, Refusal>
+    fn answer(&mut self, alloc: Global, call: Call) -> Result<Reply, Refusal>
         ensures reply { IfOk result (λ reply. answered call self.old ≡ (reply, self.new)) }
         ensures memory { IsOkUnless result OutOfMemory }
     {
@@ -63,6 +131,11 @@ impl Names {
             Call::Insert(path, object) => self.answer_insert(path, object),
             Call::RemoveBelow(path) => self.answer_remove(path),
             Call::Lookup(scope, name) => self.answer_lookup(scope, name),
+            Call::Locate(scope, name) => self.answer_locate(alloc, scope, name),
+            Call::Children(path) => self.answer_children(alloc, path),
+            Call::Walk => self.answer_walk(alloc),
+            Call::Replace(path, object) => self.answer_replace(path, object),
+            Call::ReleaseMutexes => self.answer_release(),
         }
     }
 
@@ -92,9 +165,63 @@ impl Names {
     {
         Ok(Reply::Found(number_of(self.lookup(&scope, &name))))
     }
+
+    #[tactic(auto, using(crate::proofs::Replies::place_replied))]
+    fn answer_locate(
+        &mut self,
+        alloc: Global,
+        scope: Path,
+        name: NameString,
+    ) -> Result<Reply, Refusal>
+        ensures reply { IfOk result (λ reply. located scope name self.old ≡ (reply, self.new)) }
+        ensures memory { IsOkUnless result OutOfMemory }
+    {
+        let outcome = self.locate(alloc, &scope, &name);
+        if is_out_of_memory(&outcome) {
+            return Err(Refusal::OutOfMemory);
+        }
+        Ok(Reply::Located(outcome))
+    }
+
+    fn answer_children(&mut self, alloc: Global, path: Path) -> Result<Reply, Refusal>
+        ensures reply { IfOk result (λ reply. children_listed path self.old ≡ (reply, self.new)) }
+        ensures memory { IsOkUnless result OutOfMemory }
+    {
+        match self.children(alloc, &path) {
+            Ok(list) => Ok(Reply::Children(SegmentList { list })),
+            Err(_) => Err(Refusal::OutOfMemory),
+        }
+    }
+
+    fn answer_walk(&mut self, alloc: Global) -> Result<Reply, Refusal>
+        ensures reply { IfOk result (λ reply. all_listed self.old ≡ (reply, self.new)) }
+        ensures memory { IsOkUnless result OutOfMemory }
+    {
+        match self.walk(alloc) {
+            Ok(list) => Ok(Reply::Walked(PathList { list })),
+            Err(_) => Err(Refusal::OutOfMemory),
+        }
+    }
+
+    #[tactic(auto, using(crate::proofs::Replies::object_replied))]
+    fn answer_replace(&mut self, path: Path, object: NamedObject) -> Result<Reply, Refusal>
+        ensures reply { IfOk result (λ reply. object_replaced path object self.old ≡ (reply, self.new)) }
+        ensures memory { IsOkUnless result OutOfMemory }
+    {
+        let outcome = self.replace(&path, object);
+        Ok(Reply::Replaced(outcome))
+    }
+
+    fn answer_release(&mut self) -> Result<Reply, Refusal>
+        ensures reply { IfOk result (λ reply. all_released self.old ≡ (reply, self.new)) }
+        ensures memory { IsOkUnless result OutOfMemory }
+    {
+        self.release_mutexes();
+        Ok(Reply::Released)
+    }
 }
 
-fn is_out_of_memory(outcome: &Result<u64, Refusal>) -> bool
+fn is_out_of_memory<T>(outcome: &Result<T, Refusal>) -> bool
     ensures { result ≡ false → NotMemory outcome.now }
 {
     matches!(outcome, Err(Refusal::OutOfMemory))

@@ -1,14 +1,17 @@
 //! The namespace: what stands at each path, and what a name finds from a scope (ACPI 6.5, 5.3).
 #![tactic(auto)]
 
-mod below;
 mod calls;
-mod compare;
+mod climb;
 pub mod laws;
 mod mutexes;
 mod names;
+mod node;
+mod nodes;
+mod removal;
 mod search;
+mod tree;
 mod walk;
 
-pub use calls::{Call, Reply};
+pub use calls::{Call, PathList, Reply, SegmentList};
 pub use names::Names;

@@ -1,67 +1,70 @@
 //! The names below a path, and all names, in order.
-ghost use Rattle.std.specs.Prelude.{◌≡◌, Ok, map};
-ghost use Rattle.std.specs.List.{filter_map};
+ghost use Rattle.std.specs.Prelude.{◌≡◌, ◌||◌, List, Ok, OnOk, IsOkUnless};
+ghost use Rattle.std.specs.BTreeSet.{contains, IsOrdered};
+ghost use Rattle.ar_space.specs.declared.refusal.Refusal.TheVariants.{OutOfMemory};
+ghost use Rattle.aml_path.specs.declared.segment.Seg.{Seg};
+ghost use Rattle.aml_path.specs.Paths.{path_cmp};
 ghost use Rattle.ar_space.specs.Outcome.{Answers, seen};
-ghost use Rattle.aml_namespace.specs.Walks.{child_of, children, named, walked};
+ghost use Rattle.aml_namespace.specs.Walks.{children, walked, is_named};
 
-use crate::names::Names;
-use aml_objects::Entry;
+use crate::names::{Names, root_id};
+use crate::tree::{children_of, descend};
+use aml_objects::NodeId;
 use aml_path::{Path, Seg};
 use ar_space::Refusal;
 use std::alloc::Global;
+use std::collections::BTreeSet;
 
 impl Names {
     /// The last segments of the names one level below a path, ascending.
     pub fn children(&self, alloc: Global, path: &Path) -> Result<Vec<Seg>, Refusal>
         ensures { Answers (seen (λ list. list.items) result) (Ok (children path.now self.now.map)) }
     {
-        children_among(alloc, self.entries(), path)
+        // A number is below the next one.
+        let _next = self.next;
+        match descend(&self.index, root_id(), path.segments()) {
+            None => Ok(Vec::new(alloc)),
+            Some(id) => children_of(alloc, &self.index, id.number),
+        }
     }
 
     /// The paths of all names but the root, in path order.
     pub fn walk(&self, alloc: Global) -> Result<Vec<Path>, Refusal>
         ensures { Answers (seen (λ list. list.items) result) (Ok (walked self.now.map)) }
     {
-        paths_among(alloc, self.entries())
+        let mut paths = BTreeSet::new(alloc);
+        for (_, id) in &self.index {
+            put_named(&mut paths, self.path_of(alloc, *id)?)?;
+        }
+        listed(alloc, paths)
     }
 }
 
-fn children_among(
-    alloc: Global,
-    entries: &[(Path, Entry)],
-    path: &Path,
-) -> Result<Vec<Seg>, Refusal>
-    ensures { Answers (seen (λ list. list.items) result) (Ok (filter_map (λ entry. child_of path.now entry.0) entries.now)) }
+/// Puts a path among others, if there is one and it isn't the root's.
+fn put_named(paths: &mut BTreeSet<Path>, path: Option<Path>) -> Result<(), Refusal>
+    ensures put { OnOk result ((q : List Seg) → contains path_cmp paths.new q ≡ (contains path_cmp paths.old q || is_named q path)) }
+    ensures memory { IsOkUnless result OutOfMemory }
 {
-    let mut list = Vec::new(alloc);
-    for entry in entries {
-        if let Some(segment) = child_of(path, &entry.0) {
-            list.push(segment)?;
+    match path {
+        None => Ok(()),
+        Some(path) => {
+            if path.depth() == 0 {
+                return Ok(());
+            }
+            paths.insert(path)?;
+            Ok(())
         }
     }
-    Ok(list)
 }
 
-/// The last segment of a path that is one level below another.
-fn child_of(path: &Path, other: &Path) -> Option<Seg>
-    ensures { result ≡ child_of path.now other.now }
-{
-    let depth = path.depth();
-    if other.depth() > depth && other.depth() - depth == 1 && other.is_below(path) {
-        Some(other.segments()[depth])
-    } else {
-        None
-    }
-}
-
-fn paths_among(alloc: Global, entries: &[(Path, Entry)]) -> Result<Vec<Path>, Refusal>
-    ensures { Answers (seen (λ list. list.items) result) (Ok (filter_map (λ entry. named entry.0) entries.now)) }
+/// Paths in path order.
+fn listed(alloc: Global, paths: BTreeSet<Path>) -> Result<Vec<Path>, Refusal>
+    ensures paths { Answers (seen (λ list. list.items) result) (Ok paths.keys) }
+    ensures ordered { IsOrdered path_cmp paths }
 {
     let mut list = Vec::new(alloc);
-    for entry in entries {
-        if entry.0.depth() > 0 {
-            list.push(entry.0.copy(alloc)?)?;
-        }
+    for path in paths {
+        list.push(path)?;
     }
     Ok(list)
 }

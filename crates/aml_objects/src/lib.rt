@@ -10,6 +10,7 @@ mod entry;
 mod heap;
 pub mod laws;
 mod making;
+mod node;
 mod object;
 mod value;
 
@@ -21,5 +22,6 @@ pub use entry::{
     NamedObject, OperationRegion, UpdateRule,
 };
 pub use heap::Heap;
+pub use node::NodeId;
 pub use object::{Element, Elements, Object, Octets};
 pub use value::{Reference, Slot, Value};

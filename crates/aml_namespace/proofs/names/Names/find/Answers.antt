@@ -1,9 +1,15 @@
-use Rattle.std.proofs.Common.{◌∙◌, sym}
-use Rattle.aml_namespace.proofs.Searching.{found_through, found_refused}
+use Rattle.std.proofs.Common.{◌≡◌, ◌∙◌, ap, sym}
+use Rattle.std.specs.Option.{option_map}
+use Rattle.std.specs.FinMap.{get}
+use Rattle.aml_objects.specs.declared.entry.Entry.{Entry}
+use Rattle.aml_namespace.specs.Tree.{child_in, down}
+use Rattle.aml_namespace.proofs.Finding.{find_is}
 use Rattle.aml_namespace.proofs.names.Names.find.Goals as goal
 
-pub returns-in-Ok-clause-answer : goal.returns-in-Ok-clause-answer
-returns-in-Ok-clause-answer c = c.through.ensures.answer ∙ sym (found_through c.args.self.now.map c.args.scope.now c.args.name.now c.in-Ok.first.now (sym c.in-Ok.ensures.answer))
-
-pub returns-in-Err-clause-answer : goal.returns-in-Err-clause-answer
-returns-in-Err-clause-answer c = sym (found_refused c.args.self.now.map c.args.scope.now c.args.name.now c.in-Err.refusal (sym c.in-Err.ensures.answer))
+pub returns : goal.returns
+returns c =
+    c.descend.ensures
+    ∙ ap (λ n. down (child_in c.self.inside.index.entries) n c.segments.result.now) c.root_id.ensures
+    ∙ ap (down (child_in c.self.inside.index.entries) 0) c.segments.ensures
+    ∙ find_is c.self.inside.nodes (child_in c.self.inside.index.entries) c.self.inside.next c.self.invariant c.args.path.now
+    ∙ ap (λ s. option_map (λ (e : Entry). e.number) (get s.map c.args.path.now)) c.self.view_is

@@ -1,44 +1,33 @@
-use Rattle.std.proofs.Common.{◌≡◌, ◌≤◌, ◌∙◌, ap, refl, not}
-use Rattle.std.specs.FinMap.Entries.{where_key, is_sorted-where_key}
-use Rattle.aml_path.specs.Paths.{path_cmp, is_below}
-use Rattle.aml_namespace.specs.Namespace.{without_below}
-use Rattle.aml_namespace.specs.Mutexes.{acquired_among}
-use Rattle.aml_namespace.proofs.Kept.{map_kept}
-use Rattle.aml_namespace.proofs.Cut.{in_order_at, cut_at}
-use Rattle.aml_namespace.proofs.Counting.{cut_within, cut_count}
-use Rattle.aml_namespace.proofs.Numbering.{numbered_without}
+use Rattle.std.proofs.Common.{◌≡◌, ◌∙◌, List, ap, sym, Some, None, not}
+use Rattle.std.specs.FinMap.{retain_keys}
+use Rattle.aml_path.specs.declared.segment.Seg.{Seg}
+use Rattle.aml_path.specs.Paths.{is_below}
+use Rattle.aml_namespace.specs.Namespace.{Map, without_below}
+use Rattle.aml_namespace.specs.Tree.{child_in, down, map_of}
+use Rattle.aml_namespace.proofs.Paths.{node_of_root, path_of_root}
+use Rattle.aml_namespace.proofs.Cutting.{nothing_below}
 use Rattle.aml_namespace.proofs.names.Names.remove_below.Goals as goal
 
-pub slice_bounds-acquired_among-count : goal.slice_bounds-acquired_among-count
-slice_bounds-acquired_among-count c = in_order_at c.args.path.now c.self.inside.entries.items _ _ _ _ c.count_up_to-first.ensures.count c.count_up_to_below-after.ensures.count c.deref.ensures.value c.deref-2.ensures.value
+pub cut_below-requires-clause-stands : goal.cut_below-requires-clause-stands
+cut_below-requires-clause-stands c =
+    let leads : down (child_in c.self.inside.index.entries) 0 c.args.path.now ≡ Some c.in-Some.start.number =
+    ap (λ n. down (child_in c.self.inside.index.entries) n c.args.path.now) (sym c.root_id.ensures) ∙ ap (down (child_in c.self.inside.index.entries) c.root_id.result.number) (sym c.segments.ensures) ∙ sym c.in-Some.ensures in
+    node_of_root c.self.inside.nodes (child_in c.self.inside.index.entries) c.self.inside.next c.self.invariant c.args.path.now c.in-Some.start.number leads
 
-pub slice_bounds-acquired_among-start : goal.slice_bounds-acquired_among-start
-slice_bounds-acquired_among-start c = in_order_at c.args.path.now c.self.inside.entries.items _ _ _ _ c.count_up_to-first.ensures.count c.count_up_to_below-after.ensures.count c.deref.ensures.value c.deref-2.ensures.value
-
-pub drain-requires-clause-start_le_end : goal.drain-requires-clause-start_le_end
-drain-requires-clause-start_le_end c = in_order_at c.args.path.now c.self.inside.entries.items _ _ _ _ c.count_up_to-first.ensures.count c.count_up_to_below-after.ensures.count c.deref.ensures.value c.deref-2.ensures.value
-
-pub overflow_sub-self : goal.overflow_sub-self
-overflow_sub-self c =
-    let order = in_order_at c.args.path.now c.self.inside.entries.items _ _ _ _ c.count_up_to-first.ensures.count c.count_up_to_below-after.ensures.count c.deref.ensures.value c.deref-2.ensures.value in
-    cut_within c.self.inside.entries.items _ c.count_up_to-first.result c.count_up_to_below-after.result c.acquired_among.result c.self.inside.acquired order c.deref-3.ensures.value c.self.invariant.2 c.acquired_among.ensures.count
-
-left : (c : goal.After-drop) → c.drop.new.self.0.items ≡ where_key path_cmp (λ q. not (is_below c.args.path.now q)) c.self.inside.entries.items
-left c =
-    c.drop.ensures.items ∙ c.drain.ensures.kept
-    ∙ cut_at c.args.path.now c.self.inside.entries.items _ _ c.count_up_to-first.result c.count_up_to_below-after.result c.self.invariant.0 c.count_up_to-first.ensures.count c.count_up_to_below-after.ensures.count c.deref.ensures.value c.deref-2.ensures.value
-
-pub invariant_of-self : goal.invariant_of-self
+pub returns-in-Some : goal.returns-in-Some
 unfolding without_below
-invariant_of-self c =
-    let order = in_order_at c.args.path.now c.self.inside.entries.items _ _ _ _ c.count_up_to-first.ensures.count c.count_up_to_below-after.ensures.count c.deref.ensures.value c.deref-2.ensures.value in
-    rw (left c) (
-      is_sorted-where_key path_cmp (λ q. not (is_below c.args.path.now q)) c.self.inside.entries.items c.self.invariant.0,
-      rw (map_kept (λ q. not (is_below c.args.path.now q)) c.self.inside.entries.items c.self.invariant.0) (numbered_without c.args.path.now _ c.self.invariant.1),
-      cut_count c.self.inside.entries.items _ c.count_up_to-first.result c.count_up_to_below-after.result c.acquired_among.result c.self.inside.acquired order c.deref-3.ensures.value c.self.invariant.2 c.acquired_among.ensures.count
-          ∙ ap acquired_among (cut_at c.args.path.now c.self.inside.entries.items _ _ c.count_up_to-first.result c.count_up_to_below-after.result c.self.invariant.0 c.count_up_to-first.ensures.count c.count_up_to_below-after.ensures.count c.deref.ensures.value c.deref-2.ensures.value),
-    )
+returns-in-Some c =
+    let leads : down (child_in c.self.inside.index.entries) 0 c.args.path.now ≡ Some c.in-Some.start.number =
+    ap (λ n. down (child_in c.self.inside.index.entries) n c.args.path.now) (sym c.root_id.ensures) ∙ ap (down (child_in c.self.inside.index.entries) c.root_id.result.number) (sym c.segments.ensures) ∙ sym c.in-Some.ensures in
+    ap (λ (m : Map). record { map = m; next = c.self.inside.next })
+    (c.cut_below.ensures.left ∙ ap (λ (p : List Seg). retain_keys (map_of c.self.inside.nodes) (λ q. not (is_below p q))) (path_of_root c.self.inside.nodes (child_in c.self.inside.index.entries) c.self.inside.next c.self.invariant c.args.path.now c.in-Some.start.number leads))
+    ∙ ap (without_below c.args.path.now) c.self.view_is
 
-pub returns : goal.returns
+pub returns-in_default : goal.returns-in_default
 unfolding without_below
-returns c = rw (left c, map_kept (λ q. not (is_below c.args.path.now q)) c.self.inside.entries.items c.self.invariant.0, ← c.self.view_is) refl
+returns-in_default c =
+    let nowhere : down (child_in c.self.inside.index.entries) 0 c.args.path.now ≡ None =
+    ap (λ n. down (child_in c.self.inside.index.entries) n c.args.path.now) (sym c.root_id.ensures) ∙ ap (down (child_in c.self.inside.index.entries) c.root_id.result.number) (sym c.segments.ensures) ∙ sym c.in_default.ensures in
+    sym c.self.view_is
+    ∙ ap (λ (m : Map). record { map = m; next = c.self.inside.next }) (nothing_below c.self.inside.nodes (child_in c.self.inside.index.entries) c.self.inside.next c.self.invariant c.args.path.now nowhere)
+    ∙ ap (without_below c.args.path.now) c.self.view_is

@@ -1,22 +1,28 @@
-use Rattle.std.proofs.Common.{◌++◌, ◌∙◌, ap, sym, take, arith}
+use Rattle.std.proofs.Common.{◌≡◌, ◌∙◌, ◌++◌, ◌-◌, ◌<◌, ◌≤◌, ℕ, [], List, ap, sym, subst, refl, Option, Some, None, Ok, Err, length, take, arith}
 use Rattle.std.specs.Option.{option_map}
-use Rattle.aml_namespace.specs.Search.{at_path}
-use Rattle.aml_namespace.proofs.Searching.{search_here, search_none, search_next}
+use Rattle.ar_space.specs.Outcome.{seen}
+use Rattle.aml_path.specs.declared.segment.Seg.{Seg}
+use Rattle.aml_path.specs.Paths.{resolved}
+use Rattle.aml_objects.specs.declared.node.NodeId.{NodeId}
+use Rattle.aml_namespace.specs.Namespace.{numbered}
+use Rattle.aml_namespace.specs.Search.{Found, at_path, search_up, first_found, through, target_of, found, found_from, IsFront}
+use Rattle.aml_namespace.proofs.Searching.{stands_by, some_is, none_is, ok_is, err_is, found_same, search_here, search_none, search_next, up_here, up_end, up_step, first_searched, first_resolved, first_refused, found_through, found_refused, resolved_null, resolved_root, resolved_past, resolved_up, from_is, through_itself, through_alias, target_plain, target_alias}
 use Rattle.aml_namespace.proofs.names.Names.search_up.Goals as goal
 
 pub returns-in-Some : goal.returns-in-Some
 returns-in-Some c =
-    let here = ap (λ s. at_path c.args.self.now.map (take c.scopes.depth s ++ c.args.segments.now)) (sym c.segments.ensures) ∙ sym c.at.ensures ∙ ap (option_map (λ f. f.now)) c.in-Some.is in
-    sym (c.scopes.invariant.same ∙ search_here c.args.self.now.map c.args.scope.now c.args.segments.now c.scopes.depth c.in-Some.found.now here)
+    let b = some_is _ _ c.in-Some.ensures in
+    let here : at_path c.args.self.now.map (take c.scopes.depth c.args.scope.now ++ c.args.segments.now) ≡ Some b.0 = ap (λ s. at_path c.args.self.now.map (take c.scopes.depth s ++ c.args.segments.now)) (sym c.segments.ensures) ∙ b.1 in
+    ap Some b.2 ∙ sym (ap (option_map Some) (c.scopes.invariant.same ∙ search_here c.args.self.now.map c.args.scope.now c.args.segments.now c.scopes.depth b.0 here))
 
 pub returns-then-depth-eq0 : goal.returns-then-depth-eq0
 returns-then-depth-eq0 c =
-    let here = ap (λ s. at_path c.args.self.now.map (take c.scopes.depth s ++ c.args.segments.now)) (sym c.segments.ensures) ∙ sym c.at.ensures ∙ ap (option_map (λ f. f.now)) c.in_default.is in
-    sym (c.scopes.invariant.same ∙ search_none c.args.self.now.map c.args.scope.now c.args.segments.now c.scopes.depth here c.if-depth-eq0.true)
+    let here : at_path c.args.self.now.map (take c.scopes.depth c.args.scope.now ++ c.args.segments.now) ≡ None = ap (λ s. at_path c.args.self.now.map (take c.scopes.depth s ++ c.args.segments.now)) (sym c.segments.ensures) ∙ none_is _ c.in_default.ensures in
+    sym (ap (option_map Some) (c.scopes.invariant.same ∙ search_none c.args.self.now.map c.args.scope.now c.args.segments.now c.scopes.depth here c.if-depth-eq0.true))
 
 pub scopes-preserved : goal.scopes-preserved
 scopes-preserved c =
-    let here = ap (λ s. at_path c.args.self.now.map (take c.scopes.depth s ++ c.args.segments.now)) (sym c.segments.ensures) ∙ sym c.at.ensures ∙ ap (option_map (λ f. f.now)) c.in_default.is in
+    let here : at_path c.args.self.now.map (take c.scopes.depth c.args.scope.now ++ c.args.segments.now) ≡ None = ap (λ s. at_path c.args.self.now.map (take c.scopes.depth s ++ c.args.segments.now)) (sym c.segments.ensures) ∙ none_is _ c.in_default.ensures in
     record {
       within = omega arith;
       same = c.scopes.invariant.same ∙ search_next c.args.self.now.map c.args.scope.now c.args.segments.now c.scopes.depth here c.if-depth-eq0.false;

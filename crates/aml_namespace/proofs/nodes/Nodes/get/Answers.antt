@@ -1,0 +1,9 @@
+use Rattle.std.proofs.Common.{◌≡◌, ◌∙◌, ap, sym}
+use Rattle.std.specs.FinMap.{get}
+use Rattle.aml_namespace.proofs.Slots.{by_key}
+use Rattle.aml_namespace.proofs.nodes.Nodes.get.Goals as goal
+
+pub returns-in-Some : goal.returns-in-Some
+returns-in-Some c =
+    sym (by_key c.self.inside.slab.slots c.self.inside.keys.entries c.self.invariant.0 c.args.id.key c.args.id.number c.in-Some.node.now (sym c.in-Some.ensures) c.if-node-id.true)
+    ∙ ap (λ m. get m c.args.id.number) c.self.view_is

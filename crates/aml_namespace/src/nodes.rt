@@ -1,0 +1,166 @@
+//! Nodes by id: each under the key that the slab picks, and found by its number where the key isn't known.
+ghost use Rattle.std.specs.Prelude.{◌≡◌, ◌≢◌, ℕ, None, OnOk, OnErr, IfOk, IsOkUnless, option_map};
+ghost use Rattle.std.specs.FinMap as map;
+ghost use Rattle.slab.specs.Slab as slots;
+ghost use Rattle.ar_space.specs.declared.refusal.Refusal.TheVariants.{OutOfMemory};
+ghost use Rattle.aml_namespace.specs.Mutexes.{acquired};
+ghost use Rattle.aml_namespace.specs.Nodes.{object_put, with_node_object, node_released};
+
+use crate::mutexes::{acquired, release};
+use crate::node::Node;
+use aml_objects::{NamedObject, NodeId};
+use ar_space::Refusal;
+use slab::Slab;
+use std::alloc::Global;
+use std::collections::BTreeMap;
+use std::marker::Model;
+
+/// The nodes that stand, seen as a finite map by the numbers of their declarations.
+///
+/// How many mutexes are acquired is kept beside them, so that nothing is searched for these where there are none.
+#[derive(Drop)]
+pub(crate) struct Nodes {
+    slab: Slab<Node>,
+    keys: BTreeMap<u64, usize>,
+    acquired: usize,
+}
+
+impl Model for Nodes {
+    ghost use Rattle.std.specs.Prelude.{◌≡◌};
+    ghost use Rattle.std.specs.FinMap as map;
+    ghost use Rattle.std.specs.Coded.{coded_ℕ};
+    ghost use Rattle.std.specs.Ordering.{nat_cmp};
+    ghost use Rattle.aml_namespace.specs.declared.node.Node.{Node as Seen};
+    ghost use Rattle.aml_namespace.specs.contracts.node.Node as node_type;
+
+    ghost Value = { map.FinMap nat_cmp Seen };
+
+    ghost coded = { map.code coded_ℕ node_type.the_row.coded };
+
+    ghost use Rattle.aml_namespace.specs.Nodes.{nodes_of, Keyed, acquired_in};
+
+    ghost view = { λ n. nodes_of n.slab.slots n.keys.entries };
+
+    ghost invariant = { λ n. Keyed n.slab.slots n.keys.entries × (n.acquired ≡ acquired_in n.slab.slots) };
+}
+
+impl Nodes {
+    /// No node. It takes no memory.
+    pub(crate) fn new(alloc: Global) -> Nodes
+        ensures { result ≡ map.empty }
+    {
+        Nodes {
+            slab: Slab::new(alloc),
+            keys: BTreeMap::new(alloc),
+            acquired: 0,
+        }
+    }
+
+    /// The node with an id, while it stands. Whatever the id's key, its number decides. It takes no memory.
+    pub(crate) fn get(&self, id: NodeId) -> Option<&Node>
+        ensures { option_map (λ node. node.now) result ≡ map.get self.now id.number }
+    {
+        match self.slab.get(id.key) {
+            Some(node) if node.entry.number == id.number => Some(node),
+            _ => self.numbered(id.number),
+        }
+    }
+
+    /// The node with a number, found by the number alone.
+    fn numbered(&self, number: u64) -> Option<&Node>
+        ensures { option_map (λ node. node.now) result ≡ map.get self.now number }
+    {
+        match self.keys.get(&number) {
+            None => None,
+            Some(key) => self.slab.get(*key),
+        }
+    }
+
+    /// Puts a node that is new. Where there is no memory for it, nothing changes.
+    pub(crate) fn insert(&mut self, node: Node) -> Result<NodeId, Refusal>
+        requires new { map.get self.old node.entry.number ≡ None }
+        ensures put { OnOk result (self.new ≡ map.insert self.old node.entry.number node) }
+        ensures id { IfOk result (λ id. id.number ≡ node.entry.number) }
+        ensures unchanged { OnErr result (self.new ≡ self.old) }
+        ensures memory { IsOkUnless result OutOfMemory }
+    {
+        let number = node.entry.number;
+        let more = acquired(&node.entry.object);
+        self.slab.reserve(1)?;
+        self.keys.insert(number, self.slab.vacant_key())?;
+        let key = self.slab.insert_reserved(node);
+        // So many mutexes are nodes, and the number of nodes fits.
+        let _room = self.slab.capacity();
+        self.acquired += more;
+        Ok(NodeId { key, number })
+    }
+
+    /// Removes the node with an id, if it stands. It takes no memory.
+    pub(crate) fn remove(&mut self, id: NodeId)
+        ensures { self.new ≡ map.remove self.old id.number }
+    {
+        let Some(key) = self.keys.remove(&id.number) else {
+            return;
+        };
+        self.acquired -= taken(self.slab.remove(key));
+    }
+
+    /// Puts another object into the node with an id, if it stands. It takes no memory.
+    pub(crate) fn replace(&mut self, id: NodeId, object: NamedObject)
+        ensures { self.new ≡ object_put self.old id.number object }
+    {
+        let Some(key) = self.keys.get(&id.number) else {
+            return;
+        };
+        // So many mutexes are nodes, and the number of nodes fits.
+        let _room = self.slab.capacity();
+        let node = &mut self.slab[*key];
+        let before = acquired(&node.entry.object);
+        let after = acquired(&object);
+        put_object(node, object);
+        self.acquired = self.acquired - before + after;
+    }
+
+    /// Releases the mutexes. Where none is acquired, the nodes aren't read.
+    pub(crate) fn release(&mut self)
+        ensures { (number : ℕ) → map.get self.new number ≡ option_map node_released (map.get self.old number) }
+    {
+        if self.acquired > 0 {
+            release_all(&mut self.slab);
+            self.acquired = 0;
+        }
+    }
+}
+
+/// 1 for an acquired mutex in a node that is given up, and 0 for anything else.
+fn taken(node: Node) -> usize
+    ensures { result ≡ acquired node.entry.object }
+{
+    acquired(&node.entry.object)
+}
+
+/// Puts another object into a node, under the same number.
+fn put_object(node: &mut Node, object: NamedObject)
+    ensures { node.new ≡ with_node_object object node.old }
+{
+    node.entry.object = object;
+}
+
+/// Releases the mutexes in slots.
+fn release_all(slab: &mut Slab<Node>)
+    ensures { (key : ℕ) → slots.get slab.new key ≡ option_map node_released (slots.get slab.old key) }
+{
+    for key in 0..slab.capacity() {
+        release_at(slab, key);
+    }
+}
+
+/// Releases the mutex in the slot with a key, if there is one.
+fn release_at(slab: &mut Slab<Node>, key: usize)
+    ensures here { slots.get slab.new key ≡ option_map node_released (slots.get slab.old key) }
+    ensures others { (k : ℕ) → k ≢ key → slots.get slab.new k ≡ slots.get slab.old k }
+{
+    if let Some(node) = slab.get_mut(key) {
+        release(&mut node.entry.object);
+    }
+}
