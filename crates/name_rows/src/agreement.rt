@@ -1,17 +1,19 @@
 //! A namespace beside an ordered map of paths, over random calls of both.
 
 use aml_namespace::Names;
-use aml_objects::{Entry, NamedObject};
+use aml_objects::{Entry, NamedObject, NodeId};
 use aml_path::{NameString, Path, Prefix, Seg};
 use ar_space::Refusal;
 use std::alloc::Global;
 use std::collections::BTreeMap;
 
-/// The namespace, the map of its paths to the numbers of their declarations, and the state of the random numbers.
+/// The namespace, the map of its paths to the numbers of their declarations, the ids of all nodes that ever stood, and the
+/// state of the random numbers.
 #[derive(Drop)]
 struct Pair {
     names: Names,
     map: BTreeMap<Path, u64>,
+    given: Vec<NodeId>,
     state: u64,
 }
 
@@ -98,6 +100,44 @@ impl Pair {
         }
     }
 
+    /// The path that the map has for a number.
+    fn place_of(&self, number: u64) -> Option<&Path> {
+        for (path, stands) in &self.map {
+            if *stands == number {
+                return Some(path);
+            }
+        }
+        None
+    }
+
+    /// Whether the node that an id is, one that stands or is gone, is the one that the map has for its number.
+    fn know_alike(&mut self, alloc: Global) -> Result<bool, Refusal> {
+        let count = self.given.len() as u64;
+        let Some(id) = self.given.get(next(&mut self.state, count) as usize) else {
+            return Ok(true);
+        };
+        let place = self.place_of(id.number);
+        let path = self.names.path_of(alloc, *id)?;
+        let number = self.names.node(*id).map(number_of);
+        Ok(path.as_ref() == place && number == place.map(|_path: &Path| id.number))
+    }
+
+    /// Whether a random segment finds the same from the node at a path and from the path.
+    fn search_alike(&mut self, alloc: Global, scope: &Path) -> Result<bool, Refusal> {
+        let name = single(alloc, random_segment(&mut self.state))?;
+        match self.names.find(scope) {
+            Some(id) => {
+                let found = self
+                    .names
+                    .search(id, &name)
+                    .ok()
+                    .map(|id: NodeId| id.number);
+                Ok(found == looked_up(&self.names, scope, &name))
+            }
+            None => Ok(!self.map.contains_key(scope)),
+        }
+    }
+
     /// Whether the map has the path one level up.
     fn has_parent(&self, alloc: Global, path: &Path) -> Result<bool, Refusal> {
         match path.parent(alloc)? {
@@ -112,6 +152,10 @@ impl Pair {
         let stands = self.map.contains_key(&path);
         match self.names.insert(path.copy(alloc)?, NamedObject::Device) {
             Ok(number) => {
+                match self.names.find(&path) {
+                    Some(id) if id.number == number => self.given.push(id)?,
+                    _ => return Ok(false),
+                }
                 self.map.insert(path, number)?;
                 Ok(has_parent && !stands)
             }
@@ -125,12 +169,14 @@ impl Pair {
     /// Makes a random call of both, and gives whether they answer alike.
     fn call_alike(&mut self, alloc: Global) -> Result<bool, Refusal> {
         let path = random_path(alloc, &mut self.state)?;
-        match next(&mut self.state, 8) {
+        match next(&mut self.state, 12) {
             0 => {
                 self.clear(&path);
                 Ok(true)
             }
             1..=3 => self.find_alike(alloc, &path),
+            4 | 5 => self.know_alike(alloc),
+            6 => self.search_alike(alloc, &path),
             _ => self.declare_alike(alloc, path),
         }
     }
@@ -153,6 +199,7 @@ pub fn agreed(alloc: Global, count: u32, seed: u64) -> Result<bool, Refusal> {
     let mut pair = Pair {
         names: Names::new(alloc)?,
         map: BTreeMap::new(alloc),
+        given: Vec::new(alloc),
         state: seed,
     };
     for _ in 0..count {

@@ -5,7 +5,7 @@ use crate::shown::show_segment;
 use crate::values::{object, show_object};
 use crate::words::{name, number, path, refuse, say_done, scope, show_path};
 use aml_namespace::{Call, Names, Reply};
-use aml_objects::Entry;
+use aml_objects::{Entry, NodeId};
 use aml_path::{Path, Seg};
 use ar_space::Refusal;
 use std::alloc::Global;
@@ -66,6 +66,26 @@ fn show_reply(asked: &mut Exchange, reply: &Reply) {
             asked.say("found");
             show_outcome(asked, outcome);
         }
+        Reply::Located(Ok(path)) => {
+            asked.say("located");
+            show_path(asked, path);
+        }
+        Reply::Located(Err(refusal)) => refuse(asked, *refusal),
+        Reply::Children(list) => {
+            asked.say("children");
+            show_segments(asked, list.as_slice());
+        }
+        Reply::Walked(list) => {
+            asked.say("walked");
+            show_paths(asked, list.as_slice());
+        }
+        Reply::Replaced(outcome) => {
+            asked.say("replaced");
+            if let Err(refusal) = outcome {
+                refuse(asked, *refusal);
+            }
+        }
+        Reply::Released => asked.say("released"),
     }
 }
 
@@ -89,6 +109,17 @@ fn call(asked: &mut Exchange) -> Call {
             let name = name(asked);
             Call::Lookup(scope(asked), name)
         }
+        "locate" => {
+            let name = name(asked);
+            Call::Locate(scope(asked), name)
+        }
+        "replace" => {
+            let place = path(asked);
+            Call::Replace(place, object(asked))
+        }
+        "children" => Call::Children(path(asked)),
+        "walk" => Call::Walk,
+        "release" => Call::ReleaseMutexes,
         "clear" => Call::RemoveBelow(path(asked)),
         _ => {
             asked.misunderstand();
@@ -157,9 +188,10 @@ impl Namespace {
     /// The path of a declaration that stands.
     fn at_number(&self, asked: &mut Exchange) {
         let number = number(asked);
-        match self.names.numbered(number) {
-            Some(found) => show_path(asked, &found.0),
-            None => asked.say("none"),
+        match self.names.path_of(asked.alloc(), NodeId::numbered(number)) {
+            Ok(Some(path)) => show_path(asked, &path),
+            Ok(None) => asked.say("none"),
+            Err(refusal) => refuse(asked, refusal),
         }
     }
 
@@ -177,8 +209,22 @@ impl Namespace {
     fn locate(&self, asked: &mut Exchange) {
         let name = name(asked);
         let scope = scope(asked);
-        match self.names.locate(&scope, &name) {
-            Ok(place) => show_path(asked, place),
+        match self.names.locate(asked.alloc(), &scope, &name) {
+            Ok(place) => show_path(asked, &place),
+            Err(refusal) => refuse(asked, refusal),
+        }
+    }
+
+    /// What a name finds from the scope that is the node at a path, or from one that doesn't stand.
+    fn search(&self, asked: &mut Exchange) {
+        let name = name(asked);
+        let scope = scope(asked);
+        let id = self
+            .names
+            .find(&scope)
+            .unwrap_or(NodeId::numbered(u64::MAX));
+        match self.names.search(id, &name) {
+            Ok(found) => asked.say_number(found.number),
             Err(refusal) => refuse(asked, refusal),
         }
     }
@@ -238,6 +284,7 @@ impl Namespace {
             "numbered" => self.at_number(asked),
             "lookup" => self.lookup(asked),
             "locate" => self.locate(asked),
+            "search" => self.search(asked),
             "walk" => self.walk(asked),
             "children" => self.children(asked),
             "agree" => agreement(asked),
