@@ -30,7 +30,7 @@ impl<S> WorldState<S> {
         }
     }
 
-    #[tactic(auto, using(ar_space::specs::Change::changing), unfolding(crate::specs::StoreTargets::name_tested))]
+    #[tactic(auto, using(ar_space::specs::Change::changing, crate::proofs::Declared::declared), unfolding(crate::specs::StoreTargets::name_tested))]
     fn test_name(&self, number: u64) -> Result<(), Refusal>
         ensures answer { Does result self.now (name_tested number) self.now }
         ensures memory { NotMemory result }
@@ -73,13 +73,13 @@ impl<S> WorldState<S> {
         }
     }
 
-    #[tactic(auto, using(ar_space::specs::Change::changing), unfolding(crate::specs::StoreTargets::declared_once))]
+    #[tactic(auto, using(ar_space::specs::Change::changing, crate::proofs::Declared::declared), unfolding(crate::specs::StoreTargets::declared_once))]
     fn declared_once(&self, number: u64) -> Result<Held, Refusal>
         ensures answer { Does result self.now (declared_once number) self.now }
         ensures memory { NotMemory result }
     {
-        let found = self.declaration(number)?;
-        Ok(once(number, &found.1.object))
+        let entry = self.declaration(number)?;
+        Ok(once(number, &entry.object))
     }
 
     #[tactic(auto, using(ar_space::specs::Change::changing), unfolding(crate::specs::StoreTargets::value_once))]

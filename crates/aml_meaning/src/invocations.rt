@@ -1,9 +1,12 @@
 //! Names where values stand, and calls of control methods (ACPI 6.5, 5.5.2 and 20.2.5).
-ghost use Rattle.std.specs.Prelude.{◌≡◌};
+ghost use Rattle.std.specs.Prelude.{◌≡◌, List, Some};
 ghost use Rattle.std.specs.Prelude as list;
 ghost use Rattle.std.specs.FinMap.{get};
 ghost use Rattle.ar_space.specs.Change.{Does};
 ghost use Rattle.ar_space.specs.Outcome.{Answers};
+ghost use Rattle.aml_path.specs.declared.segment.Seg.{Seg};
+ghost use Rattle.aml_objects.specs.declared.entry.Entry.{Entry};
+ghost use Rattle.aml_namespace.specs.Namespace.{numbered};
 ghost use Rattle.aml_namespace.specs.Search.{found};
 ghost use Rattle.aml_meaning.specs.Invocations.{invocation_of_body, invocation_of_object, invocation_of, named_use, invocation_found, count_of_entry, count_through, body_arities, left};
 
@@ -12,9 +15,9 @@ use crate::readings::{arguments_of, as_many, read_as};
 use crate::world_state::WorldState;
 use aml_grammar::ArgumentCounts;
 use aml_namespace::Names;
-use aml_objects::{Entry, Field, MethodBody, NamedObject, Reference, Value};
+use aml_objects::{Entry, Field, MethodBody, NamedObject, NodeId, Reference, Value};
 use aml_path::{NameString, Path};
-use ar_space::Refusal;
+use ar_space::{NamespaceFault, Refusal};
 use std::alloc::Global;
 
 impl<S> WorldState<S> {
@@ -48,9 +51,42 @@ impl<S> WorldState<S> {
     ) -> Result<Invocation, Refusal>
         ensures { Does result self.now (named_use scope.now name.now) self.now }
     {
-        match self.names.find(scope, name) {
-            Ok(found) => use_of(alloc, found),
+        match self.names.search_at(scope, name) {
+            Ok(id) => self.use_of(alloc, id),
             Err(refusal) => Err(refusal),
+        }
+    }
+
+    /// What the node is that a name finds, where a value stands.
+    fn use_of(&self, alloc: Global, id: NodeId) -> Result<Invocation, Refusal>
+        ensures { (f : List Seg × Entry) → numbered id.number self.now.names.map ≡ Some f → Answers result (invocation_of_object f.0 f.1.number f.1.object) }
+    {
+        let Some(entry) = self.names.node(id) else {
+            return Err(Refusal::Namespace(NamespaceFault::NotFound));
+        };
+        match &entry.object {
+            NamedObject::Data(value) => Ok(Invocation::Value(read_as(entry.number, *value))),
+            NamedObject::Method(method) => self.call_of(alloc, id, &method.body),
+            NamedObject::FieldUnit(unit) => Ok(Invocation::Field(Field::Unit(*unit))),
+            NamedObject::BufferField(field) => Ok(Invocation::Field(Field::Buffer(*field))),
+            _ => Ok(Invocation::Value(Value::Reference(Reference::Name(entry.number)))),
+        }
+    }
+
+    fn call_of(
+        &self,
+        alloc: Global,
+        id: NodeId,
+        body: &MethodBody,
+    ) -> Result<Invocation, Refusal>
+        ensures { (f : List Seg × Entry) → numbered id.number self.now.names.map ≡ Some f → Answers result (invocation_of_body f.0 body.now) }
+    {
+        match body {
+            MethodBody::Osi => Ok(Invocation::Osi),
+            MethodBody::Aml(body) => match self.names.path_of(alloc, id)? {
+                None => Err(Refusal::Namespace(NamespaceFault::NotFound)),
+                Some(path) => Ok(Invocation::Method(path, body.share()?)),
+            },
         }
     }
 
@@ -75,27 +111,6 @@ impl<S> ArgumentCounts for WorldState<S> {
         } else {
             count_at(&self.names, path)
         }
-    }
-}
-
-fn use_of(alloc: Global, found: &(Path, Entry)) -> Result<Invocation, Refusal>
-    ensures { Answers result (invocation_of_object found.now.0 found.now.1.number found.now.1.object) }
-{
-    match &found.1.object {
-        NamedObject::Data(value) => Ok(Invocation::Value(read_as(found.1.number, *value))),
-        NamedObject::Method(method) => call_of(alloc, &found.0, &method.body),
-        NamedObject::FieldUnit(unit) => Ok(Invocation::Field(Field::Unit(*unit))),
-        NamedObject::BufferField(field) => Ok(Invocation::Field(Field::Buffer(*field))),
-        _ => Ok(Invocation::Value(Value::Reference(Reference::Name(found.1.number)))),
-    }
-}
-
-fn call_of(alloc: Global, path: &Path, body: &MethodBody) -> Result<Invocation, Refusal>
-    ensures { Answers result (invocation_of_body path.now body.now) }
-{
-    match body {
-        MethodBody::Osi => Ok(Invocation::Osi),
-        MethodBody::Aml(body) => Ok(Invocation::Method(path.copy(alloc)?, body.share()?)),
     }
 }
 

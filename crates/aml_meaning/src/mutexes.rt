@@ -60,8 +60,7 @@ impl<S> WorldState<S> {
     fn acquire_numbered(&mut self, alloc: Global, number: u64) -> Result<(), Refusal>
         ensures { Does result self.new (acquired_by_number number) self.old }
     {
-        let found = self.declaration(number)?;
-        let path = found.0.copy(alloc)?;
+        let (path, _) = self.placed_declaration(alloc, number)?;
         self.acquire_at(&path)
     }
 
@@ -82,8 +81,7 @@ impl<S> WorldState<S> {
     fn release_numbered(&mut self, alloc: Global, number: u64) -> Result<(), Refusal>
         ensures { Does result self.new (given_back_by_number number) self.old }
     {
-        let found = self.declaration(number)?;
-        let path = found.0.copy(alloc)?;
+        let (path, _) = self.placed_declaration(alloc, number)?;
         self.release_at(&path)
     }
 

@@ -1,17 +1,15 @@
 //! What an element of a package stands for that is a name.
-ghost use Rattle.std.specs.Prelude.{◌≡◌, Ok};
 ghost use Rattle.ar_space.specs.Change.{Does};
 ghost use Rattle.ar_space.specs.Outcome.{Answers, seen};
 ghost use Rattle.aml_path.specs.Paths.{resolved};
 ghost use Rattle.aml_namespace.specs.Search.{found};
 ghost use Rattle.aml_meaning.specs.Exporting.{name_use, value_or_path, held_or_path, path_of};
-ghost use Rattle.aml_meaning.specs.Given as given;
 ghost use Rattle.aml_meaning.specs.Given.{given_of};
 ghost use Rattle.aml_meaning.specs.declared.name_use.NameUse.TheVariants as uses;
 
 use crate::datum::Datum;
 use crate::world_state::WorldState;
-use aml_objects::{Field, NamedObject, Value};
+use aml_objects::{Field, NamedObject, NodeId, Value};
 use aml_path::{NameString, Path};
 use ar_space::Refusal;
 use std::alloc::Global;
@@ -84,8 +82,8 @@ impl<S> WorldState<S> {
     fn path_found(&self, alloc: Global, name: &NameString, scope: &Path) -> Result<NameUse, Refusal>
         ensures { Answers result (seen uses.Path (seen (λ f. f.0) (found self.now.names.map scope.now name.now))) }
     {
-        match self.names.locate(scope, name) {
-            Ok(path) => copied(alloc, path),
+        match self.names.locate(alloc, scope, name) {
+            Ok(path) => Ok(NameUse::Path(path)),
             Err(refusal) => Err(refusal),
         }
     }
@@ -95,23 +93,11 @@ impl<S> WorldState<S> {
     pub fn path_of(&self, alloc: Global, number: u64) -> Result<Datum, Refusal>
         ensures { Does (seen given_of result) self.now (path_of number) self.now }
     {
-        match self.names.numbered(number) {
+        match self.names.path_of(alloc, NodeId::numbered(number))? {
             None => Ok(Datum::Reference),
-            Some(found) => named(alloc, &found.0),
+            Some(path) => Ok(Datum::Named(path)),
         }
     }
-}
-
-fn named(alloc: Global, path: &Path) -> Result<Datum, Refusal>
-    ensures { Answers (seen given_of result) (Ok (given.Named path.now)) }
-{
-    Ok(Datum::Named(path.copy(alloc)?))
-}
-
-fn copied(alloc: Global, path: &Path) -> Result<NameUse, Refusal>
-    ensures { Answers result (Ok (uses.Path path.now)) }
-{
-    Ok(NameUse::Path(path.copy(alloc)?))
 }
 
 fn path_it_would_have(alloc: Global, name: &NameString, scope: &Path) -> Result<NameUse, Refusal>

@@ -44,10 +44,7 @@ impl<S> WorldState<S> {
     pub fn locate(&self, alloc: Global, scope: &Path, name: &NameString) -> Result<Path, Refusal>
         ensures { Does result self.now (path_found scope.now name.now) self.now }
     {
-        match self.names.locate(scope, name) {
-            Ok(path) => path.copy(alloc),
-            Err(refusal) => Err(refusal),
-        }
+        self.names.locate(alloc, scope, name)
     }
 
     /// The path of the scope that a name finds: a predefined scope, a device, a processor, a power resource or a thermal

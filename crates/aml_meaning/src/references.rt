@@ -120,9 +120,8 @@ impl<S> WorldState<S> {
     ) -> Result<Stored, Refusal>
         ensures { Does result self.new (copy_into_declared number value) self.old }
     {
-        let found = self.declaration(number)?;
-        let held = holding_of(&found.1.object);
-        let path = found.0.copy(alloc)?;
+        let (path, entry) = self.placed_declaration(alloc, number)?;
+        let held = holding_of(&entry.object);
         self.copy_over(alloc, held, &path, value)
     }
 
@@ -163,9 +162,8 @@ impl<S> WorldState<S> {
     ) -> Result<Stored, Refusal>
         ensures { Does result self.new (store_in_declared number value) self.old }
     {
-        let found = self.declaration(number)?;
-        let held = holding_of(&found.1.object);
-        let path = found.0.copy(alloc)?;
+        let (path, entry) = self.placed_declaration(alloc, number)?;
+        let held = holding_of(&entry.object);
         self.store_over(alloc, held, &path, value)
     }
 

@@ -164,7 +164,7 @@ fn reference_followed<S>(
 }
 
 #[cycle(following)]
-#[tactic(auto, using(ar_space::specs::Change::changing), unfolding(crate::specs::StoreTargets::declared_followed))]
+#[tactic(auto, using(ar_space::specs::Change::changing, crate::proofs::Declared::declared), unfolding(crate::specs::StoreTargets::declared_followed))]
 fn declared_followed<S>(
     world: &WorldState<S>,
     levels: usize,
@@ -173,8 +173,8 @@ fn declared_followed<S>(
     ensures answer { Does result world.now (declared_followed (followed levels) number) world.now }
     ensures memory { NotMemory result }
 {
-    let found = world.declaration(number)?;
-    referent_followed(world, levels, referent_of(&found.1.object))
+    let entry = world.declaration(number)?;
+    referent_followed(world, levels, referent_of(&entry.object))
 }
 
 #[cycle(following)]

@@ -4,6 +4,7 @@ ghost use Rattle.ar_space.specs.Change.{Does};
 ghost use Rattle.ar_space.specs.Outcome.{Answers, NotMemory, seen};
 ghost use Rattle.aml_convert.specs.Integers.{bits_of};
 ghost use Rattle.aml_fields.specs.Regions.{read_field, write_field};
+ghost use Rattle.aml_namespace.specs.Namespace.{above};
 ghost use Rattle.aml_meaning.specs.State.{on_space};
 ghost use Rattle.aml_meaning.specs.Regions.{space_numbered, integer_only, pci_space, region_of_object, region_declared, region_field, field_of_object, field_declared, integer_of_bits, integer_value, value_of_bits, integer_alone, given_of_bits, referent_of_bits};
 ghost use Rattle.aml_meaning.specs.Given.{given_of};
@@ -97,20 +98,19 @@ impl<S> WorldState<S> {
     ) -> Result<(Path, OperationRegion), Refusal>
         ensures { Does result self.now (region_declared number) self.now }
     {
-        let found = self.declaration(number)?;
-        let region = region_of_object(&found.1.object)?;
-        let scope = found.0.prefix(alloc, found.0.depth().saturating_sub(1))?;
-        Ok((scope, region))
+        let (path, entry) = self.placed_declaration(alloc, number)?;
+        let region = region_of_object(&entry.object)?;
+        Ok((above(path), region))
     }
 
     /// The field unit of a region with the number of a declaration; one that is gone is refused as `DeadReference`.
-    #[tactic(auto, using(ar_space::specs::Change::changing), unfolding(crate::specs::Regions::field_declared))]
+    #[tactic(auto, using(ar_space::specs::Change::changing, crate::proofs::Declared::declared), unfolding(crate::specs::Regions::field_declared))]
     pub fn field_declared(&self, number: u64) -> Result<RegionField, Refusal>
         ensures answer { Does result self.now (field_declared number) self.now }
         ensures memory { NotMemory result }
     {
-        let found = self.declaration(number)?;
-        field_of_object(&found.1.object)
+        let entry = self.declaration(number)?;
+        field_of_object(&entry.object)
     }
 
     /// The bits of a field as a value: an integer where they are no more than an integer has, else a new buffer, refused as
@@ -218,6 +218,15 @@ impl<S: Space> WorldState<S> {
     {
         write_field(&mut self.space, region, field, bytes)
     }
+}
+
+/// The path one level up; the root stands for its own.
+fn above(path: Path) -> Path
+    ensures { result ≡ above path }
+{
+    let mut segments = path.into_vec();
+    segments.pop();
+    Path::from_vec(segments)
 }
 
 /// Whether so many bits are more than an integer has.

@@ -8,7 +8,7 @@ ghost use Rattle.aml_meaning.specs.TargetTerms.{target_named};
 use crate::slots::frame_index;
 use crate::store_target::{Held, Holding, StoreTarget};
 use crate::world_state::WorldState;
-use aml_objects::{Entry, Field, NamedObject, Slot, Value};
+use aml_objects::{Entry, Field, NamedObject, NodeId, Slot, Value};
 use aml_path::{NameString, Path};
 use ar_space::{EvaluationFault, NamespaceFault, Refusal, ValueFault};
 use std::alloc::Global;
@@ -129,15 +129,30 @@ impl<S> WorldState<S> {
         held_in(held)
     }
 
-    /// The declaration with a number and its path; one that was removed is refused as `DeadReference`.
-    #[tactic(auto, unfolding(crate::specs::StoreTargets::declaration))]
-    pub(crate) fn declaration(&self, number: u64) -> Result<&(Path, Entry), Refusal>
-        ensures answer { Does (seen (λ e. e.now) result) self.now (declaration number) self.now }
+    /// What stands under the number of a declaration; one that was removed is refused as `DeadReference`.
+    pub(crate) fn declaration(&self, number: u64) -> Result<&Entry, Refusal>
+        ensures answer { seen (λ e. e.now) result ≡ seen (λ f. f.1) (declaration number self.now).0 }
         ensures memory { NotMemory result }
     {
-        match self.names.numbered(number) {
+        match self.names.node(NodeId::numbered(number)) {
             None => Err(Refusal::Evaluation(EvaluationFault::DeadReference)),
-            Some(found) => Ok(found),
+            Some(entry) => Ok(entry),
+        }
+    }
+
+    /// The same, with the path of the declaration.
+    #[tactic(auto, unfolding(crate::specs::StoreTargets::declaration))]
+    pub(crate) fn placed_declaration(
+        &self,
+        alloc: Global,
+        number: u64,
+    ) -> Result<(Path, &Entry), Refusal>
+        ensures { Does (seen (λ d. (d.0, d.1.now)) result) self.now (declaration number) self.now }
+    {
+        let entry = self.declaration(number)?;
+        match self.names.path_of(alloc, NodeId::numbered(number))? {
+            None => Err(Refusal::Evaluation(EvaluationFault::DeadReference)),
+            Some(path) => Ok((path, entry)),
         }
     }
 }

@@ -1,10 +1,10 @@
 -- What stands after an object is replaced, and after the mutexes are released.
-use Rattle.std.proofs.Common.{◌≡◌, ◌≢◌, ℕ, ◌&&◌, Bool, true, false, cond, T, List, [], ◌∷◌, ◌++◌, map, inl, inr, Option, Some, None, Ok, Err, is_some, refl, ap, sym, subst, ◌∙◌}
+use Rattle.std.proofs.Common.{◌≡◌, ℕ, ◌&&◌, Bool, true, false, cond, T, List, [], ◌∷◌, map, inl, inr, Option, Some, None, Ok, Err, is_some, refl, ap, sym, subst, ◌∙◌}
 use Rattle.std.specs.Prelude.{option_and_then}
 use Rattle.std.specs.Option.{option_map}
 use Rattle.std.proofs.lemmas.Bool.{cases_eq}
 use Rattle.std.specs.Ordering.{nat_cmp, eq_by_cmp, is_eq, is_lt}
-use Rattle.std.specs.FinMap.{FinMap, get, insert, entries, entries_sorted, get-entries, get-insert, from_sorted, get-from_sorted, same_map, find, is_sorted}
+use Rattle.std.specs.FinMap.{get, insert, entries, entries_sorted, get-entries, get-insert, from_sorted, get-from_sorted, same_map, find, is_sorted}
 use Rattle.std.specs.FinMap.Entries.{below_all}
 use Rattle.ar_space.specs.declared.refusal.Refusal.TheVariants as refusal
 use Rattle.ar_space.specs.declared.refusal.NamespaceFault.TheVariants.{NotFound}
@@ -17,7 +17,7 @@ use Rattle.aml_namespace.specs.Namespace.{Map, Namespace, with_object, replaced_
 use Rattle.aml_namespace.specs.Nodes.{NodeMap, object_in, object_put, with_node_object, node_released}
 use Rattle.aml_namespace.specs.Tree.{Children, down, path_to, map_of, lies, Linked}
 use Rattle.aml_namespace.proofs.Numbers.{here, apart, insert_here, insert_apart}
-use Rattle.aml_namespace.proofs.Paths.{path_total, only_equal, same_path, path_itself, get_map, there_is, stands_of, path_of_root, node_of_root}
+use Rattle.aml_namespace.proofs.Paths.{path_total, only_equal, same_path, path_itself, get_map, stands_of, path_of_root}
 use Rattle.aml_namespace.proofs.Growth.{entry_of, changed_linked, changed_at}
 
 -- ---- values of a map through a function

@@ -1,5 +1,5 @@
 -- The children of a node, by the index and by the map of paths.
-use Rattle.std.proofs.Common.{◌≡◌, ℕ, ◌+◌, ◌-◌, ◌<◌, ◌≤◌, Bool, true, false, cond, T, List, [], ◌∷◌, ◌++◌, length, map, get_or, inl, inr, Option, Some, None, is_some, refl, ap, sym, subst, ◌∙◌, arith, eqb→eq, length-append}
+use Rattle.std.proofs.Common.{◌≡◌, ℕ, ◌+◌, Bool, true, false, cond, T, List, [], ◌∷◌, ◌++◌, length, map, inl, inr, Option, Some, None, is_some, refl, ap, sym, subst, ◌∙◌, arith, eqb→eq, length-append}
 use Rattle.std.specs.Prelude.{◌==◌, ◌&&◌, ◌||◌, option_and_then, if◌then◌else◌, slice_get, not, filter, filter_map}
 use Rattle.std.specs.Option.{option_map}
 use Rattle.std.specs.List.{AllByRecursion, list_any}
@@ -7,26 +7,23 @@ use Rattle.std.proofs.lemmas.Bool.{cases_eq, cases_lt, eq-eqb, ne_eqb}
 use Rattle.std.specs.declared.cmp.Ordering.{Ordering}
 use Rattle.std.specs.declared.cmp.Ordering.TheVariants.{Less, Equal, Greater}
 use Rattle.std.specs.Ordering.{nat_cmp, eq_by_cmp, is_eq, is_le, is_gt, ordering_then, ordering_reverse}
-use Rattle.std.specs.Cmp.{IsTotalOrder, tied_itself, nat_cmp_is, eq_by_cmp_equiv}
-use Rattle.std.specs.Cmp.Lexicographic.{slice_cmp}
+use Rattle.std.specs.Cmp.{IsTotalOrder, nat_cmp_is, eq_by_cmp_equiv}
 use Rattle.std.specs.List.Sorted.{IsStrictlySortedBy}
-use Rattle.std.specs.FinMap.{get, keys, entries, contains_key-keys, IsAntisymmetric}
+use Rattle.std.specs.FinMap.{keys, contains_key-keys, IsAntisymmetric}
 use Rattle.std.specs.BTreeMap.{is_at}
 use Rattle.std.specs.Map.{lookup, keys_of}
 use Rattle.aml_path.specs.declared.segment.Seg.{Seg}
 use Rattle.aml_path.specs.Segments.{seg_cmp, seg_cmp_exact}
-use Rattle.aml_path.specs.Paths.{path_cmp, is_below}
+use Rattle.aml_path.specs.Paths.{path_cmp}
 use Rattle.aml_objects.specs.declared.node.NodeId.{NodeId}
-use Rattle.aml_namespace.specs.declared.node.Node.{Node}
-use Rattle.aml_namespace.specs.Namespace.{Map}
 use Rattle.aml_namespace.specs.Walks.{child_of, children, Ascending}
 use Rattle.aml_namespace.specs.Nodes.{NodeMap}
 use Rattle.aml_namespace.specs.Tree.{Index, index_cmp, child_in, down, map_of, Linked, segment_below, segments_below}
-use Rattle.aml_namespace.proofs.Numbers.{here, apart}
-use Rattle.aml_namespace.proofs.Paths.{path_total, down_append, same_path, path_itself, other_path}
-use Rattle.aml_namespace.proofs.Indexes.{seg_total, index_total, from_least, from_least_later}
+use Rattle.aml_namespace.proofs.Numbers.{apart}
+use Rattle.aml_namespace.proofs.Paths.{down_append, other_path}
+use Rattle.aml_namespace.proofs.Indexes.{seg_total, from_least, from_least_later}
 use Rattle.aml_namespace.proofs.Ascent.{Keeps, picks_ascend, child_path, itself, children_ascend}
-use Rattle.aml_namespace.proofs.Cutting.{is_below_is, nothing_below}
+use Rattle.aml_namespace.proofs.Cutting.{is_below_is}
 use Rattle.aml_namespace.proofs.Declaring.{contains, contains_child}
 
 -- ---- two ascending lists of the same elements are one

@@ -1,6 +1,5 @@
 -- The nodes above and below one, in the map of paths.
-use Rattle.std.proofs.Common.{◌≡◌, ℕ, zero, suc, ◌+◌, ◌-◌, ◌<◌, ◌≤◌, Bool, true, false, List, [], ◌∷◌, ◌++◌, length, take, reverse, Option, Some, None, is_some, refl, ap, sym, subst, ◌∙◌, arith, append_assoc, append-nil, length-append, length-take-le, take-take}
-use Rattle.std.specs.Prelude.{option_and_then}
+use Rattle.std.proofs.Common.{◌≡◌, ℕ, ◌+◌, ◌-◌, ◌<◌, ◌≤◌, List, [], ◌∷◌, ◌++◌, length, take, Option, Some, None, is_some, refl, ap, sym, ◌∙◌, arith, length-append, length-take-le, take-take}
 use Rattle.std.specs.Option.{option_map}
 use Rattle.std.proofs.lemmas.List.{take_all, take-append-le}
 use Rattle.std.specs.FinMap.{get}
@@ -11,7 +10,7 @@ use Rattle.aml_namespace.specs.declared.node.Node.{Node}
 use Rattle.aml_namespace.specs.Namespace.{Map, numbered}
 use Rattle.aml_namespace.specs.Search.{Found, at_path, IsParent, IsAncestor}
 use Rattle.aml_namespace.specs.Nodes.{NodeMap}
-use Rattle.aml_namespace.specs.Tree.{Children, child_in, down, path_to, map_of, Linked}
+use Rattle.aml_namespace.specs.Tree.{Children, down, path_to, map_of, Linked}
 use Rattle.aml_namespace.proofs.Paths.{there_is, path_step}
 use Rattle.aml_namespace.proofs.Numbering.{numbered_get, down_from}
 use Rattle.aml_namespace.proofs.Finding.{ids, through_ids}

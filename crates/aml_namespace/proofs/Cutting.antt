@@ -6,18 +6,16 @@ use Rattle.std.proofs.lemmas.Bool.{cases_eq}
 use Rattle.std.proofs.lemmas.Bool.Decides.{nat_tests}
 use Rattle.std.proofs.lemmas.List.{take_all, take-append-le}
 use Rattle.std.specs.Ordering.{nat_cmp, eq_by_cmp}
-use Rattle.std.specs.declared.cmp.Ordering.TheVariants.{Equal}
 use Rattle.std.specs.Cmp.{nat_cmp_total}
 use Rattle.std.specs.FinMap.{get, remove, retain_keys, get-retain_keys, get-remove, same_map, len, len-remove, empty_of_len, get-empty}
 use Rattle.aml_path.specs.declared.segment.Seg.{Seg}
 use Rattle.aml_path.specs.Paths.{path_cmp, path_eq, is_below}
 use Rattle.aml_namespace.specs.declared.node.Node.{Node}
-use Rattle.aml_namespace.specs.Namespace.{Map}
 use Rattle.aml_namespace.specs.Nodes.{NodeMap}
-use Rattle.aml_namespace.specs.Tree.{Children, down, path_to, map_of, lies, Linked, Cut, index_cmp}
+use Rattle.aml_namespace.specs.Tree.{Children, down, path_to, map_of, Linked, Cut}
 use Rattle.aml_namespace.proofs.Numbers.{remove_apart}
-use Rattle.aml_namespace.proofs.Paths.{path_total, only_equal, same_path, path_itself, other_path, get_map, down_append, there_is, lies_there, path_step, stands_of, path_of_root, node_of_root}
-use Rattle.aml_namespace.proofs.Growth.{cut_linked, cut_map, cut_path, kept, at_most}
+use Rattle.aml_namespace.proofs.Paths.{path_total, only_equal, same_path, path_itself, other_path, get_map, down_append, there_is, lies_there, path_step, stands_of}
+use Rattle.aml_namespace.proofs.Growth.{cut_linked, cut_map, cut_path, at_most}
 
 -- ---- paths below another
 

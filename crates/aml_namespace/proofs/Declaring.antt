@@ -1,24 +1,22 @@
 -- What a declaration answers, by what stands.
-use Rattle.std.proofs.Common.{◌≡◌, ℕ, ◌+◌, ◌-◌, ◌^◌, ◌<◌, Bool, true, false, cond, List, [], ◌∷◌, ◌++◌, length, take, Option, Some, None, Ok, Err, is_some, refl, ap, sym, subst, ◌∙◌, arith, inl, inr, length-append}
+use Rattle.std.proofs.Common.{◌≡◌, ℕ, ◌+◌, ◌-◌, ◌^◌, Bool, true, false, cond, List, [], ◌∷◌, ◌++◌, length, take, Option, Some, None, Ok, Err, is_some, refl, ap, sym, ◌∙◌, arith, inl, inr, length-append}
 use Rattle.std.proofs.lemmas.List.{take_all, take-append-le}
-use Rattle.std.specs.Prelude.{option_and_then, ◌==◌, if◌then◌else◌}
+use Rattle.std.specs.Prelude.{option_and_then, ◌==◌}
 use Rattle.std.specs.Option.{option_map}
 use Rattle.std.proofs.lemmas.Bool.{cases_eq}
 use Rattle.std.specs.FinMap.{get, insert, remove}
-use Rattle.std.specs.Ordering.{eq_by_cmp}
 use Rattle.ar_space.specs.declared.refusal.Refusal.TheVariants as refusal
 use Rattle.ar_space.specs.declared.refusal.EvaluationFault.TheVariants.{ObjectLimit}
 use Rattle.ar_space.specs.declared.refusal.NamespaceFault.TheVariants.{Exists, NotFound}
 use Rattle.aml_path.specs.declared.segment.Seg.{Seg}
-use Rattle.aml_objects.specs.declared.entry.Entry.{Entry}
 use Rattle.aml_objects.specs.declared.entry.NamedObject.{NamedObject}
 use Rattle.aml_objects.specs.declared.node.NodeId.{NodeId}
 use Rattle.aml_namespace.specs.declared.node.Node.{Node}
-use Rattle.aml_namespace.specs.Namespace.{Map, Namespace, above, declared}
+use Rattle.aml_namespace.specs.Namespace.{Namespace, above, declared}
 use Rattle.aml_namespace.specs.Nodes.{NodeMap}
-use Rattle.aml_namespace.specs.Tree.{Children, down, path_to, map_of, Linked, index_cmp}
-use Rattle.aml_namespace.proofs.Numbers.{insert_here, insert_apart, remove_here, remove_apart, same_numbers}
-use Rattle.aml_namespace.proofs.Paths.{get_map, down_append, there_is, path_of_root, node_of_root}
+use Rattle.aml_namespace.specs.Tree.{Children, down, map_of, Linked}
+use Rattle.aml_namespace.proofs.Numbers.{insert_apart, remove_here, remove_apart, same_numbers}
+use Rattle.aml_namespace.proofs.Paths.{get_map, down_append, there_is, node_of_root}
 
 pub put_undone : (m : NodeMap) (n : ℕ) (x : Node) → get m n ≡ None → remove (insert m n x) n ≡ m
 put_undone m n x none = same_numbers (remove (insert m n x) n) m (λ q. elim (cases_eq q n) [

@@ -1,5 +1,5 @@
 -- What nodes found in the tree say of the map of paths.
-use Rattle.std.proofs.Common.{◌≡◌, ℕ, zero, suc, ◌+◌, ◌<◌, ◌≤◌, Bool, true, false, cond, List, [], ◌∷◌, ◌++◌, length, drop, get_or, inl, inr, Option, Some, None, is_some, refl, ap, sym, subst, ◌∙◌, arith, add-one, drop-cons}
+use Rattle.std.proofs.Common.{◌≡◌, ℕ, ◌+◌, ◌<◌, cond, List, [], ◌∷◌, ◌++◌, length, drop, get_or, inl, inr, Option, Some, None, is_some, refl, ap, sym, ◌∙◌, arith, add-one, drop-cons}
 use Rattle.std.specs.Prelude.{option_and_then}
 use Rattle.std.specs.Option.{option_map}
 use Rattle.std.proofs.lemmas.Bool.{cases_eq}
@@ -9,7 +9,6 @@ use Rattle.aml_path.specs.declared.segment.Seg.{Seg}
 use Rattle.aml_path.specs.Paths.{path_cmp}
 use Rattle.aml_objects.specs.declared.node.NodeId.{NodeId}
 use Rattle.aml_objects.specs.declared.entry.Entry.{Entry}
-use Rattle.aml_objects.specs.declared.entry.NamedObject.{NamedObject}
 use Rattle.aml_objects.specs.declared.entry.NamedObject.TheVariants as object
 use Rattle.aml_namespace.specs.declared.node.Node.{Node}
 use Rattle.aml_namespace.specs.Namespace.{Map, Namespace, numbered, root_alone}

@@ -1,5 +1,5 @@
 -- The index's order: only equal keys tie.
-use Rattle.std.proofs.Common.{◌≡◌, ℕ, ◌≤◌, ◌<◌, Bool, true, false, List, [], ◌∷◌, inl, inr, refl, ap, sym, ◌∙◌, rules, arith}
+use Rattle.std.proofs.Common.{◌≡◌, ℕ, ◌≤◌, Bool, true, false, List, [], ◌∷◌, inl, inr, refl, ap, sym, ◌∙◌, rules, arith}
 use Rattle.std.specs.Prelude.{◌&&◌}
 use Rattle.std.proofs.lemmas.Bool.{cases_lt}
 use Rattle.std.proofs.lemmas.Bool.Decides.{nat_tests}
@@ -9,7 +9,7 @@ use Rattle.aml_path.specs.Characters.{is_segment, is_lead_name_char, is_name_cha
 use Rattle.std.specs.declared.cmp.Ordering.{Ordering}
 use Rattle.std.specs.declared.cmp.Ordering.TheVariants.{Less, Equal, Greater}
 use Rattle.std.specs.Ordering.{nat_cmp, eq_by_cmp, is_eq, is_gt, ordering_then}
-use Rattle.std.specs.Cmp.{IsTotalOrder, nat_cmp_is, tied_itself, eq_by_cmp_equiv, nat_cmp_total, then_total, on_total}
+use Rattle.std.specs.Cmp.{IsTotalOrder, nat_cmp_is, eq_by_cmp_equiv, nat_cmp_total, then_total, on_total}
 use Rattle.std.specs.Cmp.Rules.{comparing}
 use Rattle.std.specs.FinMap.{nat_cmp-IsAntisymmetric}
 use Rattle.aml_path.specs.declared.segment.Seg.{Seg}

@@ -1,5 +1,5 @@
 -- The numbers of declarations, and what stands under one.
-use Rattle.std.proofs.Common.{◌≡◌, ℕ, zero, suc, ◌+◌, ◌<◌, Bool, true, false, cond, T, List, [], ◌∷◌, ◌++◌, Option, Some, None, is_some, refl, ap, sym, subst, ◌∙◌, arith, eqb→eq}
+use Rattle.std.proofs.Common.{◌≡◌, ℕ, ◌<◌, Bool, true, false, cond, T, List, [], ◌∷◌, ◌++◌, Option, Some, None, is_some, refl, ap, sym, subst, ◌∙◌, eqb→eq}
 use Rattle.std.specs.Prelude.{option_and_then, ◌==◌, ◌&&◌, if◌then◌else◌}
 use Rattle.std.specs.Option.{option_map}
 use Rattle.std.proofs.lemmas.Bool.{eq-eqb}
@@ -12,12 +12,12 @@ use Rattle.aml_path.specs.declared.segment.Seg.{Seg}
 use Rattle.aml_path.specs.Paths.{path_cmp}
 use Rattle.aml_objects.specs.declared.entry.Entry.{Entry}
 use Rattle.aml_namespace.specs.declared.node.Node.{Node}
-use Rattle.aml_namespace.specs.Namespace.{Map, Namespace, with_number, numbered}
-use Rattle.aml_namespace.specs.Search.{Found, at_path}
+use Rattle.aml_namespace.specs.Namespace.{Map, with_number, numbered}
+use Rattle.aml_namespace.specs.Search.{at_path}
 use Rattle.aml_namespace.specs.Numbering.{Numbered}
 use Rattle.aml_namespace.specs.Nodes.{NodeMap}
 use Rattle.aml_namespace.specs.Tree.{Children, down, path_to, map_of, Linked}
-use Rattle.aml_namespace.proofs.Paths.{path_total, same_path, path_itself, get_map, down_append, there_is, stands_of, path_of_root, node_of_root, reached}
+use Rattle.aml_namespace.proofs.Paths.{same_path, path_itself, get_map, down_append, there_is, stands_of, path_of_root, reached}
 
 first : (a b : Bool) → T (a && b) → T a
 first true b p = tt

@@ -1,19 +1,17 @@
 -- Paths in the tree, and what stands at them.
-use Rattle.std.proofs.Common.{◌≡◌, ◌≢◌, ℕ, zero, suc, ◌+◌, ◌<◌, ◌≤◌, Bool, true, false, cond, List, [], ◌∷◌, ◌++◌, map, ◌⊎◌, inl, inr, Option, Some, None, is_some, refl, ap, sym, subst, ◌∙◌, arith, append_assoc, append-nil}
+use Rattle.std.proofs.Common.{◌≡◌, ℕ, zero, suc, ◌+◌, ◌<◌, ◌≤◌, Bool, true, false, cond, List, [], ◌∷◌, ◌++◌, map, Option, Some, None, is_some, refl, ap, sym, ◌∙◌, arith, append_assoc, append-nil}
 use Rattle.std.specs.Prelude.{option_and_then}
 use Rattle.std.specs.Option.{option_map}
-use Rattle.std.proofs.lemmas.Bool.{cases_eq}
 use Rattle.std.specs.declared.cmp.Ordering.{Ordering}
 use Rattle.std.specs.declared.cmp.Ordering.TheVariants.{Less, Equal, Greater}
 use Rattle.std.specs.Ordering.{nat_cmp, eq_by_cmp, is_eq}
-use Rattle.std.specs.Cmp.{IsTotalOrder, eq_by_cmp_equiv, nat_cmp_total}
+use Rattle.std.specs.Cmp.{IsTotalOrder, eq_by_cmp_equiv}
 use Rattle.std.specs.Cmp.Rules.{comparing}
 use Rattle.std.proofs.Common.{rules}
-use Rattle.std.specs.FinMap.{FinMap, get, entries, get-entries, from_entries, get-from_entries, find, IsAntisymmetric, slice_cmp-IsAntisymmetric}
+use Rattle.std.specs.FinMap.{get, entries, get-entries, get-from_entries, find, IsAntisymmetric, slice_cmp-IsAntisymmetric}
 use Rattle.aml_path.specs.declared.segment.Seg.{Seg}
 use Rattle.aml_path.specs.Segments.{seg_cmp_exact}
 use Rattle.aml_path.specs.Paths.{path_cmp}
-use Rattle.aml_objects.specs.declared.entry.Entry.{Entry}
 use Rattle.aml_namespace.specs.declared.node.Node.{Node}
 use Rattle.aml_namespace.specs.Nodes.{NodeMap}
 use Rattle.aml_namespace.specs.Tree.{Children, down, from_node, climb, path_to, map_of, lies, Linked}

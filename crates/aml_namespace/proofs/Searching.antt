@@ -1,5 +1,5 @@
 -- Steps of a search, and names that are resolved.
-use Rattle.std.proofs.Common.{◌≡◌, ◌≢◌, ℕ, zero, suc, ◌+◌, ◌-◌, ◌<◌, ◌≤◌, ◌++◌, ◌∷◌, [], List, take, length, Option, Some, None, Ok, Err, Bool, refl, ap, sym, ◌∙◌, arith, length-append}
+use Rattle.std.proofs.Common.{◌≡◌, ◌≢◌, ℕ, zero, suc, ◌+◌, ◌-◌, ◌<◌, ◌≤◌, ◌++◌, ◌∷◌, [], List, take, length, Option, Some, None, Ok, Err, refl, ap, sym, ◌∙◌, arith, length-append}
 use Rattle.std.specs.Prelude.{true, false, nat_lt}
 use Rattle.std.specs.Option.{option_map}
 use Rattle.std.proofs.lemmas.List.{take_all, take-append-le}
@@ -11,7 +11,7 @@ use Rattle.ar_space.specs.declared.refusal.NamespaceFault.TheVariants.{NotFound}
 use Rattle.ar_space.specs.Outcome.{Outcome, ◌>>=◌, seen}
 use Rattle.aml_path.specs.declared.segment.Seg.{Seg}
 use Rattle.aml_path.specs.declared.name.Prefix.TheVariants.{Root, Parents}
-use Rattle.aml_path.specs.Paths.{Name, resolved, is_searched, is_null, from_prefix}
+use Rattle.aml_path.specs.Paths.{Name, resolved, is_searched, is_null}
 use Rattle.aml_objects.specs.declared.entry.Entry.{Entry}
 use Rattle.aml_objects.specs.declared.entry.NamedObject.{NamedObject}
 use Rattle.aml_objects.specs.declared.entry.NamedObject.TheVariants as object
@@ -167,3 +167,11 @@ double f o t is = absurd (cc is)
 
 pub target_alias : (o : Option Found) (f : Found) (t : List Seg) → o ≡ Some f → Some t ≡ aliased f.1.object → target_of o ≡ Err (refusal.Namespace NotFound)
 target_alias o f t is at = ap target_of is ∙ double f f.1.object t at
+
+-- what is found at a path has that path
+placed : (p : List Seg) (o : Option Entry) (f : Found) → option_map (λ e. (p, e)) o ≡ Some f → f.0 ≡ p
+placed p None f is = absurd (cc is)
+placed p (Some e) f is = let same : (p, e) ≡ f = cc is in sym (ap (λ (x : Found). x.0) same)
+
+pub found_there : (m : Map) (p : List Seg) (f : Found) → at_path m p ≡ Some f → f.0 ≡ p
+found_there m p f is = placed p _ f is

@@ -1,6 +1,6 @@
 -- The paths of all nodes, and those of the map.
-use Rattle.std.proofs.Common.{◌≡◌, ℕ, zero, suc, ◌<◌, ◌≤◌, Bool, true, false, cond, List, [], ◌∷◌, length, Option, Some, None, is_some, refl, ap, sym, subst, ◌∙◌, arith}
-use Rattle.std.specs.Prelude.{◌&&◌, ◌||◌, nat_lt, filter_map, if◌then◌else◌}
+use Rattle.std.proofs.Common.{◌≡◌, ℕ, zero, suc, ◌<◌, Bool, true, false, cond, List, [], ◌∷◌, length, Option, Some, None, is_some, refl, ap, sym, ◌∙◌, arith}
+use Rattle.std.specs.Prelude.{◌&&◌, ◌||◌, nat_lt, filter_map}
 use Rattle.std.specs.Option.{option_map}
 use Rattle.std.specs.List.{list_any}
 use Rattle.std.proofs.lemmas.Bool.Decides.{nat_tests}
@@ -20,7 +20,7 @@ use Rattle.aml_namespace.specs.Search.{Found}
 use Rattle.aml_namespace.specs.Walks.{named, walked, is_named, Ascending}
 use Rattle.aml_namespace.specs.Nodes.{NodeMap}
 use Rattle.aml_namespace.specs.Tree.{Index, index_cmp, child_in, path_to, map_of, Linked}
-use Rattle.aml_namespace.proofs.Paths.{path_total, only_equal, same_path, path_itself, other_path}
+use Rattle.aml_namespace.proofs.Paths.{path_total, only_equal, same_path, path_itself}
 use Rattle.aml_namespace.proofs.Numbering.{standing, numbered_get, entry_at}
 use Rattle.aml_namespace.proofs.Climbing.{node_of}
 use Rattle.aml_namespace.proofs.Ascent.{walk_ascends}

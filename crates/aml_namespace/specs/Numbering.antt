@@ -1,5 +1,5 @@
 -- The numbers of declarations: each is below the next one, and no two that stand have the same.
-use Rattle.std.specs.Prelude.{◌≡◌, ◌<◌, ℕ, List, Some}
+use Rattle.std.specs.Prelude.{◌≡◌, ◌<◌, List, Some}
 use Rattle.std.specs.FinMap.{get}
 use Rattle.aml_path.specs.declared.segment.Seg.{Seg}
 use Rattle.aml_objects.specs.declared.entry.Entry.{Entry}

@@ -75,7 +75,7 @@ impl Names {
         ensures memory { NotMemory result }
     {
         if name.is_searched() {
-            return found_or_not(self.search_up(scope, name.segments()));
+            return found_or_not(self.search_from(scope, name.segments()));
         }
         match front_of(name, scope) {
             Ok(front) => found_or_not(self.at(front, name.segments())),
@@ -97,7 +97,18 @@ impl Names {
         }
     }
 
-    /// What stands at some segments in a scope's path, or in the nearest scope above it.
+    /// What stands at some segments in a scope's path, or in the nearest scope above it. Where the scope stands, the way up is
+    /// from node to node.
+    fn search_from(&self, scope: &Path, segments: &[Seg]) -> Option<NodeId>
+        ensures { option_map (λ id. numbered id.number self.now.map) result ≡ option_map Some (search_up self.now.map scope.now segments.now (length scope.now)) }
+    {
+        match self.at(&[], scope.segments()) {
+            Some(id) => self.search_above(id, segments),
+            None => self.search_up(scope, segments),
+        }
+    }
+
+    /// What stands at some segments in a scope's path, or in the nearest scope above it; the scope need not stand.
     fn search_up(&self, scope: &Path, segments: &[Seg]) -> Option<NodeId>
         ensures { option_map (λ id. numbered id.number self.now.map) result ≡ option_map Some (search_up self.now.map scope.now segments.now (length scope.now)) }
     {

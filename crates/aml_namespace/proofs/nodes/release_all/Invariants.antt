@@ -1,4 +1,4 @@
-use Rattle.std.proofs.Common.{◌≡◌, ℕ, ◌<◌, ◌≤◌, option_map, length}
+use Rattle.std.proofs.Common.{◌≡◌, ℕ, ◌<◌, ◌≤◌, option_map}
 use Rattle.slab.specs.Slab as slots
 use Rattle.aml_namespace.specs.Nodes.{node_released}
 use Rattle.aml_namespace.proofs.nodes.release_all.Given as goal

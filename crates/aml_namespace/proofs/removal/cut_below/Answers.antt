@@ -1,4 +1,3 @@
-use Rattle.std.proofs.Common.{◌≡◌, ◌∙◌, ap}
 use Rattle.std.specs.FinMap.{len}
 use Rattle.aml_namespace.specs.Tree.{child_in}
 use Rattle.aml_namespace.proofs.Cutting.{underway_child, child_later, underway_cut, fewer, all_gone, measure_cut, measure_child}

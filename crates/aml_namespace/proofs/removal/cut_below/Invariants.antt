@@ -1,8 +1,6 @@
-use Rattle.std.proofs.Common.{◌≡◌, ◌++◌, ◌+◌, ◌-◌, ◌*◌, ℕ, List, is_some, true, false}
-use Rattle.std.specs.FinMap.{get, len}
-use Rattle.aml_path.specs.declared.segment.Seg.{Seg}
-use Rattle.aml_path.specs.Paths.{is_below}
-use Rattle.aml_namespace.specs.Tree.{child_in, path_to, map_of, Linked}
+use Rattle.std.proofs.Common.{◌+◌, ◌-◌, ◌*◌}
+use Rattle.std.specs.FinMap.{len}
+use Rattle.aml_namespace.specs.Tree.{child_in}
 use Rattle.aml_namespace.proofs.Cutting.{Underway}
 use Rattle.aml_namespace.proofs.removal.cut_below.Given as goal
 

@@ -1,4 +1,4 @@
-use Rattle.std.proofs.Common.{◌≡◌, ◌∙◌, ap, map}
+use Rattle.std.proofs.Common.{◌∙◌, ap, map}
 use Rattle.aml_path.specs.declared.segment.Seg.{Seg}
 use Rattle.std.proofs.Common.{ℕ}
 use Rattle.aml_objects.specs.declared.node.NodeId.{NodeId}

@@ -1,4 +1,4 @@
-use Rattle.std.proofs.Common.{◌≡◌, ◌∙◌, ◌+◌, ap, sym, drop}
+use Rattle.std.proofs.Common.{◌∙◌, ◌+◌, ap, sym, drop}
 use Rattle.std.specs.Prelude.{option_and_then}
 use Rattle.std.proofs.lemmas.List.{drop_all}
 use Rattle.aml_namespace.specs.Tree.{child_in, down}

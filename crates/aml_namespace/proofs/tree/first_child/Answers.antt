@@ -1,10 +1,9 @@
-use Rattle.std.proofs.Common.{◌≡◌, ◌∙◌, ap, sym, subst, Option, Some, None, is_some, true, false, refl, ℕ, List, ◌∷◌, slice_get, IfSome}
+use Rattle.std.proofs.Common.{◌≡◌, ◌∙◌, ap, sym, Option, Some, None, is_some, true, refl}
 use Rattle.std.specs.Option.{option_map}
 use Rattle.std.specs.BTreeMap.{is_at}
 use Rattle.std.specs.Map.{lookup}
-use Rattle.aml_path.specs.declared.segment.Seg.{Seg}
 use Rattle.aml_objects.specs.declared.node.NodeId.{NodeId}
-use Rattle.aml_namespace.specs.Tree.{Index, index_cmp, child_in}
+use Rattle.aml_namespace.specs.Tree.{index_cmp, child_in}
 use Rattle.aml_namespace.proofs.Indexes.{from_least, same_parent}
 use Rattle.aml_namespace.proofs.tree.first_child.Goals as goal
 

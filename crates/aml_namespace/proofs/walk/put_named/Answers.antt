@@ -1,4 +1,4 @@
-use Rattle.std.proofs.Common.{◌≡◌, ◌∙◌, ◌||◌, ◌<◌, arith, length, ap, sym}
+use Rattle.std.proofs.Common.{◌∙◌, ◌||◌, arith, ap, sym}
 use Rattle.std.specs.BTreeSet.{contains}
 use Rattle.aml_path.specs.Paths.{path_cmp}
 use Rattle.aml_namespace.specs.Walks.{is_named}

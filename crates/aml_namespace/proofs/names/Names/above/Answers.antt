@@ -1,4 +1,4 @@
-use Rattle.std.proofs.Common.{◌≡◌, ◌∙◌, ◌<◌, ap, sym, subst, Some, None, arith}
+use Rattle.std.proofs.Common.{◌∙◌, ◌<◌, ap, sym, subst, arith}
 use Rattle.aml_namespace.specs.Namespace.{Namespace, numbered}
 use Rattle.aml_namespace.specs.Search.{IsParent}
 use Rattle.aml_namespace.specs.Tree.{child_in}

@@ -1,4 +1,4 @@
-use Rattle.std.proofs.Common.{◌≡◌, ◌∙◌, ap, sym, subst, Some, ℕ, ◌<◌, length, arith}
+use Rattle.std.proofs.Common.{subst, ℕ, arith}
 use Rattle.aml_namespace.specs.Search.{IsAncestor}
 use Rattle.aml_namespace.proofs.Climbing.{ancestor_self, ancestor_more, ancestor_root}
 use Rattle.aml_namespace.proofs.names.Names.ancestor.Goals as goal

@@ -1,4 +1,4 @@
-use Rattle.std.proofs.Common.{◌≡◌, ◌∙◌, ◌++◌, ap, sym, subst, Some}
+use Rattle.std.proofs.Common.{◌≡◌, ◌∙◌, ◌++◌, ap, subst, Some}
 use Rattle.std.specs.Option.{option_map}
 use Rattle.aml_objects.specs.declared.node.NodeId.{NodeId}
 use Rattle.aml_namespace.specs.Namespace.{Namespace, numbered}

@@ -1,6 +1,6 @@
-use Rattle.std.proofs.Common.{◌≡◌, ◌∙◌, ◌+◌, ◌<◌, [], ap, sym, Some, None, Ok, arith}
+use Rattle.std.proofs.Common.{◌≡◌, ◌∙◌, ap, sym, Some, None, Ok, arith}
 use Rattle.aml_namespace.specs.Walks.{children}
-use Rattle.aml_namespace.specs.Tree.{child_in, down, map_of}
+use Rattle.aml_namespace.specs.Tree.{child_in, down}
 use Rattle.aml_namespace.proofs.Paths.{node_of_root}
 use Rattle.aml_namespace.proofs.Growth.{at_most}
 use Rattle.aml_namespace.proofs.Children.{children_are, no_children}

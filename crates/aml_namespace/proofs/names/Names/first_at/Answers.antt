@@ -1,18 +1,16 @@
-use Rattle.std.proofs.Common.{◌≡◌, ◌∙◌, ◌++◌, ◌-◌, ◌<◌, ◌≤◌, ℕ, [], List, ap, sym, subst, refl, Option, Some, None, Ok, Err, length, take, arith}
+use Rattle.std.proofs.Common.{◌∙◌, ◌++◌, ap, sym, Some, length}
 use Rattle.std.specs.Option.{option_map}
 use Rattle.ar_space.specs.Outcome.{seen}
-use Rattle.aml_path.specs.declared.segment.Seg.{Seg}
-use Rattle.aml_path.specs.Paths.{resolved}
 use Rattle.aml_objects.specs.declared.node.NodeId.{NodeId}
 use Rattle.aml_namespace.specs.Namespace.{numbered}
-use Rattle.aml_namespace.specs.Search.{Found, at_path, search_up, first_found, through, target_of, found, found_from, IsFront}
-use Rattle.aml_namespace.proofs.Searching.{stands_by, some_is, none_is, ok_is, err_is, found_same, search_here, search_none, search_next, up_here, up_end, up_step, first_searched, first_resolved, first_refused, found_through, found_refused, resolved_null, resolved_root, resolved_past, resolved_up, from_is, through_itself, through_alias, target_plain, target_alias}
+use Rattle.aml_namespace.specs.Search.{at_path, search_up}
+use Rattle.aml_namespace.proofs.Searching.{found_same, first_searched, first_resolved, first_refused}
 use Rattle.aml_namespace.proofs.names.Names.first_at.Goals as goal
 
 pub returns-then-is_searched-clause-answer : goal.returns-then-is_searched-clause-answer
 returns-then-is_searched-clause-answer c =
     ap (seen (λ (id : NodeId). numbered id.number c.args.self.now.map)) c.found_or_not.ensures.answer
-    ∙ found_same (λ (id : NodeId). numbered id.number c.args.self.now.map) c.search_up.result (search_up c.args.self.now.map c.args.scope.now c.args.name.now.segments (length c.args.scope.now)) (c.search_up.ensures ∙ ap (λ s. option_map Some (search_up c.args.self.now.map c.args.scope.now s (length c.args.scope.now))) c.segments.ensures)
+    ∙ found_same (λ (id : NodeId). numbered id.number c.args.self.now.map) c.search_from.result (search_up c.args.self.now.map c.args.scope.now c.args.name.now.segments (length c.args.scope.now)) (c.search_from.ensures ∙ ap (λ s. option_map Some (search_up c.args.self.now.map c.args.scope.now s (length c.args.scope.now))) c.segments.ensures)
     ∙ sym (ap (seen Some) (first_searched c.args.self.now.map c.args.scope.now c.args.name.now (sym c.is_searched.ensures ∙ c.if-is_searched.true)))
 
 pub returns-in-Ok-clause-answer : goal.returns-in-Ok-clause-answer

@@ -1,4 +1,4 @@
-use Rattle.std.proofs.Common.{◌≡◌, ◌∙◌, ap, Some}
+use Rattle.std.proofs.Common.{◌∙◌, ap, Some}
 use Rattle.std.specs.Option.{option_map}
 use Rattle.aml_namespace.specs.Search.{at_path}
 use Rattle.aml_namespace.proofs.Finding.{get_none, get_some}

@@ -1,14 +1,12 @@
-use Rattle.std.proofs.Common.{◌≡◌, ◌≢◌, ◌+◌, ◌-◌, ◌^◌, ◌++◌, ◌∷◌, ◌∙◌, [], List, ℕ, ap, sym, subst, refl, true, false, is_some, Option, Some, None, Ok, length, arith}
-use Rattle.std.specs.Prelude.{◌==◌}
+use Rattle.std.proofs.Common.{◌≡◌, ◌+◌, ◌++◌, ◌∷◌, ◌∙◌, [], List, ap, sym, subst, refl, true, false, is_some, Option, Some, None, Ok, length, arith}
 use Rattle.std.specs.Option.{option_map}
 use Rattle.aml_objects.specs.declared.node.NodeId.{NodeId}
 use Rattle.std.proofs.lemmas.Bool.{eq-eqb, ne_eqb}
 use Rattle.std.specs.FinMap.{get, insert}
-use Rattle.ar_space.specs.declared.refusal.Refusal.TheVariants as refusal
 use Rattle.aml_path.specs.declared.segment.Seg.{Seg}
 use Rattle.aml_objects.specs.declared.entry.Entry.{Entry}
 use Rattle.aml_namespace.specs.declared.node.Node.{Node}
-use Rattle.aml_namespace.specs.Namespace.{Map, Namespace, above, declared}
+use Rattle.aml_namespace.specs.Namespace.{Map, Namespace, above}
 use Rattle.aml_namespace.specs.Nodes.{NodeMap}
 use Rattle.aml_namespace.specs.Tree.{child_in, down, path_to, map_of, Linked}
 use Rattle.aml_namespace.proofs.Paths.{path_of_root, node_of_root}

@@ -1,4 +1,4 @@
-use Rattle.std.proofs.Common.{◌≡◌, ◌∙◌, ap}
+use Rattle.std.proofs.Common.{◌∙◌, ap}
 use Rattle.aml_namespace.specs.Namespace.{mutexes_released}
 use Rattle.aml_namespace.specs.Tree.{child_in}
 use Rattle.aml_namespace.proofs.Changes.{released_linked, released_is}

@@ -1,11 +1,8 @@
-use Rattle.std.proofs.Common.{◌≡◌, ◌∙◌, List, ap, sym, subst, refl, Some, None, Ok, Err, Option, ℕ}
+use Rattle.std.proofs.Common.{◌≡◌, ◌∙◌, List, ap, sym, subst, Some, None, Ok, Option, ℕ}
 use Rattle.std.specs.Prelude.{option_and_then}
 use Rattle.std.specs.FinMap.{get, insert}
-use Rattle.ar_space.specs.declared.refusal.Refusal.TheVariants as refusal
-use Rattle.ar_space.specs.declared.refusal.NamespaceFault.TheVariants.{NotFound}
 use Rattle.aml_path.specs.declared.segment.Seg.{Seg}
-use Rattle.aml_objects.specs.declared.entry.Entry.{Entry}
-use Rattle.aml_namespace.specs.Namespace.{Map, Namespace, with_object, replaced}
+use Rattle.aml_namespace.specs.Namespace.{Map, Namespace, with_object}
 use Rattle.aml_namespace.specs.Nodes.{NodeMap}
 use Rattle.aml_namespace.specs.Tree.{child_in, down, map_of, path_to, Linked}
 use Rattle.aml_namespace.proofs.Paths.{there_is, node_of_root, path_of_root, get_map}

@@ -1,12 +1,6 @@
-use Rattle.std.proofs.Common.{◌≡◌, ◌∙◌, ◌++◌, ◌-◌, ◌<◌, ◌≤◌, ℕ, [], List, ap, sym, subst, refl, Option, Some, None, Ok, Err, length, take, arith}
-use Rattle.std.specs.Option.{option_map}
+use Rattle.std.proofs.Common.{◌∙◌, ap, sym, Some}
 use Rattle.ar_space.specs.Outcome.{seen}
-use Rattle.aml_path.specs.declared.segment.Seg.{Seg}
-use Rattle.aml_path.specs.Paths.{resolved}
-use Rattle.aml_objects.specs.declared.node.NodeId.{NodeId}
-use Rattle.aml_namespace.specs.Namespace.{numbered}
-use Rattle.aml_namespace.specs.Search.{Found, at_path, search_up, first_found, through, target_of, found, found_from, IsFront}
-use Rattle.aml_namespace.proofs.Searching.{stands_by, some_is, none_is, ok_is, err_is, found_same, search_here, search_none, search_next, up_here, up_end, up_step, first_searched, first_resolved, first_refused, found_through, found_refused, resolved_null, resolved_root, resolved_past, resolved_up, from_is, through_itself, through_alias, target_plain, target_alias}
+use Rattle.aml_namespace.proofs.Searching.{stands_by, ok_is, err_is, found_through, found_refused, from_is}
 use Rattle.aml_namespace.proofs.names.Names.search.Goals as goal
 
 pub returns-in-Ok-clause-answer : goal.returns-in-Ok-clause-answer

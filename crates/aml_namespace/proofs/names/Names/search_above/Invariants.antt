@@ -1,4 +1,4 @@
-use Rattle.std.proofs.Common.{◌≡◌, ◌≤◌, Some, length}
+use Rattle.std.proofs.Common.{◌≡◌, Some, length}
 use Rattle.aml_namespace.specs.Namespace.{numbered}
 use Rattle.aml_namespace.specs.Search.{Found, search_up}
 use Rattle.aml_namespace.proofs.names.Names.search_above.Given as goal

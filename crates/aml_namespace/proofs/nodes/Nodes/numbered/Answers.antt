@@ -1,4 +1,4 @@
-use Rattle.std.proofs.Common.{◌≡◌, ◌∙◌, ap, sym}
+use Rattle.std.proofs.Common.{◌∙◌, ap, sym}
 use Rattle.std.specs.FinMap.{get}
 use Rattle.aml_namespace.proofs.Slots.{by_number, no_number}
 use Rattle.aml_namespace.proofs.nodes.Nodes.numbered.Goals as goal

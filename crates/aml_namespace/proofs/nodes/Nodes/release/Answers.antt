@@ -1,7 +1,7 @@
-use Rattle.std.proofs.Common.{◌≡◌, ◌≤◌, ◌∙◌, ap, sym, ℕ, arith}
+use Rattle.std.proofs.Common.{◌≡◌, ◌∙◌, ap, sym, arith}
 use Rattle.std.specs.Option.{option_map}
 use Rattle.std.specs.FinMap.{get}
-use Rattle.aml_namespace.specs.Nodes.{nodes_of, acquired_in, node_released}
+use Rattle.aml_namespace.specs.Nodes.{acquired_in, node_released}
 use Rattle.aml_namespace.proofs.Slots.{released_is, released_keyed}
 use Rattle.aml_namespace.proofs.Counting.{all_released, none_acquired}
 use Rattle.aml_namespace.proofs.nodes.Nodes.release.Goals as goal

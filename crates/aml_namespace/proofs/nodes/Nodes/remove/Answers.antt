@@ -1,5 +1,5 @@
-use Rattle.std.proofs.Common.{◌≡◌, ◌∙◌, ap, sym, cond, ℕ, Some, None}
-use Rattle.std.specs.FinMap.{get, remove}
+use Rattle.std.proofs.Common.{◌∙◌, ap, sym}
+use Rattle.std.specs.FinMap.{remove}
 use Rattle.aml_namespace.specs.Nodes.{nodes_of}
 use Rattle.aml_namespace.proofs.Slots.{stands, removed_is, removed_keyed, remove_absent}
 use Rattle.aml_namespace.proofs.Counting.{count_taken, taken_within}

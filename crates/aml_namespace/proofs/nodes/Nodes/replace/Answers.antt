@@ -1,7 +1,6 @@
-use Rattle.std.proofs.Common.{◌≡◌, ◌≢◌, ◌≤◌, ◌∙◌, ap, sym, refl, ℕ, Some, None, length, slice_set, arith}
+use Rattle.std.proofs.Common.{◌≡◌, ◌≢◌, ◌∙◌, ap, sym, ℕ, Some, slice_set, arith}
 use Rattle.std.proofs.lemmas.List.{length-set}
-use Rattle.std.specs.FinMap.{get}
-use Rattle.aml_namespace.specs.Nodes.{slot_of, key_of, nodes_of, object_put, with_node_object}
+use Rattle.aml_namespace.specs.Nodes.{slot_of, object_put, with_node_object}
 use Rattle.aml_namespace.proofs.Slots.{stands, set_here, set_beside, object_is, object_keyed, object_nowhere, no_number}
 use Rattle.aml_namespace.proofs.Counting.{count_over, taken_within, at_most_all}
 use Rattle.aml_namespace.proofs.nodes.Nodes.replace.Goals as goal
