@@ -105,6 +105,10 @@ or_gone (Some e) = Ok e
 unfoldable pub declaration : {S : Type 0} → ℕ → Change (State S) (List Seg × Entry)
 declaration n w = (or_gone (numbered n w.names.map), w)
 
+-- what stands under it, without its path
+unfoldable pub entry_declared : {S : Type 0} → ℕ → Change (State S) Entry
+entry_declared n w = (seen (λ e. e.1) (or_gone (numbered n w.names.map)), w)
+
 -- what it refers to still stands: a name, a frame, an element of a package, a byte of a string or a buffer
 unfoldable pub name_tested : {S : Type 0} → ℕ → Change (State S) (Unit {0})
 name_tested n = do

@@ -73,12 +73,7 @@ impl<S> WorldState<S> {
         }
     }
 
-    fn call_of(
-        &self,
-        alloc: Global,
-        id: NodeId,
-        body: &MethodBody,
-    ) -> Result<Invocation, Refusal>
+    fn call_of(&self, alloc: Global, id: NodeId, body: &MethodBody) -> Result<Invocation, Refusal>
         ensures { (f : List Seg × Entry) → numbered id.number self.now.names.map ≡ Some f → Answers result (invocation_of_body f.0 body.now) }
     {
         match body {

@@ -2,7 +2,7 @@
 ghost use Rattle.std.specs.Prelude.{◌≡◌, ◌<◌, IfOk, length};
 ghost use Rattle.ar_space.specs.Change.{Does};
 ghost use Rattle.ar_space.specs.Outcome.{Answers, NotMemory, seen};
-ghost use Rattle.aml_meaning.specs.StoreTargets.{holding_of, held_at, latest_frame, frame_found, slot_held, own_slot, initialized, slot_read, held_in, held_in_slot, name_read, target_read, declaration};
+ghost use Rattle.aml_meaning.specs.StoreTargets.{holding_of, held_at, latest_frame, frame_found, slot_held, own_slot, initialized, slot_read, held_in, held_in_slot, name_read, target_read, declaration, entry_declared};
 ghost use Rattle.aml_meaning.specs.TargetTerms.{target_named};
 
 use crate::slots::frame_index;
@@ -130,8 +130,9 @@ impl<S> WorldState<S> {
     }
 
     /// What stands under the number of a declaration; one that was removed is refused as `DeadReference`.
+    #[tactic(auto, unfolding(crate::specs::StoreTargets::entry_declared))]
     pub(crate) fn declaration(&self, number: u64) -> Result<&Entry, Refusal>
-        ensures answer { seen (λ e. e.now) result ≡ seen (λ f. f.1) (declaration number self.now).0 }
+        ensures answer { Does (seen (λ e. e.now) result) self.now (entry_declared number) self.now }
         ensures memory { NotMemory result }
     {
         match self.names.node(NodeId::numbered(number)) {
@@ -149,7 +150,9 @@ impl<S> WorldState<S> {
     ) -> Result<(Path, &Entry), Refusal>
         ensures { Does (seen (λ d. (d.0, d.1.now)) result) self.now (declaration number) self.now }
     {
-        let entry = self.declaration(number)?;
+        let Some(entry) = self.names.node(NodeId::numbered(number)) else {
+            return Err(Refusal::Evaluation(EvaluationFault::DeadReference));
+        };
         match self.names.path_of(alloc, NodeId::numbered(number))? {
             None => Err(Refusal::Evaluation(EvaluationFault::DeadReference)),
             Some(path) => Ok((path, entry)),
