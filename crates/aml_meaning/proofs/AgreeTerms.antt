@@ -1,6 +1,5 @@
 -- Parts that agree make rules that agree: the steps that are left decide what a term means, and no other number.
 use Rattle.std.specs.Prelude.{ℕ, zero, suc, ◌-◌, List, Bool, true, false, Option, Some, None, refl, if◌then◌else◌}
-use Rattle.std.proofs.Common.{rules}
 use Rattle.ar_space.specs.Accesses.{Accesses}
 use Rattle.ar_space.specs.Change.{give}
 use Rattle.aml_path.specs.declared.segment.Seg.{Seg}

@@ -1,17 +1,13 @@
 -- What follows a search for a declaration goes on with what stands there, at whatever path.
-use Rattle.std.specs.Prelude.{◌≡◌, ℕ, List, Option, Some, None, Ok, Err, IsErr, IsErrAnd, refl}
+use Rattle.std.specs.Prelude.{◌≡◌, ℕ, List, Ok, Err, IsErr, IsErrAnd}
 use Rattle.std.proofs.Common.{◌∙◌, ap, sym}
-use Rattle.std.specs.Option.{option_map}
 use Rattle.ar_space.specs.declared.refusal.Refusal.{Refusal}
-use Rattle.ar_space.specs.declared.refusal.Refusal.TheVariants as refusal
-use Rattle.ar_space.specs.declared.refusal.EvaluationFault.TheVariants.{DeadReference}
 use Rattle.ar_space.specs.Outcome.{Outcome, NotMemory, seen}
 use Rattle.ar_space.specs.Change.{Change, Does, go_on, ◌>>=◌}
 use Rattle.aml_path.specs.declared.segment.Seg.{Seg}
 use Rattle.aml_objects.specs.declared.entry.Entry.{Entry}
-use Rattle.aml_namespace.specs.Namespace.{numbered}
 use Rattle.aml_meaning.specs.State.{State}
-use Rattle.aml_meaning.specs.StoreTargets.{declaration, entry_declared, or_gone}
+use Rattle.aml_meaning.specs.StoreTargets.{declaration, entry_declared}
 
 there : {S A : Type 0} {e : Entry} {r : Outcome A} {w after : State S} (x : Outcome (List Seg × Entry)) (k : List Seg × Entry → Change (State S) A)
     → seen (λ f. f.1) x ≡ Ok e → ((p : List Seg) → Does r after (k (p, e)) w) → NotMemory r → go_on x w k ≡ (r, after)

@@ -1,12 +1,12 @@
 -- Steps of handing out.
-use Rattle.std.specs.Prelude.{◌≡◌, ℕ, zero, suc, ◌+◌, ◌-◌, ◌<◌, ◌≤◌, List, [], ◌∷◌, ◌++◌, length, drop, get_or, Ok, Err, IsErr}
-use Rattle.std.proofs.Common.{arith, refl, ◌∙◌, ap, sub-one, drop-cons, add-one}
+use Rattle.std.specs.Prelude.{◌≡◌, ℕ, zero, suc, ◌+◌, ◌-◌, ◌<◌, ◌≤◌, List, [], ◌∷◌, ◌++◌, length, drop, get_or, Ok, Err}
+use Rattle.std.proofs.Common.{arith, refl, ◌∙◌, sub-one, drop-cons, add-one}
 use Rattle.std.proofs.lemmas.List.{drop_all}
 use Rattle.ar_space.specs.declared.refusal.Refusal.TheVariants as refusal
 use Rattle.ar_space.specs.declared.refusal.EvaluationFault.TheVariants.{ObjectLimit}
 use Rattle.ar_space.specs.Accesses.{Accesses}
 use Rattle.ar_space.specs.Outcome.{Outcome}
-use Rattle.ar_space.specs.Change.{Change, Does, Same, stop, give, ◌>>=◌}
+use Rattle.ar_space.specs.Change.{Does, Same, stop, give, ◌>>=◌}
 use Rattle.aml_objects.specs.declared.object.Element.{Element}
 use Rattle.aml_meaning.specs.State.{State}
 use Rattle.aml_meaning.specs.Given.{Given}

@@ -1,19 +1,17 @@
 -- A While is a turn, and where that doesn't end it the While again.
 use Rattle.std.specs.Prelude.{◌≡◌, ℕ, zero, suc, ◌<◌, ◌≤◌, List, Option, Some, None, Ok, Err, refl}
-use Rattle.std.proofs.Common.{arith, ◌∙◌}
+use Rattle.std.proofs.Common.{arith}
 use Rattle.ar_space.specs.Accesses.{Accesses}
 use Rattle.ar_space.specs.Outcome.{Outcome}
-use Rattle.ar_space.specs.Change.{Change, Same, go_on, ◌>>=◌}
+use Rattle.ar_space.specs.Change.{go_on, ◌>>=◌}
 use Rattle.aml_path.specs.declared.segment.Seg.{Seg}
 use Rattle.aml_grammar.specs.Tree.{Tree, Trees}
-use Rattle.aml_objects.specs.declared.value.Value.{Value}
 use Rattle.aml_meaning.specs.declared.flow.Flow.{Flow}
-use Rattle.aml_meaning.specs.declared.flow.Flow.TheVariants as flow
 use Rattle.aml_meaning.specs.State.{State}
 use Rattle.aml_meaning.specs.Run.{Run}
 use Rattle.aml_meaning.proofs.Agree.{Agree, agree_settle, agree_lift}
 use Rattle.aml_meaning.specs.Tasks.{Task, operand_value, operand_integer}
-use Rattle.aml_meaning.specs.StatementTerms.{turn, turn_of, loop_end, after_turn, turns, loop}
+use Rattle.aml_meaning.specs.StatementTerms.{turn, loop_end, after_turn, turns, loop}
 use Rattle.aml_meaning.proofs.AgreeTerms.{agree_turn_of}
 use Rattle.aml_meaning.specs.Meaning.{meaning}
 use Rattle.aml_meaning.proofs.Meanings.{meaning_less, meaning_paid}

@@ -6,7 +6,6 @@ use Rattle.aml_grammar.specs.declared.opcode.TermCode.{TermCode}
 use Rattle.aml_grammar.specs.declared.opcode.TermCode.TheVariants as codes
 use Rattle.aml_grammar.specs.Tree.{Tree, Trees, no_trees, tree}
 use Rattle.aml_grammar.specs.Apart.{code_of, operand_of, name_of, bytes_of}
-use Rattle.aml_objects.specs.declared.value.Value.{Value}
 use Rattle.aml_objects.specs.declared.object.Element.{Element}
 use Rattle.aml_objects.specs.declared.object.Element.TheVariants as element
 use Rattle.aml_objects.specs.Objects.{make_string}
@@ -14,7 +13,7 @@ use Rattle.aml_meaning.specs.declared.flow.Flow.{Flow}
 use Rattle.aml_meaning.specs.declared.flow.Flow.TheVariants as flow
 use Rattle.aml_meaning.specs.declared.term_kind.DataKind.{DataKind}
 use Rattle.aml_meaning.specs.declared.term_kind.DataKind.TheVariants as kinds
-use Rattle.aml_meaning.specs.State.{State, on_objects}
+use Rattle.aml_meaning.specs.State.{on_objects}
 use Rattle.aml_meaning.specs.Run.{Run, lift, charge}
 use Rattle.aml_meaning.specs.Terms.{number_of, inner_of, list_of}
 use Rattle.aml_meaning.specs.Readings.{integer_kept}

@@ -11,7 +11,6 @@ use Rattle.aml_meaning.specs.declared.flow.Flow.{Flow}
 use Rattle.aml_meaning.specs.declared.flow.Flow.TheVariants as flow
 use Rattle.aml_meaning.specs.declared.term_kind.DeclarationKind.{DeclarationKind}
 use Rattle.aml_meaning.specs.declared.term_kind.DeclarationKind.TheVariants as kinds
-use Rattle.aml_meaning.specs.State.{State}
 use Rattle.aml_meaning.specs.Run.{Run, lift}
 use Rattle.aml_meaning.specs.Terms.{number_of, inner_of, list_of}
 use Rattle.aml_meaning.specs.Readings.{path_found, scope_found}

@@ -16,7 +16,6 @@ use Rattle.aml_grammar.specs.Apart.{code_of}
 use Rattle.aml_meaning.specs.declared.flow.Flow.{Flow}
 use Rattle.aml_meaning.specs.declared.term_kind.TermKind.{TermKind}
 use Rattle.aml_meaning.specs.declared.term_kind.TermKind.TheVariants as kinds
-use Rattle.aml_meaning.specs.State.{State}
 use Rattle.aml_meaning.specs.Run.{Run}
 use Rattle.aml_meaning.specs.Terms.{kind_of}
 use Rattle.aml_meaning.specs.Tasks.{Task}

@@ -20,7 +20,6 @@ use Rattle.aml_meaning.specs.declared.store_target.Held.{Held}
 use Rattle.aml_meaning.specs.declared.store_target.Held.TheVariants as held
 use Rattle.aml_meaning.specs.declared.store_target.Stored.{Stored}
 use Rattle.aml_meaning.specs.declared.store_target.Stored.TheVariants as store
-use Rattle.aml_meaning.specs.State.{State}
 use Rattle.aml_meaning.specs.Run.{Run, lift}
 use Rattle.aml_meaning.specs.Readings.{absolute, integer_in}
 use Rattle.aml_meaning.specs.Stores.{stored}

@@ -23,7 +23,6 @@ use Rattle.aml_objects.specs.declared.value.Value.{Value}
 use Rattle.aml_objects.specs.declared.value.Value.TheVariants as value
 use Rattle.aml_objects.specs.declared.entry.NamedObject.{NamedObject}
 use Rattle.aml_objects.specs.declared.entry.NamedObject.TheVariants as object
-use Rattle.aml_objects.specs.declared.entry.Entry.{Entry}
 use Rattle.aml_objects.specs.declared.entry.FieldSource.{FieldSource}
 use Rattle.aml_objects.specs.declared.entry.FieldSource.TheVariants as sources
 use Rattle.aml_objects.specs.declared.entry.UpdateRule.{UpdateRule}

@@ -11,7 +11,6 @@ use Rattle.aml_meaning.specs.declared.flow.Flow.{Flow}
 use Rattle.aml_meaning.specs.declared.flow.Flow.TheVariants as flow
 use Rattle.aml_meaning.specs.declared.invocation.Invocation.{Invocation}
 use Rattle.aml_meaning.specs.declared.invocation.Invocation.TheVariants as invocation
-use Rattle.aml_meaning.specs.State.{State}
 use Rattle.aml_meaning.specs.Run.{Run, lift}
 use Rattle.aml_meaning.specs.Terms.{list_of, count_of}
 use Rattle.aml_meaning.specs.Readings.{arguments_found, as_many}

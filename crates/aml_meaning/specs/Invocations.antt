@@ -1,5 +1,5 @@
 -- What names are where values stand, and calls of control methods (ACPI 6.5, 5.5.2 and 20.2.5: MethodInvocation).
-use Rattle.std.specs.Prelude.{ℕ, ◌+◌, List, [], ◌∷◌, ◌++◌, length, map, true, false, Option, Some, None, Ok, Err, slice_index_or, nat_lt, if◌then◌else◌}
+use Rattle.std.specs.Prelude.{ℕ, ◌+◌, List, [], ◌∷◌, ◌++◌, map, true, false, Option, Some, None, Ok, Err, slice_index_or, nat_lt, if◌then◌else◌}
 use Rattle.std.specs.List.{filter}
 use Rattle.std.specs.FinMap.{get, entries}
 use Rattle.ar_space.specs.declared.refusal.Refusal.TheVariants as refusal

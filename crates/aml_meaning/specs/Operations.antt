@@ -1,5 +1,5 @@
 -- Operators over the values of a world (ACPI 6.5, 19.6).
-use Rattle.std.specs.Prelude.{ℕ, ◌+◌, ◌-◌, ◌^◌, List, length, Bool, Option, Some, None, Ok, Err, slice_get, nat_lt, if◌then◌else◌}
+use Rattle.std.specs.Prelude.{ℕ, ◌+◌, List, length, Option, Some, None, Ok, Err, slice_get, nat_lt, if◌then◌else◌}
 use Rattle.std.specs.declared.cmp.Ordering.{Ordering}
 use Rattle.ar_space.specs.declared.integer_width.IntegerWidth.{IntegerWidth}
 use Rattle.ar_space.specs.declared.refusal.Refusal.TheVariants as refusal
@@ -9,7 +9,7 @@ use Rattle.ar_space.specs.Outcome.{Outcome, seen}
 use Rattle.ar_space.specs.Change.{Change, give, stop, settle, ◌>>=◌}
 use Rattle.aml_objects.specs.Contents.{Content, content_in}
 use Rattle.aml_objects.specs.Contents as held
-use Rattle.aml_objects.specs.Objects.{Objects, make_string, make_buffer, string_at, buffer_at, elements_at}
+use Rattle.aml_objects.specs.Objects.{Objects, make_string, make_buffer}
 use Rattle.aml_objects.specs.declared.object.Object.{Object}
 use Rattle.aml_objects.specs.declared.object.Object.TheVariants as object
 use Rattle.aml_objects.specs.declared.entry.Field.{Field}
@@ -18,7 +18,7 @@ use Rattle.aml_objects.specs.declared.value.Value.{Value}
 use Rattle.aml_objects.specs.declared.value.Value.TheVariants as value
 use Rattle.aml_objects.specs.declared.value.Reference.{Reference}
 use Rattle.aml_objects.specs.declared.value.Reference.TheVariants as reference
-use Rattle.aml_convert.specs.Integers.{bits_of, truncated, truth}
+use Rattle.aml_convert.specs.Integers.{truncated, truth}
 use Rattle.aml_convert.specs.Conversions.{explicit_integer_of, to_buffer_of, compared}
 use Rattle.aml_convert.specs.Operators.{result_of, unary_result_of, logical_result_of, negated, holds, divided}
 use Rattle.aml_convert.specs.Concatenation.{concatenated, resources_joined}

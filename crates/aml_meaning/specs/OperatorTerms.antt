@@ -10,7 +10,6 @@ use Rattle.aml_objects.specs.declared.value.Value.{Value}
 use Rattle.aml_objects.specs.declared.value.Value.TheVariants as value
 use Rattle.aml_meaning.specs.declared.flow.Flow.{Flow}
 use Rattle.aml_meaning.specs.declared.flow.Flow.TheVariants as flow
-use Rattle.aml_meaning.specs.declared.store_target.StoreTarget.{StoreTarget}
 use Rattle.aml_meaning.specs.declared.store_target.TargetKind.{TargetKind}
 use Rattle.aml_meaning.specs.declared.store_target.TargetKind.TheVariants as targets
 use Rattle.aml_meaning.specs.declared.object_type.Referent.{Referent}

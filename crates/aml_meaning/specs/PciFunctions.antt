@@ -1,5 +1,5 @@
 -- The PCI function that an operation region of PCI_Config belongs to (ACPI 6.5, 5.5.2.4, 6.1.1, 6.5.5 and 6.5.6).
-use Rattle.std.specs.Prelude.{◌≡◌, ◌-◌, ◌<◌, ◌≤◌, ℕ, zero, suc, List, [], ◌∷◌, ◌++◌, length, take, codes, is_some, Bool, true, false, ◌&&◌, not, Option, Some, None, Ok, Err, refl, if◌then◌else◌}
+use Rattle.std.specs.Prelude.{◌≡◌, ◌-◌, ◌<◌, ℕ, zero, suc, List, [], ◌∷◌, ◌++◌, length, take, codes, is_some, Bool, true, false, ◌&&◌, not, Option, Some, None, Ok, Err, refl, if◌then◌else◌}
 use Rattle.std.specs.FinMap.{get}
 use Rattle.std.proofs.Common.{arith, sub-one, ap, ◌∙◌}
 use Rattle.ar_space.specs.declared.refusal.Refusal.TheVariants as refusal

@@ -1,7 +1,7 @@
 -- What names find, and what values are, in a world.
-use Rattle.std.specs.Prelude.{ℕ, ◌==◌, ◌-◌, ◌++◌, List, length, replicate, Bool, true, false, Ok, Err, if◌then◌else◌}
+use Rattle.std.specs.Prelude.{ℕ, ◌==◌, List, Bool, true, false, Ok, Err, if◌then◌else◌}
 use Rattle.ar_space.specs.declared.refusal.Refusal.TheVariants as refusal
-use Rattle.ar_space.specs.declared.refusal.EvaluationFault.TheVariants.{ArityChanged, NoValue, Unsupported}
+use Rattle.ar_space.specs.declared.refusal.EvaluationFault.TheVariants.{ArityChanged, NoValue}
 use Rattle.ar_space.specs.declared.refusal.ValueFault.TheVariants.{WrongType}
 use Rattle.ar_space.specs.Outcome.{Outcome, seen}
 use Rattle.ar_space.specs.Change.{Change, give, settle, ◌>>=◌}
@@ -18,7 +18,7 @@ use Rattle.aml_objects.specs.declared.entry.NamedObject.{NamedObject}
 use Rattle.aml_objects.specs.declared.entry.NamedObject.TheVariants as object
 use Rattle.aml_convert.specs.Conversions.{to_integer_of}
 use Rattle.aml_convert.specs.Integers.{truncated}
-use Rattle.aml_namespace.specs.Search.{Found, found}
+use Rattle.aml_namespace.specs.Search.{found}
 use Rattle.aml_meaning.specs.declared.flow.Flow.{Flow}
 use Rattle.aml_meaning.specs.declared.flow.Flow.TheVariants as flow
 use Rattle.aml_meaning.specs.State.{State}

@@ -1,5 +1,5 @@
 -- Where values are stored, and what stands there (ACPI 6.5, 19.3.5 and 20.2.2: SuperName, Target).
-use Rattle.std.specs.Prelude.{ℕ, zero, suc, ◌-◌, List, length, Option, Some, None, Ok, Err, slice_get}
+use Rattle.std.specs.Prelude.{ℕ, zero, suc, List, length, Option, Some, None, Ok, Err, slice_get}
 use Rattle.std.specs.FinMap.{get}
 use Rattle.ar_space.specs.declared.refusal.Refusal.TheVariants as refusal
 use Rattle.ar_space.specs.declared.refusal.EvaluationFault.TheVariants.{DeadReference, NoValue}
@@ -30,7 +30,6 @@ use Rattle.aml_meaning.specs.declared.store_target.Holding.{Holding}
 use Rattle.aml_meaning.specs.declared.store_target.Holding.TheVariants as holding
 use Rattle.aml_meaning.specs.declared.store_target.Held.{Held}
 use Rattle.aml_meaning.specs.declared.store_target.Held.TheVariants as held
-use Rattle.aml_meaning.specs.declared.object_type.ObjectType.{ObjectType}
 use Rattle.aml_meaning.specs.declared.object_type.ObjectType.TheVariants as types
 use Rattle.aml_meaning.specs.declared.object_type.Referent.{Referent}
 use Rattle.aml_meaning.specs.declared.object_type.Referent.TheVariants as referent

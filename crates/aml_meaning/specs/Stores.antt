@@ -4,7 +4,7 @@ use Rattle.ar_space.specs.declared.refusal.Refusal.TheVariants as refusal
 use Rattle.ar_space.specs.declared.refusal.EvaluationFault.TheVariants.{DeadReference}
 use Rattle.ar_space.specs.declared.refusal.ValueFault.TheVariants.{WrongType, EmptyValue}
 use Rattle.ar_space.specs.Outcome.{Outcome}
-use Rattle.ar_space.specs.Change.{Change, give, stop, settle, ◌>>=◌}
+use Rattle.ar_space.specs.Change.{Change, give, stop, ◌>>=◌}
 use Rattle.aml_path.specs.declared.segment.Seg.{Seg}
 use Rattle.aml_objects.specs.Contents.{Content, Integer, String, Buffer, Other, content_in}
 use Rattle.aml_objects.specs.Copies.{copied}

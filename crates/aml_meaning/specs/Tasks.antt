@@ -1,5 +1,5 @@
 -- Terms to evaluate, one after another (ACPI 6.5, 5.5 and 19.6). Operands are evaluated from left to right.
-use Rattle.std.specs.Prelude.{ℕ, ◌==◌, List, Bool, true, false, Ok, Err, if◌then◌else◌}
+use Rattle.std.specs.Prelude.{ℕ, ◌==◌, List, Bool, true, false, if◌then◌else◌}
 use Rattle.ar_space.specs.Change.{give, settle, ◌>>=◌}
 use Rattle.aml_path.specs.declared.segment.Seg.{Seg}
 use Rattle.aml_grammar.specs.Tree.{Tree, Trees, no_trees, tree}
@@ -7,7 +7,6 @@ use Rattle.aml_grammar.specs.Apart.{operand_of}
 use Rattle.aml_objects.specs.declared.value.Value.{Value}
 use Rattle.aml_meaning.specs.declared.flow.Flow.{Flow}
 use Rattle.aml_meaning.specs.declared.flow.Flow.TheVariants as flow
-use Rattle.aml_meaning.specs.State.{State}
 use Rattle.aml_meaning.specs.Run.{Run, lift}
 use Rattle.aml_meaning.specs.Terms.{inner_of}
 use Rattle.aml_meaning.specs.Readings.{integer_in, value_in}

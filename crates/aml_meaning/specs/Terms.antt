@@ -1,5 +1,5 @@
 -- Which rule a term is evaluated by, and its operands.
-use Rattle.std.specs.Prelude.{ℕ, suc, ◌+◌, Option, Some, None, Ok, Err}
+use Rattle.std.specs.Prelude.{ℕ, suc, Option, Some, None, Ok, Err}
 use Rattle.ar_space.specs.declared.refusal.Refusal.TheVariants as refusal
 use Rattle.ar_space.specs.declared.refusal.NameFault.TheVariants.{BadName}
 use Rattle.ar_space.specs.Outcome.{Outcome}

@@ -1,4 +1,4 @@
-use Rattle.std.proofs.Common.{◌≡◌, ◌<◌, length, ap, sym, ◌∙◌, arith}
+use Rattle.std.proofs.Common.{◌<◌, length, ap, sym, ◌∙◌, arith}
 use Rattle.aml_meaning.specs.NewObjects.{filled}
 use Rattle.aml_meaning.proofs.Filling.{grown}
 use Rattle.aml_meaning.proofs.new_objects.filled.Goals as goal

@@ -1,4 +1,4 @@
-use Rattle.std.proofs.Common.{◌≡◌, ◌<◌, ap, sym, arith, rules}
+use Rattle.std.proofs.Common.{ap, sym, arith, rules}
 use Rattle.aml_meaning.specs.PciFunctions.{found_here, found_nowhere, found_above, nearest_from}
 use Rattle.aml_meaning.proofs.world_state.WorldState.nearest.Goals as goal
 

@@ -1,4 +1,4 @@
-use Rattle.std.proofs.Common.{◌≡◌, ℕ, ◌≤◌, length}
+use Rattle.std.proofs.Common.{◌≡◌, ◌≤◌, length}
 use Rattle.aml_meaning.specs.PciFunctions.{nearest_from}
 use Rattle.aml_meaning.proofs.world_state.WorldState.nearest.Given as goal
 
