@@ -12,3 +12,4 @@ pub mod Loops
 pub mod Meanings
 pub mod Runs
 pub mod TargetKinds
+pub mod Uses

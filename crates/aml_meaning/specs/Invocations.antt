@@ -70,6 +70,12 @@ invocation_found scope n count = do
   many ← settle (as_many wanted count)
   named_use scope n
 
+-- what a name finds, used with so many arguments
+unfoldable pub use_found : {S : Type 0} → List Seg × Entry → ℕ → Change (State S) Invocation
+use_found f count = do
+  many ← settle (as_many (arguments_of f.1.object) count)
+  settle (invocation_of_object f.0 f.1.number f.1.object)
+
 -- ---- the body of a control method, which is read at each call
 
 -- how many arguments what stands at a path takes; an alias takes those of its target

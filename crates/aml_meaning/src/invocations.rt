@@ -3,12 +3,12 @@ ghost use Rattle.std.specs.Prelude.{◌≡◌, List, Some};
 ghost use Rattle.std.specs.Prelude as list;
 ghost use Rattle.std.specs.FinMap.{get};
 ghost use Rattle.ar_space.specs.Change.{Does};
-ghost use Rattle.ar_space.specs.Outcome.{Answers};
+ghost use Rattle.ar_space.specs.Outcome.{Answers, NotMemory, seen};
 ghost use Rattle.aml_path.specs.declared.segment.Seg.{Seg};
 ghost use Rattle.aml_objects.specs.declared.entry.Entry.{Entry};
 ghost use Rattle.aml_namespace.specs.Namespace.{numbered};
 ghost use Rattle.aml_namespace.specs.Search.{found};
-ghost use Rattle.aml_meaning.specs.Invocations.{invocation_of_body, invocation_of_object, invocation_of, named_use, invocation_found, count_of_entry, count_through, body_arities, left};
+ghost use Rattle.aml_meaning.specs.Invocations.{invocation_of_body, invocation_of_object, invocation_of, named_use, invocation_found, use_found, count_of_entry, count_through, body_arities, left};
 
 use crate::invocation::Invocation;
 use crate::readings::{arguments_of, as_many, read_as};
@@ -26,7 +26,6 @@ impl<S> WorldState<S> {
     /// A name that holds a value is that value, a field its bits, a control method a call, and anything else a reference to it;
     /// so is a name that holds a reference. Refused: a name that isn't found as `NotFound`, and another count than it takes as
     /// `ArityChanged`.
-    #[tactic(auto, using(ar_space::specs::Change::changing), unfolding(crate::specs::Invocations::invocation_found))]
     pub fn invocation(
         &self,
         alloc: Global,
@@ -36,9 +35,30 @@ impl<S> WorldState<S> {
     ) -> Result<Invocation, Refusal>
         ensures { Does result self.now (invocation_found scope.now name.now count) self.now }
     {
-        let wanted = self.arguments(scope, name)?;
-        as_many(wanted, count)?;
-        self.named_use(alloc, scope, name)
+        match self.search(scope, name) {
+            Ok(id) => self.use_with(alloc, id, count),
+            Err(refusal) => Err(refusal),
+        }
+    }
+
+    /// The node that a name finds from a scope.
+    fn search(&self, scope: &Path, name: &NameString) -> Result<NodeId, Refusal>
+        ensures answer { seen (λ id. numbered id.number self.now.names.map) result ≡ seen Some (found self.now.names.map scope.now name.now) }
+        ensures memory { NotMemory result }
+    {
+        self.names.search_at(scope, name)
+    }
+
+    /// What the node is that a name finds, where a value stands with so many arguments.
+    #[tactic(auto, using(ar_space::specs::Change::changing), unfolding(crate::specs::Invocations::use_found))]
+    fn use_with(&self, alloc: Global, id: NodeId, count: usize) -> Result<Invocation, Refusal>
+        ensures { (f : List Seg × Entry) → numbered id.number self.now.names.map ≡ Some f → Does result self.now (use_found f count) self.now }
+    {
+        let Some(entry) = self.names.node(id) else {
+            return Err(Refusal::Namespace(NamespaceFault::NotFound));
+        };
+        as_many(arguments_of(&entry.object), count)?;
+        self.use_of(alloc, id)
     }
 
     /// What a name is where a value stands; refused as `invocation` is, the count of arguments aside.
