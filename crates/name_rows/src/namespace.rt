@@ -47,11 +47,14 @@ fn show_segments(asked: &mut Exchange, segments: &[Seg]) {
 fn show_outcome(asked: &mut Exchange, outcome: &Result<u64, Refusal>) {
     match outcome {
         Ok(number) => asked.say_number(*number),
-        Err(refusal) => {
-            asked.say("refused");
-            asked.say_number(u64::from(refusal.number()));
-        }
+        Err(refusal) => show_refusal(asked, refusal),
     }
+}
+
+/// A refusal that a reply holds.
+fn show_refusal(asked: &mut Exchange, refusal: &Refusal) {
+    asked.say("refused");
+    asked.say_number(u64::from(refusal.number()));
 }
 
 /// What a call answered.
@@ -70,19 +73,13 @@ fn show_reply(asked: &mut Exchange, reply: &Reply) {
             asked.say("located");
             show_path(asked, path);
         }
-        Reply::Located(Err(refusal)) => refuse(asked, *refusal),
-        Reply::Children(list) => {
-            asked.say("children");
-            show_segments(asked, list.as_slice());
-        }
-        Reply::Walked(list) => {
-            asked.say("walked");
-            show_paths(asked, list.as_slice());
-        }
+        Reply::Located(Err(refusal)) => show_refusal(asked, refusal),
+        Reply::Children(list) => show_segments(asked, list.as_slice()),
+        Reply::Walked(list) => show_paths(asked, list.as_slice()),
         Reply::Replaced(outcome) => {
             asked.say("replaced");
             if let Err(refusal) = outcome {
-                refuse(asked, *refusal);
+                show_refusal(asked, refusal);
             }
         }
         Reply::Released => asked.say("released"),
