@@ -8,6 +8,7 @@ pub mod Numbering
 pub mod Finding
 pub mod Declaring
 pub mod Climbing
+pub mod Scopes
 pub mod Searching
 pub mod Cutting
 pub mod Changes

@@ -9,9 +9,11 @@ mod names;
 mod node;
 mod nodes;
 mod removal;
+mod scope;
 mod search;
 mod tree;
 mod walk;
 
 pub use calls::{Call, PathList, Reply, SegmentList};
 pub use names::Names;
+pub use scope::Scope;

@@ -203,7 +203,7 @@ fn alias_of(object: &NamedObject) -> Option<&Path>
     }
 }
 
-fn found_or_not<T: Drop>(found: Option<T>) -> Result<T, Refusal>
+pub(crate) fn found_or_not<T: Drop>(found: Option<T>) -> Result<T, Refusal>
     ensures answer { result ≡ found_or_not found }
     ensures memory { NotMemory result }
 {

@@ -1,6 +1,6 @@
 //! A namespace beside an ordered map of paths, over random calls of both.
 
-use aml_namespace::Names;
+use aml_namespace::{Names, Scope};
 use aml_objects::{Entry, NamedObject, NodeId};
 use aml_path::{NameString, Path, Prefix, Seg};
 use ar_space::Refusal;
@@ -122,9 +122,27 @@ impl Pair {
         Ok(path.as_ref() == place && number == place.map(|_path: &Path| id.number))
     }
 
+    /// Whether a name finds the same from a path, whatever node is expected there.
+    fn hinted_alike(&mut self, path: &Path, name: &NameString) -> bool {
+        let count = self.given.len() as u64;
+        let found = looked_up(&self.names, path, name);
+        match self.given.get(next(&mut self.state, count) as usize) {
+            Some(node) => {
+                let scope = Scope { path, node: *node };
+                let hinted = self.names.lookup_in(scope, name).ok().map(number_of);
+                let own = self.names.lookup_in(self.names.scope(path), name);
+                hinted == found && own.ok().map(number_of) == found
+            }
+            None => true,
+        }
+    }
+
     /// Whether a random segment finds the same from the node at a path and from the path.
     fn search_alike(&mut self, alloc: Global, scope: &Path) -> Result<bool, Refusal> {
         let name = single(alloc, random_segment(&mut self.state))?;
+        if !self.hinted_alike(scope, &name) {
+            return Ok(false);
+        }
         match self.names.find(scope) {
             Some(id) => {
                 let found = self

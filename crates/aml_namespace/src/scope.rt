@@ -1,0 +1,92 @@
+//! Scopes that names are searched from: a path, and the node that is expected there.
+ghost use Rattle.std.specs.Prelude.{◌≡◌, Some, true, option_map};
+ghost use Rattle.ar_space.specs.Outcome.{Answers, NotMemory, seen};
+ghost use Rattle.aml_namespace.specs.Namespace.{numbered};
+ghost use Rattle.aml_namespace.specs.Search.{found};
+
+use crate::names::{Names, root_id};
+use crate::search::found_or_not;
+use aml_objects::{Entry, NodeId};
+use aml_path::{NameString, Path, Seg};
+use ar_space::{NamespaceFault, Refusal};
+use std::alloc::Global;
+
+/// A scope: its path, and the node that is expected to stand there.
+///
+/// The path alone says which scope it is. The node is a hint: while it stands at this path, the scope is found at once. Any other
+/// node costs the way down from the root.
+#[derive(Clone, Copy)]
+pub struct Scope<'a> {
+    pub path: &'a Path,
+    pub node: NodeId,
+}
+
+impl Names {
+    /// The scope at a path, with the node that stands there, if one does. It takes no memory.
+    pub fn scope<'a>(&self, path: &'a Path) -> Scope<'a>
+        ensures { result.path.now ≡ path.now }
+    {
+        let node = self.find(path).unwrap_or(root_id());
+        Scope { path, node }
+    }
+
+    /// The node that a name finds from a scope, refused as `lookup` is. It takes no memory.
+    pub fn search_in(&self, scope: Scope<'_>, name: &NameString) -> Result<NodeId, Refusal>
+        ensures answer { seen (λ id. numbered id.number self.now.map) result ≡ seen Some (found self.now.map scope.entry.path.now name.now) }
+        ensures memory { NotMemory result }
+    {
+        if self.is_at(scope.node, scope.path.segments()) {
+            self.search(scope.node, name)
+        } else {
+            self.search_at(scope.path, name)
+        }
+    }
+
+    /// What a name finds from a scope, refused as `lookup` is. It takes no memory.
+    pub fn lookup_in(&self, scope: Scope<'_>, name: &NameString) -> Result<&Entry, Refusal>
+        ensures answer { seen (λ entry. entry.now) result ≡ seen (λ f. f.1) (found self.now.map scope.entry.path.now name.now) }
+        ensures memory { NotMemory result }
+    {
+        match self.search_in(scope, name) {
+            Ok(id) => found_or_not(self.node(id)),
+            Err(refusal) => Err(refusal),
+        }
+    }
+
+    /// The path of what a name finds from a scope, refused as `lookup` is.
+    pub fn locate_in(
+        &self,
+        alloc: Global,
+        scope: Scope<'_>,
+        name: &NameString,
+    ) -> Result<Path, Refusal>
+        ensures { Answers result (seen (λ f. f.0) (found self.now.map scope.entry.path.now name.now)) }
+    {
+        match self.search_in(scope, name) {
+            Ok(id) => match self.path_of(alloc, id)? {
+                Some(path) => Ok(path),
+                None => Err(Refusal::Namespace(NamespaceFault::NotFound)),
+            },
+            Err(refusal) => Err(refusal),
+        }
+    }
+
+    /// Whether a node stands at a path. It goes up from the node.
+    fn is_at(&self, id: NodeId, segments: &[Seg]) -> bool
+        ensures { result ≡ true → option_map (λ f. f.0) (numbered id.number self.now.map) ≡ Some segments.now }
+    {
+        if self.node(id).is_none() {
+            return false;
+        }
+        let mut depth = segments.len();
+        let mut current = id;
+        'levels: while let Some((parent, segment)) = self.above(current) {
+            if depth == 0 || segments[depth - 1] != segment {
+                return false;
+            }
+            depth -= 1;
+            current = parent;
+        }
+        depth == 0
+    }
+}
