@@ -121,9 +121,22 @@ pub(crate) fn invocation<S: Space>(
     ensures { Does result world.now (invocation_found [] (absolute path.now) count) world.now }
 {
     match absolute(alloc, path) {
-        Ok(name) => world.invocation(alloc, &Path::root(alloc), &name, count),
+        Ok(name) => from_root(alloc, world, &name, count),
         Err(refusal) => Err(refusal),
     }
+}
+
+/// What the object is that a name finds from the root and that is asked for with so many arguments.
+fn from_root<S: Space>(
+    alloc: Global,
+    world: &WorldState<S>,
+    name: &NameString,
+    count: usize,
+) -> Result<Invocation, Refusal>
+    ensures { Does result world.now (invocation_found [] name.now count) world.now }
+{
+    let root = Path::root(alloc);
+    world.invocation(alloc, world.scope(&root), name, count)
 }
 
 #[tactic(auto, using(aml_meaning::proofs::Runs::calling))]

@@ -28,7 +28,7 @@ pub(crate) fn eval_data<S: Space>(
     kind: DataKind,
 ) -> Result<Flow, Refusal>
     ensures spent { run.new.1 ≤ run.old.1 }
-    ensures means { Does result run.new (data_rule (meaning S.accesses) kind job.entry.scope.now job.entry.depth (part_tree job.entry.term)) run.old }
+    ensures means { Does result run.new (data_rule (meaning S.accesses) kind job.entry.scope.path.now job.entry.depth (part_tree job.entry.term)) run.old }
 {
     match kind {
         DataKind::Constant(number) => eval_constant(run, number),
@@ -80,7 +80,7 @@ fn eval_buffer<S: Space>(
     job: Task<'_>,
 ) -> Result<Flow, Refusal>
     ensures spent { run.new.1 ≤ run.old.1 }
-    ensures means { Does result run.new (buffer_rule (meaning S.accesses) job.entry.scope.now job.entry.depth (part_tree job.entry.term)) run.old }
+    ensures means { Does result run.new (buffer_rule (meaning S.accesses) job.entry.scope.path.now job.entry.depth (part_tree job.entry.term)) run.old }
 {
     let size = inner(job.term, 0)?;
     let length = eval_operand_integer(alloc, run, Task { term: size, ..job })?;
@@ -97,7 +97,7 @@ fn eval_package<S: Space>(
     job: Task<'_>,
 ) -> Result<Flow, Refusal>
     ensures spent { run.new.1 ≤ run.old.1 }
-    ensures means { Does result run.new (package_rule (meaning S.accesses) job.entry.scope.now job.entry.depth (part_tree job.entry.term)) run.old }
+    ensures means { Does result run.new (package_rule (meaning S.accesses) job.entry.scope.path.now job.entry.depth (part_tree job.entry.term)) run.old }
 {
     let count = number(job.term, 0)?;
     let elements = list(job.term, 1)?;
@@ -120,7 +120,7 @@ fn eval_var_package<S: Space>(
     job: Task<'_>,
 ) -> Result<Flow, Refusal>
     ensures spent { run.new.1 ≤ run.old.1 }
-    ensures means { Does result run.new (var_package_rule (meaning S.accesses) job.entry.scope.now job.entry.depth (part_tree job.entry.term)) run.old }
+    ensures means { Does result run.new (var_package_rule (meaning S.accesses) job.entry.scope.path.now job.entry.depth (part_tree job.entry.term)) run.old }
 {
     let size = inner(job.term, 0)?;
     let count = eval_operand_integer(alloc, run, Task { term: size, ..job })?;
@@ -147,7 +147,7 @@ fn package_of<S: Space>(
     count: usize,
 ) -> Result<Flow, Refusal>
     ensures spent { run.new.1 ≤ run.old.1 }
-    ensures means { Does result run.new (package_of (meaning S.accesses) job.entry.scope.now job.entry.depth count (part_list job.entry.term)) run.old }
+    ensures means { Does result run.new (package_of (meaning S.accesses) job.entry.scope.path.now job.entry.depth count (part_list job.entry.term)) run.old }
 {
     let elements = eval_elements(alloc, run, job, count)?;
     let value = run.world.new_package(count, elements)?;
@@ -164,7 +164,7 @@ fn eval_elements<S: Space>(
     count: usize,
 ) -> Result<Elements, Refusal>
     ensures spent { run.new.1 ≤ run.old.1 }
-    ensures means { Does result run.new (elements_in_turn (meaning S.accesses) job.entry.scope.now job.entry.depth count (part_list job.entry.term) []) run.old }
+    ensures means { Does result run.new (elements_in_turn (meaning S.accesses) job.entry.scope.path.now job.entry.depth count (part_list job.entry.term) []) run.old }
 {
     let mut elements = Elements::new(alloc);
     let mut left = count;
@@ -202,7 +202,7 @@ fn eval_element<S: Space>(
 ) -> Result<Element, Refusal>
     ensures spent { run.new.1 ≤ run.old.1 }
     ensures paid { OnOk result (run.new.1 < run.old.1) }
-    ensures means { Does result run.new (element_by (meaning S.accesses) code job.entry.scope.now job.entry.depth (part_tree job.entry.term)) run.old }
+    ensures means { Does result run.new (element_by (meaning S.accesses) code job.entry.scope.path.now job.entry.depth (part_tree job.entry.term)) run.old }
 {
     match code {
         TermCode::Name => named_element(alloc, run, job),
@@ -225,11 +225,11 @@ fn named_element<S: Space>(
 ) -> Result<Element, Refusal>
     ensures spent { run.new.1 ≤ run.old.1 }
     ensures paid { OnOk result (run.new.1 < run.old.1) }
-    ensures means { Does result run.new (named_element (meaning S.accesses) job.entry.scope.now (part_tree job.entry.term)) run.old }
+    ensures means { Does result run.new (named_element (meaning S.accesses) job.entry.scope.path.now (part_tree job.entry.term)) run.old }
 {
     run.charge()?;
     let name = job.term.name(alloc, 0)?;
-    element_of(alloc, name, job.scope)
+    element_of(alloc, name, job.scope.path)
 }
 
 #[cycle(evaluation)]
@@ -241,7 +241,7 @@ fn valued_element<S: Space>(
 ) -> Result<Element, Refusal>
     ensures spent { run.new.1 ≤ run.old.1 }
     ensures paid { OnOk result (run.new.1 < run.old.1) }
-    ensures means { Does result run.new (valued_element (meaning S.accesses) job.entry.scope.now job.entry.depth (part_tree job.entry.term)) run.old }
+    ensures means { Does result run.new (valued_element (meaning S.accesses) job.entry.scope.path.now job.entry.depth (part_tree job.entry.term)) run.old }
 {
     let value = eval_value(alloc, run, job)?;
     Ok(Element::Value(value))

@@ -27,7 +27,7 @@ pub(crate) fn eval_declaration<S: Space>(
     kind: DeclarationKind,
 ) -> Result<Flow, Refusal>
     ensures spent { run.new.1 ≤ run.old.1 }
-    ensures means { Does result run.new (declaration_rule (meaning S.accesses) kind job.entry.scope.now job.entry.depth (part_tree job.entry.term)) run.old }
+    ensures means { Does result run.new (declaration_rule (meaning S.accesses) kind job.entry.scope.path.now job.entry.depth (part_tree job.entry.term)) run.old }
 {
     match kind {
         DeclarationKind::Scope => eval_scope(alloc, run, job),
@@ -58,10 +58,10 @@ pub(crate) fn eval_declaring<S: Space>(
     object: NamedObject,
 ) -> Result<Flow, Refusal>
     ensures spent { run.new.1 ≤ run.old.1 }
-    ensures means { Does result run.new (declaring (meaning S.accesses) job.entry.scope.now job.entry.depth (part_tree job.entry.term) position object) run.old }
+    ensures means { Does result run.new (declaring (meaning S.accesses) job.entry.scope.path.now job.entry.depth (part_tree job.entry.term) position object) run.old }
 {
     let name = job.term.name(alloc, position)?;
-    let path = name.resolve_in(alloc, job.scope)?;
+    let path = name.resolve_in(alloc, job.scope.path)?;
     run.world.new_name(alloc, job.depth == 0, path, object)?;
     Ok(Flow::Next)
 }
@@ -70,7 +70,7 @@ pub(crate) fn eval_declaring<S: Space>(
 #[tactic(auto, using(crate::proofs::Steps::evaluating), unfolding(aml_meaning::specs::DeclarationTerms::name_rule))]
 fn eval_name<S: Space>(alloc: Global, run: &mut Running<S>, job: Task<'_>) -> Result<Flow, Refusal>
     ensures spent { run.new.1 ≤ run.old.1 }
-    ensures means { Does result run.new (name_rule (meaning S.accesses) job.entry.scope.now job.entry.depth (part_tree job.entry.term)) run.old }
+    ensures means { Does result run.new (name_rule (meaning S.accesses) job.entry.scope.path.now job.entry.depth (part_tree job.entry.term)) run.old }
 {
     let datum = inner(job.term, 1)?;
     let value = eval_value(alloc, run, Task { term: datum, ..job })?;
@@ -80,12 +80,12 @@ fn eval_name<S: Space>(alloc: Global, run: &mut Running<S>, job: Task<'_>) -> Re
 #[tactic(auto, using(crate::proofs::Steps::evaluating), unfolding(aml_meaning::specs::DeclarationTerms::alias_rule))]
 fn eval_alias<S: Space>(alloc: Global, run: &mut Running<S>, job: Task<'_>) -> Result<Flow, Refusal>
     ensures spent { run.new.1 ≤ run.old.1 }
-    ensures means { Does result run.new (alias_rule (meaning S.accesses) job.entry.scope.now job.entry.depth (part_tree job.entry.term)) run.old }
+    ensures means { Does result run.new (alias_rule (meaning S.accesses) job.entry.scope.path.now job.entry.depth (part_tree job.entry.term)) run.old }
 {
     let source = job.term.name(alloc, 0)?;
     let target = run.world.locate(alloc, job.scope, &source)?;
     let name = job.term.name(alloc, 1)?;
-    let path = name.resolve_in(alloc, job.scope)?;
+    let path = name.resolve_in(alloc, job.scope.path)?;
     run.world
         .new_name(alloc, job.depth == 0, path, NamedObject::Alias(target))?;
     Ok(Flow::Next)
@@ -98,10 +98,10 @@ fn eval_method<S: Space>(
     job: Task<'_>,
 ) -> Result<Flow, Refusal>
     ensures spent { run.new.1 ≤ run.old.1 }
-    ensures means { Does result run.new (method_rule (meaning S.accesses) job.entry.scope.now job.entry.depth (part_tree job.entry.term)) run.old }
+    ensures means { Does result run.new (method_rule (meaning S.accesses) job.entry.scope.path.now job.entry.depth (part_tree job.entry.term)) run.old }
 {
     let name = job.term.name(alloc, 0)?;
-    let path = name.resolve_in(alloc, job.scope)?;
+    let path = name.resolve_in(alloc, job.scope.path)?;
     let flags = number(job.term, 1)?;
     let body = bytes(alloc, job.term, 2)?;
     let flags = MethodFlags {
@@ -117,16 +117,17 @@ fn eval_method<S: Space>(
 #[tactic(auto, using(crate::proofs::Steps::evaluating), unfolding(aml_meaning::specs::DeclarationTerms::scope_rule))]
 fn eval_scope<S: Space>(alloc: Global, run: &mut Running<S>, job: Task<'_>) -> Result<Flow, Refusal>
     ensures spent { run.new.1 ≤ run.old.1 }
-    ensures means { Does result run.new (scope_rule (meaning S.accesses) job.entry.scope.now job.entry.depth (part_tree job.entry.term)) run.old }
+    ensures means { Does result run.new (scope_rule (meaning S.accesses) job.entry.scope.path.now job.entry.depth (part_tree job.entry.term)) run.old }
 {
     let name = job.term.name(alloc, 0)?;
     let path = run.world.locate_scope(alloc, job.scope, &name)?;
     let items = list(job.term, 1)?;
+    let scope = run.world.scope(&path);
     eval_list(
         alloc,
         run,
         Task {
-            scope: &path,
+            scope,
             term: items,
             ..job
         },
@@ -144,17 +145,18 @@ fn eval_new_scope<S: Space>(
     position: usize,
 ) -> Result<Flow, Refusal>
     ensures spent { run.new.1 ≤ run.old.1 }
-    ensures means { Does result run.new (new_scope (meaning S.accesses) object position job.entry.scope.now job.entry.depth (part_tree job.entry.term)) run.old }
+    ensures means { Does result run.new (new_scope (meaning S.accesses) object position job.entry.scope.path.now job.entry.depth (part_tree job.entry.term)) run.old }
 {
     let name = job.term.name(alloc, 0)?;
-    let path = name.resolve_in(alloc, job.scope)?;
+    let path = name.resolve_in(alloc, job.scope.path)?;
     declare(alloc, &mut run.world, job.depth, &path, object)?;
     let items = list(job.term, position)?;
+    let scope = run.world.scope(&path);
     eval_list(
         alloc,
         run,
         Task {
-            scope: &path,
+            scope,
             term: items,
             ..job
         },

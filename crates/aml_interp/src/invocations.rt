@@ -1,5 +1,9 @@
 //! Names where values stand, and calls of control methods (ACPI 6.5, 5.5.2 and 20.2.5).
-ghost use Rattle.std.specs.Prelude.{◌≡◌, ◌≤◌, ◌<◌, OnOk, [], map, slice_index_or};
+ghost use Rattle.std.specs.Prelude.{◌≡◌, ◌≤◌, ◌<◌, List, Some, OnOk, [], map, slice_index_or};
+ghost use Rattle.aml_path.specs.declared.segment.Seg.{Seg};
+ghost use Rattle.aml_objects.specs.declared.entry.Entry.{Entry};
+ghost use Rattle.aml_namespace.specs.Namespace.{numbered};
+ghost use Rattle.aml_meaning.specs.Terms.{count_of};
 ghost use Rattle.ar_space.specs.Change.{Does};
 ghost use Rattle.ar_space.specs.Outcome.{Answers, NotMemory, seen};
 ghost use Rattle.aml_grammar.specs.PartTree.{part_tree, part_list};
@@ -8,7 +12,7 @@ ghost use Rattle.aml_grammar.specs.View.{tree_view};
 ghost use Rattle.aml_objects.specs.declared.value.Value.TheVariants.{Uninitialized};
 ghost use Rattle.aml_meaning.specs.Meaning.{meaning};
 ghost use Rattle.aml_meaning.specs.Tasks.{in_turn};
-ghost use Rattle.aml_meaning.specs.Invocations.{shallow, frame_arguments, returned_by, leaving, invoked, value_of_call, method_value};
+ghost use Rattle.aml_meaning.specs.Invocations.{shallow, invocation_found, use_found, frame_arguments, returned_by, leaving, invoked, value_of_call, method_value};
 ghost use Rattle.aml_meaning.specs.InvocationTerms.{osi_rule, arguments_in_turn, call_rule, field_rule, invocation_rule, name_value};
 
 use crate::field_calls::eval_field_read;
@@ -17,9 +21,10 @@ use crate::readings::read_body;
 use crate::task::Task;
 use crate::terms::{eval_list, eval_value};
 use aml_grammar::{Term, TermReader};
-use aml_meaning::{Flow, Invocation, Running};
-use aml_objects::{Body, Field, Value};
-use aml_path::Path;
+use aml_meaning::{Flow, Invocation, Running, WorldState};
+use aml_namespace::Scope;
+use aml_objects::{Body, Field, NodeId, Value};
+use aml_path::{NameString, Path};
 use ar_space::{EvaluationFault, Refusal, Space};
 use std::alloc::Global;
 
@@ -35,13 +40,11 @@ pub(crate) fn eval_name_value<S: Space>(
     job: Task<'_>,
 ) -> Result<Flow, Refusal>
     ensures spent { run.new.1 ≤ run.old.1 }
-    ensures means { Does result run.new (name_value S.accesses (meaning S.accesses) job.entry.scope.now job.entry.depth (part_tree job.entry.term)) run.old }
+    ensures means { Does result run.new (name_value S.accesses (meaning S.accesses) job.entry.scope.path.now job.entry.depth (part_tree job.entry.term)) run.old }
 {
     let name = job.term.name(alloc, 0)?;
     let arguments = list(job.term, 1)?;
-    let wanted = run.world.arguments(job.scope, &name)?;
-    as_many(arguments, wanted)?;
-    let invocation = run.world.named_use(alloc, job.scope, &name)?;
+    let invocation = name_used(alloc, &run.world, job.scope, &name, arguments)?;
     eval_invocation(
         alloc,
         run,
@@ -53,6 +56,36 @@ pub(crate) fn eval_name_value<S: Space>(
     )
 }
 
+/// What a name is where a value stands, with the arguments that stand behind it; refused as `WorldState::invocation` is.
+fn name_used<S: Space>(
+    alloc: Global,
+    world: &WorldState<S>,
+    scope: Scope<'_>,
+    name: &NameString,
+    arguments: Reader<'_>,
+) -> Result<Invocation, Refusal>
+    ensures { Does result world.now (invocation_found scope.entry.path.now name.now (count_of (part_list arguments.entry))) world.now }
+{
+    match world.search(scope, name) {
+        Ok(id) => used_with(alloc, world, id, arguments),
+        Err(refusal) => Err(refusal),
+    }
+}
+
+/// What the node is that a name finds, with the arguments that stand behind the name.
+#[tactic(auto, using(ar_space::specs::Change::changing), unfolding(aml_meaning::specs::Invocations::use_found))]
+fn used_with<S: Space>(
+    alloc: Global,
+    world: &WorldState<S>,
+    id: NodeId,
+    arguments: Reader<'_>,
+) -> Result<Invocation, Refusal>
+    ensures { (f : List Seg × Entry) → numbered id.number world.now.names.map ≡ Some f → Does result world.now (use_found f (count_of (part_list arguments.entry))) world.now }
+{
+    as_many(arguments, world.arguments_at(id))?;
+    world.use_of(alloc, id)
+}
+
 #[cycle(evaluation)]
 #[tactic(auto, using(crate::proofs::Steps::evaluating))]
 fn eval_invocation<S: Space>(
@@ -62,7 +95,7 @@ fn eval_invocation<S: Space>(
     invocation: Invocation,
 ) -> Result<Flow, Refusal>
     ensures spent { run.new.1 ≤ run.old.1 }
-    ensures means { Does result run.new (invocation_rule S.accesses (meaning S.accesses) job.entry.scope.now job.entry.depth (part_list job.entry.term) invocation) run.old }
+    ensures means { Does result run.new (invocation_rule S.accesses (meaning S.accesses) job.entry.scope.path.now job.entry.depth (part_list job.entry.term) invocation) run.old }
 {
     match invocation {
         Invocation::Value(value) => Ok(Flow::Value(value)),
@@ -98,7 +131,7 @@ fn eval_call<S: Space>(
     body: &Body,
 ) -> Result<Flow, Refusal>
     ensures spent { run.new.1 ≤ run.old.1 }
-    ensures means { Does result run.new (call_rule (meaning S.accesses) job.entry.scope.now job.entry.depth (part_list job.entry.term) path.now body.now) run.old }
+    ensures means { Does result run.new (call_rule (meaning S.accesses) job.entry.scope.path.now job.entry.depth (part_list job.entry.term) path.now body.now) run.old }
 {
     let values = eval_arguments(alloc, run, job)?;
     eval_invoked(alloc, run, job.depth, path, body, &values)
@@ -109,7 +142,7 @@ fn eval_call<S: Space>(
 #[tactic(auto, using(crate::proofs::Steps::evaluating), unfolding(aml_meaning::specs::InvocationTerms::osi_rule))]
 fn eval_osi<S: Space>(alloc: Global, run: &mut Running<S>, job: Task<'_>) -> Result<Flow, Refusal>
     ensures spent { run.new.1 ≤ run.old.1 }
-    ensures means { Does result run.new (osi_rule (meaning S.accesses) job.entry.scope.now job.entry.depth (part_list job.entry.term)) run.old }
+    ensures means { Does result run.new (osi_rule (meaning S.accesses) job.entry.scope.path.now job.entry.depth (part_list job.entry.term)) run.old }
 {
     let values = eval_arguments(alloc, run, job)?;
     shallow(job.depth)?;
@@ -126,7 +159,7 @@ fn eval_arguments<S: Space>(
     job: Task<'_>,
 ) -> Result<Vec<Value>, Refusal>
     ensures spent { run.new.1 ≤ run.old.1 }
-    ensures means { Does (seen (λ list. list.items) result) run.new (arguments_in_turn (meaning S.accesses) job.entry.scope.now job.entry.depth (part_list job.entry.term) []) run.old }
+    ensures means { Does (seen (λ list. list.items) result) run.new (arguments_in_turn (meaning S.accesses) job.entry.scope.path.now job.entry.depth (part_list job.entry.term) []) run.old }
 {
     let mut values = Vec::new(alloc);
     let mut rest = job.term;
@@ -212,11 +245,12 @@ fn eval_body<S: Space>(
     ensures spent { run.new.1 ≤ run.old.1 }
     ensures means { Does result run.new (leaving path.now (in_turn (meaning S.accesses) path.now depth (trees_of (map tree_view terms.now)))) run.old }
 {
+    let scope = run.world.scope(path);
     let outcome = eval_list(
         alloc,
         run,
         Task {
-            scope: path,
+            scope,
             depth,
             term: Reader::List(terms),
         },

@@ -98,7 +98,7 @@ fn at_root<S: Space>(alloc: Global, run: &mut Running<S>, terms: &[Term]) -> Res
 {
     let root = Path::root(alloc);
     let job = Task {
-        scope: &root,
+        scope: run.world.scope(&root),
         depth: 0,
         term: Reader::List(terms),
     };

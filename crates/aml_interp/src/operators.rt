@@ -27,7 +27,7 @@ pub(crate) fn eval_operator<S: Space>(
     kind: OperatorKind,
 ) -> Result<Flow, Refusal>
     ensures spent { run.new.1 ≤ run.old.1 }
-    ensures means { Does result run.new (operator_rule S.accesses (meaning S.accesses) kind job.entry.scope.now job.entry.depth (part_tree job.entry.term)) run.old }
+    ensures means { Does result run.new (operator_rule S.accesses (meaning S.accesses) kind job.entry.scope.path.now job.entry.depth (part_tree job.entry.term)) run.old }
 {
     match kind {
         OperatorKind::Slot(slot) => eval_slot(run, slot),
@@ -61,7 +61,7 @@ fn eval_slot<S: Space>(run: &Running<S>, slot: Slot) -> Result<Flow, Refusal>
 #[tactic(auto, using(crate::proofs::Steps::evaluating), unfolding(aml_meaning::specs::OperatorTerms::store_rule))]
 fn eval_store<S: Space>(alloc: Global, run: &mut Running<S>, job: Task<'_>) -> Result<Flow, Refusal>
     ensures spent { run.new.1 ≤ run.old.1 }
-    ensures means { Does result run.new (store_rule S.accesses (meaning S.accesses) job.entry.scope.now job.entry.depth (part_tree job.entry.term)) run.old }
+    ensures means { Does result run.new (store_rule S.accesses (meaning S.accesses) job.entry.scope.path.now job.entry.depth (part_tree job.entry.term)) run.old }
 {
     let value = eval_value_at(alloc, run, job, 0)?;
     eval_targeted(alloc, run, job, 1, value)
@@ -71,7 +71,7 @@ fn eval_store<S: Space>(alloc: Global, run: &mut Running<S>, job: Task<'_>) -> R
 #[tactic(auto, using(crate::proofs::Steps::evaluating), unfolding(aml_meaning::specs::OperatorTerms::copy_rule))]
 fn eval_copy<S: Space>(alloc: Global, run: &mut Running<S>, job: Task<'_>) -> Result<Flow, Refusal>
     ensures spent { run.new.1 ≤ run.old.1 }
-    ensures means { Does result run.new (copy_rule S.accesses (meaning S.accesses) job.entry.scope.now job.entry.depth (part_tree job.entry.term)) run.old }
+    ensures means { Does result run.new (copy_rule S.accesses (meaning S.accesses) job.entry.scope.path.now job.entry.depth (part_tree job.entry.term)) run.old }
 {
     let value = eval_value_at(alloc, run, job, 0)?;
     let target = eval_target(alloc, run, job, 1)?;
@@ -90,7 +90,7 @@ fn eval_two<S: Space>(
     kind: TwoOperands,
 ) -> Result<Flow, Refusal>
     ensures spent { run.new.1 ≤ run.old.1 }
-    ensures means { Does result run.new (two_rule S.accesses (meaning S.accesses) kind job.entry.scope.now job.entry.depth (part_tree job.entry.term)) run.old }
+    ensures means { Does result run.new (two_rule S.accesses (meaning S.accesses) kind job.entry.scope.path.now job.entry.depth (part_tree job.entry.term)) run.old }
 {
     let values = eval_two_values(alloc, run, job)?;
     let result = run.world.operate_on_two(alloc, kind, values.0, values.1)?;
@@ -105,7 +105,7 @@ fn eval_divide<S: Space>(
     job: Task<'_>,
 ) -> Result<Flow, Refusal>
     ensures spent { run.new.1 ≤ run.old.1 }
-    ensures means { Does result run.new (divide_rule S.accesses (meaning S.accesses) job.entry.scope.now job.entry.depth (part_tree job.entry.term)) run.old }
+    ensures means { Does result run.new (divide_rule S.accesses (meaning S.accesses) job.entry.scope.path.now job.entry.depth (part_tree job.entry.term)) run.old }
 {
     let values = eval_two_values(alloc, run, job)?;
     let division = run.world.divide(values.0, values.1)?;
@@ -123,7 +123,7 @@ fn eval_one<S: Space>(
     kind: OneOperand,
 ) -> Result<Flow, Refusal>
     ensures spent { run.new.1 ≤ run.old.1 }
-    ensures means { Does result run.new (one_rule S.accesses (meaning S.accesses) kind job.entry.scope.now job.entry.depth (part_tree job.entry.term)) run.old }
+    ensures means { Does result run.new (one_rule S.accesses (meaning S.accesses) kind job.entry.scope.path.now job.entry.depth (part_tree job.entry.term)) run.old }
 {
     let value = eval_value_at(alloc, run, job, 0)?;
     let result = run.world.operate_on_one(alloc, kind, value)?;
@@ -140,7 +140,7 @@ fn eval_test<S: Space>(
     kind: Test,
 ) -> Result<Flow, Refusal>
     ensures spent { run.new.1 ≤ run.old.1 }
-    ensures means { Does result run.new (test_rule S.accesses (meaning S.accesses) kind job.entry.scope.now job.entry.depth (part_tree job.entry.term)) run.old }
+    ensures means { Does result run.new (test_rule S.accesses (meaning S.accesses) kind job.entry.scope.path.now job.entry.depth (part_tree job.entry.term)) run.old }
 {
     let values = eval_two_values(alloc, run, job)?;
     let result = run.world.test(alloc, kind, values.0, values.1)?;
@@ -151,7 +151,7 @@ fn eval_test<S: Space>(
 #[tactic(auto, using(crate::proofs::Steps::evaluating), unfolding(aml_meaning::specs::OperatorTerms::not_rule))]
 fn eval_not<S: Space>(alloc: Global, run: &mut Running<S>, job: Task<'_>) -> Result<Flow, Refusal>
     ensures spent { run.new.1 ≤ run.old.1 }
-    ensures means { Does result run.new (not_rule S.accesses (meaning S.accesses) job.entry.scope.now job.entry.depth (part_tree job.entry.term)) run.old }
+    ensures means { Does result run.new (not_rule S.accesses (meaning S.accesses) job.entry.scope.path.now job.entry.depth (part_tree job.entry.term)) run.old }
 {
     let value = eval_value_at(alloc, run, job, 0)?;
     let result = run.world.logical_not(value)?;
@@ -168,7 +168,7 @@ fn eval_count<S: Space>(
     kind: Count,
 ) -> Result<Flow, Refusal>
     ensures spent { run.new.1 ≤ run.old.1 }
-    ensures means { Does result run.new (count_rule S.accesses (meaning S.accesses) kind job.entry.scope.now job.entry.depth (part_tree job.entry.term)) run.old }
+    ensures means { Does result run.new (count_rule S.accesses (meaning S.accesses) kind job.entry.scope.path.now job.entry.depth (part_tree job.entry.term)) run.old }
 {
     let target = eval_target(alloc, run, job, 0)?;
     let held = run.world.target_read(&target)?;
@@ -182,7 +182,7 @@ fn eval_count<S: Space>(
 #[tactic(auto, using(crate::proofs::Steps::evaluating), unfolding(aml_meaning::specs::OperatorTerms::size_rule))]
 fn eval_size<S: Space>(alloc: Global, run: &mut Running<S>, job: Task<'_>) -> Result<Flow, Refusal>
     ensures spent { run.new.1 ≤ run.old.1 }
-    ensures means { Does result run.new (size_rule S.accesses (meaning S.accesses) job.entry.scope.now job.entry.depth (part_tree job.entry.term)) run.old }
+    ensures means { Does result run.new (size_rule S.accesses (meaning S.accesses) job.entry.scope.path.now job.entry.depth (part_tree job.entry.term)) run.old }
 {
     let referent = eval_operand_referent(alloc, run, job)?;
     let referent = eval_referent(alloc, run, job.depth, referent)?;
@@ -194,7 +194,7 @@ fn eval_size<S: Space>(alloc: Global, run: &mut Running<S>, job: Task<'_>) -> Re
 #[tactic(auto, using(crate::proofs::Steps::evaluating), unfolding(aml_meaning::specs::OperatorTerms::type_rule))]
 fn eval_type<S: Space>(alloc: Global, run: &mut Running<S>, job: Task<'_>) -> Result<Flow, Refusal>
     ensures spent { run.new.1 ≤ run.old.1 }
-    ensures means { Does result run.new (type_rule S.accesses (meaning S.accesses) job.entry.scope.now job.entry.depth (part_tree job.entry.term)) run.old }
+    ensures means { Does result run.new (type_rule S.accesses (meaning S.accesses) job.entry.scope.path.now job.entry.depth (part_tree job.entry.term)) run.old }
 {
     let referent = eval_operand_referent(alloc, run, job)?;
     let referent = eval_referent(alloc, run, job.depth, referent)?;
@@ -210,7 +210,7 @@ fn eval_acquire<S: Space>(
     job: Task<'_>,
 ) -> Result<Flow, Refusal>
     ensures spent { run.new.1 ≤ run.old.1 }
-    ensures means { Does result run.new (acquire_rule S.accesses (meaning S.accesses) job.entry.scope.now job.entry.depth (part_tree job.entry.term)) run.old }
+    ensures means { Does result run.new (acquire_rule S.accesses (meaning S.accesses) job.entry.scope.path.now job.entry.depth (part_tree job.entry.term)) run.old }
 {
     let target = eval_target(alloc, run, job, 0)?;
     run.world.acquire(alloc, &target)?;

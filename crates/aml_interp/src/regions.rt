@@ -30,7 +30,7 @@ pub(crate) fn eval_region_term<S: Space>(
     kind: RegionKind,
 ) -> Result<Flow, Refusal>
     ensures spent { run.new.1 ≤ run.old.1 }
-    ensures means { Does result run.new (region_term_rule (meaning S.accesses) kind job.entry.scope.now job.entry.depth (part_tree job.entry.term)) run.old }
+    ensures means { Does result run.new (region_term_rule (meaning S.accesses) kind job.entry.scope.path.now job.entry.depth (part_tree job.entry.term)) run.old }
 {
     match kind {
         RegionKind::OperationRegion => eval_region(alloc, run, job),
@@ -50,7 +50,7 @@ fn eval_region<S: Space>(
     job: Task<'_>,
 ) -> Result<Flow, Refusal>
     ensures spent { run.new.1 ≤ run.old.1 }
-    ensures means { Does result run.new (region_rule (meaning S.accesses) job.entry.scope.now job.entry.depth (part_tree job.entry.term)) run.old }
+    ensures means { Does result run.new (region_rule (meaning S.accesses) job.entry.scope.path.now job.entry.depth (part_tree job.entry.term)) run.old }
 {
     let space = number(job.term, 1)?;
     let offset = eval_value_at(alloc, run, job, 2)?;
@@ -73,7 +73,7 @@ fn eval_field_list<S: Space>(
     job: Task<'_>,
 ) -> Result<Flow, Refusal>
     ensures spent { run.new.1 ≤ run.old.1 }
-    ensures means { Does result run.new (field_list_rule (meaning S.accesses) job.entry.scope.now job.entry.depth (part_tree job.entry.term)) run.old }
+    ensures means { Does result run.new (field_list_rule (meaning S.accesses) job.entry.scope.path.now job.entry.depth (part_tree job.entry.term)) run.old }
 {
     let elements = list(job.term, 2)?;
     unconnected(Opcode::Field, elements)?;
@@ -100,7 +100,7 @@ fn eval_index_list<S: Space>(
     job: Task<'_>,
 ) -> Result<Flow, Refusal>
     ensures spent { run.new.1 ≤ run.old.1 }
-    ensures means { Does result run.new (index_list_rule (meaning S.accesses) job.entry.scope.now job.entry.depth (part_tree job.entry.term)) run.old }
+    ensures means { Does result run.new (index_list_rule (meaning S.accesses) job.entry.scope.path.now job.entry.depth (part_tree job.entry.term)) run.old }
 {
     let elements = list(job.term, 3)?;
     unconnected(Opcode::IndexField, elements)?;
@@ -131,7 +131,7 @@ fn lay_fields<S: Space>(
     flags: u64,
 ) -> Result<Flow, Refusal>
     ensures spent { run.new.1 ≤ run.old.1 }
-    ensures means { Does result run.new (fields_laid job.entry.scope.now job.entry.depth source flags (part_list job.entry.term)) run.old }
+    ensures means { Does result run.new (fields_laid job.entry.scope.path.now job.entry.depth source flags (part_list job.entry.term)) run.old }
 {
     let group = FieldGroup {
         source,
@@ -153,7 +153,7 @@ fn lay_elements<S: Space>(
     job: Task<'_>,
     first: FieldLayout,
 ) -> Result<(), Refusal>
-    ensures { Does result world.new (elements_laid group job.entry.scope.now job.entry.depth first (part_list job.entry.term)) world.old }
+    ensures { Does result world.new (elements_laid group job.entry.scope.path.now job.entry.depth first (part_list job.entry.term)) world.old }
 {
     let mut at = first;
     let mut rest = job.term;
@@ -188,7 +188,7 @@ fn lay_element<S: Space>(
     code: TermCode,
     at: FieldLayout,
 ) -> Result<FieldLayout, Refusal>
-    ensures { Does result world.new (element_laid group job.entry.scope.now job.entry.depth code at (part_tree job.entry.term)) world.old }
+    ensures { Does result world.new (element_laid group job.entry.scope.path.now job.entry.depth code at (part_tree job.entry.term)) world.old }
 {
     match code {
         TermCode::NamedField => lay_named(alloc, world, group, job, at),
@@ -211,10 +211,10 @@ fn lay_named<S: Space>(
     job: Task<'_>,
     at: FieldLayout,
 ) -> Result<FieldLayout, Refusal>
-    ensures { Does result world.new (named_field group job.entry.scope.now job.entry.depth at (part_tree job.entry.term)) world.old }
+    ensures { Does result world.new (named_field group job.entry.scope.path.now job.entry.depth at (part_tree job.entry.term)) world.old }
 {
     let name = job.term.name(alloc, 0)?;
-    let path = name.resolve_in(alloc, job.scope)?;
+    let path = name.resolve_in(alloc, job.scope.path)?;
     let count = number(job.term, 1)?;
     world.new_field(alloc, group, job.depth == 0, path, at, count)
 }
@@ -227,7 +227,7 @@ fn lay_reserved<S: Space>(
     job: Task<'_>,
     at: FieldLayout,
 ) -> Result<FieldLayout, Refusal>
-    ensures { Does result world.now (reserved_field group job.entry.scope.now job.entry.depth at (part_tree job.entry.term)) world.now }
+    ensures { Does result world.now (reserved_field group job.entry.scope.path.now job.entry.depth at (part_tree job.entry.term)) world.now }
 {
     let count = number(job.term, 0)?;
     at.further(count)
@@ -241,7 +241,7 @@ fn lay_access<S: Space>(
     job: Task<'_>,
     at: FieldLayout,
 ) -> Result<FieldLayout, Refusal>
-    ensures { Does result world.now (access_field group job.entry.scope.now job.entry.depth at (part_tree job.entry.term)) world.now }
+    ensures { Does result world.now (access_field group job.entry.scope.path.now job.entry.depth at (part_tree job.entry.term)) world.now }
 {
     let flags = number(job.term, 0)?;
     Ok(at.with_access(flags))

@@ -27,7 +27,7 @@ pub(crate) fn eval_statement<S: Space>(
     kind: StatementKind,
 ) -> Result<Flow, Refusal>
     ensures spent { run.new.1 ≤ run.old.1 }
-    ensures means { Does result run.new (statement_rule (meaning S.accesses) kind job.entry.scope.now job.entry.depth (part_tree job.entry.term)) run.old }
+    ensures means { Does result run.new (statement_rule (meaning S.accesses) kind job.entry.scope.path.now job.entry.depth (part_tree job.entry.term)) run.old }
 {
     match kind {
         StatementKind::If => eval_if(alloc, run, job),
@@ -48,7 +48,7 @@ pub(crate) fn eval_statement<S: Space>(
 #[tactic(auto, using(crate::proofs::Steps::evaluating), unfolding(aml_meaning::specs::StatementTerms::if_rule))]
 fn eval_if<S: Space>(alloc: Global, run: &mut Running<S>, job: Task<'_>) -> Result<Flow, Refusal>
     ensures spent { run.new.1 ≤ run.old.1 }
-    ensures means { Does result run.new (if_rule (meaning S.accesses) job.entry.scope.now job.entry.depth (part_tree job.entry.term)) run.old }
+    ensures means { Does result run.new (if_rule (meaning S.accesses) job.entry.scope.path.now job.entry.depth (part_tree job.entry.term)) run.old }
 {
     let condition = inner(job.term, 0)?;
     let items = list(job.term, 1)?;
@@ -74,7 +74,7 @@ fn eval_branch<S: Space>(
     holds: bool,
 ) -> Result<Flow, Refusal>
     ensures spent { run.new.1 ≤ run.old.1 }
-    ensures means { Does result run.new (branch (meaning S.accesses) job.entry.scope.now job.entry.depth (part_list items.entry) (else_of (operand_of (part_tree job.entry.term) 2)) holds) run.old }
+    ensures means { Does result run.new (branch (meaning S.accesses) job.entry.scope.path.now job.entry.depth (part_list items.entry) (else_of (operand_of (part_tree job.entry.term) 2)) holds) run.old }
 {
     if holds {
         eval_list(alloc, run, Task { term: items, ..job })
@@ -92,7 +92,7 @@ fn eval_otherwise<S: Space>(
     job: Task<'_>,
 ) -> Result<Flow, Refusal>
     ensures spent { run.new.1 ≤ run.old.1 }
-    ensures means { Does result run.new (otherwise (meaning S.accesses) job.entry.scope.now job.entry.depth (else_of (operand_of (part_tree job.entry.term) 2))) run.old }
+    ensures means { Does result run.new (otherwise (meaning S.accesses) job.entry.scope.path.now job.entry.depth (else_of (operand_of (part_tree job.entry.term) 2))) run.old }
 {
     match else_of(job.term) {
         None => Ok(Flow::Next),
@@ -104,7 +104,7 @@ fn eval_otherwise<S: Space>(
 #[tactic(auto, using(crate::proofs::Steps::evaluating), unfolding(aml_meaning::specs::StatementTerms::else_rule))]
 fn eval_else<S: Space>(alloc: Global, run: &mut Running<S>, job: Task<'_>) -> Result<Flow, Refusal>
     ensures spent { run.new.1 ≤ run.old.1 }
-    ensures means { Does result run.new (else_rule (meaning S.accesses) job.entry.scope.now job.entry.depth (part_tree job.entry.term)) run.old }
+    ensures means { Does result run.new (else_rule (meaning S.accesses) job.entry.scope.path.now job.entry.depth (part_tree job.entry.term)) run.old }
 {
     let items = list(job.term, 0)?;
     eval_list(alloc, run, Task { term: items, ..job })
@@ -114,7 +114,7 @@ fn eval_else<S: Space>(alloc: Global, run: &mut Running<S>, job: Task<'_>) -> Re
 #[tactic(auto, using(crate::proofs::Steps::evaluating), unfolding(aml_meaning::specs::StatementTerms::while_rule))]
 fn eval_while<S: Space>(alloc: Global, run: &mut Running<S>, job: Task<'_>) -> Result<Flow, Refusal>
     ensures spent { run.new.1 ≤ run.old.1 }
-    ensures means { Does result run.new (while_rule (meaning S.accesses) job.entry.scope.now job.entry.depth (part_tree job.entry.term)) run.old }
+    ensures means { Does result run.new (while_rule (meaning S.accesses) job.entry.scope.path.now job.entry.depth (part_tree job.entry.term)) run.old }
 {
     let condition = inner(job.term, 0)?;
     let items = list(job.term, 1)?;
@@ -139,7 +139,7 @@ fn eval_loop<S: Space>(
     items: Reader<'_>,
 ) -> Result<Flow, Refusal>
     ensures spent { run.new.1 ≤ run.old.1 }
-    ensures means { Does result run.new (loop (meaning S.accesses) job.entry.scope.now job.entry.depth (part_tree job.entry.term) (part_list items.entry)) run.old }
+    ensures means { Does result run.new (loop (meaning S.accesses) job.entry.scope.path.now job.entry.depth (part_tree job.entry.term) (part_list items.entry)) run.old }
 {
     'turns: loop {
         let flow = eval_turn(alloc, run, job, items)?;
@@ -161,7 +161,7 @@ fn eval_turn<S: Space>(
 ) -> Result<Flow, Refusal>
     ensures spent { run.new.1 ≤ run.old.1 }
     ensures paid { OnOk result (run.new.1 < run.old.1) }
-    ensures means { Does result run.new (turn (meaning S.accesses) job.entry.scope.now job.entry.depth (part_tree job.entry.term) (part_list items.entry)) run.old }
+    ensures means { Does result run.new (turn (meaning S.accesses) job.entry.scope.path.now job.entry.depth (part_tree job.entry.term) (part_list items.entry)) run.old }
 {
     let number = eval_operand_integer(alloc, run, job)?;
     eval_turn_of(alloc, run, Task { term: items, ..job }, is_true(number))
@@ -176,7 +176,7 @@ fn eval_turn_of<S: Space>(
     holds: bool,
 ) -> Result<Flow, Refusal>
     ensures spent { run.new.1 ≤ run.old.1 }
-    ensures means { Does result run.new (turn_of (meaning S.accesses) job.entry.scope.now job.entry.depth (part_list job.entry.term) holds) run.old }
+    ensures means { Does result run.new (turn_of (meaning S.accesses) job.entry.scope.path.now job.entry.depth (part_list job.entry.term) holds) run.old }
 {
     if holds {
         eval_list(alloc, run, job)
@@ -193,7 +193,7 @@ fn eval_return<S: Space>(
     job: Task<'_>,
 ) -> Result<Flow, Refusal>
     ensures spent { run.new.1 ≤ run.old.1 }
-    ensures means { Does result run.new (return_rule (meaning S.accesses) job.entry.scope.now job.entry.depth (part_tree job.entry.term)) run.old }
+    ensures means { Does result run.new (return_rule (meaning S.accesses) job.entry.scope.path.now job.entry.depth (part_tree job.entry.term)) run.old }
 {
     let value = eval_value_at(alloc, run, job, 0)?;
     Ok(Flow::Return(value))
@@ -207,7 +207,7 @@ fn eval_release<S: Space>(
     job: Task<'_>,
 ) -> Result<Flow, Refusal>
     ensures spent { run.new.1 ≤ run.old.1 }
-    ensures means { Does result run.new (release_rule (meaning S.accesses) job.entry.scope.now job.entry.depth (part_tree job.entry.term)) run.old }
+    ensures means { Does result run.new (release_rule (meaning S.accesses) job.entry.scope.path.now job.entry.depth (part_tree job.entry.term)) run.old }
 {
     let target = eval_target(alloc, run, job, 0)?;
     run.world.release(alloc, &target)?;
@@ -223,7 +223,7 @@ fn eval_notify<S: Space>(
     job: Task<'_>,
 ) -> Result<Flow, Refusal>
     ensures spent { run.new.1 ≤ run.old.1 }
-    ensures means { Does result run.new (notify_rule (meaning S.accesses) job.entry.scope.now job.entry.depth (part_tree job.entry.term)) run.old }
+    ensures means { Does result run.new (notify_rule (meaning S.accesses) job.entry.scope.path.now job.entry.depth (part_tree job.entry.term)) run.old }
 {
     eval_target(alloc, run, job, 0)?;
     eval_value_at(alloc, run, job, 1)?;
@@ -235,7 +235,7 @@ fn eval_notify<S: Space>(
 #[tactic(auto, using(crate::proofs::Steps::evaluating), unfolding(aml_meaning::specs::StatementTerms::pause_rule))]
 fn eval_pause<S: Space>(alloc: Global, run: &mut Running<S>, job: Task<'_>) -> Result<Flow, Refusal>
     ensures spent { run.new.1 ≤ run.old.1 }
-    ensures means { Does result run.new (pause_rule (meaning S.accesses) job.entry.scope.now job.entry.depth (part_tree job.entry.term)) run.old }
+    ensures means { Does result run.new (pause_rule (meaning S.accesses) job.entry.scope.path.now job.entry.depth (part_tree job.entry.term)) run.old }
 {
     eval_value_at(alloc, run, job, 0)?;
     Ok(Flow::Next)
@@ -245,7 +245,7 @@ fn eval_pause<S: Space>(alloc: Global, run: &mut Running<S>, job: Task<'_>) -> R
 #[tactic(auto, using(crate::proofs::Steps::evaluating), unfolding(aml_meaning::specs::StatementTerms::fatal_rule))]
 fn eval_fatal<S: Space>(alloc: Global, run: &mut Running<S>, job: Task<'_>) -> Result<Flow, Refusal>
     ensures spent { run.new.1 ≤ run.old.1 }
-    ensures means { Does result run.new (fatal_rule (meaning S.accesses) job.entry.scope.now job.entry.depth (part_tree job.entry.term)) run.old }
+    ensures means { Does result run.new (fatal_rule (meaning S.accesses) job.entry.scope.path.now job.entry.depth (part_tree job.entry.term)) run.old }
 {
     eval_value_at(alloc, run, job, 2)?;
     Err(Refusal::Evaluation(EvaluationFault::Fatal))

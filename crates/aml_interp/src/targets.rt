@@ -24,7 +24,7 @@ pub(crate) fn eval_target<S: Space>(
     index: usize,
 ) -> Result<StoreTarget, Refusal>
     ensures spent { run.new.1 ≤ run.old.1 }
-    ensures means { Does result run.new (target_at (meaning S.accesses) job.entry.scope.now job.entry.depth (part_tree job.entry.term) index) run.old }
+    ensures means { Does result run.new (target_at (meaning S.accesses) job.entry.scope.path.now job.entry.depth (part_tree job.entry.term) index) run.old }
 {
     match job.term.operand(index) {
         OperandView::Absent => Err(Refusal::Name(NameFault::BadName)),
@@ -44,7 +44,7 @@ fn named_target<S: Space>(
     job: Task<'_>,
     index: usize,
 ) -> Result<StoreTarget, Refusal>
-    ensures { Does result run.now (name_target (meaning S.accesses) job.entry.scope.now (part_tree job.entry.term) index) run.now }
+    ensures { Does result run.now (name_target (meaning S.accesses) job.entry.scope.path.now (part_tree job.entry.term) index) run.now }
 {
     let name = job.term.name(alloc, index)?;
     run.world.target_named(alloc, job.scope, &name)
@@ -59,7 +59,7 @@ fn eval_inner_target<S: Space>(
     job: Task<'_>,
 ) -> Result<StoreTarget, Refusal>
     ensures spent { run.new.1 ≤ run.old.1 }
-    ensures means { Does result run.new (target_of (meaning S.accesses) job.entry.scope.now job.entry.depth (part_tree job.entry.term)) run.old }
+    ensures means { Does result run.new (target_of (meaning S.accesses) job.entry.scope.path.now job.entry.depth (part_tree job.entry.term)) run.old }
 {
     eval_target_by_kind(alloc, run, job, target_kind(job.term.code()))
 }
@@ -73,7 +73,7 @@ fn eval_target_by_kind<S: Space>(
     kind: TargetKind,
 ) -> Result<StoreTarget, Refusal>
     ensures spent { run.new.1 ≤ run.old.1 }
-    ensures means { Does result run.new (target_by_kind (meaning S.accesses) job.entry.scope.now job.entry.depth (part_tree job.entry.term) (target_at (meaning S.accesses) job.entry.scope.now job.entry.depth (part_tree job.entry.term) 0) kind) run.old }
+    ensures means { Does result run.new (target_by_kind (meaning S.accesses) job.entry.scope.path.now job.entry.depth (part_tree job.entry.term) (target_at (meaning S.accesses) job.entry.scope.path.now job.entry.depth (part_tree job.entry.term) 0) kind) run.old }
 {
     match kind {
         TargetKind::Nowhere => Ok(StoreTarget::Nowhere),
@@ -94,7 +94,7 @@ fn eval_operand_target<S: Space>(
     job: Task<'_>,
 ) -> Result<StoreTarget, Refusal>
     ensures spent { run.new.1 ≤ run.old.1 }
-    ensures means { Does result run.new (operand_target (meaning S.accesses) job.entry.scope.now job.entry.depth (part_tree job.entry.term)) run.old }
+    ensures means { Does result run.new (operand_target (meaning S.accesses) job.entry.scope.path.now job.entry.depth (part_tree job.entry.term)) run.old }
 {
     run.charge()?;
     eval_target(alloc, run, job, 0)
@@ -109,7 +109,7 @@ fn eval_dereferenced_target<S: Space>(
     job: Task<'_>,
 ) -> Result<StoreTarget, Refusal>
     ensures spent { run.new.1 ≤ run.old.1 }
-    ensures means { Does result run.new (dereferenced_target (meaning S.accesses) job.entry.scope.now job.entry.depth (part_tree job.entry.term)) run.old }
+    ensures means { Does result run.new (dereferenced_target (meaning S.accesses) job.entry.scope.path.now job.entry.depth (part_tree job.entry.term)) run.old }
 {
     run.charge()?;
     let value = eval_value_at(alloc, run, job, 0)?;
@@ -127,7 +127,7 @@ fn eval_indexed_target<S: Space>(
     job: Task<'_>,
 ) -> Result<StoreTarget, Refusal>
     ensures spent { run.new.1 ≤ run.old.1 }
-    ensures means { Does result run.new (indexed_target (meaning S.accesses) job.entry.scope.now job.entry.depth (part_tree job.entry.term)) run.old }
+    ensures means { Does result run.new (indexed_target (meaning S.accesses) job.entry.scope.path.now job.entry.depth (part_tree job.entry.term)) run.old }
 {
     let value = eval_value(alloc, run, job)?;
     let reference = reference_in(value)?;
@@ -145,7 +145,7 @@ pub(crate) fn eval_targeted<S: Space>(
     value: Value,
 ) -> Result<Flow, Refusal>
     ensures spent { run.new.1 ≤ run.old.1 }
-    ensures means { Does result run.new (targeted S.accesses (meaning S.accesses) job.entry.scope.now job.entry.depth (part_tree job.entry.term) index value) run.old }
+    ensures means { Does result run.new (targeted S.accesses (meaning S.accesses) job.entry.scope.path.now job.entry.depth (part_tree job.entry.term) index value) run.old }
 {
     let target = eval_target(alloc, run, job, index)?;
     eval_stored_to(alloc, run, job.depth, &target, value)?;

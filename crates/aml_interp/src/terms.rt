@@ -35,7 +35,7 @@ pub(crate) fn eval_term<S: Space>(
 ) -> Result<Flow, Refusal>
     ensures spent { run.new.1 ≤ run.old.1 }
     ensures paid { OnOk result (run.new.1 < run.old.1) }
-    ensures means { Does result run.new (meaning S.accesses (task job.entry.scope.now job.entry.depth (part_tree job.entry.term))) run.old }
+    ensures means { Does result run.new (meaning S.accesses (task job.entry.scope.path.now job.entry.depth (part_tree job.entry.term))) run.old }
 {
     run.charge()?;
     eval_code(alloc, run, job)
@@ -45,7 +45,7 @@ pub(crate) fn eval_term<S: Space>(
 #[tactic(auto, using(crate::proofs::Steps::evaluating))]
 fn eval_code<S: Space>(alloc: Global, run: &mut Running<S>, job: Task<'_>) -> Result<Flow, Refusal>
     ensures spent { run.new.1 ≤ run.old.1 }
-    ensures means { Does result run.new (code_rule S.accesses (meaning S.accesses) (code_of (part_tree job.entry.term)) job.entry.scope.now job.entry.depth (part_tree job.entry.term)) run.old }
+    ensures means { Does result run.new (code_rule S.accesses (meaning S.accesses) (code_of (part_tree job.entry.term)) job.entry.scope.path.now job.entry.depth (part_tree job.entry.term)) run.old }
 {
     match job.term.code() {
         TermCode::Opcode(opcode) => eval_kind(alloc, run, job, opcode, kind_of(opcode)),
@@ -69,7 +69,7 @@ fn eval_kind<S: Space>(
     kind: TermKind,
 ) -> Result<Flow, Refusal>
     ensures spent { run.new.1 ≤ run.old.1 }
-    ensures means { Does result run.new (kind_rule S.accesses (meaning S.accesses) kind opcode job.entry.scope.now job.entry.depth (part_tree job.entry.term)) run.old }
+    ensures means { Does result run.new (kind_rule S.accesses (meaning S.accesses) kind opcode job.entry.scope.path.now job.entry.depth (part_tree job.entry.term)) run.old }
 {
     match kind {
         TermKind::Data(kind) => eval_data(alloc, run, job, kind),
@@ -97,7 +97,7 @@ pub(crate) fn eval_value<S: Space>(
 ) -> Result<Value, Refusal>
     ensures spent { run.new.1 ≤ run.old.1 }
     ensures paid { OnOk result (run.new.1 < run.old.1) }
-    ensures means { Does result run.new (operand_value (meaning S.accesses) job.entry.scope.now job.entry.depth (part_tree job.entry.term)) run.old }
+    ensures means { Does result run.new (operand_value (meaning S.accesses) job.entry.scope.path.now job.entry.depth (part_tree job.entry.term)) run.old }
 {
     let flow = eval_term(alloc, run, job)?;
     flow.value()
@@ -113,7 +113,7 @@ pub(crate) fn eval_value_at<S: Space>(
     index: usize,
 ) -> Result<Value, Refusal>
     ensures spent { run.new.1 ≤ run.old.1 }
-    ensures means { Does result run.new (value_at (meaning S.accesses) job.entry.scope.now job.entry.depth (part_tree job.entry.term) index) run.old }
+    ensures means { Does result run.new (value_at (meaning S.accesses) job.entry.scope.path.now job.entry.depth (part_tree job.entry.term) index) run.old }
 {
     let operand = inner(job.term, index)?;
     eval_value(
@@ -135,7 +135,7 @@ pub(crate) fn eval_two_values<S: Space>(
     job: Task<'_>,
 ) -> Result<(Value, Value), Refusal>
     ensures spent { run.new.1 ≤ run.old.1 }
-    ensures means { Does result run.new (two_values (meaning S.accesses) job.entry.scope.now job.entry.depth (part_tree job.entry.term)) run.old }
+    ensures means { Does result run.new (two_values (meaning S.accesses) job.entry.scope.path.now job.entry.depth (part_tree job.entry.term)) run.old }
 {
     let first = eval_value_at(alloc, run, job, 0)?;
     let second = eval_value_at(alloc, run, job, 1)?;
@@ -152,7 +152,7 @@ pub(crate) fn eval_operand_integer<S: Space>(
 ) -> Result<u64, Refusal>
     ensures spent { run.new.1 ≤ run.old.1 }
     ensures paid { OnOk result (run.new.1 < run.old.1) }
-    ensures means { Does result run.new (operand_integer (meaning S.accesses) job.entry.scope.now job.entry.depth (part_tree job.entry.term)) run.old }
+    ensures means { Does result run.new (operand_integer (meaning S.accesses) job.entry.scope.path.now job.entry.depth (part_tree job.entry.term)) run.old }
 {
     let value = eval_value(alloc, run, job)?;
     run.world.integer_in(value)
@@ -167,7 +167,7 @@ pub(crate) fn eval_list<S: Space>(
     job: Task<'_>,
 ) -> Result<Flow, Refusal>
     ensures spent { run.new.1 ≤ run.old.1 }
-    ensures means { Does result run.new (in_turn (meaning S.accesses) job.entry.scope.now job.entry.depth (part_list job.entry.term)) run.old }
+    ensures means { Does result run.new (in_turn (meaning S.accesses) job.entry.scope.path.now job.entry.depth (part_list job.entry.term)) run.old }
 {
     let mut rest = job.term;
     'items: loop {

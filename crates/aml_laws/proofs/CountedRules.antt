@@ -35,7 +35,7 @@ use Rattle.aml_objects.specs.declared.value.Reference.{Reference}
 use Rattle.aml_meaning.specs.declared.term_kind.RegionKind.{RegionKind}
 use Rattle.aml_meaning.specs.declared.term_kind.RegionKind.TheVariants as regions
 use Rattle.aml_meaning.specs.Run.{Run}
-use Rattle.aml_meaning.specs.Terms.{kind_of, target_kind}
+use Rattle.aml_meaning.specs.Terms.{kind_of, target_kind, count_of}
 use Rattle.aml_meaning.specs.Tasks.{Task}
 use Rattle.aml_meaning.specs.DataTerms.{constant_rule, integer_rule, string_rule, buffer_rule, named_element, valued_element, element_by, elements_in_turn, package_of, package_rule, var_package_rule, data_rule}
 use Rattle.aml_meaning.specs.DeclarationTerms.{declaring, name_rule, alias_rule, method_rule, scope_rule, new_scope, declaration_rule}
@@ -47,7 +47,7 @@ use Rattle.aml_meaning.specs.FieldTerms.{fields_laid, region_rule, field_list_ru
 use Rattle.aml_meaning.specs.Evaluation.{kind_rule, code_rule, rule}
 use Rattle.aml_laws.specs.Counted.{beside_counter}
 use Rattle.aml_laws.proofs.CountedChanges.{RunCounts, give_counts, stop_counts, settle_counts, then_counts, on_objects_counts, lift_counts, charge_counts}
-use Rattle.aml_laws.proofs.CountedOperations.{integer_kept_counts, integer_in_counts, path_found_counts, scope_found_counts, arguments_found_counts, target_named_counts, within_counts, new_buffer_counts, new_package_counts, new_name_counts, new_method_counts, divided_in_counts, turned_counts, size_in_counts, result_of_two_counts, result_of_one_counts, result_of_test_counts, counted_by_counts, osi_answered_counts, named_use_counts}
+use Rattle.aml_laws.proofs.CountedOperations.{integer_kept_counts, integer_in_counts, path_found_counts, scope_found_counts, arguments_found_counts, target_named_counts, within_counts, new_buffer_counts, new_package_counts, new_name_counts, new_method_counts, divided_in_counts, turned_counts, size_in_counts, result_of_two_counts, result_of_one_counts, result_of_test_counts, counted_by_counts, osi_answered_counts, invocation_found_counts}
 use Rattle.aml_laws.proofs.CountedStoreTargets.{slot_read_counts, tested_counts, dereferenced_counts, target_read_counts, reference_of_counts, if_initialized_counts, reference_if_found_counts, target_referent_counts, value_referent_counts, copied_to_counts, acquired_at_counts, given_back_at_counts}
 use Rattle.aml_laws.proofs.CountedFields.{elements_laid_counts, region_found_counts, field_found_counts}
 use Rattle.aml_laws.proofs.CountedCalls.{operand_value_counts, operand_integer_counts, value_at_counts, two_values_counts, in_turn_counts, invoked_counts, field_read_counts, held_integer_counts, referent_read_counts, completed_counts, stored_to_counts, held_value_counts, stored_back_counts}
@@ -427,7 +427,7 @@ module _ {S : Type 0} (accesses : Accesses S) (ev : Task → Run (S × ℕ) Flow
 
   name_value_counts : (scope : List Seg) (depth : ℕ) (t : Tree) → RunCounts {S = S} (name_value (beside_counter accesses) ev scope depth t) (name_value accesses uncounted scope depth t)
   unfolding name_value
-  name_value_counts scope depth t = then_counts _ _ _ _ (settle_counts _) (λ x. then_counts _ _ _ _ (settle_counts _) (λ ts. then_counts _ _ _ _ (lift_counts _ _ (arguments_found_counts scope x)) (λ wanted. then_counts _ _ _ _ (settle_counts _) (λ many. then_counts _ _ _ _ (lift_counts _ _ (named_use_counts scope x)) (invocation_rule_counts scope depth ts)))))
+  name_value_counts scope depth t = then_counts _ _ _ _ (settle_counts _) (λ x. then_counts _ _ _ _ (settle_counts _) (λ ts. then_counts _ _ _ _ (lift_counts _ _ (invocation_found_counts scope x (count_of ts))) (invocation_rule_counts scope depth ts)))
 
   -- ---- operation regions and fields
 

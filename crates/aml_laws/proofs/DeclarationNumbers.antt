@@ -15,9 +15,9 @@ use Rattle.aml_path.specs.Paths.{path_cmp, is_below}
 use Rattle.aml_objects.specs.declared.entry.Entry.{Entry}
 use Rattle.aml_namespace.specs.Namespace.{Map, Namespace, numbered, with_number, without_below, entry_released, mutexes_released}
 use Rattle.aml_namespace.specs.Numbering.{Numbered}
-use Rattle.aml_namespace.proofs.Kept.{path_total, only_equal}
+use Rattle.aml_namespace.proofs.Paths.{path_total, only_equal}
 use Rattle.aml_namespace.proofs.Changes.{released_at}
-use Rattle.aml_namespace.proofs.Numbering.{numbered_declared, numbered_replaced, numbered_without, numbered_released, numbered_root}
+use Rattle.aml_laws.proofs.NumbersKept.{numbered_declared, numbered_replaced, numbered_without, numbered_released, numbered_root}
 use Rattle.ar_space.specs.declared.integer_width.IntegerWidth.{IntegerWidth}
 use Rattle.aml_meaning.specs.State.{State}
 use Rattle.aml_meaning.specs.Predefined.{fresh, predefined}

@@ -20,7 +20,7 @@ use Rattle.aml_grammar.specs.Apart.{code_of, operand_of, name_of}
 use Rattle.aml_objects.specs.declared.entry.MethodFlags.{MethodFlags}
 use Rattle.aml_objects.specs.declared.entry.NamedObject.{NamedObject}
 use Rattle.aml_objects.specs.declared.entry.Entry.{Entry}
-use Rattle.aml_namespace.proofs.Kept.{path_total}
+use Rattle.aml_namespace.proofs.Paths.{path_total}
 use Rattle.aml_namespace.specs.Namespace.{Map, Namespace, declared, above}
 use Rattle.aml_meaning.specs.declared.flow.Flow.{Flow}
 use Rattle.aml_meaning.specs.declared.flow.Flow.TheVariants as flow

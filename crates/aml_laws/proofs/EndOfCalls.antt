@@ -13,7 +13,7 @@ use Rattle.aml_path.specs.Paths.{path_cmp, is_below}
 use Rattle.aml_grammar.specs.Tree.{Trees}
 use Rattle.aml_objects.specs.declared.value.Value.{Value}
 use Rattle.aml_namespace.specs.Namespace.{without_below}
-use Rattle.aml_namespace.proofs.Kept.{only_equal}
+use Rattle.aml_namespace.proofs.Paths.{only_equal}
 use Rattle.aml_meaning.specs.declared.flow.Flow.{Flow}
 use Rattle.aml_meaning.specs.State.{State}
 use Rattle.aml_meaning.specs.Run.{Run, lift}

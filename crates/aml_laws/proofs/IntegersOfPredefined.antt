@@ -9,7 +9,7 @@ use Rattle.aml_path.specs.Paths.{path_cmp}
 use Rattle.aml_objects.specs.declared.entry.Entry.{Entry}
 use Rattle.aml_objects.specs.declared.entry.NamedObject.{NamedObject}
 use Rattle.aml_objects.specs.declared.entry.NamedObject.TheVariants as object
-use Rattle.aml_namespace.proofs.Kept.{path_total}
+use Rattle.aml_namespace.proofs.Paths.{path_total}
 use Rattle.aml_meaning.specs.Predefined.{fresh, takes, at_root, predefined_scopes, predefined_objects, predefined}
 use Rattle.aml_laws.specs.AllWithin.{NamedFits, AllWithin}
 use Rattle.aml_laws.proofs.ReadingStepsGiveBytes.{Any}

@@ -39,7 +39,7 @@ use Rattle.aml_meaning.specs.declared.term_kind.RegionKind.TheVariants as region
 use Rattle.aml_meaning.specs.declared.term_kind.BufferFieldSize.{BufferFieldSize}
 use Rattle.aml_meaning.specs.declared.term_kind.BufferFieldSize.TheVariants as sizes
 use Rattle.aml_meaning.specs.State.{State}
-use Rattle.aml_meaning.specs.Terms.{kind_of, target_kind}
+use Rattle.aml_meaning.specs.Terms.{kind_of, target_kind, count_of}
 use Rattle.aml_meaning.specs.Tasks.{Task, in_turn}
 use Rattle.aml_meaning.specs.DataTerms.{constant_rule, integer_rule, string_rule, buffer_rule, named_element, valued_element, element_by, elements_in_turn, package_of, package_rule, var_package_rule, data_rule}
 use Rattle.aml_meaning.specs.DeclarationTerms.{declaring, name_rule, alias_rule, method_rule, scope_rule, new_scope, declaration_rule}
@@ -72,7 +72,7 @@ use Rattle.aml_laws.proofs.IntegersOfWorlds.{WorldWithin, on_objects_maintains, 
 use Rattle.aml_laws.proofs.IntegersOfTargets.{ReferentFits, slot_read_maintains, tested_maintains, dereferenced_maintains, target_read_maintains, reference_of_maintains, if_initialized_maintains, reference_if_found_maintains, target_referent_maintains, value_referent_maintains, copied_to_maintains}
 use Rattle.aml_laws.proofs.IntegersOfFields.{RunWithin, lift_maintains, charge_maintains, new_buffer_field_maintains}
 use Rattle.aml_laws.proofs.IntegersOfSizes.{field_has_few_bits, joined_resources_maintains, indexed_maintains, size_in_maintains, acquired_at_maintains, given_back_at_maintains, elements_laid_maintains}
-use Rattle.aml_laws.proofs.IntegersOfOperands.{PlainOperand, operand_of_plain, inner_operand_maintains, list_operand_maintains, bytes_operand_maintains, any_settle_maintains, FlowFits, InvocationFits, named_use_maintains, operand_value_maintains, value_at_maintains, two_values_maintains, operand_integer_maintains, in_turn_maintains, invoked_maintains, field_read_maintains, held_integer_maintains, referent_read_maintains, completed_maintains, stored_to_maintains, stored_back_maintains, held_value_maintains}
+use Rattle.aml_laws.proofs.IntegersOfOperands.{PlainOperand, operand_of_plain, inner_operand_maintains, list_operand_maintains, bytes_operand_maintains, any_settle_maintains, FlowFits, InvocationFits, operand_value_maintains, value_at_maintains, two_values_maintains, operand_integer_maintains, in_turn_maintains, invoked_maintains, field_read_maintains, held_integer_maintains, referent_read_maintains, completed_maintains, stored_to_maintains, stored_back_maintains, held_value_maintains, invocation_found_maintains}
 use Rattle.aml_meaning.specs.FieldTerms.{region_found, field_found}
 use Rattle.aml_meaning.specs.TargetTerms.{target_named}
 use Rattle.aml_meaning.specs.declared.flow.Flow.TheVariants as flow
@@ -373,7 +373,7 @@ module _ (S : Type 0) (width : IntegerWidth) (accesses : Accesses S) (ev : Task 
 
   name_value_maintains : (scope : List Seg) (depth : ℕ) (t : Tree) → PlainTree t → Maintains (RunWithin S width) (FlowFits width) (name_value accesses ev scope depth t)
   unfolding name_value
-  name_value_maintains scope depth t h = then_maintains _ _ (any_settle_maintains _) (λ n u. then_maintains _ _ (list_operand_maintains t 1 h) (λ ts g. then_maintains _ _ (lift_maintains S width _ (arguments_found_maintains S width scope n)) (λ wanted v. then_maintains _ _ (any_settle_maintains _) (λ many x. then_maintains _ _ (lift_maintains S width _ (named_use_maintains S width scope n)) (λ i f. invocation_rule_maintains scope depth ts i g f)))))
+  name_value_maintains scope depth t h = then_maintains _ _ (any_settle_maintains _) (λ n u. then_maintains _ _ (list_operand_maintains t 1 h) (λ ts g. then_maintains _ _ (lift_maintains S width _ (invocation_found_maintains S width scope n (count_of ts))) (λ i f. invocation_rule_maintains scope depth ts i g f)))
 
   -- ---- regions and fields
 

@@ -28,7 +28,7 @@ use Rattle.ar_space.specs.declared.refusal.EvaluationFault.TheVariants.{ObjectLi
 use Rattle.ar_space.specs.declared.refusal.NamespaceFault.TheVariants.{Exists, NotFound}
 use Rattle.aml_namespace.specs.Namespace.{above, Map, Namespace, declared, replaced, replaced_in}
 use Rattle.aml_namespace.specs.Search.{Found, found}
-use Rattle.aml_namespace.proofs.Kept.{path_total, only_equal}
+use Rattle.aml_namespace.proofs.Paths.{path_total, only_equal}
 use Rattle.aml_meaning.specs.State.{State, on_objects, on_names}
 use Rattle.aml_meaning.specs.Readings.{integer_kept, integer_in, read_as, entry_found, path_found, scope_found, arguments_found}
 use Rattle.aml_meaning.specs.NewObjects.{within as at_most, new_buffer, new_package, sized, filled}

@@ -36,6 +36,7 @@ pub mod IntegersOfWorlds
 pub mod Invariants
 pub mod MutexesFree
 pub mod NamesStay
+pub mod NumbersKept
 pub mod NumbersRise
 pub mod ObjectKinds
 pub mod ObjectKindsStay

@@ -14,7 +14,7 @@ use Rattle.aml_path.specs.Paths.{path_cmp, path_eq, is_below}
 use Rattle.aml_objects.specs.declared.entry.Entry.{Entry}
 use Rattle.aml_objects.specs.declared.entry.NamedObject.{NamedObject}
 use Rattle.aml_objects.specs.declared.entry.NamedObject.TheVariants as object
-use Rattle.aml_namespace.proofs.Kept.{path_total, only_equal}
+use Rattle.aml_namespace.proofs.Paths.{path_total, only_equal}
 use Rattle.aml_namespace.proofs.Changes.{released_at}
 use Rattle.aml_namespace.specs.Namespace.{Map, Namespace, released, entry_released, mutexes_released}
 use Rattle.aml_meaning.specs.State.{State}

@@ -524,7 +524,7 @@ module _ {S : Type 0} {n : ℕ} (accesses : Accesses S) (ev ew : Task → Run S 
 
   agree_name_value : (scope : List Seg) (depth : ℕ) (t : Tree) → Agree n (name_value accesses ev scope depth t) (name_value accesses ew scope depth t)
   unfolding name_value
-  agree_name_value scope depth t = agree_bind _ _ _ _ (agree_settle _) (λ x. agree_bind _ _ _ _ (agree_settle _) (λ ts. agree_bind _ _ _ _ (agree_lift _) (λ wanted. agree_bind _ _ _ _ (agree_settle _) (λ many. agree_bind _ _ _ _ (agree_lift _) (λ i. agree_invocation scope depth ts i)))))
+  agree_name_value scope depth t = agree_bind _ _ _ _ (agree_settle _) (λ x. agree_bind _ _ _ _ (agree_settle _) (λ ts. agree_bind _ _ _ _ (agree_lift _) (λ i. agree_invocation scope depth ts i)))
 
   -- ---- operation regions and fields
 

@@ -13,9 +13,8 @@ use Rattle.aml_meaning.specs.declared.invocation.Invocation.{Invocation}
 use Rattle.aml_meaning.specs.declared.invocation.Invocation.TheVariants as invocation
 use Rattle.aml_meaning.specs.Run.{Run, lift}
 use Rattle.aml_meaning.specs.Terms.{list_of, count_of}
-use Rattle.aml_meaning.specs.Readings.{arguments_found, as_many}
 use Rattle.aml_meaning.specs.Tasks.{Task, operand_value}
-use Rattle.aml_meaning.specs.Invocations.{named_use, shallow, invoked}
+use Rattle.aml_meaning.specs.Invocations.{invocation_found, shallow, invoked}
 use Rattle.aml_meaning.specs.Osi.{osi_answered}
 use Rattle.aml_meaning.specs.FieldCalls.{field_read}
 
@@ -56,7 +55,5 @@ module _ {S : Type 0} (accesses : Accesses S) (ev : Task → Run S Flow) where
   name_value scope depth t = do
     n ← settle (name_of (operand_of t 0))
     ts ← settle (list_of (operand_of t 1))
-    wanted ← lift (arguments_found scope n)
-    many ← settle (as_many wanted (count_of ts))
-    i ← lift (named_use scope n)
+    i ← lift (invocation_found scope n (count_of ts))
     invocation_rule scope depth ts i

@@ -10,6 +10,7 @@ use crate::readings::read_as;
 use crate::store_target::{Held, StoreTarget};
 use crate::targets::initialized;
 use crate::world_state::WorldState;
+use aml_namespace::Scope;
 use aml_objects::{Element, Field, NamedObject, Reference, Slot, Value};
 use aml_path::{NameString, Path};
 use ar_space::{EvaluationFault, NamespaceFault, Refusal, ValueFault};
@@ -234,13 +235,13 @@ impl<S> WorldState<S> {
     #[tactic(auto, unfolding(crate::specs::StoreTargets::reference_if_found))]
     pub fn reference_if_found(
         &self,
-        scope: &Path,
+        scope: Scope<'_>,
         name: &NameString,
     ) -> Result<Option<Reference>, Refusal>
-        ensures answer { Does result self.now (reference_if_found scope.now name.now) self.now }
+        ensures answer { Does result self.now (reference_if_found scope.entry.path.now name.now) self.now }
         ensures memory { NotMemory result }
     {
-        match self.names.lookup(scope, name) {
+        match self.names.lookup_in(scope, name) {
             Ok(entry) => Ok(Some(Reference::Name(entry.number))),
             Err(Refusal::Namespace(NamespaceFault::NotFound)) => Ok(None),
             Err(refusal) => Err(refusal),

@@ -5,6 +5,7 @@ ghost use Rattle.ar_space.specs.Outcome.{Answers, NotMemory};
 ghost use Rattle.aml_meaning.specs.FieldTerms.{width_numbered, access_width, rule_numbered, update_rule, sized, further, new_field, region_number, region_found, in_region, field_number, field_found};
 
 use crate::world_state::WorldState;
+use aml_namespace::Scope;
 use aml_objects::{FieldSource, FieldUnit, NamedObject, UpdateRule};
 use aml_path::{NameString, Path};
 use ar_space::{FieldFault, Refusal, ValueFault, Width};
@@ -116,22 +117,22 @@ impl<S> WorldState<S> {
     /// The number of the declaration of the operation region that a name finds; anything else is refused as `WrongType`, and
     /// a name that isn't found as `Names::lookup` refuses it.
     #[tactic(auto, using(ar_space::specs::Change::changing), unfolding(crate::specs::FieldTerms::region_found))]
-    pub fn region_found(&self, scope: &Path, name: &NameString) -> Result<u64, Refusal>
-        ensures answer { Does result self.now (region_found scope.now name.now) self.now }
+    pub fn region_found(&self, scope: Scope<'_>, name: &NameString) -> Result<u64, Refusal>
+        ensures answer { Does result self.now (region_found scope.entry.path.now name.now) self.now }
         ensures memory { NotMemory result }
     {
-        let entry = self.entry(scope, name)?;
+        let entry = self.entry_in(scope, name)?;
         region_number(entry.number, &entry.object)
     }
 
     /// The number of the declaration of the field that a name finds, which lies in an operation region; anything else is
     /// refused as `WrongType`, and a name that isn't found as `Names::lookup` refuses it.
     #[tactic(auto, using(ar_space::specs::Change::changing), unfolding(crate::specs::FieldTerms::field_found))]
-    pub fn field_found(&self, scope: &Path, name: &NameString) -> Result<u64, Refusal>
-        ensures answer { Does result self.now (field_found scope.now name.now) self.now }
+    pub fn field_found(&self, scope: Scope<'_>, name: &NameString) -> Result<u64, Refusal>
+        ensures answer { Does result self.now (field_found scope.entry.path.now name.now) self.now }
         ensures memory { NotMemory result }
     {
-        let entry = self.entry(scope, name)?;
+        let entry = self.entry_in(scope, name)?;
         field_number(entry.number, &entry.object)
     }
 }

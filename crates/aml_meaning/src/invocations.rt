@@ -8,13 +8,14 @@ ghost use Rattle.aml_path.specs.declared.segment.Seg.{Seg};
 ghost use Rattle.aml_objects.specs.declared.entry.Entry.{Entry};
 ghost use Rattle.aml_namespace.specs.Namespace.{numbered};
 ghost use Rattle.aml_namespace.specs.Search.{found};
+ghost use Rattle.aml_meaning.specs.Readings.{arguments_of};
 ghost use Rattle.aml_meaning.specs.Invocations.{invocation_of_body, invocation_of_object, invocation_of, named_use, invocation_found, use_found, count_of_entry, count_through, body_arities, left};
 
 use crate::invocation::Invocation;
 use crate::readings::{arguments_of, as_many, read_as};
 use crate::world_state::WorldState;
 use aml_grammar::ArgumentCounts;
-use aml_namespace::Names;
+use aml_namespace::{Names, Scope};
 use aml_objects::{Entry, Field, MethodBody, NamedObject, NodeId, Reference, Value};
 use aml_path::{NameString, Path};
 use ar_space::{NamespaceFault, Refusal};
@@ -29,11 +30,11 @@ impl<S> WorldState<S> {
     pub fn invocation(
         &self,
         alloc: Global,
-        scope: &Path,
+        scope: Scope<'_>,
         name: &NameString,
         count: usize,
     ) -> Result<Invocation, Refusal>
-        ensures { Does result self.now (invocation_found scope.now name.now count) self.now }
+        ensures { Does result self.now (invocation_found scope.entry.path.now name.now count) self.now }
     {
         match self.search(scope, name) {
             Ok(id) => self.use_with(alloc, id, count),
@@ -42,11 +43,21 @@ impl<S> WorldState<S> {
     }
 
     /// The node that a name finds from a scope.
-    fn search(&self, scope: &Path, name: &NameString) -> Result<NodeId, Refusal>
-        ensures answer { seen (λ id. numbered id.number self.now.names.map) result ≡ seen Some (found self.now.names.map scope.now name.now) }
+    pub fn search(&self, scope: Scope<'_>, name: &NameString) -> Result<NodeId, Refusal>
+        ensures answer { seen (λ id. numbered id.number self.now.names.map) result ≡ seen Some (found self.now.names.map scope.entry.path.now name.now) }
         ensures memory { NotMemory result }
     {
-        self.names.search_at(scope, name)
+        self.names.search_in(scope, name)
+    }
+
+    /// How many arguments it takes to evaluate the node with an id: those of a control method, none of anything else.
+    pub fn arguments_at(&self, id: NodeId) -> u8
+        ensures { (f : List Seg × Entry) → numbered id.number self.now.names.map ≡ Some f → result ≡ arguments_of f.1.object }
+    {
+        match self.names.node(id) {
+            None => 0,
+            Some(entry) => arguments_of(&entry.object),
+        }
     }
 
     /// What the node is that a name finds, where a value stands with so many arguments.
@@ -54,10 +65,7 @@ impl<S> WorldState<S> {
     fn use_with(&self, alloc: Global, id: NodeId, count: usize) -> Result<Invocation, Refusal>
         ensures { (f : List Seg × Entry) → numbered id.number self.now.names.map ≡ Some f → Does result self.now (use_found f count) self.now }
     {
-        let Some(entry) = self.names.node(id) else {
-            return Err(Refusal::Namespace(NamespaceFault::NotFound));
-        };
-        as_many(arguments_of(&entry.object), count)?;
+        as_many(self.arguments_at(id), count)?;
         self.use_of(alloc, id)
     }
 
@@ -66,19 +74,19 @@ impl<S> WorldState<S> {
     pub fn named_use(
         &self,
         alloc: Global,
-        scope: &Path,
+        scope: Scope<'_>,
         name: &NameString,
     ) -> Result<Invocation, Refusal>
-        ensures { Does result self.now (named_use scope.now name.now) self.now }
+        ensures { Does result self.now (named_use scope.entry.path.now name.now) self.now }
     {
-        match self.names.search_at(scope, name) {
+        match self.names.search_in(scope, name) {
             Ok(id) => self.use_of(alloc, id),
             Err(refusal) => Err(refusal),
         }
     }
 
     /// What the node is that a name finds, where a value stands.
-    fn use_of(&self, alloc: Global, id: NodeId) -> Result<Invocation, Refusal>
+    pub fn use_of(&self, alloc: Global, id: NodeId) -> Result<Invocation, Refusal>
         ensures { (f : List Seg × Entry) → numbered id.number self.now.names.map ≡ Some f → Answers result (invocation_of_object f.0 f.1.number f.1.object) }
     {
         let Some(entry) = self.names.node(id) else {

@@ -6,6 +6,7 @@ ghost use Rattle.aml_meaning.specs.Readings.{integer_kept, integer_in, entry_fou
 
 use crate::world_state::WorldState;
 use aml_convert::{to_integer, truncate_integer};
+use aml_namespace::Scope;
 use aml_objects::{Entry, NamedObject, Reference, Value};
 use aml_path::{NameString, Path};
 use ar_space::{EvaluationFault, Refusal, ValueFault};
@@ -39,12 +40,33 @@ impl<S> WorldState<S> {
         self.names.lookup(scope, name)
     }
 
+    /// The same from a scope.
+    #[tactic(auto, unfolding(crate::specs::Readings::entry_found))]
+    pub(crate) fn entry_in(&self, scope: Scope<'_>, name: &NameString) -> Result<&Entry, Refusal>
+        ensures answer { Does (seen (λ e. e.now) result) self.now (entry_found scope.entry.path.now name.now) self.now }
+        ensures memory { NotMemory result }
+    {
+        self.names.lookup_in(scope, name)
+    }
+
+    /// The scope at a path, with the node that stands there.
+    pub fn scope<'a>(&self, path: &'a Path) -> Scope<'a>
+        ensures { result.path.now ≡ path.now }
+    {
+        self.names.scope(path)
+    }
+
     /// The path of what a name finds from a scope; refused as `Names::locate` refuses it.
     #[tactic(auto, unfolding(crate::specs::Readings::path_found))]
-    pub fn locate(&self, alloc: Global, scope: &Path, name: &NameString) -> Result<Path, Refusal>
-        ensures { Does result self.now (path_found scope.now name.now) self.now }
+    pub fn locate(
+        &self,
+        alloc: Global,
+        scope: Scope<'_>,
+        name: &NameString,
+    ) -> Result<Path, Refusal>
+        ensures { Does result self.now (path_found scope.entry.path.now name.now) self.now }
     {
-        self.names.locate(alloc, scope, name)
+        self.names.locate_in(alloc, scope, name)
     }
 
     /// The path of the scope that a name finds: a predefined scope, a device, a processor, a power resource or a thermal
@@ -53,12 +75,12 @@ impl<S> WorldState<S> {
     pub fn locate_scope(
         &self,
         alloc: Global,
-        scope: &Path,
+        scope: Scope<'_>,
         name: &NameString,
     ) -> Result<Path, Refusal>
-        ensures { Does result self.now (scope_found scope.now name.now) self.now }
+        ensures { Does result self.now (scope_found scope.entry.path.now name.now) self.now }
     {
-        let entry = self.entry(scope, name)?;
+        let entry = self.entry_in(scope, name)?;
         scope_or_not(&entry.object)?;
         self.locate(alloc, scope, name)
     }
@@ -66,11 +88,11 @@ impl<S> WorldState<S> {
     /// How many arguments it takes to evaluate what a name finds: those of a control method, none of anything else. Refused
     /// as `Names::lookup` refuses it.
     #[tactic(auto, using(ar_space::specs::Change::changing), unfolding(crate::specs::Readings::arguments_found))]
-    pub fn arguments(&self, scope: &Path, name: &NameString) -> Result<u8, Refusal>
-        ensures answer { Does result self.now (arguments_found scope.now name.now) self.now }
+    pub fn arguments(&self, scope: Scope<'_>, name: &NameString) -> Result<u8, Refusal>
+        ensures answer { Does result self.now (arguments_found scope.entry.path.now name.now) self.now }
         ensures memory { NotMemory result }
     {
-        let entry = self.entry(scope, name)?;
+        let entry = self.entry_in(scope, name)?;
         Ok(arguments_of(&entry.object))
     }
 }

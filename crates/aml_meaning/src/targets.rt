@@ -8,6 +8,7 @@ ghost use Rattle.aml_meaning.specs.TargetTerms.{target_named};
 use crate::slots::frame_index;
 use crate::store_target::{Held, Holding, StoreTarget};
 use crate::world_state::WorldState;
+use aml_namespace::Scope;
 use aml_objects::{Entry, Field, NamedObject, NodeId, Slot, Value};
 use aml_path::{NameString, Path};
 use ar_space::{EvaluationFault, NamespaceFault, Refusal, ValueFault};
@@ -19,10 +20,10 @@ impl<S> WorldState<S> {
     pub fn target_named(
         &self,
         alloc: Global,
-        scope: &Path,
+        scope: Scope<'_>,
         name: &NameString,
     ) -> Result<StoreTarget, Refusal>
-        ensures { Does result self.now (target_named scope.now name.now) self.now }
+        ensures { Does result self.now (target_named scope.entry.path.now name.now) self.now }
     {
         let path = self.locate(alloc, scope, name)?;
         Ok(StoreTarget::Name(path))

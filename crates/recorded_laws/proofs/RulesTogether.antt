@@ -35,7 +35,7 @@ use Rattle.aml_objects.specs.declared.value.Reference.{Reference}
 use Rattle.aml_meaning.specs.declared.term_kind.RegionKind.{RegionKind}
 use Rattle.aml_meaning.specs.declared.term_kind.RegionKind.TheVariants as regions
 use Rattle.aml_meaning.specs.Run.{Run}
-use Rattle.aml_meaning.specs.Terms.{kind_of, target_kind}
+use Rattle.aml_meaning.specs.Terms.{kind_of, target_kind, count_of}
 use Rattle.aml_meaning.specs.Tasks.{Task}
 use Rattle.aml_meaning.specs.DataTerms.{constant_rule, integer_rule, string_rule, buffer_rule, named_element, valued_element, element_by, elements_in_turn, package_of, package_rule, var_package_rule, data_rule}
 use Rattle.aml_meaning.specs.DeclarationTerms.{declaring, name_rule, alias_rule, method_rule, scope_rule, new_scope, declaration_rule}
@@ -47,7 +47,7 @@ use Rattle.aml_meaning.specs.FieldTerms.{fields_laid, region_rule, field_list_ru
 use Rattle.aml_meaning.specs.Evaluation.{kind_rule, code_rule, rule}
 use Rattle.recorded_laws.proofs.Together.{SideBySide, Together, give_together, settle_together, stop_together, then_together}
 use Rattle.recorded_laws.proofs.Worlds.{charge_together, lift_together, objects_together, runs}
-use Rattle.recorded_laws.proofs.ChangesTogether.{arguments_found_together, counted_by_together, divided_in_together, integer_in_together, integer_kept_together, named_use_together, new_buffer_together, new_method_together, new_name_together, new_package_together, osi_answered_together, path_found_together, result_of_one_together, result_of_test_together, result_of_two_together, scope_found_together, size_in_together, target_named_together, turned_together, within_together}
+use Rattle.recorded_laws.proofs.ChangesTogether.{arguments_found_together, counted_by_together, divided_in_together, integer_in_together, integer_kept_together, new_buffer_together, new_method_together, new_name_together, new_package_together, osi_answered_together, path_found_together, result_of_one_together, result_of_test_together, result_of_two_together, scope_found_together, size_in_together, target_named_together, turned_together, within_together, invocation_found_together}
 use Rattle.recorded_laws.proofs.StoreTargetsTogether.{acquired_at_together, copied_to_together, dereferenced_together, given_back_at_together, if_initialized_together, reference_if_found_together, reference_of_together, slot_read_together, target_read_together, target_referent_together, tested_together, value_referent_together}
 use Rattle.recorded_laws.proofs.FieldsTogether.{elements_laid_together, field_found_together, region_found_together}
 use Rattle.recorded_laws.proofs.OperandsTogether.{completed_together, field_read_together, held_integer_together, held_value_together, in_turn_together, invoked_together, operand_integer_together, operand_value_together, referent_read_together, stored_back_together, stored_to_together, two_values_together, value_at_together}
@@ -434,7 +434,7 @@ module _ {S T : Type 0} {accesses : Accesses S} {accesses2 : Accesses T} {side :
 
   name_value_together : (scope : List Seg) (depth : ℕ) (t : Tree) → Together side runs (name_value accesses ev scope depth t) (name_value accesses2 ev2 scope depth t)
   unfolding name_value
-  name_value_together scope depth t = then_together (settle_together _) (λ x. then_together (settle_together _) (λ ts. then_together (lift_together (arguments_found_together scope x)) (λ wanted. then_together (settle_together _) (λ many. then_together (lift_together (named_use_together scope x)) (invocation_rule_together scope depth ts)))))
+  name_value_together scope depth t = then_together (settle_together _) (λ x. then_together (settle_together _) (λ ts. then_together (lift_together (invocation_found_together scope x (count_of ts))) (invocation_rule_together scope depth ts)))
 
   -- ---- operation regions and fields
 

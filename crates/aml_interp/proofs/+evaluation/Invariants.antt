@@ -351,25 +351,25 @@ abbrev pub decreases-field_calls::eval_back_to : goal.decreases-field_calls::eva
 decreases-field_calls::eval_back_to g l = 40 * (l.run.now.1 + (32 - l.depth)) + 26
 
 abbrev pub invariant-terms::eval_list-items : goal.invariant-terms::eval_list-items
-invariant-terms::eval_list-items g l = (l.run.1 ≤ l.fn.run.1) × Same (in_turn (meaning g.S.Space.accesses) l.fn.job.scope.now l.fn.job.depth (part_list l.fn.job.term)) l.fn.run (in_turn (meaning g.S.Space.accesses) l.fn.job.scope.now l.fn.job.depth (part_list l.rest)) l.run
+invariant-terms::eval_list-items g l = (l.run.1 ≤ l.fn.run.1) × Same (in_turn (meaning g.S.Space.accesses) l.fn.job.scope.path.now l.fn.job.depth (part_list l.fn.job.term)) l.fn.run (in_turn (meaning g.S.Space.accesses) l.fn.job.scope.path.now l.fn.job.depth (part_list l.rest)) l.run
 
 abbrev pub decreases-terms::eval_list-items : goal.decreases-terms::eval_list-items
 decreases-terms::eval_list-items g l = l.run.1
 
 abbrev pub invariant-data::eval_elements-items : goal.invariant-data::eval_elements-items
-invariant-data::eval_elements-items g l = (l.run.1 ≤ l.fn.run.1) × Same (elements_in_turn (meaning g.S.Space.accesses) l.fn.job.scope.now l.fn.job.depth l.fn.count (part_list l.fn.job.term) []) l.fn.run (elements_in_turn (meaning g.S.Space.accesses) l.fn.job.scope.now l.fn.job.depth l.left (part_list l.rest) l.elements) l.run
+invariant-data::eval_elements-items g l = (l.run.1 ≤ l.fn.run.1) × Same (elements_in_turn (meaning g.S.Space.accesses) l.fn.job.scope.path.now l.fn.job.depth l.fn.count (part_list l.fn.job.term) []) l.fn.run (elements_in_turn (meaning g.S.Space.accesses) l.fn.job.scope.path.now l.fn.job.depth l.left (part_list l.rest) l.elements) l.run
 
 abbrev pub decreases-data::eval_elements-items : goal.decreases-data::eval_elements-items
 decreases-data::eval_elements-items g l = l.left
 
 abbrev pub invariant-invocations::eval_arguments-items : goal.invariant-invocations::eval_arguments-items
-invariant-invocations::eval_arguments-items g l = (l.run.1 ≤ l.fn.run.1) × Same (arguments_in_turn (meaning g.S.Space.accesses) l.fn.job.scope.now l.fn.job.depth (part_list l.fn.job.term) []) l.fn.run (arguments_in_turn (meaning g.S.Space.accesses) l.fn.job.scope.now l.fn.job.depth (part_list l.rest) l.values.items) l.run
+invariant-invocations::eval_arguments-items g l = (l.run.1 ≤ l.fn.run.1) × Same (arguments_in_turn (meaning g.S.Space.accesses) l.fn.job.scope.path.now l.fn.job.depth (part_list l.fn.job.term) []) l.fn.run (arguments_in_turn (meaning g.S.Space.accesses) l.fn.job.scope.path.now l.fn.job.depth (part_list l.rest) l.values.items) l.run
 
 abbrev pub decreases-invocations::eval_arguments-items : goal.decreases-invocations::eval_arguments-items
 decreases-invocations::eval_arguments-items g l = l.run.1
 
 abbrev pub invariant-statements::eval_loop-turns : goal.invariant-statements::eval_loop-turns
-invariant-statements::eval_loop-turns g l = (l.run.1 ≤ l.fn.run.1) × Same (loop (meaning g.S.Space.accesses) l.fn.job.scope.now l.fn.job.depth (part_tree l.fn.job.term) (part_list l.fn.items)) l.fn.run (loop (meaning g.S.Space.accesses) l.fn.job.scope.now l.fn.job.depth (part_tree l.fn.job.term) (part_list l.fn.items)) l.run
+invariant-statements::eval_loop-turns g l = (l.run.1 ≤ l.fn.run.1) × Same (loop (meaning g.S.Space.accesses) l.fn.job.scope.path.now l.fn.job.depth (part_tree l.fn.job.term) (part_list l.fn.items)) l.fn.run (loop (meaning g.S.Space.accesses) l.fn.job.scope.path.now l.fn.job.depth (part_tree l.fn.job.term) (part_list l.fn.items)) l.run
 
 abbrev pub decreases-statements::eval_loop-turns : goal.decreases-statements::eval_loop-turns
 decreases-statements::eval_loop-turns g l = l.run.1
