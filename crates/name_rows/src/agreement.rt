@@ -75,6 +75,22 @@ fn looked_up(names: &Names, scope: &Path, name: &NameString) -> Option<u64> {
     }
 }
 
+/// The number of what a name finds from a scope.
+fn searched_in(names: &Names, scope: Scope<'_>, name: &NameString) -> Option<u64> {
+    match names.lookup_in(scope, name) {
+        Ok(entry) => Some(number_of(entry)),
+        Err(_) => None,
+    }
+}
+
+/// The number of what a name finds from a node.
+fn found_from(names: &Names, scope: NodeId, name: &NameString) -> Option<u64> {
+    match names.search(scope, name) {
+        Ok(id) => Some(id.number),
+        Err(_) => None,
+    }
+}
+
 /// The number of a declaration.
 fn number_of(entry: &Entry) -> u64 {
     entry.number
@@ -110,30 +126,40 @@ impl Pair {
         None
     }
 
-    /// Whether the node that an id is, one that stands or is gone, is the one that the map has for its number.
-    fn know_alike(&mut self, alloc: Global) -> Result<bool, Refusal> {
+    /// One of the ids that were ever given, if any was.
+    fn random_id(&mut self) -> Option<NodeId> {
         let count = self.given.len() as u64;
-        let Some(id) = self.given.get(next(&mut self.state, count) as usize) else {
-            return Ok(true);
-        };
+        let index = next(&mut self.state, count) as usize;
+        self.given.get(index).copied()
+    }
+
+    /// Whether a random node, one that stands or is gone, is the one that the map has for its number.
+    fn know_alike(&mut self, alloc: Global) -> Result<bool, Refusal> {
+        match self.random_id() {
+            Some(id) => self.knows(alloc, id),
+            None => Ok(true),
+        }
+    }
+
+    /// Whether a node has the path that the map has for its number.
+    fn knows(&self, alloc: Global, id: NodeId) -> Result<bool, Refusal> {
         let place = self.place_of(id.number);
-        let path = self.names.path_of(alloc, *id)?;
-        let number = self.names.node(*id).map(number_of);
-        Ok(path.as_ref() == place && number == place.map(|_path: &Path| id.number))
+        if self.names.node(id).is_some() != place.is_some() {
+            return Ok(false);
+        }
+        match (self.names.path_of(alloc, id)?, place) {
+            (Some(path), Some(known)) => Ok(path == *known),
+            (None, None) => Ok(true),
+            _ => Ok(false),
+        }
     }
 
     /// Whether a name finds the same from a path, whatever node is expected there.
     fn hinted_alike(&mut self, path: &Path, name: &NameString) -> bool {
-        let count = self.given.len() as u64;
         let found = looked_up(&self.names, path, name);
-        match self.given.get(next(&mut self.state, count) as usize) {
-            Some(node) => {
-                let scope = Scope { path, node: *node };
-                let hinted = self.names.lookup_in(scope, name).ok().map(number_of);
-                let own = self.names.lookup_in(self.names.scope(path), name);
-                hinted == found && own.ok().map(number_of) == found
-            }
-            None => true,
+        match self.random_id() {
+            Some(node) => found == searched_in(&self.names, Scope { path, node }, name),
+            None => found == searched_in(&self.names, self.names.scope(path), name),
         }
     }
 
