@@ -1,5 +1,5 @@
 -- What closes the functions of evaluation.
-use Rattle.std.specs.Prelude.{◌≡◌, ℕ, zero, suc, ◌+◌, ◌-◌, ◌<◌, ◌||◌, List, [], ◌∷◌, ◌++◌, length, map, Bool, true, false, Option, Some, None, Ok, Err, refl, if◌then◌else◌}
+use Rattle.std.specs.Prelude.{◌≡◌, ℕ, zero, suc, ◌-◌, ◌<◌, ◌||◌, List, [], ◌∷◌, ◌++◌, length, map, Bool, true, false, Option, Some, None, Ok, Err, refl, if◌then◌else◌}
 use Rattle.std.proofs.Common.{arith, ◌∙◌, ap, sub-one}
 use Rattle.std.proofs.lemmas.List.{length-map}
 use Rattle.ar_space.specs.declared.refusal.Refusal.TheVariants as refusal
@@ -17,7 +17,6 @@ use Rattle.aml_meaning.specs.declared.flow.Flow.TheVariants.{Next}
 use Rattle.aml_meaning.specs.State.{State}
 use Rattle.aml_meaning.specs.Run.{Run}
 use Rattle.aml_meaning.proofs.Runs.{running, calling}
-use Rattle.aml_meaning.specs.declared.flow.Flow.TheVariants as flow
 use Rattle.aml_meaning.specs.Tasks.{Task, task, goes_on, in_turn, operand_value}
 use Rattle.aml_meaning.specs.DataTerms.{element_by, elements_in_turn}
 use Rattle.aml_meaning.specs.Invocations.{leaving, left, returned_by}
@@ -28,10 +27,9 @@ use Rattle.aml_meaning.specs.Terms.{count_of}
 use Rattle.aml_meaning.specs.declared.field_layout.FieldLayout.{FieldLayout}
 use Rattle.aml_meaning.specs.declared.field_layout.FieldGroup.{FieldGroup}
 use Rattle.aml_meaning.specs.declared.invocation.Invocation.{Invocation}
-use Rattle.aml_meaning.specs.StatementTerms.{turn, after_turn, loop}
+use Rattle.aml_meaning.specs.StatementTerms.{after_turn, loop}
 use Rattle.aml_meaning.proofs.Loops.{turn_and_loop, loop_is}
 use Rattle.aml_objects.specs.declared.value.Value.{Value}
-use Rattle.aml_meaning.specs.Importing.{all_imported}
 use Rattle.aml_meaning.specs.declared.datum.Datum.{Datum}
 use Rattle.aml_meaning.specs.Given.{Given, given_of}
 use Rattle.aml_meaning.specs.Calling.{ending, with_steps, answer_exported, answered}

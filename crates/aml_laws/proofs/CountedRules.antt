@@ -47,7 +47,7 @@ use Rattle.aml_meaning.specs.FieldTerms.{fields_laid, region_rule, field_list_ru
 use Rattle.aml_meaning.specs.Evaluation.{kind_rule, code_rule, rule}
 use Rattle.aml_laws.specs.Counted.{beside_counter}
 use Rattle.aml_laws.proofs.CountedChanges.{RunCounts, give_counts, stop_counts, settle_counts, then_counts, on_objects_counts, lift_counts, charge_counts}
-use Rattle.aml_laws.proofs.CountedOperations.{integer_kept_counts, integer_in_counts, path_found_counts, scope_found_counts, arguments_found_counts, target_named_counts, within_counts, new_buffer_counts, new_package_counts, new_name_counts, new_method_counts, divided_in_counts, turned_counts, size_in_counts, result_of_two_counts, result_of_one_counts, result_of_test_counts, counted_by_counts, osi_answered_counts, invocation_found_counts}
+use Rattle.aml_laws.proofs.CountedOperations.{integer_kept_counts, integer_in_counts, path_found_counts, scope_found_counts, target_named_counts, within_counts, new_buffer_counts, new_package_counts, new_name_counts, new_method_counts, divided_in_counts, turned_counts, size_in_counts, result_of_two_counts, result_of_one_counts, result_of_test_counts, counted_by_counts, osi_answered_counts, invocation_found_counts}
 use Rattle.aml_laws.proofs.CountedStoreTargets.{slot_read_counts, tested_counts, dereferenced_counts, target_read_counts, reference_of_counts, if_initialized_counts, reference_if_found_counts, target_referent_counts, value_referent_counts, copied_to_counts, acquired_at_counts, given_back_at_counts}
 use Rattle.aml_laws.proofs.CountedFields.{elements_laid_counts, region_found_counts, field_found_counts}
 use Rattle.aml_laws.proofs.CountedCalls.{operand_value_counts, operand_integer_counts, value_at_counts, two_values_counts, in_turn_counts, invoked_counts, field_read_counts, held_integer_counts, referent_read_counts, completed_counts, stored_to_counts, held_value_counts, stored_back_counts}

@@ -68,7 +68,7 @@ use Rattle.aml_laws.proofs.ReadingStepsGiveBytes.{Any}
 use Rattle.aml_laws.proofs.Invariants.{Maintained, Maintains, err_maintained, give_maintains, stop_maintains, settle_maintains, then_maintains, each_push}
 use Rattle.aml_laws.proofs.IntegersOfObjects.{make_string_maintains}
 use Rattle.aml_laws.proofs.IntegersOfOperators.{small_number_fits}
-use Rattle.aml_laws.proofs.IntegersOfWorlds.{WorldWithin, on_objects_maintains, integer_kept_maintains, integer_in_maintains, entry_found_maintains, path_found_maintains, scope_found_maintains, arguments_found_maintains, at_most_maintains, new_buffer_maintains, new_package_maintains, new_name_maintains, new_method_maintains, operated_maintains, divided_in_maintains, operated_on_one_maintains, operated_logically_maintains, turned_maintains, next_integer_maintains, integer_before_maintains, compared_in_maintains, joined_maintains, to_buffer_in_maintains, to_integer_in_maintains, osi_answered_maintains}
+use Rattle.aml_laws.proofs.IntegersOfWorlds.{WorldWithin, on_objects_maintains, integer_kept_maintains, integer_in_maintains, entry_found_maintains, path_found_maintains, scope_found_maintains, at_most_maintains, new_buffer_maintains, new_package_maintains, new_name_maintains, new_method_maintains, operated_maintains, divided_in_maintains, operated_on_one_maintains, operated_logically_maintains, turned_maintains, next_integer_maintains, integer_before_maintains, compared_in_maintains, joined_maintains, to_buffer_in_maintains, to_integer_in_maintains, osi_answered_maintains}
 use Rattle.aml_laws.proofs.IntegersOfTargets.{ReferentFits, slot_read_maintains, tested_maintains, dereferenced_maintains, target_read_maintains, reference_of_maintains, if_initialized_maintains, reference_if_found_maintains, target_referent_maintains, value_referent_maintains, copied_to_maintains}
 use Rattle.aml_laws.proofs.IntegersOfFields.{RunWithin, lift_maintains, charge_maintains, new_buffer_field_maintains}
 use Rattle.aml_laws.proofs.IntegersOfSizes.{field_has_few_bits, joined_resources_maintains, indexed_maintains, size_in_maintains, acquired_at_maintains, given_back_at_maintains, elements_laid_maintains}

@@ -1,11 +1,11 @@
 -- Every change of a namespace keeps its numbers below the next one, and apart.
-use Rattle.std.specs.Prelude.{◌≡◌, ℕ, ◌+◌, ◌<◌, ◌≤◌, List, [], ◌∷◌, Bool, true, false, not, Option, Some, None, T, refl, cond, set, get_or}
+use Rattle.std.specs.Prelude.{◌≡◌, ℕ, ◌+◌, ◌<◌, ◌≤◌, List, [], Bool, true, false, not, Option, Some, None, refl, cond}
 use Rattle.std.specs.Option.{option_map}
 use Rattle.std.proofs.Common.{ap, sym, ◌∙◌, subst, arith}
 use Rattle.std.specs.Ordering.{is_eq, eq_by_cmp}
 use Rattle.std.specs.declared.cmp.Ordering.{Ordering}
 use Rattle.std.specs.declared.cmp.Ordering.TheVariants.{Less, Equal, Greater}
-use Rattle.std.specs.FinMap.{get, insert, get-insert, retain_keys, get-retain_keys, empty, get-empty, from_sorted, is_sorted}
+use Rattle.std.specs.FinMap.{get, insert, get-insert, retain_keys, get-retain_keys, empty, get-empty}
 use Rattle.aml_path.specs.declared.segment.Seg.{Seg}
 use Rattle.aml_path.specs.Paths.{path_cmp, is_below}
 use Rattle.aml_objects.specs.declared.entry.Entry.{Entry}

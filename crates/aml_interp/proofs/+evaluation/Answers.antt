@@ -1,19 +1,14 @@
-use Rattle.std.proofs.Common.{◌≡◌, ℕ, ◌≤◌, ◌<◌, List, ◌∷◌, ◌++◌, [], length, drop, replicate, ap, sym, ◌∙◌, arith, rules, refl, subst}
+use Rattle.std.proofs.Common.{◌≡◌, length, drop, replicate, ap, sym, ◌∙◌, arith, rules, subst}
 use Rattle.aml_fields.specs.Bits.{bits_of, bits_from, extended, bytes_within, put}
 use Rattle.aml_fields.proofs.Numbers.{take_whole}
 use Rattle.aml_fields.specs.Units.{units_of}
 use Rattle.aml_fields.proofs.UnitLoops.{Reading, Writing, reading_starts, reading_goes_on, reading_stops, reading_ends, writing_starts, writing_goes_on, writing_stops, writing_ends}
 use Rattle.aml_meaning.specs.Fields.{index_unit, index_unit_written}
 use Rattle.aml_meaning.specs.FieldCalls.{asked, answer_within}
-use Rattle.ar_space.specs.Outcome.{Outcome}
-use Rattle.ar_space.specs.Change.{Does, Same, does_same, does_err, does_seen_err, does_give, same_ok}
-use Rattle.aml_grammar.specs.declared.opcode.TermCode.{TermCode}
-use Rattle.aml_grammar.specs.Apart.{first_of, code_of}
+use Rattle.ar_space.specs.Change.{does_same, does_err, does_seen_err, does_give, same_ok}
+use Rattle.aml_grammar.specs.Apart.{first_of}
 use Rattle.aml_grammar.specs.PartTree.{part_tree, part_list}
-use Rattle.aml_objects.specs.declared.object.Element.{Element}
 use Rattle.aml_meaning.specs.Meaning.{meaning}
-use Rattle.aml_meaning.specs.DataTerms.{element_by, elements_in_turn}
-use Rattle.aml_meaning.specs.StatementTerms.{after_turn, loop}
 use Rattle.aml_interp.proofs.Steps.{same_argument, arguments_end, same_turn, same_after, same_ended, same_item, items_end, same_element, elements_end, elements_full, coded, same_true, same_false}
 use Rattle.aml_interp.proofs.+evaluation.Goals as goal
 

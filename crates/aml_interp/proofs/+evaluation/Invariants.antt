@@ -1,4 +1,4 @@
-use Rattle.std.proofs.Common.{◌≡◌, ℕ, ◌≤◌, ◌+◌, ◌*◌, ◌-◌, ◌<◌, [], List}
+use Rattle.std.proofs.Common.{◌≤◌, ◌+◌, ◌*◌, ◌-◌, []}
 use Rattle.ar_space.specs.Change.{Same}
 use Rattle.aml_grammar.specs.PartTree.{part_tree, part_list}
 use Rattle.aml_meaning.specs.Meaning.{meaning}

@@ -1,4 +1,4 @@
-use Rattle.std.proofs.Common.{ap, ◌∙◌, arith, map, List}
+use Rattle.std.proofs.Common.{ap, ◌∙◌, arith, map}
 use Rattle.std.proofs.lemmas.List.{map-append}
 use Rattle.ar_space.specs.Change.{does_same, does_seen_err, same_ok}
 use Rattle.aml_meaning.specs.Given.{given_of}

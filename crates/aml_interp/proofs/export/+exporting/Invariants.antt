@@ -1,4 +1,4 @@
-use Rattle.std.proofs.Common.{◌≡◌, ℕ, ◌+◌, ◌*◌, List, [], length, drop, map}
+use Rattle.std.proofs.Common.{◌+◌, ◌*◌, [], drop, map}
 use Rattle.ar_space.specs.Change.{Same}
 use Rattle.aml_meaning.specs.Given.{given_of}
 use Rattle.aml_meaning.specs.Exporting.{each_exported, package_exported}

@@ -1,4 +1,4 @@
-use Rattle.std.proofs.Common.{◌≡◌, ℕ}
+use Rattle.std.proofs.Common.{◌≡◌}
 use Rattle.std.specs.Prelude.{◌==◌}
 use Rattle.aml_grammar.specs.PartTree.{part_list}
 use Rattle.aml_meaning.specs.Terms.{count_of}

@@ -1,4 +1,4 @@
-use Rattle.std.proofs.Common.{◌≡◌, ap, sym, ◌∙◌}
+use Rattle.std.proofs.Common.{ap, sym, ◌∙◌}
 use Rattle.aml_grammar.specs.Apart.{first_of}
 use Rattle.aml_grammar.specs.PartTree.{part_tree, part_list}
 use Rattle.aml_interp.proofs.Steps.{connected, unconnected_end, or_true, or_false}

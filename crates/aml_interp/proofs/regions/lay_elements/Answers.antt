@@ -1,4 +1,4 @@
-use Rattle.std.proofs.Common.{◌≡◌, refl, ap, ◌∙◌}
+use Rattle.std.proofs.Common.{refl, ap, ◌∙◌}
 use Rattle.ar_space.specs.Change.{does_same, does_err, same_ok}
 use Rattle.aml_grammar.specs.Apart.{first_of}
 use Rattle.aml_grammar.specs.PartTree.{part_tree, part_list}

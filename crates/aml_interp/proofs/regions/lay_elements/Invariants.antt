@@ -1,4 +1,3 @@
-use Rattle.std.proofs.Common.{◌≡◌, ℕ}
 use Rattle.ar_space.specs.Change.{Same}
 use Rattle.aml_grammar.specs.PartTree.{part_list}
 use Rattle.aml_meaning.specs.Terms.{count_of}
