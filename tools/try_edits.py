@@ -194,9 +194,19 @@ def unproved(crate, texts, lines):
         at = re.match(r"fn \S+: no proof: expected answers in \./proofs/(\S+)/(\w+)/Answers\.antt", line)
         at = at or re.match(r"(?:\./)?proofs/(\S+)/(\w+)/(?:Answers|Invariants|Proof)\.antt:\d+:\d+: error", line)
         if at and not re.search(r"has no field|is not in scope|has no `|was not admitted", line):
-            files = [f"src/{end}.rt" for end in (at[1], at[1].rpartition("/")[0])]
-            found |= {(file, at[2]) for file in files if os.path.isfile(f"{crate.folder}/{file}")}
+            found |= {(file, at[2]) for file in files_with(crate, texts, at[1], at[2])}
     return found
+
+
+def files_with(crate, texts, path, name):
+    """The file that has a function whose proof lies below a path: its module's, or any other where it is of a type that has functions
+    in several files. Where more than one of those has a function of this name, it is none, which no edit changes."""
+    has = re.compile(rf"(?m)^ *(?:pub(?:\([a-z]+\))? )?(?:const )?fn {name}\b")
+    own = [f"src/{end}.rt" for end in (path, path.rpartition("/")[0])]
+    files = [os.path.relpath(it, crate.folder) for it in files_below(f"{crate.folder}/src")]
+    files = [it for it in files if has.search(texts.get(it) or rtlib.text_of(f"{crate.folder}/{it}") or "")]
+    near = [it for it in files if it in own] or files
+    return near if len(near) == 1 else [None]
 
 
 # ---- trying
