@@ -26,3 +26,5 @@ pub mod Searching
 pub mod Handing
 pub mod Fixing
 pub mod Unnamed
+pub mod Wired
+pub mod Marked
