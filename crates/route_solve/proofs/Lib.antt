@@ -14,7 +14,6 @@ pub mod Bits
 pub mod RowsOf
 pub mod Reaching
 pub mod Counts
-pub mod Moving
 pub mod Names
 pub mod Stuck
 pub mod Truncated

@@ -4,7 +4,7 @@ use Rattle.std.specs.Prelude.{◌⊎◌, Contains}
 use Rattle.std.specs.Int.{bit_at}
 use Rattle.std.proofs.lemmas.Bool.{cases_lt, false≢true}
 use Rattle.std.proofs.lemmas.List.{get_or_past}
-use Rattle.route_model.specs.Placement.{is_reached, Offers}
+use Rattle.route_model.specs.Placement.{is_reached}
 use Rattle.route_model.proofs.Counting.{one_if}
 use Rattle.route_solve.specs.Marks.{has, is_offered_by}
 use Rattle.route_solve.specs.Numbers.{number_at, HasOffered}

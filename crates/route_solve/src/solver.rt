@@ -18,7 +18,6 @@ ghost use Rattle.route_solve.specs.Shown.{Shown};
 
 use crate::answer::Answer;
 use crate::buffers::{all_interrupts, all_places};
-use crate::crowd::mark_set;
 use crate::fill::place_all;
 use crate::first::fix_all;
 use crate::levels::Board;
@@ -118,13 +117,12 @@ fn assign(
     ensures limit { (p : List (Option ℕ)) × IsSpread (offers_of problem.now.links) problem.now.wired board.now.limit result p reached.new }
     ensures small { result ≤ 4352 }
 {
-    let limit = place_all(board, choice, counts, left, ready, ways);
+    let limit = place_all(
+        board, choice, counts, left, ready, ways, reached, queue, from,
+    );
     let within = Board { limit, ..*board };
     fix_all(&within, choice, counts, kept, left, ready, ways);
     write_out(numbers, choice, given);
-    mark_set(
-        board, choice, counts, left, ready, ways, reached, queue, from, limit,
-    );
     limit
 }
 
