@@ -1,10 +1,9 @@
 -- One link more has an interrupt.
-use Rattle.std.proofs.Common.{◌≡◌, ℕ, zero, suc, ◌+◌, ◌<◌, ◌≤◌, List, [], ◌∷◌, length, refl, ap, arith, Option, Some, None, set, replicate, inl, inr}
-use Rattle.std.specs.Prelude.{◌⊎◌, count_by, is_none, is_some, IsSome}
+use Rattle.std.proofs.Common.{◌≡◌, ℕ, ◌+◌, ◌<◌, ◌≤◌, List, [], length, arith, Option, Some, None, set, replicate, inl, inr}
+use Rattle.std.specs.Prelude.{◌⊎◌}
 use Rattle.std.proofs.lemmas.Bool.{cases_lt}
 use Rattle.std.proofs.lemmas.List.{get_or-replicate, length-replicate, get_or_past}
-use Rattle.route_model.specs.Placement.{place_of, Offers, IsPlacement, IsWhole}
-use Rattle.route_model.proofs.Counting.{count_yes, count_cons}
+use Rattle.route_model.specs.Placement.{place_of, Offers, IsPlacement}
 use Rattle.route_solve.specs.Levels.{at, room_at}
 use Rattle.route_solve.proofs.Exchange.{moved_directly}
 use Rattle.route_solve.proofs.Parts.{none_taken}
