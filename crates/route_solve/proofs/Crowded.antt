@@ -1,12 +1,12 @@
 -- A link that can't be placed beside those before it, and what its search reached.
 use Rattle.std.proofs.Common.{◌≡◌, ℕ, zero, suc, ◌+◌, ◌<◌, ◌≤◌, Bool, true, false, List, length, refl, sym, ◌∙◌, ap, subst, arith, Option, Some, None, take, inl, inr}
-use Rattle.std.specs.Prelude.{◌⊎◌, is_some, IsSome}
+use Rattle.std.specs.Prelude.{◌⊎◌, is_some, IsSome, MatchOption}
 use Rattle.std.proofs.lemmas.Bool.{cases_lt, true≢false}
 use Rattle.std.proofs.lemmas.List.{length-take, get_or-take}
-use Rattle.route_model.specs.Placement.{place_of, is_reached, IsPlacement, IsWholeBut, IsStuck}
+use Rattle.route_model.specs.Placement.{place_of, is_reached, Offers, IsPlacement, IsWholeBut, IsStuck}
 use Rattle.route_solve.specs.Certificate.{IsCertificate}
-use Rattle.route_solve.specs.Levels.{at, IsTrail, IsQueue, AreClosed, AreDone}
-use Rattle.route_solve.specs.Paths.{IsMoved}
+use Rattle.route_solve.specs.Levels.{at, IsTrail, IsQueue, IsFound, AreClosed, AreDone}
+use Rattle.route_solve.specs.Ready.{AreReady}
 use Rattle.route_solve.proofs.Parts.{placement_take}
 use Rattle.route_solve.proofs.Stuck.{stuck_at_root, spared_all}
 use Rattle.route_solve.proofs.Truncated.{trail_take, closed_take, done_take}
@@ -27,6 +27,10 @@ module _ (offers : List (List ℕ)) (room : ℕ → ℕ) (p : List (Option ℕ))
       go : (at queue (suc k) < link) ⊎ (link ≤ at queue (suc k)) → at queue (suc k) < link + 1
       go (inl less) = omega arith
       go (inr past) = no_some (place_of p (at queue (suc k))) (unplaced (at queue (suc k)) past) (held (suc k) (omega arith) b)
+
+  pub last_is : (k : ℕ) → k < tail → place_of p (at queue k) ≡ None → at queue k ≡ link
+  last_is zero b e = root
+  last_is (suc k) b e = no_some (place_of p (at queue (suc k))) e (held (suc k) (omega arith) b)
 
   module _ (reached seen : List Bool) (some : 0 < tail) (trail : IsTrail offers p 0 queue from tail) (listed : IsQueue reached queue tail) (closed : AreClosed room p 0 reached seen) (done : AreDone offers seen queue 0 tail) where
     long : link + 1 ≤ length offers
@@ -80,21 +84,22 @@ module _ (offers : List (List ℕ)) (room : ℕ → ℕ) (p : List (Option ℕ))
         beyond k lt true e = let w = listed.listed k e in let f = front w.0 w.1 in let g = w.2 in absurd (omega arith)
         beyond k lt false e = e
 
-  -- the path ends at the link from which it began
-  module _ (pos i : ℕ) (q : List (Option ℕ)) (less : pos < tail) (trail : IsTrail offers p 0 queue from tail) (moved : IsMoved 0 p queue from pos i q) where
-    last_is : (k : ℕ) → k < tail → place_of p (at queue k) ≡ None → at queue k ≡ link
-    last_is zero b e = root
-    last_is (suc k) b e = no_some (place_of p (at queue (suc k))) e (held (suc k) (omega arith) b)
+-- What is reached from a link by levels offers nothing that is ready, where the link doesn't.
+module _ (offers : List (List ℕ)) (room : ℕ → ℕ) (p : List (Option ℕ)) (low : ℕ) (ready : List Bool) (all : AreReady offers room p low ready) (link : ℕ) (none : (i : ℕ) → Offers offers link i → is_reached ready i ≡ false) (queue from : List ℕ) (tail : ℕ) (trail : IsTrail offers p low queue from tail) (rooted : (k : ℕ) → k < tail → place_of p (at queue k) ≡ None → at queue k ≡ link) where
+  unready : (n k i : ℕ) → k < n → k < tail → Offers offers (at queue k) i → is_reached ready i ≡ true → ⊥
+  unready zero k i b within o r = omega arith
+  unready (suc n) k i b within o r = go (unready n) (place_of p (at queue k)) refl
+    where
+      go : ((k i : ℕ) → k < n → k < tail → Offers offers (at queue k) i → is_reached ready i ≡ true → ⊥) → (x : Option ℕ) → place_of p (at queue k) ≡ x → ⊥
+      go before None e = true≢false (sym r ∙ none i (subst (λ l. Offers offers l i) (rooted k within e) o))
+      go before (Some x) e =
+          let f = trail.linked k x within e in
+          before (at from k) x (omega arith) (omega arith) (trail.offered k x within e) (all.held (at queue k) i x (trail.movable k within) o r e)
 
-    pub whole_more : (k : ℕ) → k < link + 1 → IsSome (place_of q k)
-    whole_more k b = go (cases_lt k link)
-      where
-        go : (k < link) ⊎ (link ≤ k) → IsSome (place_of q k)
-        go (inl before) = moved.whole k (whole k before)
-        go (inr past) =
-            let is : link ≡ k = omega arith in
-            let l = last_is moved.last (let w = moved.within in omega arith) moved.before in
-            ap is_some (ap (place_of q) (sym is) ∙ (ap (place_of q) (sym l) ∙ moved.after))
+  pub unfound : (pos i : ℕ) → IsFound offers room p queue tail pos i → i < length ready → ⊥
+  unfound pos i f b = unready (pos + 1) pos i (omega arith) f.within f.offered (all.rooms i b f.free)
 
-    pub unplaced_more : (k : ℕ) → link + 1 ≤ k → place_of q k ≡ None
-    unplaced_more k le = moved.others k (λ j b e. let f = front j (omega arith) in absurd (omega arith)) ∙ unplaced k (omega arith)
+-- what stands where nothing is found
+pub nothing : {A : Type 0} {D : Type 0} (F : A → Type 0) (r : Option A) → MatchOption r D F → ((a : A) → F a → ⊥) → D
+nothing F None d none = d
+nothing F (Some a) f none = absurd (none a f)

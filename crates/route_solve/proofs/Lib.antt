@@ -14,7 +14,6 @@ pub mod Bits
 pub mod RowsOf
 pub mod Reaching
 pub mod Counts
-pub mod Moving
 pub mod Names
 pub mod Stuck
 pub mod Truncated
@@ -26,3 +25,5 @@ pub mod Searching
 pub mod Handing
 pub mod Fixing
 pub mod Unnamed
+pub mod Wired
+pub mod Marked

@@ -87,19 +87,6 @@ module _ (offers : List (List ℕ)) (room : ℕ → ℕ) (p : List (Option ℕ))
       go i o true e = absurd (true≢false (sym (r.held j i n le o e h) ∙ out))
       go i o false e = e
 
-  -- a link that offers nothing that is ready can't be placed beside the others
-  pub unready_stuck : low ≡ 0 → (l : ℕ) → l < length p → place_of p l ≡ None → ((n : ℕ) → Offers offers l n → is_reached ready n ≡ false) → IsStuck offers room p (map (is_shut ready) offers) l
-  unready_stuck start l b none out = record {
-    within_links = b;
-    begins = shut_at ready offers l (let e = placed.same_length in omega arith) ∙ none_shut ready (get_or offers l []) out;
-    unplaced = none;
-    full = λ k n s o. let w = shut_from ready offers k s in unready_full k n o (shut_none ready (get_or offers k []) w.1 n o);
-    holders = λ k j n s o h.
-        let w = shut_from ready offers k s in
-        let f = placed_within p j n h in
-        shut_at ready offers j (let e = placed.same_length in omega arith) ∙ unready_held j n (omega arith) (shut_none ready (get_or offers k []) w.1 n o) h;
-  }
-
   module _ (l : ℕ) (after : low ≡ l + 1) (b : l < length p) (none : place_of p l ≡ None) (n : ℕ) (offered : Offers offers l n) (out : is_reached ready n ≡ false) where
     -- n for link l, and link j without it
     module _ (j : ℕ) (later : l + 1 ≤ j) (held : place_of p j ≡ Some n) where

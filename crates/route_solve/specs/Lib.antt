@@ -11,5 +11,4 @@ pub mod Numbers
 pub mod Rows
 pub mod Levels
 pub mod Ready
-pub mod Paths
 pub mod Named

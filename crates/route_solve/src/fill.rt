@@ -1,10 +1,12 @@
 //! The least limit within which all links can be placed.
 ghost use Rattle.std.specs.Prelude.{◌≡◌, ◌≤◌, ◌<◌, ◌+◌, ◌-◌, ◌⊎◌, ℕ, [], None, length, slice_index_or};
-ghost use Rattle.route_model.specs.Placement.{place_of, Offers, CanPlace, IsPlacement, IsWhole};
+ghost use Rattle.route_model.specs.Placement.{place_of, Offers, IsPlacement, IsWhole};
+ghost use Rattle.route_solve.specs.Certificate.{IsCertificate};
 ghost use Rattle.route_solve.specs.Numbers.{lists_of};
 ghost use Rattle.route_solve.specs.Levels.{at, room_at, IsCounted};
 ghost use Rattle.route_solve.specs.Rows.{AreRows};
 
+use crate::crowd::mark_crowd;
 use crate::levels::Board;
 use crate::moves::place;
 use crate::paths::give;
@@ -23,7 +25,7 @@ fn first_offer(offers: &[Vec<usize>], link: usize) -> usize
 /// Places all links within the least limit, one after the other.
 ///
 /// Where a link can't be placed, the limit is too small: all that it offers is full, so that it has room for its first offer
-/// within a limit of one more.
+/// within a limit of one more. The last such link is where a search finds the links that show why the limit is not less.
 pub(crate) fn place_all(
     board: &Board<'_>,
     choice: &mut [Option<usize>],
@@ -31,12 +33,18 @@ pub(crate) fn place_all(
     left: &mut [u64],
     ready: &mut [bool],
     ways: &mut [Way],
+    reached: &mut [bool],
+    queue: &mut [usize],
+    from: &mut [usize],
 ) -> usize
     requires few { length choice.old ≤ 256 }
     requires choices { length choice.old ≡ length board.now.offers.now }
     requires four { length left.old ≡ 4 }
     requires ready { length ready.old ≡ length counts.old }
     requires ways { length ways.old ≡ length counts.old }
+    requires marks { length reached.old ≡ length choice.old }
+    requires queue { length queue.old ≡ length choice.old }
+    requires from { length from.old ≡ length choice.old }
     requires sources { length board.now.sources.now ≡ length counts.old }
     requires rows { AreRows (lists_of board.now.offers.now) (length counts.old) board.now.rows.now }
     requires below { (l i : ℕ) → Offers (lists_of board.now.offers.now) l i → i < length counts.old }
@@ -51,7 +59,7 @@ pub(crate) fn place_all(
     ensures counted { IsCounted counts.new choice.new }
     ensures above { board.now.limit ≤ result }
     ensures small { result ≤ board.now.limit + length choice.old }
-    ensures least { (result ≡ board.now.limit) ⊎ (CanPlace (lists_of board.now.offers.now) (room_at (result - 1) board.now.sources.now) → ⊥) }
+    ensures shown { (result ≡ board.now.limit) ⊎ ((board.now.limit < result) × IsCertificate (lists_of board.now.offers.now) (room_at (result - 1) board.now.sources.now) reached.new) }
 {
     let mut limit = board.limit;
     for link in 0..choice.len() {
@@ -59,6 +67,7 @@ pub(crate) fn place_all(
         if place(&here, choice, counts, left, ready, ways, link) {
             continue;
         }
+        mark_crowd(&here, choice, counts, ready, reached, queue, from, link);
         limit += 1;
         let i = first_offer(board.offers, link);
         give(choice, counts, link, i);

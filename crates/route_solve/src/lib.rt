@@ -3,10 +3,10 @@
 //!
 //! From the bottom: the offered interrupts by their places in ascending order (`numbers`), a row of bits for each (`rows`),
 //! and how many sources are wired to it (`sources`); a search back from the interrupts that have room (`left`, `ways`,
-//! `search`), moving links along the way that it found (`moves`), the least limit within which all can be placed (`fill`) and
-//! the first of the assignments within it (`first`); a search by levels (`levels`) from a link that can't be placed (`roots`,
-//! `paths`), for the links that show why none is less busy (`crowd`); the set (`set`), memory (`buffers`), and the public calls
-//! (`solver`).
+//! `search`), giving links interrupts and moving them along the way that it found (`paths`, `moves`); a search by levels
+//! (`levels`) from a link that can't be placed (`roots`), for the links that show why a limit is too small (`crowd`); the least
+//! limit within which all can be placed (`fill`) and the first of the assignments within it (`first`); the set (`set`), memory
+//! (`buffers`), and the public calls (`solver`).
 #![tactic(auto)]
 
 mod answer;

@@ -11,7 +11,7 @@ use route_model::Link;
 use std::alloc::{AllocError, Global};
 
 /// Sets a bit of an interrupt's row.
-fn set_bit(words: &mut [u64], i: usize, link: usize)
+pub(crate) fn set_bit(words: &mut [u64], i: usize, link: usize)
     requires within { 4 * i + 4 ≤ length words.old }
     requires link { link < 256 }
     ensures set { bit_of words.new i link ≡ 1 }

@@ -1,5 +1,6 @@
 //! The links and interrupts that show why no assignment is less busy.
-ghost use Rattle.std.specs.Prelude.{◌≡◌, ◌==◌, ◌≤◌, ◌<◌, ◌⊎◌, ℕ, List, [], Option, filter, length, slice_index_or, sum_by};
+ghost use Rattle.std.specs.Prelude.{◌≡◌, ◌==◌, ◌≤◌, ◌<◌, ◌+◌, ◌*◌, ◌⊎◌, ℕ, List, [], Contains, MatchOption, Option, filter, length, slice_index_or, sum_by, true};
+ghost use Rattle.std.specs.Bool.{OnFalse, OnTrue};
 ghost use Rattle.std.specs.List.{range_with_len};
 ghost use Rattle.std.specs.List.Sorted.{IsStrictlyIncreasing};
 ghost use Rattle.route_model.specs.Links.{offers_of};
@@ -8,9 +9,14 @@ ghost use Rattle.route_model.specs.Placement.{is_reached};
 ghost use Rattle.route_solve.specs.Certificate.{IsSpread};
 ghost use Rattle.route_solve.specs.Floor.{IsFloor};
 ghost use Rattle.route_solve.specs.Marks.{is_offered_by, HasAll};
+ghost use Rattle.route_solve.specs.Numbers.{HasOffered};
+ghost use Rattle.route_solve.specs.Rows.{bit_of, HasBit, HasRows};
 ghost use Rattle.route_model.specs.Bound.{IsLowerBound};
 ghost use Rattle.route_solve.specs.Shown.{Shown};
 
+use crate::left::next_left;
+use crate::numbers::place_from;
+use crate::rows::set_bit;
 use crate::sources::wired_sources;
 use route_model::Link;
 
@@ -20,18 +26,68 @@ fn is_marked(marks: &[bool], link: usize) -> bool
     link < marks.len() && marks[link]
 }
 
-/// Whether a marked link offers an interrupt.
-fn is_offered(links: &[Link], marks: &[bool], n: u32) -> bool
-    requires { length marks.now ≡ length links.now }
-    ensures { result ≡ is_offered_by (offers_of links.now) marks.now n }
+/// Puts the marked links into a row of bits.
+fn mark_row(row: &mut [u64], marks: &[bool])
+    requires four { length row.old ≡ 4 }
+    requires few { length marks.now ≤ 256 }
+    ensures all { (l : ℕ) → is_reached marks.now l ≡ true → bit_of row.new 0 l ≡ 1 }
+    ensures only { (l : ℕ) → l < 256 → bit_of row.new 0 l ≡ 1 → is_reached marks.now l ≡ true }
 {
-    for l in 0..links.len() {
-        let offers = links[l].offers();
-        if marks[l] && offers.contains(&n) {
-            return true;
+    row.fill(0);
+    for l in 0..marks.len() {
+        if is_marked(marks, l) {
+            set_bit(row, 0, l);
+        }
+    }
+}
+
+/// Whether a link of a row of bits offers the interrupt at a place.
+fn offers_at(rows: &[u64], row: &[u64], i: usize) -> bool
+    requires four { length row.now ≡ 4 }
+    requires within { 4 * i + 4 ≤ length rows.now }
+    ensures yes { OnTrue result ((l : ℕ) × HasBit row.now l × (bit_of rows.now i l ≡ 1)) }
+    ensures no { OnFalse result ((l : ℕ) → l < 256 → HasBit row.now l → bit_of rows.now i l ≡ 1 → ⊥) }
+{
+    for w in 0..4 {
+        match next_left(row, rows, i, w) {
+            Some(_) => return true,
+            None => {}
         }
     }
     false
+}
+
+/// Whether a marked link offers an interrupt, whose place is known if any link does.
+fn is_offered(
+    links: &[Link],
+    marks: &[bool],
+    numbers: &[u32],
+    rows: &[u64],
+    row: &[u64],
+    n: u32,
+    place: Option<usize>,
+) -> bool
+    requires few { length links.now ≤ 256 }
+    requires offered { HasOffered (offers_of links.now) numbers.now }
+    requires bits { HasRows (offers_of links.now) numbers.now rows.now }
+    requires four { length row.now ≡ 4 }
+    requires all { (l : ℕ) → is_reached marks.now l ≡ true → bit_of row.now 0 l ≡ 1 }
+    requires only { (l : ℕ) → l < 256 → bit_of row.now 0 l ≡ 1 → is_reached marks.now l ≡ true }
+    requires place { MatchOption place (Contains numbers.now n → ⊥) (λ i. (i < length numbers.now) × (slice_index_or numbers.now i 0 ≡ n)) }
+    ensures { result ≡ is_offered_by (offers_of links.now) marks.now n }
+{
+    match place {
+        Some(i) => offers_at(rows, row, i),
+        None => false,
+    }
+}
+
+/// The place after one that was found.
+fn place_after(place: Option<usize>, next: usize) -> usize {
+    match place {
+        Some(i) => i.saturating_add(1),
+        None => next,
+    }
 }
 
 /// Keeps the marked links.
@@ -50,14 +106,30 @@ fn keep_marked(places: &mut Vec<usize>, marks: &[bool])
 }
 
 /// Keeps what the marked links offer.
-fn keep_offered(interrupts: &mut Vec<u32>, links: &[Link], marks: &[bool])
-    requires { length marks.now ≡ length links.now }
+fn keep_offered(
+    interrupts: &mut Vec<u32>,
+    links: &[Link],
+    marks: &[bool],
+    numbers: &[u32],
+    rows: &[u64],
+    row: &mut [u64],
+)
+    requires few { length links.now ≤ 256 }
+    requires marks { length marks.now ≡ length links.now }
+    requires up { IsStrictlyIncreasing numbers.now }
+    requires offered { HasOffered (offers_of links.now) numbers.now }
+    requires bits { HasRows (offers_of links.now) numbers.now rows.now }
+    requires four { length row.old ≡ 4 }
     ensures { interrupts.new.items ≡ filter (is_offered_by (offers_of links.now) marks.now) interrupts.old.items }
 {
+    mark_row(row, marks);
     let mut kept = 0;
+    let mut next = 0;
     for i in 0..interrupts.len() {
         let n = interrupts[i];
-        if is_offered(links, marks, n) {
+        let place = place_from(numbers, next, n);
+        next = place_after(place, next);
+        if is_offered(links, marks, numbers, rows, row, n, place) {
             interrupts[kept] = n;
             kept += 1;
         }
@@ -85,12 +157,20 @@ fn keep_busy(interrupts: &mut Vec<u32>, wired: &[(u32, u32)], count: usize)
 pub(crate) fn show(
     wired: &[(u32, u32)],
     links: &[Link],
+    numbers: &[u32],
+    rows: &[u64],
     stuck: &[bool],
+    row: &mut [u64],
     floor: usize,
     limit: usize,
     places: &mut Vec<usize>,
     interrupts: &mut Vec<u32>,
 )
+    requires few { length links.now ≤ 256 }
+    requires up { IsStrictlyIncreasing numbers.now }
+    requires numbers { HasOffered (offers_of links.now) numbers.now }
+    requires bits { HasRows (offers_of links.now) numbers.now rows.now }
+    requires four { length row.old ≡ 4 }
     requires counts { sum_by (λ w. w.1) wired.now ≤ 4096 }
     requires marks { length stuck.now ≡ length links.now }
     requires offered { (k : ℕ) → k < length links.now → 0 < length (slice_index_or (offers_of links.now) k []) }
@@ -112,6 +192,6 @@ pub(crate) fn show(
         interrupts.truncate(1);
     } else {
         keep_marked(places, stuck);
-        keep_offered(interrupts, links, stuck);
+        keep_offered(interrupts, links, stuck, numbers, rows, row);
     }
 }

@@ -1,5 +1,5 @@
 //! The public calls: memory first, then a search that takes none.
-ghost use Rattle.std.specs.Prelude.{◌≡◌, ◌≤◌, ◌<◌, ◌+◌, ◌⊎◌, ℕ, List, [], IfOk, IsSome, MatchOption, None, Option, Some, true, length, replicate, slice_index_or, sum_by};
+ghost use Rattle.std.specs.Prelude.{◌≡◌, ◌≤◌, ◌<◌, ◌+◌, ◌⊎◌, ℕ, List, [], IfOk, IsSome, MatchOption, None, Option, Some, true, length, map, replicate, slice_index_or, sum_by};
 ghost use Rattle.std.specs.List.{range_with_len};
 ghost use Rattle.std.specs.List.Sorted.{IsStrictlyIncreasing};
 ghost use Rattle.route_model.specs.Links.{offers_of};
@@ -18,7 +18,6 @@ ghost use Rattle.route_solve.specs.Shown.{Shown};
 
 use crate::answer::Answer;
 use crate::buffers::{all_interrupts, all_places};
-use crate::crowd::mark_set;
 use crate::fill::place_all;
 use crate::first::fix_all;
 use crate::levels::Board;
@@ -26,20 +25,21 @@ use crate::numbers::{all_offered, all_places_offered, place_among};
 use crate::problem::Problem;
 use crate::rows::{all_rows, row_at};
 use crate::set::show;
-use crate::sources::{all_sources, wired_sources};
+use crate::sources::all_sources;
 use crate::ways::{NO_WAY, Way};
 use std::alloc::{AllocError, Global};
 
 /// The greatest number of sources that are wired to one interrupt.
 fn greatest_wired(wired: &[(u32, u32)]) -> usize
-    requires { sum_by (λ w. w.1) wired.now ≤ 4096 }
+    requires counts { sum_by (λ w. w.1) wired.now ≤ 4096 }
+    requires up { IsStrictlyIncreasing (map (λ w. w.0) wired.now) }
     ensures above { (i : ℕ) → wired_to wired.now i ≤ result }
     ensures reached { IsFloor wired.now result }
     ensures small { result ≤ 4096 }
 {
     let mut greatest = 0;
     for w in wired {
-        let count = wired_sources(wired, w.0);
+        let count = w.1 as usize;
         if count > greatest {
             greatest = count;
         }
@@ -117,13 +117,12 @@ fn assign(
     ensures limit { (p : List (Option ℕ)) × IsSpread (offers_of problem.now.links) problem.now.wired board.now.limit result p reached.new }
     ensures small { result ≤ 4352 }
 {
-    let limit = place_all(board, choice, counts, left, ready, ways);
+    let limit = place_all(
+        board, choice, counts, left, ready, ways, reached, queue, from,
+    );
     let within = Board { limit, ..*board };
     fix_all(&within, choice, counts, kept, left, ready, ways);
     write_out(numbers, choice, given);
-    mark_set(
-        board, choice, counts, left, ready, ways, reached, queue, from, limit,
-    );
     limit
 }
 
@@ -145,8 +144,6 @@ pub struct Solver<'a> {
     counts: Vec<usize>,
     /// How many of the links that were fixed have each interrupt.
     kept: Vec<usize>,
-    /// The links that the search in hand has not come to.
-    left: Vec<u64>,
     /// The interrupts that it has found to be ready.
     ready: Vec<bool>,
     /// How it found them.
@@ -169,7 +166,7 @@ pub struct Solver<'a> {
     ghost unplaced: { choice.items ≡ replicate (length problem.now.links) None },
     ghost uncounted: { counts.items ≡ replicate (length numbers.items) 0 },
     ghost keeps: { length kept.items ≡ length numbers.items },
-    ghost words: { length left.items ≡ 4 },
+    ghost wired_up: { IsStrictlyIncreasing (map (λ w. w.0) problem.now.wired) },
     ghost marks: { length ready.items ≡ length numbers.items },
     ghost each_way: { length ways.items ≡ length numbers.items },
     ghost reaches: { length reached.items ≡ length problem.now.links },
@@ -211,7 +208,6 @@ impl<'a> Solver<'a> {
             choice: vec![in alloc; None; n]?,
             counts: vec![in alloc; 0; m]?,
             kept: vec![in alloc; 0; m]?,
-            left: vec![in alloc; 0; 4]?,
             ready: vec![in alloc; false; m]?,
             ways: vec![in alloc; NO_WAY; m]?,
             reached: vec![in alloc; false; n]?,
@@ -251,7 +247,6 @@ impl<'a> Solver<'a> {
             mut choice,
             mut counts,
             mut kept,
-            mut left,
             mut ready,
             mut ways,
             mut reached,
@@ -264,6 +259,7 @@ impl<'a> Solver<'a> {
         let links = problem.links();
         let wired = problem.wired();
         let floor = greatest_wired(wired);
+        let mut left = [0u64; 4];
         let board = Board {
             offers: &offers,
             rows: &rows,
@@ -289,7 +285,10 @@ impl<'a> Solver<'a> {
         show(
             wired,
             links,
+            &numbers,
+            &rows,
             &reached,
+            &mut left,
             floor,
             limit,
             &mut places,

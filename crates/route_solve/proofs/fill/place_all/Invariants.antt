@@ -1,6 +1,7 @@
 use Rattle.std.proofs.Common.{◌≡◌, ◌≤◌, ◌<◌, ◌+◌, ◌-◌, ℕ, None}
 use Rattle.std.specs.Prelude.{◌⊎◌, IsSome}
-use Rattle.route_model.specs.Placement.{place_of, IsPlacement, CanPlace}
+use Rattle.route_model.specs.Placement.{place_of, IsPlacement}
+use Rattle.route_solve.specs.Certificate.{IsCertificate}
 use Rattle.route_solve.specs.Numbers.{lists_of}
 use Rattle.route_solve.specs.Levels.{room_at, IsCounted}
 use Rattle.route_solve.proofs.fill.place_all.Given as goal
@@ -13,5 +14,5 @@ invariant-loop-link l = record {
   unplaced : (k : ℕ) → l.link ≤ k → place_of l.choice k ≡ None;
   above : l.board.limit ≤ l.limit;
   small : l.limit ≤ l.board.limit + l.link;
-  least : (l.limit ≡ l.board.limit) ⊎ (CanPlace (lists_of l.board.offers.now) (room_at (l.limit - 1) l.board.sources.now) → ⊥);
+  shown : (l.limit ≡ l.board.limit) ⊎ ((l.board.limit < l.limit) × IsCertificate (lists_of l.board.offers.now) (room_at (l.limit - 1) l.board.sources.now) l.reached);
 }

@@ -7,7 +7,7 @@ use Rattle.route_solve.proofs.numbers.add_offers.Goals as goal
 pub loop-n-preserved : goal.loop-n-preserved
 loop-n-preserved c =
     let inv = c.loop-n.invariant in
-    let more = c.in_ok-from.ensures in
+    let more = c.in_ok-add_offer.ensures in
     record {
       kept = λ m h. more.kept m (inv.kept m h);
       added = below_more (λ k. Contains c.add_offer.new.numbers.items (get_or c.args.offers.now k 0)) c.loop-n.n-index (λ k b. more.kept _ (inv.added k b)) more.added;

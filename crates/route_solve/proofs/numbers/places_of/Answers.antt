@@ -24,8 +24,8 @@ pub loop-n-preserved : goal.loop-n-preserved
 loop-n-preserved c =
     let inv = c.loop-n.invariant in
     let old : Turn c.args.numbers.now c.args.offers.now c.loop-n.places.items c.loop-n.n-index = record { below = inv.below; named = inv.named } in
-    let turn : Turn c.args.numbers.now c.args.offers.now c.match-place_near.places.items (c.loop-n.n-index + 1) =
-    elim c.match-place_near.branch [
+    let turn : Turn c.args.numbers.now c.args.offers.now c.match-place_from.places.items (c.loop-n.n-index + 1) =
+    elim c.match-place_from.branch [
       | in-Some+in_ok-push-in-Some w ↦ rw w.places-is (more c.args.numbers.now c.args.offers.now c.loop-n.places.items _ c.loop-n.n-index _ w.in_ok-push-in-Some.ensures.items c.loop-n-test.true w.in-Some.ensures.0 w.in-Some.ensures.1 old)
       | in-None w ↦ absurd (w.in-None.ensures (c.requires.all _ (Contains-get_or c.args.offers.now c.loop-n.n-index 0 c.loop-n-test.true)))
     ] in

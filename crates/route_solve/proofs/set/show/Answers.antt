@@ -27,7 +27,7 @@ returns-then-limit-floor-clause-shown c = rw (c.clear-then-limit-floor.ensures.i
 pub returns-then-limit-floor-clause-bound : goal.returns-then-limit-floor-clause-bound
 returns-then-limit-floor-clause-bound c = inr (rw (c.clear-then-limit-floor.ensures.items, c.truncate.ensures.items, c.keep_busy.ensures) (wired_case c).1)
 
-crowded_case : (c : goal.After-keep_offered) → Shown (offers_of c.args.links.now) c.args.wired.now c.args.limit (filter (is_reached c.args.stuck.now) (range_with_len 0 (length (offers_of c.args.links.now)))) (filter (is_offered_by (offers_of c.args.links.now) c.args.stuck.now) c.args.interrupts.now.items) × IsLowerBound (offers_of c.args.links.now) c.args.wired.now c.args.limit (filter (is_reached c.args.stuck.now) (range_with_len 0 (length (offers_of c.args.links.now)))) (filter (is_offered_by (offers_of c.args.links.now) c.args.stuck.now) c.args.interrupts.now.items)
+crowded_case : (c : goal.After-slice_known-else-limit-floor-1) → Shown (offers_of c.args.links.now) c.args.wired.now c.args.limit (filter (is_reached c.args.stuck.now) (range_with_len 0 (length (offers_of c.args.links.now)))) (filter (is_offered_by (offers_of c.args.links.now) c.args.stuck.now) c.args.interrupts.now.items) × IsLowerBound (offers_of c.args.links.now) c.args.wired.now c.args.limit (filter (is_reached c.args.stuck.now) (range_with_len 0 (length (offers_of c.args.links.now)))) (filter (is_offered_by (offers_of c.args.links.now) c.args.stuck.now) c.args.interrupts.now.items)
 crowded_case c = go c.requires.limit.1.shown
   where
     offers : List (List ℕ)

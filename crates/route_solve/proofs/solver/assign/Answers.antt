@@ -4,7 +4,7 @@ use Rattle.route_model.proofs.Offers.{offers_length}
 use Rattle.route_solve.specs.Named.{named}
 use Rattle.route_solve.specs.Numbers.{lists_of}
 use Rattle.route_solve.proofs.Least.{first_least}
-use Rattle.route_solve.proofs.Assigned.{placed_by_number, spread_by_number, least_by_number, places_up, rows_by_place, sources_below, places_some, places_below}
+use Rattle.route_solve.proofs.Assigned.{placed_by_number, spread_by_number, least_by_number, places_up, rows_by_place, sources_below, places_some}
 use Rattle.route_solve.proofs.Numbered.{lists_length}
 use Rattle.route_solve.proofs.solver.assign.Goals as goal
 
@@ -41,23 +41,17 @@ fix_all-requires-clause-some c l b = places_some (offers_of c.args.problem.now.l
 pub write_out-requires-clause-known : goal.write_out-requires-clause-known
 write_out-requires-clause-known c k i h = c.requires.numbered.below k i (c.fix_all.ensures.placed.offered k i h)
 
-pub mark_set-requires-clause-rows : goal.mark_set-requires-clause-rows
-mark_set-requires-clause-rows c = rw c.requires.from_wired.long (rows_by_place (offers_of c.args.problem.now.links) c.args.problem.now.wired c.args.numbers.now (lists_of c.args.board.now.offers.now) c.args.board.now.sources.now c.requires.up c.requires.numbered c.requires.from_wired c.args.board.now.rows.now c.requires.rows)
-
-pub mark_set-requires-clause-below : goal.mark_set-requires-clause-below
-mark_set-requires-clause-below c = places_below (offers_of c.args.problem.now.links) c.args.problem.now.wired c.args.numbers.now (lists_of c.args.board.now.offers.now) c.args.board.now.sources.now c.requires.up c.requires.numbered c.requires.from_wired
-
 pub returns-clause-first_least : goal.returns-clause-first_least
 returns-clause-first_least c =
-    (first_least (offers_of c.args.problem.now.links) c.args.problem.now.wired c.args.board.now.limit c.place_all-limit.result (named c.args.numbers.now c.fix_all.new.choice) c.write_out.new.given (named c.args.numbers.now c.fix_all.new.choice) c.mark_set.new.reached
-    c.requires.floor_is c.requires.wired_below (spread_by_number (offers_of c.args.problem.now.links) c.args.problem.now.wired c.args.numbers.now (lists_of c.args.board.now.offers.now) c.args.board.now.sources.now c.requires.up c.requires.numbered c.requires.from_wired c.args.board.now.limit c.place_all-limit.result c.fix_all.new.choice c.mark_set.new.reached c.fix_all.ensures.placed c.place_all-limit.ensures.above c.mark_set.ensures) c.write_out.ensures (placed_by_number (offers_of c.args.problem.now.links) c.args.problem.now.wired c.args.numbers.now (lists_of c.args.board.now.offers.now) c.args.board.now.sources.now c.requires.up c.requires.numbered c.requires.from_wired c.place_all-limit.result c.fix_all.new.choice c.fix_all.ensures.placed)
+    (first_least (offers_of c.args.problem.now.links) c.args.problem.now.wired c.args.board.now.limit c.place_all-limit.result (named c.args.numbers.now c.fix_all.new.choice) c.write_out.new.given (named c.args.numbers.now c.fix_all.new.choice) c.place_all-limit.new.reached
+    c.requires.floor_is c.requires.wired_below (spread_by_number (offers_of c.args.problem.now.links) c.args.problem.now.wired c.args.numbers.now (lists_of c.args.board.now.offers.now) c.args.board.now.sources.now c.requires.up c.requires.numbered c.requires.from_wired c.args.board.now.limit c.place_all-limit.result c.fix_all.new.choice c.place_all-limit.new.reached c.fix_all.ensures.placed c.place_all-limit.ensures.above c.place_all-limit.ensures.shown) c.write_out.ensures (placed_by_number (offers_of c.args.problem.now.links) c.args.problem.now.wired c.args.numbers.now (lists_of c.args.board.now.offers.now) c.args.board.now.sources.now c.requires.up c.requires.numbered c.requires.from_wired c.place_all-limit.result c.fix_all.new.choice c.fix_all.ensures.placed)
     (λ l b. let long = offers_length c.args.problem.now.links in least_by_number (offers_of c.args.problem.now.links) c.args.problem.now.wired c.args.numbers.now (lists_of c.args.board.now.offers.now) c.args.board.now.sources.now c.requires.up c.requires.numbered c.requires.from_wired c.place_all-limit.result c.fix_all.new.choice c.fix_all.ensures.placed l (c.fix_all.ensures.least l (let e = c.place_all-limit.auto.choice in let f = c.requires.choices in omega arith)))).0
 
 pub returns-clause-busiest : goal.returns-clause-busiest
 returns-clause-busiest c =
-    (first_least (offers_of c.args.problem.now.links) c.args.problem.now.wired c.args.board.now.limit c.place_all-limit.result (named c.args.numbers.now c.fix_all.new.choice) c.write_out.new.given (named c.args.numbers.now c.fix_all.new.choice) c.mark_set.new.reached
-    c.requires.floor_is c.requires.wired_below (spread_by_number (offers_of c.args.problem.now.links) c.args.problem.now.wired c.args.numbers.now (lists_of c.args.board.now.offers.now) c.args.board.now.sources.now c.requires.up c.requires.numbered c.requires.from_wired c.args.board.now.limit c.place_all-limit.result c.fix_all.new.choice c.mark_set.new.reached c.fix_all.ensures.placed c.place_all-limit.ensures.above c.mark_set.ensures) c.write_out.ensures (placed_by_number (offers_of c.args.problem.now.links) c.args.problem.now.wired c.args.numbers.now (lists_of c.args.board.now.offers.now) c.args.board.now.sources.now c.requires.up c.requires.numbered c.requires.from_wired c.place_all-limit.result c.fix_all.new.choice c.fix_all.ensures.placed)
+    (first_least (offers_of c.args.problem.now.links) c.args.problem.now.wired c.args.board.now.limit c.place_all-limit.result (named c.args.numbers.now c.fix_all.new.choice) c.write_out.new.given (named c.args.numbers.now c.fix_all.new.choice) c.place_all-limit.new.reached
+    c.requires.floor_is c.requires.wired_below (spread_by_number (offers_of c.args.problem.now.links) c.args.problem.now.wired c.args.numbers.now (lists_of c.args.board.now.offers.now) c.args.board.now.sources.now c.requires.up c.requires.numbered c.requires.from_wired c.args.board.now.limit c.place_all-limit.result c.fix_all.new.choice c.place_all-limit.new.reached c.fix_all.ensures.placed c.place_all-limit.ensures.above c.place_all-limit.ensures.shown) c.write_out.ensures (placed_by_number (offers_of c.args.problem.now.links) c.args.problem.now.wired c.args.numbers.now (lists_of c.args.board.now.offers.now) c.args.board.now.sources.now c.requires.up c.requires.numbered c.requires.from_wired c.place_all-limit.result c.fix_all.new.choice c.fix_all.ensures.placed)
     (λ l b. let long = offers_length c.args.problem.now.links in least_by_number (offers_of c.args.problem.now.links) c.args.problem.now.wired c.args.numbers.now (lists_of c.args.board.now.offers.now) c.args.board.now.sources.now c.requires.up c.requires.numbered c.requires.from_wired c.place_all-limit.result c.fix_all.new.choice c.fix_all.ensures.placed l (c.fix_all.ensures.least l (let e = c.place_all-limit.auto.choice in let f = c.requires.choices in omega arith)))).1
 
 pub returns-clause-limit : goal.returns-clause-limit
-returns-clause-limit c = (named c.args.numbers.now c.fix_all.new.choice, spread_by_number (offers_of c.args.problem.now.links) c.args.problem.now.wired c.args.numbers.now (lists_of c.args.board.now.offers.now) c.args.board.now.sources.now c.requires.up c.requires.numbered c.requires.from_wired c.args.board.now.limit c.place_all-limit.result c.fix_all.new.choice c.mark_set.new.reached c.fix_all.ensures.placed c.place_all-limit.ensures.above c.mark_set.ensures)
+returns-clause-limit c = (named c.args.numbers.now c.fix_all.new.choice, spread_by_number (offers_of c.args.problem.now.links) c.args.problem.now.wired c.args.numbers.now (lists_of c.args.board.now.offers.now) c.args.board.now.sources.now c.requires.up c.requires.numbered c.requires.from_wired c.args.board.now.limit c.place_all-limit.result c.fix_all.new.choice c.place_all-limit.new.reached c.fix_all.ensures.placed c.place_all-limit.ensures.above c.place_all-limit.ensures.shown)

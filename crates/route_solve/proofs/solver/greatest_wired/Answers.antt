@@ -3,6 +3,7 @@ use Rattle.std.specs.Prelude.{◌⊎◌}
 use Rattle.route_model.specs.Routing.{wired_to}
 use Rattle.route_model.proofs.Hall.{zero_or_more}
 use Rattle.route_model.proofs.Loads.{wired_somewhere}
+use Rattle.route_solve.proofs.Wired.{once, wired_at, wired_small}
 use Rattle.route_solve.proofs.solver.greatest_wired.Goals as goal
 use Rattle.route_solve.proofs.solver.greatest_wired.Goals.{then-count-greatest, else-count-greatest}
 
@@ -10,13 +11,16 @@ pub loop-w-preserved : goal.loop-w-preserved
 loop-w-preserved c =
     let inv = c.loop-w.invariant in
     let i = (get_or c.args.wired.now c.loop-w.w-index (0, 0)).0 in
-    let value = c.wired_sources-count.ensures.value in
-    let small = c.wired_sources-count.ensures.small in
+    let count = (get_or c.args.wired.now c.loop-w.w-index (0, 0)).1 in
+    let value = wired_at c.args.wired.now (once c.args.wired.now c.requires.up) c.loop-w.w-index c.loop-w-test.true in
+    let less = wired_small c.args.wired.now i in
+    let counts = c.requires.counts in
+    let small : count ≤ 4096 = omega arith in
     elim c.if-count-greatest.branch [
       | then-count-greatest w ↦
           let more = w.if-count-greatest.true in
           rw w.greatest-is (record {
-            above = below_more (λ k. wired_to c.args.wired.now (get_or c.args.wired.now k (0, 0)).0 ≤ c.wired_sources-count.result) c.loop-w.w-index (λ k b. let h = inv.above k b in omega arith) (omega arith);
+            above = below_more (λ k. wired_to c.args.wired.now (get_or c.args.wired.now k (0, 0)).0 ≤ count) c.loop-w.w-index (λ k b. let h = inv.above k b in omega arith) (omega arith);
             reached = inr (i, omega arith);
             small = small;
           })
