@@ -1,5 +1,5 @@
 //! Calls of a namespace, one after another.
-ghost use Rattle.std.specs.Prelude.{◌≡◌, false, IfOk, OnOk, IsOkUnless};
+ghost use Rattle.std.specs.Prelude.{◌≡◌, false, true, IsErr, IfOk, OnErr, OnOk, IsOkUnless};
 ghost use Rattle.ar_space.specs.declared.refusal.Refusal.TheVariants.{OutOfMemory};
 ghost use Rattle.ar_space.specs.Outcome.{NotMemory, seen};
 ghost use Rattle.aml_namespace.specs.Calls.{answered, inserted, removed, looked_up, located, children_listed, all_listed, object_replaced, all_released, replies_to, left_by};
@@ -125,6 +125,7 @@ impl Names {
     #[tactic(auto, unfolding(crate::specs::Calls::answered))]
     fn answer(&mut self, alloc: Global, call: Call) -> Result<Reply, Refusal>
         ensures reply { IfOk result (λ reply. answered call self.old ≡ (reply, self.new)) }
+        ensures kept { OnErr result (self.new ≡ self.old) }
         ensures memory { IsOkUnless result OutOfMemory }
     {
         match call {
@@ -142,6 +143,7 @@ impl Names {
     #[tactic(auto, using(crate::proofs::Replies::replied))]
     fn answer_insert(&mut self, path: Path, object: NamedObject) -> Result<Reply, Refusal>
         ensures reply { IfOk result (λ reply. inserted path object self.old ≡ (reply, self.new)) }
+        ensures kept { OnErr result (self.new ≡ self.old) }
         ensures memory { IsOkUnless result OutOfMemory }
     {
         let outcome = self.insert(path, object);
@@ -153,6 +155,7 @@ impl Names {
 
     fn answer_remove(&mut self, path: Path) -> Result<Reply, Refusal>
         ensures reply { IfOk result (λ reply. removed path self.old ≡ (reply, self.new)) }
+        ensures kept { OnErr result (self.new ≡ self.old) }
         ensures memory { IsOkUnless result OutOfMemory }
     {
         self.remove_below(&path);
@@ -161,6 +164,7 @@ impl Names {
 
     fn answer_lookup(&mut self, scope: Path, name: NameString) -> Result<Reply, Refusal>
         ensures reply { IfOk result (λ reply. looked_up scope name self.old ≡ (reply, self.new)) }
+        ensures kept { OnErr result (self.new ≡ self.old) }
         ensures memory { IsOkUnless result OutOfMemory }
     {
         Ok(Reply::Found(number_of(self.lookup(&scope, &name))))
@@ -174,6 +178,7 @@ impl Names {
         name: NameString,
     ) -> Result<Reply, Refusal>
         ensures reply { IfOk result (λ reply. located scope name self.old ≡ (reply, self.new)) }
+        ensures kept { OnErr result (self.new ≡ self.old) }
         ensures memory { IsOkUnless result OutOfMemory }
     {
         let outcome = self.locate(alloc, &scope, &name);
@@ -185,6 +190,7 @@ impl Names {
 
     fn answer_children(&mut self, alloc: Global, path: Path) -> Result<Reply, Refusal>
         ensures reply { IfOk result (λ reply. children_listed path self.old ≡ (reply, self.new)) }
+        ensures kept { OnErr result (self.new ≡ self.old) }
         ensures memory { IsOkUnless result OutOfMemory }
     {
         match self.children(alloc, &path) {
@@ -195,6 +201,7 @@ impl Names {
 
     fn answer_walk(&mut self, alloc: Global) -> Result<Reply, Refusal>
         ensures reply { IfOk result (λ reply. all_listed self.old ≡ (reply, self.new)) }
+        ensures kept { OnErr result (self.new ≡ self.old) }
         ensures memory { IsOkUnless result OutOfMemory }
     {
         match self.walk(alloc) {
@@ -206,6 +213,7 @@ impl Names {
     #[tactic(auto, using(crate::proofs::Replies::object_replied))]
     fn answer_replace(&mut self, path: Path, object: NamedObject) -> Result<Reply, Refusal>
         ensures reply { IfOk result (λ reply. object_replaced path object self.old ≡ (reply, self.new)) }
+        ensures kept { OnErr result (self.new ≡ self.old) }
         ensures memory { IsOkUnless result OutOfMemory }
     {
         let outcome = self.replace(&path, object);
@@ -214,6 +222,7 @@ impl Names {
 
     fn answer_release(&mut self) -> Result<Reply, Refusal>
         ensures reply { IfOk result (λ reply. all_released self.old ≡ (reply, self.new)) }
+        ensures kept { OnErr result (self.new ≡ self.old) }
         ensures memory { IsOkUnless result OutOfMemory }
     {
         self.release_mutexes();
@@ -222,7 +231,8 @@ impl Names {
 }
 
 fn is_out_of_memory<T>(outcome: &Result<T, Refusal>) -> bool
-    ensures { result ≡ false → NotMemory outcome.now }
+    ensures no { result ≡ false → NotMemory outcome.now }
+    ensures yes { result ≡ true → IsErr outcome.now }
 {
     matches!(outcome, Err(Refusal::OutOfMemory))
 }

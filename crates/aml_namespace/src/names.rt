@@ -1,5 +1,5 @@
 //! The names that are declared, as numbered nodes.
-ghost use Rattle.std.specs.Prelude.{◌≡◌, ◌++◌, ◌+◌, ◌<◌, ◌≤◌, ◌^◌, nat_lt, List, Some, Ok, Err, None, OnOk, OnErr, IfOk, IsOkUnless, option_map, ◌∷◌, [], is_some, true};
+ghost use Rattle.std.specs.Prelude.{◌≡◌, ◌++◌, ◌+◌, ◌<◌, ◌≤◌, ◌^◌, nat_lt, List, Some, Ok, Err, None, OnOk, OnErr, IfOk, IsErr, IsOkUnless, option_map, ◌∷◌, [], is_some, true};
 ghost use Rattle.std.specs.FinMap as map;
 ghost use Rattle.ar_space.specs.declared.refusal.Refusal.TheVariants.{OutOfMemory};
 ghost use Rattle.ar_space.specs.Outcome.{Answers, NotMemory};
@@ -124,6 +124,7 @@ impl Names {
     pub fn insert(&mut self, path: Path, object: NamedObject) -> Result<u64, Refusal>
         ensures change { Does result self.new (declared path object) self.old }
         ensures refused { OnErr result (self.new ≡ self.old) }
+        ensures memory { IsErr (declared path object self.old).0 → NotMemory result }
     {
         let number = self.next;
         let Some((segment, above)) = path.segments().split_last() else {

@@ -1,5 +1,7 @@
 //! Scopes that names are searched from: a path, and the node that is expected there.
-ghost use Rattle.std.specs.Prelude.{◌≡◌, Some, true, option_map};
+ghost use Rattle.std.specs.Prelude.{◌≡◌, Some, true, option_map, IsErr};
+ghost use Rattle.std.specs.FinMap.{get};
+ghost use Rattle.aml_objects.specs.declared.entry.Entry.{Entry};
 ghost use Rattle.ar_space.specs.Outcome.{Answers, NotMemory, seen};
 ghost use Rattle.aml_namespace.specs.Namespace.{numbered};
 ghost use Rattle.aml_namespace.specs.Search.{found};
@@ -13,8 +15,8 @@ use std::alloc::Global;
 
 /// A scope: its path, and the node that is expected to stand there.
 ///
-/// The path alone says which scope it is. The node is a hint: while it stands at this path, the scope is found at once. Any other
-/// node costs the way down from the root.
+/// The path alone says which scope it is. The node is a hint: while it stands at this path, the scope is found on the way up from it,
+/// without a search. Any other node costs the way down from the root.
 #[derive(Clone, Copy)]
 pub struct Scope<'a> {
     pub path: &'a Path,
@@ -24,10 +26,16 @@ pub struct Scope<'a> {
 impl Names {
     /// The scope at a path, with the node that stands there, if one does. It takes no memory.
     pub fn scope<'a>(&self, path: &'a Path) -> Scope<'a>
-        ensures { result.path.now ≡ path.now }
+        ensures path { result.path.now ≡ path.now }
+        ensures node { (e : Entry) → get self.now.map path.now ≡ Some e → result.node.number ≡ e.number }
     {
-        let node = self.find(path).unwrap_or(root_id());
-        Scope { path, node }
+        match self.find(path) {
+            Some(node) => Scope { path, node },
+            None => Scope {
+                path,
+                node: root_id(),
+            },
+        }
     }
 
     /// The node that a name finds from a scope, refused as `lookup` is. It takes no memory.
@@ -60,7 +68,8 @@ impl Names {
         scope: Scope<'_>,
         name: &NameString,
     ) -> Result<Path, Refusal>
-        ensures { Answers result (seen (λ f. f.0) (found self.now.map scope.entry.path.now name.now)) }
+        ensures answer { Answers result (seen (λ f. f.0) (found self.now.map scope.entry.path.now name.now)) }
+        ensures memory { IsErr (found self.now.map scope.entry.path.now name.now) → NotMemory result }
     {
         match self.search_in(scope, name) {
             Ok(id) => match self.path_of(alloc, id)? {
@@ -71,7 +80,8 @@ impl Names {
         }
     }
 
-    /// Whether a node stands at a path. It goes up from the node.
+    /// Whether a node stands at a path. It goes up from the node. Where it says no, it may stand there all the same: the search
+    /// then finds the scope from the root.
     fn is_at(&self, id: NodeId, segments: &[Seg]) -> bool
         ensures { result ≡ true → option_map (λ f. f.0) (numbered id.number self.now.map) ≡ Some segments.now }
     {

@@ -1,5 +1,5 @@
 //! What a name finds from a scope (ACPI 6.5, 5.3).
-ghost use Rattle.std.specs.Prelude.{◌≡◌, ◌++◌, List, Some, None, Ok, Err, length, option_map, MatchOption, MatchResult, ◌-◌, ◌≤◌, take};
+ghost use Rattle.std.specs.Prelude.{◌≡◌, ◌++◌, List, Some, None, Ok, Err, length, option_map, IsErr, MatchOption, MatchResult, ◌-◌, ◌≤◌, take};
 ghost use Rattle.ar_space.specs.Outcome.{Answers, NotMemory, seen};
 ghost use Rattle.aml_path.specs.declared.segment.Seg.{Seg};
 ghost use Rattle.aml_path.specs.Paths.{resolved};
@@ -32,7 +32,8 @@ impl Names {
 
     /// The path of what a name finds from a scope, refused as `lookup` is.
     pub fn locate(&self, alloc: Global, scope: &Path, name: &NameString) -> Result<Path, Refusal>
-        ensures { Answers result (seen (λ f. f.0) (found self.now.map scope.now name.now)) }
+        ensures answer { Answers result (seen (λ f. f.0) (found self.now.map scope.now name.now)) }
+        ensures memory { IsErr (found self.now.map scope.now name.now) → NotMemory result }
     {
         match self.search_at(scope, name) {
             Ok(id) => match self.path_of(alloc, id)? {

@@ -1,4 +1,5 @@
-use Rattle.std.proofs.Common.{◌≡◌, ◌+◌, ◌++◌, ◌∷◌, ◌∙◌, [], List, ap, sym, subst, refl, true, false, is_some, Option, Some, None, Ok, length, arith}
+use Rattle.std.proofs.Common.{IsErr, ℕ, ◌≡◌, ◌+◌, ◌++◌, ◌∷◌, ◌∙◌, [], List, ap, sym, subst, refl, true, false, is_some, Option, Some, None, Ok, length, arith}
+use Rattle.ar_space.specs.Outcome.{Outcome}
 use Rattle.std.specs.Option.{option_map}
 use Rattle.aml_objects.specs.declared.node.NodeId.{NodeId}
 use Rattle.std.proofs.lemmas.Bool.{eq-eqb, ne_eqb}
@@ -84,6 +85,22 @@ invariant_of-self-2 c =
     let vacant : child_in c.self.inside.index.entries c.in-Some-descend.parent.number c.in-Some.segment.now ≡ None = none_of _ (sym (ap is_some c.child.ensures) ∙ some_ids c.child.result ∙ sym c.is_some.ensures ∙ c.if-is_some.false) in
     subst (λ (m : NodeMap). Linked m (child_in c.put.new.index.entries) (c.self.inside.next + 1)) (sym c.in_ok-put.ensures.nodes)
     (grown_linked c.self.inside.nodes (child_in c.self.inside.index.entries) c.self.inside.next c.self.invariant x (child_in c.put.new.index.entries) stands vacant refl c.in_ok-put.ensures.children)
+
+pub returns-in_err-put-clause-memory : goal.returns-in_err-put-clause-memory
+returns-in_err-put-clause-memory c = λ err.
+    let path : c.args.path ≡ c.in-Some.above.now ++ c.in-Some.segment.now ∷ [] = sym c.segments.ensures ∙ c.in-Some.ensures.cases.0 in
+    let front : above c.args.path ≡ c.in-Some.above.now = ap above path ∙ above_is c.in-Some.above.now c.in-Some.segment.now in
+    let leads : down (child_in c.self.inside.index.entries) 0 c.in-Some.above.now ≡ Some c.in-Some-descend.parent.number =
+    ap (λ n. down (child_in c.self.inside.index.entries) n c.in-Some.above.now) (sym c.root_id.ensures) ∙ sym c.in-Some-descend.ensures in
+    let parent : is_some (get c.args.self.now.map (above c.args.path)) ≡ true =
+    ap (λ s. is_some (get s.map (above c.args.path))) (sym c.self.view_is) ∙ ap (λ q. is_some (get (map_of c.self.inside.nodes) q)) front
+    ∙ contains c.self.inside.nodes (child_in c.self.inside.index.entries) c.self.inside.next c.self.invariant c.in-Some.above.now ∙ ap is_some leads in
+    let there : is_some (get c.args.self.now.map c.args.path) ≡ is_some (child_in c.self.inside.index.entries c.in-Some-descend.parent.number c.in-Some.segment.now) =
+    ap (λ s. is_some (get s.map c.args.path)) (sym c.self.view_is) ∙ ap (λ q. is_some (get (map_of c.self.inside.nodes) q)) path
+    ∙ contains_child c.self.inside.nodes (child_in c.self.inside.index.entries) c.self.inside.next c.self.invariant c.in-Some.above.now c.in-Some.segment.now c.in-Some-descend.parent.number leads in
+    let vacant : child_in c.self.inside.index.entries c.in-Some-descend.parent.number c.in-Some.segment.now ≡ None = none_of _ (sym (ap is_some c.child.ensures) ∙ some_ids c.child.result ∙ sym c.is_some.ensures ∙ c.if-is_some.false) in
+    let is = declared_new c.args.path c.args.object c.args.self.now parent (there ∙ ap is_some vacant) (ne_eqb _ _ (λ same. c.if-number.false (ap (λ s. s.next) c.self.view_is ∙ same))) in
+    absurd (cc (subst (λ (x : Outcome ℕ × Namespace). IsErr x.0) is err))
 
 pub returns-clause-change : goal.returns-clause-change
 returns-clause-change c =
