@@ -1,0 +1,3 @@
+pub mod Marked
+pub mod Parting
+pub mod Walking

@@ -1,0 +1,3 @@
+//! Reading by marks: a list of terms that was scanned is read again from its bytes and the marks of its calls alone, without
+//! refusals, scopes or arities. The definitions stand in `specs`, and the laws say that this gives the trees of the grammar.
+#![tactic(auto)]
