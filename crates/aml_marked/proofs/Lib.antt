@@ -1,2 +1,4 @@
 pub mod Marks
 pub mod Follows
+pub mod Moves
+pub mod Leaves
