@@ -190,6 +190,18 @@ pub stays_look : {A : Type 0} (f : State → A) → Stays Any (look f)
 unfolding look
 stays_look f = record { is = λ s b t e. rw (← same_state e) (tt, refl, refl) }
 
+-- a step that stays, and what follows of it
+pub follows_quiet : {A B : Type 0} {count : ℕ → ℕ} {P : A → Type 0} {m : Step A} {k : A → Step B} {w : Walk B} {s : State} → Stays P m → ((a : A) (t : State) → Follows count (k a) w t) → Follows count (m >>= k) w s
+follows_quiet {m = m} {k = k} {w = w} {s = s} h i = record {
+  is = λ b s2 e.
+      let p = both m k s b s2 e in
+      let q = h.is s p.0 p.1 p.2 in
+      let y = (i p.0 p.1).is b s2 p.3 in
+      let at_is : p.1.at ≡ s.at = ap (λ (p : Place). p.at) q.1 in
+      let g = goes_same s p.1 (omega (arith, at_is)) (ap (λ (p : Place). p.at + length p.rest) q.1) q.2 in
+      (goes_along g y.0, λ fits kept. ap w (sym q.1) ∙ y.1 fits (g.kept kept));
+}
+
 goes_to : (s s1 s2 : State) → Goes s s1 → place_of s2 ≡ place_of s1 → s2.marks ≡ s1.marks → Goes s s2
 goes_to s s1 s2 g place marks =
     let at_is : s2.at ≡ s1.at = ap (λ (p : Place). p.at) place in

@@ -22,7 +22,7 @@ pub record Moves {A : Type 0} (n : ℕ) (m : Step A) (s : State) : Type 0 where
 past_past : (m n : ℕ) (s : State) → past m (past n s) ≡ past (n + m) s
 past_past m n s = rw (add_assoc, drop-drop m n s.rest) refl
 
-bind_is : {A B : Type 0} (m : Step A) (k : A → Step B) {a : A} {s t : State} → m s ≡ (Ok a, t) → (m >>= k) s ≡ k a t
+pub bind_is : {A B : Type 0} (m : Step A) (k : A → Step B) {a : A} {s t : State} → m s ≡ (Ok a, t) → (m >>= k) s ≡ k a t
 unfolding ◌>>=◌ go_on
 bind_is {A = A} m k e = ap (λ (r : Outcome A × State). go_on r.0 r.1 k) e
 
