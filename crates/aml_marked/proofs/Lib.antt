@@ -4,3 +4,4 @@ pub mod Moves
 pub mod Leaves
 pub mod LeafNames
 pub mod Operands
+pub mod Inners

@@ -10,11 +10,11 @@ use Rattle.aml_grammar.specs.declared.context.Earlier.{Earlier}
 use Rattle.aml_grammar.specs.State.{State, Step, byte, text, all_bytes, adding}
 use Rattle.aml_grammar.specs.Operands.{Read, declare, declare_earlier, name_operand, scope_name, alias_source, external_name, declared_name, integer_operand, method_flags, object_type, argument_count, text_operand, bytes_operand, reserved_field, access_field, extended_access_field, one_segment, named_field}
 use Rattle.aml_grammar.specs.DeclaredNames.{declared_path}
-use Rattle.aml_grammar.specs.Tree.{Tree, term, Part, name, number, bytes}
+use Rattle.aml_grammar.specs.Tree.{Tree, term, Part, null, name, number, bytes}
 use Rattle.aml_grammar.specs.Shape.{parts_of}
 use Rattle.aml_grammar.specs.Grammar.{keeping}
 use Rattle.aml_marked.specs.Marked.{Walk, after, gives, a_byte, an_integer, a_text, all_left, a_bit_count, a_name, to_part, a_reserved_field, an_access_field, an_extended_access_field, a_named_field}
-use Rattle.aml_marked.proofs.Follows.{same_value, same_state, both, carry, Follows, FollowsBy, by_then, follows_then, follows_map, follows_part, follows_quiet, by_first, Stays, stays_then, stays_give, stays_settle, stays_look, Any}
+use Rattle.aml_marked.proofs.Follows.{same_value, same_state, both, carry, goes_nowhere, Follows, FollowsBy, by_then, follows_then, follows_map, follows_part, follows_quiet, by_first, Stays, stays_then, stays_give, stays_settle, stays_look, Any}
 use Rattle.aml_marked.proofs.Moves.{follows_takes}
 use Rattle.aml_marked.proofs.Leaves.{takes_byte, takes_integer, takes_text, takes_all, takes_bit_count}
 use Rattle.aml_marked.proofs.LeafNames.{takes_name, by_segment}
@@ -45,6 +45,10 @@ module _ {count : ℕ → ℕ} where
         let y = h.is p.0 p.1 p.2 in
         carry count w s (ap (λ (x : Read). x.0) (same_value p.3)) (same_state p.3) y;
   }
+
+  pub by_nothing : (earlier : Earlier) (s : State) → ReadBy count (give (null, earlier)) (gives null) s
+  unfolding give gives
+  by_nothing earlier s = record { is = λ x s2 e. rw (← same_state e, ← same_value e) (goes_nowhere, λ fits kept. refl) }
 
   -- ---- names
 
