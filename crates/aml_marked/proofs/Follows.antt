@@ -214,10 +214,12 @@ by_first {A = A} {count = count} {m = m} {s = s} g f k h quiet = record {
       let p = both m k s b s2 e in
       let x = h.is p.0 p.1 p.2 in
       let q = (quiet p.0).is p.1 b s2 p.3 in
-      let at_is : s2.at ≡ p.1.at = ap (λ (p : Place). p.at) q.1 in
-      (goes_to s p.1 s2 x.0 q.1 q.2, λ fits kept.
-          let got = x.1 (λ o lt. fits o (omega (arith, lt, at_is)) ∙ ap (λ l. count_at l o) q.2) kept in
-          ap (λ (r : A × Place). (f r.0, r.1)) got ∙ pair_is (sym q.0) (sym q.1));
+      let at_is : s2.at ≡ p.1.at = ap (λ (p : Place). p.at) q.1 in (
+        goes_to s p.1 s2 x.0 q.1 q.2,
+        λ fits kept.
+            let got = x.1 (λ o lt. fits o (omega (arith, lt, at_is)) ∙ ap (λ l. count_at l o) q.2) kept in
+            ap (λ (r : A × Place). (f r.0, r.1)) got ∙ pair_is (sym q.0) (sym q.1),
+      );
 }
 
 -- ---- one step again and again

@@ -109,18 +109,19 @@ module _ {count : ℕ → ℕ} {A : Type 0} {m : Step A} {w : Walk A} {s : State
       let at_outer : outer.0 ≡ start.at + n = ap (λ (o : ℕ × List ℕ). o.0) enters.4 in
       let rest_outer : length outer.1 ≡ length start.rest - n = ap (λ (o : ℕ × List ℕ). length o.1) enters.4 ∙ length-drop n start.rest in
       let below : s1.at ≤ outer.0 = omega (arith, inner.ends, size, at_q, at_outer) in
-      let le : s.at ≤ q.at = omega (arith, at_q, enters.6) in
-      (record {
-        le = omega (arith, at_outer, enters.6);
-        ends = omega (arith, at_outer, rest_outer, enters.3, enters.7);
-        keeps = λ o lt. inner.keeps o (omega (arith, le, lt)) ∙ ap (λ l. found_at l o) marks_q;
-        kept = λ k. kept_on s1 (record s1 { at = outer.0; rest = outer.1 }) below refl (inner.kept (kept_on s q le marks_q k));
-      },
-      λ fits kept.
-          let got : w (place_of q) ≡ (a, place_of s1) = x.1 (λ o lt. fits o (omega (arith, below, lt))) (kept_on s q le marks_q kept) in
-          let behind : Place = record { at = outer.0; rest = outer.1 } in
-          let v : inside_of w (a_size (place_of s)) ≡ ((w (place_of q)).0, behind) = rw (enters.2, over_is n (place_of start) enters.3, enters.4, enters.5) refl in
-          v ∙ ap (λ (r : A × Place). (r.0, behind)) got)
+      let le : s.at ≤ q.at = omega (arith, at_q, enters.6) in (
+        record {
+          le = omega (arith, at_outer, enters.6);
+          ends = omega (arith, at_outer, rest_outer, enters.3, enters.7);
+          keeps = λ o lt. inner.keeps o (omega (arith, le, lt)) ∙ ap (λ l. found_at l o) marks_q;
+          kept = λ k. kept_on s1 (record s1 { at = outer.0; rest = outer.1 }) below refl (inner.kept (kept_on s q le marks_q k));
+        },
+        λ fits kept.
+            let got : w (place_of q) ≡ (a, place_of s1) = x.1 (λ o lt. fits o (omega (arith, below, lt))) (kept_on s q le marks_q kept) in
+            let behind : Place = record { at = outer.0; rest = outer.1 } in
+            let v : inside_of w (a_size (place_of s)) ≡ ((w (place_of q)).0, behind) = rw (enters.2, over_is n (place_of start) enters.3, enters.4, enters.5) refl in
+            v ∙ ap (λ (r : A × Place). (r.0, behind)) got,
+      )
 
   pub follows_packed : ((q : State) → Follows count m w q) → Follows count (packed true m) (inside true w) s
   follows_packed h = record {

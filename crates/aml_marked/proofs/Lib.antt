@@ -1,7 +1,9 @@
-pub mod Marks
+pub mod Calls
 pub mod Follows
-pub mod Moves
-pub mod Leaves
-pub mod LeafNames
-pub mod Operands
 pub mod Inners
+pub mod Law
+pub mod LeafNames
+pub mod Leaves
+pub mod Marks
+pub mod Moves
+pub mod Operands

@@ -34,10 +34,11 @@ moves_then {B = B} {m = m} {k = k} {i = i} {j = j} {s = s} h l = record {
       let y = (l p.0 p.1 p.2 x.0).is b u p.3 in
       let len : length p.1.rest ≡ length s.rest - i = ap (λ (t : State). length t.rest) x.0 ∙ length-drop i s.rest in
       let bare : bared p.1 ≡ past i (bared s) = ap bared x.0 in
-      let whole : State → Outcome B × State = λ v. (Ok b, v) in
-      (y.0 ∙ ap (past j) x.0 ∙ past_past j i s,
-      omega (arith, x.1, y.1, len),
-      bind_is m k x.2 ∙ ap (k p.0) (sym bare) ∙ y.2 ∙ ap whole (ap (past j) bare ∙ past_past j i (bared s)));
+      let whole : State → Outcome B × State = λ v. (Ok b, v) in (
+        y.0 ∙ ap (past j) x.0 ∙ past_past j i s,
+        omega (arith, x.1, y.1, len),
+        bind_is m k x.2 ∙ ap (k p.0) (sym bare) ∙ y.2 ∙ ap whole (ap (past j) bare ∙ past_past j i (bared s)),
+      );
 }
 
 pub moves_as : {A : Type 0} {m : Step A} {i j : ℕ} {s : State} → i ≡ j → Moves i m s → Moves j m s

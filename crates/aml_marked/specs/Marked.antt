@@ -171,6 +171,19 @@ a_named_field = do
   bits ← a_bit_count
   gives (term codes.NamedField (parts_of (name n ∷ number bits ∷ [])))
 
+-- ---- opcodes
+
+abbrev pub opcode_after : ℕ → Walk ℕ
+opcode_after b = if b == 0x5B then (do
+  e ← a_byte
+  gives (0x5B00 + e)) else gives b
+
+-- one byte, or two after the prefix
+unfoldable pub an_opcode : Walk ℕ
+an_opcode = do
+  b ← a_byte
+  opcode_after b
+
 -- ---- operands, over terms one level below
 
 -- a term: whether it is an element of a package
@@ -277,17 +290,6 @@ module _ (below : Below) where
   with_row (Some row) = do
     ps ← of_row row
     if is_if row.0 then with_else row.0 ps else gives (term (codes.Opcode row.0) (parts_of ps))
-
-  abbrev pub opcode_after : ℕ → Walk ℕ
-  opcode_after b = if b == 0x5B then (do
-    e ← a_byte
-    gives (0x5B00 + e)) else gives b
-
-  -- one byte, or two after the prefix
-  unfoldable pub an_opcode : Walk ℕ
-  an_opcode = do
-    b ← a_byte
-    opcode_after b
 
   unfoldable pub a_coded : Walk Tree
   a_coded = do
