@@ -1,10 +1,10 @@
 -- Operands with terms, rows of operands, and an Else: the walks go as the steps do where those of the terms inside do.
-use Rattle.std.proofs.Common.{◌≡◌, ℕ, ◌+◌, List, [], ◌∷◌, ◌++◌, length, Bool, true, false, Option, Some, None, Ok, refl, sym, ap}
+use Rattle.std.proofs.Common.{◌≡◌, ℕ, List, [], ◌∷◌, ◌++◌, length, Bool, true, false, Some, Ok, refl}
 use Rattle.std.specs.Prelude.{◌==◌, ◌||◌, if◌then◌else◌}
 use Rattle.ar_space.specs.declared.refusal.Refusal.TheVariants as refusals
 use Rattle.ar_space.specs.declared.refusal.NameFault.TheVariants.{BadName}
 use Rattle.ar_space.specs.declared.refusal.TermFault.TheVariants.{BadOpcode}
-use Rattle.ar_space.specs.Change.{give, stop, ◌>>=◌}
+use Rattle.ar_space.specs.Change.{give, ◌>>=◌}
 use Rattle.aml_path.specs.declared.segment.Seg.{Seg}
 use Rattle.aml_grammar.specs.declared.opcode.Opcode.TheVariants as opcodes
 use Rattle.aml_grammar.specs.declared.opcode.TermCode.TheVariants as codes
@@ -15,14 +15,14 @@ use Rattle.aml_grammar.specs.declared.context.Position.{Position}
 use Rattle.aml_grammar.specs.declared.context.Position.TheVariants as positions
 use Rattle.aml_grammar.specs.declared.context.Context.{Context}
 use Rattle.aml_grammar.specs.declared.context.Earlier.{Earlier}
-use Rattle.aml_grammar.specs.State.{State, Step, fault, bad_name, offset, byte, is_next}
+use Rattle.aml_grammar.specs.State.{State, bad_name, byte, is_next}
 use Rattle.aml_grammar.specs.Names.{starts_name}
-use Rattle.aml_grammar.specs.Operands.{name_operand, reserved_field, access_field, extended_access_field, named_field, integer_operand, text_operand, bytes_operand, scope_name, alias_source, external_name, declared_name, method_flags, object_type, argument_count}
-use Rattle.aml_grammar.specs.Tree.{Tree, term, Part, null, name, inner, list}
-use Rattle.aml_grammar.specs.Shape.{parts_of, trees_of}
-use Rattle.aml_grammar.specs.Grammar.{Inner, is_slot, is_if, is_nothing, kinds_of, at_else, in_loop, scope_of, nothing_earlier, keeping, packed, items, term_operand, list_operand, super_name_at, super_name, target_at, target, simple_name_at, simple_name, connection_at, connection, connect_field, field_at, field, fields, fields_operand, operand, operands, row_operands, plain_term, else_term, else_operand, else_part, if_term, row_term}
-use Rattle.aml_marked.specs.Marked.{Place, place_of, Walk, Below, after, gives, first, a_byte, a_name, inside, to_part, list_part, all_items, name_or_term, target_of, a_super_name, a_target, a_connect_field, field_of, a_field, fields_left, a_reserved_field, an_access_field, an_extended_access_field, a_named_field, an_operand, all_operands, of_row, an_else, else_of, maybe_else, with_else, with_row}
-use Rattle.aml_marked.proofs.Follows.{Follows, FollowsBy, by_then, follows_then, follows_give, follows_stop, follows_as, steps_as, follows_only_if, follows_map, follows_part, follows_look, follows_peek, follows_until}
+use Rattle.aml_grammar.specs.Operands.{name_operand, reserved_field, access_field, extended_access_field, named_field}
+use Rattle.aml_grammar.specs.Tree.{term, null, name, inner}
+use Rattle.aml_grammar.specs.Shape.{parts_of}
+use Rattle.aml_grammar.specs.Grammar.{Inner, is_slot, is_if, is_nothing, kinds_of, at_else, in_loop, scope_of, nothing_earlier, items, term_operand, list_operand, super_name_at, super_name, target, simple_name, connection, connect_field, field, fields, fields_operand, operand, operands, row_operands, plain_term, else_term, else_operand, else_part, if_term, row_term}
+use Rattle.aml_marked.specs.Marked.{Below, after, gives, first, a_byte, a_name, to_part, list_part, all_items, name_or_term, a_super_name, a_target, a_connect_field, a_field, fields_left, a_reserved_field, an_access_field, an_extended_access_field, a_named_field, an_operand, all_operands, of_row, an_else, else_of, maybe_else, with_else, with_row}
+use Rattle.aml_marked.proofs.Follows.{Follows, by_then, follows_then, follows_give, follows_stop, follows_as, steps_as, follows_only_if, follows_map, follows_part, follows_look, follows_peek, follows_until}
 use Rattle.aml_marked.proofs.Moves.{follows_takes}
 use Rattle.aml_marked.proofs.Leaves.{takes_byte, packed_if}
 use Rattle.aml_marked.proofs.Operands.{ReadBy, by_keeping, by_nothing, follows_name, by_scope, by_source, by_external, by_declared, follows_integer, by_flags, by_type, by_count, follows_text, follows_bytes, follows_reserved, follows_access, follows_extended, follows_named_field}

@@ -22,8 +22,8 @@ use Rattle.aml_grammar.specs.Opcodes.{number_of}
 use Rattle.aml_grammar.specs.Table.{table, row_of}
 use Rattle.aml_grammar.specs.Tree.{Tree, term, name}
 use Rattle.aml_grammar.specs.Shape.{parts_of}
-use Rattle.aml_grammar.specs.Grammar.{Inner, Counting, stands, takes_name as may_be_name, costs_no_level, is_module_level, is_if, is_nothing, item_of, at_item, row_term, opcode_from, opcode, admitted_row, row_at, deeper, leveled, coded_term, element_name, named_term, named, begun, term_in, below, term_at, by_arities, max_depth, outermost, term_list, beginning}
-use Rattle.aml_marked.specs.Marked.{Place, place_of, Walk, Below, after, gives, first, a_byte, a_name, inside, all_operands, of_row, with_row, opcode_after, an_opcode, a_coded, a_named, a_term_in, a_term, Ascending, count_at, walk_levels, trees_by}
+use Rattle.aml_grammar.specs.Grammar.{Inner, Counting, stands, takes_name as may_be_name, costs_no_level, is_module_level, is_if, is_nothing, item_of, at_item, row_term, opcode, admitted_row, row_at, deeper, leveled, coded_term, element_name, named_term, named, term_in, below, term_at, by_arities, max_depth, outermost, term_list, beginning}
+use Rattle.aml_marked.specs.Marked.{Place, place_of, Walk, Below, after, gives, a_byte, inside, all_operands, of_row, with_row, an_opcode, a_coded, a_named, a_term_in, a_term, Ascending, count_at, walk_levels, trees_by}
 use Rattle.aml_marked.proofs.Follows.{refused, Follows, follows_then, follows_give, follows_stop, follows_as, follows_only_if, follows_map, follows_look, follows_peek}
 use Rattle.aml_marked.proofs.Moves.{follows_takes}
 use Rattle.aml_marked.proofs.Leaves.{takes_byte}

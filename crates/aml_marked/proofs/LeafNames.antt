@@ -4,18 +4,18 @@ use Rattle.std.specs.Prelude.{◌==◌, if◌then◌else◌}
 use Rattle.std.specs.List.{prefix_len}
 use Rattle.std.proofs.lemmas.Bool.{eqb-true}
 use Rattle.ar_space.specs.Outcome.{Outcome}
-use Rattle.ar_space.specs.Change.{give, settle, stop, ◌>>=◌}
+use Rattle.ar_space.specs.Change.{give, stop, ◌>>=◌}
 use Rattle.aml_path.specs.Characters.{is_lead_name_char, is_name_char}
 use Rattle.aml_path.specs.Segments.{seg_of}
 use Rattle.aml_path.specs.Paths.{Name}
 use Rattle.aml_path.specs.declared.segment.Seg.{Seg}
 use Rattle.aml_path.specs.declared.name.Prefix.TheVariants.{Parents}
 use Rattle.aml_grammar.specs.State.{State, Step, bad_name, byte, peek, peek_of, past, times}
-use Rattle.aml_grammar.specs.Names.{only, lead_name_char, name_char, segment, counted_segments, multiple_segments, segments_at, segments, carets, parents, rooted_name, relative_name, name_at, name_string}
+use Rattle.aml_grammar.specs.Names.{only, lead_name_char, name_char, segment, multiple_segments, segments_at, segments, carets, parents, rooted_name, relative_name, name_at, name_string}
 use Rattle.aml_grammar.specs.Operands.{one_segment}
-use Rattle.aml_marked.specs.Marked.{Place, place_of, Walk, over, first, or_root, prefix_length, segments_length, name_length, a_name}
+use Rattle.aml_marked.specs.Marked.{place_of, over, first, or_root, prefix_length, segments_length, name_length, a_name}
 use Rattle.aml_marked.proofs.Follows.{same_value, refused, both, FollowsBy, goes_same}
-use Rattle.aml_marked.proofs.Moves.{bared, Moves, bind_is, moves_as, moves_then, moves_give, moves_stop, moves_settle, moves_byte, byte_is, moves_peek, moves_times, Takes, takes_moves, over_is}
+use Rattle.aml_marked.proofs.Moves.{Moves, bind_is, moves_as, moves_then, moves_give, moves_stop, moves_settle, moves_byte, byte_is, moves_peek, moves_times, Takes, takes_moves}
 
 -- ---- segments
 

@@ -1,13 +1,13 @@
 -- Bytes, numbers, texts and packages: the walks go as the steps do.
-use Rattle.std.proofs.Common.{◌≡◌, ℕ, ◌+◌, ◌-◌, ◌/◌, ◌<◌, ◌≤◌, List, [], length, take, drop, Bool, true, false, Ok, Err, refl, ◌∙◌, sym, ap, length-take, length-drop, take-take, arith}
-use Rattle.std.specs.Prelude.{min, nat_lt, if◌then◌else◌}
+use Rattle.std.proofs.Common.{◌≡◌, ℕ, ◌+◌, ◌-◌, ◌/◌, ◌≤◌, List, [], length, take, drop, Bool, true, false, Ok, refl, ◌∙◌, sym, ap, length-take, length-drop, take-take, arith}
+use Rattle.std.specs.Prelude.{nat_lt}
 use Rattle.std.proofs.lemmas.List.{drop_all}
 use Rattle.std.proofs.lemmas.Bool.{ltb-false}
 use Rattle.ar_space.specs.Change.{give, go_on, ◌>>=◌}
 use Rattle.aml_grammar.specs.State.{State, Step, look, byte, next_bytes, all_bytes, text, text_length, integer, little_endian, length_of, bit_count, size_after, package_size, narrow, enter, leave}
 use Rattle.aml_grammar.specs.Grammar.{packed}
-use Rattle.aml_marked.specs.Marked.{Place, place_of, Walk, after, gives, past, over, a_byte, an_integer, a_text, all_left, a_bit_count, a_size, inside, inside_of, found_at}
-use Rattle.aml_marked.proofs.Follows.{same_value, same_state, refused, both, Kept, kept_on, Fits, Goes, Gone, carry, Follows}
+use Rattle.aml_marked.specs.Marked.{Place, place_of, Walk, gives, past, over, a_byte, an_integer, a_text, all_left, a_bit_count, a_size, inside, inside_of, found_at}
+use Rattle.aml_marked.proofs.Follows.{same_value, same_state, refused, both, kept_on, Gone, carry, Follows}
 use Rattle.aml_marked.proofs.Moves.{Takes, takes_moves, takes_then, takes_give, takes_look, moves_as, moves_then, moves_give, moves_byte, byte_is, moves_bytes, bytes_are, min_is, over_is}
 
 pub takes_byte : (s : State) → Takes byte a_byte s

@@ -1,12 +1,12 @@
 -- Marks in ascending order, and what one more at the end changes.
-use Rattle.std.proofs.Common.{◌≡◌, ℕ, ◌+◌, ◌<◌, ◌≤◌, List, [], ◌∷◌, ◌++◌, Bool, true, false, Option, Some, None, refl, ◌∙◌, sym, ap, arith}
+use Rattle.std.proofs.Common.{◌≡◌, ℕ, ◌<◌, ◌≤◌, List, [], ◌∷◌, ◌++◌, Bool, true, false, Option, Some, None, refl, sym, ap, arith}
 use Rattle.std.specs.Prelude.{◌==◌, if◌then◌else◌}
 use Rattle.std.specs.List.{AllByRecursion}
 use Rattle.std.proofs.lemmas.Bool.{eqb-true}
 use Rattle.aml_grammar.specs.declared.marks.Mark.{Mark}
 use Rattle.aml_grammar.specs.Arities.{or_none}
 use Rattle.aml_grammar.specs.State.{State, marking}
-use Rattle.aml_marked.specs.Marked.{Place, place_of, Ascending, found_at}
+use Rattle.aml_marked.specs.Marked.{place_of, Ascending, found_at}
 
 -- each mark stands before this offset
 abbrev pub Before : ℕ → List Mark → Type 0

@@ -1,5 +1,5 @@
 -- Steps that go a known number of bytes on, and know the bytes alone.
-use Rattle.std.proofs.Common.{◌≡◌, ℕ, zero, suc, ◌+◌, ◌-◌, ◌*◌, ◌≤◌, List, [], ◌∷◌, length, take, drop, Bool, true, false, Ok, Err, refl, ◌∙◌, sym, ap, add_assoc, add-zero, length-drop, arith}
+use Rattle.std.proofs.Common.{◌≡◌, ℕ, zero, suc, ◌+◌, ◌-◌, ◌*◌, ◌≤◌, List, [], ◌∷◌, length, take, Bool, true, false, Ok, Err, refl, ◌∙◌, sym, ap, add_assoc, add-zero, length-drop, arith}
 use Rattle.std.specs.Prelude.{min, nat_lt, if◌then◌else◌}
 use Rattle.std.proofs.lemmas.List.{drop-drop}
 use Rattle.std.proofs.lemmas.Bool.{ltb-false}

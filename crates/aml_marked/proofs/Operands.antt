@@ -1,16 +1,16 @@
 -- Operands without terms: the walks go as the steps do, whatever the steps declare.
-use Rattle.std.proofs.Common.{◌≡◌, ℕ, ◌+◌, ◌%◌, List, [], ◌∷◌, ◌++◌, Bool, true, false, Option, Some, None, Ok, refl, ◌∙◌, sym, ap}
+use Rattle.std.proofs.Common.{ℕ, ◌%◌, List, [], ◌∷◌, ◌++◌, Bool, true, false, Option, Some, None, Ok, refl, ap}
 use Rattle.std.specs.Prelude.{◌==◌, if◌then◌else◌}
-use Rattle.ar_space.specs.Change.{give, settle, ◌>>=◌}
+use Rattle.ar_space.specs.Change.{give}
 use Rattle.aml_path.specs.declared.segment.Seg.{Seg}
-use Rattle.aml_path.specs.Paths.{Name, resolved}
+use Rattle.aml_path.specs.Paths.{resolved}
 use Rattle.aml_grammar.specs.declared.opcode.TermCode.TheVariants as codes
 use Rattle.aml_grammar.specs.declared.context.Context.{Context}
 use Rattle.aml_grammar.specs.declared.context.Earlier.{Earlier}
-use Rattle.aml_grammar.specs.State.{State, Step, byte, text, all_bytes, adding}
+use Rattle.aml_grammar.specs.State.{State, Step, adding}
 use Rattle.aml_grammar.specs.Operands.{Read, declare, declare_earlier, name_operand, scope_name, alias_source, external_name, declared_name, integer_operand, method_flags, object_type, argument_count, text_operand, bytes_operand, reserved_field, access_field, extended_access_field, one_segment, named_field}
 use Rattle.aml_grammar.specs.DeclaredNames.{declared_path}
-use Rattle.aml_grammar.specs.Tree.{Tree, term, Part, null, name, number, bytes}
+use Rattle.aml_grammar.specs.Tree.{term, Part, null, name, number, bytes}
 use Rattle.aml_grammar.specs.Shape.{parts_of}
 use Rattle.aml_grammar.specs.Grammar.{keeping}
 use Rattle.aml_marked.specs.Marked.{Walk, after, gives, a_byte, an_integer, a_text, all_left, a_bit_count, a_name, to_part, a_reserved_field, an_access_field, an_extended_access_field, a_named_field}

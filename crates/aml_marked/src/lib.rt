@@ -1,3 +1,7 @@
 //! Reading by marks: a list of terms that was scanned is read again from its bytes and the marks of its calls alone, without
-//! refusals, scopes or arities. The definitions stand in `specs`, and the laws say that this gives the trees of the grammar.
+//! refusals, scopes or arities. The definitions stand in `specs`, and the law says that this gives the trees of the grammar.
 #![tactic(auto)]
+
+mod laws;
+
+pub use laws::marks_give_the_trees_again;

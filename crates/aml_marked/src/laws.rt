@@ -1,0 +1,17 @@
+//! What holds of every list of bytes: the law is the contract of a function that does nothing.
+ghost use Rattle.std.specs.Prelude.{◌≡◌, ℕ, List, Bool, Ok};
+ghost use Rattle.aml_path.specs.declared.segment.Seg.{Seg};
+ghost use Rattle.aml_grammar.specs.declared.arities.Arity.{Arity};
+ghost use Rattle.aml_grammar.specs.State.{State};
+ghost use Rattle.aml_grammar.specs.Tree.{Tree};
+ghost use Rattle.aml_grammar.specs.Grammar.{term_list, by_arities};
+ghost use Rattle.aml_marked.specs.Marked.{Ascending, trees_by};
+
+/// Where a list of terms reads as trees, its bytes and the marks that reading leaves give the same trees again, in no scope and
+/// with nothing known; and the marks stand in the order of their offsets, no two at one.
+pub fn marks_give_the_trees_again()
+    ensures list { (bs : List ℕ) (scope : List Seg) (body : Bool) (known : List Arity) (ts : List Tree) (s : State) →
+        term_list by_arities bs scope body known ≡ (Ok ts, s) → trees_by s.marks bs ≡ ts }
+    ensures ascending { (bs : List ℕ) (scope : List Seg) (body : Bool) (known : List Arity) (ts : List Tree) (s : State) →
+        term_list by_arities bs scope body known ≡ (Ok ts, s) → Ascending s.marks }
+{}
