@@ -1,5 +1,6 @@
 pub mod Calls
 pub mod Follows
+pub mod Halves
 pub mod Inners
 pub mod Law
 pub mod LeafNames

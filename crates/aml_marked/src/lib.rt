@@ -3,5 +3,7 @@
 #![tactic(auto)]
 
 mod laws;
+mod search;
 
 pub use laws::marks_give_the_trees_again;
+pub use search::marked_count;
