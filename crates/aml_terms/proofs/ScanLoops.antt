@@ -1,6 +1,6 @@
 -- What follows for a loop of steps whose values are left out.
-use Rattle.std.specs.Prelude.{◌≡◌, ℕ, zero, suc, ◌-◌, ◌+◌, ◌<◌, ◌≤◌, List, [], ◌∷◌, length, drop, true, false, Ok, Err, IsErr, IsErrAnd, refl}
-use Rattle.std.proofs.Common.{◌∙◌, sym, ap, get_or, add-one, drop-cons, arith}
+use Rattle.std.specs.Prelude.{◌≡◌, ℕ, suc, ◌-◌, ◌+◌, ◌<◌, ◌≤◌, List, [], ◌∷◌, length, drop, true, false, Ok, Err, IsErr, IsErrAnd, refl}
+use Rattle.std.proofs.Common.{◌∙◌, ap, get_or, arith}
 use Rattle.std.proofs.lemmas.List.{drop_all}
 use Rattle.ar_space.specs.declared.refusal.Refusal.{Refusal}
 use Rattle.ar_space.specs.Outcome.{Outcome}
@@ -15,6 +15,16 @@ use Rattle.aml_terms.specs.Scanned.{kept, scanned, seen_so}
 use Rattle.aml_terms.proofs.Scans.{kept_kept_err}
 use Rattle.aml_terms.proofs.Loops.{before, until_is, until_over}
 use Rattle.aml_terms.proofs.Levels.{at_index, operands_is, operands_none, operands_nil}
+
+-- a step whose value is known, as one whose value is left out
+
+pub scanned_known : {A : Type 0} {a : A} {s s2 : State} (m : Step A) → Does (Ok a) s2 m s → Does (Ok tt) s2 (scanned m) s
+unfolding kept
+scanned_known m h = record { is = λ _. rw (h.is tt) refl }
+
+pub scanned_refused : {A : Type 0} {e : Refusal} {s s2 : State} (m : Step A) → Does {A = A} (Err e) s2 m s → Does {A = Unit {0}} (Err e) s2 (scanned m) s
+unfolding kept
+scanned_refused m h = record { is = λ ne. rw (h.is ne) refl }
 
 abbrev nothing : {A : Type 0} → Outcome A × State → Outcome (Unit {0}) × State
 nothing = seen_so (λ _. tt)

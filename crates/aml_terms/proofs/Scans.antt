@@ -1,5 +1,5 @@
 -- What follows for a chain of steps whose values are left out.
-use Rattle.std.specs.Prelude.{◌≡◌, ℕ, ◌-◌, ◌<◌, List, Bool, true, false, Ok, Err, IsErr, IsErrAnd, refl}
+use Rattle.std.specs.Prelude.{◌≡◌, ℕ, ◌-◌, ◌<◌, List, true, false, Ok, Err, IsErr, IsErrAnd, refl}
 use Rattle.std.proofs.Common.{◌∙◌, sym, ap}
 use Rattle.ar_space.specs.declared.refusal.Refusal.{Refusal}
 use Rattle.ar_space.specs.declared.refusal.Refusal.TheVariants as refusals
@@ -15,7 +15,7 @@ use Rattle.aml_grammar.specs.declared.context.Position.{Position}
 use Rattle.aml_grammar.specs.State.{State, Step, look, is_next, leave}
 use Rattle.aml_grammar.specs.Operands.{Read}
 use Rattle.aml_grammar.specs.Tree.{Tree, Part, inner}
-use Rattle.aml_grammar.specs.Grammar.{Inner, Counting, keeping, deeper, below, term_at, term_operand, else_part, else_operand, else_term, at_else}
+use Rattle.aml_grammar.specs.Grammar.{Inner, Counting, keeping, deeper, below, term_at, term_operand, else_part, else_operand, at_else}
 use Rattle.aml_terms.specs.Scanned.{kept, scanned, seen_so, noted}
 use Rattle.aml_terms.proofs.Steps.{memory_err, memory_seen_err, memory_answers}
 use Rattle.aml_terms.proofs.Levels.{below_none, below_some}

@@ -15,6 +15,7 @@ mod reader;
 mod scan;
 mod scan_fields;
 mod scan_if_else;
+mod scan_names;
 mod scan_operands;
 mod scan_places;
 mod scan_terms;

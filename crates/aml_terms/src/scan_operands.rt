@@ -10,6 +10,7 @@ use crate::before::Before;
 use crate::names::name_string;
 use crate::operands::{METHOD_TYPE, declare, declare_earlier, declared_path};
 use crate::reader::Reader;
+use crate::scan_names::skip_name;
 use aml_grammar::{ArgumentCounts, Context, Earlier, OperandKind};
 use aml_path::Path;
 use ar_space::Refusal;
@@ -17,17 +18,15 @@ use std::alloc::Global;
 
 // ---- names
 
-/// A name that stands for itself alone.
+/// A name of which no path is asked here.
 #[tactic(auto, using(crate::proofs::Scans::scanning), unfolding(aml_grammar::specs::Operands::name_operand))]
 pub(crate) fn name_operand<C: ArgumentCounts, B: Before>(
-    alloc: Global,
     reader: &mut Reader<'_, C, B>,
 ) -> Result<(), Refusal>
     ensures reads { Does result reader.new (scanned name_operand) reader.old }
     ensures kept { OnOk result (length reader.new.rest ≤ length reader.old.rest) }
 {
-    name_string(alloc, reader)?;
-    Ok(())
+    skip_name(reader)
 }
 
 /// The name of a Scope: its list stands where the name is found, or else at the path that it stands for.
@@ -206,7 +205,7 @@ pub(crate) fn operand<C: ArgumentCounts, B: Before>(
     ensures kept { OnOk result (length reader.new.rest ≤ length reader.old.rest) }
 {
     match kind {
-        OperandKind::NameString => name_operand(alloc, reader),
+        OperandKind::NameString => name_operand(reader),
         OperandKind::ScopeName => scope_name(alloc, reader, scope, earlier),
         OperandKind::AliasSource => alias_source(alloc, reader, scope, earlier),
         OperandKind::AliasName => {

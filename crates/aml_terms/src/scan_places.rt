@@ -33,7 +33,7 @@ pub(crate) fn super_name<C: ArgumentCounts, B: Before>(
     if next == 0 {
         Err(Refusal::Name(NameFault::BadName))
     } else if starts_name(next) {
-        name_operand(alloc, reader)
+        name_operand(reader)
     } else {
         term(alloc, reader, levels, Position::SuperName, scope, context)
     }
@@ -98,7 +98,7 @@ fn connection<C: ArgumentCounts, B: Before>(
 {
     let next = reader.peek()?;
     if starts_name(next) {
-        name_operand(alloc, reader)
+        name_operand(reader)
     } else if next == BUFFER {
         term(alloc, reader, levels, Position::DataObject, scope, context)
     } else {

@@ -15,6 +15,7 @@ use crate::positions::{
 };
 use crate::reader::Reader;
 use crate::scan_if_else::if_term;
+use crate::scan_names::skip_name;
 use crate::scan_operands as leaf;
 use crate::scan_places::{fields_operand, simple_name, super_name, target};
 use aml_grammar::{ArgumentCounts, Context, Earlier, OperandKind, Position, Row};
@@ -85,22 +86,18 @@ fn named_term<C: ArgumentCounts, B: Before>(
     ensures shorter { OnOk result (length reader.new.rest < length reader.old.rest) }
 {
     match position {
-        Position::PackageElement => element_name(alloc, reader),
+        Position::PackageElement => element_name(reader),
         _ => invocation(alloc, reader, levels, scope, context, start),
     }
 }
 
 /// An element of a package that is a name.
 #[tactic(auto, using(crate::proofs::Scans::scanning), unfolding(aml_grammar::specs::Grammar::element_name))]
-fn element_name<C: ArgumentCounts, B: Before>(
-    alloc: Global,
-    reader: &mut Reader<'_, C, B>,
-) -> Result<(), Refusal>
+fn element_name<C: ArgumentCounts, B: Before>(reader: &mut Reader<'_, C, B>) -> Result<(), Refusal>
     ensures reads { Does result reader.new (scanned element_name) reader.old }
     ensures shorter { OnOk result (length reader.new.rest < length reader.old.rest) }
 {
-    name_string(alloc, reader)?;
-    Ok(())
+    skip_name(reader)
 }
 
 /// A name and as many terms as it takes arguments.

@@ -1,6 +1,6 @@
-use Rattle.std.proofs.Common.{◌≡◌, ◌-◌, ◌+◌, ◌<◌, length, sym, ◌∙◌, arith}
+use Rattle.std.proofs.Common.{◌-◌, ◌<◌, length, sym, ◌∙◌, arith}
 use Rattle.aml_grammar.specs.declared.context.Position.TheVariants as positions
-use Rattle.aml_grammar.specs.Grammar.{by_arities, term_at, term_operand, operand, items, field, fields, nothing_earlier}
+use Rattle.aml_grammar.specs.Grammar.{by_arities, term_at, term_operand, operand, items, field, fields}
 use Rattle.aml_terms.specs.Scanned.{kept}
 use Rattle.aml_terms.proofs.Scans.{kept_keeping, scanned_term}
 use Rattle.aml_terms.proofs.ScanLoops.{times_turn, times_err, times_done, until_turn, until_err, until_done, operands_turn, operands_err, operands_end, operands_done}
