@@ -46,20 +46,20 @@ pub ruleset leveling = (viewing, does_too_deep, does_deeper, does_keeping)
 
 -- ---- the operands of a term, one after another
 
-at_index : (ks : List OperandKind) (i : ℕ) (d : OperandKind) → i < length ks → drop i ks ≡ get_or ks i d ∷ drop (i + 1) ks
+pub at_index : (ks : List OperandKind) (i : ℕ) (d : OperandKind) → i < length ks → drop i ks ≡ get_or ks i d ∷ drop (i + 1) ks
 at_index ks i d lt = rw (add-one, drop-cons ks i d lt)
 
 module _ (inner : Inner) (scope : List Seg) (context : Context) (start : ℕ) where
-  operands_is : (k : OperandKind) (ks : List OperandKind) (earlier : Earlier) → is_nothing k ≡ false
+  pub operands_is : (k : OperandKind) (ks : List OperandKind) (earlier : Earlier) → is_nothing k ≡ false
       → operands inner scope context start (k ∷ ks) earlier ≡ (operand inner scope context start k earlier >>= (λ x. before x.0 (operands inner scope context start ks x.1)))
   unfolding operands
   operands_is k ks earlier some = rw some refl
 
-  operands_none : (k : OperandKind) (ks : List OperandKind) (earlier : Earlier) (s : State) → is_nothing k ≡ true → operands inner scope context start (k ∷ ks) earlier s ≡ (Ok [], s)
+  pub operands_none : (k : OperandKind) (ks : List OperandKind) (earlier : Earlier) (s : State) → is_nothing k ≡ true → operands inner scope context start (k ∷ ks) earlier s ≡ (Ok [], s)
   unfolding operands give
   operands_none k ks earlier s none = rw none refl
 
-  operands_nil : (ks : List OperandKind) (earlier : Earlier) (s : State) → ks ≡ [] → operands inner scope context start ks earlier s ≡ (Ok [], s)
+  pub operands_nil : (ks : List OperandKind) (earlier : Earlier) (s : State) → ks ≡ [] → operands inner scope context start ks earlier s ≡ (Ok [], s)
   unfolding operands give
   operands_nil ks earlier s none = rw none refl
 

@@ -2,6 +2,9 @@ pub mod Appended
 pub mod Levels
 pub mod Loops
 pub mod Numbers
+pub mod Rows
+pub mod ScanLoops
+pub mod Scans
 pub mod SpelledNames
 pub mod SpelledNumbers
 pub mod SpelledOperands

@@ -33,12 +33,12 @@ pub front_init : {A : Type 0} (m : Step (List A)) (start : State) → Same m sta
 unfolding with_front ◌>>=◌
 front_init m start = record { is = sym (with_nothing (m start).0 (m start).1) }
 
-until_is : {A : Type 0} (m : Step A) (n : ℕ) (s : State) (rest : List ℕ) → s.rest ≡ rest → 0 < length rest → until_end m (suc n) s ≡ (m >>= (λ x. before x (until_end m n))) s
+pub until_is : {A : Type 0} (m : Step A) (n : ℕ) (s : State) (rest : List ℕ) → s.rest ≡ rest → 0 < length rest → until_end m (suc n) s ≡ (m >>= (λ x. before x (until_end m n))) s
 unfolding until_end
 until_is m n s [] is some = absurd (omega arith)
 until_is m n s (b ∷ bs) is some = ap (λ r. until_of m (until_end m n) r s) is
 
-until_over : {A : Type 0} (m : Step A) (n : ℕ) (s : State) (rest : List ℕ) → s.rest ≡ rest → length rest ≡ 0 → until_end m n s ≡ (Ok [], s)
+pub until_over : {A : Type 0} (m : Step A) (n : ℕ) (s : State) (rest : List ℕ) → s.rest ≡ rest → length rest ≡ 0 → until_end m n s ≡ (Ok [], s)
 unfolding until_end give
 until_over m zero s rest is none = refl
 until_over m (suc n) s [] is none = ap (λ r. until_of m (until_end m n) r s) is

@@ -35,7 +35,7 @@ pub(crate) fn if_term<C: ArgumentCounts, B: Before>(
     with_else(row.0, operands, otherwise)
 }
 
-const ELSE: u8 = 0xA1;
+pub(crate) const ELSE: u8 = 0xA1;
 
 #[cycle(parse)]
 #[tactic(auto, using(crate::proofs::Levels::leveling), unfolding(aml_grammar::specs::Grammar::else_part))]

@@ -12,6 +12,13 @@ mod parse;
 mod places;
 mod positions;
 mod reader;
+mod scan;
+mod scan_fields;
+mod scan_if_else;
+mod scan_names;
+mod scan_operands;
+mod scan_places;
+mod scan_terms;
 mod table;
 mod terms;
 

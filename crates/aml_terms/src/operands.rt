@@ -29,7 +29,7 @@ fn begins_outside(name: &NameString) -> bool
 
 /// The path that a declared name stands for.
 #[tactic(auto, using(ar_space::specs::Outcome::answering), unfolding(aml_grammar::specs::DeclaredNames::declared_path))]
-fn declared_path(
+pub(crate) fn declared_path(
     alloc: Global,
     scope: &Path,
     context: Context,
@@ -83,7 +83,7 @@ pub(crate) fn declare<C: ArgumentCounts, B: Before>(
 }
 
 #[tactic(auto, using(crate::proofs::Viewed::viewing))]
-fn declare_earlier<C: ArgumentCounts, B: Before>(
+pub(crate) fn declare_earlier<C: ArgumentCounts, B: Before>(
     alloc: Global,
     reader: &mut Reader<'_, C, B>,
     context: Context,
@@ -230,7 +230,7 @@ pub(crate) fn object_type<C: ArgumentCounts, B: Before>(
 }
 
 /// The object type of an External that names a control method.
-const METHOD_TYPE: u8 = 8;
+pub(crate) const METHOD_TYPE: u8 = 8;
 
 /// The argument count of an External: it counts where the object type is that of a method.
 #[tactic(auto, using(crate::proofs::Viewed::viewing), unfolding(aml_grammar::specs::Operands::argument_count))]

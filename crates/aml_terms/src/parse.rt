@@ -18,7 +18,7 @@ use std::alloc::Global;
 use std::marker::Brand;
 
 /// How many terms may be one inside another, the outermost counted.
-const MAX_DEPTH: usize = 64;
+pub(crate) const MAX_DEPTH: usize = 64;
 
 /// The terms of a list: of a table after its header, or, where `body` is true, of the body of a control method
 /// (TermList of ACPI 6.5, 20.2.5).

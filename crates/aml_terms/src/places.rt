@@ -62,7 +62,7 @@ pub(crate) fn target<C: ArgumentCounts, B: Before>(
 }
 
 #[tactic(auto, unfolding(aml_grammar::specs::Grammar::is_slot))]
-fn is_slot(byte: u8) -> bool
+pub(crate) fn is_slot(byte: u8) -> bool
     ensures { result ≡ is_slot byte }
 {
     (0x60..=0x6E).contains(&byte)
@@ -90,7 +90,7 @@ pub(crate) fn simple_name<C: ArgumentCounts, B: Before>(
     }
 }
 
-const BUFFER: u8 = 0x11;
+pub(crate) const BUFFER: u8 = 0x11;
 
 /// What the elements after it are connected to: a name or a Buffer.
 #[cycle(parse)]

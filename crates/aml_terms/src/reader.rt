@@ -5,6 +5,7 @@ ghost use Rattle.ar_space.specs.Change.{Does};
 ghost use Rattle.aml_grammar.specs.State.{State, look, byte, peek, is_next, next_bytes, all_bytes, text, text_length, integer, little_endian, bit_count, size_after, package_size, length_of, enter, past, adding, marking};
 ghost use Rattle.aml_grammar.specs.Names.{carets, parents};
 ghost use Rattle.aml_grammar.specs.Arities.{found, or_path, arity_of};
+ghost use Rattle.aml_terms.specs.Scanned.{scanned};
 
 use crate::before::Before;
 use crate::declarations::Declarations;
@@ -150,6 +151,26 @@ impl<'a, C: ArgumentCounts, B: Before> Reader<'a, C, B> {
         Ok(Vec::from_slice(alloc, &bytes[..count])?)
     }
 
+    /// Goes past all bytes that are left.
+    #[tactic(auto, using(crate::proofs::Scans::scanning), unfolding(aml_grammar::specs::State::all_bytes, crate::specs::Scanned::kept))]
+    pub(crate) fn skip_all(&mut self)
+        ensures reads { Does (Ok tt) self.new (scanned all_bytes) self.old }
+        ensures kept { length self.new.rest ≤ length self.old.rest }
+    {
+        self.skip(self.rest.len());
+    }
+
+    /// Goes past bytes up to a zero, and past it.
+    #[tactic(auto, using(crate::proofs::Scans::scanning), unfolding(aml_grammar::specs::State::text))]
+    pub(crate) fn skip_text(&mut self) -> Result<(), Refusal>
+        ensures reads { Does result self.new (scanned text) self.old }
+        ensures kept { OnOk result (length self.new.rest ≤ length self.old.rest) }
+    {
+        let count = text_length(self.rest);
+        self.next_bytes(count + 1)?;
+        Ok(())
+    }
+
     /// The integer of the next bytes, the lowest first.
     #[tactic(auto, using(crate::proofs::Steps::reading), unfolding(aml_grammar::specs::State::integer))]
     pub(crate) fn integer(&mut self, count: usize) -> Result<u64, Refusal>
@@ -244,6 +265,14 @@ impl<'a, C: ArgumentCounts, B: Before> Reader<'a, C, B> {
         ensures { B.before ++ result ≡ self.entry.arities }
     {
         self.arities.into_added()
+    }
+
+    /// The marks of the calls so far, and what the list has declared itself. It takes no memory.
+    pub(crate) fn into_noted(self) -> (Vec<Mark>, Arities)
+        ensures marks { result.0.items ≡ self.entry.marks }
+        ensures arities { B.before ++ result.1 ≡ self.entry.arities }
+    {
+        (self.marks, self.arities.into_added())
     }
 
     /// Marks a call that has arguments.
