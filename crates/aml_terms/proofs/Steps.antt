@@ -50,3 +50,9 @@ memory_answers (Err y) view x h i = record { is = λ ne. absurd (cc (h.is (λ q.
 
 -- these close a chain of `?` whose definition is the same chain
 pub ruleset reading = (changing, does_gave, does_look, looked_ok, settle_ok, settle_err, settle_seen_err, memory_err, memory_seen_err)
+
+-- what a step answers, without the state that it leaves
+pub answers_step : {A : Type 0} {r : Outcome A} {s after : State} (m : Step A) → Does r after m s → Answers r (m s).0
+answers_step m h = record { is = λ ne. ap (λ p. p.0) (h.is ne) }
+
+pub ruleset outcomes = (answers_step)

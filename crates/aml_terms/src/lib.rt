@@ -26,4 +26,7 @@ pub use aml_grammar::{
     ArgumentCounts, Arities, Arity, Item, Mark, Opcode, Operand, OperandView, Term, TermCode,
     TermPart, TermReader,
 };
+pub use names::{read_name, starts_name};
 pub use parse::{parse_list, parse_table, read_as_spelled};
+pub use reader::{carets, length_of, little_endian, text_length};
+pub use table::row_of;

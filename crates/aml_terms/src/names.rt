@@ -1,20 +1,21 @@
 //! How names are spelled (NameString of ACPI 6.5, 20.2.2).
-ghost use Rattle.std.specs.Prelude.{◌≡◌, ◌+◌, ◌<◌, ◌≤◌, ℕ, length, OnOk};
-ghost use Rattle.ar_space.specs.Outcome.{seen};
+ghost use Rattle.std.specs.Prelude.{◌≡◌, ◌+◌, ◌<◌, ◌≤◌, ◌^◌, ℕ, [], length, OnOk};
+ghost use Rattle.ar_space.specs.Outcome.{Answers, seen};
 ghost use Rattle.ar_space.specs.Change.{Does};
 ghost use Rattle.aml_grammar.specs.State.{times};
 ghost use Rattle.aml_grammar.specs.Names.{starts_name, lead_name_char, name_char, segment, counted_segments, multiple_segments, segments_at, segments, rooted_name, relative_name, name_at, name_string};
 
 use crate::before::Before;
 use crate::reader::Reader;
-use aml_grammar::ArgumentCounts;
+use aml_grammar::{ArgumentCounts, Arities};
 use aml_path::{NameString, Prefix, Seg, is_lead_name_char, is_name_char};
 use ar_space::{NameFault, Refusal};
 use std::alloc::Global;
+use std::marker::Brand;
 
 /// Whether a name begins with this byte.
 #[tactic(auto, unfolding(aml_grammar::specs::Names::starts_name))]
-pub(crate) fn starts_name(byte: u8) -> bool
+pub fn starts_name(byte: u8) -> bool
     ensures { result ≡ starts_name byte }
 {
     byte == b'\\' || byte == b'^' || byte == b'.' || byte == b'/' || is_lead_name_char(byte)
@@ -162,4 +163,15 @@ pub(crate) fn name_string<C: ArgumentCounts, B: Before>(
     } else {
         relative_name(alloc, reader)
     }
+}
+
+/// The name that bytes begin with, which stand at an offset of their list; refused as the grammar refuses it.
+#[tactic(auto, using(crate::proofs::Steps::outcomes))]
+pub fn read_name(alloc: Global, at: usize, bytes: &[u8]) -> Result<NameString, Refusal>
+    requires { at + length bytes.now < 2 ^ 64 }
+    ensures { Answers result (name_string (record { at = at; rest = bytes.now; arities = []; marks = [] })).0 }
+{
+    let none = Arities::new(alloc);
+    let mut reader = Reader::<Arities, Brand>::standing(alloc, at, bytes, &none);
+    name_string(alloc, &mut reader)
 }

@@ -56,6 +56,20 @@ impl<'a, C: ArgumentCounts, B: Before> Reader<'a, C, B> {
         }
     }
 
+    /// A reader of bytes that stand at an offset of their list.
+    pub(crate) fn standing(alloc: Global, at: usize, bytes: &'a [u8], counts: &'a C) -> Reader<'a, C, B>
+        requires counts { C.counts counts.now ≡ B.before }
+        requires fits { at + length bytes.now < 2 ^ 64 }
+        ensures { result ≡ record { at = at; rest = bytes.now; arities = B.before; marks = [] } }
+    {
+        Reader {
+            at,
+            rest: bytes,
+            arities: Declarations::new(alloc, counts),
+            marks: Vec::new(alloc),
+        }
+    }
+
     /// Where the next byte stands, from the first byte of the handed-in list.
     pub(crate) fn at(&self) -> usize
         ensures { result ≡ self.now.at }
@@ -315,7 +329,7 @@ impl<'a, C: ArgumentCounts, B: Before> Reader<'a, C, B> {
 }
 
 /// How many bytes stand before the first zero.
-fn text_length(bytes: &[u8]) -> usize
+pub fn text_length(bytes: &[u8]) -> usize
     ensures count { result ≡ text_length bytes.now }
     ensures within { result ≤ length bytes.now }
 {
@@ -323,15 +337,15 @@ fn text_length(bytes: &[u8]) -> usize
 }
 
 /// How many `^` the bytes begin with.
-fn carets(bytes: &[u8]) -> usize
+pub fn carets(bytes: &[u8]) -> usize
     ensures count { result ≡ carets bytes.now }
     ensures within { result ≤ length bytes.now }
 {
     bytes.iter().take_while(|byte| **byte == b'^').count()
 }
 
-/// The length that a lead byte and the bytes after it give.
-fn length_of(lead: u8, more: u64) -> u64
+/// The length that a lead byte of a PkgLength and the number in the bytes after it give (ACPI 6.5, 20.2.4).
+pub fn length_of(lead: u8, more: u64) -> u64
     requires { more < 256 ^ (lead / 64) }
     ensures { result ≡ length_of lead more }
 {
@@ -342,7 +356,8 @@ fn length_of(lead: u8, more: u64) -> u64
     }
 }
 
-fn little_endian(bytes: &[u8]) -> u64
+/// The integer of up to eight bytes, the lowest first.
+pub fn little_endian(bytes: &[u8]) -> u64
     requires { length bytes.now ≤ 8 }
     ensures number { result ≡ little_endian bytes.now }
     ensures bound { result < 256 ^ length bytes.now }

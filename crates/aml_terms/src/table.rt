@@ -375,7 +375,7 @@ fn gaps_below(number: u16) -> u16
 
 /// The row of an opcode, where the table has one.
 #[tactic(auto, unfolding(aml_grammar::specs::Table::row_of))]
-pub(crate) fn row_of(number: u16) -> Option<Row>
+pub fn row_of(number: u16) -> Option<Row>
     ensures { result ≡ row_of number }
 {
     let place = usize::from(number - gaps_below(number));

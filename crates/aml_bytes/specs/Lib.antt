@@ -1,0 +1,4 @@
+pub mod AtTree
+pub mod FieldElements
+pub mod Named
+pub mod Spots

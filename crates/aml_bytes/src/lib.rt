@@ -1,0 +1,16 @@
+//! Terms of AML read where they stand: a reader of table bytes that makes no trees and takes no memory for terms (ACPI 6.5, 20.2).
+#![tactic(auto)]
+
+mod at;
+mod at_reader;
+mod cursor;
+mod lent;
+mod marks;
+mod operands;
+mod places;
+mod skip;
+mod spot;
+
+pub use at::At;
+pub use marks::Marks;
+pub use places::{first_term, list_at};

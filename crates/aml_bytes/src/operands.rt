@@ -1,0 +1,222 @@
+//! Goes from a term to one of its operands.
+ghost use Rattle.std.specs.Prelude.{◌≡◌, ◌≤◌, ◌∷◌, [], ℕ, length, option_map, Some};
+ghost use Rattle.aml_grammar.specs.Shape.{parts_of};
+ghost use Rattle.aml_grammar.specs.Apart.{part_at, operand_of};
+ghost use Rattle.aml_marked.specs.Marked.{count_at, a_term, an_else, with_row, all_operands, of_row, over, a_field, an_access_field, an_extended_access_field, a_named_field};
+ghost use Rattle.aml_marked.specs.Parting.{kind_count};
+ghost use Rattle.aml_bytes.specs.AtTree.{at_tree, place_at};
+ghost use Rattle.aml_bytes.specs.Spots.{spot_part};
+
+use crate::at::{At, Kind};
+use crate::cursor::Cursor;
+use crate::marks::Marks;
+use crate::skip::{is_if, is_nothing, opcode, skip_operand, skip_row};
+use crate::spot::Spot;
+use aml_grammar::{OperandKind, Row};
+use aml_terms::{row_of, starts_name};
+
+/// Goes to an operand among kinds that stand one after another.
+#[tactic(auto, using(aml_marked::specs::Parting::parting), unfolding(aml_marked::specs::Marked::all_operands, aml_marked::specs::Marked::after, aml_marked::specs::Marked::gives))]
+fn to_kind(cursor: &mut Cursor<'_>, marks: &Marks, levels: u8, kinds: &[OperandKind], index: usize) -> Option<Spot>
+    ensures { option_map (λ s. spot_part (count_at marks.now) s cursor.new) result ≡ part_at (parts_of (all_operands (a_term (count_at marks.now) levels) kinds.now cursor.old).0) index }
+{
+    match kinds {
+        [] => None,
+        [kind, rest @ ..] => {
+            if is_nothing(*kind) {
+                None
+            } else if index == 0 {
+                Some(Spot::Operand(*kind, levels))
+            } else {
+                skip_operand(cursor, marks, levels, *kind);
+                to_kind(cursor, marks, levels, rest, index - 1)
+            }
+        }
+    }
+}
+
+/// How many operands kinds have.
+fn kind_count(kinds: &[OperandKind]) -> usize
+    ensures count { result ≡ kind_count kinds.now }
+    ensures bound { result ≤ length kinds.now }
+{
+    match kinds {
+        [] => 0,
+        [kind, rest @ ..] => {
+            if is_nothing(*kind) {
+                0
+            } else {
+                1 + kind_count(rest)
+            }
+        }
+    }
+}
+
+/// Goes to an operand of a row.
+#[tactic(auto, using(aml_marked::specs::Parting::parting), unfolding(aml_marked::specs::Marked::of_row, aml_marked::specs::Marked::inside))]
+fn to_row_operand(cursor: &mut Cursor<'_>, marks: &Marks, levels: u8, row: Row, index: usize) -> Option<Spot>
+    ensures { option_map (λ s. spot_part (count_at marks.now) s cursor.new) result ≡ part_at (parts_of (of_row (a_term (count_at marks.now) levels) row cursor.old).0) index }
+{
+    let kinds = [row.3.0, row.3.1, row.3.2, row.3.3, row.3.4, row.3.5];
+    if row.2 {
+        cursor.open();
+    }
+    to_kind(cursor, marks, levels, &kinds, index)
+}
+
+/// Goes to an operand of a term with an opcode: the Else of an If is its last one.
+#[tactic(auto, using(aml_marked::specs::Parting::parting), unfolding(aml_marked::specs::Marked::with_row, aml_marked::specs::Marked::after, aml_marked::specs::Marked::gives))]
+fn to_operand_of_row(cursor: &mut Cursor<'_>, marks: &Marks, levels: u8, row: Row, index: usize) -> Option<Spot>
+    ensures { option_map (λ s. spot_part (count_at marks.now) s cursor.new) result ≡ operand_of (with_row (a_term (count_at marks.now) levels) (Some row) cursor.old).0 index }
+{
+    if !is_if(row.0) {
+        return to_row_operand(cursor, marks, levels, row, index);
+    }
+    let count = kind_count(&[row.3.0, row.3.1, row.3.2, row.3.3, row.3.4, row.3.5]);
+    if index < count {
+        return to_row_operand(cursor, marks, levels, row, index);
+    }
+    if index > count {
+        return None;
+    }
+    skip_row(cursor, marks, levels, row);
+    Some(Spot::Else(levels))
+}
+
+/// Goes to an operand of a term.
+#[tactic(auto, using(aml_marked::specs::Parting::parting), unfolding(aml_marked::specs::Marked::a_name, aml_marked::specs::Marked::a_call, aml_marked::specs::Marked::with_row, aml_marked::specs::Marked::a_coded, aml_marked::specs::Marked::a_term_in, aml_marked::specs::Marked::an_operand, aml_marked::specs::Marked::after, aml_marked::specs::Marked::gives))]
+fn to_operand(cursor: &mut Cursor<'_>, marks: &Marks, levels: u8, element: bool, index: usize) -> Option<Spot>
+    ensures { option_map (λ s. spot_part (count_at marks.now) s cursor.new) result ≡ operand_of (a_term (count_at marks.now) levels element cursor.old).0 index }
+{
+    if levels == 0 {
+        return None;
+    }
+    if !starts_name(cursor.first()) {
+        let number = opcode(cursor);
+        return match row_of(number) {
+            None => None,
+            Some(row) => to_operand_of_row(cursor, marks, levels - 1, row, index),
+        };
+    }
+    if index == 0 {
+        return Some(Spot::Operand(OperandKind::NameString, levels - 1));
+    }
+    if element || index > 1 {
+        return None;
+    }
+    let count = marks.count_at(cursor.at());
+    cursor.over_name();
+    Some(Spot::Arguments(count, levels - 1))
+}
+
+/// Goes to the list of an Else.
+#[tactic(auto, using(aml_marked::specs::Parting::parting), unfolding(aml_marked::specs::Marked::an_else, aml_marked::specs::Marked::inside, aml_marked::specs::Marked::an_operand, aml_marked::specs::Marked::after, aml_marked::specs::Marked::gives))]
+fn to_else_operand(cursor: &mut Cursor<'_>, levels: u8, index: usize) -> Option<Spot>
+    ensures { (count : ℕ → ℕ) → option_map (λ s. spot_part count s cursor.new) result ≡ operand_of (an_else (a_term count levels) cursor.old).0 index }
+{
+    if index > 0 {
+        return None;
+    }
+    cursor.over(1);
+    cursor.open();
+    Some(Spot::Operand(OperandKind::TermList, levels))
+}
+
+/// Goes to an operand of a field element.
+#[tactic(auto, using(aml_marked::specs::Parting::parting), unfolding(aml_marked::specs::Marked::a_field, aml_marked::specs::Marked::a_reserved_field, aml_marked::specs::Marked::a_connect_field, aml_marked::specs::Marked::a_named_field, aml_marked::specs::Marked::an_operand, aml_marked::specs::Marked::a_name, aml_marked::specs::Marked::after, aml_marked::specs::Marked::gives))]
+fn to_field_operand(cursor: &mut Cursor<'_>, levels: u8, index: usize) -> Option<Spot>
+    ensures { (count : ℕ → ℕ) → option_map (λ s. spot_part count s cursor.new) result ≡ operand_of (a_field (a_term count levels) cursor.old).0 index }
+{
+    let next = cursor.first();
+    if next == 0 {
+        to_only(cursor, Spot::Bits, index)
+    } else if next == 1 {
+        to_access(cursor, index)
+    } else if next == 2 {
+        to_only(cursor, Spot::Operand(OperandKind::SuperName, levels), index)
+    } else if next == 3 {
+        to_extended_access(cursor, index)
+    } else {
+        to_named(cursor, levels, index)
+    }
+}
+
+/// Goes to the only operand of a field element, behind its code.
+fn to_only(cursor: &mut Cursor<'_>, spot: Spot, index: usize) -> Option<Spot>
+    ensures { (count : ℕ → ℕ) → option_map (λ s. spot_part count s cursor.new) result ≡ part_at (parts_of (spot_part count spot (over 1 cursor.old) ∷ [])) index }
+{
+    if index > 0 {
+        return None;
+    }
+    cursor.over(1);
+    Some(spot)
+}
+
+const BYTE: Spot = Spot::Operand(OperandKind::ByteData, 0);
+
+/// Goes to an operand of an access field: the access, or its attribute.
+#[tactic(auto, using(aml_marked::specs::Parting::parting), unfolding(aml_marked::specs::Marked::an_access_field, aml_marked::specs::Marked::an_operand, aml_marked::specs::Marked::after, aml_marked::specs::Marked::gives))]
+fn to_access(cursor: &mut Cursor<'_>, index: usize) -> Option<Spot>
+    ensures { (count : ℕ → ℕ) → option_map (λ s. spot_part count s cursor.new) result ≡ operand_of (an_access_field cursor.old).0 index }
+{
+    cursor.over(1);
+    match index {
+        0 => Some(BYTE),
+        1 => {
+            cursor.over(1);
+            Some(BYTE)
+        }
+        _ => None,
+    }
+}
+
+/// Goes to an operand of an extended access field: the access, its attribute or its length.
+#[tactic(auto, using(aml_marked::specs::Parting::parting), unfolding(aml_marked::specs::Marked::an_extended_access_field, aml_marked::specs::Marked::an_operand, aml_marked::specs::Marked::after, aml_marked::specs::Marked::gives))]
+fn to_extended_access(cursor: &mut Cursor<'_>, index: usize) -> Option<Spot>
+    ensures { (count : ℕ → ℕ) → option_map (λ s. spot_part count s cursor.new) result ≡ operand_of (an_extended_access_field cursor.old).0 index }
+{
+    cursor.over(1);
+    match index {
+        0 => Some(BYTE),
+        1 => {
+            cursor.over(1);
+            Some(BYTE)
+        }
+        2 => {
+            cursor.over(1);
+            cursor.over(1);
+            Some(BYTE)
+        }
+        _ => None,
+    }
+}
+
+/// Goes to an operand of a named field: its name, or its count of bits.
+#[tactic(auto, using(aml_marked::specs::Parting::parting), unfolding(aml_marked::specs::Marked::a_named_field, aml_marked::specs::Marked::an_operand, aml_marked::specs::Marked::a_name, aml_marked::specs::Marked::after, aml_marked::specs::Marked::gives))]
+fn to_named(cursor: &mut Cursor<'_>, levels: u8, index: usize) -> Option<Spot>
+    ensures { (count : ℕ → ℕ) → option_map (λ s. spot_part count s cursor.new) result ≡ operand_of (a_named_field cursor.old).0 index }
+{
+    match index {
+        0 => Some(Spot::Operand(OperandKind::NameString, levels)),
+        1 => {
+            cursor.over_name();
+            Some(Spot::Bits)
+        }
+        _ => None,
+    }
+}
+
+/// Goes to an operand of what stands there.
+#[tactic(auto, using(aml_marked::specs::Parting::parting))]
+pub(crate) fn to_part<'a>(part: At<'a>, cursor: &mut Cursor<'a>, index: usize) -> Option<Spot>
+    requires { cursor.old ≡ place_at part }
+    ensures { option_map (λ s. spot_part (count_at part.entry.marks.now) s cursor.new) result ≡ operand_of (at_tree part.entry) index }
+{
+    match part.kind {
+        Kind::Term => to_operand(cursor, part.marks, part.levels, false, index),
+        Kind::Element => to_operand(cursor, part.marks, part.levels, true, index),
+        Kind::Else => to_else_operand(cursor, part.levels, index),
+        Kind::Field => to_field_operand(cursor, part.levels, index),
+        _ => None,
+    }
+}
