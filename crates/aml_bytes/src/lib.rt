@@ -8,9 +8,12 @@ mod lent;
 mod marks;
 mod operands;
 mod places;
+mod scan;
 mod skip;
 mod spot;
 
 pub use at::At;
 pub use marks::Marks;
+pub use at_reader::lent_bytes;
 pub use places::{first_term, list_at};
+pub use scan::{scan_list, scan_table};

@@ -22,3 +22,8 @@ scanned m = kept (λ _. tt) m
 abbrev pub noted : Outcome (List Tree) × State → Outcome (List Mark × List Arity)
 noted (Ok ts, s) = Ok (s.marks, s.arities)
 noted (Err e, s) = Err e
+
+-- its marks alone
+abbrev pub marked : Outcome (List Tree) × State → Outcome (List Mark)
+marked (Ok ts, s) = Ok s.marks
+marked (Err e, s) = Err e

@@ -29,4 +29,5 @@ pub use aml_grammar::{
 pub use names::{read_name, starts_name};
 pub use parse::{parse_list, parse_table, read_as_spelled};
 pub use reader::{carets, length_of, little_endian, text_length};
+pub use scan::{scan_list, scan_table};
 pub use table::row_of;

@@ -1,8 +1,8 @@
 //! Whole lists of terms, gone over without trees.
-ghost use Rattle.std.specs.Prelude.{◌≡◌, ◌++◌};
+ghost use Rattle.std.specs.Prelude.{◌≡◌, ◌++◌, [], false, OnErr};
 ghost use Rattle.ar_space.specs.Outcome.{Answers, seen};
 ghost use Rattle.aml_grammar.specs.Grammar.{term_list, by_arities};
-ghost use Rattle.aml_terms.specs.Scanned.{noted};
+ghost use Rattle.aml_terms.specs.Scanned.{noted, marked};
 
 use crate::before::Before;
 use crate::parse::MAX_DEPTH;
@@ -12,6 +12,36 @@ use aml_grammar::{ArgumentCounts, Arities, Context, Mark, Position};
 use aml_path::Path;
 use ar_space::Refusal;
 use std::alloc::Global;
+use std::marker::Brand;
+
+/// Where the calls of a list begin that have arguments, in their order: each is refused as `parse_list` refuses the list, and as many
+/// arguments follow it as `counts` says. It makes no trees, and takes memory for names, paths and marks alone.
+pub fn scan_list<C: ArgumentCounts>(
+    alloc: Global,
+    bytes: &[u8],
+    scope: &Path,
+    body: bool,
+    counts: &C,
+) -> Result<Vec<Mark>, Refusal>
+    ensures { Answers (seen (λ v. v.items) result) (marked (term_list by_arities bytes.now scope.now body (C.counts counts.now))) }
+{
+    match scan::<C, Brand>(alloc, bytes, scope, body, counts) {
+        Ok((marks, _)) => Ok(marks),
+        Err(refusal) => Err(refusal),
+    }
+}
+
+/// The same for a table after its header, whose names stand at the root; the names that it declares take their arguments behind
+/// those from before. It is refused as `parse_table` refuses it, and then no name takes other arguments.
+pub fn scan_table(alloc: Global, bytes: &[u8], arities: &mut Arities) -> Result<Vec<Mark>, Refusal>
+    ensures table { Answers (seen (λ v. (v.items, arities.new)) result) (noted (term_list by_arities bytes.now [] false arities.old)) }
+    ensures refused { OnErr result (arities.new ≡ arities.old) }
+{
+    let root = Path::root(alloc);
+    let (marks, added) = scan::<Arities, Brand>(alloc, bytes, &root, false, arities)?;
+    arities.append(added)?;
+    Ok(marks)
+}
 
 /// The marks of the calls of a list, and what the list declares itself: what reading it leaves behind, where it is not
 /// refused as `parse_list` refuses it. It makes no trees, and takes memory for names, paths and marks alone.
