@@ -59,7 +59,13 @@ fn parted<'a>(part: At<'a>, first: Kind, behind: &Cursor<'a>) -> Item<At<'a>>
 {
     Item {
         first: standing(&cursor_of(part), part.marks, part.levels, 0, first),
-        rest: standing(behind, part.marks, part.levels, part.turns.saturating_sub(1), part.kind),
+        rest: standing(
+            behind,
+            part.marks,
+            part.levels,
+            part.turns.saturating_sub(1),
+            part.kind,
+        ),
     }
 }
 

@@ -53,7 +53,12 @@ fn bits(cursor: &Cursor<'_>) -> u64
 
 /// What an operand of a kind is.
 #[tactic(auto, using(aml_marked::specs::Parting::parting), unfolding(aml_marked::specs::Marked::an_operand, aml_marked::specs::Marked::a_target, aml_marked::specs::Marked::a_super_name, aml_marked::specs::Marked::all_items, aml_marked::specs::Marked::fields_left, aml_marked::specs::Marked::gives))]
-fn view_kind<'a>(cursor: &Cursor<'a>, marks: &'a Marks, levels: u8, kind: OperandKind) -> OperandView<At<'a>>
+fn view_kind<'a>(
+    cursor: &Cursor<'a>,
+    marks: &'a Marks,
+    levels: u8,
+    kind: OperandKind,
+) -> OperandView<At<'a>>
     ensures { Shows at_tree at_list result (Some (an_operand (a_term (count_at marks.now) levels) kind cursor.now).0) }
 {
     match kind {
@@ -64,9 +69,8 @@ fn view_kind<'a>(cursor: &Cursor<'a>, marks: &'a Marks, levels: u8, kind: Operan
         OperandKind::AliasName => OperandView::Name,
         OperandKind::DeclaredName => OperandView::Name,
         OperandKind::ExternalName => OperandView::Name,
-        OperandKind::MethodFlags
-        | OperandKind::ObjectType
-        | OperandKind::ArgumentCount => OperandView::Number(u64::from(cursor.first())),
+        OperandKind::MethodFlags | OperandKind::ObjectType | OperandKind::ArgumentCount =>
+            OperandView::Number(u64::from(cursor.first())),
         OperandKind::ByteData => OperandView::Number(cursor.integer(1)),
         OperandKind::WordData => OperandView::Number(cursor.integer(2)),
         OperandKind::DWordData => OperandView::Number(cursor.integer(4)),
@@ -76,7 +80,9 @@ fn view_kind<'a>(cursor: &Cursor<'a>, marks: &'a Marks, levels: u8, kind: Operan
         OperandKind::TermArg | OperandKind::DataObject => {
             OperandView::Term(standing(cursor, marks, levels, 0, Kind::Term))
         }
-        OperandKind::SuperName | OperandKind::SimpleName => view_name_or_term(cursor, marks, levels),
+        OperandKind::SuperName | OperandKind::SimpleName => view_name_or_term(
+            cursor, marks, levels,
+        ),
         OperandKind::Target => view_target(cursor, marks, levels),
         OperandKind::TermList | OperandKind::LoopTermList => {
             view_list(cursor, marks, levels, Kind::Items)
@@ -87,7 +93,12 @@ fn view_kind<'a>(cursor: &Cursor<'a>, marks: &'a Marks, levels: u8, kind: Operan
 }
 
 /// The list that is left.
-fn view_list<'a>(cursor: &Cursor<'a>, marks: &'a Marks, levels: u8, kind: Kind) -> OperandView<At<'a>>
+fn view_list<'a>(
+    cursor: &Cursor<'a>,
+    marks: &'a Marks,
+    levels: u8,
+    kind: Kind,
+) -> OperandView<At<'a>>
     ensures { Shows at_tree at_list result (Some (list (list_of kind (count_at marks.now) levels (length cursor.now.rest) cursor.now))) }
 {
     OperandView::List(standing(cursor, marks, levels, cursor.rest().len(), kind))
@@ -133,7 +144,11 @@ fn name_at(alloc: Global, cursor: &Cursor<'_>) -> Result<NameString, Refusal>
 
 /// The name at a spot.
 #[tactic(auto, using(crate::specs::Named::naming), unfolding(aml_marked::specs::Marked::an_operand, aml_marked::specs::Marked::a_target, aml_marked::specs::Marked::a_super_name, aml_marked::specs::Marked::gives, aml_marked::specs::Marked::maybe_else))]
-pub(crate) fn name_here(alloc: Global, cursor: &Cursor<'_>, spot: Spot) -> Result<NameString, Refusal>
+pub(crate) fn name_here(
+    alloc: Global,
+    cursor: &Cursor<'_>,
+    spot: Spot,
+) -> Result<NameString, Refusal>
     ensures { (count : ℕ → ℕ) → Answers result (name_of (Some (spot_part count spot cursor.now))) }
 {
     match spot {

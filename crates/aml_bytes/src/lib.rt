@@ -13,7 +13,7 @@ mod skip;
 mod spot;
 
 pub use at::At;
-pub use marks::Marks;
 pub use at_reader::lent_bytes;
+pub use marks::Marks;
 pub use places::{first_term, list_at};
 pub use scan::{scan_list, scan_table};

@@ -17,7 +17,13 @@ use aml_terms::{row_of, starts_name};
 
 /// Goes to an operand among kinds that stand one after another.
 #[tactic(auto, using(aml_marked::specs::Parting::parting), unfolding(aml_marked::specs::Marked::all_operands, aml_marked::specs::Marked::after, aml_marked::specs::Marked::gives))]
-fn to_kind(cursor: &mut Cursor<'_>, marks: &Marks, levels: u8, kinds: &[OperandKind], index: usize) -> Option<Spot>
+fn to_kind(
+    cursor: &mut Cursor<'_>,
+    marks: &Marks,
+    levels: u8,
+    kinds: &[OperandKind],
+    index: usize,
+) -> Option<Spot>
     ensures { option_map (λ s. spot_part (count_at marks.now) s cursor.new) result ≡ part_at (parts_of (all_operands (a_term (count_at marks.now) levels) kinds.now cursor.old).0) index }
 {
     match kinds {
@@ -54,7 +60,13 @@ fn kind_count(kinds: &[OperandKind]) -> usize
 
 /// Goes to an operand of a row.
 #[tactic(auto, using(aml_marked::specs::Parting::parting), unfolding(aml_marked::specs::Marked::of_row, aml_marked::specs::Marked::inside))]
-fn to_row_operand(cursor: &mut Cursor<'_>, marks: &Marks, levels: u8, row: Row, index: usize) -> Option<Spot>
+fn to_row_operand(
+    cursor: &mut Cursor<'_>,
+    marks: &Marks,
+    levels: u8,
+    row: Row,
+    index: usize,
+) -> Option<Spot>
     ensures { option_map (λ s. spot_part (count_at marks.now) s cursor.new) result ≡ part_at (parts_of (of_row (a_term (count_at marks.now) levels) row cursor.old).0) index }
 {
     let kinds = [row.3.0, row.3.1, row.3.2, row.3.3, row.3.4, row.3.5];
@@ -66,7 +78,13 @@ fn to_row_operand(cursor: &mut Cursor<'_>, marks: &Marks, levels: u8, row: Row, 
 
 /// Goes to an operand of a term with an opcode: the Else of an If is its last one.
 #[tactic(auto, using(aml_marked::specs::Parting::parting), unfolding(aml_marked::specs::Marked::with_row, aml_marked::specs::Marked::after, aml_marked::specs::Marked::gives))]
-fn to_operand_of_row(cursor: &mut Cursor<'_>, marks: &Marks, levels: u8, row: Row, index: usize) -> Option<Spot>
+fn to_operand_of_row(
+    cursor: &mut Cursor<'_>,
+    marks: &Marks,
+    levels: u8,
+    row: Row,
+    index: usize,
+) -> Option<Spot>
     ensures { option_map (λ s. spot_part (count_at marks.now) s cursor.new) result ≡ operand_of (with_row (a_term (count_at marks.now) levels) (Some row) cursor.old).0 index }
 {
     if !is_if(row.0) {
@@ -85,7 +103,13 @@ fn to_operand_of_row(cursor: &mut Cursor<'_>, marks: &Marks, levels: u8, row: Ro
 
 /// Goes to an operand of a term.
 #[tactic(auto, using(aml_marked::specs::Parting::parting), unfolding(aml_marked::specs::Marked::a_name, aml_marked::specs::Marked::a_call, aml_marked::specs::Marked::with_row, aml_marked::specs::Marked::a_coded, aml_marked::specs::Marked::a_term_in, aml_marked::specs::Marked::an_operand, aml_marked::specs::Marked::after, aml_marked::specs::Marked::gives))]
-fn to_operand(cursor: &mut Cursor<'_>, marks: &Marks, levels: u8, element: bool, index: usize) -> Option<Spot>
+fn to_operand(
+    cursor: &mut Cursor<'_>,
+    marks: &Marks,
+    levels: u8,
+    element: bool,
+    index: usize,
+) -> Option<Spot>
     ensures { option_map (λ s. spot_part (count_at marks.now) s cursor.new) result ≡ operand_of (a_term (count_at marks.now) levels element cursor.old).0 index }
 {
     if levels == 0 {

@@ -13,7 +13,13 @@ use crate::skip::skip_term;
 const LEVELS: u8 = 65;
 
 /// What stands where a cursor stands.
-pub(crate) fn standing<'a>(cursor: &Cursor<'a>, marks: &'a Marks, levels: u8, turns: usize, kind: Kind) -> At<'a>
+pub(crate) fn standing<'a>(
+    cursor: &Cursor<'a>,
+    marks: &'a Marks,
+    levels: u8,
+    turns: usize,
+    kind: Kind,
+) -> At<'a>
     ensures place { place_at result ≡ cursor.now }
     ensures marks { result.marks.now ≡ marks.now }
     ensures levels { result.levels ≡ levels }

@@ -1,7 +1,7 @@
 //! Declarations of buffer fields (ACPI 6.5, 19.6: CreateField and its like).
 ghost use Rattle.std.specs.Prelude.{◌≡◌, ◌≤◌};
 ghost use Rattle.ar_space.specs.Change.{Does};
-ghost use Rattle.aml_grammar.specs.PartTree.{part_tree};
+ghost use Rattle.aml_bytes.specs.AtTree.{at_tree};
 ghost use Rattle.aml_meaning.specs.Meaning.{meaning};
 ghost use Rattle.aml_meaning.specs.FieldTerms.{sized_field_rule, bits_field_rule};
 
@@ -19,11 +19,11 @@ use std::alloc::Global;
 pub(crate) fn eval_sized_field<S: Space>(
     alloc: Global,
     run: &mut Running<S>,
-    job: Task<'_>,
+    job: &Task<'_>,
     size: BufferFieldSize,
 ) -> Result<Flow, Refusal>
     ensures spent { run.new.1 ≤ run.old.1 }
-    ensures means { Does result run.new (sized_field_rule (meaning S.accesses) size job.entry.scope.path.now job.entry.depth (part_tree job.entry.term)) run.old }
+    ensures means { Does result run.new (sized_field_rule (meaning S.accesses) size job.now.scope.path.now job.now.depth (at_tree job.now.term)) run.old }
 {
     let (source, index) = eval_two_values(alloc, run, job)?;
     let buffer = buffer_of(source)?;
@@ -39,10 +39,10 @@ pub(crate) fn eval_sized_field<S: Space>(
 pub(crate) fn eval_bits_field<S: Space>(
     alloc: Global,
     run: &mut Running<S>,
-    job: Task<'_>,
+    job: &Task<'_>,
 ) -> Result<Flow, Refusal>
     ensures spent { run.new.1 ≤ run.old.1 }
-    ensures means { Does result run.new (bits_field_rule (meaning S.accesses) job.entry.scope.path.now job.entry.depth (part_tree job.entry.term)) run.old }
+    ensures means { Does result run.new (bits_field_rule (meaning S.accesses) job.now.scope.path.now job.now.depth (at_tree job.now.term)) run.old }
 {
     let source = eval_value_at(alloc, run, job, 0)?;
     let index = eval_value_at(alloc, run, job, 1)?;

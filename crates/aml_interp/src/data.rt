@@ -2,7 +2,7 @@
 ghost use Rattle.std.specs.Prelude.{◌≡◌, ◌≤◌, ◌<◌, [], OnOk, Ok};
 ghost use Rattle.ar_space.specs.Outcome.{Answers};
 ghost use Rattle.ar_space.specs.Change.{Does};
-ghost use Rattle.aml_grammar.specs.PartTree.{part_tree, part_list};
+ghost use Rattle.aml_bytes.specs.AtTree.{at_tree, at_list};
 ghost use Rattle.aml_grammar.specs.Apart.{code_of};
 ghost use Rattle.aml_objects.specs.declared.object.Element.TheVariants as elements;
 ghost use Rattle.aml_meaning.specs.Meaning.{meaning};
@@ -24,11 +24,11 @@ use std::alloc::Global;
 pub(crate) fn eval_data<S: Space>(
     alloc: Global,
     run: &mut Running<S>,
-    job: Task<'_>,
+    job: &Task<'_>,
     kind: DataKind,
 ) -> Result<Flow, Refusal>
     ensures spent { run.new.1 ≤ run.old.1 }
-    ensures means { Does result run.new (data_rule (meaning S.accesses) kind job.entry.scope.path.now job.entry.depth (part_tree job.entry.term)) run.old }
+    ensures means { Does result run.new (data_rule (meaning S.accesses) kind job.now.scope.path.now job.now.depth (at_tree job.now.term)) run.old }
 {
     match kind {
         DataKind::Constant(number) => eval_constant(run, number),
@@ -52,7 +52,7 @@ fn eval_constant<S: Space>(run: &Running<S>, number: u64) -> Result<Flow, Refusa
 /// An integer that follows its opcode.
 #[tactic(auto, using(crate::proofs::Steps::evaluating), unfolding(aml_meaning::specs::DataTerms::integer_rule))]
 fn eval_integer<S: Space>(run: &Running<S>, term: Reader<'_>) -> Result<Flow, Refusal>
-    ensures { Does result run.now (integer_rule (meaning S.accesses) (part_tree term.entry)) run.now }
+    ensures { Does result run.now (integer_rule (meaning S.accesses) (at_tree term.entry)) run.now }
 {
     let number = number(term, 0)?;
     eval_constant(run, number)
@@ -65,7 +65,7 @@ fn eval_string<S: Space>(
     term: Reader<'_>,
 ) -> Result<Flow, Refusal>
     ensures spent { run.new.1 ≤ run.old.1 }
-    ensures means { Does result run.new (string_rule (meaning S.accesses) (part_tree term.entry)) run.old }
+    ensures means { Does result run.new (string_rule (meaning S.accesses) (at_tree term.entry)) run.old }
 {
     let text = bytes(alloc, term, 0)?;
     let value = run.world.make_string(text)?;
@@ -77,13 +77,13 @@ fn eval_string<S: Space>(
 fn eval_buffer<S: Space>(
     alloc: Global,
     run: &mut Running<S>,
-    job: Task<'_>,
+    job: &Task<'_>,
 ) -> Result<Flow, Refusal>
     ensures spent { run.new.1 ≤ run.old.1 }
-    ensures means { Does result run.new (buffer_rule (meaning S.accesses) job.entry.scope.path.now job.entry.depth (part_tree job.entry.term)) run.old }
+    ensures means { Does result run.new (buffer_rule (meaning S.accesses) job.now.scope.path.now job.now.depth (at_tree job.now.term)) run.old }
 {
     let size = inner(job.term, 0)?;
-    let length = eval_operand_integer(alloc, run, Task { term: size, ..job })?;
+    let length = eval_operand_integer(alloc, run, &Task { term: size, ..*job })?;
     let bytes = bytes(alloc, job.term, 1)?;
     let value = run.world.new_buffer(length, bytes)?;
     Ok(Flow::Value(value))
@@ -94,19 +94,19 @@ fn eval_buffer<S: Space>(
 fn eval_package<S: Space>(
     alloc: Global,
     run: &mut Running<S>,
-    job: Task<'_>,
+    job: &Task<'_>,
 ) -> Result<Flow, Refusal>
     ensures spent { run.new.1 ≤ run.old.1 }
-    ensures means { Does result run.new (package_rule (meaning S.accesses) job.entry.scope.path.now job.entry.depth (part_tree job.entry.term)) run.old }
+    ensures means { Does result run.new (package_rule (meaning S.accesses) job.now.scope.path.now job.now.depth (at_tree job.now.term)) run.old }
 {
     let count = number(job.term, 0)?;
     let elements = list(job.term, 1)?;
     package_of(
         alloc,
         run,
-        Task {
+        &Task {
             term: elements,
-            ..job
+            ..*job
         },
         count as usize,
     )
@@ -117,21 +117,21 @@ fn eval_package<S: Space>(
 fn eval_var_package<S: Space>(
     alloc: Global,
     run: &mut Running<S>,
-    job: Task<'_>,
+    job: &Task<'_>,
 ) -> Result<Flow, Refusal>
     ensures spent { run.new.1 ≤ run.old.1 }
-    ensures means { Does result run.new (var_package_rule (meaning S.accesses) job.entry.scope.path.now job.entry.depth (part_tree job.entry.term)) run.old }
+    ensures means { Does result run.new (var_package_rule (meaning S.accesses) job.now.scope.path.now job.now.depth (at_tree job.now.term)) run.old }
 {
     let size = inner(job.term, 0)?;
-    let count = eval_operand_integer(alloc, run, Task { term: size, ..job })?;
+    let count = eval_operand_integer(alloc, run, &Task { term: size, ..*job })?;
     run.world.few_elements(count)?;
     let elements = list(job.term, 1)?;
     package_of(
         alloc,
         run,
-        Task {
+        &Task {
             term: elements,
-            ..job
+            ..*job
         },
         count as usize,
     )
@@ -143,11 +143,11 @@ fn eval_var_package<S: Space>(
 fn package_of<S: Space>(
     alloc: Global,
     run: &mut Running<S>,
-    job: Task<'_>,
+    job: &Task<'_>,
     count: usize,
 ) -> Result<Flow, Refusal>
     ensures spent { run.new.1 ≤ run.old.1 }
-    ensures means { Does result run.new (package_of (meaning S.accesses) job.entry.scope.path.now job.entry.depth count (part_list job.entry.term)) run.old }
+    ensures means { Does result run.new (package_of (meaning S.accesses) job.now.scope.path.now job.now.depth count (at_list job.now.term)) run.old }
 {
     let elements = eval_elements(alloc, run, job, count)?;
     let value = run.world.new_package(count, elements)?;
@@ -160,11 +160,11 @@ fn package_of<S: Space>(
 fn eval_elements<S: Space>(
     alloc: Global,
     run: &mut Running<S>,
-    job: Task<'_>,
+    job: &Task<'_>,
     count: usize,
 ) -> Result<Elements, Refusal>
     ensures spent { run.new.1 ≤ run.old.1 }
-    ensures means { Does result run.new (elements_in_turn (meaning S.accesses) job.entry.scope.path.now job.entry.depth count (part_list job.entry.term) []) run.old }
+    ensures means { Does result run.new (elements_in_turn (meaning S.accesses) job.now.scope.path.now job.now.depth count (at_list job.now.term) []) run.old }
 {
     let mut elements = Elements::new(alloc);
     let mut left = count;
@@ -177,9 +177,9 @@ fn eval_elements<S: Space>(
                 let element = eval_element(
                     alloc,
                     run,
-                    Task {
+                    &Task {
                         term: item.first,
-                        ..job
+                        ..*job
                     },
                     code,
                 )?;
@@ -197,12 +197,12 @@ fn eval_elements<S: Space>(
 fn eval_element<S: Space>(
     alloc: Global,
     run: &mut Running<S>,
-    job: Task<'_>,
+    job: &Task<'_>,
     code: TermCode,
 ) -> Result<Element, Refusal>
     ensures spent { run.new.1 ≤ run.old.1 }
     ensures paid { OnOk result (run.new.1 < run.old.1) }
-    ensures means { Does result run.new (element_by (meaning S.accesses) code job.entry.scope.path.now job.entry.depth (part_tree job.entry.term)) run.old }
+    ensures means { Does result run.new (element_by (meaning S.accesses) code job.now.scope.path.now job.now.depth (at_tree job.now.term)) run.old }
 {
     match code {
         TermCode::Name => named_element(alloc, run, job),
@@ -221,11 +221,11 @@ fn eval_element<S: Space>(
 fn named_element<S: Space>(
     alloc: Global,
     run: &mut Running<S>,
-    job: Task<'_>,
+    job: &Task<'_>,
 ) -> Result<Element, Refusal>
     ensures spent { run.new.1 ≤ run.old.1 }
     ensures paid { OnOk result (run.new.1 < run.old.1) }
-    ensures means { Does result run.new (named_element (meaning S.accesses) job.entry.scope.path.now (part_tree job.entry.term)) run.old }
+    ensures means { Does result run.new (named_element (meaning S.accesses) job.now.scope.path.now (at_tree job.now.term)) run.old }
 {
     run.charge()?;
     let name = job.term.name(alloc, 0)?;
@@ -237,11 +237,11 @@ fn named_element<S: Space>(
 fn valued_element<S: Space>(
     alloc: Global,
     run: &mut Running<S>,
-    job: Task<'_>,
+    job: &Task<'_>,
 ) -> Result<Element, Refusal>
     ensures spent { run.new.1 ≤ run.old.1 }
     ensures paid { OnOk result (run.new.1 < run.old.1) }
-    ensures means { Does result run.new (valued_element (meaning S.accesses) job.entry.scope.path.now job.entry.depth (part_tree job.entry.term)) run.old }
+    ensures means { Does result run.new (valued_element (meaning S.accesses) job.now.scope.path.now job.now.depth (at_tree job.now.term)) run.old }
 {
     let value = eval_value(alloc, run, job)?;
     Ok(Element::Value(value))

@@ -1,7 +1,7 @@
 //! Declarations, and the scopes that they stand in (ACPI 6.5, 19.6).
 ghost use Rattle.std.specs.Prelude.{◌≡◌, ◌≤◌, ◌<◌};
 ghost use Rattle.ar_space.specs.Change.{Does};
-ghost use Rattle.aml_grammar.specs.PartTree.{part_tree, part_list};
+ghost use Rattle.aml_bytes.specs.AtTree.{at_tree, at_list};
 ghost use Rattle.aml_meaning.specs.Meaning.{meaning};
 ghost use Rattle.aml_meaning.specs.Tasks.{module_level};
 ghost use Rattle.aml_meaning.specs.DeclarationTerms.{declaration_rule, declaring, name_rule, alias_rule, method_rule, scope_rule, new_scope};
@@ -23,11 +23,11 @@ use std::alloc::Global;
 pub(crate) fn eval_declaration<S: Space>(
     alloc: Global,
     run: &mut Running<S>,
-    job: Task<'_>,
+    job: &Task<'_>,
     kind: DeclarationKind,
 ) -> Result<Flow, Refusal>
     ensures spent { run.new.1 ≤ run.old.1 }
-    ensures means { Does result run.new (declaration_rule (meaning S.accesses) kind job.entry.scope.path.now job.entry.depth (part_tree job.entry.term)) run.old }
+    ensures means { Does result run.new (declaration_rule (meaning S.accesses) kind job.now.scope.path.now job.now.depth (at_tree job.now.term)) run.old }
 {
     match kind {
         DeclarationKind::Scope => eval_scope(alloc, run, job),
@@ -53,12 +53,12 @@ pub(crate) fn eval_declaration<S: Space>(
 pub(crate) fn eval_declaring<S: Space>(
     alloc: Global,
     run: &mut Running<S>,
-    job: Task<'_>,
+    job: &Task<'_>,
     position: usize,
     object: NamedObject,
 ) -> Result<Flow, Refusal>
     ensures spent { run.new.1 ≤ run.old.1 }
-    ensures means { Does result run.new (declaring (meaning S.accesses) job.entry.scope.path.now job.entry.depth (part_tree job.entry.term) position object) run.old }
+    ensures means { Does result run.new (declaring (meaning S.accesses) job.now.scope.path.now job.now.depth (at_tree job.now.term) position object) run.old }
 {
     let name = job.term.name(alloc, position)?;
     let path = name.resolve_in(alloc, job.scope.path)?;
@@ -68,19 +68,30 @@ pub(crate) fn eval_declaring<S: Space>(
 
 #[cycle(evaluation)]
 #[tactic(auto, using(crate::proofs::Steps::evaluating), unfolding(aml_meaning::specs::DeclarationTerms::name_rule))]
-fn eval_name<S: Space>(alloc: Global, run: &mut Running<S>, job: Task<'_>) -> Result<Flow, Refusal>
+fn eval_name<S: Space>(alloc: Global, run: &mut Running<S>, job: &Task<'_>) -> Result<Flow, Refusal>
     ensures spent { run.new.1 ≤ run.old.1 }
-    ensures means { Does result run.new (name_rule (meaning S.accesses) job.entry.scope.path.now job.entry.depth (part_tree job.entry.term)) run.old }
+    ensures means { Does result run.new (name_rule (meaning S.accesses) job.now.scope.path.now job.now.depth (at_tree job.now.term)) run.old }
 {
     let datum = inner(job.term, 1)?;
-    let value = eval_value(alloc, run, Task { term: datum, ..job })?;
+    let value = eval_value(
+        alloc,
+        run,
+        &Task {
+            term: datum,
+            ..*job
+        },
+    )?;
     eval_declaring(alloc, run, job, 0, NamedObject::Data(value))
 }
 
 #[tactic(auto, using(crate::proofs::Steps::evaluating), unfolding(aml_meaning::specs::DeclarationTerms::alias_rule))]
-fn eval_alias<S: Space>(alloc: Global, run: &mut Running<S>, job: Task<'_>) -> Result<Flow, Refusal>
+fn eval_alias<S: Space>(
+    alloc: Global,
+    run: &mut Running<S>,
+    job: &Task<'_>,
+) -> Result<Flow, Refusal>
     ensures spent { run.new.1 ≤ run.old.1 }
-    ensures means { Does result run.new (alias_rule (meaning S.accesses) job.entry.scope.path.now job.entry.depth (part_tree job.entry.term)) run.old }
+    ensures means { Does result run.new (alias_rule (meaning S.accesses) job.now.scope.path.now job.now.depth (at_tree job.now.term)) run.old }
 {
     let source = job.term.name(alloc, 0)?;
     let target = run.world.locate(alloc, job.scope, &source)?;
@@ -95,10 +106,10 @@ fn eval_alias<S: Space>(alloc: Global, run: &mut Running<S>, job: Task<'_>) -> R
 fn eval_method<S: Space>(
     alloc: Global,
     run: &mut Running<S>,
-    job: Task<'_>,
+    job: &Task<'_>,
 ) -> Result<Flow, Refusal>
     ensures spent { run.new.1 ≤ run.old.1 }
-    ensures means { Does result run.new (method_rule (meaning S.accesses) job.entry.scope.path.now job.entry.depth (part_tree job.entry.term)) run.old }
+    ensures means { Does result run.new (method_rule (meaning S.accesses) job.now.scope.path.now job.now.depth (at_tree job.now.term)) run.old }
 {
     let name = job.term.name(alloc, 0)?;
     let path = name.resolve_in(alloc, job.scope.path)?;
@@ -115,9 +126,13 @@ fn eval_method<S: Space>(
 /// The list of a Scope stands in the scope that its name finds.
 #[cycle(evaluation)]
 #[tactic(auto, using(crate::proofs::Steps::evaluating), unfolding(aml_meaning::specs::DeclarationTerms::scope_rule))]
-fn eval_scope<S: Space>(alloc: Global, run: &mut Running<S>, job: Task<'_>) -> Result<Flow, Refusal>
+fn eval_scope<S: Space>(
+    alloc: Global,
+    run: &mut Running<S>,
+    job: &Task<'_>,
+) -> Result<Flow, Refusal>
     ensures spent { run.new.1 ≤ run.old.1 }
-    ensures means { Does result run.new (scope_rule (meaning S.accesses) job.entry.scope.path.now job.entry.depth (part_tree job.entry.term)) run.old }
+    ensures means { Does result run.new (scope_rule (meaning S.accesses) job.now.scope.path.now job.now.depth (at_tree job.now.term)) run.old }
 {
     let name = job.term.name(alloc, 0)?;
     let path = run.world.locate_scope(alloc, job.scope, &name)?;
@@ -126,10 +141,10 @@ fn eval_scope<S: Space>(alloc: Global, run: &mut Running<S>, job: Task<'_>) -> R
     eval_list(
         alloc,
         run,
-        Task {
+        &Task {
             scope,
             term: items,
-            ..job
+            ..*job
         },
     )
 }
@@ -140,12 +155,12 @@ fn eval_scope<S: Space>(alloc: Global, run: &mut Running<S>, job: Task<'_>) -> R
 fn eval_new_scope<S: Space>(
     alloc: Global,
     run: &mut Running<S>,
-    job: Task<'_>,
+    job: &Task<'_>,
     object: NamedObject,
     position: usize,
 ) -> Result<Flow, Refusal>
     ensures spent { run.new.1 ≤ run.old.1 }
-    ensures means { Does result run.new (new_scope (meaning S.accesses) object position job.entry.scope.path.now job.entry.depth (part_tree job.entry.term)) run.old }
+    ensures means { Does result run.new (new_scope (meaning S.accesses) object position job.now.scope.path.now job.now.depth (at_tree job.now.term)) run.old }
 {
     let name = job.term.name(alloc, 0)?;
     let path = name.resolve_in(alloc, job.scope.path)?;
@@ -155,10 +170,10 @@ fn eval_new_scope<S: Space>(
     eval_list(
         alloc,
         run,
-        Task {
+        &Task {
             scope,
             term: items,
-            ..job
+            ..*job
         },
     )
 }

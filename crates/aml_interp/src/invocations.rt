@@ -1,14 +1,12 @@
 //! Names where values stand, and calls of control methods (ACPI 6.5, 5.5.2 and 20.2.5).
-ghost use Rattle.std.specs.Prelude.{◌≡◌, ◌≤◌, ◌<◌, List, Some, OnOk, [], map, slice_index_or};
+ghost use Rattle.std.specs.Prelude.{◌≡◌, ◌≤◌, ◌<◌, List, Some, OnOk, [], slice_index_or};
 ghost use Rattle.aml_path.specs.declared.segment.Seg.{Seg};
 ghost use Rattle.aml_objects.specs.declared.entry.Entry.{Entry};
 ghost use Rattle.aml_namespace.specs.Namespace.{numbered};
 ghost use Rattle.aml_meaning.specs.Terms.{count_of};
 ghost use Rattle.ar_space.specs.Change.{Does};
 ghost use Rattle.ar_space.specs.Outcome.{Answers, NotMemory, seen};
-ghost use Rattle.aml_grammar.specs.PartTree.{part_tree, part_list};
-ghost use Rattle.aml_grammar.specs.Shape.{trees_of};
-ghost use Rattle.aml_grammar.specs.View.{tree_view};
+ghost use Rattle.aml_bytes.specs.AtTree.{at_tree, at_list};
 ghost use Rattle.aml_objects.specs.declared.value.Value.TheVariants.{Uninitialized};
 ghost use Rattle.aml_meaning.specs.Meaning.{meaning};
 ghost use Rattle.aml_meaning.specs.Tasks.{in_turn};
@@ -20,7 +18,8 @@ use crate::operands::{Reader, as_many, list};
 use crate::readings::read_body;
 use crate::task::Task;
 use crate::terms::{eval_list, eval_value};
-use aml_grammar::{Term, TermReader};
+use aml_bytes::list_at;
+use aml_grammar::TermReader;
 use aml_meaning::{Flow, Invocation, Running, WorldState};
 use aml_namespace::Scope;
 use aml_objects::{Body, Field, NodeId, Value};
@@ -37,10 +36,10 @@ pub(crate) const MAX_DEPTH: usize = 32;
 pub(crate) fn eval_name_value<S: Space>(
     alloc: Global,
     run: &mut Running<S>,
-    job: Task<'_>,
+    job: &Task<'_>,
 ) -> Result<Flow, Refusal>
     ensures spent { run.new.1 ≤ run.old.1 }
-    ensures means { Does result run.new (name_value S.accesses (meaning S.accesses) job.entry.scope.path.now job.entry.depth (part_tree job.entry.term)) run.old }
+    ensures means { Does result run.new (name_value S.accesses (meaning S.accesses) job.now.scope.path.now job.now.depth (at_tree job.now.term)) run.old }
 {
     let name = job.term.name(alloc, 0)?;
     let arguments = list(job.term, 1)?;
@@ -48,9 +47,9 @@ pub(crate) fn eval_name_value<S: Space>(
     eval_invocation(
         alloc,
         run,
-        Task {
+        &Task {
             term: arguments,
-            ..job
+            ..*job
         },
         invocation,
     )
@@ -64,7 +63,7 @@ fn name_used<S: Space>(
     name: &NameString,
     arguments: Reader<'_>,
 ) -> Result<Invocation, Refusal>
-    ensures { Does result world.now (invocation_found scope.entry.path.now name.now (count_of (part_list arguments.entry))) world.now }
+    ensures { Does result world.now (invocation_found scope.entry.path.now name.now (count_of (at_list arguments.entry))) world.now }
 {
     match world.search(scope, name) {
         Ok(id) => used_with(alloc, world, id, arguments),
@@ -80,7 +79,7 @@ fn used_with<S: Space>(
     id: NodeId,
     arguments: Reader<'_>,
 ) -> Result<Invocation, Refusal>
-    ensures { (f : List Seg × Entry) → numbered id.number world.now.names.map ≡ Some f → Does result world.now (use_found f (count_of (part_list arguments.entry))) world.now }
+    ensures { (f : List Seg × Entry) → numbered id.number world.now.names.map ≡ Some f → Does result world.now (use_found f (count_of (at_list arguments.entry))) world.now }
 {
     as_many(arguments, world.arguments_at(id))?;
     world.use_of(alloc, id)
@@ -91,11 +90,11 @@ fn used_with<S: Space>(
 fn eval_invocation<S: Space>(
     alloc: Global,
     run: &mut Running<S>,
-    job: Task<'_>,
+    job: &Task<'_>,
     invocation: Invocation,
 ) -> Result<Flow, Refusal>
     ensures spent { run.new.1 ≤ run.old.1 }
-    ensures means { Does result run.new (invocation_rule S.accesses (meaning S.accesses) job.entry.scope.path.now job.entry.depth (part_list job.entry.term) invocation) run.old }
+    ensures means { Does result run.new (invocation_rule S.accesses (meaning S.accesses) job.now.scope.path.now job.now.depth (at_list job.now.term) invocation) run.old }
 {
     match invocation {
         Invocation::Value(value) => Ok(Flow::Value(value)),
@@ -126,12 +125,12 @@ fn eval_field<S: Space>(
 fn eval_call<S: Space>(
     alloc: Global,
     run: &mut Running<S>,
-    job: Task<'_>,
+    job: &Task<'_>,
     path: &Path,
     body: &Body,
 ) -> Result<Flow, Refusal>
     ensures spent { run.new.1 ≤ run.old.1 }
-    ensures means { Does result run.new (call_rule (meaning S.accesses) job.entry.scope.path.now job.entry.depth (part_list job.entry.term) path.now body.now) run.old }
+    ensures means { Does result run.new (call_rule (meaning S.accesses) job.now.scope.path.now job.now.depth (at_list job.now.term) path.now body.now) run.old }
 {
     let values = eval_arguments(alloc, run, job)?;
     eval_invoked(alloc, run, job.depth, path, body, &values)
@@ -140,9 +139,9 @@ fn eval_call<S: Space>(
 /// A call of `\_OSI`, which has no frame.
 #[cycle(evaluation)]
 #[tactic(auto, using(crate::proofs::Steps::evaluating), unfolding(aml_meaning::specs::InvocationTerms::osi_rule))]
-fn eval_osi<S: Space>(alloc: Global, run: &mut Running<S>, job: Task<'_>) -> Result<Flow, Refusal>
+fn eval_osi<S: Space>(alloc: Global, run: &mut Running<S>, job: &Task<'_>) -> Result<Flow, Refusal>
     ensures spent { run.new.1 ≤ run.old.1 }
-    ensures means { Does result run.new (osi_rule (meaning S.accesses) job.entry.scope.path.now job.entry.depth (part_list job.entry.term)) run.old }
+    ensures means { Does result run.new (osi_rule (meaning S.accesses) job.now.scope.path.now job.now.depth (at_list job.now.term)) run.old }
 {
     let values = eval_arguments(alloc, run, job)?;
     shallow(job.depth)?;
@@ -156,10 +155,10 @@ fn eval_osi<S: Space>(alloc: Global, run: &mut Running<S>, job: Task<'_>) -> Res
 fn eval_arguments<S: Space>(
     alloc: Global,
     run: &mut Running<S>,
-    job: Task<'_>,
+    job: &Task<'_>,
 ) -> Result<Vec<Value>, Refusal>
     ensures spent { run.new.1 ≤ run.old.1 }
-    ensures means { Does (seen (λ list. list.items) result) run.new (arguments_in_turn (meaning S.accesses) job.entry.scope.path.now job.entry.depth (part_list job.entry.term) []) run.old }
+    ensures means { Does (seen (λ list. list.items) result) run.new (arguments_in_turn (meaning S.accesses) job.now.scope.path.now job.now.depth (at_list job.now.term) []) run.old }
 {
     let mut values = Vec::new(alloc);
     let mut rest = job.term;
@@ -170,9 +169,9 @@ fn eval_arguments<S: Space>(
                 let value = eval_value(
                     alloc,
                     run,
-                    Task {
+                    &Task {
                         term: item.first,
-                        ..job
+                        ..*job
                     },
                 )?;
                 values.push(value)?;
@@ -197,9 +196,10 @@ fn eval_invoked<S: Space>(
     ensures means { Does result run.new (invoked (meaning S.accesses) depth path.now body.now arguments.now) run.old }
 {
     shallow(depth)?;
-    let terms = read_body(alloc, &run.world, path, body)?;
+    let marks = read_body(alloc, &run.world, path, body)?;
     run.world.open_frame(frame_arguments(arguments))?;
-    eval_body(alloc, run, depth + 1, path, &terms)
+    let items = list_at(body.as_slice(), &marks);
+    eval_body(alloc, run, depth + 1, path, items)
 }
 
 /// The value of a call of the control method at a path.
@@ -240,19 +240,19 @@ fn eval_body<S: Space>(
     run: &mut Running<S>,
     depth: usize,
     path: &Path,
-    terms: &[Term],
+    items: Reader<'_>,
 ) -> Result<Flow, Refusal>
     ensures spent { run.new.1 ≤ run.old.1 }
-    ensures means { Does result run.new (leaving path.now (in_turn (meaning S.accesses) path.now depth (trees_of (map tree_view terms.now)))) run.old }
+    ensures means { Does result run.new (leaving path.now (in_turn (meaning S.accesses) path.now depth (at_list items.entry))) run.old }
 {
     let scope = run.world.scope(path);
     let outcome = eval_list(
         alloc,
         run,
-        Task {
+        &Task {
             scope,
             depth,
-            term: Reader::List(terms),
+            term: items,
         },
     );
     run.world.leave(path);

@@ -1,8 +1,7 @@
 //! Loads a table (ACPI 6.5, 5.4).
-ghost use Rattle.std.specs.Prelude.{◌≡◌, map, replicate};
+ghost use Rattle.std.specs.Prelude.{◌≡◌, replicate};
 ghost use Rattle.ar_space.specs.Change.{Does};
-ghost use Rattle.aml_grammar.specs.Shape.{trees_of};
-ghost use Rattle.aml_grammar.specs.View.{tree_view};
+ghost use Rattle.aml_bytes.specs.AtTree.{at_list};
 ghost use Rattle.aml_objects.specs.declared.value.Value.TheVariants.{Uninitialized};
 ghost use Rattle.aml_meaning.specs.Calling.{loaded, table_run, in_frame, framed, with_steps, at_root};
 
@@ -10,7 +9,7 @@ use crate::operands::Reader;
 use crate::readings::read_table;
 use crate::task::Task;
 use crate::terms::eval_list;
-use aml_grammar::Term;
+use aml_bytes::list_at;
 use aml_meaning::{Running, World};
 use aml_objects::Value;
 use aml_path::Path;
@@ -47,8 +46,8 @@ fn table_run<S: Space>(
 ) -> Result<(), Refusal>
     ensures { Does result run.new.0 (table_run S.accesses steps table.now) run.old.0 }
 {
-    let terms = read_table(alloc, &mut run.world, table)?;
-    in_frame(alloc, run, &terms, steps)
+    let marks = read_table(alloc, &mut run.world, table)?;
+    in_frame(alloc, run, list_at(table, &marks), steps)
 }
 
 /// The terms, in a frame whose slots are uninitialized.
@@ -56,25 +55,25 @@ fn table_run<S: Space>(
 fn in_frame<S: Space>(
     alloc: Global,
     run: &mut Running<S>,
-    terms: &[Term],
+    items: Reader<'_>,
     steps: u64,
 ) -> Result<(), Refusal>
-    ensures { Does result run.new.0 (in_frame (replicate 7 Uninitialized) (with_steps steps (at_root S.accesses (trees_of (map tree_view terms.now))))) run.old.0 }
+    ensures { Does result run.new.0 (in_frame (replicate 7 Uninitialized) (with_steps steps (at_root S.accesses (at_list items.entry)))) run.old.0 }
 {
     run.world.open_frame([Value::Uninitialized; 7])?;
-    framed(alloc, run, terms, steps)
+    framed(alloc, run, items, steps)
 }
 
 #[tactic(auto, using(aml_meaning::proofs::Runs::calling))]
 fn framed<S: Space>(
     alloc: Global,
     run: &mut Running<S>,
-    terms: &[Term],
+    items: Reader<'_>,
     steps: u64,
 ) -> Result<(), Refusal>
-    ensures { Does result run.new.0 (framed (with_steps steps (at_root S.accesses (trees_of (map tree_view terms.now))))) run.old.0 }
+    ensures { Does result run.new.0 (framed (with_steps steps (at_root S.accesses (at_list items.entry)))) run.old.0 }
 {
-    let outcome = with_steps(alloc, run, terms, steps);
+    let outcome = with_steps(alloc, run, items, steps);
     run.world.close_frame();
     outcome
 }
@@ -83,25 +82,25 @@ fn framed<S: Space>(
 fn with_steps<S: Space>(
     alloc: Global,
     run: &mut Running<S>,
-    terms: &[Term],
+    items: Reader<'_>,
     steps: u64,
 ) -> Result<(), Refusal>
-    ensures { Does result run.new.0 (with_steps steps (at_root S.accesses (trees_of (map tree_view terms.now)))) run.old.0 }
+    ensures { Does result run.new.0 (with_steps steps (at_root S.accesses (at_list items.entry))) run.old.0 }
 {
     run.steps = steps;
-    at_root(alloc, run, terms)
+    at_root(alloc, run, items)
 }
 
 #[tactic(auto, using(aml_meaning::proofs::Runs::calling), unfolding(aml_meaning::specs::Calling::at_root))]
-fn at_root<S: Space>(alloc: Global, run: &mut Running<S>, terms: &[Term]) -> Result<(), Refusal>
-    ensures { Does result run.new (at_root S.accesses (trees_of (map tree_view terms.now))) run.old }
+fn at_root<S: Space>(alloc: Global, run: &mut Running<S>, items: Reader<'_>) -> Result<(), Refusal>
+    ensures { Does result run.new (at_root S.accesses (at_list items.entry)) run.old }
 {
     let root = Path::root(alloc);
     let job = Task {
         scope: run.world.scope(&root),
         depth: 0,
-        term: Reader::List(terms),
+        term: items,
     };
-    eval_list(alloc, run, job)?;
+    eval_list(alloc, run, &job)?;
     Ok(())
 }

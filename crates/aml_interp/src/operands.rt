@@ -1,22 +1,23 @@
 //! Operands of terms, by the kind that the grammar gives them.
 ghost use Rattle.std.specs.Prelude.{◌≡◌, ◌==◌, option_map};
 ghost use Rattle.ar_space.specs.Outcome.{Answers, NotMemory, seen};
-ghost use Rattle.aml_grammar.specs.PartTree.{part_tree, part_list};
+ghost use Rattle.aml_bytes.specs.AtTree.{at_tree, at_list};
 ghost use Rattle.aml_grammar.specs.Apart.{operand_of, bytes_of};
 ghost use Rattle.aml_meaning.specs.Readings.{as_many};
 ghost use Rattle.aml_meaning.specs.Terms.{number_of, inner_of, list_of, else_of, count_of};
 
-use aml_grammar::{OperandView, TermPart, TermReader};
+use aml_bytes::At;
+use aml_grammar::{OperandView, TermReader};
 use aml_objects::Octets;
 use ar_space::{EvaluationFault, NameFault, Refusal};
 use std::alloc::Global;
 
 /// How evaluation reads terms. It is used through `TermReader` alone.
-pub(crate) type Reader<'t> = TermPart<'t>;
+pub(crate) type Reader<'t> = At<'t>;
 
 /// An operand that is a number.
 pub(crate) fn number(term: Reader<'_>, index: usize) -> Result<u64, Refusal>
-    ensures answer { Answers result (number_of (operand_of (part_tree term.entry) index)) }
+    ensures answer { Answers result (number_of (operand_of (at_tree term.entry) index)) }
     ensures memory { NotMemory result }
 {
     match term.operand(index) {
@@ -27,7 +28,7 @@ pub(crate) fn number(term: Reader<'_>, index: usize) -> Result<u64, Refusal>
 
 /// An operand that is a term.
 pub(crate) fn inner(term: Reader<'_>, index: usize) -> Result<Reader<'_>, Refusal>
-    ensures answer { Answers (seen part_tree result) (inner_of (operand_of (part_tree term.entry) index)) }
+    ensures answer { Answers (seen at_tree result) (inner_of (operand_of (at_tree term.entry) index)) }
     ensures memory { NotMemory result }
 {
     match term.operand(index) {
@@ -38,7 +39,7 @@ pub(crate) fn inner(term: Reader<'_>, index: usize) -> Result<Reader<'_>, Refusa
 
 /// An operand that is a list of terms.
 pub(crate) fn list(term: Reader<'_>, index: usize) -> Result<Reader<'_>, Refusal>
-    ensures answer { Answers (seen part_list result) (list_of (operand_of (part_tree term.entry) index)) }
+    ensures answer { Answers (seen at_list result) (list_of (operand_of (at_tree term.entry) index)) }
     ensures memory { NotMemory result }
 {
     match term.operand(index) {
@@ -49,7 +50,7 @@ pub(crate) fn list(term: Reader<'_>, index: usize) -> Result<Reader<'_>, Refusal
 
 /// The Else of an If, where it has one.
 pub(crate) fn else_of(term: Reader<'_>) -> Option<Reader<'_>>
-    ensures { option_map part_tree result ≡ else_of (operand_of (part_tree term.entry) 2) }
+    ensures { option_map at_tree result ≡ else_of (operand_of (at_tree term.entry) 2) }
 {
     match term.operand(2) {
         OperandView::Term(part) => Some(part),
@@ -59,7 +60,7 @@ pub(crate) fn else_of(term: Reader<'_>) -> Option<Reader<'_>>
 
 /// An operand that is bytes.
 pub(crate) fn bytes(alloc: Global, term: Reader<'_>, index: usize) -> Result<Octets, Refusal>
-    ensures { Answers result (bytes_of (operand_of (part_tree term.entry) index)) }
+    ensures { Answers result (bytes_of (operand_of (at_tree term.entry) index)) }
 {
     match term.bytes(alloc, index) {
         Ok(bytes) => Ok(Octets::from_vec(bytes)),
@@ -69,7 +70,7 @@ pub(crate) fn bytes(alloc: Global, term: Reader<'_>, index: usize) -> Result<Oct
 
 /// A list has as many terms as are wanted, or is refused as `ArityChanged`.
 pub(crate) fn as_many(list: Reader<'_>, wanted: u8) -> Result<(), Refusal>
-    ensures answer { Answers result (as_many wanted (count_of (part_list list.entry))) }
+    ensures answer { Answers result (as_many wanted (count_of (at_list list.entry))) }
     ensures memory { NotMemory result }
 {
     if has_count(list, wanted) {
@@ -81,7 +82,7 @@ pub(crate) fn as_many(list: Reader<'_>, wanted: u8) -> Result<(), Refusal>
 
 /// Whether a list has so many terms.
 fn has_count(list: Reader<'_>, count: u8) -> bool
-    ensures { result ≡ (count == count_of (part_list list.entry)) }
+    ensures { result ≡ (count == count_of (at_list list.entry)) }
 {
     let mut left = count;
     let mut rest = list;

@@ -1,7 +1,7 @@
 //! Terms that have a value: operators, stores, and what is asked of objects (ACPI 6.5, 19.6).
 ghost use Rattle.std.specs.Prelude.{◌≡◌, ◌≤◌, ◌<◌};
 ghost use Rattle.ar_space.specs.Change.{Does};
-ghost use Rattle.aml_grammar.specs.PartTree.{part_tree};
+ghost use Rattle.aml_bytes.specs.AtTree.{at_tree};
 ghost use Rattle.aml_meaning.specs.Meaning.{meaning};
 ghost use Rattle.aml_meaning.specs.OperatorTerms.{operator_rule, slot_rule, store_rule, copy_rule, two_rule, divide_rule, one_rule, test_rule, not_rule, count_rule, size_rule, type_rule, acquire_rule};
 
@@ -23,11 +23,11 @@ use std::alloc::Global;
 pub(crate) fn eval_operator<S: Space>(
     alloc: Global,
     run: &mut Running<S>,
-    job: Task<'_>,
+    job: &Task<'_>,
     kind: OperatorKind,
 ) -> Result<Flow, Refusal>
     ensures spent { run.new.1 ≤ run.old.1 }
-    ensures means { Does result run.new (operator_rule S.accesses (meaning S.accesses) kind job.entry.scope.path.now job.entry.depth (part_tree job.entry.term)) run.old }
+    ensures means { Does result run.new (operator_rule S.accesses (meaning S.accesses) kind job.now.scope.path.now job.now.depth (at_tree job.now.term)) run.old }
 {
     match kind {
         OperatorKind::Slot(slot) => eval_slot(run, slot),
@@ -59,9 +59,13 @@ fn eval_slot<S: Space>(run: &Running<S>, slot: Slot) -> Result<Flow, Refusal>
 
 #[cycle(evaluation)]
 #[tactic(auto, using(crate::proofs::Steps::evaluating), unfolding(aml_meaning::specs::OperatorTerms::store_rule))]
-fn eval_store<S: Space>(alloc: Global, run: &mut Running<S>, job: Task<'_>) -> Result<Flow, Refusal>
+fn eval_store<S: Space>(
+    alloc: Global,
+    run: &mut Running<S>,
+    job: &Task<'_>,
+) -> Result<Flow, Refusal>
     ensures spent { run.new.1 ≤ run.old.1 }
-    ensures means { Does result run.new (store_rule S.accesses (meaning S.accesses) job.entry.scope.path.now job.entry.depth (part_tree job.entry.term)) run.old }
+    ensures means { Does result run.new (store_rule S.accesses (meaning S.accesses) job.now.scope.path.now job.now.depth (at_tree job.now.term)) run.old }
 {
     let value = eval_value_at(alloc, run, job, 0)?;
     eval_targeted(alloc, run, job, 1, value)
@@ -69,9 +73,9 @@ fn eval_store<S: Space>(alloc: Global, run: &mut Running<S>, job: Task<'_>) -> R
 
 #[cycle(evaluation)]
 #[tactic(auto, using(crate::proofs::Steps::evaluating), unfolding(aml_meaning::specs::OperatorTerms::copy_rule))]
-fn eval_copy<S: Space>(alloc: Global, run: &mut Running<S>, job: Task<'_>) -> Result<Flow, Refusal>
+fn eval_copy<S: Space>(alloc: Global, run: &mut Running<S>, job: &Task<'_>) -> Result<Flow, Refusal>
     ensures spent { run.new.1 ≤ run.old.1 }
-    ensures means { Does result run.new (copy_rule S.accesses (meaning S.accesses) job.entry.scope.path.now job.entry.depth (part_tree job.entry.term)) run.old }
+    ensures means { Does result run.new (copy_rule S.accesses (meaning S.accesses) job.now.scope.path.now job.now.depth (at_tree job.now.term)) run.old }
 {
     let value = eval_value_at(alloc, run, job, 0)?;
     let target = eval_target(alloc, run, job, 1)?;
@@ -86,11 +90,11 @@ fn eval_copy<S: Space>(alloc: Global, run: &mut Running<S>, job: Task<'_>) -> Re
 fn eval_two<S: Space>(
     alloc: Global,
     run: &mut Running<S>,
-    job: Task<'_>,
+    job: &Task<'_>,
     kind: TwoOperands,
 ) -> Result<Flow, Refusal>
     ensures spent { run.new.1 ≤ run.old.1 }
-    ensures means { Does result run.new (two_rule S.accesses (meaning S.accesses) kind job.entry.scope.path.now job.entry.depth (part_tree job.entry.term)) run.old }
+    ensures means { Does result run.new (two_rule S.accesses (meaning S.accesses) kind job.now.scope.path.now job.now.depth (at_tree job.now.term)) run.old }
 {
     let values = eval_two_values(alloc, run, job)?;
     let result = run.world.operate_on_two(alloc, kind, values.0, values.1)?;
@@ -102,10 +106,10 @@ fn eval_two<S: Space>(
 fn eval_divide<S: Space>(
     alloc: Global,
     run: &mut Running<S>,
-    job: Task<'_>,
+    job: &Task<'_>,
 ) -> Result<Flow, Refusal>
     ensures spent { run.new.1 ≤ run.old.1 }
-    ensures means { Does result run.new (divide_rule S.accesses (meaning S.accesses) job.entry.scope.path.now job.entry.depth (part_tree job.entry.term)) run.old }
+    ensures means { Does result run.new (divide_rule S.accesses (meaning S.accesses) job.now.scope.path.now job.now.depth (at_tree job.now.term)) run.old }
 {
     let values = eval_two_values(alloc, run, job)?;
     let division = run.world.divide(values.0, values.1)?;
@@ -119,11 +123,11 @@ fn eval_divide<S: Space>(
 fn eval_one<S: Space>(
     alloc: Global,
     run: &mut Running<S>,
-    job: Task<'_>,
+    job: &Task<'_>,
     kind: OneOperand,
 ) -> Result<Flow, Refusal>
     ensures spent { run.new.1 ≤ run.old.1 }
-    ensures means { Does result run.new (one_rule S.accesses (meaning S.accesses) kind job.entry.scope.path.now job.entry.depth (part_tree job.entry.term)) run.old }
+    ensures means { Does result run.new (one_rule S.accesses (meaning S.accesses) kind job.now.scope.path.now job.now.depth (at_tree job.now.term)) run.old }
 {
     let value = eval_value_at(alloc, run, job, 0)?;
     let result = run.world.operate_on_one(alloc, kind, value)?;
@@ -136,11 +140,11 @@ fn eval_one<S: Space>(
 fn eval_test<S: Space>(
     alloc: Global,
     run: &mut Running<S>,
-    job: Task<'_>,
+    job: &Task<'_>,
     kind: Test,
 ) -> Result<Flow, Refusal>
     ensures spent { run.new.1 ≤ run.old.1 }
-    ensures means { Does result run.new (test_rule S.accesses (meaning S.accesses) kind job.entry.scope.path.now job.entry.depth (part_tree job.entry.term)) run.old }
+    ensures means { Does result run.new (test_rule S.accesses (meaning S.accesses) kind job.now.scope.path.now job.now.depth (at_tree job.now.term)) run.old }
 {
     let values = eval_two_values(alloc, run, job)?;
     let result = run.world.test(alloc, kind, values.0, values.1)?;
@@ -149,9 +153,9 @@ fn eval_test<S: Space>(
 
 #[cycle(evaluation)]
 #[tactic(auto, using(crate::proofs::Steps::evaluating), unfolding(aml_meaning::specs::OperatorTerms::not_rule))]
-fn eval_not<S: Space>(alloc: Global, run: &mut Running<S>, job: Task<'_>) -> Result<Flow, Refusal>
+fn eval_not<S: Space>(alloc: Global, run: &mut Running<S>, job: &Task<'_>) -> Result<Flow, Refusal>
     ensures spent { run.new.1 ≤ run.old.1 }
-    ensures means { Does result run.new (not_rule S.accesses (meaning S.accesses) job.entry.scope.path.now job.entry.depth (part_tree job.entry.term)) run.old }
+    ensures means { Does result run.new (not_rule S.accesses (meaning S.accesses) job.now.scope.path.now job.now.depth (at_tree job.now.term)) run.old }
 {
     let value = eval_value_at(alloc, run, job, 0)?;
     let result = run.world.logical_not(value)?;
@@ -164,11 +168,11 @@ fn eval_not<S: Space>(alloc: Global, run: &mut Running<S>, job: Task<'_>) -> Res
 fn eval_count<S: Space>(
     alloc: Global,
     run: &mut Running<S>,
-    job: Task<'_>,
+    job: &Task<'_>,
     kind: Count,
 ) -> Result<Flow, Refusal>
     ensures spent { run.new.1 ≤ run.old.1 }
-    ensures means { Does result run.new (count_rule S.accesses (meaning S.accesses) kind job.entry.scope.path.now job.entry.depth (part_tree job.entry.term)) run.old }
+    ensures means { Does result run.new (count_rule S.accesses (meaning S.accesses) kind job.now.scope.path.now job.now.depth (at_tree job.now.term)) run.old }
 {
     let target = eval_target(alloc, run, job, 0)?;
     let held = run.world.target_read(&target)?;
@@ -180,9 +184,9 @@ fn eval_count<S: Space>(
 
 #[cycle(evaluation)]
 #[tactic(auto, using(crate::proofs::Steps::evaluating), unfolding(aml_meaning::specs::OperatorTerms::size_rule))]
-fn eval_size<S: Space>(alloc: Global, run: &mut Running<S>, job: Task<'_>) -> Result<Flow, Refusal>
+fn eval_size<S: Space>(alloc: Global, run: &mut Running<S>, job: &Task<'_>) -> Result<Flow, Refusal>
     ensures spent { run.new.1 ≤ run.old.1 }
-    ensures means { Does result run.new (size_rule S.accesses (meaning S.accesses) job.entry.scope.path.now job.entry.depth (part_tree job.entry.term)) run.old }
+    ensures means { Does result run.new (size_rule S.accesses (meaning S.accesses) job.now.scope.path.now job.now.depth (at_tree job.now.term)) run.old }
 {
     let referent = eval_operand_referent(alloc, run, job)?;
     let referent = eval_referent(alloc, run, job.depth, referent)?;
@@ -192,9 +196,9 @@ fn eval_size<S: Space>(alloc: Global, run: &mut Running<S>, job: Task<'_>) -> Re
 
 #[cycle(evaluation)]
 #[tactic(auto, using(crate::proofs::Steps::evaluating), unfolding(aml_meaning::specs::OperatorTerms::type_rule))]
-fn eval_type<S: Space>(alloc: Global, run: &mut Running<S>, job: Task<'_>) -> Result<Flow, Refusal>
+fn eval_type<S: Space>(alloc: Global, run: &mut Running<S>, job: &Task<'_>) -> Result<Flow, Refusal>
     ensures spent { run.new.1 ≤ run.old.1 }
-    ensures means { Does result run.new (type_rule S.accesses (meaning S.accesses) job.entry.scope.path.now job.entry.depth (part_tree job.entry.term)) run.old }
+    ensures means { Does result run.new (type_rule S.accesses (meaning S.accesses) job.now.scope.path.now job.now.depth (at_tree job.now.term)) run.old }
 {
     let referent = eval_operand_referent(alloc, run, job)?;
     let referent = eval_referent(alloc, run, job.depth, referent)?;
@@ -207,10 +211,10 @@ fn eval_type<S: Space>(alloc: Global, run: &mut Running<S>, job: Task<'_>) -> Re
 fn eval_acquire<S: Space>(
     alloc: Global,
     run: &mut Running<S>,
-    job: Task<'_>,
+    job: &Task<'_>,
 ) -> Result<Flow, Refusal>
     ensures spent { run.new.1 ≤ run.old.1 }
-    ensures means { Does result run.new (acquire_rule S.accesses (meaning S.accesses) job.entry.scope.path.now job.entry.depth (part_tree job.entry.term)) run.old }
+    ensures means { Does result run.new (acquire_rule S.accesses (meaning S.accesses) job.now.scope.path.now job.now.depth (at_tree job.now.term)) run.old }
 {
     let target = eval_target(alloc, run, job, 0)?;
     run.world.acquire(alloc, &target)?;

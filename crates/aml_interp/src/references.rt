@@ -1,7 +1,7 @@
 //! References, and what they refer to (ACPI 6.5, 19.6: RefOf, DerefOf, CondRefOf; SizeOf and ObjectType follow them).
 ghost use Rattle.std.specs.Prelude.{◌≡◌, ◌≤◌, ◌<◌};
 ghost use Rattle.ar_space.specs.Change.{Does};
-ghost use Rattle.aml_grammar.specs.PartTree.{part_tree};
+ghost use Rattle.aml_bytes.specs.AtTree.{at_tree};
 ghost use Rattle.aml_grammar.specs.Apart.{operand_of};
 ghost use Rattle.aml_meaning.specs.Meaning.{meaning};
 ghost use Rattle.aml_meaning.specs.OperatorTerms.{referent_of_value, referent_of_target, referent_by_kind, referent_at, reference_rule, dereference_rule, sought_name, sought_target, sought, reference_stored, reference_found, conditional_rule};
@@ -23,10 +23,10 @@ use std::alloc::Global;
 pub(crate) fn eval_operand_referent<S: Space>(
     alloc: Global,
     run: &mut Running<S>,
-    job: Task<'_>,
+    job: &Task<'_>,
 ) -> Result<Referent, Refusal>
     ensures spent { run.new.1 ≤ run.old.1 }
-    ensures means { Does result run.new (referent_at S.accesses (meaning S.accesses) job.entry.scope.path.now job.entry.depth (part_tree job.entry.term)) run.old }
+    ensures means { Does result run.new (referent_at S.accesses (meaning S.accesses) job.now.scope.path.now job.now.depth (at_tree job.now.term)) run.old }
 {
     match job.term.operand(0) {
         OperandView::Absent => eval_target_referent(alloc, run, job),
@@ -46,20 +46,20 @@ pub(crate) fn eval_operand_referent<S: Space>(
 fn eval_referent_by_kind<S: Space>(
     alloc: Global,
     run: &mut Running<S>,
-    job: Task<'_>,
+    job: &Task<'_>,
     operand: Reader<'_>,
     kind: TargetKind,
 ) -> Result<Referent, Refusal>
     ensures spent { run.new.1 ≤ run.old.1 }
-    ensures means { Does result run.new (referent_by_kind S.accesses (meaning S.accesses) job.entry.scope.path.now job.entry.depth (part_tree job.entry.term) (part_tree operand.entry) kind) run.old }
+    ensures means { Does result run.new (referent_by_kind S.accesses (meaning S.accesses) job.now.scope.path.now job.now.depth (at_tree job.now.term) (at_tree operand.entry) kind) run.old }
 {
     match kind {
         TargetKind::RefOf | TargetKind::DerefOf | TargetKind::Index => {
-            let job = Task {
+            let inside = Task {
                 term: operand,
-                ..job
+                ..*job
             };
-            eval_value_referent(alloc, run, job)
+            eval_value_referent(alloc, run, &inside)
         }
         TargetKind::Nowhere | TargetKind::Slot(_) | TargetKind::Other => {
             eval_target_referent(alloc, run, job)
@@ -73,10 +73,10 @@ fn eval_referent_by_kind<S: Space>(
 fn eval_value_referent<S: Space>(
     alloc: Global,
     run: &mut Running<S>,
-    job: Task<'_>,
+    job: &Task<'_>,
 ) -> Result<Referent, Refusal>
     ensures spent { run.new.1 ≤ run.old.1 }
-    ensures means { Does result run.new (referent_of_value S.accesses (meaning S.accesses) job.entry.scope.path.now job.entry.depth (part_tree job.entry.term)) run.old }
+    ensures means { Does result run.new (referent_of_value S.accesses (meaning S.accesses) job.now.scope.path.now job.now.depth (at_tree job.now.term)) run.old }
 {
     let value = eval_value(alloc, run, job)?;
     run.world.value_referent(value)
@@ -88,10 +88,10 @@ fn eval_value_referent<S: Space>(
 fn eval_target_referent<S: Space>(
     alloc: Global,
     run: &mut Running<S>,
-    job: Task<'_>,
+    job: &Task<'_>,
 ) -> Result<Referent, Refusal>
     ensures spent { run.new.1 ≤ run.old.1 }
-    ensures means { Does result run.new (referent_of_target S.accesses (meaning S.accesses) job.entry.scope.path.now job.entry.depth (part_tree job.entry.term)) run.old }
+    ensures means { Does result run.new (referent_of_target S.accesses (meaning S.accesses) job.now.scope.path.now job.now.depth (at_tree job.now.term)) run.old }
 {
     let target = eval_target(alloc, run, job, 0)?;
     run.world.target_referent(&target)
@@ -103,10 +103,10 @@ fn eval_target_referent<S: Space>(
 pub(crate) fn eval_reference<S: Space>(
     alloc: Global,
     run: &mut Running<S>,
-    job: Task<'_>,
+    job: &Task<'_>,
 ) -> Result<Flow, Refusal>
     ensures spent { run.new.1 ≤ run.old.1 }
-    ensures means { Does result run.new (reference_rule S.accesses (meaning S.accesses) job.entry.scope.path.now job.entry.depth (part_tree job.entry.term)) run.old }
+    ensures means { Does result run.new (reference_rule S.accesses (meaning S.accesses) job.now.scope.path.now job.now.depth (at_tree job.now.term)) run.old }
 {
     let target = eval_target(alloc, run, job, 0)?;
     let reference = run.world.reference_of(&target)?;
@@ -119,10 +119,10 @@ pub(crate) fn eval_reference<S: Space>(
 pub(crate) fn eval_dereference<S: Space>(
     alloc: Global,
     run: &mut Running<S>,
-    job: Task<'_>,
+    job: &Task<'_>,
 ) -> Result<Flow, Refusal>
     ensures spent { run.new.1 ≤ run.old.1 }
-    ensures means { Does result run.new (dereference_rule S.accesses (meaning S.accesses) job.entry.scope.path.now job.entry.depth (part_tree job.entry.term)) run.old }
+    ensures means { Does result run.new (dereference_rule S.accesses (meaning S.accesses) job.now.scope.path.now job.now.depth (at_tree job.now.term)) run.old }
 {
     let value = eval_value_at(alloc, run, job, 0)?;
     let reference = reference_in(value)?;
@@ -137,10 +137,10 @@ pub(crate) fn eval_dereference<S: Space>(
 pub(crate) fn eval_conditional_reference<S: Space>(
     alloc: Global,
     run: &mut Running<S>,
-    job: Task<'_>,
+    job: &Task<'_>,
 ) -> Result<Flow, Refusal>
     ensures spent { run.new.1 ≤ run.old.1 }
-    ensures means { Does result run.new (conditional_rule S.accesses (meaning S.accesses) job.entry.scope.path.now job.entry.depth (part_tree job.entry.term)) run.old }
+    ensures means { Does result run.new (conditional_rule S.accesses (meaning S.accesses) job.now.scope.path.now job.now.depth (at_tree job.now.term)) run.old }
 {
     let sought = eval_sought(alloc, run, job)?;
     eval_reference_found(alloc, run, job, sought)
@@ -152,10 +152,10 @@ pub(crate) fn eval_conditional_reference<S: Space>(
 fn eval_sought<S: Space>(
     alloc: Global,
     run: &mut Running<S>,
-    job: Task<'_>,
+    job: &Task<'_>,
 ) -> Result<Option<Reference>, Refusal>
     ensures spent { run.new.1 ≤ run.old.1 }
-    ensures means { Does result run.new (sought S.accesses (meaning S.accesses) job.entry.scope.path.now job.entry.depth (part_tree job.entry.term) (operand_of (part_tree job.entry.term) 0)) run.old }
+    ensures means { Does result run.new (sought S.accesses (meaning S.accesses) job.now.scope.path.now job.now.depth (at_tree job.now.term) (operand_of (at_tree job.now.term) 0)) run.old }
 {
     match job.term.operand(0) {
         OperandView::Absent => eval_sought_target(alloc, run, job),
@@ -172,9 +172,9 @@ fn eval_sought<S: Space>(
 fn sought_name<S: Space>(
     alloc: Global,
     run: &Running<S>,
-    job: Task<'_>,
+    job: &Task<'_>,
 ) -> Result<Option<Reference>, Refusal>
-    ensures { Does result run.now (sought_name S.accesses (meaning S.accesses) job.entry.scope.path.now (part_tree job.entry.term)) run.now }
+    ensures { Does result run.now (sought_name S.accesses (meaning S.accesses) job.now.scope.path.now (at_tree job.now.term)) run.now }
 {
     let name = job.term.name(alloc, 0)?;
     run.world.reference_if_found(job.scope, &name)
@@ -185,10 +185,10 @@ fn sought_name<S: Space>(
 fn eval_sought_target<S: Space>(
     alloc: Global,
     run: &mut Running<S>,
-    job: Task<'_>,
+    job: &Task<'_>,
 ) -> Result<Option<Reference>, Refusal>
     ensures spent { run.new.1 ≤ run.old.1 }
-    ensures means { Does result run.new (sought_target S.accesses (meaning S.accesses) job.entry.scope.path.now job.entry.depth (part_tree job.entry.term)) run.old }
+    ensures means { Does result run.new (sought_target S.accesses (meaning S.accesses) job.now.scope.path.now job.now.depth (at_tree job.now.term)) run.old }
 {
     let target = eval_target(alloc, run, job, 0)?;
     let reference = run.world.reference_of(&target)?;
@@ -200,11 +200,11 @@ fn eval_sought_target<S: Space>(
 fn eval_reference_found<S: Space>(
     alloc: Global,
     run: &mut Running<S>,
-    job: Task<'_>,
+    job: &Task<'_>,
     found: Option<Reference>,
 ) -> Result<Flow, Refusal>
     ensures spent { run.new.1 ≤ run.old.1 }
-    ensures means { Does result run.new (reference_found S.accesses (meaning S.accesses) job.entry.scope.path.now job.entry.depth (part_tree job.entry.term) found) run.old }
+    ensures means { Does result run.new (reference_found S.accesses (meaning S.accesses) job.now.scope.path.now job.now.depth (at_tree job.now.term) found) run.old }
 {
     match found {
         None => Ok(Flow::Value(Value::Integer(0))),
@@ -217,11 +217,11 @@ fn eval_reference_found<S: Space>(
 fn eval_reference_stored<S: Space>(
     alloc: Global,
     run: &mut Running<S>,
-    job: Task<'_>,
+    job: &Task<'_>,
     reference: Reference,
 ) -> Result<Flow, Refusal>
     ensures spent { run.new.1 ≤ run.old.1 }
-    ensures means { Does result run.new (reference_stored S.accesses (meaning S.accesses) job.entry.scope.path.now job.entry.depth (part_tree job.entry.term) reference) run.old }
+    ensures means { Does result run.new (reference_stored S.accesses (meaning S.accesses) job.now.scope.path.now job.now.depth (at_tree job.now.term) reference) run.old }
 {
     eval_targeted(alloc, run, job, 1, Value::Reference(reference))?;
     let value = run.world.integer_kept(u64::MAX)?;

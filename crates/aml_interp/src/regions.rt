@@ -3,7 +3,7 @@ ghost use Rattle.std.specs.Prelude.{◌≡◌, ◌≤◌};
 ghost use Rattle.ar_space.specs.Change.{Does};
 ghost use Rattle.ar_space.specs.Outcome.{Answers};
 ghost use Rattle.aml_grammar.specs.Apart.{code_of};
-ghost use Rattle.aml_grammar.specs.PartTree.{part_tree, part_list};
+ghost use Rattle.aml_bytes.specs.AtTree.{at_tree, at_list};
 ghost use Rattle.aml_meaning.specs.Meaning.{meaning};
 ghost use Rattle.aml_meaning.specs.FieldTerms.{region_rule, field_list_rule, index_list_rule, region_term_rule, fields_laid, elements_laid, element_laid, named_field, reserved_field, access_field, is_connection, has_connection, unconnected};
 
@@ -26,11 +26,11 @@ use std::alloc::Global;
 pub(crate) fn eval_region_term<S: Space>(
     alloc: Global,
     run: &mut Running<S>,
-    job: Task<'_>,
+    job: &Task<'_>,
     kind: RegionKind,
 ) -> Result<Flow, Refusal>
     ensures spent { run.new.1 ≤ run.old.1 }
-    ensures means { Does result run.new (region_term_rule (meaning S.accesses) kind job.entry.scope.path.now job.entry.depth (part_tree job.entry.term)) run.old }
+    ensures means { Does result run.new (region_term_rule (meaning S.accesses) kind job.now.scope.path.now job.now.depth (at_tree job.now.term)) run.old }
 {
     match kind {
         RegionKind::OperationRegion => eval_region(alloc, run, job),
@@ -47,10 +47,10 @@ pub(crate) fn eval_region_term<S: Space>(
 fn eval_region<S: Space>(
     alloc: Global,
     run: &mut Running<S>,
-    job: Task<'_>,
+    job: &Task<'_>,
 ) -> Result<Flow, Refusal>
     ensures spent { run.new.1 ≤ run.old.1 }
-    ensures means { Does result run.new (region_rule (meaning S.accesses) job.entry.scope.path.now job.entry.depth (part_tree job.entry.term)) run.old }
+    ensures means { Does result run.new (region_rule (meaning S.accesses) job.now.scope.path.now job.now.depth (at_tree job.now.term)) run.old }
 {
     let space = number(job.term, 1)?;
     let offset = eval_value_at(alloc, run, job, 2)?;
@@ -70,10 +70,10 @@ fn eval_region<S: Space>(
 fn eval_field_list<S: Space>(
     alloc: Global,
     run: &mut Running<S>,
-    job: Task<'_>,
+    job: &Task<'_>,
 ) -> Result<Flow, Refusal>
     ensures spent { run.new.1 ≤ run.old.1 }
-    ensures means { Does result run.new (field_list_rule (meaning S.accesses) job.entry.scope.path.now job.entry.depth (part_tree job.entry.term)) run.old }
+    ensures means { Does result run.new (field_list_rule (meaning S.accesses) job.now.scope.path.now job.now.depth (at_tree job.now.term)) run.old }
 {
     let elements = list(job.term, 2)?;
     unconnected(Opcode::Field, elements)?;
@@ -83,9 +83,9 @@ fn eval_field_list<S: Space>(
     lay_fields(
         alloc,
         run,
-        Task {
+        &Task {
             term: elements,
-            ..job
+            ..*job
         },
         FieldSource::Region(region),
         flags,
@@ -97,10 +97,10 @@ fn eval_field_list<S: Space>(
 fn eval_index_list<S: Space>(
     alloc: Global,
     run: &mut Running<S>,
-    job: Task<'_>,
+    job: &Task<'_>,
 ) -> Result<Flow, Refusal>
     ensures spent { run.new.1 ≤ run.old.1 }
-    ensures means { Does result run.new (index_list_rule (meaning S.accesses) job.entry.scope.path.now job.entry.depth (part_tree job.entry.term)) run.old }
+    ensures means { Does result run.new (index_list_rule (meaning S.accesses) job.now.scope.path.now job.now.depth (at_tree job.now.term)) run.old }
 {
     let elements = list(job.term, 3)?;
     unconnected(Opcode::IndexField, elements)?;
@@ -112,9 +112,9 @@ fn eval_index_list<S: Space>(
     lay_fields(
         alloc,
         run,
-        Task {
+        &Task {
             term: elements,
-            ..job
+            ..*job
         },
         FieldSource::Index(index, behind),
         flags,
@@ -126,12 +126,12 @@ fn eval_index_list<S: Space>(
 fn lay_fields<S: Space>(
     alloc: Global,
     run: &mut Running<S>,
-    job: Task<'_>,
+    job: &Task<'_>,
     source: FieldSource,
     flags: u64,
 ) -> Result<Flow, Refusal>
     ensures spent { run.new.1 ≤ run.old.1 }
-    ensures means { Does result run.new (fields_laid job.entry.scope.path.now job.entry.depth source flags (part_list job.entry.term)) run.old }
+    ensures means { Does result run.new (fields_laid job.now.scope.path.now job.now.depth source flags (at_list job.now.term)) run.old }
 {
     let group = FieldGroup {
         source,
@@ -150,10 +150,10 @@ fn lay_elements<S: Space>(
     alloc: Global,
     world: &mut WorldState<S>,
     group: FieldGroup,
-    job: Task<'_>,
+    job: &Task<'_>,
     first: FieldLayout,
 ) -> Result<(), Refusal>
-    ensures { Does result world.new (elements_laid group job.entry.scope.path.now job.entry.depth first (part_list job.entry.term)) world.old }
+    ensures { Does result world.new (elements_laid group job.now.scope.path.now job.now.depth first (at_list job.now.term)) world.old }
 {
     let mut at = first;
     let mut rest = job.term;
@@ -166,9 +166,9 @@ fn lay_elements<S: Space>(
                     alloc,
                     world,
                     group,
-                    Task {
+                    &Task {
                         term: item.first,
-                        ..job
+                        ..*job
                     },
                     code,
                     at,
@@ -184,11 +184,11 @@ fn lay_element<S: Space>(
     alloc: Global,
     world: &mut WorldState<S>,
     group: FieldGroup,
-    job: Task<'_>,
+    job: &Task<'_>,
     code: TermCode,
     at: FieldLayout,
 ) -> Result<FieldLayout, Refusal>
-    ensures { Does result world.new (element_laid group job.entry.scope.path.now job.entry.depth code at (part_tree job.entry.term)) world.old }
+    ensures { Does result world.new (element_laid group job.now.scope.path.now job.now.depth code at (at_tree job.now.term)) world.old }
 {
     match code {
         TermCode::NamedField => lay_named(alloc, world, group, job, at),
@@ -208,10 +208,10 @@ fn lay_named<S: Space>(
     alloc: Global,
     world: &mut WorldState<S>,
     group: FieldGroup,
-    job: Task<'_>,
+    job: &Task<'_>,
     at: FieldLayout,
 ) -> Result<FieldLayout, Refusal>
-    ensures { Does result world.new (named_field group job.entry.scope.path.now job.entry.depth at (part_tree job.entry.term)) world.old }
+    ensures { Does result world.new (named_field group job.now.scope.path.now job.now.depth at (at_tree job.now.term)) world.old }
 {
     let name = job.term.name(alloc, 0)?;
     let path = name.resolve_in(alloc, job.scope.path)?;
@@ -224,10 +224,10 @@ fn lay_named<S: Space>(
 fn lay_reserved<S: Space>(
     world: &WorldState<S>,
     group: FieldGroup,
-    job: Task<'_>,
+    job: &Task<'_>,
     at: FieldLayout,
 ) -> Result<FieldLayout, Refusal>
-    ensures { Does result world.now (reserved_field group job.entry.scope.path.now job.entry.depth at (part_tree job.entry.term)) world.now }
+    ensures { Does result world.now (reserved_field group job.now.scope.path.now job.now.depth at (at_tree job.now.term)) world.now }
 {
     let count = number(job.term, 0)?;
     at.further(count)
@@ -238,10 +238,10 @@ fn lay_reserved<S: Space>(
 fn lay_access<S: Space>(
     world: &WorldState<S>,
     group: FieldGroup,
-    job: Task<'_>,
+    job: &Task<'_>,
     at: FieldLayout,
 ) -> Result<FieldLayout, Refusal>
-    ensures { Does result world.now (access_field group job.entry.scope.path.now job.entry.depth at (part_tree job.entry.term)) world.now }
+    ensures { Does result world.now (access_field group job.now.scope.path.now job.now.depth at (at_tree job.now.term)) world.now }
 {
     let flags = number(job.term, 0)?;
     Ok(at.with_access(flags))
@@ -249,7 +249,7 @@ fn lay_access<S: Space>(
 
 /// A list in which a connection stands is not evaluated.
 fn unconnected(opcode: Opcode, elements: Reader<'_>) -> Result<(), Refusal>
-    ensures { Answers result (unconnected opcode (part_list elements.entry)) }
+    ensures { Answers result (unconnected opcode (at_list elements.entry)) }
 {
     if has_connection(elements) {
         Err(unsupported(opcode))
@@ -259,7 +259,7 @@ fn unconnected(opcode: Opcode, elements: Reader<'_>) -> Result<(), Refusal>
 }
 
 fn has_connection(elements: Reader<'_>) -> bool
-    ensures { result ≡ has_connection (part_list elements.entry) }
+    ensures { result ≡ has_connection (at_list elements.entry) }
 {
     let mut rest = elements;
     'elements: loop {

@@ -1,7 +1,7 @@
 //! Statements (ACPI 6.5, 19.6 and 20.2.5.3).
 ghost use Rattle.std.specs.Prelude.{◌≡◌, ◌≤◌, ◌<◌, OnOk, option_map};
 ghost use Rattle.ar_space.specs.Change.{Does};
-ghost use Rattle.aml_grammar.specs.PartTree.{part_tree, part_list};
+ghost use Rattle.aml_bytes.specs.AtTree.{at_tree, at_list};
 ghost use Rattle.aml_grammar.specs.Apart.{operand_of};
 ghost use Rattle.aml_convert.specs.Operators.{is_true};
 ghost use Rattle.aml_meaning.specs.Meaning.{meaning};
@@ -23,11 +23,11 @@ use std::alloc::Global;
 pub(crate) fn eval_statement<S: Space>(
     alloc: Global,
     run: &mut Running<S>,
-    job: Task<'_>,
+    job: &Task<'_>,
     kind: StatementKind,
 ) -> Result<Flow, Refusal>
     ensures spent { run.new.1 ≤ run.old.1 }
-    ensures means { Does result run.new (statement_rule (meaning S.accesses) kind job.entry.scope.path.now job.entry.depth (part_tree job.entry.term)) run.old }
+    ensures means { Does result run.new (statement_rule (meaning S.accesses) kind job.now.scope.path.now job.now.depth (at_tree job.now.term)) run.old }
 {
     match kind {
         StatementKind::If => eval_if(alloc, run, job),
@@ -46,18 +46,18 @@ pub(crate) fn eval_statement<S: Space>(
 
 #[cycle(evaluation)]
 #[tactic(auto, using(crate::proofs::Steps::evaluating), unfolding(aml_meaning::specs::StatementTerms::if_rule))]
-fn eval_if<S: Space>(alloc: Global, run: &mut Running<S>, job: Task<'_>) -> Result<Flow, Refusal>
+fn eval_if<S: Space>(alloc: Global, run: &mut Running<S>, job: &Task<'_>) -> Result<Flow, Refusal>
     ensures spent { run.new.1 ≤ run.old.1 }
-    ensures means { Does result run.new (if_rule (meaning S.accesses) job.entry.scope.path.now job.entry.depth (part_tree job.entry.term)) run.old }
+    ensures means { Does result run.new (if_rule (meaning S.accesses) job.now.scope.path.now job.now.depth (at_tree job.now.term)) run.old }
 {
     let condition = inner(job.term, 0)?;
     let items = list(job.term, 1)?;
     let number = eval_operand_integer(
         alloc,
         run,
-        Task {
+        &Task {
             term: condition,
-            ..job
+            ..*job
         },
     )?;
     eval_branch(alloc, run, job, items, is_true(number))
@@ -69,15 +69,22 @@ fn eval_if<S: Space>(alloc: Global, run: &mut Running<S>, job: Task<'_>) -> Resu
 fn eval_branch<S: Space>(
     alloc: Global,
     run: &mut Running<S>,
-    job: Task<'_>,
+    job: &Task<'_>,
     items: Reader<'_>,
     holds: bool,
 ) -> Result<Flow, Refusal>
     ensures spent { run.new.1 ≤ run.old.1 }
-    ensures means { Does result run.new (branch (meaning S.accesses) job.entry.scope.path.now job.entry.depth (part_list items.entry) (else_of (operand_of (part_tree job.entry.term) 2)) holds) run.old }
+    ensures means { Does result run.new (branch (meaning S.accesses) job.now.scope.path.now job.now.depth (at_list items.entry) (else_of (operand_of (at_tree job.now.term) 2)) holds) run.old }
 {
     if holds {
-        eval_list(alloc, run, Task { term: items, ..job })
+        eval_list(
+            alloc,
+            run,
+            &Task {
+                term: items,
+                ..*job
+            },
+        )
     } else {
         eval_otherwise(alloc, run, job)
     }
@@ -89,41 +96,52 @@ fn eval_branch<S: Space>(
 fn eval_otherwise<S: Space>(
     alloc: Global,
     run: &mut Running<S>,
-    job: Task<'_>,
+    job: &Task<'_>,
 ) -> Result<Flow, Refusal>
     ensures spent { run.new.1 ≤ run.old.1 }
-    ensures means { Does result run.new (otherwise (meaning S.accesses) job.entry.scope.path.now job.entry.depth (else_of (operand_of (part_tree job.entry.term) 2))) run.old }
+    ensures means { Does result run.new (otherwise (meaning S.accesses) job.now.scope.path.now job.now.depth (else_of (operand_of (at_tree job.now.term) 2))) run.old }
 {
     match else_of(job.term) {
         None => Ok(Flow::Next),
-        Some(term) => eval_term(alloc, run, Task { term, ..job }),
+        Some(term) => eval_term(alloc, run, &Task { term, ..*job }),
     }
 }
 
 #[cycle(evaluation)]
 #[tactic(auto, using(crate::proofs::Steps::evaluating), unfolding(aml_meaning::specs::StatementTerms::else_rule))]
-fn eval_else<S: Space>(alloc: Global, run: &mut Running<S>, job: Task<'_>) -> Result<Flow, Refusal>
+fn eval_else<S: Space>(alloc: Global, run: &mut Running<S>, job: &Task<'_>) -> Result<Flow, Refusal>
     ensures spent { run.new.1 ≤ run.old.1 }
-    ensures means { Does result run.new (else_rule (meaning S.accesses) job.entry.scope.path.now job.entry.depth (part_tree job.entry.term)) run.old }
+    ensures means { Does result run.new (else_rule (meaning S.accesses) job.now.scope.path.now job.now.depth (at_tree job.now.term)) run.old }
 {
     let items = list(job.term, 0)?;
-    eval_list(alloc, run, Task { term: items, ..job })
+    eval_list(
+        alloc,
+        run,
+        &Task {
+            term: items,
+            ..*job
+        },
+    )
 }
 
 #[cycle(evaluation)]
 #[tactic(auto, using(crate::proofs::Steps::evaluating), unfolding(aml_meaning::specs::StatementTerms::while_rule))]
-fn eval_while<S: Space>(alloc: Global, run: &mut Running<S>, job: Task<'_>) -> Result<Flow, Refusal>
+fn eval_while<S: Space>(
+    alloc: Global,
+    run: &mut Running<S>,
+    job: &Task<'_>,
+) -> Result<Flow, Refusal>
     ensures spent { run.new.1 ≤ run.old.1 }
-    ensures means { Does result run.new (while_rule (meaning S.accesses) job.entry.scope.path.now job.entry.depth (part_tree job.entry.term)) run.old }
+    ensures means { Does result run.new (while_rule (meaning S.accesses) job.now.scope.path.now job.now.depth (at_tree job.now.term)) run.old }
 {
     let condition = inner(job.term, 0)?;
     let items = list(job.term, 1)?;
     eval_loop(
         alloc,
         run,
-        Task {
+        &Task {
             term: condition,
-            ..job
+            ..*job
         },
         items,
     )
@@ -135,11 +153,11 @@ fn eval_while<S: Space>(alloc: Global, run: &mut Running<S>, job: Task<'_>) -> R
 fn eval_loop<S: Space>(
     alloc: Global,
     run: &mut Running<S>,
-    job: Task<'_>,
+    job: &Task<'_>,
     items: Reader<'_>,
 ) -> Result<Flow, Refusal>
     ensures spent { run.new.1 ≤ run.old.1 }
-    ensures means { Does result run.new (loop (meaning S.accesses) job.entry.scope.path.now job.entry.depth (part_tree job.entry.term) (part_list items.entry)) run.old }
+    ensures means { Does result run.new (loop (meaning S.accesses) job.now.scope.path.now job.now.depth (at_tree job.now.term) (at_list items.entry)) run.old }
 {
     'turns: loop {
         let flow = eval_turn(alloc, run, job, items)?;
@@ -156,15 +174,23 @@ fn eval_loop<S: Space>(
 fn eval_turn<S: Space>(
     alloc: Global,
     run: &mut Running<S>,
-    job: Task<'_>,
+    job: &Task<'_>,
     items: Reader<'_>,
 ) -> Result<Flow, Refusal>
     ensures spent { run.new.1 ≤ run.old.1 }
     ensures paid { OnOk result (run.new.1 < run.old.1) }
-    ensures means { Does result run.new (turn (meaning S.accesses) job.entry.scope.path.now job.entry.depth (part_tree job.entry.term) (part_list items.entry)) run.old }
+    ensures means { Does result run.new (turn (meaning S.accesses) job.now.scope.path.now job.now.depth (at_tree job.now.term) (at_list items.entry)) run.old }
 {
     let number = eval_operand_integer(alloc, run, job)?;
-    eval_turn_of(alloc, run, Task { term: items, ..job }, is_true(number))
+    eval_turn_of(
+        alloc,
+        run,
+        &Task {
+            term: items,
+            ..*job
+        },
+        is_true(number),
+    )
 }
 
 #[cycle(evaluation)]
@@ -172,11 +198,11 @@ fn eval_turn<S: Space>(
 fn eval_turn_of<S: Space>(
     alloc: Global,
     run: &mut Running<S>,
-    job: Task<'_>,
+    job: &Task<'_>,
     holds: bool,
 ) -> Result<Flow, Refusal>
     ensures spent { run.new.1 ≤ run.old.1 }
-    ensures means { Does result run.new (turn_of (meaning S.accesses) job.entry.scope.path.now job.entry.depth (part_list job.entry.term) holds) run.old }
+    ensures means { Does result run.new (turn_of (meaning S.accesses) job.now.scope.path.now job.now.depth (at_list job.now.term) holds) run.old }
 {
     if holds {
         eval_list(alloc, run, job)
@@ -190,10 +216,10 @@ fn eval_turn_of<S: Space>(
 fn eval_return<S: Space>(
     alloc: Global,
     run: &mut Running<S>,
-    job: Task<'_>,
+    job: &Task<'_>,
 ) -> Result<Flow, Refusal>
     ensures spent { run.new.1 ≤ run.old.1 }
-    ensures means { Does result run.new (return_rule (meaning S.accesses) job.entry.scope.path.now job.entry.depth (part_tree job.entry.term)) run.old }
+    ensures means { Does result run.new (return_rule (meaning S.accesses) job.now.scope.path.now job.now.depth (at_tree job.now.term)) run.old }
 {
     let value = eval_value_at(alloc, run, job, 0)?;
     Ok(Flow::Return(value))
@@ -204,10 +230,10 @@ fn eval_return<S: Space>(
 fn eval_release<S: Space>(
     alloc: Global,
     run: &mut Running<S>,
-    job: Task<'_>,
+    job: &Task<'_>,
 ) -> Result<Flow, Refusal>
     ensures spent { run.new.1 ≤ run.old.1 }
-    ensures means { Does result run.new (release_rule (meaning S.accesses) job.entry.scope.path.now job.entry.depth (part_tree job.entry.term)) run.old }
+    ensures means { Does result run.new (release_rule (meaning S.accesses) job.now.scope.path.now job.now.depth (at_tree job.now.term)) run.old }
 {
     let target = eval_target(alloc, run, job, 0)?;
     run.world.release(alloc, &target)?;
@@ -220,10 +246,10 @@ fn eval_release<S: Space>(
 fn eval_notify<S: Space>(
     alloc: Global,
     run: &mut Running<S>,
-    job: Task<'_>,
+    job: &Task<'_>,
 ) -> Result<Flow, Refusal>
     ensures spent { run.new.1 ≤ run.old.1 }
-    ensures means { Does result run.new (notify_rule (meaning S.accesses) job.entry.scope.path.now job.entry.depth (part_tree job.entry.term)) run.old }
+    ensures means { Does result run.new (notify_rule (meaning S.accesses) job.now.scope.path.now job.now.depth (at_tree job.now.term)) run.old }
 {
     eval_target(alloc, run, job, 0)?;
     eval_value_at(alloc, run, job, 1)?;
@@ -233,9 +259,13 @@ fn eval_notify<S: Space>(
 /// Stall and Sleep: no time passes.
 #[cycle(evaluation)]
 #[tactic(auto, using(crate::proofs::Steps::evaluating), unfolding(aml_meaning::specs::StatementTerms::pause_rule))]
-fn eval_pause<S: Space>(alloc: Global, run: &mut Running<S>, job: Task<'_>) -> Result<Flow, Refusal>
+fn eval_pause<S: Space>(
+    alloc: Global,
+    run: &mut Running<S>,
+    job: &Task<'_>,
+) -> Result<Flow, Refusal>
     ensures spent { run.new.1 ≤ run.old.1 }
-    ensures means { Does result run.new (pause_rule (meaning S.accesses) job.entry.scope.path.now job.entry.depth (part_tree job.entry.term)) run.old }
+    ensures means { Does result run.new (pause_rule (meaning S.accesses) job.now.scope.path.now job.now.depth (at_tree job.now.term)) run.old }
 {
     eval_value_at(alloc, run, job, 0)?;
     Ok(Flow::Next)
@@ -243,9 +273,13 @@ fn eval_pause<S: Space>(alloc: Global, run: &mut Running<S>, job: Task<'_>) -> R
 
 #[cycle(evaluation)]
 #[tactic(auto, using(crate::proofs::Steps::evaluating), unfolding(aml_meaning::specs::StatementTerms::fatal_rule))]
-fn eval_fatal<S: Space>(alloc: Global, run: &mut Running<S>, job: Task<'_>) -> Result<Flow, Refusal>
+fn eval_fatal<S: Space>(
+    alloc: Global,
+    run: &mut Running<S>,
+    job: &Task<'_>,
+) -> Result<Flow, Refusal>
     ensures spent { run.new.1 ≤ run.old.1 }
-    ensures means { Does result run.new (fatal_rule (meaning S.accesses) job.entry.scope.path.now job.entry.depth (part_tree job.entry.term)) run.old }
+    ensures means { Does result run.new (fatal_rule (meaning S.accesses) job.now.scope.path.now job.now.depth (at_tree job.now.term)) run.old }
 {
     eval_value_at(alloc, run, job, 2)?;
     Err(Refusal::Evaluation(EvaluationFault::Fatal))

@@ -1,7 +1,7 @@
 //! Operands that name a target, which is read or stored to (ACPI 6.5, 20.2.2).
 ghost use Rattle.std.specs.Prelude.{◌≡◌, ◌≤◌, ◌<◌};
 ghost use Rattle.ar_space.specs.Change.{Does};
-ghost use Rattle.aml_grammar.specs.PartTree.{part_tree};
+ghost use Rattle.aml_bytes.specs.AtTree.{at_tree};
 ghost use Rattle.aml_meaning.specs.Meaning.{meaning};
 ghost use Rattle.aml_meaning.specs.TargetTerms.{operand_target, indexed_target, dereferenced_target, target_by_kind, target_of, name_target, target_at, targeted};
 
@@ -20,11 +20,11 @@ use std::alloc::Global;
 pub(crate) fn eval_target<S: Space>(
     alloc: Global,
     run: &mut Running<S>,
-    job: Task<'_>,
+    job: &Task<'_>,
     index: usize,
 ) -> Result<StoreTarget, Refusal>
     ensures spent { run.new.1 ≤ run.old.1 }
-    ensures means { Does result run.new (target_at (meaning S.accesses) job.entry.scope.path.now job.entry.depth (part_tree job.entry.term) index) run.old }
+    ensures means { Does result run.new (target_at (meaning S.accesses) job.now.scope.path.now job.now.depth (at_tree job.now.term) index) run.old }
 {
     match job.term.operand(index) {
         OperandView::Absent => Err(Refusal::Name(NameFault::BadName)),
@@ -32,7 +32,14 @@ pub(crate) fn eval_target<S: Space>(
         OperandView::Name => named_target(alloc, run, job, index),
         OperandView::Number(_) => Err(Refusal::Name(NameFault::BadName)),
         OperandView::Bytes => Err(Refusal::Name(NameFault::BadName)),
-        OperandView::Term(inner) => eval_inner_target(alloc, run, Task { term: inner, ..job }),
+        OperandView::Term(inner) => eval_inner_target(
+            alloc,
+            run,
+            &Task {
+                term: inner,
+                ..*job
+            },
+        ),
         OperandView::List(_) => Err(Refusal::Name(NameFault::BadName)),
     }
 }
@@ -41,10 +48,10 @@ pub(crate) fn eval_target<S: Space>(
 fn named_target<S: Space>(
     alloc: Global,
     run: &Running<S>,
-    job: Task<'_>,
+    job: &Task<'_>,
     index: usize,
 ) -> Result<StoreTarget, Refusal>
-    ensures { Does result run.now (name_target (meaning S.accesses) job.entry.scope.path.now (part_tree job.entry.term) index) run.now }
+    ensures { Does result run.now (name_target (meaning S.accesses) job.now.scope.path.now (at_tree job.now.term) index) run.now }
 {
     let name = job.term.name(alloc, index)?;
     run.world.target_named(alloc, job.scope, &name)
@@ -56,10 +63,10 @@ fn named_target<S: Space>(
 fn eval_inner_target<S: Space>(
     alloc: Global,
     run: &mut Running<S>,
-    job: Task<'_>,
+    job: &Task<'_>,
 ) -> Result<StoreTarget, Refusal>
     ensures spent { run.new.1 ≤ run.old.1 }
-    ensures means { Does result run.new (target_of (meaning S.accesses) job.entry.scope.path.now job.entry.depth (part_tree job.entry.term)) run.old }
+    ensures means { Does result run.new (target_of (meaning S.accesses) job.now.scope.path.now job.now.depth (at_tree job.now.term)) run.old }
 {
     eval_target_by_kind(alloc, run, job, target_kind(job.term.code()))
 }
@@ -69,11 +76,11 @@ fn eval_inner_target<S: Space>(
 fn eval_target_by_kind<S: Space>(
     alloc: Global,
     run: &mut Running<S>,
-    job: Task<'_>,
+    job: &Task<'_>,
     kind: TargetKind,
 ) -> Result<StoreTarget, Refusal>
     ensures spent { run.new.1 ≤ run.old.1 }
-    ensures means { Does result run.new (target_by_kind (meaning S.accesses) job.entry.scope.path.now job.entry.depth (part_tree job.entry.term) (target_at (meaning S.accesses) job.entry.scope.path.now job.entry.depth (part_tree job.entry.term) 0) kind) run.old }
+    ensures means { Does result run.new (target_by_kind (meaning S.accesses) job.now.scope.path.now job.now.depth (at_tree job.now.term) (target_at (meaning S.accesses) job.now.scope.path.now job.now.depth (at_tree job.now.term) 0) kind) run.old }
 {
     match kind {
         TargetKind::Nowhere => Ok(StoreTarget::Nowhere),
@@ -91,10 +98,10 @@ fn eval_target_by_kind<S: Space>(
 fn eval_operand_target<S: Space>(
     alloc: Global,
     run: &mut Running<S>,
-    job: Task<'_>,
+    job: &Task<'_>,
 ) -> Result<StoreTarget, Refusal>
     ensures spent { run.new.1 ≤ run.old.1 }
-    ensures means { Does result run.new (operand_target (meaning S.accesses) job.entry.scope.path.now job.entry.depth (part_tree job.entry.term)) run.old }
+    ensures means { Does result run.new (operand_target (meaning S.accesses) job.now.scope.path.now job.now.depth (at_tree job.now.term)) run.old }
 {
     run.charge()?;
     eval_target(alloc, run, job, 0)
@@ -106,10 +113,10 @@ fn eval_operand_target<S: Space>(
 fn eval_dereferenced_target<S: Space>(
     alloc: Global,
     run: &mut Running<S>,
-    job: Task<'_>,
+    job: &Task<'_>,
 ) -> Result<StoreTarget, Refusal>
     ensures spent { run.new.1 ≤ run.old.1 }
-    ensures means { Does result run.new (dereferenced_target (meaning S.accesses) job.entry.scope.path.now job.entry.depth (part_tree job.entry.term)) run.old }
+    ensures means { Does result run.new (dereferenced_target (meaning S.accesses) job.now.scope.path.now job.now.depth (at_tree job.now.term)) run.old }
 {
     run.charge()?;
     let value = eval_value_at(alloc, run, job, 0)?;
@@ -124,10 +131,10 @@ fn eval_dereferenced_target<S: Space>(
 fn eval_indexed_target<S: Space>(
     alloc: Global,
     run: &mut Running<S>,
-    job: Task<'_>,
+    job: &Task<'_>,
 ) -> Result<StoreTarget, Refusal>
     ensures spent { run.new.1 ≤ run.old.1 }
-    ensures means { Does result run.new (indexed_target (meaning S.accesses) job.entry.scope.path.now job.entry.depth (part_tree job.entry.term)) run.old }
+    ensures means { Does result run.new (indexed_target (meaning S.accesses) job.now.scope.path.now job.now.depth (at_tree job.now.term)) run.old }
 {
     let value = eval_value(alloc, run, job)?;
     let reference = reference_in(value)?;
@@ -140,12 +147,12 @@ fn eval_indexed_target<S: Space>(
 pub(crate) fn eval_targeted<S: Space>(
     alloc: Global,
     run: &mut Running<S>,
-    job: Task<'_>,
+    job: &Task<'_>,
     index: usize,
     value: Value,
 ) -> Result<Flow, Refusal>
     ensures spent { run.new.1 ≤ run.old.1 }
-    ensures means { Does result run.new (targeted S.accesses (meaning S.accesses) job.entry.scope.path.now job.entry.depth (part_tree job.entry.term) index value) run.old }
+    ensures means { Does result run.new (targeted S.accesses (meaning S.accesses) job.now.scope.path.now job.now.depth (at_tree job.now.term) index value) run.old }
 {
     let target = eval_target(alloc, run, job, index)?;
     eval_stored_to(alloc, run, job.depth, &target, value)?;

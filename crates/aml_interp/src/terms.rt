@@ -1,7 +1,7 @@
 //! Terms and lists of them, each evaluated by its rule.
 ghost use Rattle.std.specs.Prelude.{◌≡◌, ◌≤◌, ◌<◌, OnOk};
 ghost use Rattle.ar_space.specs.Change.{Does};
-ghost use Rattle.aml_grammar.specs.PartTree.{part_tree, part_list};
+ghost use Rattle.aml_bytes.specs.AtTree.{at_tree, at_list};
 ghost use Rattle.aml_grammar.specs.Apart.{code_of};
 ghost use Rattle.ar_space.specs.declared.refusal.Refusal.TheVariants.{Evaluation};
 ghost use Rattle.ar_space.specs.declared.refusal.EvaluationFault.TheVariants.{Unsupported};
@@ -31,11 +31,11 @@ use std::alloc::Global;
 pub(crate) fn eval_term<S: Space>(
     alloc: Global,
     run: &mut Running<S>,
-    job: Task<'_>,
+    job: &Task<'_>,
 ) -> Result<Flow, Refusal>
     ensures spent { run.new.1 ≤ run.old.1 }
     ensures paid { OnOk result (run.new.1 < run.old.1) }
-    ensures means { Does result run.new (meaning S.accesses (task job.entry.scope.path.now job.entry.depth (part_tree job.entry.term))) run.old }
+    ensures means { Does result run.new (meaning S.accesses (task job.now.scope.path.now job.now.depth (at_tree job.now.term))) run.old }
 {
     run.charge()?;
     eval_code(alloc, run, job)
@@ -43,9 +43,9 @@ pub(crate) fn eval_term<S: Space>(
 
 #[cycle(evaluation)]
 #[tactic(auto, using(crate::proofs::Steps::evaluating))]
-fn eval_code<S: Space>(alloc: Global, run: &mut Running<S>, job: Task<'_>) -> Result<Flow, Refusal>
+fn eval_code<S: Space>(alloc: Global, run: &mut Running<S>, job: &Task<'_>) -> Result<Flow, Refusal>
     ensures spent { run.new.1 ≤ run.old.1 }
-    ensures means { Does result run.new (code_rule S.accesses (meaning S.accesses) (code_of (part_tree job.entry.term)) job.entry.scope.path.now job.entry.depth (part_tree job.entry.term)) run.old }
+    ensures means { Does result run.new (code_rule S.accesses (meaning S.accesses) (code_of (at_tree job.now.term)) job.now.scope.path.now job.now.depth (at_tree job.now.term)) run.old }
 {
     match job.term.code() {
         TermCode::Opcode(opcode) => eval_kind(alloc, run, job, opcode, kind_of(opcode)),
@@ -64,12 +64,12 @@ fn eval_code<S: Space>(alloc: Global, run: &mut Running<S>, job: Task<'_>) -> Re
 fn eval_kind<S: Space>(
     alloc: Global,
     run: &mut Running<S>,
-    job: Task<'_>,
+    job: &Task<'_>,
     opcode: Opcode,
     kind: TermKind,
 ) -> Result<Flow, Refusal>
     ensures spent { run.new.1 ≤ run.old.1 }
-    ensures means { Does result run.new (kind_rule S.accesses (meaning S.accesses) kind opcode job.entry.scope.path.now job.entry.depth (part_tree job.entry.term)) run.old }
+    ensures means { Does result run.new (kind_rule S.accesses (meaning S.accesses) kind opcode job.now.scope.path.now job.now.depth (at_tree job.now.term)) run.old }
 {
     match kind {
         TermKind::Data(kind) => eval_data(alloc, run, job, kind),
@@ -93,11 +93,11 @@ pub(crate) fn unsupported(opcode: Opcode) -> Refusal
 pub(crate) fn eval_value<S: Space>(
     alloc: Global,
     run: &mut Running<S>,
-    job: Task<'_>,
+    job: &Task<'_>,
 ) -> Result<Value, Refusal>
     ensures spent { run.new.1 ≤ run.old.1 }
     ensures paid { OnOk result (run.new.1 < run.old.1) }
-    ensures means { Does result run.new (operand_value (meaning S.accesses) job.entry.scope.path.now job.entry.depth (part_tree job.entry.term)) run.old }
+    ensures means { Does result run.new (operand_value (meaning S.accesses) job.now.scope.path.now job.now.depth (at_tree job.now.term)) run.old }
 {
     let flow = eval_term(alloc, run, job)?;
     flow.value()
@@ -109,19 +109,19 @@ pub(crate) fn eval_value<S: Space>(
 pub(crate) fn eval_value_at<S: Space>(
     alloc: Global,
     run: &mut Running<S>,
-    job: Task<'_>,
+    job: &Task<'_>,
     index: usize,
 ) -> Result<Value, Refusal>
     ensures spent { run.new.1 ≤ run.old.1 }
-    ensures means { Does result run.new (value_at (meaning S.accesses) job.entry.scope.path.now job.entry.depth (part_tree job.entry.term) index) run.old }
+    ensures means { Does result run.new (value_at (meaning S.accesses) job.now.scope.path.now job.now.depth (at_tree job.now.term) index) run.old }
 {
     let operand = inner(job.term, index)?;
     eval_value(
         alloc,
         run,
-        Task {
+        &Task {
             term: operand,
-            ..job
+            ..*job
         },
     )
 }
@@ -132,10 +132,10 @@ pub(crate) fn eval_value_at<S: Space>(
 pub(crate) fn eval_two_values<S: Space>(
     alloc: Global,
     run: &mut Running<S>,
-    job: Task<'_>,
+    job: &Task<'_>,
 ) -> Result<(Value, Value), Refusal>
     ensures spent { run.new.1 ≤ run.old.1 }
-    ensures means { Does result run.new (two_values (meaning S.accesses) job.entry.scope.path.now job.entry.depth (part_tree job.entry.term)) run.old }
+    ensures means { Does result run.new (two_values (meaning S.accesses) job.now.scope.path.now job.now.depth (at_tree job.now.term)) run.old }
 {
     let first = eval_value_at(alloc, run, job, 0)?;
     let second = eval_value_at(alloc, run, job, 1)?;
@@ -148,11 +148,11 @@ pub(crate) fn eval_two_values<S: Space>(
 pub(crate) fn eval_operand_integer<S: Space>(
     alloc: Global,
     run: &mut Running<S>,
-    job: Task<'_>,
+    job: &Task<'_>,
 ) -> Result<u64, Refusal>
     ensures spent { run.new.1 ≤ run.old.1 }
     ensures paid { OnOk result (run.new.1 < run.old.1) }
-    ensures means { Does result run.new (operand_integer (meaning S.accesses) job.entry.scope.path.now job.entry.depth (part_tree job.entry.term)) run.old }
+    ensures means { Does result run.new (operand_integer (meaning S.accesses) job.now.scope.path.now job.now.depth (at_tree job.now.term)) run.old }
 {
     let value = eval_value(alloc, run, job)?;
     run.world.integer_in(value)
@@ -164,10 +164,10 @@ pub(crate) fn eval_operand_integer<S: Space>(
 pub(crate) fn eval_list<S: Space>(
     alloc: Global,
     run: &mut Running<S>,
-    job: Task<'_>,
+    job: &Task<'_>,
 ) -> Result<Flow, Refusal>
     ensures spent { run.new.1 ≤ run.old.1 }
-    ensures means { Does result run.new (in_turn (meaning S.accesses) job.entry.scope.path.now job.entry.depth (part_list job.entry.term)) run.old }
+    ensures means { Does result run.new (in_turn (meaning S.accesses) job.now.scope.path.now job.now.depth (at_list job.now.term)) run.old }
 {
     let mut rest = job.term;
     'items: loop {
@@ -177,9 +177,9 @@ pub(crate) fn eval_list<S: Space>(
                 let flow = eval_term(
                     alloc,
                     run,
-                    Task {
+                    &Task {
                         term: item.first,
-                        ..job
+                        ..*job
                     },
                 )?;
                 if !flow.goes_on() {

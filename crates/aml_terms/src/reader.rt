@@ -57,7 +57,12 @@ impl<'a, C: ArgumentCounts, B: Before> Reader<'a, C, B> {
     }
 
     /// A reader of bytes that stand at an offset of their list.
-    pub(crate) fn standing(alloc: Global, at: usize, bytes: &'a [u8], counts: &'a C) -> Reader<'a, C, B>
+    pub(crate) fn standing(
+        alloc: Global,
+        at: usize,
+        bytes: &'a [u8],
+        counts: &'a C,
+    ) -> Reader<'a, C, B>
         requires counts { C.counts counts.now ≡ B.before }
         requires fits { at + length bytes.now < 2 ^ 64 }
         ensures { result ≡ record { at = at; rest = bytes.now; arities = B.before; marks = [] } }

@@ -45,4 +45,3 @@ decreases-skip_coded l = 2 ^ 68 * l.levels + (2 ^ 66 + 2)
 
 abbrev pub decreases-skip_call : goal.decreases-skip_call
 decreases-skip_call l = 2 ^ 68 * l.levels + (2 ^ 66 + 2)
-
