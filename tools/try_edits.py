@@ -47,6 +47,9 @@ def kit():
 
 rt = kit()
 rtlib = rt.rtlib
+# what the kit's `rt` says of an edit that the check refused, or gave up on: some kits have a word for each, others say yes
+REFUSED = getattr(rt, "REFUSED", True)
+AT_LIMIT = getattr(rt, "AT_LIMIT", REFUSED)
 
 
 # ---- the sum of all that a verdict rests on
@@ -241,9 +244,9 @@ def try_some(crate, groups):
         for group in groups:
             shown = try_group(crate, group, kept)
             for edit in group:
-                came, text = (rt.REFUSED, shown[edit.name]) if edit.name in shown else rt.must_fail(crate, edit.file, ["--jobs", "1"], kept)
+                came, text = (REFUSED, shown[edit.name]) if edit.name in shown else rt.must_fail(crate, edit.file, ["--jobs", "1"], kept)
                 # (an edit that can't be applied or compiled shows nothing, nor does one that was not tried)
-                said, well = said + [text], well and came in (rt.REFUSED, rt.AT_LIMIT)
+                said, well = said + [text], well and came in (REFUSED, AT_LIMIT)
         # what the edits left in the folder must not have spoilt the crate's own verdict
         if rt.checked(crate, {}, ["--jobs", "1"], kept).returncode:
             return [*said, f"{crate.name}: not proved over what its edits left: try it again from nothing"], False
