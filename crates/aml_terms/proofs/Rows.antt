@@ -1,6 +1,6 @@
 -- Each row of the table of terms is the first of its opcode.
 use Rattle.std.specs.Prelude.{◌≡◌, ℕ, zero, suc, ◌<◌, List, [], ◌∷◌, length, map, Option, Some, ◌==◌, refl}
-use Rattle.std.proofs.Common.{◌∙◌, sym, ap, get_or, arith}
+use Rattle.std.proofs.Common.{sym, get_or, arith}
 use Rattle.std.specs.List.{find}
 use Rattle.aml_grammar.specs.declared.kinds.Row.{Row}
 use Rattle.aml_grammar.specs.Opcodes.{number_of}
