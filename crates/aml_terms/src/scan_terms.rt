@@ -1,9 +1,9 @@
 //! Terms, one inside another, gone over without a tree (TermObj of ACPI 6.5, 20.2.5).
-ghost use Rattle.std.specs.Prelude.{◌≡◌, ◌<◌, ◌≤◌, List, length, drop, OnOk, Some, None, true};
+ghost use Rattle.std.specs.Prelude.{◌≡◌, ◌<◌, ◌≤◌, length, OnOk, true};
 ghost use Rattle.ar_space.specs.Outcome.{seen};
 ghost use Rattle.ar_space.specs.Change.{Does};
-ghost use Rattle.aml_grammar.specs.State.{times, until_end};
-ghost use Rattle.aml_grammar.specs.Grammar.{takes_name, named, named_term, element_name, invocation, coded_term, row_term, row_operands, packed, operands, operand, list_operand, items, by_arities, term_at, below, kinds_of, nothing_earlier, scope_of, in_loop};
+ghost use Rattle.aml_grammar.specs.State.{times};
+ghost use Rattle.aml_grammar.specs.Grammar.{named, named_term, element_name, invocation, coded_term, row_term, row_operands, packed, operands, operand, list_operand, items, by_arities, term_at, below, nothing_earlier, scope_of};
 ghost use Rattle.aml_grammar.specs.declared.context.Position.TheVariants as positions;
 ghost use Rattle.aml_terms.specs.Scanned.{kept, scanned, has_no_operands};
 
