@@ -1,10 +1,12 @@
 -- Reading that makes no trees: the steps of the grammar with their values left out.
-use Rattle.std.specs.Prelude.{List, Ok, Err}
+use Rattle.std.specs.Prelude.{List, Bool, Ok, Err, not, ◌&&◌}
 use Rattle.ar_space.specs.Outcome.{Outcome, seen}
 use Rattle.aml_grammar.specs.declared.arities.Arity.{Arity}
 use Rattle.aml_grammar.specs.declared.marks.Mark.{Mark}
+use Rattle.aml_grammar.specs.declared.kinds.Row.{Row}
 use Rattle.aml_grammar.specs.State.{State, Step}
 use Rattle.aml_grammar.specs.Tree.{Tree}
+use Rattle.aml_grammar.specs.Grammar.{is_nothing}
 
 -- an outcome whose value is seen by a function, and the state beside it
 abbrev pub seen_so : {A B : Type 0} → (A → B) → Outcome A × State → Outcome B × State
@@ -27,3 +29,6 @@ noted (Err e, s) = Err e
 abbrev pub marked : Outcome (List Tree) × State → Outcome (List Mark)
 marked (Ok ts, s) = Ok s.marks
 marked (Err e, s) = Err e
+-- whether a row has no operand, nor a package for one
+unfoldable pub has_no_operands : Row → Bool
+has_no_operands row = not row.2 && is_nothing row.3.0

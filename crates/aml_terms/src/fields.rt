@@ -1,16 +1,15 @@
 //! Field elements that hold no terms (FieldElement of ACPI 6.5, 20.2.5.2).
-ghost use Rattle.std.specs.Prelude.{◌≡◌, ◌<◌, ◌≤◌, ◌∷◌, ◌++◌, [], length, OnOk};
+ghost use Rattle.std.specs.Prelude.{◌≡◌, ◌<◌, ◌≤◌, ◌∷◌, ◌++◌, [], false, length, OnOk};
 ghost use Rattle.ar_space.specs.Outcome.{seen};
 ghost use Rattle.ar_space.specs.Change.{Does};
-ghost use Rattle.aml_grammar.specs.Operands.{reserved_field, access_field, extended_access_field, named_field};
+ghost use Rattle.aml_grammar.specs.Operands.{declare, reserved_field, access_field, extended_access_field, named_field};
 ghost use Rattle.aml_grammar.specs.View.{tree_view};
 
 use crate::before::Before;
 use crate::names::segment;
-use crate::operands::declare;
 use crate::reader::Reader;
 use aml_grammar::{ArgumentCounts, Context, Operand, Term, TermCode};
-use aml_path::{NameString, Path, Prefix};
+use aml_path::{NameString, Path, Prefix, Seg};
 use ar_space::Refusal;
 use std::alloc::Global;
 
@@ -77,7 +76,27 @@ pub(crate) fn extended_access_field<C: ArgumentCounts, B: Before>(
     })
 }
 
-/// A segment and a count of bits: it is declared in the scope where the Field stands.
+/// Declares a segment in the scope where the Field stands, but not in a body.
+#[tactic(auto, using(crate::proofs::Steps::reading))]
+pub(crate) fn declare_field<C: ArgumentCounts, B: Before>(
+    alloc: Global,
+    reader: &mut Reader<'_, C, B>,
+    scope: &Path,
+    context: Context,
+    segment: Seg,
+) -> Result<(), Refusal>
+    ensures reads { Does result reader.new (declare context (scope.now ++ segment ∷ []) 0 false) reader.old }
+    ensures kept { OnOk result (length reader.new.rest ≤ length reader.old.rest) }
+{
+    if context.body {
+        return Ok(());
+    }
+    let path = scope.child(alloc, segment)?;
+    reader.add(path, 0, false)?;
+    Ok(())
+}
+
+/// A segment and a count of bits.
 #[tactic(auto, using(crate::proofs::Viewed::viewing), unfolding(aml_grammar::specs::Operands::named_field))]
 pub(crate) fn named_field<C: ArgumentCounts, B: Before>(
     alloc: Global,
@@ -89,8 +108,7 @@ pub(crate) fn named_field<C: ArgumentCounts, B: Before>(
     ensures shorter { OnOk result (length reader.new.rest < length reader.old.rest) }
 {
     let segment = segment(reader)?;
-    let path = scope.child(alloc, segment)?;
-    declare(alloc, reader, context, &path, 0, false)?;
+    declare_field(alloc, reader, scope, context, segment)?;
     let bits = reader.bit_count()?;
     let name = NameString::new(Prefix::Parents(0), Vec::from_slice(alloc, &[segment])?);
     let mut operands = Vec::new(alloc);

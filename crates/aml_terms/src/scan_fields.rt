@@ -1,14 +1,15 @@
 //! Field elements that hold no terms, gone over without a copy (FieldElement of ACPI 6.5, 20.2.5.2).
-ghost use Rattle.std.specs.Prelude.{◌≡◌, ◌<◌, ◌≤◌, ◌∷◌, ◌++◌, [], false, length, OnOk};
+ghost use Rattle.std.specs.Prelude.{◌≡◌, ◌<◌, length, OnOk};
 ghost use Rattle.ar_space.specs.Change.{Does};
-ghost use Rattle.aml_grammar.specs.Operands.{declare, reserved_field, access_field, extended_access_field, named_field};
+ghost use Rattle.aml_grammar.specs.Operands.{reserved_field, access_field, extended_access_field, named_field};
 ghost use Rattle.aml_terms.specs.Scanned.{scanned};
 
 use crate::before::Before;
+use crate::fields::declare_field;
 use crate::names::segment;
 use crate::reader::Reader;
 use aml_grammar::{ArgumentCounts, Context};
-use aml_path::{Path, Seg};
+use aml_path::Path;
 use ar_space::Refusal;
 use std::alloc::Global;
 
@@ -51,26 +52,6 @@ pub(crate) fn extended_access_field<C: ArgumentCounts, B: Before>(
     reader.byte()?;
     reader.byte()?;
     reader.byte()?;
-    Ok(())
-}
-
-/// Declares a segment in the scope where the Field stands, but not in a body.
-#[tactic(auto, using(crate::proofs::Steps::reading))]
-fn declare_field<C: ArgumentCounts, B: Before>(
-    alloc: Global,
-    reader: &mut Reader<'_, C, B>,
-    scope: &Path,
-    context: Context,
-    segment: Seg,
-) -> Result<(), Refusal>
-    ensures reads { Does result reader.new (declare context (scope.now ++ segment ∷ []) 0 false) reader.old }
-    ensures kept { OnOk result (length reader.new.rest ≤ length reader.old.rest) }
-{
-    if context.body {
-        return Ok(());
-    }
-    let path = scope.child(alloc, segment)?;
-    reader.add(path, 0, false)?;
     Ok(())
 }
 

@@ -1,5 +1,5 @@
 //! If and Else, gone over (DefIfElse of ACPI 6.5, 20.2.5.3).
-ghost use Rattle.std.specs.Prelude.{◌≡◌, ◌<◌, ◌≤◌, length, OnOk, true};
+ghost use Rattle.std.specs.Prelude.{◌≡◌, ◌≤◌, length, OnOk, true};
 ghost use Rattle.ar_space.specs.Change.{Does};
 ghost use Rattle.aml_grammar.specs.Grammar.{if_term, else_part, else_term, packed, list_operand, by_arities, term_at};
 ghost use Rattle.aml_grammar.specs.declared.context.Position.TheVariants as positions;

@@ -1,11 +1,11 @@
 //! Terms, one inside another, gone over without a tree (TermObj of ACPI 6.5, 20.2.5).
-ghost use Rattle.std.specs.Prelude.{◌≡◌, ◌<◌, ◌≤◌, List, length, drop, OnOk, Some, None, true};
+ghost use Rattle.std.specs.Prelude.{◌≡◌, ◌<◌, ◌≤◌, length, OnOk, true};
 ghost use Rattle.ar_space.specs.Outcome.{seen};
 ghost use Rattle.ar_space.specs.Change.{Does};
-ghost use Rattle.aml_grammar.specs.State.{times, until_end};
-ghost use Rattle.aml_grammar.specs.Grammar.{takes_name, named, named_term, element_name, invocation, coded_term, row_term, row_operands, packed, operands, operand, list_operand, items, by_arities, term_at, below, kinds_of, nothing_earlier, scope_of, in_loop};
+ghost use Rattle.aml_grammar.specs.State.{times};
+ghost use Rattle.aml_grammar.specs.Grammar.{named, named_term, element_name, invocation, coded_term, row_term, row_operands, packed, operands, operand, list_operand, items, by_arities, term_at, below, nothing_earlier, scope_of};
 ghost use Rattle.aml_grammar.specs.declared.context.Position.TheVariants as positions;
-ghost use Rattle.aml_terms.specs.Scanned.{kept, scanned};
+ghost use Rattle.aml_terms.specs.Scanned.{kept, scanned, has_no_operands};
 
 use crate::before::Before;
 use crate::names::{name_string, starts_name};
@@ -184,9 +184,17 @@ fn row_term<C: ArgumentCounts, B: Before>(
     }
 }
 
+/// Whether a row has no operand, as those of constants and locals.
+#[tactic(auto, unfolding(crate::specs::Scanned::has_no_operands))]
+fn has_no_operands(row: &Row) -> bool
+    ensures { result ≡ has_no_operands row.now }
+{
+    !row.2 && is_nothing(row.3.0)
+}
+
 /// The operands of a row of the table.
 #[cycle(scan)]
-#[tactic(auto, using(crate::proofs::Scans::scanning))]
+#[tactic(auto, using(crate::proofs::Scans::scanning, crate::proofs::Rows::kept_none))]
 pub(crate) fn row_operands<C: ArgumentCounts, B: Before>(
     alloc: Global,
     reader: &mut Reader<'_, C, B>,
@@ -199,6 +207,9 @@ pub(crate) fn row_operands<C: ArgumentCounts, B: Before>(
     ensures reads { Does result reader.new (scanned (row_operands (term_at by_arities levels) scope.now context start row)) reader.old }
     ensures kept { OnOk result (length reader.new.rest ≤ length reader.old.rest) }
 {
+    if has_no_operands(&row) {
+        return Ok(());
+    }
     let kinds = [row.3.0, row.3.1, row.3.2, row.3.3, row.3.4, row.3.5];
     if row.2 {
         packed_operands(alloc, reader, levels, scope, context, start, &kinds)
