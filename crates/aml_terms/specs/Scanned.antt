@@ -29,6 +29,7 @@ noted (Err e, s) = Err e
 abbrev pub marked : Outcome (List Tree) × State → Outcome (List Mark)
 marked (Ok ts, s) = Ok s.marks
 marked (Err e, s) = Err e
+
 -- whether a row has no operand, nor a package for one
 unfoldable pub has_no_operands : Row → Bool
 has_no_operands row = not row.2 && is_nothing row.3.0
