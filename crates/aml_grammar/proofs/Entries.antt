@@ -2,7 +2,7 @@
 use Rattle.std.specs.Prelude.{◌≡◌, cond, List, [], ◌∷◌, Some, refl}
 use Rattle.std.specs.declared.cmp.Ordering.{Ordering}
 use Rattle.std.specs.Ordering.{eq_by_cmp}
-use Rattle.std.specs.FinMap.{FinMap, find, get, insert, from_entries, IsAntisymmetric, same_map, get-from_entries, get-insert}
+use Rattle.std.specs.FinMap.{find, get, insert, from_entries, IsAntisymmetric, same_map, get-from_entries, get-insert}
 use Rattle.std.specs.BTreeMap.{is_at}
 use Rattle.std.specs.Map.{lookup}
 use Rattle.std.specs.Cmp.{IsTotalOrder, eq_by_cmp_equiv}

@@ -2,7 +2,7 @@
 ghost use Rattle.std.specs.Prelude.{List, ◌≡◌, ◌++◌, ◌∷◌, [], OnOk, OnErr};
 ghost use Rattle.aml_grammar.specs.declared.arities.Arity.{Arity};
 ghost use Rattle.aml_grammar.specs.Arities.{latest, arity_at};
-ghost use Rattle.aml_grammar.specs.Counts.{HasRoom, SameCounts, CountsOver};
+ghost use Rattle.aml_grammar.specs.Counts.{HasRoom, SameCounts, CountsOver, CountsUnder};
 
 use crate::counts::CountMap;
 use aml_path::Path;
@@ -74,26 +74,46 @@ impl Arities {
         &self.entries
     }
 
-    /// Adds a path, declared or named by an External, as the latest.
+    /// Adds a path, declared or named by an External, as the latest. All memory is taken before anything changes.
     pub fn add(&mut self, path: Path, count: u8, external: bool) -> Result<(), AllocError>
         ensures ok { OnOk result (self.new ≡ self.old ++ record { path = path; count = count; external = external } ∷ []) }
         ensures err { OnErr result (self.new ≡ self.old) }
     {
-        let mut one = Vec::new(self.alloc);
-        one.push(Arity {
+        let segments = Vec::from_slice(self.alloc, path.segments())?;
+        self.entries.reserve(1)?;
+        self.index.add(Path::from_vec(segments), count, external)?;
+        self.entries.push_reserved(Arity {
             path,
             count,
             external,
-        })?;
-        self.take_over(one)
+        });
+        Ok(())
     }
 
     /// Adds all entries of others behind its own. Where memory runs out, nothing changes.
+    ///
+    /// Only the entries of the shorter list are counted anew.
     pub fn append(&mut self, added: Arities) -> Result<(), AllocError>
         ensures ok { OnOk result (self.new ≡ self.old ++ added) }
         ensures err { OnErr result (self.new ≡ self.old) }
     {
-        self.take_over(added.entries)
+        if self.entries.len() < added.entries.len() {
+            self.take_over_with_map(added)
+        } else {
+            self.take_over(added.entries)
+        }
+    }
+
+    /// Takes entries over behind its own, with their map, under whose counts it puts its own.
+    fn take_over_with_map(&mut self, added: Arities) -> Result<(), AllocError>
+        ensures ok { OnOk result (self.new ≡ self.old ++ added) }
+        ensures err { OnErr result (self.new ≡ self.old) }
+    {
+        let mut added = added;
+        add_all_under(self.alloc, &mut added.index, &self.entries)?;
+        self.entries.append(&mut added.entries)?;
+        self.index = added.index;
+        Ok(())
     }
 
     /// Takes entries over behind its own. All memory is taken before anything changes.
@@ -149,4 +169,16 @@ fn note_all(index: &mut CountMap, entries: &[Arity])
     for entry in entries {
         index.note(&entry.path, entry.count, entry.external);
     }
+}
+
+/// Adds the counts of entries that came before all that the map has, the latest of them first.
+fn add_all_under(alloc: Global, index: &mut CountMap, entries: &[Arity]) -> Result<(), AllocError>
+    ensures { OnOk result (CountsUnder index.old entries.now index.new) }
+{
+    for above in 0..entries.len() {
+        let entry = &entries[entries.len() - 1 - above];
+        let segments = Vec::from_slice(alloc, entry.path.segments())?;
+        index.add_under(Path::from_vec(segments), entry.count, entry.external)?;
+    }
+    Ok(())
 }

@@ -1,7 +1,7 @@
 //! The latest argument counts, by path.
 ghost use Rattle.std.specs.Prelude.{◌≡◌, OnOk, OnErr};
 ghost use Rattle.std.specs.FinMap as map;
-ghost use Rattle.aml_grammar.specs.Counts.{count_of, count_in, with_count, with_room, counted};
+ghost use Rattle.aml_grammar.specs.Counts.{count_of, count_in, with_count, with_count_under, with_room, added, added_under, counted};
 
 use aml_path::Path;
 use std::alloc::{AllocError, Global};
@@ -16,6 +16,12 @@ pub struct Counts {
     /// That of the Externals that name the path.
     pub external: Option<u8>,
 }
+
+/// No count of either sort.
+const NO_COUNTS: Counts = Counts {
+    declared: None,
+    external: None,
+};
 
 /// The latest argument counts of each path, found by halving.
 #[derive(Debug, Drop)]
@@ -59,16 +65,32 @@ impl CountMap {
         ensures ok { OnOk result (self.new ≡ with_room self.old path) }
         ensures err { OnErr result (self.new ≡ self.old) }
     {
-        if self.paths.contains_key(&path) {
-            return Ok(());
-        }
-        self.paths.insert(
-            path,
-            Counts {
-                declared: None,
-                external: None,
-            },
-        )?;
+        self.paths.entry(path)?.or_insert(NO_COUNTS);
+        Ok(())
+    }
+
+    /// Adds the latest count of a path.
+    pub(crate) fn add(&mut self, path: Path, count: u8, external: bool) -> Result<(), AllocError>
+        ensures ok { OnOk result (self.new ≡ added self.old path count external) }
+        ensures err { OnErr result (self.new ≡ self.old) }
+    {
+        let counts = self.paths.entry(path)?.or_insert(NO_COUNTS);
+        *counts = with_count(*counts, count, external);
+        Ok(())
+    }
+
+    /// Adds a count of a path that came before those that the map has.
+    pub(crate) fn add_under(
+        &mut self,
+        path: Path,
+        count: u8,
+        external: bool,
+    ) -> Result<(), AllocError>
+        ensures ok { OnOk result (self.new ≡ added_under self.old path count external) }
+        ensures err { OnErr result (self.new ≡ self.old) }
+    {
+        let counts = self.paths.entry(path)?.or_insert(NO_COUNTS);
+        *counts = with_count_under(*counts, count, external);
         Ok(())
     }
 
@@ -107,5 +129,15 @@ fn with_count(counts: Counts, count: u8, external: bool) -> Counts
             declared: Some(count),
             external: counts.external,
         }
+    }
+}
+
+/// The counts, and under them an older one of one sort, which counts where there was none.
+fn with_count_under(counts: Counts, count: u8, external: bool) -> Counts
+    ensures { result ≡ with_count_under counts count external }
+{
+    match count_of(&counts, external) {
+        Some(_) => counts,
+        None => with_count(counts, count, external),
     }
 }

@@ -1,18 +1,11 @@
-use Rattle.std.proofs.Common.{◌≡◌, ◌∙◌, ap, sym, true, false, None, refl}
-use Rattle.std.specs.Option.{is_some}
-use Rattle.std.specs.FinMap as map
-use Rattle.aml_grammar.proofs.Entries.{get_entry, put_entry}
-use Rattle.aml_grammar.specs.declared.counts.Counts.{Counts}
-use Rattle.aml_grammar.proofs.Counted.{path_total, only_equal}
+use Rattle.std.proofs.Common.{◌∙◌, ap, rules, unwrap_or}
+use Rattle.aml_grammar.specs.Counts.{no_counts, changed}
+use Rattle.aml_grammar.proofs.Counted.{changed_entry}
 use Rattle.aml_grammar.proofs.counts.CountMap.make_room.Goals as goal
-
-pub returns-then-contains_key-clause-ok : goal.returns-then-contains_key-clause-ok
-returns-then-contains_key-clause-ok c =
-    let there : map.contains_key c.args.self.now c.args.path ≡ true = ap (λ m. is_some (map.get m c.args.path)) (sym c.self.view_is) ∙ ap is_some (get_entry path_total c.self.inside.paths.entries c.args.path) ∙ sym c.contains_key.ensures ∙ c.if-contains_key.true in
-    rw there refl
 
 pub returns-clause-ok : goal.returns-clause-ok
 returns-clause-ok c =
-    let none : map.contains_key c.args.self.now c.args.path ≡ false = ap (λ m. is_some (map.get m c.args.path)) (sym c.self.view_is) ∙ ap is_some (get_entry path_total c.self.inside.paths.entries c.args.path) ∙ sym c.contains_key.ensures ∙ c.if-contains_key.false in
-    let counts : Counts = record { declared = None; external = None } in
-    rw none (put_entry path_total only_equal c.self.inside.paths.entries c.insert.new.self.entries c.args.path counts c.in_ok-insert.ensures.updates.0 ∙ ap (λ m. map.insert m c.args.path counts) c.self.view_is)
+    changed_entry (λ x. x) c.self.inside.paths.entries _ c.args.path c.or_insert.result.now
+    (c.or_insert.ensures.value ∙ ap (λ o. unwrap_or o no_counts) c.in_ok-self-inside.ensures.value)
+    (λ q. search (rules, (c.in_ok-self-inside.ensures.update.0 c.or_insert.result.now).0 q))
+    ∙ ap (λ m. changed (λ x. x) m c.args.path) c.self.view_is
