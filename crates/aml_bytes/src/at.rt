@@ -2,12 +2,15 @@
 ghost use Rattle.std.specs.Prelude.{◌+◌, ◌<◌, ◌^◌, length};
 
 use crate::marks::Marks;
+use aml_grammar::Row;
 
 /// What stands at a place of the bytes.
 #[derive(Clone, Copy, Debug, PartialEq, Eq)]
 pub(crate) enum Kind {
     /// A term.
     Term,
+    /// A term whose opcode was read: what stands behind the opcode, by its row.
+    Coded(Row),
     /// An element of a package.
     Element,
     /// An Else.

@@ -10,7 +10,7 @@ ghost use Rattle.aml_bytes.specs.Spots.{spot_part};
 use crate::at::{At, Kind};
 use crate::cursor::Cursor;
 use crate::marks::Marks;
-use crate::places::standing;
+use crate::places::{standing, term_at};
 use crate::skip::ELSE;
 use crate::spot::Spot;
 use aml_grammar::{OperandKind, OperandView};
@@ -78,7 +78,7 @@ fn view_kind<'a>(
         OperandKind::AsciiCharList => OperandView::Bytes,
         OperandKind::ByteList => OperandView::Bytes,
         OperandKind::TermArg | OperandKind::DataObject => {
-            OperandView::Term(standing(cursor, marks, levels, 0, Kind::Term))
+            OperandView::Term(term_at(cursor, marks, levels, false))
         }
         OperandKind::SuperName | OperandKind::SimpleName => view_name_or_term(
             cursor, marks, levels,
@@ -112,7 +112,7 @@ fn view_name_or_term<'a>(cursor: &Cursor<'a>, marks: &'a Marks, levels: u8) -> O
     if starts_name(cursor.first()) {
         OperandView::Name
     } else {
-        OperandView::Term(standing(cursor, marks, levels, 0, Kind::Term))
+        OperandView::Term(term_at(cursor, marks, levels, false))
     }
 }
 

@@ -26,19 +26,18 @@ fn to_kind(
 ) -> Option<Spot>
     ensures { option_map (λ s. spot_part (count_at marks.now) s cursor.new) result ≡ part_at (parts_of (all_operands (a_term (count_at marks.now) levels) kinds.now cursor.old).0) index }
 {
-    match kinds {
-        [] => None,
-        [kind, rest @ ..] => {
-            if is_nothing(*kind) {
-                None
-            } else if index == 0 {
-                Some(Spot::Operand(*kind, levels))
-            } else {
-                skip_operand(cursor, marks, levels, *kind);
-                to_kind(cursor, marks, levels, rest, index - 1)
-            }
+    let mut left = index;
+    'operands: for kind in kinds {
+        if is_nothing(*kind) {
+            return None;
         }
+        if left == 0 {
+            return Some(Spot::Operand(*kind, levels));
+        }
+        skip_operand(cursor, marks, levels, *kind);
+        left -= 1;
     }
+    None
 }
 
 /// How many operands kinds have.
@@ -74,6 +73,23 @@ fn to_row_operand(
         cursor.open();
     }
     to_kind(cursor, marks, levels, &kinds, index)
+}
+
+/// Goes to an operand of a term whose opcode was read. Most often that is its first, which stands right there.
+#[tactic(auto, using(aml_marked::specs::Parting::parting), unfolding(aml_marked::specs::Marked::with_row, aml_marked::specs::Marked::of_row, aml_marked::specs::Marked::inside, aml_marked::specs::Marked::all_operands, aml_marked::specs::Marked::after, aml_marked::specs::Marked::gives))]
+fn to_coded_operand(
+    cursor: &mut Cursor<'_>,
+    marks: &Marks,
+    levels: u8,
+    row: Row,
+    index: usize,
+) -> Option<Spot>
+    ensures { option_map (λ s. spot_part (count_at marks.now) s cursor.new) result ≡ operand_of (with_row (a_term (count_at marks.now) levels) (Some row) cursor.old).0 index }
+{
+    if index == 0 && !row.2 && !is_if(row.0) && !is_nothing(row.3.0) {
+        return Some(Spot::Operand(row.3.0, levels));
+    }
+    to_operand_of_row(cursor, marks, levels, row, index)
 }
 
 /// Goes to an operand of a term with an opcode: the Else of an If is its last one.
@@ -232,15 +248,16 @@ fn to_named(cursor: &mut Cursor<'_>, levels: u8, index: usize) -> Option<Spot>
 
 /// Goes to an operand of what stands there.
 #[tactic(auto, using(aml_marked::specs::Parting::parting))]
-pub(crate) fn to_part<'a>(part: At<'a>, cursor: &mut Cursor<'a>, index: usize) -> Option<Spot>
-    requires { cursor.old ≡ place_at part }
-    ensures { option_map (λ s. spot_part (count_at part.entry.marks.now) s cursor.new) result ≡ operand_of (at_tree part.entry) index }
+pub(crate) fn to_part<'a>(part: &At<'a>, cursor: &mut Cursor<'a>, index: usize) -> Option<Spot>
+    requires { cursor.old ≡ place_at part.now }
+    ensures { option_map (λ s. spot_part (count_at part.now.marks.now) s cursor.new) result ≡ operand_of (at_tree part.now) index }
 {
     match part.kind {
+        Kind::Coded(row) => to_coded_operand(cursor, part.marks, part.levels, row, index),
         Kind::Term => to_operand(cursor, part.marks, part.levels, false, index),
         Kind::Element => to_operand(cursor, part.marks, part.levels, true, index),
         Kind::Else => to_else_operand(cursor, part.levels, index),
         Kind::Field => to_field_operand(cursor, part.levels, index),
-        _ => None,
+        Kind::Items | Kind::Elements | Kind::Arguments | Kind::Fields => None,
     }
 }

@@ -2,14 +2,15 @@
 ghost use Rattle.std.specs.Prelude.{◌≡◌, ◌≤◌, length, drop, false};
 ghost use Rattle.aml_grammar.specs.Shape.{trees_of};
 ghost use Rattle.aml_marked.specs.Marked.{count_at, a_term, trees_by};
-ghost use Rattle.aml_bytes.specs.AtTree.{at_tree, at_list, place_at};
+ghost use Rattle.aml_bytes.specs.AtTree.{at_tree, at_list, place_at, behind_of};
 
 use crate::at::{At, Kind};
 use crate::cursor::Cursor;
 use crate::marks::Marks;
-use crate::skip::skip_term;
+use crate::skip::{opcode, over_else, skip_field, skip_row_term, skip_term};
+use aml_terms::{row_of, starts_name};
 
-/// One level more than the grammar has: there, a local that is a place costs none.
+/// One level more than the grammar has: there, a local, an argument or Debug as a place costs none.
 const LEVELS: u8 = 65;
 
 /// What stands where a cursor stands.
@@ -36,10 +37,52 @@ pub(crate) fn standing<'a>(
     }
 }
 
-pub(crate) fn cursor_of<'a>(part: At<'a>) -> Cursor<'a>
-    ensures { result ≡ place_at part.entry }
+pub(crate) fn cursor_of<'a>(part: &At<'a>) -> Cursor<'a>
+    ensures { result ≡ place_at part.now }
 {
     Cursor::new(part.at, part.rest)
+}
+
+/// The term, or the element of a package, where a cursor stands. Its opcode is read at once, so that no reading of an operand looks for
+/// its row again.
+#[tactic(auto, using(aml_marked::specs::Walking::walking), unfolding(aml_marked::specs::Marked::a_coded, aml_marked::specs::Marked::a_term_in, aml_marked::specs::Marked::after, aml_marked::specs::Marked::gives))]
+pub(crate) fn term_at<'a>(
+    cursor: &Cursor<'a>,
+    marks: &'a Marks,
+    levels: u8,
+    element: bool,
+) -> At<'a>
+    ensures marks { result.marks.now ≡ marks.now }
+    ensures tree { at_tree result ≡ (a_term (count_at marks.now) levels element cursor.now).0 }
+    ensures behind { behind_of result.kind (count_at marks.now) result.levels (place_at result) ≡ (a_term (count_at marks.now) levels element cursor.now).1 }
+{
+    if levels > 0 && !starts_name(cursor.first()) {
+        let mut behind = Cursor::new(cursor.at(), cursor.rest());
+        if let Some(row) = row_of(opcode(&mut behind)) {
+            return standing(&behind, marks, levels - 1, 0, Kind::Coded(row));
+        }
+    }
+    if element {
+        standing(cursor, marks, levels, 0, Kind::Element)
+    } else {
+        standing(cursor, marks, levels, 0, Kind::Term)
+    }
+}
+
+/// What stands behind a term or an element of a package.
+pub(crate) fn behind<'a>(term: &At<'a>) -> Cursor<'a>
+    ensures { result ≡ behind_of term.now.kind (count_at term.now.marks.now) term.now.levels (place_at term.now) }
+{
+    let mut cursor = cursor_of(term);
+    match term.kind {
+        Kind::Coded(row) => skip_row_term(&mut cursor, term.marks, term.levels, row),
+        Kind::Term => skip_term(&mut cursor, term.marks, term.levels, false),
+        Kind::Element => skip_term(&mut cursor, term.marks, term.levels, true),
+        Kind::Else => over_else(&mut cursor),
+        Kind::Field => skip_field(&mut cursor, term.marks, term.levels),
+        Kind::Items | Kind::Elements | Kind::Arguments | Kind::Fields => (),
+    }
+    cursor
 }
 
 /// The list of terms that bytes hold, by the marks that their scan left. It takes no memory.
@@ -58,8 +101,7 @@ pub fn first_term<'a>(bytes: &'a [u8], at: usize, marks: &'a Marks) -> (At<'a>, 
     ensures tree { at_tree result.0 ≡ (a_term (count_at marks.now) 65 false (record { at = at; rest = drop at bytes.now })).0 }
     ensures next { result.1 ≡ (a_term (count_at marks.now) 65 false (record { at = at; rest = drop at bytes.now })).1.at }
 {
-    let mut cursor = Cursor::new(at, &bytes[at..]);
-    let term = standing(&cursor, marks, LEVELS, 0, Kind::Term);
-    skip_term(&mut cursor, marks, LEVELS, false);
-    (term, cursor.at())
+    let cursor = Cursor::new(at, &bytes[at..]);
+    let term = term_at(&cursor, marks, LEVELS, false);
+    (term, behind(&term).at())
 }

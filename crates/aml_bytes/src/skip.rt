@@ -1,7 +1,7 @@
 //! Goes over terms by their marks. It takes no memory and refuses nothing.
 ghost use Rattle.std.specs.Prelude.{◌≡◌, Some, false};
 ghost use Rattle.aml_grammar.specs.Grammar.{is_if, is_nothing};
-ghost use Rattle.aml_marked.specs.Marked.{count_at, a_term, a_call, a_coded, an_opcode, with_row, of_row, all_operands, an_operand, name_or_term, turns_of, maybe_else, target_of, a_target, a_super_name, all_items, fields_left, a_field, to_end, first, Below};
+ghost use Rattle.aml_marked.specs.Marked.{count_at, a_term, a_call, a_coded, an_opcode, with_row, of_row, all_operands, an_operand, name_or_term, turns_of, maybe_else, an_else, target_of, a_target, a_super_name, all_items, fields_left, a_field, to_end, first, Below};
 
 use crate::cursor::Cursor;
 use crate::marks::Marks;
@@ -60,9 +60,10 @@ fn skip_call(cursor: &mut Cursor<'_>, marks: &Marks, levels: u8)
 fn skip_arguments(cursor: &mut Cursor<'_>, marks: &Marks, levels: u8, count: usize)
     ensures { cursor.new ≡ (turns_of (a_term (count_at marks.now) levels false) count cursor.old).1 }
 {
-    if count > 0 {
+    let mut left = count;
+    'arguments: while left > 0 {
         skip_term(cursor, marks, levels, false);
-        skip_arguments(cursor, marks, levels, count - 1);
+        left -= 1;
     }
 }
 
@@ -99,7 +100,7 @@ fn skip_coded(cursor: &mut Cursor<'_>, marks: &Marks, levels: u8)
 /// Goes over the operands of a term, and over the Else that may follow an If.
 #[cycle(skip)]
 #[tactic(auto, using(aml_marked::specs::Walking::walking), unfolding(aml_marked::specs::Marked::with_row, aml_marked::specs::Marked::after, aml_marked::specs::Marked::gives))]
-fn skip_row_term(cursor: &mut Cursor<'_>, marks: &Marks, levels: u8, row: Row)
+pub(crate) fn skip_row_term(cursor: &mut Cursor<'_>, marks: &Marks, levels: u8, row: Row)
     ensures { cursor.new ≡ (with_row (a_term (count_at marks.now) levels) (Some row) cursor.old).1 }
 {
     skip_row(cursor, marks, levels, row);
@@ -110,14 +111,14 @@ fn skip_row_term(cursor: &mut Cursor<'_>, marks: &Marks, levels: u8, row: Row)
 
 /// Goes over the operands of a row: over a package at once.
 #[cycle(skip)]
-#[tactic(auto, using(aml_marked::specs::Walking::walking), unfolding(aml_marked::specs::Marked::of_row, aml_marked::specs::Marked::inside))]
+#[tactic(auto, using(aml_marked::specs::Walking::walking), unfolding(aml_marked::specs::Marked::of_row, aml_marked::specs::Marked::inside, aml_marked::specs::Marked::all_operands, aml_marked::specs::Marked::gives))]
 pub(crate) fn skip_row(cursor: &mut Cursor<'_>, marks: &Marks, levels: u8, row: Row)
     ensures { cursor.new ≡ (of_row (a_term (count_at marks.now) levels) row cursor.old).1 }
 {
     if row.2 {
         let outer = cursor.open();
         *cursor = outer;
-    } else {
+    } else if !is_nothing(row.3.0) {
         let kinds = [row.3.0, row.3.1, row.3.2, row.3.3, row.3.4, row.3.5];
         skip_operands(cursor, marks, levels, &kinds);
     }
@@ -128,14 +129,11 @@ pub(crate) fn skip_row(cursor: &mut Cursor<'_>, marks: &Marks, levels: u8, row: 
 fn skip_operands(cursor: &mut Cursor<'_>, marks: &Marks, levels: u8, kinds: &[OperandKind])
     ensures { cursor.new ≡ (all_operands (a_term (count_at marks.now) levels) kinds.now cursor.old).1 }
 {
-    match kinds {
-        [] => (),
-        [kind, rest @ ..] => {
-            if !is_nothing(*kind) {
-                skip_operand(cursor, marks, levels, *kind);
-                skip_operands(cursor, marks, levels, rest);
-            }
+    'operands: for kind in kinds {
+        if is_nothing(*kind) {
+            return;
         }
+        skip_operand(cursor, marks, levels, *kind);
     }
 }
 
@@ -207,18 +205,10 @@ fn skip_target(cursor: &mut Cursor<'_>, marks: &Marks, levels: u8)
 fn skip_items(cursor: &mut Cursor<'_>, marks: &Marks, levels: u8, element: bool)
     ensures { cursor.new ≡ (all_items (a_term (count_at marks.now) levels) element cursor.old).1 }
 {
-    let turns = cursor.rest().len();
-    skip_turns(cursor, marks, levels, element, turns);
-}
-
-#[cycle(skip)]
-#[tactic(auto, using(aml_marked::specs::Walking::walking))]
-fn skip_turns(cursor: &mut Cursor<'_>, marks: &Marks, levels: u8, element: bool, turns: usize)
-    ensures { cursor.new ≡ (to_end (a_term (count_at marks.now) levels element) turns cursor.old).1 }
-{
-    if turns > 0 && !cursor.is_empty() {
+    let mut left = cursor.rest().len();
+    'items: while left > 0 && !cursor.is_empty() {
         skip_term(cursor, marks, levels, element);
-        skip_turns(cursor, marks, levels, element, turns - 1);
+        left -= 1;
     }
 }
 
@@ -228,18 +218,10 @@ fn skip_turns(cursor: &mut Cursor<'_>, marks: &Marks, levels: u8, element: bool,
 fn skip_fields(cursor: &mut Cursor<'_>, marks: &Marks, levels: u8)
     ensures { cursor.new ≡ (fields_left (a_term (count_at marks.now) levels) cursor.old).1 }
 {
-    let turns = cursor.rest().len();
-    skip_field_turns(cursor, marks, levels, turns);
-}
-
-#[cycle(skip)]
-#[tactic(auto, using(aml_marked::specs::Walking::walking))]
-fn skip_field_turns(cursor: &mut Cursor<'_>, marks: &Marks, levels: u8, turns: usize)
-    ensures { cursor.new ≡ (to_end (a_field (a_term (count_at marks.now) levels)) turns cursor.old).1 }
-{
-    if turns > 0 && !cursor.is_empty() {
+    let mut left = cursor.rest().len();
+    'fields: while left > 0 && !cursor.is_empty() {
         skip_field(cursor, marks, levels);
-        skip_field_turns(cursor, marks, levels, turns - 1);
+        left -= 1;
     }
 }
 
@@ -272,13 +254,21 @@ pub(crate) fn skip_field(cursor: &mut Cursor<'_>, marks: &Marks, levels: u8)
 }
 
 /// Goes over an Else, where one follows.
-#[tactic(auto, using(aml_marked::specs::Walking::walking), unfolding(aml_marked::specs::Marked::maybe_else, aml_marked::specs::Marked::an_else, aml_marked::specs::Marked::inside, aml_marked::specs::Marked::after, aml_marked::specs::Marked::gives))]
+#[tactic(auto, using(aml_marked::specs::Walking::walking), unfolding(aml_marked::specs::Marked::maybe_else, aml_marked::specs::Marked::gives))]
 fn skip_else(cursor: &mut Cursor<'_>)
     ensures { (below : Below) → cursor.new ≡ (maybe_else below cursor.old).1 }
 {
     if cursor.is_next(ELSE) {
-        cursor.over(1);
-        let outer = cursor.open();
-        *cursor = outer;
+        over_else(cursor);
     }
+}
+
+/// Goes over an Else.
+#[tactic(auto, using(aml_marked::specs::Walking::walking), unfolding(aml_marked::specs::Marked::an_else, aml_marked::specs::Marked::inside, aml_marked::specs::Marked::after, aml_marked::specs::Marked::gives))]
+pub(crate) fn over_else(cursor: &mut Cursor<'_>)
+    ensures { (below : Below) → cursor.new ≡ (an_else below cursor.old).1 }
+{
+    cursor.over(1);
+    let outer = cursor.open();
+    *cursor = outer;
 }
