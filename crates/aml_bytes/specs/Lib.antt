@@ -1,4 +1,5 @@
 pub mod AtTree
+pub mod Copying
 pub mod FieldElements
 pub mod Named
 pub mod Spots

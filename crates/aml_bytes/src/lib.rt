@@ -3,6 +3,7 @@
 
 mod at;
 mod at_reader;
+mod copying;
 mod cursor;
 mod lent;
 mod marks;
