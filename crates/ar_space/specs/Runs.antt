@@ -1,6 +1,6 @@
--- Runs of bytes: put into a map from an address on, and read as a number.
+-- Runs of bytes: put into a map from an address on, read from there, and read as a number.
 use Rattle.std.specs.Prelude.{ℕ, zero, suc, ◌+◌, ◌*◌, ◌/◌, ◌%◌, List, [], ◌∷◌, Option, Some, option_and_then}
-use Rattle.std.specs.Option.{option_map}
+use Rattle.std.specs.Option.{option_map, option_map_or}
 use Rattle.std.specs.FinMap as map
 use Rattle.std.specs.Ordering.{nat_cmp}
 
@@ -8,6 +8,11 @@ use Rattle.std.specs.Ordering.{nat_cmp}
 unfoldable pub with_bytes : map.FinMap nat_cmp ℕ → ℕ → List ℕ → map.FinMap nat_cmp ℕ
 with_bytes m address [] = m
 with_bytes m address (byte ∷ bytes) = with_bytes (map.insert m address byte) (address + 1) bytes
+
+-- the bytes from an address on: so many, or those before the first that doesn't stand
+abbrev pub run_from : (ℕ → Option ℕ) → ℕ → ℕ → List ℕ
+run_from byte address zero = []
+run_from byte address (suc count) = option_map_or (λ first. first ∷ run_from byte (address + 1) count) (byte address) []
 
 -- the number that so many bytes from an address on make, the lowest first: none where one of them doesn't stand
 abbrev pub number_from : (ℕ → Option ℕ) → ℕ → ℕ → Option ℕ

@@ -1,7 +1,9 @@
 //! Pages: the bytes at 64 addresses in a row.
-ghost use Rattle.std.specs.Prelude.{◌≡◌, ℕ, ◌+◌, ◌^◌, ◌<◌, ◌≤◌, length, slice_index, Some, None, IfSome, is_some, true, false};
+ghost use Rattle.std.specs.Prelude.{◌≡◌, ℕ, ◌+◌, ◌^◌, ◌<◌, ◌≤◌, ◌++◌, length, slice_index, Some, None, IfSome, OnOk, is_some, true, false};
 ghost use Rattle.ar_space.specs.Pages.{cell};
-ghost use Rattle.ar_space.specs.Runs.{number_from};
+ghost use Rattle.ar_space.specs.Runs.{run_from, number_from};
+
+use std::alloc::AllocError;
 
 /// How many addresses a page has.
 pub(crate) const PLACES: usize = 64;
@@ -58,6 +60,25 @@ impl Page {
             self.put(at + n, bytes[n]);
             n += 1;
         }
+    }
+
+    /// Appends `count` bytes from a place of the page on, or those before the first that doesn't stand.
+    pub(crate) fn append_to(
+        &self,
+        at: usize,
+        count: usize,
+        bytes: &mut Vec<u8>,
+    ) -> Result<(), AllocError>
+        requires { at + count ≤ 64 }
+        ensures { OnOk result (bytes.new.items ≡ bytes.old.items ++ run_from (cell self.now) at count) }
+    {
+        for n in 0..count {
+            match self.byte(at + n) {
+                Some(byte) => bytes.push(byte)?,
+                None => return Ok(()),
+            }
+        }
+        Ok(())
     }
 
     /// The number that bytes from a place of the page on make, the lowest first, where all of them stand.

@@ -1,3 +1,4 @@
+pub mod ImageRuns
 pub mod Turns
 pub mod Overrides
 pub mod Structures

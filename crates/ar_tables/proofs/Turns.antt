@@ -2,27 +2,10 @@
 use Rattle.std.proofs.Common.{◌≡◌, ◌∙◌, ap, ℕ, ◌+◌, ◌<◌, ◌≤◌, List, [], ◌∷◌, ◌++◌, drop, length, get_or, map, Ok, Err, false, arith, sym, append-nil, refl, ne_eqb}
 use Rattle.std.specs.Prelude.{IsErr, IsErrAnd, not, ◌==◌, filter}
 use Rattle.std.specs.List.{range_with_len}
-use Rattle.std.proofs.lemmas.List.FromFn.{length-range_with_len, get_or-range_with_len, filter_of_map_range_with_len_more}
+use Rattle.std.proofs.lemmas.List.FromFn.{filter_of_map_range_with_len_more}
 use Rattle.ar_space.specs.declared.refusal.Refusal.{Refusal}
 use Rattle.ar_space.specs.Outcome.{Outcome, Answers, seen}
 use Rattle.ar_space.specs.Each.{each, following, each_turn, each_refused, each_done}
-
--- a refusal of the definition, handed on, where the value is seen by a view
-pub seen_refused : {A B : Type 0} {e : Refusal} (r : Outcome A) (view : A → B) (x : Outcome B) → x ≡ Err e → IsErr r × IsErrAnd r (λ z. z ≡ e) → Answers (seen view r) x
-seen_refused (Ok a) view x is i = absurd (cc i.0)
-seen_refused (Err z) view x is i = record { is = λ _. cc (is, i.1) }
-
--- for each number of a range
-module _ {B : Type 0} (f : ℕ → Outcome B) (a n i : ℕ) (done : List B) where
-  pub range_turn : (y : B) → i < n → f (a + i) ≡ Ok y
-      → following done (each f (drop i (range_with_len a n))) ≡ following (done ++ y ∷ []) (each f (drop (i + 1) (range_with_len a n)))
-  range_turn y lt is = each_turn f (range_with_len a n) i 0 y done (omega (arith, length-range_with_len a n)) (ap f (get_or-range_with_len a n i 0 lt) ∙ is)
-
-  pub range_refused : (e : Refusal) → i < n → f (a + i) ≡ Err e → following done (each f (drop i (range_with_len a n))) ≡ Err e
-  range_refused e lt is = each_refused f (range_with_len a n) i 0 e done (omega (arith, length-range_with_len a n)) (ap f (get_or-range_with_len a n i 0 lt) ∙ is)
-
-  pub range_done : n ≤ i → following done (each f (drop i (range_with_len a n))) ≡ Ok done
-  range_done le = each_done f (range_with_len a n) i done (omega (arith, length-range_with_len a n))
 
 -- for each number of a list
 module _ {A B : Type 0} (f : A → Outcome B) (xs : List A) (i : ℕ) (d : A) (done : List B) (total : Outcome (List B)) (so_far : total ≡ following done (each f (drop i xs))) where

@@ -1,8 +1,8 @@
 //! Ranges of bytes of an image.
-ghost use Rattle.std.specs.Prelude.{◌≡◌, ◌+◌, IfOk, length};
+ghost use Rattle.std.specs.Prelude.{◌≡◌, IfOk, length};
 ghost use Rattle.ar_space.specs.Outcome.{Answers, seen};
 ghost use Rattle.ar_tables.specs.Headers.{summed};
-ghost use Rattle.ar_tables.specs.ImageBytes.{byte_at, bytes_at};
+ghost use Rattle.ar_tables.specs.ImageBytes.{bytes_at};
 
 use ar_space::{ByteMap, Refusal, TableFault};
 use std::alloc::Global;
@@ -70,24 +70,11 @@ fn bytes_at(alloc: Global, image: &ByteMap, address: u64, count: usize) -> Resul
     ensures value { Answers (seen (λ v. v.items) result) (bytes_at image.now address count) }
     ensures len { IfOk result (λ v. length v.items ≡ count) }
 {
-    let mut bytes = Vec::new(alloc);
-    for n in 0..count {
-        bytes.push(byte_on(image, address, n as u64)?)?;
+    let bytes = image.run(alloc, address, count)?;
+    if bytes.len() < count {
+        return Err(Refusal::Table(TableFault::NotInImage));
     }
     Ok(bytes)
-}
-
-/// The byte `n` addresses behind `address`.
-#[tactic(auto, unfolding(crate::specs::ImageBytes::byte_at))]
-fn byte_on(image: &ByteMap, address: u64, n: u64) -> Result<u8, Refusal>
-    ensures { result ≡ byte_at image.now (address + n) }
-{
-    match address.checked_add(n) {
-        Some(place) => image
-            .byte(place)
-            .ok_or(Refusal::Table(TableFault::NotInImage)),
-        None => Err(Refusal::Table(TableFault::NotInImage)),
-    }
 }
 
 /// Whether bytes add up to zero, modulo 256.

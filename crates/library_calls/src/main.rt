@@ -9,11 +9,13 @@ mod machine;
 mod machine_calls;
 mod promise;
 mod route_calls;
+mod term_calls;
 
 use crate::machine::TEXT;
 use crate::machine_calls::call_machine;
 use crate::promise::{Ended, answered};
 use crate::route_calls::call_routes;
+use crate::term_calls::call_terms;
 use acpi_machine::{Machine, load_tables};
 use ar_space::{Refusal, Sparse};
 use ar_tables::find_tables;
@@ -41,6 +43,7 @@ fn loaded(alloc: Global) -> Result<Machine<Sparse>, Ended> {
 
 /// Every call, once.
 fn call_all(alloc: Global) -> Result<(), Ended> {
+    call_terms(alloc)?;
     let mut machine = loaded(alloc)?;
     call_machine(alloc, &mut machine)?;
     call_routes(alloc, &mut machine)
