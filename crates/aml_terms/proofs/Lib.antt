@@ -5,6 +5,7 @@ pub mod Numbers
 pub mod Rows
 pub mod ScanLoops
 pub mod Scans
+pub mod Segments
 pub mod SpelledNames
 pub mod SpelledNumbers
 pub mod SpelledOperands
