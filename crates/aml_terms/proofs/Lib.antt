@@ -2,6 +2,7 @@ pub mod Appended
 pub mod Levels
 pub mod Loops
 pub mod Numbers
+pub mod RowPlaces
 pub mod Rows
 pub mod ScanLoops
 pub mod Scans
