@@ -1,8 +1,8 @@
 -- The places of rows: a list of places is compared with the table by computing, and no number has a row but those of one byte
 -- and those behind ExtOpPrefix.
-use Rattle.std.specs.Prelude.{◌≡◌, ◌≢◌, ℕ, zero, suc, ◌+◌, ◌/◌, ◌<◌, ◌≤◌, List, [], ◌∷◌, length, Bool, true, false, Option, Some, None, ◌==◌, ◌&&◌, ◌||◌, refl}
+use Rattle.std.specs.Prelude.{◌≡◌, ◌≢◌, ℕ, zero, suc, ◌+◌, ◌/◌, ◌<◌, ◌≤◌, List, [], ◌∷◌, length, Bool, true, false, Some, None, ◌==◌, ◌&&◌, ◌||◌, refl}
 use Rattle.std.proofs.Common.{◌∙◌, sym, ap, get_or, inl, inr, arith}
-use Rattle.std.specs.List.{find, list_all, slice_get, slice_index_or, position_or_len}
+use Rattle.std.specs.List.{list_all, slice_get, slice_index_or, position_or_len}
 use Rattle.std.proofs.lemmas.List.Folds.{find_at}
 use Rattle.std.proofs.lemmas.Bool.{eqb-true, ne_eqb}
 use Rattle.std.proofs.lemmas.Bool.Decides.{eqb_tells}
