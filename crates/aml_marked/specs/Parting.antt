@@ -64,7 +64,4 @@ pub part_later : (p : Part) (ps : List Part) (i : ℕ) → 0 < i → part_at (pa
 part_later p ps zero lt = absurd (omega arith)
 part_later p ps (suc i) lt = let e : suc i - 1 ≡ i = omega arith in rw e refl
 
-pub part_none : (i : ℕ) → 0 < i → part_at (parts_of []) i ≡ None
-part_none i lt = refl
-
 pub ruleset parting = (walking, row_before, row_last, row_behind, part_later)

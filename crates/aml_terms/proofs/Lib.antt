@@ -2,9 +2,11 @@ pub mod Appended
 pub mod Levels
 pub mod Loops
 pub mod Numbers
+pub mod RowPlaces
 pub mod Rows
 pub mod ScanLoops
 pub mod Scans
+pub mod Segments
 pub mod SpelledNames
 pub mod SpelledNumbers
 pub mod SpelledOperands

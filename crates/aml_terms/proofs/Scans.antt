@@ -17,7 +17,7 @@ use Rattle.aml_grammar.specs.Operands.{Read}
 use Rattle.aml_grammar.specs.Tree.{Tree, Part, inner}
 use Rattle.aml_grammar.specs.Grammar.{Inner, Counting, keeping, deeper, below, term_at, term_operand, else_part, else_operand, at_else}
 use Rattle.aml_terms.specs.Scanned.{kept, scanned, seen_so, noted}
-use Rattle.aml_terms.proofs.Steps.{memory_err, memory_seen_err, memory_answers}
+use Rattle.aml_terms.proofs.Steps.{memory_err, memory_seen_err, memory_answers, no_memory_err}
 use Rattle.aml_terms.proofs.Levels.{below_none, below_some}
 
 -- ---- a step whose value is known, and then the rest
@@ -156,7 +156,7 @@ module _ (inner_term : Inner) (scope : List Seg) (context : Context) (start : â„
   kept_no_else e = record { is = Î» ne. rw e refl }
 
 -- these close a chain of `?` whose definition is the same chain, its values left out
-pub ruleset scanning = (kept_look, kept_looked, kept_leave, kept_settle_ok, kept_settle_err, kept_settle_seen_err, kept_keeping, kept_kept_ok, kept_kept_err, kept_ok, kept_err, kept_seen_err, kept_give, kept_stop, scanned_wrapped, scanned_term, kept_too_deep, kept_deeper, kept_else, kept_no_else, memory_err, memory_seen_err, does_memory, does_seen_memory)
+pub ruleset scanning = (kept_look, kept_looked, kept_leave, kept_settle_ok, kept_settle_err, kept_settle_seen_err, kept_keeping, kept_kept_ok, kept_kept_err, kept_ok, kept_err, kept_seen_err, kept_give, kept_stop, scanned_wrapped, scanned_term, kept_too_deep, kept_deeper, kept_else, kept_no_else, memory_err, memory_seen_err, no_memory_err, does_memory, does_seen_memory)
 
 -- ---- whole lists
 

@@ -1,8 +1,9 @@
 -- What follows for a chain of steps, and for a loop of them.
-use Rattle.std.specs.Prelude.{◌≡◌, Ok, Err, IsErr, IsErrAnd, refl}
+use Rattle.std.specs.Prelude.{◌≡◌, ◌≢◌, Ok, Err, IsErr, IsErrAnd, refl}
 use Rattle.std.proofs.Common.{◌∙◌, sym, ap}
 use Rattle.ar_space.specs.declared.refusal.Refusal.{Refusal}
-use Rattle.ar_space.specs.Outcome.{Outcome, Answers, seen}
+use Rattle.ar_space.specs.declared.refusal.Refusal.TheVariants.{OutOfMemory}
+use Rattle.ar_space.specs.Outcome.{Outcome, NotMemory, Answers, seen}
 use Rattle.ar_space.specs.Change.{Change, Does, Same, give, settle, go_on, ◌>>=◌, changing}
 use Rattle.aml_grammar.specs.State.{State, Step, look}
 
@@ -48,8 +49,13 @@ pub memory_answers : {A B C : Type 0} {e : Refusal} {a : A} (r : Outcome B) (vie
 memory_answers (Ok y) view x h i = absurd (cc i.0)
 memory_answers (Err y) view x h i = record { is = λ ne. absurd (cc (h.is (λ q. ne (i.1 ∙ q)))) }
 
+-- a refusal for another reason, handed on
+pub no_memory_err : {B : Type 0} {e : Refusal} (r : Outcome B) → IsErr r × IsErrAnd r (λ y. y ≡ e) → e ≢ OutOfMemory → NotMemory r
+no_memory_err (Ok y) i ne = tt
+no_memory_err (Err y) i ne = λ is. ne (sym i.1 ∙ is)
+
 -- these close a chain of `?` whose definition is the same chain
-pub ruleset reading = (changing, does_gave, does_look, looked_ok, settle_ok, settle_err, settle_seen_err, memory_err, memory_seen_err)
+pub ruleset reading = (changing, does_gave, does_look, looked_ok, settle_ok, settle_err, settle_seen_err, memory_err, memory_seen_err, no_memory_err)
 
 -- what a step answers, without the state that it leaves
 pub answers_step : {A : Type 0} {r : Outcome A} {s after : State} (m : Step A) → Does r after m s → Answers r (m s).0

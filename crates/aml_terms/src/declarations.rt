@@ -135,25 +135,27 @@ impl<'a, C: ArgumentCounts, B: Before> Declarations<'a, C, B> {
         }
     }
 
-    /// Tries below the first `depth` segments of the scope, and then below fewer.
+    /// Tries below the first `depth` segments of the scope, and then below fewer. It keeps one path at a time.
     #[tactic(auto, using(ar_space::specs::Outcome::answering), unfolding(aml_grammar::specs::Arities::search_up))]
     fn search_up(
         &self,
         alloc: Global,
         scope: &Path,
         segments: &[Seg],
-        depth: usize,
+        mut depth: usize,
     ) -> Result<Option<Path>, Refusal>
         requires { depth ≤ length scope.now }
         ensures { Answers result (Ok (search_up self.now scope.now segments.now depth)) }
     {
-        let path = scope.below_prefix(alloc, depth, segments)?;
-        if self.arity_at(&path).is_some() {
-            Ok(Some(path))
-        } else if depth == 0 {
-            Ok(None)
-        } else {
-            self.search_up(alloc, scope, segments, depth - 1)
+        'scopes: loop {
+            let path = scope.below_prefix(alloc, depth, segments)?;
+            if self.arity_at(&path).is_some() {
+                return Ok(Some(path));
+            }
+            if depth == 0 {
+                return Ok(None);
+            }
+            depth -= 1;
         }
     }
 }

@@ -1,6 +1,6 @@
 //! How names are spelled (NameString of ACPI 6.5, 20.2.2).
 ghost use Rattle.std.specs.Prelude.{◌≡◌, ◌+◌, ◌<◌, ◌≤◌, ◌^◌, ℕ, [], length, OnOk};
-ghost use Rattle.ar_space.specs.Outcome.{Answers, seen};
+ghost use Rattle.ar_space.specs.Outcome.{Answers, NotMemory, seen};
 ghost use Rattle.ar_space.specs.Change.{Does};
 ghost use Rattle.aml_grammar.specs.State.{times};
 ghost use Rattle.aml_grammar.specs.Names.{starts_name, lead_name_char, name_char, segment, counted_segments, multiple_segments, segments_at, segments, rooted_name, relative_name, name_at, name_string};
@@ -27,6 +27,7 @@ fn lead_name_char<C: ArgumentCounts, B: Before>(
 ) -> Result<u8, Refusal>
     ensures reads { Does result reader.new lead_name_char reader.old }
     ensures shorter { OnOk result (length reader.new.rest < length reader.old.rest) }
+    ensures memory { NotMemory result }
 {
     let byte = reader.byte()?;
     if is_lead_name_char(byte) {
@@ -40,6 +41,7 @@ fn lead_name_char<C: ArgumentCounts, B: Before>(
 fn name_char<C: ArgumentCounts, B: Before>(reader: &mut Reader<'_, C, B>) -> Result<u8, Refusal>
     ensures reads { Does result reader.new name_char reader.old }
     ensures shorter { OnOk result (length reader.new.rest < length reader.old.rest) }
+    ensures memory { NotMemory result }
 {
     let byte = reader.byte()?;
     if is_name_char(byte) {
@@ -50,12 +52,13 @@ fn name_char<C: ArgumentCounts, B: Before>(reader: &mut Reader<'_, C, B>) -> Res
 }
 
 /// One segment.
-#[tactic(auto, using(crate::proofs::Steps::reading), unfolding(aml_grammar::specs::Names::segment))]
+#[tactic(auto, using(crate::proofs::Steps::reading, crate::proofs::Segments::made_plainly), unfolding(aml_grammar::specs::Names::segment))]
 pub(crate) fn segment<C: ArgumentCounts, B: Before>(
     reader: &mut Reader<'_, C, B>,
 ) -> Result<Seg, Refusal>
     ensures reads { Does result reader.new segment reader.old }
     ensures shorter { OnOk result (length reader.new.rest < length reader.old.rest) }
+    ensures memory { NotMemory result }
 {
     let first = lead_name_char(reader)?;
     let second = name_char(reader)?;

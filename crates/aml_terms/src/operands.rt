@@ -1,6 +1,6 @@
 //! Operands that hold no terms.
 ghost use Rattle.std.specs.Prelude.{◌≡◌, ◌<◌, ◌≤◌, ◌∷◌, ◌++◌, [], false, length, OnOk, Some};
-ghost use Rattle.ar_space.specs.Outcome.{Answers, seen};
+ghost use Rattle.ar_space.specs.Outcome.{Answers, NotMemory, seen};
 ghost use Rattle.ar_space.specs.Change.{Does};
 ghost use Rattle.aml_grammar.specs.DeclaredNames.{begins_outside, allowed_path, declared_path};
 ghost use Rattle.aml_grammar.specs.Operands.{declare, declare_earlier, name_operand, scope_name, alias_source, external_name, declared_name, integer_operand, method_flags, object_type, argument_count, text_operand, bytes_operand};
@@ -195,6 +195,7 @@ pub(crate) fn integer_operand<C: ArgumentCounts, B: Before>(
     requires { width ≤ 8 }
     ensures reads { Does (seen part_view result) reader.new (integer_operand width) reader.old }
     ensures kept { OnOk result (length reader.new.rest ≤ length reader.old.rest) }
+    ensures memory { NotMemory result }
 {
     Ok(Operand::Number(reader.integer(width)?))
 }
@@ -223,6 +224,7 @@ pub(crate) fn object_type<C: ArgumentCounts, B: Before>(
 ) -> Result<Operand, Refusal>
     ensures reads { Does (seen (λ x. (part_view x, earlier.new)) result) reader.new (object_type earlier.old) reader.old }
     ensures kept { OnOk result (length reader.new.rest ≤ length reader.old.rest) }
+    ensures memory { NotMemory result }
 {
     let kind = reader.byte()?;
     earlier.count = kind;

@@ -1,6 +1,6 @@
 //! Where a term may stand, and the steps of a term that read no other term.
 ghost use Rattle.std.specs.Prelude.{◌≡◌, ◌<◌, ◌≤◌, ◌∷◌, ◌++◌, [], length, map, Ok, OnOk};
-ghost use Rattle.ar_space.specs.Outcome.{Answers, seen};
+ghost use Rattle.ar_space.specs.Outcome.{Answers, NotMemory, seen};
 ghost use Rattle.ar_space.specs.Change.{Does};
 ghost use Rattle.aml_grammar.specs.Grammar.{stands, takes_name, costs_no_level, is_module_level, is_if, is_nothing, item_of, at_item, item_of_else, at_else, in_loop, opcode, admitted_row, admitted, row_at, element_name, argument_number, by_arities};
 ghost use Rattle.aml_grammar.specs.View.{part_view, tree_view};
@@ -128,6 +128,7 @@ const EXT_OP_PREFIX: u8 = 0x5B;
 fn opcode<C: ArgumentCounts, B: Before>(reader: &mut Reader<'_, C, B>) -> Result<u16, Refusal>
     ensures reads { Does result reader.new opcode reader.old }
     ensures shorter { OnOk result (length reader.new.rest < length reader.old.rest) }
+    ensures memory { NotMemory result }
 {
     let first = reader.byte()?;
     if first == EXT_OP_PREFIX {
@@ -148,6 +149,7 @@ pub(crate) fn row_at<C: ArgumentCounts, B: Before>(
 ) -> Result<Row, Refusal>
     ensures reads { Does result reader.new (row_at position context start) reader.old }
     ensures shorter { OnOk result (length reader.new.rest < length reader.old.rest) }
+    ensures memory { NotMemory result }
 {
     let number = opcode(reader)?;
     match row_of(number) {

@@ -1,6 +1,6 @@
 //! A reader over the bytes that are left of a list of terms.
 ghost use Rattle.std.specs.Prelude.{◌≡◌, ◌+◌, ◌*◌, ◌^◌, ◌-◌, ◌/◌, ◌<◌, ◌≤◌, ◌==◌, ◌++◌, ◌∷◌, ℕ, List, [], length, take, drop, IfOk, OnOk, Ok, if◌then◌else◌};
-ghost use Rattle.ar_space.specs.Outcome.{Answers, seen};
+ghost use Rattle.ar_space.specs.Outcome.{Answers, NotMemory, seen};
 ghost use Rattle.ar_space.specs.Change.{Does};
 ghost use Rattle.aml_grammar.specs.State.{State, look, byte, peek, is_next, next_bytes, all_bytes, text, text_length, integer, little_endian, bit_count, size_after, package_size, length_of, enter, past, adding, marking};
 ghost use Rattle.aml_grammar.specs.Names.{carets, parents};
@@ -91,7 +91,8 @@ impl<'a, C: ArgumentCounts, B: Before> Reader<'a, C, B> {
     /// The next byte, which stays.
     #[tactic(auto, unfolding(aml_grammar::specs::State::peek))]
     pub(crate) fn peek(&self) -> Result<u8, Refusal>
-        ensures { Does result self.now peek self.now }
+        ensures reads { Does result self.now peek self.now }
+        ensures memory { NotMemory result }
     {
         match self.rest {
             [] => Err(Refusal::Term(TermFault::Truncated, self.at)),
@@ -113,6 +114,7 @@ impl<'a, C: ArgumentCounts, B: Before> Reader<'a, C, B> {
     pub(crate) fn byte(&mut self) -> Result<u8, Refusal>
         ensures reads { Does result self.new byte self.old }
         ensures shorter { OnOk result (length self.new.rest < length self.old.rest) }
+        ensures memory { NotMemory result }
     {
         match self.rest {
             [] => Err(Refusal::Term(TermFault::Truncated, self.at)),
@@ -129,6 +131,7 @@ impl<'a, C: ArgumentCounts, B: Before> Reader<'a, C, B> {
         ensures reads { Does (seen (λ x. x.now) result) self.new (next_bytes count) self.old }
         ensures kept { OnOk result (length self.new.rest ≤ length self.old.rest) }
         ensures count { IfOk result (λ x. length x.now ≡ count) }
+        ensures memory { NotMemory result }
     {
         if self.rest.len() < count {
             return Err(Refusal::Term(TermFault::Truncated, self.at + self.rest.len()));
@@ -184,6 +187,7 @@ impl<'a, C: ArgumentCounts, B: Before> Reader<'a, C, B> {
     pub(crate) fn skip_text(&mut self) -> Result<(), Refusal>
         ensures reads { Does result self.new (scanned text) self.old }
         ensures kept { OnOk result (length self.new.rest ≤ length self.old.rest) }
+        ensures memory { NotMemory result }
     {
         let count = text_length(self.rest);
         self.next_bytes(count + 1)?;
@@ -197,6 +201,7 @@ impl<'a, C: ArgumentCounts, B: Before> Reader<'a, C, B> {
         ensures reads { Does result self.new (integer count) self.old }
         ensures kept { OnOk result (length self.new.rest ≤ length self.old.rest) }
         ensures bound { IfOk result (λ n. n < 256 ^ count) }
+        ensures memory { NotMemory result }
     {
         let bytes = self.next_bytes(count)?;
         Ok(little_endian(bytes))
@@ -207,6 +212,7 @@ impl<'a, C: ArgumentCounts, B: Before> Reader<'a, C, B> {
     pub(crate) fn bit_count(&mut self) -> Result<u64, Refusal>
         ensures reads { Does result self.new bit_count self.old }
         ensures kept { OnOk result (length self.new.rest ≤ length self.old.rest) }
+        ensures memory { NotMemory result }
     {
         let lead = self.byte()?;
         let more = self.integer(usize::from(lead / 64))?;
@@ -218,6 +224,7 @@ impl<'a, C: ArgumentCounts, B: Before> Reader<'a, C, B> {
         ensures reads { Does result self.new package_size self.old }
         ensures kept { OnOk result (length self.new.rest ≤ length self.old.rest) }
         ensures room { IfOk result (λ n. n ≤ length self.new.rest) }
+        ensures memory { NotMemory result }
     {
         let start = self.at;
         let lead = self.byte()?;
@@ -230,6 +237,7 @@ impl<'a, C: ArgumentCounts, B: Before> Reader<'a, C, B> {
     fn size_after(&self, start: usize, spent: u64, total: u64) -> Result<usize, Refusal>
         ensures reads { Does result self.now (size_after start spent total) self.now }
         ensures room { IfOk result (λ n. n ≤ length self.now.rest) }
+        ensures memory { NotMemory result }
     {
         if total < spent || (self.rest.len() as u64) < total - spent {
             return Err(Refusal::Term(TermFault::BadPkgLength, start));
@@ -243,6 +251,7 @@ impl<'a, C: ArgumentCounts, B: Before> Reader<'a, C, B> {
         ensures reads { Does (seen (λ o. (o.at, o.rest.now)) result) self.new enter self.old }
         ensures kept { OnOk result (length self.new.rest ≤ length self.old.rest) }
         ensures outer { IfOk result (λ o. length o.rest.now ≤ length self.old.rest) }
+        ensures memory { NotMemory result }
     {
         let size = self.package_size()?;
         let (inside, after) = self.rest.split_at(size);

@@ -14,8 +14,11 @@ use ar_space::Refusal;
 use std::alloc::Global;
 use std::marker::Brand;
 
-/// Where the calls of a list begin that have arguments, in their order: each is refused as `parse_list` refuses the list, and as many
-/// arguments follow it as `counts` says. It makes no trees, and takes memory for names, paths and marks alone.
+/// Goes over a list of terms and marks its calls: a mark says where a call begins that has arguments, and how many it has. The
+/// marks stand in the order of the calls.
+///
+/// `scope`, `body` and `counts` mean what they mean to `parse_list`. A list that `parse_list` refuses is refused here, for the
+/// same fault. It makes no trees, and takes memory for names, paths and marks alone.
 pub fn scan_list<C: ArgumentCounts>(
     alloc: Global,
     bytes: &[u8],
@@ -31,8 +34,10 @@ pub fn scan_list<C: ArgumentCounts>(
     }
 }
 
-/// The same for a table after its header, whose names stand at the root; the names that it declares take their arguments behind
-/// those from before. It is refused as `parse_table` refuses it, and then no name takes other arguments.
+/// Goes over a table after its header and marks its calls, as `scan_list` does in a list. Names stand at the root.
+///
+/// `arities` says how many arguments the names from before take, and the names that the table declares are added behind them.
+/// A table that `parse_table` refuses is refused here, for the same fault, and leaves `arities` as it was.
 pub fn scan_table(alloc: Global, bytes: &[u8], arities: &mut Arities) -> Result<Vec<Mark>, Refusal>
     ensures table { Answers (seen (λ v. (v.items, arities.new)) result) (noted (term_list by_arities bytes.now [] false arities.old)) }
     ensures refused { OnErr result (arities.new ≡ arities.old) }
@@ -43,8 +48,7 @@ pub fn scan_table(alloc: Global, bytes: &[u8], arities: &mut Arities) -> Result<
     Ok(marks)
 }
 
-/// The marks of the calls of a list, and what the list declares itself: what reading it leaves behind, where it is not
-/// refused as `parse_list` refuses it. It makes no trees, and takes memory for names, paths and marks alone.
+/// Goes over a list of terms: its marks, and the names that it declares. It is refused as `scan_list` says.
 #[tactic(auto, using(crate::proofs::Scans::noting), unfolding(aml_grammar::specs::Grammar::term_list))]
 pub(crate) fn scan<C: ArgumentCounts, B: Before>(
     alloc: Global,

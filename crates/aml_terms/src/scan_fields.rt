@@ -1,5 +1,6 @@
 //! Field elements that hold no terms, gone over without a copy (FieldElement of ACPI 6.5, 20.2.5.2).
 ghost use Rattle.std.specs.Prelude.{◌≡◌, ◌<◌, length, OnOk};
+ghost use Rattle.ar_space.specs.Outcome.{NotMemory};
 ghost use Rattle.ar_space.specs.Change.{Does};
 ghost use Rattle.aml_grammar.specs.Operands.{reserved_field, access_field, extended_access_field, named_field};
 ghost use Rattle.aml_terms.specs.Scanned.{scanned};
@@ -20,6 +21,7 @@ pub(crate) fn reserved_field<C: ArgumentCounts, B: Before>(
 ) -> Result<(), Refusal>
     ensures reads { Does result reader.new (scanned reserved_field) reader.old }
     ensures shorter { OnOk result (length reader.new.rest < length reader.old.rest) }
+    ensures memory { NotMemory result }
 {
     reader.byte()?;
     reader.bit_count()?;
@@ -33,6 +35,7 @@ pub(crate) fn access_field<C: ArgumentCounts, B: Before>(
 ) -> Result<(), Refusal>
     ensures reads { Does result reader.new (scanned access_field) reader.old }
     ensures shorter { OnOk result (length reader.new.rest < length reader.old.rest) }
+    ensures memory { NotMemory result }
 {
     reader.byte()?;
     reader.byte()?;
@@ -47,6 +50,7 @@ pub(crate) fn extended_access_field<C: ArgumentCounts, B: Before>(
 ) -> Result<(), Refusal>
     ensures reads { Does result reader.new (scanned extended_access_field) reader.old }
     ensures shorter { OnOk result (length reader.new.rest < length reader.old.rest) }
+    ensures memory { NotMemory result }
 {
     reader.byte()?;
     reader.byte()?;

@@ -1,5 +1,6 @@
 //! Names, gone over without a copy (NameString of ACPI 6.5, 20.2.2).
 ghost use Rattle.std.specs.Prelude.{◌≡◌, ◌+◌, ◌<◌, ◌≤◌, length, OnOk};
+ghost use Rattle.ar_space.specs.Outcome.{NotMemory};
 ghost use Rattle.ar_space.specs.Change.{Does};
 ghost use Rattle.aml_grammar.specs.State.{times};
 ghost use Rattle.aml_grammar.specs.Names.{segment, multiple_segments, segments, rooted_name, relative_name, name_string};
@@ -18,6 +19,7 @@ fn counted_segments<C: ArgumentCounts, B: Before>(
 ) -> Result<(), Refusal>
     ensures reads { Does result reader.new (scanned (times segment count)) reader.old }
     ensures shorter { OnOk result (length reader.new.rest + count ≤ length reader.old.rest) }
+    ensures memory { NotMemory result }
 {
     'segments: for _ in 0..count {
         segment(reader)?;
@@ -31,6 +33,7 @@ fn multiple_segments<C: ArgumentCounts, B: Before>(
 ) -> Result<(), Refusal>
     ensures reads { Does result reader.new (scanned multiple_segments) reader.old }
     ensures shorter { OnOk result (length reader.new.rest < length reader.old.rest) }
+    ensures memory { NotMemory result }
 {
     let count = reader.byte()?;
     if count == 0 {
@@ -44,6 +47,7 @@ fn multiple_segments<C: ArgumentCounts, B: Before>(
 fn segments<C: ArgumentCounts, B: Before>(reader: &mut Reader<'_, C, B>) -> Result<(), Refusal>
     ensures reads { Does result reader.new (scanned segments) reader.old }
     ensures shorter { OnOk result (length reader.new.rest < length reader.old.rest) }
+    ensures memory { NotMemory result }
 {
     let next = reader.peek()?;
     if next == 0 {
@@ -65,6 +69,7 @@ fn segments<C: ArgumentCounts, B: Before>(reader: &mut Reader<'_, C, B>) -> Resu
 fn rooted_name<C: ArgumentCounts, B: Before>(reader: &mut Reader<'_, C, B>) -> Result<(), Refusal>
     ensures reads { Does result reader.new (scanned rooted_name) reader.old }
     ensures shorter { OnOk result (length reader.new.rest < length reader.old.rest) }
+    ensures memory { NotMemory result }
 {
     reader.byte()?;
     segments(reader)
@@ -74,6 +79,7 @@ fn rooted_name<C: ArgumentCounts, B: Before>(reader: &mut Reader<'_, C, B>) -> R
 fn relative_name<C: ArgumentCounts, B: Before>(reader: &mut Reader<'_, C, B>) -> Result<(), Refusal>
     ensures reads { Does result reader.new (scanned relative_name) reader.old }
     ensures shorter { OnOk result (length reader.new.rest < length reader.old.rest) }
+    ensures memory { NotMemory result }
 {
     reader.parents();
     segments(reader)
@@ -86,6 +92,7 @@ pub(crate) fn skip_name<C: ArgumentCounts, B: Before>(
 ) -> Result<(), Refusal>
     ensures reads { Does result reader.new (scanned name_string) reader.old }
     ensures shorter { OnOk result (length reader.new.rest < length reader.old.rest) }
+    ensures memory { NotMemory result }
 {
     let next = reader.peek()?;
     if next == 0 {

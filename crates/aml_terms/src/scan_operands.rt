@@ -1,6 +1,6 @@
 //! Operands that hold no terms, gone over without a copy.
 ghost use Rattle.std.specs.Prelude.{◌≡◌, ◌≤◌, false, length, OnOk};
-ghost use Rattle.ar_space.specs.Outcome.{seen};
+ghost use Rattle.ar_space.specs.Outcome.{NotMemory, seen};
 ghost use Rattle.ar_space.specs.Change.{Does};
 ghost use Rattle.aml_grammar.specs.Operands.{name_operand, scope_name, alias_source, external_name, declared_name, integer_operand, method_flags, object_type, argument_count, text_operand, bytes_operand, holds_terms};
 ghost use Rattle.aml_grammar.specs.Grammar.{Inner, operand};
@@ -25,6 +25,7 @@ pub(crate) fn name_operand<C: ArgumentCounts, B: Before>(
 ) -> Result<(), Refusal>
     ensures reads { Does result reader.new (scanned name_operand) reader.old }
     ensures kept { OnOk result (length reader.new.rest ≤ length reader.old.rest) }
+    ensures memory { NotMemory result }
 {
     skip_name(reader)
 }
@@ -111,6 +112,7 @@ fn integer_operand<C: ArgumentCounts, B: Before>(
     requires { width ≤ 8 }
     ensures reads { Does result reader.new (scanned (integer_operand width)) reader.old }
     ensures kept { OnOk result (length reader.new.rest ≤ length reader.old.rest) }
+    ensures memory { NotMemory result }
 {
     reader.integer(width)?;
     Ok(())
@@ -140,6 +142,7 @@ fn object_type<C: ArgumentCounts, B: Before>(
 ) -> Result<(), Refusal>
     ensures reads { Does (seen (λ _. earlier.new) result) reader.new (kept (λ x. x.1) (object_type earlier.old)) reader.old }
     ensures kept { OnOk result (length reader.new.rest ≤ length reader.old.rest) }
+    ensures memory { NotMemory result }
 {
     let kind = reader.byte()?;
     earlier.count = kind;
@@ -172,6 +175,7 @@ fn argument_count<C: ArgumentCounts, B: Before>(
 fn text_operand<C: ArgumentCounts, B: Before>(reader: &mut Reader<'_, C, B>) -> Result<(), Refusal>
     ensures reads { Does result reader.new (scanned text_operand) reader.old }
     ensures kept { OnOk result (length reader.new.rest ≤ length reader.old.rest) }
+    ensures memory { NotMemory result }
 {
     reader.skip_text()
 }

@@ -1,6 +1,6 @@
 //! Terms, one inside another, gone over without a tree (TermObj of ACPI 6.5, 20.2.5).
 ghost use Rattle.std.specs.Prelude.{◌≡◌, ◌<◌, ◌≤◌, length, OnOk, true};
-ghost use Rattle.ar_space.specs.Outcome.{seen};
+ghost use Rattle.ar_space.specs.Outcome.{NotMemory, seen};
 ghost use Rattle.ar_space.specs.Change.{Does};
 ghost use Rattle.aml_grammar.specs.State.{times};
 ghost use Rattle.aml_grammar.specs.Grammar.{named, named_term, element_name, invocation, coded_term, row_term, row_operands, packed, operands, operand, list_operand, items, by_arities, term_at, below, nothing_earlier, scope_of};
@@ -96,6 +96,7 @@ fn named_term<C: ArgumentCounts, B: Before>(
 fn element_name<C: ArgumentCounts, B: Before>(reader: &mut Reader<'_, C, B>) -> Result<(), Refusal>
     ensures reads { Does result reader.new (scanned element_name) reader.old }
     ensures shorter { OnOk result (length reader.new.rest < length reader.old.rest) }
+    ensures memory { NotMemory result }
 {
     skip_name(reader)
 }
