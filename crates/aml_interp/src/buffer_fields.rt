@@ -1,7 +1,7 @@
 //! Declarations of buffer fields (ACPI 6.5, 19.6: CreateField and its like).
 ghost use Rattle.std.specs.Prelude.{◌≡◌, ◌≤◌};
 ghost use Rattle.ar_space.specs.Change.{Does};
-ghost use Rattle.aml_bytes.specs.AtTree.{at_tree};
+ghost use Rattle.aml_terms.specs.AtTree.{at_tree};
 ghost use Rattle.aml_meaning.specs.Meaning.{meaning};
 ghost use Rattle.aml_meaning.specs.FieldTerms.{sized_field_rule, bits_field_rule};
 

@@ -1,7 +1,7 @@
 //! Declarations, and the scopes that they stand in (ACPI 6.5, 19.6).
 ghost use Rattle.std.specs.Prelude.{◌≡◌, ◌≤◌, ◌<◌};
 ghost use Rattle.ar_space.specs.Change.{Does};
-ghost use Rattle.aml_bytes.specs.AtTree.{at_tree, at_list};
+ghost use Rattle.aml_terms.specs.AtTree.{at_tree, at_list};
 ghost use Rattle.aml_meaning.specs.Meaning.{meaning};
 ghost use Rattle.aml_meaning.specs.Tasks.{module_level};
 ghost use Rattle.aml_meaning.specs.DeclarationTerms.{declaration_rule, declaring, name_rule, alias_rule, method_rule, scope_rule, new_scope};

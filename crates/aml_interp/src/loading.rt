@@ -1,7 +1,7 @@
 //! Loads a table (ACPI 6.5, 5.4).
 ghost use Rattle.std.specs.Prelude.{◌≡◌, replicate};
 ghost use Rattle.ar_space.specs.Change.{Does};
-ghost use Rattle.aml_bytes.specs.AtTree.{at_list};
+ghost use Rattle.aml_terms.specs.AtTree.{at_list};
 ghost use Rattle.aml_objects.specs.declared.value.Value.TheVariants.{Uninitialized};
 ghost use Rattle.aml_meaning.specs.Calling.{loaded, table_run, in_frame, framed, with_steps, at_root};
 
@@ -9,7 +9,7 @@ use crate::operands::Reader;
 use crate::readings::read_table;
 use crate::task::Task;
 use crate::terms::eval_list;
-use aml_bytes::list_at;
+use aml_terms::list_at;
 use aml_meaning::{Running, World};
 use aml_objects::Value;
 use aml_path::Path;

@@ -1,12 +1,12 @@
 //! Operands of terms, by the kind that the grammar gives them.
 ghost use Rattle.std.specs.Prelude.{◌≡◌, ◌==◌, option_map};
 ghost use Rattle.ar_space.specs.Outcome.{Answers, NotMemory, seen};
-ghost use Rattle.aml_bytes.specs.AtTree.{at_tree, at_list};
+ghost use Rattle.aml_terms.specs.AtTree.{at_tree, at_list};
 ghost use Rattle.aml_grammar.specs.Apart.{operand_of, bytes_of};
 ghost use Rattle.aml_meaning.specs.Readings.{as_many};
 ghost use Rattle.aml_meaning.specs.Terms.{number_of, inner_of, list_of, else_of, count_of};
 
-use aml_bytes::At;
+use aml_terms::At;
 use aml_grammar::{OperandView, TermReader};
 use aml_objects::Octets;
 use ar_space::{EvaluationFault, NameFault, Refusal};

@@ -1,7 +1,7 @@
 //! Terms that have a value: operators, stores, and what is asked of objects (ACPI 6.5, 19.6).
 ghost use Rattle.std.specs.Prelude.{◌≡◌, ◌≤◌, ◌<◌};
 ghost use Rattle.ar_space.specs.Change.{Does};
-ghost use Rattle.aml_bytes.specs.AtTree.{at_tree};
+ghost use Rattle.aml_terms.specs.AtTree.{at_tree};
 ghost use Rattle.aml_meaning.specs.Meaning.{meaning};
 ghost use Rattle.aml_meaning.specs.OperatorTerms.{operator_rule, slot_rule, store_rule, copy_rule, two_rule, divide_rule, one_rule, test_rule, not_rule, count_rule, size_rule, type_rule, acquire_rule};
 

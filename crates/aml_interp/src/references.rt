@@ -1,7 +1,7 @@
 //! References, and what they refer to (ACPI 6.5, 19.6: RefOf, DerefOf, CondRefOf; SizeOf and ObjectType follow them).
 ghost use Rattle.std.specs.Prelude.{◌≡◌, ◌≤◌, ◌<◌};
 ghost use Rattle.ar_space.specs.Change.{Does};
-ghost use Rattle.aml_bytes.specs.AtTree.{at_tree};
+ghost use Rattle.aml_terms.specs.AtTree.{at_tree};
 ghost use Rattle.aml_grammar.specs.Apart.{operand_of};
 ghost use Rattle.aml_meaning.specs.Meaning.{meaning};
 ghost use Rattle.aml_meaning.specs.OperatorTerms.{referent_of_value, referent_of_target, referent_by_kind, referent_at, reference_rule, dereference_rule, sought_name, sought_target, sought, reference_stored, reference_found, conditional_rule};

@@ -3,7 +3,7 @@ ghost use Rattle.std.specs.Prelude.{◌≡◌, ◌≤◌};
 ghost use Rattle.ar_space.specs.Change.{Does};
 ghost use Rattle.ar_space.specs.Outcome.{Answers};
 ghost use Rattle.aml_grammar.specs.Apart.{code_of};
-ghost use Rattle.aml_bytes.specs.AtTree.{at_tree, at_list};
+ghost use Rattle.aml_terms.specs.AtTree.{at_tree, at_list};
 ghost use Rattle.aml_meaning.specs.Meaning.{meaning};
 ghost use Rattle.aml_meaning.specs.FieldTerms.{region_rule, field_list_rule, index_list_rule, region_term_rule, fields_laid, elements_laid, element_laid, named_field, reserved_field, access_field, is_connection, has_connection, unconnected};
 

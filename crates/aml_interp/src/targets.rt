@@ -1,7 +1,7 @@
 //! Operands that name a target, which is read or stored to (ACPI 6.5, 20.2.2).
 ghost use Rattle.std.specs.Prelude.{◌≡◌, ◌≤◌, ◌<◌};
 ghost use Rattle.ar_space.specs.Change.{Does};
-ghost use Rattle.aml_bytes.specs.AtTree.{at_tree};
+ghost use Rattle.aml_terms.specs.AtTree.{at_tree};
 ghost use Rattle.aml_meaning.specs.Meaning.{meaning};
 ghost use Rattle.aml_meaning.specs.TargetTerms.{operand_target, indexed_target, dereferenced_target, target_by_kind, target_of, name_target, target_at, targeted};
 

@@ -9,7 +9,7 @@ use Rattle.ar_space.specs.Change.{give, settle, go_on, ◌>>=◌}
 use Rattle.aml_grammar.specs.declared.arities.Arity.{Arity}
 use Rattle.aml_grammar.specs.State.{State, Step, look, byte, byte_of, peek, peek_of, next_bytes, all_bytes, past, text_length, text, little_endian, integer, length_of, bit_count, size_after, package_size, enter}
 use Rattle.aml_grammar.specs.Grammar.{packed}
-use Rattle.aml_terms.specs.Spelling.{StandFor, IsInteger, IsLength, IsPackage, IsContent}
+use Rattle.aml_scan.specs.Spelling.{StandFor, IsInteger, IsLength, IsPackage, IsContent}
 
 -- The step gives this value, and leaves these bytes and these arities.
 pub record Gets {A : Type 0} (m : Step A) (s : State) (a : A) (rest : List ℕ) (known : List Arity) : Type 0 where

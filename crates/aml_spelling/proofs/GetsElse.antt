@@ -16,8 +16,8 @@ use Rattle.aml_grammar.specs.Table.{row_of, packaged}
 use Rattle.aml_grammar.specs.State.{State}
 use Rattle.aml_grammar.specs.Tree.{Tree, term, name, inner, list, Parts, no_parts, part}
 use Rattle.aml_grammar.specs.Grammar.{Inner, else_term}
-use Rattle.aml_terms.specs.Spelling.{Around, after_if, operand_kinds, may_have_else, IsOpcode, IsContent, Spells, SpellsOperands}
-use Rattle.aml_terms.proofs.SpelledRows.{around_of, else_row}
+use Rattle.aml_scan.specs.Spelling.{Around, after_if, operand_kinds, may_have_else, IsOpcode, IsContent, Spells, SpellsOperands}
+use Rattle.aml_scan.proofs.SpelledRows.{around_of, else_row}
 use Rattle.aml_spelling.specs.Stands.{Stands, StandOperands}
 use Rattle.aml_spelling.proofs.Gets.{Gets, gets_then, gets_map, gets_byte, gets_packed}
 use Rattle.aml_spelling.proofs.GetsParts.{TermGets, gets_list}

@@ -9,8 +9,8 @@ use Rattle.aml_grammar.specs.State.{State, until_end}
 use Rattle.aml_grammar.specs.Tree.{Tree, term, Part, name, number, inner, list, no_parts, part, Trees}
 use Rattle.aml_grammar.specs.Shape.{trees_of}
 use Rattle.aml_grammar.specs.Grammar.{Inner, connection, connect_field, field, fields, fields_operand}
-use Rattle.aml_terms.specs.Spelling.{field_element, Spells, SpellsAll, SpellsConnection}
-use Rattle.aml_terms.proofs.SpelledRows.{around_of}
+use Rattle.aml_scan.specs.Spelling.{field_element, Spells, SpellsAll, SpellsConnection}
+use Rattle.aml_scan.proofs.SpelledRows.{around_of}
 use Rattle.aml_spelling.specs.Stands.{declaring, Stands, StandAll}
 use Rattle.aml_spelling.proofs.Gets.{Gets, gets_then, gets_map, gets_value, gets_known, gets_as, gets_no, gets_byte, gets_peek}
 use Rattle.aml_spelling.proofs.GetsNames.{seg_begins}

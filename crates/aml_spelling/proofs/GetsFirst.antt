@@ -11,8 +11,8 @@ use Rattle.aml_grammar.specs.Table.{row_of}
 use Rattle.aml_grammar.specs.Names.{starts_name}
 use Rattle.aml_grammar.specs.State.{is_next}
 use Rattle.aml_grammar.specs.Tree.{Tree, term, name, list, no_parts, part, Trees, no_trees, tree}
-use Rattle.aml_terms.specs.Spelling.{Around, list_item, super_name, IsOpcode, Spells, SpellsAll}
-use Rattle.aml_terms.proofs.SpelledRows.{place_of}
+use Rattle.aml_scan.specs.Spelling.{Around, list_item, super_name, IsOpcode, Spells, SpellsAll}
+use Rattle.aml_scan.proofs.SpelledRows.{place_of}
 use Rattle.aml_spelling.proofs.GetsNames.{name_first}
 use Rattle.aml_spelling.proofs.RowFacts.{is_place, is_after_if, row_begun, super_is_place, item_after_no_if}
 

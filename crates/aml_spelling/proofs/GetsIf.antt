@@ -16,8 +16,8 @@ use Rattle.aml_grammar.specs.State.{State, is_next}
 use Rattle.aml_grammar.specs.Tree.{term, Part, null, inner, Parts, no_parts, part}
 use Rattle.aml_grammar.specs.Shape.{parts_of}
 use Rattle.aml_grammar.specs.Grammar.{Inner, is_if, at_else, nothing_earlier, plain_term, else_operand, else_part, if_term, row_term}
-use Rattle.aml_terms.specs.Spelling.{operand_kinds, may_have_else, IsContent, Spells, SpellsOperands, SpellsElse}
-use Rattle.aml_terms.proofs.SpelledRows.{around_of, same_else}
+use Rattle.aml_scan.specs.Spelling.{operand_kinds, may_have_else, IsContent, Spells, SpellsOperands, SpellsElse}
+use Rattle.aml_scan.proofs.SpelledRows.{around_of, same_else}
 use Rattle.aml_spelling.specs.Stands.{Stands, StandOperands}
 use Rattle.aml_spelling.proofs.Gets.{Gets, gets_then, gets_give, gets_map, gets_value, gets_known, gets_as}
 use Rattle.aml_spelling.proofs.GetsParts.{TermGets}

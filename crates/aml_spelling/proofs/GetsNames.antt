@@ -15,7 +15,7 @@ use Rattle.aml_path.specs.Segments.{seg_of, seg_of_bytes}
 use Rattle.aml_grammar.specs.declared.arities.Arity.{Arity}
 use Rattle.aml_grammar.specs.State.{State, Step, byte, times, past}
 use Rattle.aml_grammar.specs.Names.{only, starts_name, lead_name_char, name_char, segment, segments, multiple_segments, skipping, parents, carets, rooted_name, relative_name, name_string}
-use Rattle.aml_terms.specs.Spelling.{parent_prefixes, prefix_bytes, Leads, characters, IsNamePath, IsNameString}
+use Rattle.aml_scan.specs.Spelling.{parent_prefixes, prefix_bytes, Leads, characters, IsNamePath, IsNameString}
 use Rattle.aml_spelling.proofs.Gets.{Gets, gets_then, gets_give, gets_map, gets_value, gets_yes, gets_no, gets_settled, gets_byte, gets_peek}
 
 -- ---- segments

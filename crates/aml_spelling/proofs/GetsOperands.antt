@@ -13,7 +13,7 @@ use Rattle.aml_grammar.specs.State.{State, adding}
 use Rattle.aml_grammar.specs.Operands.{declare, declare_earlier, name_operand, scope_name, alias_source, external_name, declared_name, integer_operand, method_flags, object_type, argument_count, text_operand, bytes_operand, reserved_field, access_field, extended_access_field, one_segment, named_field}
 use Rattle.aml_grammar.specs.Tree.{term, name, number, bytes}
 use Rattle.aml_grammar.specs.Shape.{parts_of}
-use Rattle.aml_terms.specs.Spelling.{IsInteger, IsLength, IsNameString}
+use Rattle.aml_scan.specs.Spelling.{IsInteger, IsLength, IsNameString}
 use Rattle.aml_spelling.specs.Stands.{declaring, declaring_earlier, Declares}
 use Rattle.aml_spelling.proofs.Gets.{Gets, gets_then, gets_give, gets_map, gets_value, gets_look, gets_settle, gets_byte, gets_all, gets_integer, gets_bit_count, gets_text}
 use Rattle.aml_spelling.proofs.GetsNames.{gets_name, gets_segment}

@@ -14,8 +14,8 @@ use Rattle.aml_grammar.specs.State.{State, Step, until_of, until_end, is_next}
 use Rattle.aml_grammar.specs.Tree.{Tree, name, inner, list, Trees, no_trees, tree}
 use Rattle.aml_grammar.specs.Shape.{trees_of}
 use Rattle.aml_grammar.specs.Grammar.{Inner, is_slot, items, term_operand, list_operand, super_name_at, super_name as super_name_step, target, simple_name, connection}
-use Rattle.aml_terms.specs.Spelling.{Around, Place, data_object, super_name, Begins, IsNameString, Spells, SpellsAll}
-use Rattle.aml_terms.proofs.SpelledRows.{around_of, place_of}
+use Rattle.aml_scan.specs.Spelling.{Around, Place, data_object, super_name, Begins, IsNameString, Spells, SpellsAll}
+use Rattle.aml_scan.proofs.SpelledRows.{around_of, place_of}
 use Rattle.aml_spelling.specs.Stands.{Stands, StandAll}
 use Rattle.aml_spelling.proofs.Gets.{Gets, gets_then, gets_give, gets_map, gets_value, gets_as, gets_yes, gets_no, gets_look, gets_peek}
 use Rattle.aml_spelling.proofs.GetsNames.{name_first}

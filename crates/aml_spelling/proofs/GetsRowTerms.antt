@@ -12,8 +12,8 @@ use Rattle.aml_grammar.specs.Table.{row_of}
 use Rattle.aml_grammar.specs.State.{State}
 use Rattle.aml_grammar.specs.Tree.{Parts, no_parts, part}
 use Rattle.aml_grammar.specs.Grammar.{Inner, is_nothing, kinds_of, nothing_earlier, operands, row_operands}
-use Rattle.aml_terms.specs.Spelling.{Around, up_to_nothing, operand_kinds, IsContent, Spells, SpellsOperands}
-use Rattle.aml_terms.proofs.SpelledRows.{around_of, kinds_end, kinds_go_on, takes_rest, some_takes_rest}
+use Rattle.aml_scan.specs.Spelling.{Around, up_to_nothing, operand_kinds, IsContent, Spells, SpellsOperands}
+use Rattle.aml_scan.proofs.SpelledRows.{around_of, kinds_end, kinds_go_on, takes_rest, some_takes_rest}
 use Rattle.aml_spelling.specs.Stands.{Stands, StandOperands}
 use Rattle.aml_spelling.proofs.Gets.{Gets, gets_then, gets_give, gets_map, gets_known, gets_yes, gets_no, gets_content}
 use Rattle.aml_spelling.proofs.GetsParts.{TermGets}

@@ -11,8 +11,8 @@ use Rattle.aml_grammar.specs.State.{State, Step}
 use Rattle.aml_grammar.specs.Tree.{Part, null, name, number, bytes, inner, list, Parts, no_parts, part}
 use Rattle.aml_grammar.specs.Shape.{parts_of}
 use Rattle.aml_grammar.specs.Grammar.{Inner, scope_of, in_loop, keeping, target, operand}
-use Rattle.aml_terms.specs.Spelling.{Spells, SpellsOperand}
-use Rattle.aml_terms.proofs.SpelledRows.{around_of, takes_rest}
+use Rattle.aml_scan.specs.Spelling.{Spells, SpellsOperand}
+use Rattle.aml_scan.proofs.SpelledRows.{around_of, takes_rest}
 use Rattle.aml_spelling.specs.Stands.{Stands, StandsOperand}
 use Rattle.aml_spelling.proofs.Gets.{Gets, gets_then, gets_give, gets_map, gets_value, gets_known, gets_rest, gets_byte, gets_peek}
 use Rattle.aml_spelling.proofs.GetsOperands.{gets_name_operand, gets_scope_name, gets_alias_source, gets_external_name, gets_declared_name, gets_integer_operand, gets_method_flags, gets_object_type, gets_argument_count, gets_text_operand, gets_bytes_operand}

@@ -17,8 +17,8 @@ use Rattle.aml_grammar.specs.Table.{row_of}
 use Rattle.aml_grammar.specs.State.{State, Step, is_next}
 use Rattle.aml_grammar.specs.Tree.{term, Parts, no_parts, part}
 use Rattle.aml_grammar.specs.Grammar.{Inner, is_nothing, is_if, nothing_earlier, item_of, stands, costs_no_level, opcode, admitted_row, row_at, deeper, leveled, coded_term, term_in, below, by_arities}
-use Rattle.aml_terms.specs.Spelling.{Around, may_stand, may_have_else, operand_kinds, IsOpcode, IsContent, Spells, SpellsOperands}
-use Rattle.aml_terms.proofs.SpelledRows.{around_of, place_of, same_else, kinds_end, costs_none, costs_nothing, row_is_bare}
+use Rattle.aml_scan.specs.Spelling.{Around, may_stand, may_have_else, operand_kinds, IsOpcode, IsContent, Spells, SpellsOperands}
+use Rattle.aml_scan.proofs.SpelledRows.{around_of, place_of, same_else, kinds_end, costs_none, costs_nothing, row_is_bare}
 use Rattle.aml_spelling.specs.Stands.{cost, Stands, StandOperands}
 use Rattle.aml_spelling.proofs.Gets.{Gets, gets_then, gets_give, gets_map, gets_value, gets_known, gets_as, gets_yes, gets_no, gets_byte}
 use Rattle.aml_spelling.proofs.GetsParts.{NoElse, TermGets}

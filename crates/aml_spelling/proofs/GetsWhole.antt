@@ -15,8 +15,8 @@ use Rattle.aml_grammar.specs.State.{State, marking, times}
 use Rattle.aml_grammar.specs.Tree.{Tree, term, name, list, no_parts, part, Trees, no_trees, tree}
 use Rattle.aml_grammar.specs.Shape.{parts_of, trees_of}
 use Rattle.aml_grammar.specs.Grammar.{Inner, at_item, item_of, element_name, argument_number, invocation, named_term, named, begun, term_in, below, term_at, by_arities, max_depth, outermost, beginning, term_list, with_arities, table_reading, Reads}
-use Rattle.aml_terms.specs.Spelling.{term_arg, IsNameString, Spells, SpellsAll, IsSpelled}
-use Rattle.aml_terms.proofs.SpelledRows.{around_of, place_of}
+use Rattle.aml_scan.specs.Spelling.{term_arg, IsNameString, Spells, SpellsAll, IsSpelled}
+use Rattle.aml_scan.proofs.SpelledRows.{around_of, place_of}
 use Rattle.aml_spelling.specs.Stands.{count_of, Stands, StandAll, MayStand}
 use Rattle.aml_spelling.proofs.Gets.{Gets, gets_then, gets_give, gets_map, gets_value, gets_known, gets_yes, gets_no, gets_look, gets_settle, gets_peek}
 use Rattle.aml_spelling.proofs.GetsNames.{gets_name, name_first}

@@ -12,7 +12,7 @@ use Rattle.aml_grammar.specs.declared.arities.Arity.{Arity}
 use Rattle.aml_grammar.specs.State.{State, Step, look, byte, byte_of, peek, peek_of, next_bytes, all_bytes, text_length, text, little_endian, integer, length_of, bit_count, size_after, package_size, enter, narrow, leave, times}
 use Rattle.aml_grammar.specs.Names.{only, lead_name_char, name_char, segment, segments, segments_at, multiple_segments, parents, rooted_name, relative_name, name_string}
 use Rattle.aml_grammar.specs.Grammar.{packed}
-use Rattle.aml_terms.proofs.Takes.{Gave, same_value, same_state, refused, both}
+use Rattle.aml_scan.proofs.Takes.{Gave, same_value, same_state, refused, both}
 
 -- what a value has to do with the arities before it and after it
 abbrev pub Effect : Type 0 → Type 1

@@ -10,9 +10,9 @@ use Rattle.aml_grammar.specs.declared.context.Earlier.{Earlier}
 use Rattle.aml_grammar.specs.State.{State, adding}
 use Rattle.aml_grammar.specs.Operands.{Read, declare, declare_earlier, name_operand, scope_name, alias_source, external_name, declared_name, integer_operand, method_flags, object_type, argument_count, text_operand, bytes_operand, reserved_field, access_field, extended_access_field, named_field}
 use Rattle.aml_grammar.specs.Tree.{Tree, name, number, bytes}
-use Rattle.aml_terms.specs.Spelling.{Around, field_element}
-use Rattle.aml_terms.proofs.SpelledRows.{around_of}
-use Rattle.aml_terms.proofs.Takes.{same_state}
+use Rattle.aml_scan.specs.Spelling.{Around, field_element}
+use Rattle.aml_scan.proofs.SpelledRows.{around_of}
+use Rattle.aml_scan.proofs.Takes.{same_state}
 use Rattle.aml_spelling.specs.Stands.{declaring, declaring_earlier, Declares, Stands, StandsOperand}
 use Rattle.aml_spelling.proofs.Leaves.{Effect, Leaves, leaves_then, leaves_after, leaves_give, leaves_map, leaves_look, leaves_settle, leaves_byte, leaves_all, leaves_integer, leaves_bit_count, leaves_text, leaves_segment, leaves_name}
 use Rattle.aml_spelling.proofs.NameRefusals.{declared_was}

@@ -20,8 +20,8 @@ use Rattle.aml_grammar.specs.State.{State, Step, until_of, until_end}
 use Rattle.aml_grammar.specs.Tree.{Tree, term, Part, null, name, inner, list, no_parts, part, Trees}
 use Rattle.aml_grammar.specs.Shape.{trees_of}
 use Rattle.aml_grammar.specs.Grammar.{Inner, is_slot, scope_of, in_loop, keeping, items, term_operand, list_operand, super_name as super_name_step, target, simple_name, connection, connect_field, field, fields, fields_operand, operand}
-use Rattle.aml_terms.specs.Spelling.{Around, Place, super_name, field_element}
-use Rattle.aml_terms.proofs.SpelledRows.{around_of, place_of}
+use Rattle.aml_scan.specs.Spelling.{Around, Place, super_name, field_element}
+use Rattle.aml_scan.proofs.SpelledRows.{around_of, place_of}
 use Rattle.aml_spelling.specs.Stands.{Stands, StandAll, StandsOperand}
 use Rattle.aml_spelling.proofs.Leaves.{Effect, Leaves, leaves_then, leaves_after, leaves_more, leaves_as, leaves_give, leaves_map, leaves_stop, leaves_look, leaves_if, leaves_byte, leaves_peek}
 use Rattle.aml_spelling.proofs.LeavesOperands.{OperandStands, ElementStands, leaves_name_operand, leaves_scope_name, leaves_alias_source, leaves_external_name, leaves_object_type, leaves_declared_name, leaves_method_flags, leaves_argument_count, leaves_integer_operand, leaves_text_operand, leaves_bytes_operand, leaves_reserved_field, leaves_access_field, leaves_extended_access_field, leaves_named_field}

@@ -14,8 +14,8 @@ use Rattle.aml_grammar.specs.State.{State, is_next}
 use Rattle.aml_grammar.specs.Tree.{Tree, term, Part, null, inner, Parts, no_parts, part}
 use Rattle.aml_grammar.specs.Shape.{parts_of}
 use Rattle.aml_grammar.specs.Grammar.{Inner, is_nothing, is_if, kinds_of, at_else, nothing_earlier, operands, row_operands, plain_term, else_term, else_operand, else_part, if_term, row_term}
-use Rattle.aml_terms.specs.Spelling.{Around, up_to_nothing, operand_kinds, may_have_else}
-use Rattle.aml_terms.proofs.SpelledRows.{around_of, same_else, kinds_end, kinds_go_on}
+use Rattle.aml_scan.specs.Spelling.{Around, up_to_nothing, operand_kinds, may_have_else}
+use Rattle.aml_scan.proofs.SpelledRows.{around_of, same_else, kinds_end, kinds_go_on}
 use Rattle.aml_spelling.specs.Stands.{Stands, StandOperands}
 use Rattle.aml_spelling.proofs.Leaves.{Effect, Leaves, leaves_then, leaves_after, leaves_as, leaves_give, leaves_map, leaves_if, leaves_byte, leaves_packed}
 use Rattle.aml_spelling.proofs.LeavesParts.{TermLeaves, leaves_list, leaves_operand}

@@ -21,9 +21,9 @@ use Rattle.aml_grammar.specs.State.{State, Step, times}
 use Rattle.aml_grammar.specs.Tree.{Tree, no_parts}
 use Rattle.aml_grammar.specs.Shape.{trees_of}
 use Rattle.aml_grammar.specs.Grammar.{Inner, is_module_level, nothing_earlier, at_item, item_of, stands, costs_no_level, takes_name, opcode, admitted_row, row_at, deeper, leveled, coded_term, element_name, argument_number, invocation, named_term, named, term_in, below, term_at, by_arities, max_depth, outermost, beginning, items, term_list, with_arities, table_reading, Reads}
-use Rattle.aml_terms.specs.Spelling.{Around, Place, term_arg, operand_kinds, may_have_else}
-use Rattle.aml_terms.proofs.Takes.{same_value, same_state, both}
-use Rattle.aml_terms.proofs.SpelledRows.{around_of, place_of, row_number}
+use Rattle.aml_scan.specs.Spelling.{Around, Place, term_arg, operand_kinds, may_have_else}
+use Rattle.aml_scan.proofs.Takes.{same_value, same_state, both}
+use Rattle.aml_scan.proofs.SpelledRows.{around_of, place_of, row_number}
 use Rattle.aml_spelling.specs.Stands.{cost, count_of, Stands, StandAll, StandOperands, MayStand}
 use Rattle.aml_spelling.proofs.Leaves.{Effect, Leaves, Same, leaves_then, leaves_after, leaves_more, leaves_as, leaves_give, leaves_map, leaves_stop, leaves_look, leaves_settle, leaves_if, leaves_byte, leaves_peek, leaves_name}
 use Rattle.aml_spelling.proofs.LeavesParts.{TermLeaves, leaves_items}

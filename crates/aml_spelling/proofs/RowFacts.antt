@@ -16,8 +16,8 @@ use Rattle.aml_grammar.specs.Opcodes.{number_of}
 use Rattle.aml_grammar.specs.Table.{table, row_of}
 use Rattle.aml_grammar.specs.Names.{starts_name}
 use Rattle.aml_grammar.specs.Grammar.{is_module_level, stands, costs_no_level, is_nothing, kinds_of}
-use Rattle.aml_terms.specs.Spelling.{Around, field_element, after_if, may_stand}
-use Rattle.aml_terms.proofs.SpelledRows.{place_of, around_of, takes_rest, some_takes_rest, found_all}
+use Rattle.aml_scan.specs.Spelling.{Around, field_element, after_if, may_stand}
+use Rattle.aml_scan.proofs.SpelledRows.{place_of, around_of, takes_rest, some_takes_rest, found_all}
 use Rattle.aml_spelling.specs.Stands.{cost}
 
 -- ---- an opcode has its own row

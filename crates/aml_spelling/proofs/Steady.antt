@@ -8,7 +8,7 @@ use Rattle.ar_space.specs.declared.refusal.TermFault.TheVariants.{TooDeep}
 use Rattle.ar_space.specs.Outcome.{Outcome}
 use Rattle.ar_space.specs.Change.{give, stop, settle, go_on, ◌>>=◌}
 use Rattle.aml_grammar.specs.State.{State, Step, fault, bad_name, look, times}
-use Rattle.aml_terms.proofs.Takes.{Gave}
+use Rattle.aml_scan.proofs.Takes.{Gave}
 use Rattle.aml_spelling.specs.Reach.{ahead, reach, Placed}
 
 -- how many bytes were read; and, where it was looked at, the next one

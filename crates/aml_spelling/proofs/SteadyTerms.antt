@@ -19,7 +19,7 @@ use Rattle.aml_grammar.specs.Arities.{arity_of}
 use Rattle.aml_grammar.specs.State.{State, Step, byte, marking}
 use Rattle.aml_grammar.specs.Tree.{Tree}
 use Rattle.aml_grammar.specs.Grammar.{Inner, is_module_level, at_item, item_of, stands, costs_no_level, takes_name, opcode, opcode_from, admitted_row, row_at, deeper, leveled, coded_term, element_name, argument_number, invocation, named_term, named, term_in, below, term_at, by_arities, max_depth, outermost, beginning, items, term_list, Fails}
-use Rattle.aml_terms.proofs.Takes.{both, same_state}
+use Rattle.aml_scan.proofs.Takes.{both, same_state}
 use Rattle.aml_spelling.specs.Reach.{ahead, reach, Placed, Stops}
 use Rattle.aml_spelling.proofs.Steady.{Apart, Alike, Steady, reached, steady_on, steady_bind, steady_then, steady_give, steady_map, steady_stop, steady_too_deep, steady_if, steady_from, steady_more, steady_look, steady_times}
 use Rattle.aml_spelling.proofs.SteadyBytes.{steady_byte, one_on, steady_peek}

@@ -18,7 +18,7 @@ use Rattle.aml_grammar.specs.Table.{row_of}
 use Rattle.aml_grammar.specs.Tree.{Tree, term, Part, name, number, inner, list, Parts, no_parts, part, Trees, no_trees, tree}
 use Rattle.aml_grammar.specs.Shape.{trees_of}
 use Rattle.aml_grammar.specs.Grammar.{max_depth, scope_of, nothing_earlier}
-use Rattle.aml_terms.specs.Spelling.{Place, list_item, term_arg, data_object, package_element, super_name, field_element, Around, inside_loop, operand_kinds, may_have_else}
+use Rattle.aml_scan.specs.Spelling.{Place, list_item, term_arg, data_object, package_element, super_name, field_element, Around, inside_loop, operand_kinds, may_have_else}
 
 -- ---- what is declared
 

@@ -8,7 +8,7 @@ ghost use Rattle.aml_grammar.specs.declared.arities.Arity.{Arity};
 ghost use Rattle.aml_grammar.specs.State.{State};
 ghost use Rattle.aml_grammar.specs.Tree.{Tree};
 ghost use Rattle.aml_grammar.specs.Grammar.{Reads, Fails, table_reading};
-ghost use Rattle.aml_terms.specs.Spelling.{IsSpelled};
+ghost use Rattle.aml_scan.specs.Spelling.{IsSpelled};
 ghost use Rattle.aml_spelling.specs.Reach.{Stops, reach, Placed};
 ghost use Rattle.aml_spelling.specs.Stands.{MayStand};
 

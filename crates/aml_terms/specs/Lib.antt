@@ -1,3 +1,5 @@
-pub mod RowPlaces
-pub mod Scanned
-pub mod Spelling
+pub mod AtTree
+pub mod Copying
+pub mod FieldElements
+pub mod Named
+pub mod Spots

@@ -1,33 +1,20 @@
-//! Reads terms of AML from the bytes of a table or of the body of a control method, by the grammar that `aml_grammar` defines
-//! (ACPI 6.5, 20.2).
+//! Terms of AML read where they stand: a reader of table bytes that makes no trees and takes no memory for terms (ACPI 6.5, 20.2).
 #![tactic(auto)]
 
-mod before;
-mod declarations;
-mod fields;
-mod if_else;
-mod names;
+mod at;
+mod at_reader;
+mod copying;
+mod cursor;
+mod lent;
+mod marks;
 mod operands;
-mod parse;
 mod places;
-mod positions;
-mod reader;
 mod scan;
-mod scan_fields;
-mod scan_if_else;
-mod scan_names;
-mod scan_operands;
-mod scan_places;
-mod scan_terms;
-mod table;
-mod terms;
+mod skip;
+mod spot;
 
-pub use aml_grammar::{
-    ArgumentCounts, Arities, Arity, Item, Mark, Opcode, Operand, OperandView, Term, TermCode,
-    TermPart, TermReader,
-};
-pub use names::{read_name, starts_name};
-pub use parse::{parse_list, parse_table, read_as_spelled};
-pub use reader::{carets, length_of, little_endian, text_length};
+pub use at::At;
+pub use at_reader::lent_bytes;
+pub use marks::Marks;
+pub use places::{first_term, list_at};
 pub use scan::{scan_list, scan_table};
-pub use table::row_of;

@@ -1,323 +1,263 @@
-//! Operands that hold no terms.
-ghost use Rattle.std.specs.Prelude.{◌≡◌, ◌<◌, ◌≤◌, ◌∷◌, ◌++◌, [], false, length, OnOk, Some};
-ghost use Rattle.ar_space.specs.Outcome.{Answers, NotMemory, seen};
-ghost use Rattle.ar_space.specs.Change.{Does};
-ghost use Rattle.aml_grammar.specs.DeclaredNames.{begins_outside, allowed_path, declared_path};
-ghost use Rattle.aml_grammar.specs.Operands.{declare, declare_earlier, name_operand, scope_name, alias_source, external_name, declared_name, integer_operand, method_flags, object_type, argument_count, text_operand, bytes_operand};
-ghost use Rattle.aml_grammar.specs.Grammar.{Inner, operand};
-ghost use Rattle.aml_grammar.specs.Operands.{holds_terms};
-ghost use Rattle.aml_grammar.specs.View.{part_view};
+//! Goes from a term to one of its operands.
+ghost use Rattle.std.specs.Prelude.{◌≡◌, ◌≤◌, ◌∷◌, [], ℕ, length, option_map, Some};
+ghost use Rattle.aml_grammar.specs.Shape.{parts_of};
+ghost use Rattle.aml_grammar.specs.Apart.{part_at, operand_of};
+ghost use Rattle.aml_marked.specs.Marked.{count_at, a_term, an_else, with_row, all_operands, of_row, over, a_field, an_access_field, an_extended_access_field, a_named_field};
+ghost use Rattle.aml_marked.specs.Parting.{kind_count};
+ghost use Rattle.aml_terms.specs.AtTree.{at_tree, place_at};
+ghost use Rattle.aml_terms.specs.Spots.{spot_part};
 
-use crate::before::Before;
-use crate::names::name_string;
-use crate::reader::Reader;
-use aml_grammar::{ArgumentCounts, Context, Earlier, Operand, OperandKind};
-use aml_path::{NameString, Path, Prefix};
-use ar_space::{NameFault, Refusal, TermFault};
-use std::alloc::Global;
+use crate::at::{At, Kind};
+use crate::cursor::Cursor;
+use crate::marks::Marks;
+use crate::skip::{is_if, is_nothing, opcode, skip_operand, skip_row};
+use crate::spot::Spot;
+use aml_grammar::{OperandKind, Row};
+use aml_scan::{row_of, starts_name};
 
-// ---- declarations
-
-fn begins_outside(name: &NameString) -> bool
-    ensures { result ≡ begins_outside name.now }
+/// Goes to an operand among kinds that stand one after another.
+#[tactic(auto, using(aml_marked::specs::Parting::parting), unfolding(aml_marked::specs::Marked::all_operands, aml_marked::specs::Marked::after, aml_marked::specs::Marked::gives))]
+fn to_kind(
+    cursor: &mut Cursor<'_>,
+    marks: &Marks,
+    levels: u8,
+    kinds: &[OperandKind],
+    index: usize,
+) -> Option<Spot>
+    ensures { option_map (λ s. spot_part (count_at marks.now) s cursor.new) result ≡ part_at (parts_of (all_operands (a_term (count_at marks.now) levels) kinds.now cursor.old).0) index }
 {
-    match name.prefix() {
-        Prefix::Root => true,
-        Prefix::Parents(count) => count > 0,
-    }
-}
-
-/// The path that a declared name stands for.
-#[tactic(auto, using(ar_space::specs::Outcome::answering), unfolding(aml_grammar::specs::DeclaredNames::declared_path))]
-pub(crate) fn declared_path(
-    alloc: Global,
-    scope: &Path,
-    context: Context,
-    start: usize,
-    name: &NameString,
-) -> Result<Path, Refusal>
-    ensures { Answers result (declared_path scope.now context start name.now) }
-{
-    if name.segments().is_empty() {
-        return Err(Refusal::Name(NameFault::BadName));
-    }
-    allowed_path(alloc, scope, context, start, name)
-}
-
-#[tactic(auto, using(ar_space::specs::Outcome::answering), unfolding(aml_grammar::specs::DeclaredNames::allowed_path))]
-fn allowed_path(
-    alloc: Global,
-    scope: &Path,
-    context: Context,
-    start: usize,
-    name: &NameString,
-) -> Result<Path, Refusal>
-    ensures { Answers result (allowed_path scope.now context start name.now) }
-{
-    let path = name.resolve_in(alloc, scope)?;
-    if context.body && begins_outside(name) {
-        return Err(Refusal::Term(TermFault::NotInBody, start));
-    }
-    Ok(path)
-}
-
-/// A declaration adds its arity, but not in a body.
-#[tactic(auto, using(crate::proofs::Viewed::viewing))]
-pub(crate) fn declare<C: ArgumentCounts, B: Before>(
-    alloc: Global,
-    reader: &mut Reader<'_, C, B>,
-    context: Context,
-    path: &Path,
-    count: u8,
-    external: bool,
-) -> Result<(), Refusal>
-    ensures reads { Does result reader.new (declare context path.now count external) reader.old }
-    ensures kept { OnOk result (length reader.new.rest ≤ length reader.old.rest) }
-{
-    if context.body {
-        return Ok(());
-    }
-    let path = path.copy(alloc)?;
-    reader.add(path, count, external)?;
-    Ok(())
-}
-
-#[tactic(auto, using(crate::proofs::Viewed::viewing))]
-pub(crate) fn declare_earlier<C: ArgumentCounts, B: Before>(
-    alloc: Global,
-    reader: &mut Reader<'_, C, B>,
-    context: Context,
-    earlier: &Earlier,
-    count: u8,
-    external: bool,
-) -> Result<(), Refusal>
-    ensures reads { Does result reader.new (declare_earlier context earlier.now.path count external) reader.old }
-    ensures kept { OnOk result (length reader.new.rest ≤ length reader.old.rest) }
-{
-    match &earlier.path {
-        None => Ok(()),
-        Some(path) => declare(alloc, reader, context, path, count, external),
-    }
-}
-
-// ---- names
-
-#[tactic(auto, using(crate::proofs::Viewed::viewing), unfolding(aml_grammar::specs::Operands::name_operand))]
-pub(crate) fn name_operand<C: ArgumentCounts, B: Before>(
-    alloc: Global,
-    reader: &mut Reader<'_, C, B>,
-) -> Result<Operand, Refusal>
-    ensures reads { Does (seen part_view result) reader.new name_operand reader.old }
-    ensures kept { OnOk result (length reader.new.rest ≤ length reader.old.rest) }
-{
-    Ok(Operand::Name(name_string(alloc, reader)?))
-}
-
-/// The name of a Scope: its list stands where the name is found, or else at the path that it stands for.
-#[tactic(auto, using(crate::proofs::Viewed::viewing), unfolding(aml_grammar::specs::Operands::scope_name))]
-pub(crate) fn scope_name<C: ArgumentCounts, B: Before>(
-    alloc: Global,
-    reader: &mut Reader<'_, C, B>,
-    scope: &Path,
-    earlier: &mut Earlier,
-) -> Result<Operand, Refusal>
-    ensures reads { Does (seen (λ x. (part_view x, earlier.new)) result) reader.new (scope_name scope.now earlier.old) reader.old }
-    ensures kept { OnOk result (length reader.new.rest ≤ length reader.old.rest) }
-{
-    let name = name_string(alloc, reader)?;
-    let path = name.resolve_in(alloc, scope)?;
-    let place = reader.place_of(alloc, &name, scope, path)?;
-    earlier.path = Some(place);
-    Ok(Operand::Name(name))
-}
-
-#[tactic(auto, using(crate::proofs::Viewed::viewing), unfolding(aml_grammar::specs::Operands::alias_source))]
-pub(crate) fn alias_source<C: ArgumentCounts, B: Before>(
-    alloc: Global,
-    reader: &mut Reader<'_, C, B>,
-    scope: &Path,
-    earlier: &mut Earlier,
-) -> Result<Operand, Refusal>
-    ensures reads { Does (seen (λ x. (part_view x, earlier.new)) result) reader.new (alias_source scope.now earlier.old) reader.old }
-    ensures kept { OnOk result (length reader.new.rest ≤ length reader.old.rest) }
-{
-    let name = name_string(alloc, reader)?;
-    let path = name.resolve_in(alloc, scope)?;
-    earlier.count = reader.arity_of(alloc, &name, scope, &path)?;
-    Ok(Operand::Name(name))
-}
-
-#[tactic(auto, using(crate::proofs::Viewed::viewing), unfolding(aml_grammar::specs::Operands::external_name))]
-pub(crate) fn external_name<C: ArgumentCounts, B: Before>(
-    alloc: Global,
-    reader: &mut Reader<'_, C, B>,
-    scope: &Path,
-    earlier: &mut Earlier,
-) -> Result<Operand, Refusal>
-    ensures reads { Does (seen (λ x. (part_view x, earlier.new)) result) reader.new (external_name scope.now earlier.old) reader.old }
-    ensures kept { OnOk result (length reader.new.rest ≤ length reader.old.rest) }
-{
-    let name = name_string(alloc, reader)?;
-    let path = name.resolve_in(alloc, scope)?;
-    earlier.path = Some(path);
-    Ok(Operand::Name(name))
-}
-
-/// A name that is declared: it adds its arity as soon as it is accepted.
-#[tactic(auto, using(crate::proofs::Viewed::viewing), unfolding(aml_grammar::specs::Operands::declared_name))]
-pub(crate) fn declared_name<C: ArgumentCounts, B: Before>(
-    alloc: Global,
-    reader: &mut Reader<'_, C, B>,
-    scope: &Path,
-    context: Context,
-    start: usize,
-    count: u8,
-    earlier: &mut Earlier,
-) -> Result<Operand, Refusal>
-    ensures reads { Does (seen (λ x. (part_view x, earlier.new)) result) reader.new
-        (declared_name scope.now context start count earlier.old) reader.old }
-    ensures kept { OnOk result (length reader.new.rest ≤ length reader.old.rest) }
-{
-    let name = name_string(alloc, reader)?;
-    let path = declared_path(alloc, scope, context, start, &name)?;
-    declare(alloc, reader, context, &path, count, false)?;
-    earlier.path = Some(path);
-    Ok(Operand::Name(name))
-}
-
-// ---- numbers and bytes
-
-#[tactic(auto, using(crate::proofs::Viewed::viewing), unfolding(aml_grammar::specs::Operands::integer_operand))]
-pub(crate) fn integer_operand<C: ArgumentCounts, B: Before>(
-    reader: &mut Reader<'_, C, B>,
-    width: usize,
-) -> Result<Operand, Refusal>
-    requires { width ≤ 8 }
-    ensures reads { Does (seen part_view result) reader.new (integer_operand width) reader.old }
-    ensures kept { OnOk result (length reader.new.rest ≤ length reader.old.rest) }
-    ensures memory { NotMemory result }
-{
-    Ok(Operand::Number(reader.integer(width)?))
-}
-
-/// The flags of a Method: bits 2 to 0 are its number of arguments.
-#[tactic(auto, using(crate::proofs::Viewed::viewing), unfolding(aml_grammar::specs::Operands::method_flags))]
-pub(crate) fn method_flags<C: ArgumentCounts, B: Before>(
-    alloc: Global,
-    reader: &mut Reader<'_, C, B>,
-    context: Context,
-    earlier: &mut Earlier,
-) -> Result<Operand, Refusal>
-    ensures reads { Does (seen (λ x. (part_view x, earlier.new)) result) reader.new (method_flags context earlier.old) reader.old }
-    ensures kept { OnOk result (length reader.new.rest ≤ length reader.old.rest) }
-{
-    let flags = reader.byte()?;
-    declare_earlier(alloc, reader, context, earlier, flags % 8, false)?;
-    Ok(Operand::Number(u64::from(flags)))
-}
-
-/// The object type of an External.
-#[tactic(auto, using(crate::proofs::Viewed::viewing), unfolding(aml_grammar::specs::Operands::object_type))]
-pub(crate) fn object_type<C: ArgumentCounts, B: Before>(
-    reader: &mut Reader<'_, C, B>,
-    earlier: &mut Earlier,
-) -> Result<Operand, Refusal>
-    ensures reads { Does (seen (λ x. (part_view x, earlier.new)) result) reader.new (object_type earlier.old) reader.old }
-    ensures kept { OnOk result (length reader.new.rest ≤ length reader.old.rest) }
-    ensures memory { NotMemory result }
-{
-    let kind = reader.byte()?;
-    earlier.count = kind;
-    Ok(Operand::Number(u64::from(kind)))
-}
-
-/// The object type of an External that names a control method.
-pub(crate) const METHOD_TYPE: u8 = 8;
-
-/// The argument count of an External: it counts where the object type is that of a method.
-#[tactic(auto, using(crate::proofs::Viewed::viewing), unfolding(aml_grammar::specs::Operands::argument_count))]
-pub(crate) fn argument_count<C: ArgumentCounts, B: Before>(
-    alloc: Global,
-    reader: &mut Reader<'_, C, B>,
-    context: Context,
-    earlier: &mut Earlier,
-) -> Result<Operand, Refusal>
-    ensures reads { Does (seen (λ x. (part_view x, earlier.new)) result) reader.new (argument_count context earlier.old) reader.old }
-    ensures kept { OnOk result (length reader.new.rest ≤ length reader.old.rest) }
-{
-    let given = reader.byte()?;
-    let count = if earlier.count == METHOD_TYPE {
-        given
-    } else {
-        0
-    };
-    declare_earlier(alloc, reader, context, earlier, count, true)?;
-    Ok(Operand::Number(u64::from(given)))
-}
-
-/// The text of a String.
-#[tactic(auto, using(crate::proofs::Viewed::viewing), unfolding(aml_grammar::specs::Operands::text_operand))]
-pub(crate) fn text_operand<C: ArgumentCounts, B: Before>(
-    alloc: Global,
-    reader: &mut Reader<'_, C, B>,
-) -> Result<Operand, Refusal>
-    ensures reads { Does (seen part_view result) reader.new text_operand reader.old }
-    ensures kept { OnOk result (length reader.new.rest ≤ length reader.old.rest) }
-{
-    Ok(Operand::Bytes(reader.text(alloc)?))
-}
-
-/// The rest of a package as bytes.
-#[tactic(auto, using(crate::proofs::Viewed::viewing), unfolding(aml_grammar::specs::Operands::bytes_operand))]
-pub(crate) fn bytes_operand<C: ArgumentCounts, B: Before>(
-    alloc: Global,
-    reader: &mut Reader<'_, C, B>,
-) -> Result<Operand, Refusal>
-    ensures reads { Does (seen part_view result) reader.new bytes_operand reader.old }
-    ensures kept { OnOk result (length reader.new.rest ≤ length reader.old.rest) }
-{
-    Ok(Operand::Bytes(reader.all_bytes(alloc)?))
-}
-
-// ---- by kind
-
-/// An operand of a kind that holds no terms.
-#[tactic(auto, using(crate::proofs::Levels::leveling), unfolding(aml_grammar::specs::Grammar::operand))]
-pub(crate) fn operand<C: ArgumentCounts, B: Before>(
-    alloc: Global,
-    reader: &mut Reader<'_, C, B>,
-    scope: &Path,
-    context: Context,
-    start: usize,
-    kind: OperandKind,
-    earlier: &mut Earlier,
-) -> Result<Operand, Refusal>
-    requires { holds_terms kind ≡ false }
-    ensures reads { (inner_term : Inner) → Does (seen (λ x. (part_view x, earlier.new)) result) reader.new
-        (operand inner_term scope.now context start kind earlier.old) reader.old }
-    ensures kept { OnOk result (length reader.new.rest ≤ length reader.old.rest) }
-{
-    match kind {
-        OperandKind::NameString => name_operand(alloc, reader),
-        OperandKind::ScopeName => scope_name(alloc, reader, scope, earlier),
-        OperandKind::AliasSource => alias_source(alloc, reader, scope, earlier),
-        OperandKind::AliasName => {
-            let count = earlier.count;
-            declared_name(alloc, reader, scope, context, start, count, earlier)
+    let mut left = index;
+    'operands: for kind in kinds {
+        if is_nothing(*kind) {
+            return None;
         }
-        OperandKind::DeclaredName => declared_name(
-            alloc, reader, scope, context, start, 0, earlier,
-        ),
-        OperandKind::MethodFlags => method_flags(alloc, reader, context, earlier),
-        OperandKind::ExternalName => external_name(alloc, reader, scope, earlier),
-        OperandKind::ObjectType => object_type(reader, earlier),
-        OperandKind::ArgumentCount => argument_count(alloc, reader, context, earlier),
-        OperandKind::ByteData => integer_operand(reader, 1),
-        OperandKind::WordData => integer_operand(reader, 2),
-        OperandKind::DWordData => integer_operand(reader, 4),
-        OperandKind::QWordData => integer_operand(reader, 8),
-        OperandKind::AsciiCharList => text_operand(alloc, reader),
-        OperandKind::ByteList => bytes_operand(alloc, reader),
-        _ => Ok(Operand::Null),
+        if left == 0 {
+            return Some(Spot::Operand(*kind, levels));
+        }
+        skip_operand(cursor, marks, levels, *kind);
+        left -= 1;
+    }
+    None
+}
+
+/// How many operands kinds have.
+fn kind_count(kinds: &[OperandKind]) -> usize
+    ensures count { result ≡ kind_count kinds.now }
+    ensures bound { result ≤ length kinds.now }
+{
+    match kinds {
+        [] => 0,
+        [kind, rest @ ..] => {
+            if is_nothing(*kind) {
+                0
+            } else {
+                1 + kind_count(rest)
+            }
+        }
+    }
+}
+
+/// Goes to an operand of a row.
+#[tactic(auto, using(aml_marked::specs::Parting::parting), unfolding(aml_marked::specs::Marked::of_row, aml_marked::specs::Marked::inside))]
+fn to_row_operand(
+    cursor: &mut Cursor<'_>,
+    marks: &Marks,
+    levels: u8,
+    row: Row,
+    index: usize,
+) -> Option<Spot>
+    ensures { option_map (λ s. spot_part (count_at marks.now) s cursor.new) result ≡ part_at (parts_of (of_row (a_term (count_at marks.now) levels) row cursor.old).0) index }
+{
+    let kinds = [row.3.0, row.3.1, row.3.2, row.3.3, row.3.4, row.3.5];
+    if row.2 {
+        cursor.open();
+    }
+    to_kind(cursor, marks, levels, &kinds, index)
+}
+
+/// Goes to an operand of a term whose opcode was read. Most often that is its first, which stands right there.
+#[tactic(auto, using(aml_marked::specs::Parting::parting), unfolding(aml_marked::specs::Marked::with_row, aml_marked::specs::Marked::of_row, aml_marked::specs::Marked::inside, aml_marked::specs::Marked::all_operands, aml_marked::specs::Marked::after, aml_marked::specs::Marked::gives))]
+fn to_coded_operand(
+    cursor: &mut Cursor<'_>,
+    marks: &Marks,
+    levels: u8,
+    row: Row,
+    index: usize,
+) -> Option<Spot>
+    ensures { option_map (λ s. spot_part (count_at marks.now) s cursor.new) result ≡ operand_of (with_row (a_term (count_at marks.now) levels) (Some row) cursor.old).0 index }
+{
+    if index == 0 && !row.2 && !is_if(row.0) && !is_nothing(row.3.0) {
+        return Some(Spot::Operand(row.3.0, levels));
+    }
+    to_operand_of_row(cursor, marks, levels, row, index)
+}
+
+/// Goes to an operand of a term with an opcode: the Else of an If is its last one.
+#[tactic(auto, using(aml_marked::specs::Parting::parting), unfolding(aml_marked::specs::Marked::with_row, aml_marked::specs::Marked::after, aml_marked::specs::Marked::gives))]
+fn to_operand_of_row(
+    cursor: &mut Cursor<'_>,
+    marks: &Marks,
+    levels: u8,
+    row: Row,
+    index: usize,
+) -> Option<Spot>
+    ensures { option_map (λ s. spot_part (count_at marks.now) s cursor.new) result ≡ operand_of (with_row (a_term (count_at marks.now) levels) (Some row) cursor.old).0 index }
+{
+    if !is_if(row.0) {
+        return to_row_operand(cursor, marks, levels, row, index);
+    }
+    let count = kind_count(&[row.3.0, row.3.1, row.3.2, row.3.3, row.3.4, row.3.5]);
+    if index < count {
+        return to_row_operand(cursor, marks, levels, row, index);
+    }
+    if index > count {
+        return None;
+    }
+    skip_row(cursor, marks, levels, row);
+    Some(Spot::Else(levels))
+}
+
+/// Goes to an operand of a term.
+#[tactic(auto, using(aml_marked::specs::Parting::parting), unfolding(aml_marked::specs::Marked::a_name, aml_marked::specs::Marked::a_call, aml_marked::specs::Marked::with_row, aml_marked::specs::Marked::a_coded, aml_marked::specs::Marked::a_term_in, aml_marked::specs::Marked::an_operand, aml_marked::specs::Marked::after, aml_marked::specs::Marked::gives))]
+fn to_operand(
+    cursor: &mut Cursor<'_>,
+    marks: &Marks,
+    levels: u8,
+    element: bool,
+    index: usize,
+) -> Option<Spot>
+    ensures { option_map (λ s. spot_part (count_at marks.now) s cursor.new) result ≡ operand_of (a_term (count_at marks.now) levels element cursor.old).0 index }
+{
+    if levels == 0 {
+        return None;
+    }
+    if !starts_name(cursor.first()) {
+        let number = opcode(cursor);
+        return match row_of(number) {
+            None => None,
+            Some(row) => to_operand_of_row(cursor, marks, levels - 1, row, index),
+        };
+    }
+    if index == 0 {
+        return Some(Spot::Operand(OperandKind::NameString, levels - 1));
+    }
+    if element || index > 1 {
+        return None;
+    }
+    let count = marks.count_at(cursor.at());
+    cursor.over_name();
+    Some(Spot::Arguments(count, levels - 1))
+}
+
+/// Goes to the list of an Else.
+#[tactic(auto, using(aml_marked::specs::Parting::parting), unfolding(aml_marked::specs::Marked::an_else, aml_marked::specs::Marked::inside, aml_marked::specs::Marked::an_operand, aml_marked::specs::Marked::after, aml_marked::specs::Marked::gives))]
+fn to_else_operand(cursor: &mut Cursor<'_>, levels: u8, index: usize) -> Option<Spot>
+    ensures { (count : ℕ → ℕ) → option_map (λ s. spot_part count s cursor.new) result ≡ operand_of (an_else (a_term count levels) cursor.old).0 index }
+{
+    if index > 0 {
+        return None;
+    }
+    cursor.over(1);
+    cursor.open();
+    Some(Spot::Operand(OperandKind::TermList, levels))
+}
+
+/// Goes to an operand of a field element.
+#[tactic(auto, using(aml_marked::specs::Parting::parting), unfolding(aml_marked::specs::Marked::a_field, aml_marked::specs::Marked::a_reserved_field, aml_marked::specs::Marked::a_connect_field, aml_marked::specs::Marked::a_named_field, aml_marked::specs::Marked::an_operand, aml_marked::specs::Marked::a_name, aml_marked::specs::Marked::after, aml_marked::specs::Marked::gives))]
+fn to_field_operand(cursor: &mut Cursor<'_>, levels: u8, index: usize) -> Option<Spot>
+    ensures { (count : ℕ → ℕ) → option_map (λ s. spot_part count s cursor.new) result ≡ operand_of (a_field (a_term count levels) cursor.old).0 index }
+{
+    let next = cursor.first();
+    if next == 0 {
+        to_only(cursor, Spot::Bits, index)
+    } else if next == 1 {
+        to_access(cursor, index)
+    } else if next == 2 {
+        to_only(cursor, Spot::Operand(OperandKind::SuperName, levels), index)
+    } else if next == 3 {
+        to_extended_access(cursor, index)
+    } else {
+        to_named(cursor, levels, index)
+    }
+}
+
+/// Goes to the only operand of a field element, behind its code.
+fn to_only(cursor: &mut Cursor<'_>, spot: Spot, index: usize) -> Option<Spot>
+    ensures { (count : ℕ → ℕ) → option_map (λ s. spot_part count s cursor.new) result ≡ part_at (parts_of (spot_part count spot (over 1 cursor.old) ∷ [])) index }
+{
+    if index > 0 {
+        return None;
+    }
+    cursor.over(1);
+    Some(spot)
+}
+
+const BYTE: Spot = Spot::Operand(OperandKind::ByteData, 0);
+
+/// Goes to an operand of an access field: the access, or its attribute.
+#[tactic(auto, using(aml_marked::specs::Parting::parting), unfolding(aml_marked::specs::Marked::an_access_field, aml_marked::specs::Marked::an_operand, aml_marked::specs::Marked::after, aml_marked::specs::Marked::gives))]
+fn to_access(cursor: &mut Cursor<'_>, index: usize) -> Option<Spot>
+    ensures { (count : ℕ → ℕ) → option_map (λ s. spot_part count s cursor.new) result ≡ operand_of (an_access_field cursor.old).0 index }
+{
+    cursor.over(1);
+    match index {
+        0 => Some(BYTE),
+        1 => {
+            cursor.over(1);
+            Some(BYTE)
+        }
+        _ => None,
+    }
+}
+
+/// Goes to an operand of an extended access field: the access, its attribute or its length.
+#[tactic(auto, using(aml_marked::specs::Parting::parting), unfolding(aml_marked::specs::Marked::an_extended_access_field, aml_marked::specs::Marked::an_operand, aml_marked::specs::Marked::after, aml_marked::specs::Marked::gives))]
+fn to_extended_access(cursor: &mut Cursor<'_>, index: usize) -> Option<Spot>
+    ensures { (count : ℕ → ℕ) → option_map (λ s. spot_part count s cursor.new) result ≡ operand_of (an_extended_access_field cursor.old).0 index }
+{
+    cursor.over(1);
+    match index {
+        0 => Some(BYTE),
+        1 => {
+            cursor.over(1);
+            Some(BYTE)
+        }
+        2 => {
+            cursor.over(1);
+            cursor.over(1);
+            Some(BYTE)
+        }
+        _ => None,
+    }
+}
+
+/// Goes to an operand of a named field: its name, or its count of bits.
+#[tactic(auto, using(aml_marked::specs::Parting::parting), unfolding(aml_marked::specs::Marked::a_named_field, aml_marked::specs::Marked::an_operand, aml_marked::specs::Marked::a_name, aml_marked::specs::Marked::after, aml_marked::specs::Marked::gives))]
+fn to_named(cursor: &mut Cursor<'_>, levels: u8, index: usize) -> Option<Spot>
+    ensures { (count : ℕ → ℕ) → option_map (λ s. spot_part count s cursor.new) result ≡ operand_of (a_named_field cursor.old).0 index }
+{
+    match index {
+        0 => Some(Spot::Operand(OperandKind::NameString, levels)),
+        1 => {
+            cursor.over_name();
+            Some(Spot::Bits)
+        }
+        _ => None,
+    }
+}
+
+/// Goes to an operand of what stands there.
+#[tactic(auto, using(aml_marked::specs::Parting::parting))]
+pub(crate) fn to_part<'a>(part: &At<'a>, cursor: &mut Cursor<'a>, index: usize) -> Option<Spot>
+    requires { cursor.old ≡ place_at part.now }
+    ensures { option_map (λ s. spot_part (count_at part.now.marks.now) s cursor.new) result ≡ operand_of (at_tree part.now) index }
+{
+    match part.kind {
+        Kind::Coded(row) => to_coded_operand(cursor, part.marks, part.levels, row, index),
+        Kind::Term => to_operand(cursor, part.marks, part.levels, false, index),
+        Kind::Element => to_operand(cursor, part.marks, part.levels, true, index),
+        Kind::Else => to_else_operand(cursor, part.levels, index),
+        Kind::Field => to_field_operand(cursor, part.levels, index),
+        Kind::Items | Kind::Elements | Kind::Arguments | Kind::Fields => None,
     }
 }

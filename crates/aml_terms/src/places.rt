@@ -1,200 +1,107 @@
-//! Operands that are places, and field elements (SuperName of ACPI 6.5, 20.2.2; FieldElement of 20.2.5.2).
-ghost use Rattle.std.specs.Prelude.{◌≡◌, ◌<◌, ◌≤◌, ◌∷◌, ◌++◌, [], List, length, map, OnOk};
-ghost use Rattle.ar_space.specs.Outcome.{seen};
-ghost use Rattle.ar_space.specs.Change.{Does};
-ghost use Rattle.aml_grammar.specs.Grammar.{super_name, target, simple_name, connection, connect_field, field, fields, fields_operand, by_arities, term_at, is_slot};
-ghost use Rattle.aml_grammar.specs.View.{part_view, tree_view};
+//! Readers at the beginning of lists and terms.
+ghost use Rattle.std.specs.Prelude.{◌≡◌, ◌≤◌, length, drop, false};
+ghost use Rattle.aml_grammar.specs.Shape.{trees_of};
+ghost use Rattle.aml_marked.specs.Marked.{count_at, a_term, trees_by};
+ghost use Rattle.aml_terms.specs.AtTree.{at_tree, at_list, place_at, behind_of};
 
-use crate::before::Before;
-use crate::fields::{access_field, extended_access_field, named_field, reserved_field};
-use crate::names::starts_name;
-use crate::operands::name_operand;
-use crate::reader::Reader;
-use crate::terms::term_operand;
-use aml_grammar::{ArgumentCounts, Context, Operand, Position, Term, TermCode};
-use aml_path::Path;
-use ar_space::{NameFault, Refusal, TermFault};
-use std::alloc::Global;
+use crate::at::{At, Kind};
+use crate::cursor::Cursor;
+use crate::marks::Marks;
+use crate::skip::{opcode, over_else, skip_field, skip_row_term, skip_term};
+use aml_scan::{row_of, starts_name};
 
-/// A place that is read or written: a name, a local, an argument, Debug, or a term that gives a reference.
-#[cycle(parse)]
-#[tactic(auto, using(crate::proofs::Levels::leveling), unfolding(aml_grammar::specs::Grammar::super_name))]
-pub(crate) fn super_name<C: ArgumentCounts, B: Before>(
-    alloc: Global,
-    reader: &mut Reader<'_, C, B>,
-    levels: usize,
-    scope: &Path,
-    context: Context,
-) -> Result<Operand, Refusal>
-    ensures reads { Does (seen part_view result) reader.new (super_name (term_at by_arities levels) scope.now context) reader.old }
-    ensures kept { OnOk result (length reader.new.rest ≤ length reader.old.rest) }
+/// One level more than the grammar has: there, a local, an argument or Debug as a place costs none.
+const LEVELS: u8 = 65;
+
+/// What stands where a cursor stands.
+pub(crate) fn standing<'a>(
+    cursor: &Cursor<'a>,
+    marks: &'a Marks,
+    levels: u8,
+    turns: usize,
+    kind: Kind,
+) -> At<'a>
+    ensures place { place_at result ≡ cursor.now }
+    ensures marks { result.marks.now ≡ marks.now }
+    ensures levels { result.levels ≡ levels }
+    ensures turns { result.turns ≡ turns }
+    ensures kind { result.kind ≡ kind }
 {
-    let next = reader.peek()?;
-    if next == 0 {
-        Err(Refusal::Name(NameFault::BadName))
-    } else if starts_name(next) {
-        name_operand(alloc, reader)
+    At {
+        at: cursor.at(),
+        rest: cursor.rest(),
+        marks,
+        turns,
+        levels,
+        kind,
+    }
+}
+
+pub(crate) fn cursor_of<'a>(part: &At<'a>) -> Cursor<'a>
+    ensures { result ≡ place_at part.now }
+{
+    Cursor::new(part.at, part.rest)
+}
+
+/// The term, or the element of a package, where a cursor stands. Its opcode is read at once, so that no reading of an operand looks for
+/// its row again.
+#[tactic(auto, using(aml_marked::specs::Walking::walking), unfolding(aml_marked::specs::Marked::a_coded, aml_marked::specs::Marked::a_term_in, aml_marked::specs::Marked::after, aml_marked::specs::Marked::gives))]
+pub(crate) fn term_at<'a>(
+    cursor: &Cursor<'a>,
+    marks: &'a Marks,
+    levels: u8,
+    element: bool,
+) -> At<'a>
+    ensures marks { result.marks.now ≡ marks.now }
+    ensures tree { at_tree result ≡ (a_term (count_at marks.now) levels element cursor.now).0 }
+    ensures behind { behind_of result.kind (count_at marks.now) result.levels (place_at result) ≡ (a_term (count_at marks.now) levels element cursor.now).1 }
+{
+    if levels > 0 && !starts_name(cursor.first()) {
+        let mut behind = Cursor::new(cursor.at(), cursor.rest());
+        if let Some(row) = row_of(opcode(&mut behind)) {
+            return standing(&behind, marks, levels - 1, 0, Kind::Coded(row));
+        }
+    }
+    if element {
+        standing(cursor, marks, levels, 0, Kind::Element)
     } else {
-        term_operand(alloc, reader, levels, Position::SuperName, scope, context)
+        standing(cursor, marks, levels, 0, Kind::Term)
     }
 }
 
-/// A place that a result is stored to, or none.
-#[cycle(parse)]
-#[tactic(auto, using(crate::proofs::Levels::leveling), unfolding(aml_grammar::specs::Grammar::target))]
-pub(crate) fn target<C: ArgumentCounts, B: Before>(
-    alloc: Global,
-    reader: &mut Reader<'_, C, B>,
-    levels: usize,
-    scope: &Path,
-    context: Context,
-) -> Result<Operand, Refusal>
-    ensures reads { Does (seen part_view result) reader.new (target (term_at by_arities levels) scope.now context) reader.old }
-    ensures kept { OnOk result (length reader.new.rest ≤ length reader.old.rest) }
+/// What stands behind a term or an element of a package.
+pub(crate) fn behind<'a>(term: &At<'a>) -> Cursor<'a>
+    ensures { result ≡ behind_of term.now.kind (count_at term.now.marks.now) term.now.levels (place_at term.now) }
 {
-    let next = reader.peek()?;
-    if next == 0 {
-        reader.byte()?;
-        Ok(Operand::Null)
-    } else {
-        super_name(alloc, reader, levels, scope, context)
+    let mut cursor = cursor_of(term);
+    match term.kind {
+        Kind::Coded(row) => skip_row_term(&mut cursor, term.marks, term.levels, row),
+        Kind::Term => skip_term(&mut cursor, term.marks, term.levels, false),
+        Kind::Element => skip_term(&mut cursor, term.marks, term.levels, true),
+        Kind::Else => over_else(&mut cursor),
+        Kind::Field => skip_field(&mut cursor, term.marks, term.levels),
+        Kind::Items | Kind::Elements | Kind::Arguments | Kind::Fields => (),
     }
+    cursor
 }
 
-#[tactic(auto, unfolding(aml_grammar::specs::Grammar::is_slot))]
-pub(crate) fn is_slot(byte: u8) -> bool
-    ensures { result ≡ is_slot byte }
+/// The list of terms that bytes hold, by the marks that their scan left. It takes no memory.
+#[tactic(auto, unfolding(aml_marked::specs::Marked::all_items))]
+pub fn list_at<'a>(bytes: &'a [u8], marks: &'a Marks) -> At<'a>
+    ensures { at_list result ≡ trees_of (trees_by marks.now bytes.now) }
 {
-    (0x60..=0x6E).contains(&byte)
+    let cursor = Cursor::new(0, bytes);
+    standing(&cursor, marks, LEVELS, bytes.len(), Kind::Items)
 }
 
-/// A name, a local or an argument.
-#[cycle(parse)]
-#[tactic(auto, using(crate::proofs::Levels::leveling), unfolding(aml_grammar::specs::Grammar::simple_name))]
-pub(crate) fn simple_name<C: ArgumentCounts, B: Before>(
-    alloc: Global,
-    reader: &mut Reader<'_, C, B>,
-    levels: usize,
-    scope: &Path,
-    context: Context,
-) -> Result<Operand, Refusal>
-    ensures reads { Does (seen part_view result) reader.new (simple_name (term_at by_arities levels) scope.now context) reader.old }
-    ensures kept { OnOk result (length reader.new.rest ≤ length reader.old.rest) }
+/// The term at an offset of bytes, by the marks that their scan left, and the offset behind it. It takes no memory.
+#[tactic(auto, using(aml_marked::specs::Walking::walking))]
+pub fn first_term<'a>(bytes: &'a [u8], at: usize, marks: &'a Marks) -> (At<'a>, usize)
+    requires { at ≤ length bytes.now }
+    ensures tree { at_tree result.0 ≡ (a_term (count_at marks.now) 65 false (record { at = at; rest = drop at bytes.now })).0 }
+    ensures next { result.1 ≡ (a_term (count_at marks.now) 65 false (record { at = at; rest = drop at bytes.now })).1.at }
 {
-    let here = reader.at();
-    let next = reader.peek()?;
-    if next == 0 || starts_name(next) || is_slot(next) {
-        super_name(alloc, reader, levels, scope, context)
-    } else {
-        Err(Refusal::Term(TermFault::BadOpcode, here))
-    }
-}
-
-pub(crate) const BUFFER: u8 = 0x11;
-
-/// What the elements after it are connected to: a name or a Buffer.
-#[cycle(parse)]
-#[tactic(auto, using(crate::proofs::Levels::leveling), unfolding(aml_grammar::specs::Grammar::connection))]
-fn connection<C: ArgumentCounts, B: Before>(
-    alloc: Global,
-    reader: &mut Reader<'_, C, B>,
-    levels: usize,
-    scope: &Path,
-    context: Context,
-) -> Result<Operand, Refusal>
-    ensures reads { Does (seen part_view result) reader.new (connection (term_at by_arities levels) scope.now context) reader.old }
-    ensures kept { OnOk result (length reader.new.rest ≤ length reader.old.rest) }
-{
-    let next = reader.peek()?;
-    if starts_name(next) {
-        name_operand(alloc, reader)
-    } else if next == BUFFER {
-        term_operand(alloc, reader, levels, Position::DataObject, scope, context)
-    } else {
-        Err(Refusal::Name(NameFault::BadName))
-    }
-}
-
-#[cycle(parse)]
-#[tactic(auto, using(crate::proofs::Levels::leveling), unfolding(aml_grammar::specs::Grammar::connect_field))]
-fn connect_field<C: ArgumentCounts, B: Before>(
-    alloc: Global,
-    reader: &mut Reader<'_, C, B>,
-    levels: usize,
-    scope: &Path,
-    context: Context,
-) -> Result<Term, Refusal>
-    ensures reads { Does (seen tree_view result) reader.new (connect_field (term_at by_arities levels) scope.now context) reader.old }
-    ensures shorter { OnOk result (length reader.new.rest < length reader.old.rest) }
-{
-    reader.byte()?;
-    let operand = connection(alloc, reader, levels, scope, context)?;
-    let mut operands = Vec::new(alloc);
-    operands.push(operand)?;
-    Ok(Term {
-        code: TermCode::ConnectField,
-        operands,
-    })
-}
-
-#[cycle(parse)]
-#[tactic(auto, using(crate::proofs::Levels::leveling), unfolding(aml_grammar::specs::Grammar::field))]
-fn field<C: ArgumentCounts, B: Before>(
-    alloc: Global,
-    reader: &mut Reader<'_, C, B>,
-    levels: usize,
-    scope: &Path,
-    context: Context,
-) -> Result<Term, Refusal>
-    ensures reads { Does (seen tree_view result) reader.new (field (term_at by_arities levels) scope.now context) reader.old }
-    ensures shorter { OnOk result (length reader.new.rest < length reader.old.rest) }
-{
-    let next = reader.peek()?;
-    if next == 0 {
-        reserved_field(alloc, reader)
-    } else if next == 1 {
-        access_field(alloc, reader)
-    } else if next == 2 {
-        connect_field(alloc, reader, levels, scope, context)
-    } else if next == 3 {
-        extended_access_field(alloc, reader)
-    } else {
-        named_field(alloc, reader, scope, context)
-    }
-}
-
-/// Field elements until nothing is left.
-#[cycle(parse)]
-fn fields<C: ArgumentCounts, B: Before>(
-    alloc: Global,
-    reader: &mut Reader<'_, C, B>,
-    levels: usize,
-    scope: &Path,
-    context: Context,
-) -> Result<Vec<Term>, Refusal>
-    ensures reads { Does (seen (λ v. map tree_view v.items) result) reader.new (fields (term_at by_arities levels) scope.now context) reader.old }
-    ensures kept { OnOk result (length reader.new.rest ≤ length reader.old.rest) }
-{
-    let mut list = Vec::new(alloc);
-    'fields: while !reader.is_empty() {
-        let next = field(alloc, reader, levels, scope, context)?;
-        list.push(next)?;
-    }
-    Ok(list)
-}
-
-/// The rest of a package as field elements.
-#[cycle(parse)]
-#[tactic(auto, using(crate::proofs::Levels::leveling), unfolding(aml_grammar::specs::Grammar::fields_operand))]
-pub(crate) fn fields_operand<C: ArgumentCounts, B: Before>(
-    alloc: Global,
-    reader: &mut Reader<'_, C, B>,
-    levels: usize,
-    scope: &Path,
-    context: Context,
-) -> Result<Operand, Refusal>
-    ensures reads { Does (seen part_view result) reader.new (fields_operand (term_at by_arities levels) scope.now context) reader.old }
-    ensures kept { OnOk result (length reader.new.rest ≤ length reader.old.rest) }
-{
-    Ok(Operand::List(fields(alloc, reader, levels, scope, context)?))
+    let cursor = Cursor::new(at, &bytes[at..]);
+    let term = term_at(&cursor, marks, LEVELS, false);
+    (term, behind(&term).at())
 }

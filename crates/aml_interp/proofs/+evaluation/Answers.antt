@@ -7,7 +7,7 @@ use Rattle.aml_meaning.specs.Fields.{index_unit, index_unit_written}
 use Rattle.aml_meaning.specs.FieldCalls.{asked, answer_within}
 use Rattle.ar_space.specs.Change.{does_same, does_err, does_seen_err, does_give, same_ok}
 use Rattle.aml_grammar.specs.Apart.{first_of}
-use Rattle.aml_bytes.specs.AtTree.{at_tree, at_list}
+use Rattle.aml_terms.specs.AtTree.{at_tree, at_list}
 use Rattle.aml_meaning.specs.Meaning.{meaning}
 use Rattle.aml_interp.proofs.Steps.{same_argument, arguments_end, same_turn, same_after, same_ended, same_item, items_end, same_element, elements_end, elements_full, coded, same_true, same_false}
 use Rattle.aml_interp.proofs.+evaluation.Goals as goal

@@ -1,6 +1,6 @@
 use Rattle.std.proofs.Common.{◌≤◌, ◌+◌, ◌*◌, ◌-◌, []}
 use Rattle.ar_space.specs.Change.{Same}
-use Rattle.aml_bytes.specs.AtTree.{at_tree, at_list}
+use Rattle.aml_terms.specs.AtTree.{at_tree, at_list}
 use Rattle.aml_meaning.specs.Meaning.{meaning}
 use Rattle.aml_meaning.specs.Tasks.{in_turn}
 use Rattle.aml_meaning.specs.DataTerms.{elements_in_turn}

@@ -1,4 +1,4 @@
-use Rattle.aml_bytes.specs.AtTree.{at_list}
+use Rattle.aml_terms.specs.AtTree.{at_list}
 use Rattle.aml_meaning.specs.Terms.{count_of}
 use Rattle.aml_meaning.proofs.Uses.{found_is, refused_is, does_use, does_refuse}
 use Rattle.aml_interp.proofs.invocations.name_used.Goals as goal

@@ -1,6 +1,6 @@
 use Rattle.std.proofs.Common.{◌≡◌}
 use Rattle.std.specs.Prelude.{◌==◌}
-use Rattle.aml_bytes.specs.AtTree.{at_list}
+use Rattle.aml_terms.specs.AtTree.{at_list}
 use Rattle.aml_meaning.specs.Terms.{count_of}
 use Rattle.aml_interp.proofs.operands.has_count.Given as goal
 

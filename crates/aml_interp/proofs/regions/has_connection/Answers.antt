@@ -1,6 +1,6 @@
 use Rattle.std.proofs.Common.{ap, sym, ◌∙◌}
 use Rattle.aml_grammar.specs.Apart.{first_of}
-use Rattle.aml_bytes.specs.AtTree.{at_tree, at_list}
+use Rattle.aml_terms.specs.AtTree.{at_tree, at_list}
 use Rattle.aml_interp.proofs.Steps.{connected, unconnected_end, or_true, or_false}
 use Rattle.aml_interp.proofs.regions.has_connection.Goals as goal
 

@@ -1,5 +1,5 @@
 use Rattle.std.proofs.Common.{◌≡◌}
-use Rattle.aml_bytes.specs.AtTree.{at_list}
+use Rattle.aml_terms.specs.AtTree.{at_list}
 use Rattle.aml_meaning.specs.Terms.{count_of}
 use Rattle.aml_meaning.specs.FieldTerms.{has_connection}
 use Rattle.aml_interp.proofs.regions.has_connection.Given as goal

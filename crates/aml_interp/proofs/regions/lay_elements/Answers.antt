@@ -1,7 +1,7 @@
 use Rattle.std.proofs.Common.{refl, ap, ◌∙◌}
 use Rattle.ar_space.specs.Change.{does_same, does_err, same_ok}
 use Rattle.aml_grammar.specs.Apart.{first_of}
-use Rattle.aml_bytes.specs.AtTree.{at_tree, at_list}
+use Rattle.aml_terms.specs.AtTree.{at_tree, at_list}
 use Rattle.aml_interp.proofs.Steps.{same_laid, laid_end, laid_by}
 use Rattle.aml_interp.proofs.regions.lay_elements.Goals as goal
 

@@ -1,5 +1,5 @@
 use Rattle.ar_space.specs.Change.{Same}
-use Rattle.aml_bytes.specs.AtTree.{at_list}
+use Rattle.aml_terms.specs.AtTree.{at_list}
 use Rattle.aml_meaning.specs.Terms.{count_of}
 use Rattle.aml_meaning.specs.FieldTerms.{elements_laid}
 use Rattle.aml_interp.proofs.regions.lay_elements.Given as goal

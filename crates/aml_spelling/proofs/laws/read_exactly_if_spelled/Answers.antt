@@ -1,4 +1,4 @@
-use Rattle.aml_terms.proofs.SpelledTerms.{list_spelled, table_spelled}
+use Rattle.aml_scan.proofs.SpelledTerms.{list_spelled, table_spelled}
 use Rattle.aml_spelling.proofs.GetsWhole.{list_read, table_read}
 use Rattle.aml_spelling.proofs.LeavesWhole.{list_stands, table_stands}
 use Rattle.aml_spelling.proofs.laws.read_exactly_if_spelled.Goals as goal

@@ -1,5 +1,0 @@
-use Rattle.std.proofs.Common.{length}
-use Rattle.aml_bytes.proofs.operands.+kind_count.Given as goal
-
-abbrev pub decreases-kind_count : goal.decreases-kind_count
-decreases-kind_count l = length l.kinds.now

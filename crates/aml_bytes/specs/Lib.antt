@@ -1,5 +1,0 @@
-pub mod AtTree
-pub mod Copying
-pub mod FieldElements
-pub mod Named
-pub mod Spots

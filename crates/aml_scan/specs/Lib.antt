@@ -1,0 +1,3 @@
+pub mod RowPlaces
+pub mod Scanned
+pub mod Spelling

@@ -1,0 +1,77 @@
+//! Field elements that hold no terms, gone over without a copy (FieldElement of ACPI 6.5, 20.2.5.2).
+ghost use Rattle.std.specs.Prelude.{◌≡◌, ◌<◌, length, OnOk};
+ghost use Rattle.ar_space.specs.Outcome.{NotMemory};
+ghost use Rattle.ar_space.specs.Change.{Does};
+ghost use Rattle.aml_grammar.specs.Operands.{reserved_field, access_field, extended_access_field, named_field};
+ghost use Rattle.aml_scan.specs.Scanned.{scanned};
+
+use crate::before::Before;
+use crate::fields::declare_field;
+use crate::names::segment;
+use crate::reader::Reader;
+use aml_grammar::{ArgumentCounts, Context};
+use aml_path::Path;
+use ar_space::Refusal;
+use std::alloc::Global;
+
+/// Bits that are passed over.
+#[tactic(auto, using(crate::proofs::Scans::scanning), unfolding(aml_grammar::specs::Operands::reserved_field))]
+pub(crate) fn reserved_field<C: ArgumentCounts, B: Before>(
+    reader: &mut Reader<'_, C, B>,
+) -> Result<(), Refusal>
+    ensures reads { Does result reader.new (scanned reserved_field) reader.old }
+    ensures shorter { OnOk result (length reader.new.rest < length reader.old.rest) }
+    ensures memory { NotMemory result }
+{
+    reader.byte()?;
+    reader.bit_count()?;
+    Ok(())
+}
+
+/// The access and its attribute for the elements after it.
+#[tactic(auto, using(crate::proofs::Scans::scanning), unfolding(aml_grammar::specs::Operands::access_field))]
+pub(crate) fn access_field<C: ArgumentCounts, B: Before>(
+    reader: &mut Reader<'_, C, B>,
+) -> Result<(), Refusal>
+    ensures reads { Does result reader.new (scanned access_field) reader.old }
+    ensures shorter { OnOk result (length reader.new.rest < length reader.old.rest) }
+    ensures memory { NotMemory result }
+{
+    reader.byte()?;
+    reader.byte()?;
+    reader.byte()?;
+    Ok(())
+}
+
+/// The access, its attribute and its length for the elements after it.
+#[tactic(auto, using(crate::proofs::Scans::scanning), unfolding(aml_grammar::specs::Operands::extended_access_field))]
+pub(crate) fn extended_access_field<C: ArgumentCounts, B: Before>(
+    reader: &mut Reader<'_, C, B>,
+) -> Result<(), Refusal>
+    ensures reads { Does result reader.new (scanned extended_access_field) reader.old }
+    ensures shorter { OnOk result (length reader.new.rest < length reader.old.rest) }
+    ensures memory { NotMemory result }
+{
+    reader.byte()?;
+    reader.byte()?;
+    reader.byte()?;
+    reader.byte()?;
+    Ok(())
+}
+
+/// A segment and a count of bits.
+#[tactic(auto, using(crate::proofs::Scans::scanning), unfolding(aml_grammar::specs::Operands::named_field))]
+pub(crate) fn named_field<C: ArgumentCounts, B: Before>(
+    alloc: Global,
+    reader: &mut Reader<'_, C, B>,
+    scope: &Path,
+    context: Context,
+) -> Result<(), Refusal>
+    ensures reads { Does result reader.new (scanned (named_field scope.now context)) reader.old }
+    ensures shorter { OnOk result (length reader.new.rest < length reader.old.rest) }
+{
+    let segment = segment(reader)?;
+    declare_field(alloc, reader, scope, context, segment)?;
+    reader.bit_count()?;
+    Ok(())
+}

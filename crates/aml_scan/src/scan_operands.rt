@@ -1,0 +1,234 @@
+//! Operands that hold no terms, gone over without a copy.
+ghost use Rattle.std.specs.Prelude.{◌≡◌, ◌≤◌, false, length, OnOk};
+ghost use Rattle.ar_space.specs.Outcome.{NotMemory, seen};
+ghost use Rattle.ar_space.specs.Change.{Does};
+ghost use Rattle.aml_grammar.specs.Operands.{name_operand, scope_name, alias_source, external_name, declared_name, integer_operand, method_flags, object_type, argument_count, text_operand, bytes_operand, holds_terms};
+ghost use Rattle.aml_grammar.specs.Grammar.{Inner, operand};
+ghost use Rattle.aml_scan.specs.Scanned.{kept, scanned};
+
+use crate::before::Before;
+use crate::names::name_string;
+use crate::operands::{METHOD_TYPE, declare, declare_earlier, declared_path};
+use crate::reader::Reader;
+use crate::scan_names::skip_name;
+use aml_grammar::{ArgumentCounts, Context, Earlier, OperandKind};
+use aml_path::Path;
+use ar_space::Refusal;
+use std::alloc::Global;
+
+// ---- names
+
+/// A name of which no path is asked here.
+#[tactic(auto, using(crate::proofs::Scans::scanning), unfolding(aml_grammar::specs::Operands::name_operand))]
+pub(crate) fn name_operand<C: ArgumentCounts, B: Before>(
+    reader: &mut Reader<'_, C, B>,
+) -> Result<(), Refusal>
+    ensures reads { Does result reader.new (scanned name_operand) reader.old }
+    ensures kept { OnOk result (length reader.new.rest ≤ length reader.old.rest) }
+    ensures memory { NotMemory result }
+{
+    skip_name(reader)
+}
+
+/// The name of a Scope: its list stands where the name is found, or else at the path that it stands for.
+#[tactic(auto, using(crate::proofs::Scans::scanning), unfolding(aml_grammar::specs::Operands::scope_name))]
+fn scope_name<C: ArgumentCounts, B: Before>(
+    alloc: Global,
+    reader: &mut Reader<'_, C, B>,
+    scope: &Path,
+    earlier: &mut Earlier,
+) -> Result<(), Refusal>
+    ensures reads { Does (seen (λ _. earlier.new) result) reader.new (kept (λ x. x.1) (scope_name scope.now earlier.old)) reader.old }
+    ensures kept { OnOk result (length reader.new.rest ≤ length reader.old.rest) }
+{
+    let name = name_string(alloc, reader)?;
+    let path = name.resolve_in(alloc, scope)?;
+    let place = reader.place_of(alloc, &name, scope, path)?;
+    earlier.path = Some(place);
+    Ok(())
+}
+
+#[tactic(auto, using(crate::proofs::Scans::scanning), unfolding(aml_grammar::specs::Operands::alias_source))]
+fn alias_source<C: ArgumentCounts, B: Before>(
+    alloc: Global,
+    reader: &mut Reader<'_, C, B>,
+    scope: &Path,
+    earlier: &mut Earlier,
+) -> Result<(), Refusal>
+    ensures reads { Does (seen (λ _. earlier.new) result) reader.new (kept (λ x. x.1) (alias_source scope.now earlier.old)) reader.old }
+    ensures kept { OnOk result (length reader.new.rest ≤ length reader.old.rest) }
+{
+    let name = name_string(alloc, reader)?;
+    let path = name.resolve_in(alloc, scope)?;
+    let count = reader.arity_of(alloc, &name, scope, &path)?;
+    earlier.count = count;
+    Ok(())
+}
+
+#[tactic(auto, using(crate::proofs::Scans::scanning), unfolding(aml_grammar::specs::Operands::external_name))]
+fn external_name<C: ArgumentCounts, B: Before>(
+    alloc: Global,
+    reader: &mut Reader<'_, C, B>,
+    scope: &Path,
+    earlier: &mut Earlier,
+) -> Result<(), Refusal>
+    ensures reads { Does (seen (λ _. earlier.new) result) reader.new (kept (λ x. x.1) (external_name scope.now earlier.old)) reader.old }
+    ensures kept { OnOk result (length reader.new.rest ≤ length reader.old.rest) }
+{
+    let name = name_string(alloc, reader)?;
+    let path = name.resolve_in(alloc, scope)?;
+    earlier.path = Some(path);
+    Ok(())
+}
+
+/// A name that the term declares.
+#[tactic(auto, using(crate::proofs::Scans::scanning), unfolding(aml_grammar::specs::Operands::declared_name))]
+fn declared_name<C: ArgumentCounts, B: Before>(
+    alloc: Global,
+    reader: &mut Reader<'_, C, B>,
+    scope: &Path,
+    context: Context,
+    start: usize,
+    count: u8,
+    earlier: &mut Earlier,
+) -> Result<(), Refusal>
+    ensures reads { Does (seen (λ _. earlier.new) result) reader.new (kept (λ x. x.1) (declared_name scope.now context start count earlier.old)) reader.old }
+    ensures kept { OnOk result (length reader.new.rest ≤ length reader.old.rest) }
+{
+    let name = name_string(alloc, reader)?;
+    let path = declared_path(alloc, scope, context, start, &name)?;
+    declare(alloc, reader, context, &path, count, false)?;
+    earlier.path = Some(path);
+    Ok(())
+}
+
+// ---- numbers and bytes
+
+#[tactic(auto, using(crate::proofs::Scans::scanning), unfolding(aml_grammar::specs::Operands::integer_operand))]
+fn integer_operand<C: ArgumentCounts, B: Before>(
+    reader: &mut Reader<'_, C, B>,
+    width: usize,
+) -> Result<(), Refusal>
+    requires { width ≤ 8 }
+    ensures reads { Does result reader.new (scanned (integer_operand width)) reader.old }
+    ensures kept { OnOk result (length reader.new.rest ≤ length reader.old.rest) }
+    ensures memory { NotMemory result }
+{
+    reader.integer(width)?;
+    Ok(())
+}
+
+/// The flags of a Method: bits 2 to 0 are its number of arguments.
+#[tactic(auto, using(crate::proofs::Scans::scanning), unfolding(aml_grammar::specs::Operands::method_flags))]
+fn method_flags<C: ArgumentCounts, B: Before>(
+    alloc: Global,
+    reader: &mut Reader<'_, C, B>,
+    context: Context,
+    earlier: &Earlier,
+) -> Result<(), Refusal>
+    ensures reads { Does (seen (λ _. earlier.now) result) reader.new (kept (λ x. x.1) (method_flags context earlier.now)) reader.old }
+    ensures kept { OnOk result (length reader.new.rest ≤ length reader.old.rest) }
+{
+    let flags = reader.byte()?;
+    declare_earlier(alloc, reader, context, earlier, flags % 8, false)?;
+    Ok(())
+}
+
+/// The object type of an External.
+#[tactic(auto, using(crate::proofs::Scans::scanning), unfolding(aml_grammar::specs::Operands::object_type))]
+fn object_type<C: ArgumentCounts, B: Before>(
+    reader: &mut Reader<'_, C, B>,
+    earlier: &mut Earlier,
+) -> Result<(), Refusal>
+    ensures reads { Does (seen (λ _. earlier.new) result) reader.new (kept (λ x. x.1) (object_type earlier.old)) reader.old }
+    ensures kept { OnOk result (length reader.new.rest ≤ length reader.old.rest) }
+    ensures memory { NotMemory result }
+{
+    let kind = reader.byte()?;
+    earlier.count = kind;
+    Ok(())
+}
+
+/// The argument count of an External: it counts where the object type is that of a method.
+#[tactic(auto, using(crate::proofs::Scans::scanning), unfolding(aml_grammar::specs::Operands::argument_count))]
+fn argument_count<C: ArgumentCounts, B: Before>(
+    alloc: Global,
+    reader: &mut Reader<'_, C, B>,
+    context: Context,
+    earlier: &Earlier,
+) -> Result<(), Refusal>
+    ensures reads { Does (seen (λ _. earlier.now) result) reader.new (kept (λ x. x.1) (argument_count context earlier.now)) reader.old }
+    ensures kept { OnOk result (length reader.new.rest ≤ length reader.old.rest) }
+{
+    let given = reader.byte()?;
+    let count = if earlier.count == METHOD_TYPE {
+        given
+    } else {
+        0
+    };
+    declare_earlier(alloc, reader, context, earlier, count, true)?;
+    Ok(())
+}
+
+/// The text of a String.
+#[tactic(auto, using(crate::proofs::Scans::scanning), unfolding(aml_grammar::specs::Operands::text_operand))]
+fn text_operand<C: ArgumentCounts, B: Before>(reader: &mut Reader<'_, C, B>) -> Result<(), Refusal>
+    ensures reads { Does result reader.new (scanned text_operand) reader.old }
+    ensures kept { OnOk result (length reader.new.rest ≤ length reader.old.rest) }
+    ensures memory { NotMemory result }
+{
+    reader.skip_text()
+}
+
+/// The rest of a package as bytes.
+#[tactic(auto, using(crate::proofs::Scans::scanning), unfolding(aml_grammar::specs::Operands::bytes_operand))]
+fn bytes_operand<C: ArgumentCounts, B: Before>(reader: &mut Reader<'_, C, B>) -> Result<(), Refusal>
+    ensures reads { Does result reader.new (scanned bytes_operand) reader.old }
+    ensures kept { OnOk result (length reader.new.rest ≤ length reader.old.rest) }
+{
+    reader.skip_all();
+    Ok(())
+}
+
+// ---- by kind
+
+/// An operand of a kind that holds no terms.
+#[tactic(auto, using(crate::proofs::Scans::scanning), unfolding(aml_grammar::specs::Grammar::operand))]
+pub(crate) fn operand<C: ArgumentCounts, B: Before>(
+    alloc: Global,
+    reader: &mut Reader<'_, C, B>,
+    scope: &Path,
+    context: Context,
+    start: usize,
+    kind: OperandKind,
+    earlier: &mut Earlier,
+) -> Result<(), Refusal>
+    requires { holds_terms kind ≡ false }
+    ensures reads { (inner_term : Inner) → Does (seen (λ _. earlier.new) result) reader.new
+        (kept (λ x. x.1) (operand inner_term scope.now context start kind earlier.old)) reader.old }
+    ensures kept { OnOk result (length reader.new.rest ≤ length reader.old.rest) }
+{
+    match kind {
+        OperandKind::NameString => name_operand(reader),
+        OperandKind::ScopeName => scope_name(alloc, reader, scope, earlier),
+        OperandKind::AliasSource => alias_source(alloc, reader, scope, earlier),
+        OperandKind::AliasName => {
+            let count = earlier.count;
+            declared_name(alloc, reader, scope, context, start, count, earlier)
+        }
+        OperandKind::DeclaredName => declared_name(
+            alloc, reader, scope, context, start, 0, earlier,
+        ),
+        OperandKind::MethodFlags => method_flags(alloc, reader, context, earlier),
+        OperandKind::ExternalName => external_name(alloc, reader, scope, earlier),
+        OperandKind::ObjectType => object_type(reader, earlier),
+        OperandKind::ArgumentCount => argument_count(alloc, reader, context, earlier),
+        OperandKind::ByteData => integer_operand(reader, 1),
+        OperandKind::WordData => integer_operand(reader, 2),
+        OperandKind::DWordData => integer_operand(reader, 4),
+        OperandKind::QWordData => integer_operand(reader, 8),
+        OperandKind::AsciiCharList => text_operand(reader),
+        OperandKind::ByteList => bytes_operand(reader),
+        _ => Ok(()),
+    }
+}

@@ -1,0 +1,183 @@
+//! Operands that are places, and field elements, gone over (SuperName of ACPI 6.5, 20.2.2; FieldElement of 20.2.5.2).
+ghost use Rattle.std.specs.Prelude.{◌≡◌, ◌<◌, ◌≤◌, length, OnOk};
+ghost use Rattle.ar_space.specs.Change.{Does};
+ghost use Rattle.aml_grammar.specs.Grammar.{super_name, target, simple_name, connection, connect_field, field, fields, fields_operand, by_arities, term_at};
+ghost use Rattle.aml_scan.specs.Scanned.{scanned};
+
+use crate::before::Before;
+use crate::names::starts_name;
+use crate::places::{BUFFER, is_slot};
+use crate::reader::Reader;
+use crate::scan_fields::{access_field, extended_access_field, named_field, reserved_field};
+use crate::scan_operands::name_operand;
+use crate::scan_terms::term;
+use aml_grammar::{ArgumentCounts, Context, Position};
+use aml_path::Path;
+use ar_space::{NameFault, Refusal, TermFault};
+use std::alloc::Global;
+
+/// A place that is read or written: a name, a local, an argument, Debug, or a term that gives a reference.
+#[cycle(scan)]
+#[tactic(auto, using(crate::proofs::Scans::scanning), unfolding(aml_grammar::specs::Grammar::super_name))]
+pub(crate) fn super_name<C: ArgumentCounts, B: Before>(
+    alloc: Global,
+    reader: &mut Reader<'_, C, B>,
+    levels: usize,
+    scope: &Path,
+    context: Context,
+) -> Result<(), Refusal>
+    ensures reads { Does result reader.new (scanned (super_name (term_at by_arities levels) scope.now context)) reader.old }
+    ensures kept { OnOk result (length reader.new.rest ≤ length reader.old.rest) }
+{
+    let next = reader.peek()?;
+    if next == 0 {
+        Err(Refusal::Name(NameFault::BadName))
+    } else if starts_name(next) {
+        name_operand(reader)
+    } else {
+        term(alloc, reader, levels, Position::SuperName, scope, context)
+    }
+}
+
+/// A place that a result is stored to, or none.
+#[cycle(scan)]
+#[tactic(auto, using(crate::proofs::Scans::scanning), unfolding(aml_grammar::specs::Grammar::target))]
+pub(crate) fn target<C: ArgumentCounts, B: Before>(
+    alloc: Global,
+    reader: &mut Reader<'_, C, B>,
+    levels: usize,
+    scope: &Path,
+    context: Context,
+) -> Result<(), Refusal>
+    ensures reads { Does result reader.new (scanned (target (term_at by_arities levels) scope.now context)) reader.old }
+    ensures kept { OnOk result (length reader.new.rest ≤ length reader.old.rest) }
+{
+    let next = reader.peek()?;
+    if next == 0 {
+        reader.byte()?;
+        Ok(())
+    } else {
+        super_name(alloc, reader, levels, scope, context)
+    }
+}
+
+/// A name, a local or an argument.
+#[cycle(scan)]
+#[tactic(auto, using(crate::proofs::Scans::scanning), unfolding(aml_grammar::specs::Grammar::simple_name))]
+pub(crate) fn simple_name<C: ArgumentCounts, B: Before>(
+    alloc: Global,
+    reader: &mut Reader<'_, C, B>,
+    levels: usize,
+    scope: &Path,
+    context: Context,
+) -> Result<(), Refusal>
+    ensures reads { Does result reader.new (scanned (simple_name (term_at by_arities levels) scope.now context)) reader.old }
+    ensures kept { OnOk result (length reader.new.rest ≤ length reader.old.rest) }
+{
+    let here = reader.at();
+    let next = reader.peek()?;
+    if next == 0 || starts_name(next) || is_slot(next) {
+        super_name(alloc, reader, levels, scope, context)
+    } else {
+        Err(Refusal::Term(TermFault::BadOpcode, here))
+    }
+}
+
+/// What the elements after it are connected to: a name or a Buffer.
+#[cycle(scan)]
+#[tactic(auto, using(crate::proofs::Scans::scanning), unfolding(aml_grammar::specs::Grammar::connection))]
+fn connection<C: ArgumentCounts, B: Before>(
+    alloc: Global,
+    reader: &mut Reader<'_, C, B>,
+    levels: usize,
+    scope: &Path,
+    context: Context,
+) -> Result<(), Refusal>
+    ensures reads { Does result reader.new (scanned (connection (term_at by_arities levels) scope.now context)) reader.old }
+    ensures kept { OnOk result (length reader.new.rest ≤ length reader.old.rest) }
+{
+    let next = reader.peek()?;
+    if starts_name(next) {
+        name_operand(reader)
+    } else if next == BUFFER {
+        term(alloc, reader, levels, Position::DataObject, scope, context)
+    } else {
+        Err(Refusal::Name(NameFault::BadName))
+    }
+}
+
+#[cycle(scan)]
+#[tactic(auto, using(crate::proofs::Scans::scanning), unfolding(aml_grammar::specs::Grammar::connect_field))]
+fn connect_field<C: ArgumentCounts, B: Before>(
+    alloc: Global,
+    reader: &mut Reader<'_, C, B>,
+    levels: usize,
+    scope: &Path,
+    context: Context,
+) -> Result<(), Refusal>
+    ensures reads { Does result reader.new (scanned (connect_field (term_at by_arities levels) scope.now context)) reader.old }
+    ensures shorter { OnOk result (length reader.new.rest < length reader.old.rest) }
+{
+    reader.byte()?;
+    connection(alloc, reader, levels, scope, context)
+}
+
+#[cycle(scan)]
+#[tactic(auto, using(crate::proofs::Scans::scanning), unfolding(aml_grammar::specs::Grammar::field))]
+fn field<C: ArgumentCounts, B: Before>(
+    alloc: Global,
+    reader: &mut Reader<'_, C, B>,
+    levels: usize,
+    scope: &Path,
+    context: Context,
+) -> Result<(), Refusal>
+    ensures reads { Does result reader.new (scanned (field (term_at by_arities levels) scope.now context)) reader.old }
+    ensures shorter { OnOk result (length reader.new.rest < length reader.old.rest) }
+{
+    let next = reader.peek()?;
+    if next == 0 {
+        reserved_field(reader)
+    } else if next == 1 {
+        access_field(reader)
+    } else if next == 2 {
+        connect_field(alloc, reader, levels, scope, context)
+    } else if next == 3 {
+        extended_access_field(reader)
+    } else {
+        named_field(alloc, reader, scope, context)
+    }
+}
+
+/// Field elements until nothing is left.
+#[cycle(scan)]
+fn fields<C: ArgumentCounts, B: Before>(
+    alloc: Global,
+    reader: &mut Reader<'_, C, B>,
+    levels: usize,
+    scope: &Path,
+    context: Context,
+) -> Result<(), Refusal>
+    ensures reads { Does result reader.new (scanned (fields (term_at by_arities levels) scope.now context)) reader.old }
+    ensures kept { OnOk result (length reader.new.rest ≤ length reader.old.rest) }
+{
+    'fields: while !reader.is_empty() {
+        field(alloc, reader, levels, scope, context)?;
+    }
+    Ok(())
+}
+
+/// The rest of a package as field elements.
+#[cycle(scan)]
+#[tactic(auto, using(crate::proofs::Scans::scanning), unfolding(aml_grammar::specs::Grammar::fields_operand))]
+pub(crate) fn fields_operand<C: ArgumentCounts, B: Before>(
+    alloc: Global,
+    reader: &mut Reader<'_, C, B>,
+    levels: usize,
+    scope: &Path,
+    context: Context,
+) -> Result<(), Refusal>
+    ensures reads { Does result reader.new (scanned (fields_operand (term_at by_arities levels) scope.now context)) reader.old }
+    ensures kept { OnOk result (length reader.new.rest ≤ length reader.old.rest) }
+{
+    fields(alloc, reader, levels, scope, context)
+}

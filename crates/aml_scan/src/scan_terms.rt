@@ -1,0 +1,402 @@
+//! Terms, one inside another, gone over without a tree (TermObj of ACPI 6.5, 20.2.5).
+ghost use Rattle.std.specs.Prelude.{◌≡◌, ◌<◌, ◌≤◌, length, OnOk, true};
+ghost use Rattle.ar_space.specs.Outcome.{NotMemory, seen};
+ghost use Rattle.ar_space.specs.Change.{Does};
+ghost use Rattle.aml_grammar.specs.State.{times};
+ghost use Rattle.aml_grammar.specs.Grammar.{named, named_term, element_name, invocation, coded_term, row_term, row_operands, packed, operands, operand, list_operand, items, by_arities, term_at, below, nothing_earlier, scope_of};
+ghost use Rattle.aml_grammar.specs.declared.context.Position.TheVariants as positions;
+ghost use Rattle.aml_scan.specs.Scanned.{kept, scanned, has_no_operands};
+
+use crate::before::Before;
+use crate::names::{name_string, starts_name};
+use crate::positions::{
+    argument_number, at_item, costs_no_level, in_loop, is_if, is_nothing, item_of, row_at,
+    takes_name,
+};
+use crate::reader::Reader;
+use crate::scan_if_else::if_term;
+use crate::scan_names::skip_name;
+use crate::scan_operands as leaf;
+use crate::scan_places::{fields_operand, simple_name, super_name, target};
+use aml_grammar::{ArgumentCounts, Context, Earlier, OperandKind, Position, Row};
+use aml_path::Path;
+use ar_space::{Refusal, TermFault};
+use std::alloc::Global;
+
+/// A term, with at most this many levels below it.
+#[cycle(scan)]
+#[tactic(auto, using(crate::proofs::Scans::scanning), unfolding(aml_grammar::specs::Grammar::term_at, aml_grammar::specs::Grammar::term_in))]
+pub(crate) fn term<C: ArgumentCounts, B: Before>(
+    alloc: Global,
+    reader: &mut Reader<'_, C, B>,
+    levels: usize,
+    position: Position,
+    scope: &Path,
+    context: Context,
+) -> Result<(), Refusal>
+    ensures reads { Does result reader.new (scanned (term_at by_arities levels position scope.now context)) reader.old }
+    ensures shorter { OnOk result (length reader.new.rest < length reader.old.rest) }
+{
+    let start = reader.at();
+    let next = reader.peek()?;
+    let inside = at_item(context, start);
+    if starts_name(next) {
+        named(alloc, reader, levels, position, scope, inside, start)
+    } else {
+        coded_term(alloc, reader, levels, position, scope, inside, start)
+    }
+}
+
+/// A term that begins with a name.
+#[cycle(scan)]
+#[tactic(auto, using(crate::proofs::Scans::scanning), unfolding(aml_grammar::specs::Grammar::named))]
+fn named<C: ArgumentCounts, B: Before>(
+    alloc: Global,
+    reader: &mut Reader<'_, C, B>,
+    levels: usize,
+    position: Position,
+    scope: &Path,
+    context: Context,
+    start: usize,
+) -> Result<(), Refusal>
+    ensures reads { Does result reader.new (scanned (named by_arities (below by_arities levels) position scope.now context start)) reader.old }
+    ensures shorter { OnOk result (length reader.new.rest < length reader.old.rest) }
+{
+    if !takes_name(position) {
+        return Err(Refusal::Term(TermFault::BadOpcode, start));
+    }
+    if levels == 0 {
+        return Err(Refusal::Term(TermFault::TooDeep, item_of(context.item, start)));
+    }
+    named_term(alloc, reader, levels - 1, position, scope, context, start)
+}
+
+#[cycle(scan)]
+#[tactic(auto, using(crate::proofs::Scans::scanning))]
+fn named_term<C: ArgumentCounts, B: Before>(
+    alloc: Global,
+    reader: &mut Reader<'_, C, B>,
+    levels: usize,
+    position: Position,
+    scope: &Path,
+    context: Context,
+    start: usize,
+) -> Result<(), Refusal>
+    ensures reads { Does result reader.new (scanned (named_term by_arities (term_at by_arities levels) position scope.now context start)) reader.old }
+    ensures shorter { OnOk result (length reader.new.rest < length reader.old.rest) }
+{
+    match position {
+        Position::PackageElement => element_name(reader),
+        _ => invocation(alloc, reader, levels, scope, context, start),
+    }
+}
+
+/// An element of a package that is a name.
+#[tactic(auto, using(crate::proofs::Scans::scanning), unfolding(aml_grammar::specs::Grammar::element_name))]
+fn element_name<C: ArgumentCounts, B: Before>(reader: &mut Reader<'_, C, B>) -> Result<(), Refusal>
+    ensures reads { Does result reader.new (scanned element_name) reader.old }
+    ensures shorter { OnOk result (length reader.new.rest < length reader.old.rest) }
+    ensures memory { NotMemory result }
+{
+    skip_name(reader)
+}
+
+/// A name and as many terms as it takes arguments.
+#[cycle(scan)]
+#[tactic(auto, using(crate::proofs::Scans::scanning), unfolding(aml_grammar::specs::Grammar::invocation))]
+fn invocation<C: ArgumentCounts, B: Before>(
+    alloc: Global,
+    reader: &mut Reader<'_, C, B>,
+    levels: usize,
+    scope: &Path,
+    context: Context,
+    start: usize,
+) -> Result<(), Refusal>
+    ensures reads { Does result reader.new (scanned (invocation by_arities (term_at by_arities levels) scope.now context start)) reader.old }
+    ensures shorter { OnOk result (length reader.new.rest < length reader.old.rest) }
+{
+    let name = name_string(alloc, reader)?;
+    let path = name.resolve_in(alloc, scope)?;
+    let count = argument_number(alloc, reader, start, scope, &name, &path)?;
+    arguments(alloc, reader, levels, scope, context, count)
+}
+
+#[cycle(scan)]
+fn arguments<C: ArgumentCounts, B: Before>(
+    alloc: Global,
+    reader: &mut Reader<'_, C, B>,
+    levels: usize,
+    scope: &Path,
+    context: Context,
+    count: u8,
+) -> Result<(), Refusal>
+    ensures reads { Does result reader.new (scanned (times (term_at by_arities levels positions.TermArg scope.now context) count)) reader.old }
+    ensures kept { OnOk result (length reader.new.rest ≤ length reader.old.rest) }
+{
+    'arguments: for _ in 0..count {
+        term(alloc, reader, levels, Position::TermArg, scope, context)?;
+    }
+    Ok(())
+}
+
+/// A term that begins with an opcode.
+#[cycle(scan)]
+#[tactic(auto, using(crate::proofs::Scans::scanning), unfolding(aml_grammar::specs::Grammar::coded_term))]
+fn coded_term<C: ArgumentCounts, B: Before>(
+    alloc: Global,
+    reader: &mut Reader<'_, C, B>,
+    levels: usize,
+    position: Position,
+    scope: &Path,
+    context: Context,
+    start: usize,
+) -> Result<(), Refusal>
+    ensures reads { Does result reader.new (scanned (coded_term (below by_arities levels) position scope.now context start)) reader.old }
+    ensures shorter { OnOk result (length reader.new.rest < length reader.old.rest) }
+{
+    let row = row_at(reader, position, context, start)?;
+    if costs_no_level(row.1, position) {
+        return Ok(());
+    }
+    if levels == 0 {
+        return Err(Refusal::Term(TermFault::TooDeep, item_of(context.item, start)));
+    }
+    row_term(alloc, reader, levels - 1, scope, context, start, row)
+}
+
+#[cycle(scan)]
+#[tactic(auto, using(crate::proofs::Scans::scanning), unfolding(aml_grammar::specs::Grammar::row_term, aml_grammar::specs::Grammar::plain_term))]
+fn row_term<C: ArgumentCounts, B: Before>(
+    alloc: Global,
+    reader: &mut Reader<'_, C, B>,
+    levels: usize,
+    scope: &Path,
+    context: Context,
+    start: usize,
+    row: Row,
+) -> Result<(), Refusal>
+    ensures reads { Does result reader.new (scanned (row_term (term_at by_arities levels) scope.now context start row)) reader.old }
+    ensures kept { OnOk result (length reader.new.rest ≤ length reader.old.rest) }
+{
+    if is_if(row.0) {
+        if_term(alloc, reader, levels, scope, context, start, row)
+    } else {
+        row_operands(alloc, reader, levels, scope, context, start, row)
+    }
+}
+
+/// Whether a row has no operand, as those of constants and locals.
+#[tactic(auto, unfolding(crate::specs::Scanned::has_no_operands))]
+fn has_no_operands(row: &Row) -> bool
+    ensures { result ≡ has_no_operands row.now }
+{
+    !row.2 && is_nothing(row.3.0)
+}
+
+/// The operands of a row of the table.
+#[cycle(scan)]
+#[tactic(auto, using(crate::proofs::Scans::scanning, crate::proofs::Rows::kept_none))]
+pub(crate) fn row_operands<C: ArgumentCounts, B: Before>(
+    alloc: Global,
+    reader: &mut Reader<'_, C, B>,
+    levels: usize,
+    scope: &Path,
+    context: Context,
+    start: usize,
+    row: Row,
+) -> Result<(), Refusal>
+    ensures reads { Does result reader.new (scanned (row_operands (term_at by_arities levels) scope.now context start row)) reader.old }
+    ensures kept { OnOk result (length reader.new.rest ≤ length reader.old.rest) }
+{
+    if has_no_operands(&row) {
+        return Ok(());
+    }
+    let kinds = [row.3.0, row.3.1, row.3.2, row.3.3, row.3.4, row.3.5];
+    if row.2 {
+        packed_operands(alloc, reader, levels, scope, context, start, &kinds)
+    } else {
+        operands(alloc, reader, levels, scope, context, start, &kinds)
+    }
+}
+
+/// Operands in a package.
+#[cycle(scan)]
+#[tactic(auto, using(crate::proofs::Scans::scanning))]
+fn packed_operands<C: ArgumentCounts, B: Before>(
+    alloc: Global,
+    reader: &mut Reader<'_, C, B>,
+    levels: usize,
+    scope: &Path,
+    context: Context,
+    start: usize,
+    kinds: &[OperandKind],
+) -> Result<(), Refusal>
+    ensures reads { Does result reader.new (scanned (packed true (operands (term_at by_arities levels) scope.now context start kinds.now nothing_earlier))) reader.old }
+    ensures kept { OnOk result (length reader.new.rest ≤ length reader.old.rest) }
+{
+    let outer = reader.enter()?;
+    operands(alloc, reader, levels, scope, context, start, kinds)?;
+    reader.leave(outer);
+    Ok(())
+}
+
+#[cycle(scan)]
+fn operands<C: ArgumentCounts, B: Before>(
+    alloc: Global,
+    reader: &mut Reader<'_, C, B>,
+    levels: usize,
+    scope: &Path,
+    context: Context,
+    start: usize,
+    kinds: &[OperandKind],
+) -> Result<(), Refusal>
+    ensures reads { Does result reader.new (scanned (operands (term_at by_arities levels) scope.now context start kinds.now nothing_earlier)) reader.old }
+    ensures kept { OnOk result (length reader.new.rest ≤ length reader.old.rest) }
+{
+    let mut earlier = Earlier {
+        path: None,
+        count: 0,
+    };
+    'operands: for kind in kinds {
+        if is_nothing(*kind) {
+            return Ok(());
+        }
+        operand(
+            alloc,
+            reader,
+            levels,
+            scope,
+            context,
+            start,
+            *kind,
+            &mut earlier,
+        )?;
+    }
+    Ok(())
+}
+
+/// An operand, and in `earlier` what it leaves for later ones.
+#[cycle(scan)]
+#[tactic(auto, using(crate::proofs::Scans::scanning), unfolding(aml_grammar::specs::Grammar::operand))]
+fn operand<C: ArgumentCounts, B: Before>(
+    alloc: Global,
+    reader: &mut Reader<'_, C, B>,
+    levels: usize,
+    scope: &Path,
+    context: Context,
+    start: usize,
+    kind: OperandKind,
+    earlier: &mut Earlier,
+) -> Result<(), Refusal>
+    ensures reads { Does (seen (λ _. earlier.new) result) reader.new
+        (kept (λ x. x.1) (operand (term_at by_arities levels) scope.now context start kind earlier.old)) reader.old }
+    ensures kept { OnOk result (length reader.new.rest ≤ length reader.old.rest) }
+{
+    match kind {
+        OperandKind::TermArg => term(alloc, reader, levels, Position::TermArg, scope, context),
+        OperandKind::DataObject => {
+            term(alloc, reader, levels, Position::DataObject, scope, context)
+        }
+        OperandKind::SuperName => super_name(alloc, reader, levels, scope, context),
+        OperandKind::Target => target(alloc, reader, levels, scope, context),
+        OperandKind::SimpleName => simple_name(alloc, reader, levels, scope, context),
+        OperandKind::TermList => term_list(alloc, reader, levels, scope, earlier, context),
+        OperandKind::LoopTermList => {
+            term_list(alloc, reader, levels, scope, earlier, in_loop(context))
+        }
+        OperandKind::PackageElementList => {
+            element_list(alloc, reader, levels, scope, earlier, context)
+        }
+        OperandKind::FieldList => fields_operand(alloc, reader, levels, scope, context),
+        _ => leaf::operand(alloc, reader, scope, context, start, kind, earlier),
+    }
+}
+
+/// The terms of a term, under the path of its name where it has one.
+#[cycle(scan)]
+#[tactic(auto, using(crate::proofs::Scans::scanning))]
+fn term_list<C: ArgumentCounts, B: Before>(
+    alloc: Global,
+    reader: &mut Reader<'_, C, B>,
+    levels: usize,
+    scope: &Path,
+    earlier: &Earlier,
+    context: Context,
+) -> Result<(), Refusal>
+    ensures reads { Does result reader.new (scanned (list_operand (term_at by_arities levels) positions.ListItem (scope_of scope.now earlier.now.path) context)) reader.old }
+    ensures kept { OnOk result (length reader.new.rest ≤ length reader.old.rest) }
+{
+    match &earlier.path {
+        None => list_operand(alloc, reader, levels, Position::ListItem, scope, context),
+        Some(path) => list_operand(alloc, reader, levels, Position::ListItem, path, context),
+    }
+}
+
+/// The elements of a package.
+#[cycle(scan)]
+#[tactic(auto, using(crate::proofs::Scans::scanning))]
+fn element_list<C: ArgumentCounts, B: Before>(
+    alloc: Global,
+    reader: &mut Reader<'_, C, B>,
+    levels: usize,
+    scope: &Path,
+    earlier: &Earlier,
+    context: Context,
+) -> Result<(), Refusal>
+    ensures reads { Does result reader.new (scanned (list_operand (term_at by_arities levels) positions.PackageElement (scope_of scope.now earlier.now.path) context)) reader.old }
+    ensures kept { OnOk result (length reader.new.rest ≤ length reader.old.rest) }
+{
+    match &earlier.path {
+        None => list_operand(
+            alloc,
+            reader,
+            levels,
+            Position::PackageElement,
+            scope,
+            context,
+        ),
+        Some(path) => list_operand(
+            alloc,
+            reader,
+            levels,
+            Position::PackageElement,
+            path,
+            context,
+        ),
+    }
+}
+
+#[cycle(scan)]
+#[tactic(auto, using(crate::proofs::Scans::scanning), unfolding(aml_grammar::specs::Grammar::list_operand))]
+pub(crate) fn list_operand<C: ArgumentCounts, B: Before>(
+    alloc: Global,
+    reader: &mut Reader<'_, C, B>,
+    levels: usize,
+    position: Position,
+    scope: &Path,
+    context: Context,
+) -> Result<(), Refusal>
+    ensures reads { Does result reader.new (scanned (list_operand (term_at by_arities levels) position scope.now context)) reader.old }
+    ensures kept { OnOk result (length reader.new.rest ≤ length reader.old.rest) }
+{
+    items(alloc, reader, levels, position, scope, context)
+}
+
+/// Terms until nothing is left.
+#[cycle(scan)]
+pub(crate) fn items<C: ArgumentCounts, B: Before>(
+    alloc: Global,
+    reader: &mut Reader<'_, C, B>,
+    levels: usize,
+    position: Position,
+    scope: &Path,
+    context: Context,
+) -> Result<(), Refusal>
+    ensures reads { Does result reader.new (scanned (items (term_at by_arities levels) position scope.now context)) reader.old }
+    ensures kept { OnOk result (length reader.new.rest ≤ length reader.old.rest) }
+{
+    'items: while !reader.is_empty() {
+        term(alloc, reader, levels, position, scope, context)?;
+    }
+    Ok(())
+}

@@ -1,5 +1,0 @@
-use Rattle.aml_terms.proofs.SpelledTerms.{list_spelled, table_spelled}
-use Rattle.aml_terms.proofs.parse.read_as_spelled.Goals as goal
-
-pub returns : goal.returns
-returns c = record { list = list_spelled; table = table_spelled }

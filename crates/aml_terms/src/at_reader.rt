@@ -1,0 +1,169 @@
+//! A reader of terms that stands in lent bytes.
+ghost use Rattle.std.specs.Prelude.{◌≡◌, ◌-◌, ℕ, option_map, Some};
+ghost use Rattle.aml_grammar.specs.Apart.{code_of, first_of, operand_of};
+ghost use Rattle.aml_marked.specs.Marked.{Below, Place, count_at, a_term, a_field, with_row, lent_of};
+ghost use Rattle.aml_terms.specs.AtTree.{at_tree, at_list, behind_of, list_of, place_at};
+
+use crate::at::{At, Kind};
+use crate::cursor::Cursor;
+use crate::lent::{lent_here, name_here, view};
+use crate::operands::to_part;
+use crate::places::{behind, cursor_of, standing, term_at};
+use crate::skip::opcode;
+use aml_grammar::{Item, Opcode, OperandView, Row, TermCode, TermReader};
+use aml_path::NameString;
+use aml_scan::{row_of, starts_name};
+use ar_space::{NameFault, Refusal};
+use std::alloc::Global;
+
+/// The code of a term.
+#[tactic(auto, using(aml_marked::specs::Walking::walking), unfolding(aml_marked::specs::Marked::a_name, aml_marked::specs::Marked::a_call, aml_marked::specs::Marked::with_row, aml_marked::specs::Marked::a_coded, aml_marked::specs::Marked::a_term_in, aml_marked::specs::Marked::after, aml_marked::specs::Marked::gives))]
+fn code_at(cursor: &mut Cursor<'_>, levels: u8, element: bool) -> TermCode
+    ensures { (count : ℕ → ℕ) → result ≡ code_of (a_term count levels element cursor.old).0 }
+{
+    if levels == 0 {
+        return TermCode::Name;
+    }
+    if starts_name(cursor.first()) {
+        if element {
+            TermCode::Name
+        } else {
+            TermCode::MethodInvocation
+        }
+    } else {
+        match row_of(opcode(cursor)) {
+            None => TermCode::Name,
+            Some(row) => TermCode::Opcode(row.0),
+        }
+    }
+}
+
+/// The code of a term whose opcode was read.
+#[tactic(auto, unfolding(aml_marked::specs::Marked::with_row, aml_marked::specs::Marked::after, aml_marked::specs::Marked::gives))]
+fn row_code(row: Row) -> TermCode
+    ensures { (below : Below) → (p : Place) → result ≡ code_of (with_row below (Some row) p).0 }
+{
+    TermCode::Opcode(row.0)
+}
+
+/// The code of a field element.
+#[tactic(auto, unfolding(aml_marked::specs::Marked::a_field, aml_marked::specs::Marked::a_reserved_field, aml_marked::specs::Marked::an_access_field, aml_marked::specs::Marked::an_extended_access_field, aml_marked::specs::Marked::a_connect_field, aml_marked::specs::Marked::a_named_field, aml_marked::specs::Marked::after, aml_marked::specs::Marked::gives))]
+fn field_code(cursor: &Cursor<'_>) -> TermCode
+    ensures { (below : Below) → result ≡ code_of (a_field below cursor.now).0 }
+{
+    match cursor.first() {
+        0 => TermCode::ReservedField,
+        1 => TermCode::AccessField,
+        2 => TermCode::ConnectField,
+        3 => TermCode::ExtendedAccessField,
+        _ => TermCode::NamedField,
+    }
+}
+
+/// The term, or the element of a package, that is left first.
+fn term_of<'a>(part: &At<'a>, element: bool) -> At<'a>
+    ensures marks { result.marks.now ≡ part.now.marks.now }
+    ensures tree { at_tree result ≡ (a_term (count_at part.now.marks.now) part.now.levels element (place_at part.now)).0 }
+    ensures behind { behind_of result.kind (count_at part.now.marks.now) result.levels (place_at result) ≡ (a_term (count_at part.now.marks.now) part.now.levels element (place_at part.now)).1 }
+{
+    term_at(&cursor_of(part), part.marks, part.levels, element)
+}
+
+/// The field element that is left first.
+fn field_of<'a>(part: &At<'a>) -> At<'a>
+    ensures marks { result.marks.now ≡ part.now.marks.now }
+    ensures tree { at_tree result ≡ (a_field (a_term (count_at part.now.marks.now) part.now.levels) (place_at part.now)).0 }
+    ensures behind { behind_of result.kind (count_at part.now.marks.now) result.levels (place_at result) ≡ (a_field (a_term (count_at part.now.marks.now) part.now.levels) (place_at part.now)).1 }
+{
+    standing(&cursor_of(part), part.marks, part.levels, 0, Kind::Field)
+}
+
+/// What stands first, and what is left behind it, which has one turn fewer.
+fn parted<'a>(part: &At<'a>, first: At<'a>) -> Item<At<'a>>
+    requires { first.marks.now ≡ part.now.marks.now }
+    ensures first { at_tree result.first ≡ at_tree first.entry }
+    ensures rest { at_list result.rest ≡ list_of part.now.kind (count_at part.now.marks.now) part.now.levels (part.now.turns - 1) (behind_of first.entry.kind (count_at part.now.marks.now) first.entry.levels (place_at first.entry)) }
+{
+    let rest = standing(
+        &behind(&first),
+        part.marks,
+        part.levels,
+        part.turns.saturating_sub(1),
+        part.kind,
+    );
+    Item { first, rest }
+}
+
+/// The first item of what stands there, and the others.
+#[tactic(auto, using(aml_marked::specs::Walking::walking))]
+fn next_of<'a>(part: At<'a>) -> Option<Item<At<'a>>>
+    ensures { at_list part.entry ≡ first_of at_tree at_list result }
+{
+    let is_over = part.turns == 0 || part.rest.is_empty();
+    match part.kind {
+        Kind::Items if !is_over => Some(parted(&part, term_of(&part, false))),
+        Kind::Elements if !is_over => Some(parted(&part, term_of(&part, true))),
+        Kind::Fields if !is_over => Some(parted(&part, field_of(&part))),
+        Kind::Arguments if part.turns > 0 => Some(parted(&part, term_of(&part, false))),
+        _ => None,
+    }
+}
+
+impl<'a> TermReader for At<'a> {
+    ghost use Rattle.aml_terms.specs.AtTree.{at_tree, at_list};
+
+    ghost tree = { at_tree };
+
+    ghost list = { at_list };
+
+    #[tactic(auto, unfolding(aml_marked::specs::Marked::an_else, aml_marked::specs::Marked::after, aml_marked::specs::Marked::gives))]
+    fn code(self) -> TermCode {
+        let mut cursor = cursor_of(&self);
+        match self.kind {
+            Kind::Coded(row) => row_code(row),
+            Kind::Term => code_at(&mut cursor, self.levels, false),
+            Kind::Element => code_at(&mut cursor, self.levels, true),
+            Kind::Else => TermCode::Opcode(Opcode::Else),
+            Kind::Field => field_code(&cursor),
+            Kind::Items | Kind::Elements | Kind::Arguments | Kind::Fields => TermCode::Name,
+        }
+    }
+
+    fn operand(self, index: usize) -> OperandView<At<'a>> {
+        let mut cursor = cursor_of(&self);
+        match to_part(&self, &mut cursor, index) {
+            Some(spot) => view(&cursor, self.marks, spot),
+            None => OperandView::Absent,
+        }
+    }
+
+    fn name(self, alloc: Global, index: usize) -> Result<NameString, Refusal> {
+        let mut cursor = cursor_of(&self);
+        match to_part(&self, &mut cursor, index) {
+            Some(spot) => name_here(alloc, &cursor, spot),
+            None => Err(Refusal::Name(NameFault::BadName)),
+        }
+    }
+
+    fn bytes(self, alloc: Global, index: usize) -> Result<Vec<u8>, Refusal> {
+        match lent_bytes(self, index) {
+            Some(bytes) => Ok(Vec::from_slice(alloc, bytes)?),
+            None => Err(Refusal::Name(NameFault::BadName)),
+        }
+    }
+
+    fn next(self) -> Option<Item<At<'a>>> {
+        next_of(self)
+    }
+}
+
+/// The bytes that are an operand of what stands there, lent.
+pub fn lent_bytes<'a>(part: At<'a>, index: usize) -> Option<&'a [u8]>
+    ensures { option_map (λ b. b.now) result ≡ lent_of (operand_of (at_tree part.entry) index) }
+{
+    let mut cursor = cursor_of(&part);
+    match to_part(&part, &mut cursor, index) {
+        Some(spot) => lent_here(&cursor, spot),
+        None => None,
+    }
+}

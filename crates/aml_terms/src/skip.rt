@@ -1,0 +1,274 @@
+//! Goes over terms by their marks. It takes no memory and refuses nothing.
+ghost use Rattle.std.specs.Prelude.{◌≡◌, Some, false};
+ghost use Rattle.aml_grammar.specs.Grammar.{is_if, is_nothing};
+ghost use Rattle.aml_marked.specs.Marked.{count_at, a_term, a_call, a_coded, an_opcode, with_row, of_row, all_operands, an_operand, name_or_term, turns_of, maybe_else, an_else, target_of, a_target, a_super_name, all_items, fields_left, a_field, to_end, first, Below};
+
+use crate::cursor::Cursor;
+use crate::marks::Marks;
+use aml_grammar::{Opcode, OperandKind, Row};
+use aml_scan::{row_of, starts_name};
+
+pub(crate) const EXT_OP_PREFIX: u8 = 0x5B;
+
+pub(crate) const ELSE: u8 = 0xA1;
+
+/// Whether an Else may follow a term with this opcode.
+pub(crate) fn is_if(opcode: Opcode) -> bool
+    ensures { result ≡ is_if opcode }
+{
+    matches!(opcode, Opcode::If)
+}
+
+/// Whether a term has no operand of this kind, nor any behind it.
+pub(crate) fn is_nothing(kind: OperandKind) -> bool
+    ensures { result ≡ is_nothing kind }
+{
+    matches!(kind, OperandKind::Nothing)
+}
+
+/// Goes over a term, with at most this many levels.
+#[cycle(skip)]
+#[tactic(auto, using(aml_marked::specs::Walking::walking), unfolding(aml_marked::specs::Marked::a_name, aml_marked::specs::Marked::a_term_in, aml_marked::specs::Marked::after, aml_marked::specs::Marked::gives))]
+pub(crate) fn skip_term(cursor: &mut Cursor<'_>, marks: &Marks, levels: u8, element: bool)
+    ensures { cursor.new ≡ (a_term (count_at marks.now) levels element cursor.old).1 }
+{
+    if levels == 0 {
+        return;
+    }
+    if !starts_name(cursor.first()) {
+        skip_coded(cursor, marks, levels - 1);
+    } else if element {
+        cursor.over_name();
+    } else {
+        skip_call(cursor, marks, levels - 1);
+    }
+}
+
+/// Goes over a call: a name and its arguments.
+#[cycle(skip)]
+#[tactic(auto, using(aml_marked::specs::Walking::walking), unfolding(aml_marked::specs::Marked::a_call, aml_marked::specs::Marked::after, aml_marked::specs::Marked::gives, aml_marked::specs::Marked::a_name))]
+fn skip_call(cursor: &mut Cursor<'_>, marks: &Marks, levels: u8)
+    ensures { cursor.new ≡ (a_call (a_term (count_at marks.now) levels) (count_at marks.now) cursor.old).1 }
+{
+    let count = marks.count_at(cursor.at());
+    cursor.over_name();
+    skip_arguments(cursor, marks, levels, usize::from(count));
+}
+
+#[cycle(skip)]
+#[tactic(auto, using(aml_marked::specs::Walking::walking))]
+fn skip_arguments(cursor: &mut Cursor<'_>, marks: &Marks, levels: u8, count: usize)
+    ensures { cursor.new ≡ (turns_of (a_term (count_at marks.now) levels false) count cursor.old).1 }
+{
+    let mut left = count;
+    'arguments: while left > 0 {
+        skip_term(cursor, marks, levels, false);
+        left -= 1;
+    }
+}
+
+/// Goes over the number of an opcode: one byte, or two after ExtOpPrefix.
+#[tactic(auto, unfolding(aml_marked::specs::Marked::an_opcode, aml_marked::specs::Marked::after, aml_marked::specs::Marked::gives))]
+pub(crate) fn opcode(cursor: &mut Cursor<'_>) -> u16
+    ensures value { result ≡ (an_opcode cursor.old).0 }
+    ensures after { cursor.new ≡ (an_opcode cursor.old).1 }
+{
+    let first = cursor.first();
+    cursor.over(1);
+    if first == EXT_OP_PREFIX {
+        let second = cursor.first();
+        cursor.over(1);
+        0x5B00 + u16::from(second)
+    } else {
+        u16::from(first)
+    }
+}
+
+/// Goes over a term that begins with an opcode.
+#[cycle(skip)]
+#[tactic(auto, using(aml_marked::specs::Walking::walking), unfolding(aml_marked::specs::Marked::with_row, aml_marked::specs::Marked::a_coded, aml_marked::specs::Marked::after, aml_marked::specs::Marked::gives))]
+fn skip_coded(cursor: &mut Cursor<'_>, marks: &Marks, levels: u8)
+    ensures { cursor.new ≡ (a_coded (a_term (count_at marks.now) levels) cursor.old).1 }
+{
+    let number = opcode(cursor);
+    match row_of(number) {
+        None => (),
+        Some(row) => skip_row_term(cursor, marks, levels, row),
+    }
+}
+
+/// Goes over the operands of a term, and over the Else that may follow an If.
+#[cycle(skip)]
+#[tactic(auto, using(aml_marked::specs::Walking::walking), unfolding(aml_marked::specs::Marked::with_row, aml_marked::specs::Marked::after, aml_marked::specs::Marked::gives))]
+pub(crate) fn skip_row_term(cursor: &mut Cursor<'_>, marks: &Marks, levels: u8, row: Row)
+    ensures { cursor.new ≡ (with_row (a_term (count_at marks.now) levels) (Some row) cursor.old).1 }
+{
+    skip_row(cursor, marks, levels, row);
+    if is_if(row.0) {
+        skip_else(cursor);
+    }
+}
+
+/// Goes over the operands of a row: over a package at once.
+#[cycle(skip)]
+#[tactic(auto, using(aml_marked::specs::Walking::walking), unfolding(aml_marked::specs::Marked::of_row, aml_marked::specs::Marked::inside, aml_marked::specs::Marked::all_operands, aml_marked::specs::Marked::gives))]
+pub(crate) fn skip_row(cursor: &mut Cursor<'_>, marks: &Marks, levels: u8, row: Row)
+    ensures { cursor.new ≡ (of_row (a_term (count_at marks.now) levels) row cursor.old).1 }
+{
+    if row.2 {
+        let outer = cursor.open();
+        *cursor = outer;
+    } else if !is_nothing(row.3.0) {
+        let kinds = [row.3.0, row.3.1, row.3.2, row.3.3, row.3.4, row.3.5];
+        skip_operands(cursor, marks, levels, &kinds);
+    }
+}
+
+#[cycle(skip)]
+#[tactic(auto, using(aml_marked::specs::Walking::walking), unfolding(aml_marked::specs::Marked::all_operands, aml_marked::specs::Marked::after, aml_marked::specs::Marked::gives))]
+fn skip_operands(cursor: &mut Cursor<'_>, marks: &Marks, levels: u8, kinds: &[OperandKind])
+    ensures { cursor.new ≡ (all_operands (a_term (count_at marks.now) levels) kinds.now cursor.old).1 }
+{
+    'operands: for kind in kinds {
+        if is_nothing(*kind) {
+            return;
+        }
+        skip_operand(cursor, marks, levels, *kind);
+    }
+}
+
+/// Goes over an operand.
+#[cycle(skip)]
+#[tactic(auto, using(aml_marked::specs::Walking::walking), unfolding(aml_marked::specs::Marked::an_operand, aml_marked::specs::Marked::gives, aml_marked::specs::Marked::a_name, aml_marked::specs::Marked::a_target, aml_marked::specs::Marked::a_super_name))]
+pub(crate) fn skip_operand(cursor: &mut Cursor<'_>, marks: &Marks, levels: u8, kind: OperandKind)
+    ensures { cursor.new ≡ (an_operand (a_term (count_at marks.now) levels) kind cursor.old).1 }
+{
+    match kind {
+        OperandKind::Nothing => (),
+        OperandKind::NameString
+        | OperandKind::ScopeName
+        | OperandKind::AliasSource
+        | OperandKind::AliasName
+        | OperandKind::DeclaredName
+        | OperandKind::ExternalName => cursor.over_name(),
+        OperandKind::MethodFlags
+        | OperandKind::ObjectType
+        | OperandKind::ArgumentCount
+        | OperandKind::ByteData => cursor.over(1),
+        OperandKind::WordData => cursor.over(2),
+        OperandKind::DWordData => cursor.over(4),
+        OperandKind::QWordData => cursor.over(8),
+        OperandKind::AsciiCharList => cursor.over_text(),
+        OperandKind::TermArg | OperandKind::DataObject => skip_term(cursor, marks, levels, false),
+        OperandKind::SuperName | OperandKind::SimpleName => {
+            skip_name_or_term(cursor, marks, levels);
+        }
+        OperandKind::Target => skip_target(cursor, marks, levels),
+        OperandKind::ByteList => cursor.over_all(),
+        OperandKind::TermList | OperandKind::LoopTermList => {
+            skip_items(cursor, marks, levels, false);
+        }
+        OperandKind::PackageElementList => skip_items(cursor, marks, levels, true),
+        OperandKind::FieldList => skip_fields(cursor, marks, levels),
+    }
+}
+
+/// Goes over a name, or else a term.
+#[cycle(skip)]
+#[tactic(auto, using(aml_marked::specs::Walking::walking), unfolding(aml_marked::specs::Marked::a_name))]
+pub(crate) fn skip_name_or_term(cursor: &mut Cursor<'_>, marks: &Marks, levels: u8)
+    ensures { cursor.new ≡ (name_or_term (a_term (count_at marks.now) levels) (first cursor.old.rest) cursor.old).1 }
+{
+    if starts_name(cursor.first()) {
+        cursor.over_name();
+    } else {
+        skip_term(cursor, marks, levels, false);
+    }
+}
+
+/// Goes over a target: a zero, a name or a term.
+#[cycle(skip)]
+#[tactic(auto, using(aml_marked::specs::Walking::walking))]
+fn skip_target(cursor: &mut Cursor<'_>, marks: &Marks, levels: u8)
+    ensures { cursor.new ≡ (target_of (a_term (count_at marks.now) levels) (first cursor.old.rest) cursor.old).1 }
+{
+    if cursor.first() == 0 {
+        cursor.over(1);
+    } else {
+        skip_name_or_term(cursor, marks, levels);
+    }
+}
+
+/// Goes over terms to the end of their list.
+#[cycle(skip)]
+#[tactic(auto, using(aml_marked::specs::Walking::walking), unfolding(aml_marked::specs::Marked::all_items))]
+fn skip_items(cursor: &mut Cursor<'_>, marks: &Marks, levels: u8, element: bool)
+    ensures { cursor.new ≡ (all_items (a_term (count_at marks.now) levels) element cursor.old).1 }
+{
+    let mut left = cursor.rest().len();
+    'items: while left > 0 && !cursor.is_empty() {
+        skip_term(cursor, marks, levels, element);
+        left -= 1;
+    }
+}
+
+/// Goes over field elements to the end of their list.
+#[cycle(skip)]
+#[tactic(auto, using(aml_marked::specs::Walking::walking), unfolding(aml_marked::specs::Marked::fields_left))]
+fn skip_fields(cursor: &mut Cursor<'_>, marks: &Marks, levels: u8)
+    ensures { cursor.new ≡ (fields_left (a_term (count_at marks.now) levels) cursor.old).1 }
+{
+    let mut left = cursor.rest().len();
+    'fields: while left > 0 && !cursor.is_empty() {
+        skip_field(cursor, marks, levels);
+        left -= 1;
+    }
+}
+
+/// Goes over a field element.
+#[cycle(skip)]
+#[tactic(auto, using(aml_marked::specs::Walking::walking), unfolding(aml_marked::specs::Marked::a_field, aml_marked::specs::Marked::a_reserved_field, aml_marked::specs::Marked::an_access_field, aml_marked::specs::Marked::an_extended_access_field, aml_marked::specs::Marked::a_connect_field, aml_marked::specs::Marked::a_named_field, aml_marked::specs::Marked::a_super_name, aml_marked::specs::Marked::a_name, aml_marked::specs::Marked::after, aml_marked::specs::Marked::gives))]
+pub(crate) fn skip_field(cursor: &mut Cursor<'_>, marks: &Marks, levels: u8)
+    ensures { cursor.new ≡ (a_field (a_term (count_at marks.now) levels) cursor.old).1 }
+{
+    let next = cursor.first();
+    if next == 0 {
+        cursor.over(1);
+        cursor.bit_count();
+    } else if next == 1 {
+        cursor.over(1);
+        cursor.over(1);
+        cursor.over(1);
+    } else if next == 2 {
+        cursor.over(1);
+        skip_name_or_term(cursor, marks, levels);
+    } else if next == 3 {
+        cursor.over(1);
+        cursor.over(1);
+        cursor.over(1);
+        cursor.over(1);
+    } else {
+        cursor.over_name();
+        cursor.bit_count();
+    }
+}
+
+/// Goes over an Else, where one follows.
+#[tactic(auto, using(aml_marked::specs::Walking::walking), unfolding(aml_marked::specs::Marked::maybe_else, aml_marked::specs::Marked::gives))]
+fn skip_else(cursor: &mut Cursor<'_>)
+    ensures { (below : Below) → cursor.new ≡ (maybe_else below cursor.old).1 }
+{
+    if cursor.is_next(ELSE) {
+        over_else(cursor);
+    }
+}
+
+/// Goes over an Else.
+#[tactic(auto, using(aml_marked::specs::Walking::walking), unfolding(aml_marked::specs::Marked::an_else, aml_marked::specs::Marked::inside, aml_marked::specs::Marked::after, aml_marked::specs::Marked::gives))]
+pub(crate) fn over_else(cursor: &mut Cursor<'_>)
+    ensures { (below : Below) → cursor.new ≡ (an_else below cursor.old).1 }
+{
+    cursor.over(1);
+    let outer = cursor.open();
+    *cursor = outer;
+}
