@@ -16,7 +16,6 @@ use Rattle.aml_grammar.specs.Operands.{Read}
 use Rattle.aml_grammar.specs.Tree.{Part}
 use Rattle.aml_grammar.specs.Grammar.{Inner, Counting, keeping, deeper, below, term_at, operand, operands, is_nothing}
 use Rattle.aml_scan.proofs.Loops.{with_front, before, front_init, front_turn, front_err, front_done}
-use Rattle.aml_scan.proofs.Viewed.{viewing}
 
 pub below_none : (counting : Counting) (levels : ℕ) → levels ≡ 0 → below counting levels ≡ None
 unfolding below
@@ -25,24 +24,6 @@ below_none counting levels e = rw e refl
 pub below_some : (counting : Counting) (levels : ℕ) → 0 < levels → below counting levels ≡ Some (term_at counting (levels - 1))
 unfolding below term_at
 below_some counting levels some = let k : levels ≡ suc (levels - 1) = omega arith in ap (below counting) k
-
--- below the last level
-pub does_too_deep : {A : Type 0} {s : State} (counting : Counting) (levels item : ℕ) (go : Inner → Step A) → levels ≡ 0 → Does (Err (refusals.Term TooDeep item)) s (deeper (below counting levels) item go) s
-unfolding deeper stop
-does_too_deep counting levels item go e = record { is = λ ne. rw (below_none counting levels e) refl }
-
--- above it
-pub does_deeper : {A : Type 0} {r : Outcome A} {s after : State} (counting : Counting) (levels item : ℕ) (go : Inner → Step A) → 0 < levels → Does r after (go (term_at counting (levels - 1))) s → Does r after (deeper (below counting levels) item go) s
-unfolding deeper
-does_deeper counting levels item go some i = record { is = λ ne. rw (below_some counting levels some) (i.is ne) }
-
--- an operand that leaves nothing for later ones
-pub does_keeping : {X : Type 0} {s after : State} (r : Outcome X) (view : X → Part) (earlier : Earlier) (m : Step Part) → Does (seen view r) after m s → Does (seen (λ x. (view x, earlier)) r) after (keeping earlier m) s
-unfolding ◌>>=◌ go_on give
-does_keeping (Ok x) view earlier m h = record { is = λ ne. rw (h.is tt) refl }
-does_keeping (Err e) view earlier m h = record { is = λ ne. rw (h.is ne) refl }
-
-pub ruleset leveling = (viewing, does_too_deep, does_deeper, does_keeping)
 
 -- ---- the operands of a term, one after another
 

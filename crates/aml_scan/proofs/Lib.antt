@@ -15,6 +15,4 @@ pub mod SpelledRowTerms
 pub mod SpelledRows
 pub mod SpelledTerms
 pub mod Steps
-pub mod Tables
 pub mod Takes
-pub mod Viewed

@@ -2,19 +2,12 @@
 ghost use Rattle.std.specs.Prelude.{◌≡◌, ◌<◌, ◌≤◌, ◌∷◌, ◌++◌, [], length, map, Ok, OnOk};
 ghost use Rattle.ar_space.specs.Outcome.{Answers, NotMemory, seen};
 ghost use Rattle.ar_space.specs.Change.{Does};
-ghost use Rattle.aml_grammar.specs.Grammar.{stands, takes_name, costs_no_level, is_module_level, is_if, is_nothing, item_of, at_item, item_of_else, at_else, in_loop, opcode, admitted_row, admitted, row_at, element_name, argument_number, by_arities};
-ghost use Rattle.aml_grammar.specs.View.{part_view, tree_view};
-ghost use Rattle.aml_grammar.specs.Tree.{term};
-ghost use Rattle.aml_grammar.specs.Shape.{parts_of};
-ghost use Rattle.aml_grammar.specs.declared.opcode.TermCode.TheVariants as codes;
+ghost use Rattle.aml_grammar.specs.Grammar.{stands, takes_name, costs_no_level, is_module_level, is_if, is_nothing, item_of, at_item, item_of_else, at_else, in_loop, opcode, admitted_row, admitted, row_at, argument_number, by_arities};
 
 use crate::before::Before;
-use crate::names::name_string;
 use crate::reader::Reader;
 use crate::table::row_of;
-use aml_grammar::{
-    ArgumentCounts, Class, Context, Opcode, Operand, OperandKind, Position, Row, Term, TermCode,
-};
+use aml_grammar::{ArgumentCounts, Class, Context, Opcode, OperandKind, Position, Row};
 use aml_path::{NameString, Path};
 use ar_space::{Refusal, TermFault};
 use std::alloc::Global;
@@ -166,24 +159,6 @@ pub(crate) fn row_at<C: ArgumentCounts, B: Before>(
     }
 }
 
-/// An element of a package that is a name.
-#[tactic(auto, using(crate::proofs::Viewed::viewing), unfolding(aml_grammar::specs::Grammar::element_name))]
-pub(crate) fn element_name<C: ArgumentCounts, B: Before>(
-    alloc: Global,
-    reader: &mut Reader<'_, C, B>,
-) -> Result<Term, Refusal>
-    ensures reads { Does (seen tree_view result) reader.new element_name reader.old }
-    ensures shorter { OnOk result (length reader.new.rest < length reader.old.rest) }
-{
-    let name = name_string(alloc, reader)?;
-    let mut operands = Vec::new(alloc);
-    operands.push(Operand::Name(name))?;
-    Ok(Term {
-        code: TermCode::Name,
-        operands,
-    })
-}
-
 /// How many arguments a name takes; a call with arguments is marked.
 #[tactic(auto, using(crate::proofs::Steps::reading), unfolding(aml_grammar::specs::Grammar::argument_number, aml_grammar::specs::Grammar::by_arities))]
 pub(crate) fn argument_number<C: ArgumentCounts, B: Before>(
@@ -200,21 +175,4 @@ pub(crate) fn argument_number<C: ArgumentCounts, B: Before>(
     let count = reader.arity_of(alloc, name, scope, path)?;
     reader.mark(start, count)?;
     Ok(count)
-}
-
-/// An If with its Else, or nothing, as its last operand.
-#[tactic(auto, using(crate::proofs::Viewed::pushing))]
-pub(crate) fn with_else(
-    opcode: Opcode,
-    mut operands: Vec<Operand>,
-    otherwise: Operand,
-) -> Result<Term, Refusal>
-    ensures { Answers (seen tree_view result)
-        (Ok (term (codes.Opcode opcode) (parts_of (map part_view operands.items ++ part_view otherwise ∷ [])))) }
-{
-    operands.push(otherwise)?;
-    Ok(Term {
-        code: TermCode::Opcode(opcode),
-        operands,
-    })
 }

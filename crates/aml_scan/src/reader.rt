@@ -151,28 +151,6 @@ impl<'a, C: ArgumentCounts, B: Before> Reader<'a, C, B> {
         front
     }
 
-    /// All bytes that are left.
-    #[tactic(auto, using(crate::proofs::Steps::reading), unfolding(aml_grammar::specs::State::all_bytes))]
-    pub(crate) fn all_bytes(&mut self, alloc: Global) -> Result<Vec<u8>, Refusal>
-        ensures reads { Does (seen (λ v. v.items) result) self.new all_bytes self.old }
-        ensures kept { OnOk result (length self.new.rest ≤ length self.old.rest) }
-    {
-        let all = Vec::from_slice(alloc, self.rest)?;
-        self.skip(self.rest.len());
-        Ok(all)
-    }
-
-    /// Bytes up to a zero, and goes past it.
-    #[tactic(auto, using(crate::proofs::Steps::reading), unfolding(aml_grammar::specs::State::text))]
-    pub(crate) fn text(&mut self, alloc: Global) -> Result<Vec<u8>, Refusal>
-        ensures reads { Does (seen (λ v. v.items) result) self.new text self.old }
-        ensures kept { OnOk result (length self.new.rest ≤ length self.old.rest) }
-    {
-        let count = text_length(self.rest);
-        let bytes = self.next_bytes(count + 1)?;
-        Ok(Vec::from_slice(alloc, &bytes[..count])?)
-    }
-
     /// Goes past all bytes that are left.
     #[tactic(auto, using(crate::proofs::Scans::scanning), unfolding(aml_grammar::specs::State::all_bytes, crate::specs::Scanned::kept))]
     pub(crate) fn skip_all(&mut self)
@@ -286,13 +264,6 @@ impl<'a, C: ArgumentCounts, B: Before> Reader<'a, C, B> {
         ensures { OnOk result (self.new ≡ adding path count external self.old) }
     {
         self.arities.add(path, count, external)
-    }
-
-    /// What the list has declared itself. It takes no memory.
-    pub(crate) fn into_added(self) -> Arities
-        ensures { B.before ++ result ≡ self.entry.arities }
-    {
-        self.arities.into_added()
     }
 
     /// The marks of the calls so far, and what the list has declared itself. It takes no memory.

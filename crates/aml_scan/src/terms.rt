@@ -1,11 +1,11 @@
-//! Terms, one inside another (TermObj of ACPI 6.5, 20.2.5).
-ghost use Rattle.std.specs.Prelude.{◌≡◌, ◌<◌, ◌≤◌, ◌∷◌, ◌++◌, [], List, length, map, drop, OnOk, Some, None, true};
-ghost use Rattle.ar_space.specs.Outcome.{seen};
+//! Terms, one inside another, gone over without a tree (TermObj of ACPI 6.5, 20.2.5).
+ghost use Rattle.std.specs.Prelude.{◌≡◌, ◌<◌, ◌≤◌, length, OnOk, true};
+ghost use Rattle.ar_space.specs.Outcome.{NotMemory, seen};
 ghost use Rattle.ar_space.specs.Change.{Does};
-ghost use Rattle.aml_grammar.specs.State.{times, until_end};
-ghost use Rattle.aml_grammar.specs.Grammar.{takes_name, named, named_term, invocation, coded_term, row_term, plain_term, row_operands, packed, operands, operand, term_operand, list_operand, items, by_arities, term_at, below, kinds_of, nothing_earlier, scope_of, in_loop};
-ghost use Rattle.aml_grammar.specs.View.{part_view, tree_view};
+ghost use Rattle.aml_grammar.specs.State.{times};
+ghost use Rattle.aml_grammar.specs.Grammar.{named, named_term, element_name, invocation, coded_term, row_term, row_operands, packed, operands, operand, list_operand, items, by_arities, term_at, below, nothing_earlier, scope_of};
 ghost use Rattle.aml_grammar.specs.declared.context.Position.TheVariants as positions;
+ghost use Rattle.aml_scan.specs.Scanned.{kept, scanned, has_no_operands};
 
 use crate::before::Before;
 use crate::if_else::if_term;
@@ -13,20 +13,19 @@ use crate::names::{name_string, starts_name};
 use crate::operands as leaf;
 use crate::places::{fields_operand, simple_name, super_name, target};
 use crate::positions::{
-    argument_number, at_item, costs_no_level, element_name, in_loop, is_if, is_nothing, item_of,
-    row_at, takes_name,
+    argument_number, at_item, costs_no_level, in_loop, is_if, is_nothing, item_of, row_at,
+    takes_name,
 };
 use crate::reader::Reader;
-use aml_grammar::{
-    ArgumentCounts, Context, Earlier, Operand, OperandKind, Position, Row, Term, TermCode,
-};
+use crate::skip_names::skip_name;
+use aml_grammar::{ArgumentCounts, Context, Earlier, OperandKind, Position, Row};
 use aml_path::Path;
 use ar_space::{Refusal, TermFault};
 use std::alloc::Global;
 
 /// A term, with at most this many levels below it.
-#[cycle(parse)]
-#[tactic(auto, using(crate::proofs::Levels::leveling), unfolding(aml_grammar::specs::Grammar::term_at, aml_grammar::specs::Grammar::term_in))]
+#[cycle(scan)]
+#[tactic(auto, using(crate::proofs::Scans::scanning), unfolding(aml_grammar::specs::Grammar::term_at, aml_grammar::specs::Grammar::term_in))]
 pub(crate) fn term<C: ArgumentCounts, B: Before>(
     alloc: Global,
     reader: &mut Reader<'_, C, B>,
@@ -34,8 +33,8 @@ pub(crate) fn term<C: ArgumentCounts, B: Before>(
     position: Position,
     scope: &Path,
     context: Context,
-) -> Result<Term, Refusal>
-    ensures reads { Does (seen tree_view result) reader.new (term_at by_arities levels position scope.now context) reader.old }
+) -> Result<(), Refusal>
+    ensures reads { Does result reader.new (scanned (term_at by_arities levels position scope.now context)) reader.old }
     ensures shorter { OnOk result (length reader.new.rest < length reader.old.rest) }
 {
     let start = reader.at();
@@ -49,8 +48,8 @@ pub(crate) fn term<C: ArgumentCounts, B: Before>(
 }
 
 /// A term that begins with a name.
-#[cycle(parse)]
-#[tactic(auto, using(crate::proofs::Levels::leveling), unfolding(aml_grammar::specs::Grammar::named))]
+#[cycle(scan)]
+#[tactic(auto, using(crate::proofs::Scans::scanning), unfolding(aml_grammar::specs::Grammar::named))]
 fn named<C: ArgumentCounts, B: Before>(
     alloc: Global,
     reader: &mut Reader<'_, C, B>,
@@ -59,8 +58,8 @@ fn named<C: ArgumentCounts, B: Before>(
     scope: &Path,
     context: Context,
     start: usize,
-) -> Result<Term, Refusal>
-    ensures reads { Does (seen tree_view result) reader.new (named by_arities (below by_arities levels) position scope.now context start) reader.old }
+) -> Result<(), Refusal>
+    ensures reads { Does result reader.new (scanned (named by_arities (below by_arities levels) position scope.now context start)) reader.old }
     ensures shorter { OnOk result (length reader.new.rest < length reader.old.rest) }
 {
     if !takes_name(position) {
@@ -72,8 +71,8 @@ fn named<C: ArgumentCounts, B: Before>(
     named_term(alloc, reader, levels - 1, position, scope, context, start)
 }
 
-#[cycle(parse)]
-#[tactic(auto, using(crate::proofs::Levels::leveling))]
+#[cycle(scan)]
+#[tactic(auto, using(crate::proofs::Scans::scanning))]
 fn named_term<C: ArgumentCounts, B: Before>(
     alloc: Global,
     reader: &mut Reader<'_, C, B>,
@@ -82,19 +81,29 @@ fn named_term<C: ArgumentCounts, B: Before>(
     scope: &Path,
     context: Context,
     start: usize,
-) -> Result<Term, Refusal>
-    ensures reads { Does (seen tree_view result) reader.new (named_term by_arities (term_at by_arities levels) position scope.now context start) reader.old }
+) -> Result<(), Refusal>
+    ensures reads { Does result reader.new (scanned (named_term by_arities (term_at by_arities levels) position scope.now context start)) reader.old }
     ensures shorter { OnOk result (length reader.new.rest < length reader.old.rest) }
 {
     match position {
-        Position::PackageElement => element_name(alloc, reader),
+        Position::PackageElement => element_name(reader),
         _ => invocation(alloc, reader, levels, scope, context, start),
     }
 }
 
+/// An element of a package that is a name.
+#[tactic(auto, using(crate::proofs::Scans::scanning), unfolding(aml_grammar::specs::Grammar::element_name))]
+fn element_name<C: ArgumentCounts, B: Before>(reader: &mut Reader<'_, C, B>) -> Result<(), Refusal>
+    ensures reads { Does result reader.new (scanned element_name) reader.old }
+    ensures shorter { OnOk result (length reader.new.rest < length reader.old.rest) }
+    ensures memory { NotMemory result }
+{
+    skip_name(reader)
+}
+
 /// A name and as many terms as it takes arguments.
-#[cycle(parse)]
-#[tactic(auto, using(crate::proofs::Levels::leveling), unfolding(aml_grammar::specs::Grammar::invocation))]
+#[cycle(scan)]
+#[tactic(auto, using(crate::proofs::Scans::scanning), unfolding(aml_grammar::specs::Grammar::invocation))]
 fn invocation<C: ArgumentCounts, B: Before>(
     alloc: Global,
     reader: &mut Reader<'_, C, B>,
@@ -102,24 +111,17 @@ fn invocation<C: ArgumentCounts, B: Before>(
     scope: &Path,
     context: Context,
     start: usize,
-) -> Result<Term, Refusal>
-    ensures reads { Does (seen tree_view result) reader.new (invocation by_arities (term_at by_arities levels) scope.now context start) reader.old }
+) -> Result<(), Refusal>
+    ensures reads { Does result reader.new (scanned (invocation by_arities (term_at by_arities levels) scope.now context start)) reader.old }
     ensures shorter { OnOk result (length reader.new.rest < length reader.old.rest) }
 {
     let name = name_string(alloc, reader)?;
     let path = name.resolve_in(alloc, scope)?;
     let count = argument_number(alloc, reader, start, scope, &name, &path)?;
-    let list = arguments(alloc, reader, levels, scope, context, count)?;
-    let mut operands = Vec::new(alloc);
-    operands.push(Operand::Name(name))?;
-    operands.push(Operand::List(list))?;
-    Ok(Term {
-        code: TermCode::MethodInvocation,
-        operands,
-    })
+    arguments(alloc, reader, levels, scope, context, count)
 }
 
-#[cycle(parse)]
+#[cycle(scan)]
 fn arguments<C: ArgumentCounts, B: Before>(
     alloc: Global,
     reader: &mut Reader<'_, C, B>,
@@ -127,21 +129,19 @@ fn arguments<C: ArgumentCounts, B: Before>(
     scope: &Path,
     context: Context,
     count: u8,
-) -> Result<Vec<Term>, Refusal>
-    ensures reads { Does (seen (λ v. map tree_view v.items) result) reader.new (times (term_at by_arities levels positions.TermArg scope.now context) count) reader.old }
+) -> Result<(), Refusal>
+    ensures reads { Does result reader.new (scanned (times (term_at by_arities levels positions.TermArg scope.now context) count)) reader.old }
     ensures kept { OnOk result (length reader.new.rest ≤ length reader.old.rest) }
 {
-    let mut list = Vec::new(alloc);
     'arguments: for _ in 0..count {
-        let next = term(alloc, reader, levels, Position::TermArg, scope, context)?;
-        list.push(next)?;
+        term(alloc, reader, levels, Position::TermArg, scope, context)?;
     }
-    Ok(list)
+    Ok(())
 }
 
 /// A term that begins with an opcode.
-#[cycle(parse)]
-#[tactic(auto, using(crate::proofs::Levels::leveling), unfolding(aml_grammar::specs::Grammar::coded_term))]
+#[cycle(scan)]
+#[tactic(auto, using(crate::proofs::Scans::scanning), unfolding(aml_grammar::specs::Grammar::coded_term))]
 fn coded_term<C: ArgumentCounts, B: Before>(
     alloc: Global,
     reader: &mut Reader<'_, C, B>,
@@ -150,16 +150,13 @@ fn coded_term<C: ArgumentCounts, B: Before>(
     scope: &Path,
     context: Context,
     start: usize,
-) -> Result<Term, Refusal>
-    ensures reads { Does (seen tree_view result) reader.new (coded_term (below by_arities levels) position scope.now context start) reader.old }
+) -> Result<(), Refusal>
+    ensures reads { Does result reader.new (scanned (coded_term (below by_arities levels) position scope.now context start)) reader.old }
     ensures shorter { OnOk result (length reader.new.rest < length reader.old.rest) }
 {
     let row = row_at(reader, position, context, start)?;
     if costs_no_level(row.1, position) {
-        return Ok(Term {
-            code: TermCode::Opcode(row.0),
-            operands: Vec::new(alloc),
-        });
+        return Ok(());
     }
     if levels == 0 {
         return Err(Refusal::Term(TermFault::TooDeep, item_of(context.item, start)));
@@ -167,8 +164,8 @@ fn coded_term<C: ArgumentCounts, B: Before>(
     row_term(alloc, reader, levels - 1, scope, context, start, row)
 }
 
-#[cycle(parse)]
-#[tactic(auto, using(crate::proofs::Levels::leveling), unfolding(aml_grammar::specs::Grammar::row_term))]
+#[cycle(scan)]
+#[tactic(auto, using(crate::proofs::Scans::scanning), unfolding(aml_grammar::specs::Grammar::row_term, aml_grammar::specs::Grammar::plain_term))]
 fn row_term<C: ArgumentCounts, B: Before>(
     alloc: Global,
     reader: &mut Reader<'_, C, B>,
@@ -177,41 +174,28 @@ fn row_term<C: ArgumentCounts, B: Before>(
     context: Context,
     start: usize,
     row: Row,
-) -> Result<Term, Refusal>
-    ensures reads { Does (seen tree_view result) reader.new (row_term (term_at by_arities levels) scope.now context start row) reader.old }
+) -> Result<(), Refusal>
+    ensures reads { Does result reader.new (scanned (row_term (term_at by_arities levels) scope.now context start row)) reader.old }
     ensures kept { OnOk result (length reader.new.rest ≤ length reader.old.rest) }
 {
     if is_if(row.0) {
         if_term(alloc, reader, levels, scope, context, start, row)
     } else {
-        plain_term(alloc, reader, levels, scope, context, start, row)
+        row_operands(alloc, reader, levels, scope, context, start, row)
     }
 }
 
-#[cycle(parse)]
-#[tactic(auto, using(crate::proofs::Levels::leveling), unfolding(aml_grammar::specs::Grammar::plain_term))]
-fn plain_term<C: ArgumentCounts, B: Before>(
-    alloc: Global,
-    reader: &mut Reader<'_, C, B>,
-    levels: usize,
-    scope: &Path,
-    context: Context,
-    start: usize,
-    row: Row,
-) -> Result<Term, Refusal>
-    ensures reads { Does (seen tree_view result) reader.new (plain_term (term_at by_arities levels) scope.now context start row) reader.old }
-    ensures kept { OnOk result (length reader.new.rest ≤ length reader.old.rest) }
+/// Whether a row has no operand, as those of constants and locals.
+#[tactic(auto, unfolding(crate::specs::Scanned::has_no_operands))]
+fn has_no_operands(row: &Row) -> bool
+    ensures { result ≡ has_no_operands row.now }
 {
-    let operands = row_operands(alloc, reader, levels, scope, context, start, row)?;
-    Ok(Term {
-        code: TermCode::Opcode(row.0),
-        operands,
-    })
+    !row.2 && is_nothing(row.3.0)
 }
 
 /// The operands of a row of the table.
-#[cycle(parse)]
-#[tactic(auto, using(crate::proofs::Levels::leveling))]
+#[cycle(scan)]
+#[tactic(auto, using(crate::proofs::Scans::scanning, crate::proofs::Rows::kept_none))]
 pub(crate) fn row_operands<C: ArgumentCounts, B: Before>(
     alloc: Global,
     reader: &mut Reader<'_, C, B>,
@@ -220,10 +204,13 @@ pub(crate) fn row_operands<C: ArgumentCounts, B: Before>(
     context: Context,
     start: usize,
     row: Row,
-) -> Result<Vec<Operand>, Refusal>
-    ensures reads { Does (seen (λ v. map part_view v.items) result) reader.new (row_operands (term_at by_arities levels) scope.now context start row) reader.old }
+) -> Result<(), Refusal>
+    ensures reads { Does result reader.new (scanned (row_operands (term_at by_arities levels) scope.now context start row)) reader.old }
     ensures kept { OnOk result (length reader.new.rest ≤ length reader.old.rest) }
 {
+    if has_no_operands(&row) {
+        return Ok(());
+    }
     let kinds = [row.3.0, row.3.1, row.3.2, row.3.3, row.3.4, row.3.5];
     if row.2 {
         packed_operands(alloc, reader, levels, scope, context, start, &kinds)
@@ -233,8 +220,8 @@ pub(crate) fn row_operands<C: ArgumentCounts, B: Before>(
 }
 
 /// Operands in a package.
-#[cycle(parse)]
-#[tactic(auto, using(crate::proofs::Levels::leveling))]
+#[cycle(scan)]
+#[tactic(auto, using(crate::proofs::Scans::scanning))]
 fn packed_operands<C: ArgumentCounts, B: Before>(
     alloc: Global,
     reader: &mut Reader<'_, C, B>,
@@ -243,17 +230,17 @@ fn packed_operands<C: ArgumentCounts, B: Before>(
     context: Context,
     start: usize,
     kinds: &[OperandKind],
-) -> Result<Vec<Operand>, Refusal>
-    ensures reads { Does (seen (λ v. map part_view v.items) result) reader.new (packed true (operands (term_at by_arities levels) scope.now context start kinds.now nothing_earlier)) reader.old }
+) -> Result<(), Refusal>
+    ensures reads { Does result reader.new (scanned (packed true (operands (term_at by_arities levels) scope.now context start kinds.now nothing_earlier))) reader.old }
     ensures kept { OnOk result (length reader.new.rest ≤ length reader.old.rest) }
 {
     let outer = reader.enter()?;
-    let list = operands(alloc, reader, levels, scope, context, start, kinds)?;
+    operands(alloc, reader, levels, scope, context, start, kinds)?;
     reader.leave(outer);
-    Ok(list)
+    Ok(())
 }
 
-#[cycle(parse)]
+#[cycle(scan)]
 fn operands<C: ArgumentCounts, B: Before>(
     alloc: Global,
     reader: &mut Reader<'_, C, B>,
@@ -262,20 +249,19 @@ fn operands<C: ArgumentCounts, B: Before>(
     context: Context,
     start: usize,
     kinds: &[OperandKind],
-) -> Result<Vec<Operand>, Refusal>
-    ensures reads { Does (seen (λ v. map part_view v.items) result) reader.new (operands (term_at by_arities levels) scope.now context start kinds.now nothing_earlier) reader.old }
+) -> Result<(), Refusal>
+    ensures reads { Does result reader.new (scanned (operands (term_at by_arities levels) scope.now context start kinds.now nothing_earlier)) reader.old }
     ensures kept { OnOk result (length reader.new.rest ≤ length reader.old.rest) }
 {
-    let mut list = Vec::new(alloc);
     let mut earlier = Earlier {
         path: None,
         count: 0,
     };
     'operands: for kind in kinds {
         if is_nothing(*kind) {
-            return Ok(list);
+            return Ok(());
         }
-        let next = operand(
+        operand(
             alloc,
             reader,
             levels,
@@ -285,13 +271,13 @@ fn operands<C: ArgumentCounts, B: Before>(
             *kind,
             &mut earlier,
         )?;
-        list.push(next)?;
     }
-    Ok(list)
+    Ok(())
 }
 
-#[cycle(parse)]
-#[tactic(auto, using(crate::proofs::Levels::leveling), unfolding(aml_grammar::specs::Grammar::operand))]
+/// An operand, and in `earlier` what it leaves for later ones.
+#[cycle(scan)]
+#[tactic(auto, using(crate::proofs::Scans::scanning), unfolding(aml_grammar::specs::Grammar::operand))]
 fn operand<C: ArgumentCounts, B: Before>(
     alloc: Global,
     reader: &mut Reader<'_, C, B>,
@@ -301,17 +287,15 @@ fn operand<C: ArgumentCounts, B: Before>(
     start: usize,
     kind: OperandKind,
     earlier: &mut Earlier,
-) -> Result<Operand, Refusal>
-    ensures reads { Does (seen (λ x. (part_view x, earlier.new)) result) reader.new
-        (operand (term_at by_arities levels) scope.now context start kind earlier.old) reader.old }
+) -> Result<(), Refusal>
+    ensures reads { Does (seen (λ _. earlier.new) result) reader.new
+        (kept (λ x. x.1) (operand (term_at by_arities levels) scope.now context start kind earlier.old)) reader.old }
     ensures kept { OnOk result (length reader.new.rest ≤ length reader.old.rest) }
 {
     match kind {
-        OperandKind::TermArg => {
-            term_operand(alloc, reader, levels, Position::TermArg, scope, context)
-        }
+        OperandKind::TermArg => term(alloc, reader, levels, Position::TermArg, scope, context),
         OperandKind::DataObject => {
-            term_operand(alloc, reader, levels, Position::DataObject, scope, context)
+            term(alloc, reader, levels, Position::DataObject, scope, context)
         }
         OperandKind::SuperName => super_name(alloc, reader, levels, scope, context),
         OperandKind::Target => target(alloc, reader, levels, scope, context),
@@ -328,25 +312,9 @@ fn operand<C: ArgumentCounts, B: Before>(
     }
 }
 
-#[cycle(parse)]
-#[tactic(auto, using(crate::proofs::Levels::leveling), unfolding(aml_grammar::specs::Grammar::term_operand))]
-pub(crate) fn term_operand<C: ArgumentCounts, B: Before>(
-    alloc: Global,
-    reader: &mut Reader<'_, C, B>,
-    levels: usize,
-    position: Position,
-    scope: &Path,
-    context: Context,
-) -> Result<Operand, Refusal>
-    ensures reads { Does (seen part_view result) reader.new (term_operand (term_at by_arities levels) position scope.now context) reader.old }
-    ensures kept { OnOk result (length reader.new.rest ≤ length reader.old.rest) }
-{
-    Ok(Operand::Term(term(alloc, reader, levels, position, scope, context)?))
-}
-
 /// The terms of a term, under the path of its name where it has one.
-#[cycle(parse)]
-#[tactic(auto, using(crate::proofs::Levels::leveling))]
+#[cycle(scan)]
+#[tactic(auto, using(crate::proofs::Scans::scanning))]
 fn term_list<C: ArgumentCounts, B: Before>(
     alloc: Global,
     reader: &mut Reader<'_, C, B>,
@@ -354,24 +322,19 @@ fn term_list<C: ArgumentCounts, B: Before>(
     scope: &Path,
     earlier: &Earlier,
     context: Context,
-) -> Result<Operand, Refusal>
-    ensures reads { Does (seen part_view result) reader.new (list_operand (term_at by_arities levels) positions.ListItem (scope_of scope.now earlier.now.path) context) reader.old }
+) -> Result<(), Refusal>
+    ensures reads { Does result reader.new (scanned (list_operand (term_at by_arities levels) positions.ListItem (scope_of scope.now earlier.now.path) context)) reader.old }
     ensures kept { OnOk result (length reader.new.rest ≤ length reader.old.rest) }
 {
-    list_under(
-        alloc,
-        reader,
-        levels,
-        Position::ListItem,
-        scope,
-        earlier,
-        context,
-    )
+    match &earlier.path {
+        None => list_operand(alloc, reader, levels, Position::ListItem, scope, context),
+        Some(path) => list_operand(alloc, reader, levels, Position::ListItem, path, context),
+    }
 }
 
 /// The elements of a package.
-#[cycle(parse)]
-#[tactic(auto, using(crate::proofs::Levels::leveling))]
+#[cycle(scan)]
+#[tactic(auto, using(crate::proofs::Scans::scanning))]
 fn element_list<C: ArgumentCounts, B: Before>(
     alloc: Global,
     reader: &mut Reader<'_, C, B>,
@@ -379,44 +342,32 @@ fn element_list<C: ArgumentCounts, B: Before>(
     scope: &Path,
     earlier: &Earlier,
     context: Context,
-) -> Result<Operand, Refusal>
-    ensures reads { Does (seen part_view result) reader.new (list_operand (term_at by_arities levels) positions.PackageElement (scope_of scope.now earlier.now.path) context) reader.old }
-    ensures kept { OnOk result (length reader.new.rest ≤ length reader.old.rest) }
-{
-    list_under(
-        alloc,
-        reader,
-        levels,
-        Position::PackageElement,
-        scope,
-        earlier,
-        context,
-    )
-}
-
-/// The list of a term, under the path of its name where it has one.
-#[cycle(parse)]
-#[tactic(auto, using(crate::proofs::Levels::leveling))]
-fn list_under<C: ArgumentCounts, B: Before>(
-    alloc: Global,
-    reader: &mut Reader<'_, C, B>,
-    levels: usize,
-    position: Position,
-    scope: &Path,
-    earlier: &Earlier,
-    context: Context,
-) -> Result<Operand, Refusal>
-    ensures reads { Does (seen part_view result) reader.new (list_operand (term_at by_arities levels) position (scope_of scope.now earlier.now.path) context) reader.old }
+) -> Result<(), Refusal>
+    ensures reads { Does result reader.new (scanned (list_operand (term_at by_arities levels) positions.PackageElement (scope_of scope.now earlier.now.path) context)) reader.old }
     ensures kept { OnOk result (length reader.new.rest ≤ length reader.old.rest) }
 {
     match &earlier.path {
-        None => list_operand(alloc, reader, levels, position, scope, context),
-        Some(path) => list_operand(alloc, reader, levels, position, path, context),
+        None => list_operand(
+            alloc,
+            reader,
+            levels,
+            Position::PackageElement,
+            scope,
+            context,
+        ),
+        Some(path) => list_operand(
+            alloc,
+            reader,
+            levels,
+            Position::PackageElement,
+            path,
+            context,
+        ),
     }
 }
 
-#[cycle(parse)]
-#[tactic(auto, using(crate::proofs::Levels::leveling), unfolding(aml_grammar::specs::Grammar::list_operand))]
+#[cycle(scan)]
+#[tactic(auto, using(crate::proofs::Scans::scanning), unfolding(aml_grammar::specs::Grammar::list_operand))]
 pub(crate) fn list_operand<C: ArgumentCounts, B: Before>(
     alloc: Global,
     reader: &mut Reader<'_, C, B>,
@@ -424,15 +375,15 @@ pub(crate) fn list_operand<C: ArgumentCounts, B: Before>(
     position: Position,
     scope: &Path,
     context: Context,
-) -> Result<Operand, Refusal>
-    ensures reads { Does (seen part_view result) reader.new (list_operand (term_at by_arities levels) position scope.now context) reader.old }
+) -> Result<(), Refusal>
+    ensures reads { Does result reader.new (scanned (list_operand (term_at by_arities levels) position scope.now context)) reader.old }
     ensures kept { OnOk result (length reader.new.rest ≤ length reader.old.rest) }
 {
-    Ok(Operand::List(items(alloc, reader, levels, position, scope, context)?))
+    items(alloc, reader, levels, position, scope, context)
 }
 
 /// Terms until nothing is left.
-#[cycle(parse)]
+#[cycle(scan)]
 pub(crate) fn items<C: ArgumentCounts, B: Before>(
     alloc: Global,
     reader: &mut Reader<'_, C, B>,
@@ -440,14 +391,12 @@ pub(crate) fn items<C: ArgumentCounts, B: Before>(
     position: Position,
     scope: &Path,
     context: Context,
-) -> Result<Vec<Term>, Refusal>
-    ensures reads { Does (seen (λ v. map tree_view v.items) result) reader.new (items (term_at by_arities levels) position scope.now context) reader.old }
+) -> Result<(), Refusal>
+    ensures reads { Does result reader.new (scanned (items (term_at by_arities levels) position scope.now context)) reader.old }
     ensures kept { OnOk result (length reader.new.rest ≤ length reader.old.rest) }
 {
-    let mut list = Vec::new(alloc);
     'items: while !reader.is_empty() {
-        let next = term(alloc, reader, levels, position, scope, context)?;
-        list.push(next)?;
+        term(alloc, reader, levels, position, scope, context)?;
     }
-    Ok(list)
+    Ok(())
 }

@@ -1,7 +1,7 @@
 use Rattle.aml_grammar.specs.declared.context.Position.TheVariants as positions
 use Rattle.aml_grammar.specs.Grammar.{by_arities, term_at, term_list, max_depth, items, outermost}
 use Rattle.aml_scan.proofs.Scans.{noted_ok}
-use Rattle.aml_scan.proofs.scan.scan.Goals as goal
+use Rattle.aml_scan.proofs.lists.scan_behind.Goals as goal
 
 pub returns : goal.returns
 unfolding term_list

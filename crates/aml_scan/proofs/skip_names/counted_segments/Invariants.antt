@@ -3,7 +3,7 @@ use Rattle.ar_space.specs.Change.{Same}
 use Rattle.aml_grammar.specs.State.{times}
 use Rattle.aml_grammar.specs.Names.{segment}
 use Rattle.aml_scan.specs.Scanned.{scanned}
-use Rattle.aml_scan.proofs.scan_names.counted_segments.Given as goal
+use Rattle.aml_scan.proofs.skip_names.counted_segments.Given as goal
 
 abbrev pub invariant-segments : goal.invariant-segments
 invariant-segments g l = record {
