@@ -336,7 +336,7 @@ count_at ms o = or_none (found_at ms o)
 
 -- ---- whole lists
 
--- one level more than the grammar counts: a local that is a place costs no level there
+-- one level more than the grammar counts: there, a local, an argument or Debug as a place costs none
 abbrev pub walk_levels : ℕ
 walk_levels = 65
 

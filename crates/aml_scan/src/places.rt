@@ -1,7 +1,7 @@
 //! Operands that are places, and field elements, gone over (SuperName of ACPI 6.5, 20.2.2; FieldElement of 20.2.5.2).
 ghost use Rattle.std.specs.Prelude.{◌≡◌, ◌<◌, ◌≤◌, length, OnOk};
 ghost use Rattle.ar_space.specs.Change.{Does};
-ghost use Rattle.aml_grammar.specs.Grammar.{super_name, target, simple_name, connection, connect_field, field, fields, fields_operand, by_arities, term_at};
+ghost use Rattle.aml_grammar.specs.Grammar.{is_slot, super_name, target, simple_name, connection, connect_field, field, fields, fields_operand, by_arities, term_at};
 ghost use Rattle.aml_scan.specs.Scanned.{scanned};
 
 use crate::before::Before;

@@ -1,2 +1,3 @@
 pub mod Copied
+pub mod Parsed
 pub mod Scans

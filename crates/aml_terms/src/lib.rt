@@ -1,4 +1,7 @@
-//! Terms of AML read where they stand: a reader of table bytes that makes no trees and takes no memory for terms (ACPI 6.5, 20.2).
+//! Reads terms of AML from the bytes of a table or of the body of a control method (ACPI 6.5, 20.2): where they stand, without trees
+//! and without memory for terms, or as terms in memory.
+//!
+//! Begin with `scan_list` and `list_at`, which give a reader of the terms, or with `parse_list`, which copies them.
 #![tactic(auto)]
 
 mod at;
@@ -8,13 +11,20 @@ mod cursor;
 mod lent;
 mod marks;
 mod operands;
+mod parse;
 mod places;
 mod scan;
 mod skip;
 mod spot;
 
+pub use aml_grammar::{
+    ArgumentCounts, Arities, Arity, Item, Mark, Opcode, Operand, OperandView, Term, TermCode,
+    TermPart, TermReader,
+};
+pub use aml_scan::{read_as_spelled, read_name};
 pub use at::At;
 pub use at_reader::lent_bytes;
 pub use marks::Marks;
+pub use parse::{parse_list, parse_table};
 pub use places::{first_term, list_at};
 pub use scan::{scan_list, scan_table};

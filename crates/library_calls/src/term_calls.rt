@@ -1,10 +1,11 @@
 //! The calls that read terms of AML.
 use crate::promise::{Ended, answered};
-use aml_bytes::{Marks, lent_bytes, list_at};
 use aml_marked::marked_count;
 use aml_path::Path;
+use aml_scan::{row_of, scan};
 use aml_terms::{
-    Arities, Mark, OperandView, TermReader, parse_list, parse_table, read_name, row_of,
+    Arities, Mark, Marks, OperandView, TermReader, first_term, lent_bytes, list_at, parse_list,
+    parse_table, read_name, scan_list, scan_table,
 };
 use ar_space::Refusal;
 use std::alloc::Global;
@@ -44,16 +45,12 @@ fn call_parser(alloc: Global) -> Result<(), Ended> {
     Ok(())
 }
 
-/// The calls that note where calls stand.
+/// The call that notes where calls stand.
 fn call_noting(alloc: Global) -> Result<(), Ended> {
     let root = Path::root(alloc);
-    let mut known = Arities::new(alloc);
-    let result = aml_terms::scan_table(alloc, TABLE, &mut known);
-    let table = of_table("aml_terms::scan_table", result, &known)?;
-    let result = aml_terms::scan_list(alloc, BODY, &root, true, &known);
-    let body = answered("aml_terms::scan_list", result)?;
-    if table.len() != 1 || body.len() != 1 {
-        return Err(Ended::Broken("scan_table or scan_list of aml_terms"));
+    let noted = answered("scan", scan(alloc, TABLE, &root, false, &Arities::new(alloc)))?;
+    if noted.marks.len() != 1 || noted.added.entries().len() != 1 {
+        return Err(Ended::Broken("scan"));
     }
     Ok(())
 }
@@ -71,12 +68,16 @@ fn text_of(marks: &Marks) -> Option<&[u8]> {
 fn call_scans(alloc: Global) -> Result<(), Ended> {
     let root = Path::root(alloc);
     let mut known = Arities::new(alloc);
-    let result = aml_bytes::scan_table(alloc, TABLE, &mut known);
-    of_table("aml_bytes::scan_table", result, &known)?;
-    let result = aml_bytes::scan_list(alloc, BODY, &root, true, &known);
-    let marks = answered("aml_bytes::scan_list", result)?;
+    let result = scan_table(alloc, TABLE, &mut known);
+    of_table("scan_table", result, &known)?;
+    let result = scan_list(alloc, BODY, &root, true, &known);
+    let marks = answered("scan_list", result)?;
     if marks.count_at(CALL) != 1 || text_of(&marks) != Some(b"A".as_slice()) {
         return Err(Ended::Broken("count_at, list_at or lent_bytes"));
+    }
+    let (_, behind) = first_term(BODY, 0, &marks);
+    if behind != CALL {
+        return Err(Ended::Broken("first_term"));
     }
     Ok(())
 }

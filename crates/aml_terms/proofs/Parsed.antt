@@ -1,0 +1,32 @@
+-- What a scan leaves, copied from its bytes, is what reading gives.
+use Rattle.std.specs.Prelude.{◌≡◌, List, [], ◌∷◌, Bool, false, ℕ, Ok, Err, IsErr, IsErrAnd, refl}
+use Rattle.std.proofs.Common.{◌∙◌, sym, ap}
+use Rattle.ar_space.specs.declared.refusal.Refusal.{Refusal}
+use Rattle.ar_space.specs.Outcome.{Outcome, Answers, NotMemory, seen, answering}
+use Rattle.aml_path.specs.declared.segment.Seg.{Seg}
+use Rattle.aml_grammar.specs.declared.arities.Arity.{Arity}
+use Rattle.aml_grammar.specs.declared.marks.Mark.{Mark}
+use Rattle.aml_grammar.specs.Tree.{Tree, Trees}
+use Rattle.aml_grammar.specs.Shape.{trees_of}
+use Rattle.aml_grammar.specs.Grammar.{term_list, by_arities, reading, table_reading}
+use Rattle.aml_marked.specs.Marked.{trees_by}
+use Rattle.aml_scan.specs.Scanned.{noted}
+use Rattle.aml_terms.specs.Copying.{trees_list}
+use Rattle.aml_terms.proofs.Scans.{table_ok, scanning}
+
+listed : (ts : List Tree) → trees_list (trees_of ts) ≡ ts
+listed [] = refl
+listed (t ∷ ts) = ap (λ l. t ∷ l) (listed ts)
+
+-- a copy of what was read
+pub copied_ok : {B : Type 0} (r : Outcome B) (view : B → List Tree) (read : List Tree) (ts : Trees) (x : Outcome (List Tree)) → Answers (Ok read) x → ts ≡ trees_of read → Answers (seen view r) (Ok (trees_list ts)) → Answers (seen view r) x
+copied_ok r view read ts x h is i = record { is = λ ne. h.is tt ∙ ap (λ l. Ok l) (sym (ap trees_list is ∙ listed read)) ∙ i.is ne }
+
+-- a copy of what a table holds, and the arities behind it
+pub copied_table : (items read : List Tree) (ts : Trees) (after : List Arity) (x : Outcome (List Tree × List Arity)) → Answers (Ok (read, after)) x → ts ≡ trees_of read → Answers (Ok items) (Ok (trees_list ts)) → Answers (Ok (items, after)) x
+copied_table items read ts after x h is i =
+    let same : trees_list ts ≡ items = cc (i.is tt) in
+    let all : read ≡ items = sym (ap trees_list is ∙ listed read) ∙ same in
+    record { is = λ ne. h.is tt ∙ ap (λ l. Ok (l, after)) all }
+
+pub ruleset parsing = (scanning, copied_ok, copied_table, answering)
