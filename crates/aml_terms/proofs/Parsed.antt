@@ -23,10 +23,10 @@ pub copied_ok : {B : Type 0} (r : Outcome B) (view : B → List Tree) (read : Li
 copied_ok r view read ts x h is i = record { is = λ ne. h.is tt ∙ ap (λ l. Ok l) (sym (ap trees_list is ∙ listed read)) ∙ i.is ne }
 
 -- a copy of what a table holds, and the arities behind it
-pub copied_table : (items read : List Tree) (ts : Trees) (after : List Arity) (x : Outcome (List Tree × List Arity)) → Answers (Ok (read, after)) x → ts ≡ trees_of read → Answers (Ok items) (Ok (trees_list ts)) → Answers (Ok (items, after)) x
-copied_table items read ts after x h is i =
+pub copied_table : (bs : List ℕ) (known after all : List Arity) (marks : List Mark) (items : List Tree) (ts : Trees) → Answers (Ok (marks, after)) (noted (term_list by_arities bs [] false known)) → ts ≡ trees_of (trees_by marks bs) → Answers (Ok items) (Ok (trees_list ts)) → all ≡ after → Answers (Ok (items, all)) (table_reading bs known)
+copied_table bs known after all marks items ts h is i so =
     let same : trees_list ts ≡ items = cc (i.is tt) in
-    let all : read ≡ items = sym (ap trees_list is ∙ listed read) ∙ same in
-    record { is = λ ne. h.is tt ∙ ap (λ l. Ok (l, after)) all }
+    let read : trees_by marks bs ≡ items = sym (ap trees_list is ∙ listed (trees_by marks bs)) ∙ same in
+    record { is = λ ne. (table_ok bs known marks after h).is tt ∙ ap (λ l. Ok (l, after)) read ∙ ap (λ a. Ok (items, a)) (sym so) }
 
 pub ruleset parsing = (scanning, copied_ok, copied_table, answering)

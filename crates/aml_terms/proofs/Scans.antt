@@ -13,14 +13,6 @@ use Rattle.aml_marked.specs.Marked.{Ascending, trees_by}
 use Rattle.aml_marked.proofs.Law.{one_list, marks_ascend}
 use Rattle.aml_scan.specs.Scanned.{noted, marked}
 
-marked_is : (p : Outcome (List Tree) × State) (ms : List Mark) → marked p ≡ Ok ms → (ts : List Tree) × (s : State) × (p ≡ (Ok ts, s)) × (s.marks ≡ ms)
-marked_is (Ok ts, s) ms e = (ts, s, refl, cc e)
-marked_is (Err x, s) ms e = absurd (cc e)
-
-marked_err : (p : Outcome (List Tree) × State) (x : Refusal) → marked p ≡ Err x → p.0 ≡ Err x
-marked_err (Ok ts, s) x e = absurd (cc e)
-marked_err (Err y, s) x e = let same : y ≡ x = cc e in ap (λ z. Err z) same
-
 -- the value of an outcome, or another where there is none
 abbrev value_or : {A : Type 0} → A → Outcome A → A
 value_or d (Ok a) = a
@@ -30,32 +22,41 @@ noted_is : (p : Outcome (List Tree) × State) (ms : List Mark) (after : List Ari
 noted_is (Ok ts, s) ms after e = (ts, s, refl, ap (λ (q : Outcome (List Mark × List Arity)). (value_or (s.marks, s.arities) q).0) e, ap (λ (q : Outcome (List Mark × List Arity)). (value_or (s.marks, s.arities) q).1) e)
 noted_is (Err x, s) ms after e = absurd (cc e)
 
-noted_err : (p : Outcome (List Tree) × State) (x : Refusal) → noted p ≡ Err x → with_arities p ≡ Err x
+noted_err : (p : Outcome (List Tree) × State) (x : Refusal) → noted p ≡ Err x → (p.0 ≡ Err x) × (marked p ≡ Err x) × (with_arities p ≡ Err x)
 noted_err (Ok ts, s) x e = absurd (cc e)
-noted_err (Err y, s) x e = let same : y ≡ x = cc e in ap (λ z. Err z) same
+noted_err (Err y, s) x e = let same : y ≡ x = cc e in (ap (λ z. Err z) same, ap (λ z. Err z) same, ap (λ z. Err z) same)
+
+marked_ok : (p : Outcome (List Tree) × State) (ms : List Mark) (after : List Arity) → noted p ≡ Ok (ms, after) → marked p ≡ Ok ms
+marked_ok p ms after e = let x = noted_is p ms after e in ap marked x.2 ∙ ap (λ m. Ok m) x.3
 
 module _ (bs : List ℕ) (scope : List Seg) (body : Bool) (known : List Arity) where
-  pub list_ascends : (ms : List Mark) → Answers (Ok ms) (marked (term_list by_arities bs scope body known)) → Ascending ms
-  list_ascends ms h =
-      let x = marked_is (term_list by_arities bs scope body known) ms (h.is tt) in
+  pub list_ascends : (ms : List Mark) (after : List Arity) → Answers (Ok (ms, after)) (noted (term_list by_arities bs scope body known)) → Ascending ms
+  list_ascends ms after h =
+      let x = noted_is (term_list by_arities bs scope body known) ms after (h.is tt) in
       subst Ascending x.3 (marks_ascend bs scope body known x.0 x.1 x.2)
 
-  pub list_ok : (ms : List Mark) → Answers (Ok ms) (marked (term_list by_arities bs scope body known)) → Answers (Ok (trees_by ms bs)) (reading bs scope body known)
-  list_ok ms h =
-      let x = marked_is (term_list by_arities bs scope body known) ms (h.is tt) in
+  pub marks_ok : (ms : List Mark) (after : List Arity) → Answers (Ok (ms, after)) (noted (term_list by_arities bs scope body known)) → Answers (Ok ms) (marked (term_list by_arities bs scope body known))
+  marks_ok ms after h = record { is = λ ne. marked_ok (term_list by_arities bs scope body known) ms after (h.is tt) }
+
+  pub list_ok : (ms : List Mark) (after : List Arity) → Answers (Ok (ms, after)) (noted (term_list by_arities bs scope body known)) → Answers (Ok (trees_by ms bs)) (reading bs scope body known)
+  list_ok ms after h =
+      let x = noted_is (term_list by_arities bs scope body known) ms after (h.is tt) in
       let same : trees_by ms bs ≡ x.0 = ap (λ m. trees_by m bs) (sym x.3) ∙ one_list bs scope body known x.0 x.1 x.2 in
       record { is = λ ne. ap (λ (p : Outcome (List Tree) × State). p.0) x.2 ∙ ap (λ ts. Ok ts) (sym same) }
 
-  pub list_err : {B : Type 0} {e : Refusal} (r : Outcome B) (view : B → List Tree) → Answers {A = List Mark} (Err e) (marked (term_list by_arities bs scope body known)) → IsErr r × IsErrAnd r (λ y. y ≡ e) → Answers (seen view r) (reading bs scope body known)
+  pub marks_err : {B : Type 0} {e : Refusal} (r : Outcome B) (view : B → List Mark) → Answers {A = List Mark × List Arity} (Err e) (noted (term_list by_arities bs scope body known)) → IsErr r × IsErrAnd r (λ y. y ≡ e) → Answers (seen view r) (marked (term_list by_arities bs scope body known))
+  marks_err (Ok b) view h i = absurd (cc i.0)
+  marks_err {e = e} (Err y) view h i = record { is = λ ne. (noted_err (term_list by_arities bs scope body known) e (h.is (λ q. ne (i.1 ∙ q)))).1 ∙ ap (λ x. Err x) (sym i.1) }
+
+  pub marks_no : {e : Refusal} (r : Outcome (List Mark)) → Answers {A = List Mark × List Arity} (Err e) (noted (term_list by_arities bs scope body known)) → IsErr r × IsErrAnd r (λ y. y ≡ e) → Answers r (marked (term_list by_arities bs scope body known))
+  marks_no (Ok b) h i = absurd (cc i.0)
+  marks_no {e = e} (Err y) h i = record { is = λ ne. (noted_err (term_list by_arities bs scope body known) e (h.is (λ q. ne (i.1 ∙ q)))).1 ∙ ap (λ x. Err x) (sym i.1) }
+
+  pub list_err : {B : Type 0} {e : Refusal} (r : Outcome B) (view : B → List Tree) → Answers {A = List Mark × List Arity} (Err e) (noted (term_list by_arities bs scope body known)) → IsErr r × IsErrAnd r (λ y. y ≡ e) → Answers (seen view r) (reading bs scope body known)
   list_err (Ok b) view h i = absurd (cc i.0)
-  list_err {e = e} (Err y) view h i = record { is = λ ne. marked_err (term_list by_arities bs scope body known) e (h.is (λ q. ne (i.1 ∙ q))) ∙ ap (λ x. Err x) (sym i.1) }
+  list_err {e = e} (Err y) view h i = record { is = λ ne. (noted_err (term_list by_arities bs scope body known) e (h.is (λ q. ne (i.1 ∙ q)))).0 ∙ ap (λ x. Err x) (sym i.1) }
 
 module _ (bs : List ℕ) (known : List Arity) where
-  pub table_ascends : (ms : List Mark) (after : List Arity) → Answers (Ok (ms, after)) (noted (term_list by_arities bs [] false known)) → Ascending ms
-  table_ascends ms after h =
-      let x = noted_is (term_list by_arities bs [] false known) ms after (h.is tt) in
-      subst Ascending x.3 (marks_ascend bs [] false known x.0 x.1 x.2)
-
   pub table_ok : (ms : List Mark) (after : List Arity) → Answers (Ok (ms, after)) (noted (term_list by_arities bs [] false known)) → Answers (Ok (trees_by ms bs, after)) (table_reading bs known)
   table_ok ms after h =
       let x = noted_is (term_list by_arities bs [] false known) ms after (h.is tt) in
@@ -64,6 +65,6 @@ module _ (bs : List ℕ) (known : List Arity) where
 
   pub table_err : {B : Type 0} {e : Refusal} (r : Outcome B) (view : B → List Tree × List Arity) → Answers {A = List Mark × List Arity} (Err e) (noted (term_list by_arities bs [] false known)) → IsErr r × IsErrAnd r (λ y. y ≡ e) → Answers (seen view r) (table_reading bs known)
   table_err (Ok b) view h i = absurd (cc i.0)
-  table_err {e = e} (Err y) view h i = record { is = λ ne. noted_err (term_list by_arities bs [] false known) e (h.is (λ q. ne (i.1 ∙ q))) ∙ ap (λ x. Err x) (sym i.1) }
+  table_err {e = e} (Err y) view h i = record { is = λ ne. (noted_err (term_list by_arities bs [] false known) e (h.is (λ q. ne (i.1 ∙ q)))).2 ∙ ap (λ x. Err x) (sym i.1) }
 
-pub ruleset scanning = (list_ascends, list_ok, list_err, table_ascends, table_ok, table_err)
+pub ruleset scanning = (list_ascends, marks_ok, marks_err, marks_no, list_ok, list_err, table_ok, table_err)

@@ -5,4 +5,4 @@ use Rattle.aml_scan.proofs.lists.scan_behind.Goals as goal
 
 pub returns : goal.returns
 unfolding term_list
-returns g c = noted_ok (items (term_at by_arities max_depth) positions.ListItem c.args.scope.now (outermost c.args.body)) (rw c.new-reader.ensures at c.in_ok-items.ensures.reads) c.into_noted.ensures.marks c.into_noted.ensures.arities
+returns g c = noted_ok (items (term_at by_arities max_depth) positions.ListItem c.args.scope.now (outermost c.args.body)) (rw c.new-reader.ensures at c.in_ok-items.ensures.reads) c.into_noted-marks.ensures.marks c.into_noted-marks.ensures.arities

@@ -1,7 +1,7 @@
 use Rattle.std.specs.Prelude.{None}
 use Rattle.std.proofs.Common.{◌≡◌, ◌<◌, ◌≤◌, ◌+◌, ◌*◌, ◌∷◌, ◌++◌, [], Some, Ok, length, map, rules, arith, ◌∙◌, ap, sym}
 use Rattle.std.proofs.lemmas.List.{map_push}
-use Rattle.aml_grammar.specs.Tree.{inner, list}
+use Rattle.aml_grammar.specs.Tree.{list}
 use Rattle.aml_grammar.specs.Shape.{trees_of}
 use Rattle.aml_grammar.specs.Apart.{operand_of}
 use Rattle.aml_grammar.specs.View.{part_view, tree_view}

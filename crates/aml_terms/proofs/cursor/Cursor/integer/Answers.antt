@@ -1,5 +1,4 @@
-use Rattle.std.proofs.Common.{◌<◌, ◌≤◌, ◌^◌, ℕ, length, take, arith, length-take, lit<}
-use Rattle.std.specs.Prelude.{min}
+use Rattle.std.proofs.Common.{◌≤◌, ◌^◌, length, take, arith, length-take, lit<}
 use Rattle.std.proofs.Math.Nat.{pow-le-pow_right}
 use Rattle.aml_terms.proofs.cursor.Cursor.integer.Goals as goal
 
