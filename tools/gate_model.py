@@ -57,6 +57,8 @@ def below(deps, name):
 
 
 def tasks_of(deps, lines, table):
+    if missing := [it for it in deps if it not in table]:
+        sys.exit(f"tools/gate_table.txt has no line for {', '.join(missing)}")
     tasks = {}
     for name in sorted(deps, key=lambda it: len(below(deps, it))):
         proof, edits = table[name]

@@ -48,7 +48,7 @@ HEAD = """# Opcodes
 One row for each opcode of AML (ACPI 6.5, 20.3).
 
 - **Operands** are those of the grammar's row (`crates/aml_grammar/specs/Table.antt`; the same table as code is
-  `crates/aml_terms/src/table.rt`), behind the class that says where the term may stand. `in a package` means that a package length
+  `crates/aml_scan/src/table.rt`), behind the class that says where the term may stand. `in a package` means that a package length
   comes first.
 - **Kind** is the rule that evaluates the term (`crates/aml_meaning/specs/Terms.antt`; as code `crates/aml_meaning/src/kinds.rt`).
   *left out* means that the term is read, and refused by number 73 with its opcode where it is evaluated.
