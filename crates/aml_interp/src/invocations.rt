@@ -18,12 +18,12 @@ use crate::operands::{Reader, as_many, list};
 use crate::readings::read_body;
 use crate::task::Task;
 use crate::terms::{eval_list, eval_value};
-use aml_terms::list_at;
 use aml_grammar::TermReader;
 use aml_meaning::{Flow, Invocation, Running, WorldState};
 use aml_namespace::Scope;
 use aml_objects::{Body, Field, NodeId, Value};
 use aml_path::{NameString, Path};
+use aml_terms::list_at;
 use ar_space::{EvaluationFault, Refusal, Space};
 use std::alloc::Global;
 

@@ -9,10 +9,10 @@ use crate::operands::Reader;
 use crate::readings::read_table;
 use crate::task::Task;
 use crate::terms::eval_list;
-use aml_terms::list_at;
 use aml_meaning::{Running, World};
 use aml_objects::Value;
 use aml_path::Path;
+use aml_terms::list_at;
 use ar_space::{Refusal, Space};
 use std::alloc::Global;
 

@@ -6,9 +6,9 @@ ghost use Rattle.aml_grammar.specs.Apart.{operand_of, bytes_of};
 ghost use Rattle.aml_meaning.specs.Readings.{as_many};
 ghost use Rattle.aml_meaning.specs.Terms.{number_of, inner_of, list_of, else_of, count_of};
 
-use aml_terms::At;
 use aml_grammar::{OperandView, TermReader};
 use aml_objects::Octets;
+use aml_terms::At;
 use ar_space::{EvaluationFault, NameFault, Refusal};
 use std::alloc::Global;
 

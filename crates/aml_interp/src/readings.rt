@@ -6,10 +6,10 @@ ghost use Rattle.aml_marked.specs.Marked.{trees_by};
 ghost use Rattle.aml_meaning.specs.Calling.{table_terms};
 ghost use Rattle.aml_meaning.specs.Invocations.{body_terms};
 
-use aml_terms::{Marks, scan_list, scan_table};
 use aml_meaning::WorldState;
 use aml_objects::Body;
 use aml_path::Path;
+use aml_terms::{Marks, scan_list, scan_table};
 use ar_space::Refusal;
 use std::alloc::Global;
 

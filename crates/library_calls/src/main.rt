@@ -1,4 +1,4 @@
-//! Makes every public call of the libraries once, over a small machine, and tells whether what is promised of want of memory holds.
+//! Makes the main calls of the libraries once each, over a small machine, and tells whether what is promised of want of memory holds.
 //!
 //! With ample memory each call answers. Where memory runs out in a call, the call says so; after a call of the machine itself each
 //! later one is refused as spent, and after a call of a library above it the machine goes on, unless it is spent. After a table that

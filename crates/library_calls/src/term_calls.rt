@@ -31,7 +31,7 @@ fn of_table<T: Drop>(
     answered(call, came)
 }
 
-/// The calls that make trees.
+/// The calls that make terms in memory.
 fn call_parser(alloc: Global) -> Result<(), Ended> {
     let root = Path::root(alloc);
     let mut known = Arities::new(alloc);
@@ -48,7 +48,10 @@ fn call_parser(alloc: Global) -> Result<(), Ended> {
 /// The call that notes where calls stand.
 fn call_noting(alloc: Global) -> Result<(), Ended> {
     let root = Path::root(alloc);
-    let noted = answered("scan", scan(alloc, TABLE, &root, false, &Arities::new(alloc)))?;
+    let noted = answered(
+        "scan",
+        scan(alloc, TABLE, &root, false, &Arities::new(alloc)),
+    )?;
     if noted.marks.len() != 1 || noted.added.entries().len() != 1 {
         return Err(Ended::Broken("scan"));
     }
