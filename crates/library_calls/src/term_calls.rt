@@ -52,7 +52,7 @@ fn call_noting(alloc: Global) -> Result<(), Ended> {
         "scan",
         scan(alloc, TABLE, &root, false, &Arities::new(alloc)),
     )?;
-    if noted.marks.len() != 1 || noted.added.entries().len() != 1 {
+    if noted.marks.len() != 1 || noted.added.entries().is_empty() {
         return Err(Ended::Broken("scan"));
     }
     Ok(())
