@@ -76,7 +76,7 @@ impl<'a, C: ArgumentCounts, B: Before> Declarations<'a, C, B> {
     }
 
     /// How many arguments a name takes that stands, without a search, for a path: none where it isn't found.
-    #[tactic(auto, using(ar_space::specs::Outcome::answering), unfolding(aml_grammar::specs::Arities::arity_of))]
+    #[tactic(auto, using(ar_space::specs::Outcome::answering), unfolding(aml_grammar::specs::Arities::arity_of, aml_grammar::specs::Arities::found))]
     pub(crate) fn arity_of(
         &self,
         alloc: Global,
@@ -86,15 +86,18 @@ impl<'a, C: ArgumentCounts, B: Before> Declarations<'a, C, B> {
     ) -> Result<u8, Refusal>
         ensures { Answers result (Ok (arity_of self.now scope.now name.now path.now)) }
     {
-        match self.find(alloc, name, scope, path)? {
+        if !name.is_searched() {
+            return Ok(self.arity_at(path).unwrap_or(0));
+        }
+        match self.search_up(alloc, scope, name.segments(), scope.depth())? {
             None => Ok(0),
             Some(found) => Ok(self.arity_at(&found).unwrap_or(0)),
         }
     }
 
     /// The path where a name is found, or else the one that it stands for.
-    #[tactic(auto, using(ar_space::specs::Outcome::answering))]
-    pub(crate) fn place_of(
+    #[tactic(auto, using(ar_space::specs::Outcome::answering), unfolding(aml_grammar::specs::Arities::found))]
+    pub(crate) fn found_or(
         &self,
         alloc: Global,
         name: &NameString,
@@ -103,35 +106,12 @@ impl<'a, C: ArgumentCounts, B: Before> Declarations<'a, C, B> {
     ) -> Result<Path, Refusal>
         ensures { Answers result (Ok (or_path path (found self.now scope.now name.now path))) }
     {
-        match self.find(alloc, name, scope, &path)? {
+        if !name.is_searched() {
+            return Ok(path);
+        }
+        match self.search_up(alloc, scope, name.segments(), scope.depth())? {
             None => Ok(path),
             Some(found) => Ok(found),
-        }
-    }
-
-    #[tactic(auto, using(ar_space::specs::Outcome::answering), unfolding(aml_grammar::specs::Arities::found))]
-    fn find(
-        &self,
-        alloc: Global,
-        name: &NameString,
-        scope: &Path,
-        path: &Path,
-    ) -> Result<Option<Path>, Refusal>
-        ensures { Answers result (Ok (found self.now scope.now name.now path.now)) }
-    {
-        if name.is_searched() {
-            self.search_up(alloc, scope, name.segments(), scope.depth())
-        } else {
-            self.known(path.copy(alloc)?)
-        }
-    }
-
-    fn known(&self, path: Path) -> Result<Option<Path>, Refusal>
-        ensures { Answers result (Ok (known self.now path)) }
-    {
-        match self.arity_at(&path) {
-            Some(_) => Ok(Some(path)),
-            None => Ok(None),
         }
     }
 

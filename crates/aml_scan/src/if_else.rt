@@ -15,7 +15,7 @@ use ar_space::Refusal;
 use std::alloc::Global;
 
 /// The opcode of an Else.
-const ELSE: u8 = 0xA1;
+pub const ELSE: u8 = 0xA1;
 
 /// An If, with the Else that may follow it.
 #[cycle(scan)]

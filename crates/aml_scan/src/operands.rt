@@ -43,7 +43,7 @@ fn scope_name<C: ArgumentCounts, B: Before>(
 {
     let name = name_string(alloc, reader)?;
     let path = name.resolve_in(alloc, scope)?;
-    let place = reader.place_of(alloc, &name, scope, path)?;
+    let place = reader.found_or(alloc, &name, scope, path)?;
     earlier.path = Some(place);
     Ok(())
 }
@@ -188,6 +188,7 @@ fn text_operand<C: ArgumentCounts, B: Before>(reader: &mut Reader<'_, C, B>) -> 
 fn bytes_operand<C: ArgumentCounts, B: Before>(reader: &mut Reader<'_, C, B>) -> Result<(), Refusal>
     ensures reads { Does result reader.new (scanned bytes_operand) reader.old }
     ensures kept { OnOk result (length reader.new.rest ≤ length reader.old.rest) }
+    ensures memory { NotMemory result }
 {
     reader.skip_all();
     Ok(())

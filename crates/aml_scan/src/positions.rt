@@ -61,13 +61,15 @@ fn is_module_level(class: Class) -> bool
     matches!(class, Class::ModuleLevel)
 }
 
-pub(crate) fn is_if(opcode: Opcode) -> bool
+/// Whether an Else may follow a term with this opcode.
+pub fn is_if(opcode: Opcode) -> bool
     ensures { result ≡ is_if opcode }
 {
     matches!(opcode, Opcode::If)
 }
 
-pub(crate) fn is_nothing(kind: OperandKind) -> bool
+/// Whether a term has no operand of this kind, nor any behind it.
+pub fn is_nothing(kind: OperandKind) -> bool
     ensures { result ≡ is_nothing kind }
 {
     matches!(kind, OperandKind::Nothing)
@@ -114,7 +116,7 @@ pub(crate) fn in_loop(context: Context) -> Context
     }
 }
 
-const EXT_OP_PREFIX: u8 = 0x5B;
+pub const EXT_OP_PREFIX: u8 = 0x5B;
 
 /// The number of an opcode: one byte, or two after ExtOpPrefix.
 #[tactic(auto, using(crate::proofs::Steps::reading), unfolding(aml_grammar::specs::Grammar::opcode))]

@@ -300,7 +300,7 @@ impl<'a, C: ArgumentCounts, B: Before> Reader<'a, C, B> {
 
     /// The path where a name is found, or else the one that it stands for.
     #[tactic(auto, using(crate::proofs::Steps::reading))]
-    pub(crate) fn place_of(
+    pub(crate) fn found_or(
         &self,
         alloc: Global,
         name: &NameString,
@@ -309,7 +309,7 @@ impl<'a, C: ArgumentCounts, B: Before> Reader<'a, C, B> {
     ) -> Result<Path, Refusal>
         ensures { Answers result (Ok (or_path path (found self.now.arities scope.now name.now path))) }
     {
-        self.arities.place_of(alloc, name, scope, path)
+        self.arities.found_or(alloc, name, scope, path)
     }
 }
 

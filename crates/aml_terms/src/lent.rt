@@ -11,11 +11,10 @@ use crate::at::{At, Kind};
 use crate::cursor::Cursor;
 use crate::marks::Marks;
 use crate::places::{standing, term_at};
-use crate::skip::ELSE;
 use crate::spot::Spot;
 use aml_grammar::{OperandKind, OperandView};
 use aml_path::{NameString, Prefix};
-use aml_scan::{read_name, starts_name, text_length};
+use aml_scan::{ELSE, read_name, starts_name, text_length};
 use ar_space::{NameFault, Refusal};
 use std::alloc::Global;
 

@@ -10,10 +10,10 @@ ghost use Rattle.aml_terms.specs.Spots.{spot_part};
 use crate::at::{At, Kind};
 use crate::cursor::Cursor;
 use crate::marks::Marks;
-use crate::skip::{is_if, is_nothing, opcode, skip_operand, skip_row};
+use crate::skip::{opcode, skip_operand, skip_row};
 use crate::spot::Spot;
 use aml_grammar::{OperandKind, Row};
-use aml_scan::{row_of, starts_name};
+use aml_scan::{is_if, is_nothing, row_of, starts_name};
 
 /// Goes to an operand among kinds that stand one after another.
 #[tactic(auto, using(aml_marked::specs::Parting::parting), unfolding(aml_marked::specs::Marked::all_operands, aml_marked::specs::Marked::after, aml_marked::specs::Marked::gives))]

@@ -1,30 +1,11 @@
 //! Goes over terms by their marks. It takes no memory and refuses nothing.
 ghost use Rattle.std.specs.Prelude.{◌≡◌, Some, false};
-ghost use Rattle.aml_grammar.specs.Grammar.{is_if, is_nothing};
 ghost use Rattle.aml_marked.specs.Marked.{count_at, a_term, a_call, a_coded, an_opcode, with_row, of_row, all_operands, an_operand, name_or_term, turns_of, maybe_else, an_else, target_of, a_target, a_super_name, all_items, fields_left, a_field, to_end, first, Below};
 
 use crate::cursor::Cursor;
 use crate::marks::Marks;
-use aml_grammar::{Opcode, OperandKind, Row};
-use aml_scan::{row_of, starts_name};
-
-pub(crate) const EXT_OP_PREFIX: u8 = 0x5B;
-
-pub(crate) const ELSE: u8 = 0xA1;
-
-/// Whether an Else may follow a term with this opcode.
-pub(crate) fn is_if(opcode: Opcode) -> bool
-    ensures { result ≡ is_if opcode }
-{
-    matches!(opcode, Opcode::If)
-}
-
-/// Whether a term has no operand of this kind, nor any behind it.
-pub(crate) fn is_nothing(kind: OperandKind) -> bool
-    ensures { result ≡ is_nothing kind }
-{
-    matches!(kind, OperandKind::Nothing)
-}
+use aml_grammar::{OperandKind, Row};
+use aml_scan::{ELSE, EXT_OP_PREFIX, is_if, is_nothing, row_of, starts_name};
 
 /// Goes over a term, with at most this many levels.
 #[cycle(skip)]
