@@ -19,6 +19,7 @@ use ar_space::{Refusal, Space};
 use std::alloc::Global;
 
 /// Data, by its kind.
+#[inline(never)]
 #[cycle(evaluation)]
 #[tactic(auto, using(crate::proofs::Steps::evaluating))]
 pub(crate) fn eval_data<S: Space>(

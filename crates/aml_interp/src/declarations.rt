@@ -18,6 +18,7 @@ use ar_space::{Refusal, Space};
 use std::alloc::Global;
 
 /// A declaration or a Scope, by its kind.
+#[inline(never)]
 #[cycle(evaluation)]
 #[tactic(auto, using(crate::proofs::Steps::evaluating))]
 pub(crate) fn eval_declaration<S: Space>(

@@ -31,6 +31,7 @@ use std::alloc::Global;
 pub(crate) const MAX_DEPTH: usize = 32;
 
 /// A name where a value stands, and its arguments.
+#[inline(never)]
 #[cycle(evaluation)]
 #[tactic(auto, using(crate::proofs::Steps::evaluating), unfolding(aml_meaning::specs::InvocationTerms::name_value))]
 pub(crate) fn eval_name_value<S: Space>(

@@ -101,6 +101,7 @@ fn eval_two<S: Space>(
     eval_targeted(alloc, run, job, 2, result)
 }
 
+#[inline(never)]
 #[cycle(evaluation)]
 #[tactic(auto, using(crate::proofs::Steps::evaluating), unfolding(aml_meaning::specs::OperatorTerms::divide_rule))]
 fn eval_divide<S: Space>(
@@ -151,6 +152,7 @@ fn eval_test<S: Space>(
     Ok(Flow::Value(result))
 }
 
+#[inline(never)]
 #[cycle(evaluation)]
 #[tactic(auto, using(crate::proofs::Steps::evaluating), unfolding(aml_meaning::specs::OperatorTerms::not_rule))]
 fn eval_not<S: Space>(alloc: Global, run: &mut Running<S>, job: &Task<'_>) -> Result<Flow, Refusal>
@@ -182,6 +184,7 @@ fn eval_count<S: Space>(
     Ok(Flow::Value(result))
 }
 
+#[inline(never)]
 #[cycle(evaluation)]
 #[tactic(auto, using(crate::proofs::Steps::evaluating), unfolding(aml_meaning::specs::OperatorTerms::size_rule))]
 fn eval_size<S: Space>(alloc: Global, run: &mut Running<S>, job: &Task<'_>) -> Result<Flow, Refusal>
@@ -194,6 +197,7 @@ fn eval_size<S: Space>(alloc: Global, run: &mut Running<S>, job: &Task<'_>) -> R
     Ok(Flow::Value(size))
 }
 
+#[inline(never)]
 #[cycle(evaluation)]
 #[tactic(auto, using(crate::proofs::Steps::evaluating), unfolding(aml_meaning::specs::OperatorTerms::type_rule))]
 fn eval_type<S: Space>(alloc: Global, run: &mut Running<S>, job: &Task<'_>) -> Result<Flow, Refusal>
@@ -206,6 +210,7 @@ fn eval_type<S: Space>(alloc: Global, run: &mut Running<S>, job: &Task<'_>) -> R
 }
 
 /// A mutex is always free for who asks: Acquire gives False.
+#[inline(never)]
 #[cycle(evaluation)]
 #[tactic(auto, using(crate::proofs::Steps::evaluating), unfolding(aml_meaning::specs::OperatorTerms::acquire_rule))]
 fn eval_acquire<S: Space>(

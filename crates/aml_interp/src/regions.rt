@@ -21,6 +21,7 @@ use ar_space::{NameFault, Refusal, Space};
 use std::alloc::Global;
 
 /// An operation region, a list of fields or a buffer field, by its kind.
+#[inline(never)]
 #[cycle(evaluation)]
 #[tactic(auto, using(crate::proofs::Steps::evaluating))]
 pub(crate) fn eval_region_term<S: Space>(

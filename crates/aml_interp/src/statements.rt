@@ -211,6 +211,7 @@ fn eval_turn_of<S: Space>(
     }
 }
 
+#[inline(never)]
 #[cycle(evaluation)]
 #[tactic(auto, using(crate::proofs::Steps::evaluating), unfolding(aml_meaning::specs::StatementTerms::return_rule))]
 fn eval_return<S: Space>(
@@ -225,6 +226,7 @@ fn eval_return<S: Space>(
     Ok(Flow::Return(value))
 }
 
+#[inline(never)]
 #[cycle(evaluation)]
 #[tactic(auto, using(crate::proofs::Steps::evaluating), unfolding(aml_meaning::specs::StatementTerms::release_rule))]
 fn eval_release<S: Space>(
@@ -241,6 +243,7 @@ fn eval_release<S: Space>(
 }
 
 /// Nobody is told: the operands are evaluated, and nothing else.
+#[inline(never)]
 #[cycle(evaluation)]
 #[tactic(auto, using(crate::proofs::Steps::evaluating), unfolding(aml_meaning::specs::StatementTerms::notify_rule))]
 fn eval_notify<S: Space>(
@@ -257,6 +260,7 @@ fn eval_notify<S: Space>(
 }
 
 /// Stall and Sleep: no time passes.
+#[inline(never)]
 #[cycle(evaluation)]
 #[tactic(auto, using(crate::proofs::Steps::evaluating), unfolding(aml_meaning::specs::StatementTerms::pause_rule))]
 fn eval_pause<S: Space>(
@@ -271,6 +275,7 @@ fn eval_pause<S: Space>(
     Ok(Flow::Next)
 }
 
+#[inline(never)]
 #[cycle(evaluation)]
 #[tactic(auto, using(crate::proofs::Steps::evaluating), unfolding(aml_meaning::specs::StatementTerms::fatal_rule))]
 fn eval_fatal<S: Space>(

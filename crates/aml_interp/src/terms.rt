@@ -26,6 +26,9 @@ use ar_space::{EvaluationFault, NameFault, Refusal, Space};
 use std::alloc::Global;
 
 /// A term: it costs a step, and is then evaluated by its rule.
+///
+/// The frame of this function stands on the stack once for each nested term. Rules with many locals that run seldom are therefore kept
+/// out of it, by `inline(never)`.
 #[cycle(evaluation)]
 #[tactic(auto, using(crate::proofs::Steps::evaluating), unfolding(aml_meaning::specs::Evaluation::rule))]
 pub(crate) fn eval_term<S: Space>(
