@@ -55,3 +55,10 @@ pub mod RulesPreserve
 pub mod SpaceReached
 pub mod StoreTargetsPreserve
 pub mod WorldRelations
+pub mod CleanChanges
+pub mod CleanNames
+pub mod CleanObjects
+pub mod CleanOutcomes
+pub mod CleanValues
+pub mod FaultsOfChanges
+pub mod CleanReading

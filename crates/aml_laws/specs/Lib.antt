@@ -13,3 +13,4 @@ pub mod Parts
 pub mod Plain
 pub mod Reached
 pub mod Within
+pub mod SpaceFaults
