@@ -62,3 +62,10 @@ pub mod CleanOutcomes
 pub mod CleanValues
 pub mod FaultsOfChanges
 pub mod CleanReading
+pub mod CleanWorlds
+pub mod FaultsOfOperations
+pub mod FaultsOfStoreTargets
+pub mod FaultsOfFields
+pub mod FaultsOfCalls
+pub mod FaultsOfRules
+pub mod FaultsOfTerms
