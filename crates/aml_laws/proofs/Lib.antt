@@ -69,3 +69,5 @@ pub mod FaultsOfFields
 pub mod FaultsOfCalls
 pub mod FaultsOfRules
 pub mod FaultsOfTerms
+pub mod FaultsOfEvaluations
+pub mod SpaceFaultsExplained
