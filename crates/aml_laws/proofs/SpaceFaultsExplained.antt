@@ -1,6 +1,6 @@
 -- A refusal by a fault of the register space is what the last access answered.
-use Rattle.std.specs.Prelude.{◌≡◌, ℕ, List, Err}
-use Rattle.std.proofs.Common.{subst}
+use Rattle.std.specs.Prelude.{◌≡◌, ◌≢◌, ℕ, List, Err}
+use Rattle.std.proofs.Common.{ap, subst}
 use Rattle.ar_space.specs.declared.refusal.SpaceFault.{SpaceFault}
 use Rattle.ar_space.specs.declared.refusal.Refusal.TheVariants.{Space}
 use Rattle.ar_space.specs.Accesses.{Accesses}
@@ -14,7 +14,7 @@ use Rattle.aml_meaning.specs.Tasks.{Task, in_turn}
 use Rattle.aml_meaning.specs.Invocations.{invoked}
 use Rattle.aml_meaning.specs.Meaning.{meaning}
 use Rattle.aml_meaning.specs.Calling.{loaded, evaluated, answered}
-use Rattle.aml_laws.specs.SpaceFaults.{LastFaults}
+use Rattle.aml_laws.specs.SpaceFaults.{Faults, read, written, LastFaults, NeverFaults}
 use Rattle.aml_laws.proofs.FaultsOfChanges.{Explained}
 use Rattle.aml_laws.proofs.FaultsOfCalls.{in_turn_faults, invoked_faults}
 use Rattle.aml_laws.proofs.FaultsOfTerms.{meaning_faults}
@@ -41,3 +41,18 @@ module _ {S : Type 0} (accesses : Accesses S) where
 
   pub fault_of_answer : (fault : SpaceFault) (p : List Seg) (arguments : List Given) (steps : ℕ) (w : State S) → (answered accesses p arguments steps w).0 ≡ Err (Space fault) → LastFaults accesses fault w.space (answered accesses p arguments steps w).1.space
   fault_of_answer fault p arguments steps w e = fault_explained (answered accesses p arguments steps w).0 w.space _ fault ((answered_faults accesses p arguments steps).explained w) e
+
+  -- ---- a space that never answers with the fault
+
+  no_such_access : (fault : SpaceFault) (s t : S) → NeverFaults accesses fault → Faults accesses fault s t → ⊥
+  no_such_access fault s t never (read place width e) = never.reads s place width (ap (λ a. a.0) e)
+  no_such_access fault s t never (written place width value e) = never.writes s place width value (ap (λ a. a.0) e)
+
+  pub never_of_table : (fault : SpaceFault) (bytes : List ℕ) (steps : ℕ) (w : State S) → NeverFaults accesses fault → (loaded accesses bytes steps w).0 ≢ Err (Space fault)
+  never_of_table fault bytes steps w never e = let h = fault_of_table fault bytes steps w e in no_such_access fault h.last _ never h.faults
+
+  pub never_of_value : (fault : SpaceFault) (p : List Seg) (arguments : List Value) (steps : ℕ) (w : State S) → NeverFaults accesses fault → (evaluated accesses p arguments steps w).0 ≢ Err (Space fault)
+  never_of_value fault p arguments steps w never e = let h = fault_of_value fault p arguments steps w e in no_such_access fault h.last _ never h.faults
+
+  pub never_of_answer : (fault : SpaceFault) (p : List Seg) (arguments : List Given) (steps : ℕ) (w : State S) → NeverFaults accesses fault → (answered accesses p arguments steps w).0 ≢ Err (Space fault)
+  never_of_answer fault p arguments steps w never e = let h = fault_of_answer fault p arguments steps w e in no_such_access fault h.last _ never h.faults

@@ -1,5 +1,5 @@
 -- Where a fault of the register space comes from: the last access that was made answered with it.
-use Rattle.std.specs.Prelude.{◌≡◌, ℕ, Err}
+use Rattle.std.specs.Prelude.{◌≡◌, ◌≢◌, ℕ, Err}
 use Rattle.ar_space.specs.declared.refusal.SpaceFault.{SpaceFault}
 use Rattle.ar_space.specs.declared.space.Width.{Width}
 use Rattle.ar_space.specs.declared.space.Place.{Place}
@@ -16,3 +16,8 @@ pub record LastFaults {S : Type 0} (accesses : Accesses S) (fault : SpaceFault) 
   pub last : S
   pub reached : Reached accesses before last
   pub faults : Faults accesses fault last after
+
+-- no access answers with the fault, whatever the space is
+pub record NeverFaults {S : Type 0} (accesses : Accesses S) (fault : SpaceFault) : Type 0 where
+  pub reads : (s : S) (place : Place) (width : Width) → (accesses.reads s place width).0 ≢ Err fault
+  pub writes : (s : S) (place : Place) (width : Width) (value : ℕ) → (accesses.writes s place width value).0 ≢ Err fault
