@@ -14,7 +14,7 @@ use Rattle.aml_laws.proofs.CleanValues.{resolved_clean}
 
 -- ---- searches
 
-pub found_or_not_clean : {A : Type 0} (x0 : Option A) → Clean (found_or_not x0)
+pub found_or_not_clean : {A : Type 0} (o : Option A) → Clean (found_or_not o)
 found_or_not_clean None = tt
 found_or_not_clean (Some f) = tt
 
@@ -22,39 +22,17 @@ pub first_found_clean : (m : Map) (scope : List Seg) (n : Name) → Clean (first
 unfolding first_found
 first_found_clean m scope n = if_clean (is_searched n) _ _ (found_or_not_clean (search_up m scope n.segments (length scope))) (followed_clean _ _ (resolved_clean n scope) (λ p. found_or_not_clean (at_path m p)))
 
-pub no_alias_clean : (f : Found) (x1 : NamedObject) → Clean (no_alias f x1)
+pub no_alias_clean : (f : Found) (ob : NamedObject) → Clean (no_alias f ob)
 no_alias_clean f (object.Alias t) = tt
-no_alias_clean f object.Scope = tt
-no_alias_clean f object.Device = tt
-no_alias_clean f object.Processor = tt
-no_alias_clean f object.PowerResource = tt
-no_alias_clean f object.ThermalZone = tt
-no_alias_clean f (object.Method x) = tt
-no_alias_clean f (object.Data v) = tt
-no_alias_clean f (object.OperationRegion r) = tt
-no_alias_clean f (object.FieldUnit u) = tt
-no_alias_clean f (object.BufferField b) = tt
-no_alias_clean f (object.Mutex n) = tt
-no_alias_clean f object.Event = tt
+no_alias_clean f _ = tt
 
-pub target_of_clean : (x0 : Option Found) → Clean (target_of x0)
+pub target_of_clean : (o : Option Found) → Clean (target_of o)
 target_of_clean None = tt
 target_of_clean (Some f) = no_alias_clean f f.1.object
 
-pub by_object_clean : (m : Map) (f : Found) (x2 : NamedObject) → Clean (by_object m f x2)
+pub by_object_clean : (m : Map) (f : Found) (ob : NamedObject) → Clean (by_object m f ob)
 by_object_clean m f (object.Alias t) = target_of_clean (at_path m t)
-by_object_clean m f object.Scope = tt
-by_object_clean m f object.Device = tt
-by_object_clean m f object.Processor = tt
-by_object_clean m f object.PowerResource = tt
-by_object_clean m f object.ThermalZone = tt
-by_object_clean m f (object.Method x) = tt
-by_object_clean m f (object.Data v) = tt
-by_object_clean m f (object.OperationRegion r) = tt
-by_object_clean m f (object.FieldUnit u) = tt
-by_object_clean m f (object.BufferField b) = tt
-by_object_clean m f (object.Mutex n) = tt
-by_object_clean m f object.Event = tt
+by_object_clean m f _ = tt
 
 pub through_clean : (m : Map) (f : Found) → Clean (through m f)
 unfolding through

@@ -23,51 +23,48 @@ pub few_clean : (es : List Element) → Clean (few es)
 unfolding few
 few_clean es = if_clean (nat_lt 65535 (length es)) _ _ tt tt
 
-pub string_in_clean : (x0 : Option Object) → Clean (string_in x0)
+pub string_in_clean : (o : Option Object) → Clean (string_in o)
 string_in_clean None = tt
 string_in_clean (Some (object.String bs)) = tt
-string_in_clean (Some (object.Buffer bs)) = tt
-string_in_clean (Some (object.Package es)) = tt
+string_in_clean (Some _) = tt
 
-pub buffer_in_clean : (x0 : Option Object) → Clean (buffer_in x0)
+pub buffer_in_clean : (o : Option Object) → Clean (buffer_in o)
 buffer_in_clean None = tt
 buffer_in_clean (Some (object.String bs)) = tt
-buffer_in_clean (Some (object.Buffer bs)) = tt
-buffer_in_clean (Some (object.Package es)) = tt
+buffer_in_clean (Some _) = tt
 
-pub elements_in_clean : (x0 : Option Object) → Clean (elements_in x0)
+pub elements_in_clean : (o : Option Object) → Clean (elements_in o)
 elements_in_clean None = tt
 elements_in_clean (Some (object.String bs)) = tt
-elements_in_clean (Some (object.Buffer bs)) = tt
-elements_in_clean (Some (object.Package es)) = tt
+elements_in_clean (Some _) = tt
 
-pub byte_outcome_clean : (i : ℕ) (x1 : Object) → Clean (byte_outcome i x1)
+pub byte_outcome_clean : (i : ℕ) (ob : Object) → Clean (byte_outcome i ob)
 byte_outcome_clean i (object.String bs) = if_clean (nat_lt i (length bs)) _ _ tt tt
 byte_outcome_clean i (object.Buffer bs) = if_clean (nat_lt i (length bs)) _ _ tt tt
 byte_outcome_clean i (object.Package es) = tt
 
-pub or_dead_clean : {A : Type 0} (x0 : Option A) → Clean (or_dead x0)
+pub or_dead_clean : {A : Type 0} (o : Option A) → Clean (or_dead o)
 or_dead_clean None = tt
 or_dead_clean (Some a) = tt
 
-pub element_in_clean : (i : ℕ) (x1 : Option Object) → Clean (element_in i x1)
+pub element_in_clean : (i : ℕ) (o : Option Object) → Clean (element_in i o)
 element_in_clean i None = tt
 element_in_clean i (Some (object.String bs)) = tt
 element_in_clean i (Some (object.Buffer bs)) = tt
 element_in_clean i (Some (object.Package es)) = or_dead_clean (slice_get es i)
 
-pub byte_in_clean : (i : ℕ) (x1 : Option Object) → Clean (byte_in i x1)
+pub byte_in_clean : (i : ℕ) (o : Option Object) → Clean (byte_in i o)
 byte_in_clean i None = tt
 byte_in_clean i (Some (object.String bs)) = or_dead_clean (slice_get bs i)
 byte_in_clean i (Some (object.Buffer bs)) = or_dead_clean (slice_get bs i)
 byte_in_clean i (Some (object.Package es)) = tt
 
-pub element_outcome_clean : (i : ℕ) (x1 : Object) → Clean (element_outcome i x1)
+pub element_outcome_clean : (i : ℕ) (ob : Object) → Clean (element_outcome i ob)
 element_outcome_clean i (object.String bs) = tt
 element_outcome_clean i (object.Buffer bs) = tt
 element_outcome_clean i (object.Package es) = if_clean (nat_lt i (length es)) _ _ tt tt
 
-pub element_stands_clean : (i : ℕ) (x1 : Option Object) → Clean (element_stands i x1)
+pub element_stands_clean : (i : ℕ) (o : Option Object) → Clean (element_stands i o)
 element_stands_clean i None = tt
 element_stands_clean i (Some ob) = element_outcome_clean i ob
 
@@ -207,7 +204,7 @@ copied_clean v = direct_clean _ (λ h. if_whole_clean h _ _ ((value_copy_clean (
 
 -- ---- buffer fields
 
-pub field_within_clean : (o : ℕ) (offset : ℕ) (count : ℕ) (bytes : List ℕ) → Clean (field_within o offset count bytes)
+pub field_within_clean : (o : ℕ) (offset count : ℕ) (bytes : List ℕ) → Clean (field_within o offset count bytes)
 field_within_clean o offset count bytes = if_clean (lies_within offset count bytes) _ _ tt tt
 
 pub still_within_clean : (f : BufferField) (bytes : List ℕ) → Clean (still_within f bytes)

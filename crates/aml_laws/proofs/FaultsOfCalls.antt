@@ -24,36 +24,36 @@ use Rattle.aml_meaning.specs.declared.store_target.StoreTarget.{StoreTarget}
 use Rattle.aml_meaning.specs.declared.store_target.Stored.TheVariants as store
 use Rattle.aml_meaning.specs.declared.store_target.Stored.{Stored}
 use Rattle.aml_laws.proofs.CleanWorlds.{inner_of_clean, integer_only_clean, shallow_clean, value_in_clean}
-use Rattle.aml_laws.proofs.FaultsOfChanges.{Explained, RunExplains, WorldExplains, direct_faults, either_branch_faults, give_faults, lift_faults, settle_faults, stop_faults, then_faults}
-use Rattle.aml_laws.proofs.FaultsOfFields.{field_integer_faults, field_part_faults, field_referent_faults, field_stored_faults, field_value_faults}
-use Rattle.aml_laws.proofs.FaultsOfOperations.{body_terms_faults, integer_in_faults, invocation_found_faults}
-use Rattle.aml_laws.proofs.FaultsOfStoreTargets.{stored_faults}
+use Rattle.aml_laws.proofs.FaultsOfChanges.{Explained, RunExplains, WorldExplains, direct_explains, either_branch_explains, give_explains, lift_explains, settle_explains, stop_explains, then_explains}
+use Rattle.aml_laws.proofs.FaultsOfFields.{field_integer_explains, field_part_explains, field_referent_explains, field_stored_explains, field_value_explains}
+use Rattle.aml_laws.proofs.FaultsOfOperations.{body_terms_explains, integer_in_explains, invocation_found_explains}
+use Rattle.aml_laws.proofs.FaultsOfStoreTargets.{stored_explains}
 
 module _ {S : Type 0} (accesses : Accesses S) (ev : Task → Run S Flow) (parts : (t : Task) → RunExplains accesses (ev t)) where
-  pub operand_value_faults : (scope : List Seg) (depth : ℕ) (t : Tree) → RunExplains accesses (operand_value ev scope depth t)
+  pub operand_value_explains : (scope : List Seg) (depth : ℕ) (t : Tree) → RunExplains accesses (operand_value ev scope depth t)
   unfolding operand_value
-  operand_value_faults scope depth t = then_faults _ _ (parts _) (λ f. settle_faults _ (value_in_clean _))
+  operand_value_explains scope depth t = then_explains _ _ (parts _) (λ f. settle_explains _ (value_in_clean _))
 
-  pub operand_integer_faults : (scope : List Seg) (depth : ℕ) (t : Tree) → RunExplains accesses (operand_integer ev scope depth t)
+  pub operand_integer_explains : (scope : List Seg) (depth : ℕ) (t : Tree) → RunExplains accesses (operand_integer ev scope depth t)
   unfolding operand_integer
-  operand_integer_faults scope depth t = then_faults _ _ (operand_value_faults scope depth t) (λ v. lift_faults _ (integer_in_faults v))
+  operand_integer_explains scope depth t = then_explains _ _ (operand_value_explains scope depth t) (λ v. lift_explains _ (integer_in_explains v))
 
-  pub value_at_faults : (scope : List Seg) (depth : ℕ) (t : Tree) (i : ℕ) → RunExplains accesses (value_at ev scope depth t i)
+  pub value_at_explains : (scope : List Seg) (depth : ℕ) (t : Tree) (i : ℕ) → RunExplains accesses (value_at ev scope depth t i)
   unfolding value_at
-  value_at_faults scope depth t i = then_faults _ _ (settle_faults _ (inner_of_clean _)) (λ x. operand_value_faults scope depth x)
+  value_at_explains scope depth t i = then_explains _ _ (settle_explains _ (inner_of_clean _)) (λ x. operand_value_explains scope depth x)
 
-  pub two_values_faults : (scope : List Seg) (depth : ℕ) (t : Tree) → RunExplains accesses (two_values ev scope depth t)
+  pub two_values_explains : (scope : List Seg) (depth : ℕ) (t : Tree) → RunExplains accesses (two_values ev scope depth t)
   unfolding two_values
-  two_values_faults scope depth t = then_faults _ _ (value_at_faults scope depth t 0) (λ v. then_faults _ _ (value_at_faults scope depth t 1) (λ u. give_faults _))
+  two_values_explains scope depth t = then_explains _ _ (value_at_explains scope depth t 0) (λ v. then_explains _ _ (value_at_explains scope depth t 1) (λ u. give_explains _))
 
-  pub after_item_faults : (go : Bool) (f : Flow) (m : Run S Flow) → RunExplains accesses m → RunExplains accesses (if go then m else give f)
-  after_item_faults true f m h = h
-  after_item_faults false f m h = give_faults _
+  pub after_item_explains : (go : Bool) (f : Flow) (m : Run S Flow) → RunExplains accesses m → RunExplains accesses (if go then m else give f)
+  after_item_explains true f m h = h
+  after_item_explains false f m h = give_explains _
 
-  pub in_turn_faults : (scope : List Seg) (depth : ℕ) (ts : Trees) → RunExplains accesses (in_turn ev scope depth ts)
+  pub in_turn_explains : (scope : List Seg) (depth : ℕ) (ts : Trees) → RunExplains accesses (in_turn ev scope depth ts)
   unfolding in_turn
-  in_turn_faults scope depth no_trees = give_faults _
-  in_turn_faults scope depth (tree t ts) = then_faults _ _ (parts _) (λ f. after_item_faults (goes_on f) f _ (in_turn_faults scope depth ts))
+  in_turn_explains scope depth no_trees = give_explains _
+  in_turn_explains scope depth (tree t ts) = then_explains _ _ (parts _) (λ f. after_item_explains (goes_on f) f _ (in_turn_explains scope depth ts))
 
   -- ---- calls of control methods
 
@@ -61,73 +61,73 @@ module _ {S : Type 0} (accesses : Accesses S) (ev : Task → Run S Flow) (parts 
   returned_explained (Ok f) s t h = h
   returned_explained (Err e) s t h = h
 
-  leaving_faults : (q : List Seg) (m : Run S Flow) → RunExplains accesses m → RunExplains accesses (leaving q m)
+  leaving_explains : (q : List Seg) (m : Run S Flow) → RunExplains accesses m → RunExplains accesses (leaving q m)
   unfolding leaving
-  leaving_faults q m h = record { explained = λ s. returned_explained (m s).0 s.0.space (m s).1.0.space (h.explained s) }
+  leaving_explains q m h = record { explained = λ s. returned_explained (m s).0 s.0.space (m s).1.0.space (h.explained s) }
 
-  opened_faults : (vs : List Value) → WorldExplains accesses (opened vs)
+  opened_explains : (vs : List Value) → WorldExplains accesses (opened vs)
   unfolding opened
-  opened_faults vs = either_branch_faults (λ w. w.started == 2 ^ 64 - 1) _ _ (direct_faults _ (λ w. tt) (λ w. refl)) (direct_faults _ (λ w. tt) (λ w. refl))
+  opened_explains vs = either_branch_explains (λ w. w.started == 2 ^ 64 - 1) _ _ (direct_explains _ (λ w. tt) (λ w. refl)) (direct_explains _ (λ w. tt) (λ w. refl))
 
-  pub invoked_faults : (depth : ℕ) (q : List Seg) (body : List ℕ) (arguments : List Value) → RunExplains accesses (invoked ev depth q body arguments)
+  pub invoked_explains : (depth : ℕ) (q : List Seg) (body : List ℕ) (arguments : List Value) → RunExplains accesses (invoked ev depth q body arguments)
   unfolding invoked
-  invoked_faults depth q body arguments =
-      then_faults _ _ (settle_faults _ (shallow_clean _)) (λ few. then_faults _ _ (lift_faults _ (body_terms_faults q body)) (λ ts. then_faults _ _ (lift_faults _ (opened_faults _)) (λ n. leaving_faults q _ (in_turn_faults q _ ts))))
+  invoked_explains depth q body arguments =
+      then_explains _ _ (settle_explains _ (shallow_clean _)) (λ few. then_explains _ _ (lift_explains _ (body_terms_explains q body)) (λ ts. then_explains _ _ (lift_explains _ (opened_explains _)) (λ n. leaving_explains q _ (in_turn_explains q _ ts))))
 
-  pub method_value_faults : (depth : ℕ) (q : List Seg) (body : List ℕ) (arguments : List Value) → RunExplains accesses (method_value ev depth q body arguments)
+  pub method_value_explains : (depth : ℕ) (q : List Seg) (body : List ℕ) (arguments : List Value) → RunExplains accesses (method_value ev depth q body arguments)
   unfolding method_value
-  method_value_faults depth q body arguments = then_faults _ _ (invoked_faults depth q body arguments) (λ f. give_faults _)
+  method_value_explains depth q body arguments = then_explains _ _ (invoked_explains depth q body arguments) (λ f. give_explains _)
 
   -- ---- fields
 
-  asked_faults : (answer : Invocation → Run S ℕ) → ((i : Invocation) → RunExplains accesses (answer i)) → (q : List Seg) → RunExplains accesses (asked answer q)
+  asked_explains : (answer : Invocation → Run S ℕ) → ((i : Invocation) → RunExplains accesses (answer i)) → (q : List Seg) → RunExplains accesses (asked answer q)
   unfolding asked
-  asked_faults answer each q = then_faults _ _ (lift_faults _ (invocation_found_faults _ _ _)) each
+  asked_explains answer each q = then_explains _ _ (lift_explains _ (invocation_found_explains _ _ _)) each
 
-  answer_over_faults : (k : ℕ) (call : List Seg → Run S ℕ) → ((q : List Seg) → RunExplains accesses (call q)) → (i : Invocation) → RunExplains accesses (answer_over accesses ev k call i)
+  answer_over_explains : (k : ℕ) (call : List Seg → Run S ℕ) → ((q : List Seg) → RunExplains accesses (call q)) → (i : Invocation) → RunExplains accesses (answer_over accesses ev k call i)
   unfolding method_integer
-  answer_over_faults k call each (invocations.Value v) = settle_faults _ (integer_only_clean _)
-  answer_over_faults k call each (invocations.Field f) = field_part_faults accesses call each f
-  answer_over_faults k call each (invocations.Method q body) = then_faults _ _ (method_value_faults _ q body _) (λ v. settle_faults _ (integer_only_clean _))
-  answer_over_faults k call each invocations.Osi = stop_faults _ tt
+  answer_over_explains k call each (invocations.Value v) = settle_explains _ (integer_only_clean _)
+  answer_over_explains k call each (invocations.Field f) = field_part_explains accesses call each f
+  answer_over_explains k call each (invocations.Method q body) = then_explains _ _ (method_value_explains _ q body _) (λ v. settle_explains _ (integer_only_clean _))
+  answer_over_explains k call each invocations.Osi = stop_explains _ tt
 
-  answer_within_faults : (k : ℕ) (i : Invocation) → RunExplains accesses (answer_within accesses ev k i)
+  answer_within_explains : (k : ℕ) (i : Invocation) → RunExplains accesses (answer_within accesses ev k i)
   unfolding answer_within
-  answer_within_faults zero i = stop_faults _ tt
-  answer_within_faults (suc k) i = answer_over_faults k _ (asked_faults _ (answer_within_faults k)) i
+  answer_within_explains zero i = stop_explains _ tt
+  answer_within_explains (suc k) i = answer_over_explains k _ (asked_explains _ (answer_within_explains k)) i
 
-  pub called_at_faults : (depth : ℕ) (q : List Seg) → RunExplains accesses (called_at accesses ev depth q)
-  called_at_faults depth q = asked_faults _ (answer_within_faults _) q
+  pub called_at_explains : (depth : ℕ) (q : List Seg) → RunExplains accesses (called_at accesses ev depth q)
+  called_at_explains depth q = asked_explains _ (answer_within_explains _) q
 
-  pub field_read_faults : (depth : ℕ) (u : Field) → RunExplains accesses (field_read accesses ev depth u)
-  field_read_faults depth u = field_value_faults accesses _ (called_at_faults depth) u
+  pub field_read_explains : (depth : ℕ) (u : Field) → RunExplains accesses (field_read accesses ev depth u)
+  field_read_explains depth u = field_value_explains accesses _ (called_at_explains depth) u
 
-  pub held_integer_faults : (depth : ℕ) (h : Held) → RunExplains accesses (held_integer accesses ev depth h)
-  held_integer_faults depth (held.Value v) = lift_faults _ (integer_in_faults v)
-  held_integer_faults depth (held.Field u) = field_integer_faults accesses _ (called_at_faults depth) u
+  pub held_integer_explains : (depth : ℕ) (h : Held) → RunExplains accesses (held_integer accesses ev depth h)
+  held_integer_explains depth (held.Value v) = lift_explains _ (integer_in_explains v)
+  held_integer_explains depth (held.Field u) = field_integer_explains accesses _ (called_at_explains depth) u
 
-  pub referent_read_faults : (depth : ℕ) (r : Referent) → RunExplains accesses (referent_read accesses ev depth r)
-  referent_read_faults depth (referent.Value v) = give_faults _
-  referent_read_faults depth (referent.Object t) = give_faults _
-  referent_read_faults depth (referent.Field u) = field_referent_faults accesses _ (called_at_faults depth) u
-  referent_read_faults depth (referent.Bytes n) = give_faults _
+  pub referent_read_explains : (depth : ℕ) (r : Referent) → RunExplains accesses (referent_read accesses ev depth r)
+  referent_read_explains depth (referent.Value v) = give_explains _
+  referent_read_explains depth (referent.Object t) = give_explains _
+  referent_read_explains depth (referent.Field u) = field_referent_explains accesses _ (called_at_explains depth) u
+  referent_read_explains depth (referent.Bytes n) = give_explains _
 
-  pub completed_faults : (depth : ℕ) (s : Stored) (v : Value) → RunExplains accesses (completed accesses ev depth s v)
-  completed_faults depth store.Done v = give_faults _
-  completed_faults depth (store.Field u) v = field_stored_faults accesses _ (called_at_faults depth) u v
+  pub completed_explains : (depth : ℕ) (s : Stored) (v : Value) → RunExplains accesses (completed accesses ev depth s v)
+  completed_explains depth store.Done v = give_explains _
+  completed_explains depth (store.Field u) v = field_stored_explains accesses _ (called_at_explains depth) u v
 
-  pub stored_to_faults : (depth : ℕ) (q : StoreTarget) (v : Value) → RunExplains accesses (stored_to accesses ev depth q v)
+  pub stored_to_explains : (depth : ℕ) (q : StoreTarget) (v : Value) → RunExplains accesses (stored_to accesses ev depth q v)
   unfolding stored_to
-  stored_to_faults depth q v = then_faults _ _ (lift_faults _ (stored_faults q v)) (λ s. completed_faults depth s v)
+  stored_to_explains depth q v = then_explains _ _ (lift_explains _ (stored_explains q v)) (λ s. completed_explains depth s v)
 
-  pub held_value_faults : (depth : ℕ) (h : Held) → RunExplains accesses (held_value accesses ev depth h)
-  held_value_faults depth (held.Value v) = give_faults _
-  held_value_faults depth (held.Field u) = field_read_faults depth u
+  pub held_value_explains : (depth : ℕ) (h : Held) → RunExplains accesses (held_value accesses ev depth h)
+  held_value_explains depth (held.Value v) = give_explains _
+  held_value_explains depth (held.Field u) = field_read_explains depth u
 
-  back_to_faults : (b : Bool) (depth : ℕ) (h : Held) (q : StoreTarget) (v : Value) → RunExplains accesses (back_to accesses ev b depth h q v)
-  back_to_faults true depth h q v = stored_to_faults depth q v
-  back_to_faults false depth (held.Value old) q v = stored_to_faults depth q v
-  back_to_faults false depth (held.Field u) q v = field_stored_faults accesses _ (called_at_faults depth) u v
+  back_to_explains : (b : Bool) (depth : ℕ) (h : Held) (q : StoreTarget) (v : Value) → RunExplains accesses (back_to accesses ev b depth h q v)
+  back_to_explains true depth h q v = stored_to_explains depth q v
+  back_to_explains false depth (held.Value old) q v = stored_to_explains depth q v
+  back_to_explains false depth (held.Field u) q v = field_stored_explains accesses _ (called_at_explains depth) u v
 
-  pub stored_back_faults : (depth : ℕ) (h : Held) (q : StoreTarget) (v : Value) → RunExplains accesses (stored_back accesses ev depth h q v)
-  stored_back_faults depth h q v = back_to_faults (is_element q) depth h q v
+  pub stored_back_explains : (depth : ℕ) (h : Held) (q : StoreTarget) (v : Value) → RunExplains accesses (stored_back accesses ev depth h q v)
+  stored_back_explains depth h q v = back_to_explains (is_element q) depth h q v

@@ -1,6 +1,6 @@
--- Changes whose refusals by a fault of the register space come from their last access. A lemma `x_faults` says so of x.
+-- Changes whose refusals by a fault of the register space come from their last access. A lemma `x_explains` says so of x.
 use Rattle.std.specs.Prelude.{◌≡◌, ℕ, ◌==◌, ◌-◌, List, [], ◌∷◌, Bool, true, false, Result, Ok, Err, refl, if◌then◌else◌}
-use Rattle.std.proofs.Common.{ap, subst, sym}
+use Rattle.std.proofs.Common.{subst, sym}
 use Rattle.ar_space.specs.declared.refusal.SpaceFault.{SpaceFault}
 use Rattle.ar_space.specs.declared.refusal.Refusal.{Refusal}
 use Rattle.ar_space.specs.declared.refusal.Refusal.TheVariants as refusals
@@ -19,7 +19,7 @@ use Rattle.aml_fields.specs.declared.region.Region.{Region}
 use Rattle.aml_fields.specs.declared.field_units.Unit.{Unit as Access}
 use Rattle.aml_fields.specs.Units.{units_of}
 use Rattle.aml_fields.specs.UnitByUnit.{read_units, bits_read, write_units, kept_by, kept}
-use Rattle.aml_fields.specs.Regions.{faulted, unit_place, read_access, read_unit, read_field, write_access, write_unit, write_field}
+use Rattle.aml_fields.specs.Regions.{faulted, read_access, read_unit, read_field, write_access, write_unit, write_field}
 use Rattle.aml_meaning.specs.State.{State, on_objects, on_names, on_space}
 use Rattle.aml_meaning.specs.Run.{Run, lift, charge}
 use Rattle.aml_laws.specs.Reached.{Reached}
@@ -74,52 +74,52 @@ module _ {S : Type 0} (accesses : Accesses S) where
 
 module _ {S : Type 0} {accesses : Accesses S} {H : Type 0} {space : H → S} where
   -- a change that makes no access
-  pub direct_faults : {A : Type 0} (m : Change H A) → ((h : H) → Clean (m h).0) → ((h : H) → space (m h).1 ≡ space h) → Explains accesses space m
-  direct_faults m c e = record { explained = λ h. clean_explained accesses (m h).0 (space h) (space (m h).1) (c h) (e h) }
+  pub direct_explains : {A : Type 0} (m : Change H A) → ((h : H) → Clean (m h).0) → ((h : H) → space (m h).1 ≡ space h) → Explains accesses space m
+  direct_explains m c e = record { explained = λ h. clean_explained accesses (m h).0 (space h) (space (m h).1) (c h) (e h) }
 
-  pub give_faults : {A : Type 0} (a : A) → Explains accesses space (give a)
+  pub give_explains : {A : Type 0} (a : A) → Explains accesses space (give a)
   unfolding give
-  give_faults a = direct_faults _ (λ h. tt) (λ h. refl)
+  give_explains a = direct_explains _ (λ h. tt) (λ h. refl)
 
-  pub stop_faults : {A : Type 0} (e : Refusal) → OfNoSpace e → Explains accesses {A = A} space (stop e)
+  pub stop_explains : {A : Type 0} (e : Refusal) → OfNoSpace e → Explains accesses {A = A} space (stop e)
   unfolding stop
-  stop_faults e apart = direct_faults _ (λ h. apart) (λ h. refl)
+  stop_explains e apart = direct_explains _ (λ h. apart) (λ h. refl)
 
-  pub settle_faults : {A : Type 0} (x : Outcome A) → Clean x → Explains accesses space (settle x)
+  pub settle_explains : {A : Type 0} (x : Outcome A) → Clean x → Explains accesses space (settle x)
   unfolding settle
-  settle_faults x c = direct_faults _ (λ h. c) (λ h. refl)
+  settle_explains x c = direct_explains _ (λ h. c) (λ h. refl)
 
-  pub then_faults : {A B : Type 0} (m : Change H A) (k : A → Change H B) → Explains accesses space m → ((a : A) → Explains accesses space (k a)) → Explains accesses space (m >>= k)
+  pub then_explains : {A B : Type 0} (m : Change H A) (k : A → Change H B) → Explains accesses space m → ((a : A) → Explains accesses space (k a)) → Explains accesses space (m >>= k)
   unfolding ◌>>=◌
-  then_faults m k f all = record { explained = λ h. go_on_explained accesses space (space h) (m h).0 (m h).1 k (f.explained h) all }
+  then_explains m k f all = record { explained = λ h. go_on_explained accesses space (space h) (m h).0 (m h).1 k (f.explained h) all }
 
-  pub either_branch_faults : {A : Type 0} (test : H → Bool) (m k : Change H A) → Explains accesses space m → Explains accesses space k → Explains accesses space (λ h. if test h then m h else k h)
-  either_branch_faults test m k f g = record { explained = λ h. branch_explained accesses space (test h) (space h) (m h) (k h) (f.explained h) (g.explained h) }
+  pub either_branch_explains : {A : Type 0} (test : H → Bool) (m k : Change H A) → Explains accesses space m → Explains accesses space k → Explains accesses space (λ h. if test h then m h else k h)
+  either_branch_explains test m k f g = record { explained = λ h. branch_explained accesses space (test h) (space h) (m h) (k h) (f.explained h) (g.explained h) }
 
   -- ---- unit by unit
 
-  read_units_faults : (read : Access → Change H ℕ) → ((u : Access) → Explains accesses space (read u)) → (us : List Access) → Explains accesses space (read_units read us)
+  read_units_explains : (read : Access → Change H ℕ) → ((u : Access) → Explains accesses space (read u)) → (us : List Access) → Explains accesses space (read_units read us)
   unfolding read_units
-  read_units_faults read each [] = give_faults _
-  read_units_faults read each (u ∷ us) = then_faults _ _ (each u) (λ unit. then_faults _ _ (read_units_faults read each us) (λ bits. give_faults _))
+  read_units_explains read each [] = give_explains _
+  read_units_explains read each (u ∷ us) = then_explains _ _ (each u) (λ unit. then_explains _ _ (read_units_explains read each us) (λ bits. give_explains _))
 
-  pub bits_read_faults : (read : Access → Change H ℕ) → ((u : Access) → Explains accesses space (read u)) → (f : FieldUnit) → Explains accesses space (bits_read read f)
+  pub bits_read_explains : (read : Access → Change H ℕ) → ((u : Access) → Explains accesses space (read u)) → (f : FieldUnit) → Explains accesses space (bits_read read f)
   unfolding bits_read
-  bits_read_faults read each f = then_faults _ _ (read_units_faults read each (units_of f.bit_offset f.bits f.access)) (λ bits. give_faults _)
+  bits_read_explains read each f = then_explains _ _ (read_units_explains read each (units_of f.bit_offset f.bits f.access)) (λ bits. give_explains _)
 
-  pub write_units_faults : (write : Access → Change H (Unit {0})) → ((u : Access) → Explains accesses space (write u)) → (us : List Access) → Explains accesses space (write_units write us)
+  pub write_units_explains : (write : Access → Change H (Unit {0})) → ((u : Access) → Explains accesses space (write u)) → (us : List Access) → Explains accesses space (write_units write us)
   unfolding write_units
-  write_units_faults write each [] = give_faults _
-  write_units_faults write each (u ∷ us) = then_faults _ _ (each u) (λ done. write_units_faults write each us)
+  write_units_explains write each [] = give_explains _
+  write_units_explains write each (u ∷ us) = then_explains _ _ (each u) (λ done. write_units_explains write each us)
 
-  kept_by_faults : (rule : UpdateRule) (read : Change H ℕ) → Explains accesses space read → Explains accesses space (λ h. kept_by rule read h)
-  kept_by_faults Preserve read f = record { explained = f.explained }
-  kept_by_faults WriteAsOnes read f = record { explained = λ h. by.none }
-  kept_by_faults WriteAsZeros read f = record { explained = λ h. by.none }
+  kept_by_explains : (rule : UpdateRule) (read : Change H ℕ) → Explains accesses space read → Explains accesses space (λ h. kept_by rule read h)
+  kept_by_explains Preserve read f = record { explained = f.explained }
+  kept_by_explains WriteAsOnes read f = record { explained = λ h. by.none }
+  kept_by_explains WriteAsZeros read f = record { explained = λ h. by.none }
 
-  pub kept_faults : (f : FieldUnit) (u : Access) (read : Change H ℕ) → Explains accesses space read → Explains accesses space (kept f u read)
+  pub kept_explains : (f : FieldUnit) (u : Access) (read : Change H ℕ) → Explains accesses space read → Explains accesses space (kept f u read)
   unfolding kept
-  kept_faults f u read g = record { explained = λ h. branch_explained accesses space (u.count == bit_count f.access) (space h) (Ok 0, h) (kept_by f.update read h) by.none ((kept_by_faults f.update read g).explained h) }
+  kept_explains f u read g = record { explained = λ h. branch_explained accesses space (u.count == bit_count f.access) (space h) (Ok 0, h) (kept_by f.update read h) by.none ((kept_by_explains f.update read g).explained h) }
 
 -- ---- the register space, worlds, and worlds with the steps that are left
 
@@ -134,25 +134,25 @@ module _ {S : Type 0} (accesses : Accesses S) where
   RunExplains m = Explains accesses (λ s. s.0.space) m
 
 module _ {S : Type 0} {accesses : Accesses S} where
-  pub on_objects_faults : {A : Type 0} (m : Change Objects A) → AllClean m → WorldExplains accesses (on_objects m)
+  pub on_objects_explains : {A : Type 0} (m : Change Objects A) → AllClean m → WorldExplains accesses (on_objects m)
   unfolding on_objects
-  on_objects_faults m c = direct_faults _ (λ w. c.clean w.objects) (λ w. refl)
+  on_objects_explains m c = direct_explains _ (λ w. c.clean w.objects) (λ w. refl)
 
-  pub on_names_faults : {A : Type 0} (m : Change Namespace A) → AllClean m → WorldExplains accesses (on_names m)
+  pub on_names_explains : {A : Type 0} (m : Change Namespace A) → AllClean m → WorldExplains accesses (on_names m)
   unfolding on_names
-  on_names_faults m c = direct_faults _ (λ w. c.clean w.names) (λ w. refl)
+  on_names_explains m c = direct_explains _ (λ w. c.clean w.names) (λ w. refl)
 
-  pub on_space_faults : {A : Type 0} (m : Change S A) → SpaceExplains accesses m → WorldExplains accesses (on_space m)
+  pub on_space_explains : {A : Type 0} (m : Change S A) → SpaceExplains accesses m → WorldExplains accesses (on_space m)
   unfolding on_space
-  on_space_faults m f = record { explained = λ w. f.explained w.space }
+  on_space_explains m f = record { explained = λ w. f.explained w.space }
 
-  pub lift_faults : {A : Type 0} (m : Change (State S) A) → WorldExplains accesses m → RunExplains accesses (lift m)
+  pub lift_explains : {A : Type 0} (m : Change (State S) A) → WorldExplains accesses m → RunExplains accesses (lift m)
   unfolding lift
-  lift_faults m f = record { explained = λ s. f.explained s.0 }
+  lift_explains m f = record { explained = λ s. f.explained s.0 }
 
-  pub charge_faults : RunExplains accesses charge
+  pub charge_explains : RunExplains accesses charge
   unfolding charge
-  charge_faults = record { explained = λ s. branch_explained accesses (λ x. x.0.space) (s.1 == 0) s.0.space (Err (refusals.Evaluation OutOfSteps), s) (Ok tt, (s.0, s.1 - 1)) tt by.none }
+  charge_explains = record { explained = λ s. branch_explained accesses (λ x. x.0.space) (s.1 == 0) s.0.space (Err (refusals.Evaluation OutOfSteps), s) (Ok tt, (s.0, s.1 - 1)) tt by.none }
 
 -- ---- fields of regions
 
@@ -165,24 +165,24 @@ module _ {S : Type 0} (accesses : Accesses S) where
   write_explained s t p width value (Ok n) e = subst (λ a. Reached accesses s a.1) e (by.written s p width value by.none)
   write_explained s t p width value (Err f) e = record { last = s; reached = by.none; faults = space_faults.written p width value e }
 
-  read_access_faults : (p : Place) (width : Width) → SpaceExplains accesses (read_access accesses p width)
+  read_access_explains : (p : Place) (width : Width) → SpaceExplains accesses (read_access accesses p width)
   unfolding read_access
-  read_access_faults p width = record { explained = λ s. read_explained s (accesses.reads s p width).1 p width (accesses.reads s p width).0 refl }
+  read_access_explains p width = record { explained = λ s. read_explained s (accesses.reads s p width).1 p width (accesses.reads s p width).0 refl }
 
-  write_access_faults : (p : Place) (width : Width) (value : ℕ) → SpaceExplains accesses (write_access accesses p width value)
+  write_access_explains : (p : Place) (width : Width) (value : ℕ) → SpaceExplains accesses (write_access accesses p width value)
   unfolding write_access
-  write_access_faults p width value = record { explained = λ s. write_explained s (accesses.writes s p width value).1 p width value (accesses.writes s p width value).0 refl }
+  write_access_explains p width value = record { explained = λ s. write_explained s (accesses.writes s p width value).1 p width value (accesses.writes s p width value).0 refl }
 
-  read_unit_faults : (r : Region) (width : Width) (u : Access) → SpaceExplains accesses (read_unit accesses r width u)
+  read_unit_explains : (r : Region) (width : Width) (u : Access) → SpaceExplains accesses (read_unit accesses r width u)
   unfolding read_unit
-  read_unit_faults r width u = then_faults _ _ (settle_faults _ (unit_place_clean r width u.offset)) (λ p. read_access_faults p width)
+  read_unit_explains r width u = then_explains _ _ (settle_explains _ (unit_place_clean r width u.offset)) (λ p. read_access_explains p width)
 
-  write_unit_faults : (r : Region) (f : FieldUnit) (source : List ℕ) (u : Access) → SpaceExplains accesses (write_unit accesses r f source u)
+  write_unit_explains : (r : Region) (f : FieldUnit) (source : List ℕ) (u : Access) → SpaceExplains accesses (write_unit accesses r f source u)
   unfolding write_unit
-  write_unit_faults r f source u = then_faults _ _ (settle_faults _ (unit_place_clean r f.access u.offset)) (λ p. then_faults _ _ (kept_faults f u _ (read_access_faults p f.access)) (λ old. write_access_faults p f.access _))
+  write_unit_explains r f source u = then_explains _ _ (settle_explains _ (unit_place_clean r f.access u.offset)) (λ p. then_explains _ _ (kept_explains f u _ (read_access_explains p f.access)) (λ old. write_access_explains p f.access _))
 
-  pub read_field_faults : (r : Region) (f : FieldUnit) → SpaceExplains accesses (read_field accesses r f)
-  read_field_faults r f = bits_read_faults _ (read_unit_faults r f.access) f
+  pub read_field_explains : (r : Region) (f : FieldUnit) → SpaceExplains accesses (read_field accesses r f)
+  read_field_explains r f = bits_read_explains _ (read_unit_explains r f.access) f
 
-  pub write_field_faults : (r : Region) (f : FieldUnit) (source : List ℕ) → SpaceExplains accesses (write_field accesses r f source)
-  write_field_faults r f source = write_units_faults _ (write_unit_faults r f source) (units_of f.bit_offset f.bits f.access)
+  pub write_field_explains : (r : Region) (f : FieldUnit) (source : List ℕ) → SpaceExplains accesses (write_field accesses r f source)
+  write_field_explains r f source = write_units_explains _ (write_unit_explains r f source) (units_of f.bit_offset f.bits f.access)

@@ -44,203 +44,203 @@ use Rattle.aml_laws.proofs.CleanOutcomes.{if_clean, seen_clean}
 use Rattle.aml_laws.proofs.CleanReading.{reading_clean}
 use Rattle.aml_laws.proofs.CleanValues.{compared_clean, concatenated_clean, divided_clean, explicit_integer_of_clean, resources_joined_clean, result_of_clean, to_buffer_of_clean, to_integer_of_clean}
 use Rattle.aml_laws.proofs.CleanWorlds.{as_many_clean, below_clean, invocation_of_clean, made_of_clean, no_method_in_clean, osi_answer_clean, scope_or_not_clean, size_of_referent_clean, size_of_value_clean}
-use Rattle.aml_laws.proofs.FaultsOfChanges.{WorldExplains, direct_faults, give_faults, on_names_faults, on_objects_faults, settle_faults, stop_faults, then_faults}
+use Rattle.aml_laws.proofs.FaultsOfChanges.{WorldExplains, direct_explains, give_explains, on_names_explains, on_objects_explains, settle_explains, stop_explains, then_explains}
 
 module _ {S : Type 0} {accesses : Accesses S} where
   -- ---- what names find, and what values are
 
-  pub integer_kept_faults : (n : ℕ) → WorldExplains accesses (integer_kept n)
+  pub integer_kept_explains : (n : ℕ) → WorldExplains accesses (integer_kept n)
   unfolding integer_kept
-  integer_kept_faults n = direct_faults _ (λ w. tt) (λ w. refl)
+  integer_kept_explains n = direct_explains _ (λ w. tt) (λ w. refl)
 
-  pub integer_in_faults : (v : Value) → WorldExplains accesses (integer_in v)
+  pub integer_in_explains : (v : Value) → WorldExplains accesses (integer_in v)
   unfolding integer_in
-  integer_in_faults v = direct_faults _ (λ w. (to_integer_of_clean w.width (content_in w.objects v))) (λ w. refl)
+  integer_in_explains v = direct_explains _ (λ w. to_integer_of_clean w.width (content_in w.objects v)) (λ w. refl)
 
-  pub entry_found_faults : (scope : List Seg) (n : Name) → WorldExplains accesses (entry_found scope n)
+  pub entry_found_explains : (scope : List Seg) (n : Name) → WorldExplains accesses (entry_found scope n)
   unfolding entry_found
-  entry_found_faults scope n = direct_faults _ (λ w. (seen_clean (λ f. f.1) (found w.names.map scope n) (found_clean w.names.map scope n))) (λ w. refl)
+  entry_found_explains scope n = direct_explains _ (λ w. seen_clean (λ f. f.1) (found w.names.map scope n) (found_clean w.names.map scope n)) (λ w. refl)
 
-  pub path_found_faults : (scope : List Seg) (n : Name) → WorldExplains accesses (path_found scope n)
+  pub path_found_explains : (scope : List Seg) (n : Name) → WorldExplains accesses (path_found scope n)
   unfolding path_found
-  path_found_faults scope n = direct_faults _ (λ w. (seen_clean (λ f. f.0) (found w.names.map scope n) (found_clean w.names.map scope n))) (λ w. refl)
+  path_found_explains scope n = direct_explains _ (λ w. seen_clean (λ f. f.0) (found w.names.map scope n) (found_clean w.names.map scope n)) (λ w. refl)
 
-  pub scope_found_faults : (scope : List Seg) (n : Name) → WorldExplains accesses (scope_found scope n)
+  pub scope_found_explains : (scope : List Seg) (n : Name) → WorldExplains accesses (scope_found scope n)
   unfolding scope_found
-  scope_found_faults scope n = then_faults _ _ (entry_found_faults scope n) (λ e. then_faults _ _ (settle_faults _ (scope_or_not_clean _)) (λ is. path_found_faults scope n))
+  scope_found_explains scope n = then_explains _ _ (entry_found_explains scope n) (λ e. then_explains _ _ (settle_explains _ (scope_or_not_clean _)) (λ is. path_found_explains scope n))
 
-  pub arguments_found_faults : (scope : List Seg) (n : Name) → WorldExplains accesses (arguments_found scope n)
+  pub arguments_found_explains : (scope : List Seg) (n : Name) → WorldExplains accesses (arguments_found scope n)
   unfolding arguments_found
-  arguments_found_faults scope n = then_faults _ _ (entry_found_faults scope n) (λ e. give_faults _)
+  arguments_found_explains scope n = then_explains _ _ (entry_found_explains scope n) (λ e. give_explains _)
 
-  pub target_named_faults : (scope : List Seg) (n : Name) → WorldExplains accesses (target_named scope n)
+  pub target_named_explains : (scope : List Seg) (n : Name) → WorldExplains accesses (target_named scope n)
   unfolding target_named
-  target_named_faults scope n = then_faults _ _ (path_found_faults scope n) (λ q. give_faults _)
+  target_named_explains scope n = then_explains _ _ (path_found_explains scope n) (λ q. give_explains _)
 
   -- ---- new objects and new names
 
-  pub within_faults : (most n : ℕ) → WorldExplains accesses (within most n)
+  pub within_explains : (most n : ℕ) → WorldExplains accesses (within most n)
   unfolding within
-  within_faults most n = direct_faults _ (λ w. (if_clean (nat_lt most n) _ _ tt tt)) (λ w. refl)
+  within_explains most n = direct_explains _ (λ w. if_clean (nat_lt most n) _ _ tt tt) (λ w. refl)
 
-  pub new_buffer_faults : (n : ℕ) (bytes : List ℕ) → WorldExplains accesses (new_buffer n bytes)
+  pub new_buffer_explains : (n : ℕ) (bytes : List ℕ) → WorldExplains accesses (new_buffer n bytes)
   unfolding new_buffer
-  new_buffer_faults n bytes = then_faults _ _ (within_faults _ n) (λ u. on_objects_faults _ (make_buffer_clean _))
+  new_buffer_explains n bytes = then_explains _ _ (within_explains _ n) (λ u. on_objects_explains _ (make_buffer_clean _))
 
-  pub new_package_faults : (n : ℕ) (es : List Element) → WorldExplains accesses (new_package n es)
+  pub new_package_explains : (n : ℕ) (es : List Element) → WorldExplains accesses (new_package n es)
   unfolding new_package
-  new_package_faults n es = on_objects_faults _ (make_package_clean _)
+  new_package_explains n es = on_objects_explains _ (make_package_clean _)
 
-  pub not_in_method_faults : (module_level : Bool) (q : List Seg) → WorldExplains accesses (not_in_method module_level q)
+  pub not_in_method_explains : (module_level : Bool) (q : List Seg) → WorldExplains accesses (not_in_method module_level q)
   unfolding not_in_method
-  not_in_method_faults module_level q = direct_faults _ (λ w. (if_clean module_level _ _ (no_method_in_clean (get w.names.map (above q))) tt)) (λ w. refl)
+  not_in_method_explains module_level q = direct_explains _ (λ w. if_clean module_level _ _ (no_method_in_clean (get w.names.map (above q))) tt) (λ w. refl)
 
-  pub new_name_faults : (module_level : Bool) (q : List Seg) (o : NamedObject) → WorldExplains accesses (new_name module_level q o)
+  pub new_name_explains : (module_level : Bool) (q : List Seg) (o : NamedObject) → WorldExplains accesses (new_name module_level q o)
   unfolding new_name
-  new_name_faults module_level q o = then_faults _ _ (not_in_method_faults module_level q) (λ u. on_names_faults _ (declared_clean _ _))
+  new_name_explains module_level q o = then_explains _ _ (not_in_method_explains module_level q) (λ u. on_names_explains _ (declared_clean _ _))
 
-  pub new_method_faults : (module_level : Bool) (q : List Seg) (flags : MethodFlags) (body : List ℕ) → WorldExplains accesses (new_method module_level q flags body)
+  pub new_method_explains : (module_level : Bool) (q : List Seg) (flags : MethodFlags) (body : List ℕ) → WorldExplains accesses (new_method module_level q flags body)
   unfolding new_method
-  new_method_faults module_level q flags body = new_name_faults module_level q _
+  new_method_explains module_level q flags body = new_name_explains module_level q _
 
   -- ---- operators
 
-  pub integers_operated_faults : (op : BinaryOperator) (x y : ℕ) → WorldExplains accesses (integers_operated op x y)
+  pub integers_operated_explains : (op : BinaryOperator) (x y : ℕ) → WorldExplains accesses (integers_operated op x y)
   unfolding integers_operated
-  integers_operated_faults op x y = direct_faults _ (λ w. (seen_clean value.Integer (result_of op w.width x y) (result_of_clean op w.width x y))) (λ w. refl)
+  integers_operated_explains op x y = direct_explains _ (λ w. seen_clean value.Integer (result_of op w.width x y) (result_of_clean op w.width x y)) (λ w. refl)
 
-  pub operated_faults : (op : BinaryOperator) (v u : Value) → WorldExplains accesses (operated op v u)
+  pub operated_explains : (op : BinaryOperator) (v u : Value) → WorldExplains accesses (operated op v u)
   unfolding operated
-  operated_faults op v u = then_faults _ _ (integer_in_faults v) (λ x. then_faults _ _ (integer_in_faults u) (λ y. integers_operated_faults op x y))
+  operated_explains op v u = then_explains _ _ (integer_in_explains v) (λ x. then_explains _ _ (integer_in_explains u) (λ y. integers_operated_explains op x y))
 
-  pub divided_in_faults : (v u : Value) → WorldExplains accesses (divided_in v u)
+  pub divided_in_explains : (v u : Value) → WorldExplains accesses (divided_in v u)
   unfolding divided_in
-  divided_in_faults v u = then_faults _ _ (integer_in_faults v) (λ x. then_faults _ _ (integer_in_faults u) (λ y. settle_faults _ (divided_clean _ _)))
+  divided_in_explains v u = then_explains _ _ (integer_in_explains v) (λ x. then_explains _ _ (integer_in_explains u) (λ y. settle_explains _ (divided_clean _ _)))
 
-  pub integer_operated_faults : (op : UnaryOperator) (x : ℕ) → WorldExplains accesses (integer_operated op x)
+  pub integer_operated_explains : (op : UnaryOperator) (x : ℕ) → WorldExplains accesses (integer_operated op x)
   unfolding integer_operated
-  integer_operated_faults op x = direct_faults _ (λ w. tt) (λ w. refl)
+  integer_operated_explains op x = direct_explains _ (λ w. tt) (λ w. refl)
 
-  pub operated_on_one_faults : (op : UnaryOperator) (v : Value) → WorldExplains accesses (operated_on_one op v)
+  pub operated_on_one_explains : (op : UnaryOperator) (v : Value) → WorldExplains accesses (operated_on_one op v)
   unfolding operated_on_one
-  operated_on_one_faults op v = then_faults _ _ (integer_in_faults v) (λ x. integer_operated_faults op x)
+  operated_on_one_explains op v = then_explains _ _ (integer_in_explains v) (λ x. integer_operated_explains op x)
 
-  pub integers_tested_faults : (op : LogicalOperator) (x y : ℕ) → WorldExplains accesses (integers_tested op x y)
+  pub integers_tested_explains : (op : LogicalOperator) (x y : ℕ) → WorldExplains accesses (integers_tested op x y)
   unfolding integers_tested
-  integers_tested_faults op x y = direct_faults _ (λ w. tt) (λ w. refl)
+  integers_tested_explains op x y = direct_explains _ (λ w. tt) (λ w. refl)
 
-  pub operated_logically_faults : (op : LogicalOperator) (v u : Value) → WorldExplains accesses (operated_logically op v u)
+  pub operated_logically_explains : (op : LogicalOperator) (v u : Value) → WorldExplains accesses (operated_logically op v u)
   unfolding operated_logically
-  operated_logically_faults op v u = then_faults _ _ (integer_in_faults v) (λ x. then_faults _ _ (integer_in_faults u) (λ y. integers_tested_faults op x y))
+  operated_logically_explains op v u = then_explains _ _ (integer_in_explains v) (λ x. then_explains _ _ (integer_in_explains u) (λ y. integers_tested_explains op x y))
 
-  pub integer_turned_faults : (x : ℕ) → WorldExplains accesses (integer_turned x)
+  pub integer_turned_explains : (x : ℕ) → WorldExplains accesses (integer_turned x)
   unfolding integer_turned
-  integer_turned_faults x = direct_faults _ (λ w. tt) (λ w. refl)
+  integer_turned_explains x = direct_explains _ (λ w. tt) (λ w. refl)
 
-  pub turned_faults : (v : Value) → WorldExplains accesses (turned v)
+  pub turned_explains : (v : Value) → WorldExplains accesses (turned v)
   unfolding turned
-  turned_faults v = then_faults _ _ (integer_in_faults v) (λ x. integer_turned_faults x)
+  turned_explains v = then_explains _ _ (integer_in_explains v) (λ x. integer_turned_explains x)
 
-  pub next_integer_faults : (x : ℕ) → WorldExplains accesses (next_integer x)
+  pub next_integer_explains : (x : ℕ) → WorldExplains accesses (next_integer x)
   unfolding next_integer
-  next_integer_faults x = direct_faults _ (λ w. tt) (λ w. refl)
+  next_integer_explains x = direct_explains _ (λ w. tt) (λ w. refl)
 
-  pub integer_before_faults : (x : ℕ) → WorldExplains accesses (integer_before x)
+  pub integer_before_explains : (x : ℕ) → WorldExplains accesses (integer_before x)
   unfolding integer_before
-  integer_before_faults x = direct_faults _ (λ w. (seen_clean value.Integer (result_of Subtract w.width x 1) (result_of_clean Subtract w.width x 1))) (λ w. refl)
+  integer_before_explains x = direct_explains _ (λ w. seen_clean value.Integer (result_of Subtract w.width x 1) (result_of_clean Subtract w.width x 1)) (λ w. refl)
 
-  pub compared_in_faults : (c : Comparison) (v u : Value) → WorldExplains accesses (compared_in c v u)
+  pub compared_in_explains : (c : Comparison) (v u : Value) → WorldExplains accesses (compared_in c v u)
   unfolding compared_in
-  compared_in_faults c v u = direct_faults _ (λ w. (seen_clean _ (compared w.width (content_in w.objects v) (content_in w.objects u)) (compared_clean w.width (content_in w.objects v) (content_in w.objects u)))) (λ w. refl)
+  compared_in_explains c v u = direct_explains _ (λ w. seen_clean _ (compared w.width (content_in w.objects v) (content_in w.objects u)) (compared_clean w.width (content_in w.objects v) (content_in w.objects u))) (λ w. refl)
 
-  pub joined_contents_faults : (v u : Value) → WorldExplains accesses (joined_contents v u)
+  pub joined_contents_explains : (v u : Value) → WorldExplains accesses (joined_contents v u)
   unfolding joined_contents
-  joined_contents_faults v u = direct_faults _ (λ w. (concatenated_clean w.width (content_in w.objects v) (content_in w.objects u))) (λ w. refl)
+  joined_contents_explains v u = direct_explains _ (λ w. concatenated_clean w.width (content_in w.objects v) (content_in w.objects u)) (λ w. refl)
 
-  pub joined_faults : (v u : Value) → WorldExplains accesses (joined v u)
+  pub joined_explains : (v u : Value) → WorldExplains accesses (joined v u)
   unfolding joined
-  joined_faults v u = then_faults _ _ (joined_contents_faults v u) (λ c. on_objects_faults _ (made_of_clean _))
+  joined_explains v u = then_explains _ _ (joined_contents_explains v u) (λ c. on_objects_explains _ (made_of_clean _))
 
-  pub joined_items_faults : (v u : Value) → WorldExplains accesses (joined_items v u)
+  pub joined_items_explains : (v u : Value) → WorldExplains accesses (joined_items v u)
   unfolding joined_items
-  joined_items_faults v u = direct_faults _ (λ w. (resources_joined_clean (content_in w.objects v) (content_in w.objects u))) (λ w. refl)
+  joined_items_explains v u = direct_explains _ (λ w. resources_joined_clean (content_in w.objects v) (content_in w.objects u)) (λ w. refl)
 
-  pub joined_resources_faults : (v u : Value) → WorldExplains accesses (joined_resources v u)
+  pub joined_resources_explains : (v u : Value) → WorldExplains accesses (joined_resources v u)
   unfolding joined_resources
-  joined_resources_faults v u = then_faults _ _ (joined_items_faults v u) (λ bytes. on_objects_faults _ (make_buffer_clean _))
+  joined_resources_explains v u = then_explains _ _ (joined_items_explains v u) (λ bytes. on_objects_explains _ (make_buffer_clean _))
 
-  pub to_integer_in_faults : (v : Value) → WorldExplains accesses (to_integer_in v)
+  pub to_integer_in_explains : (v : Value) → WorldExplains accesses (to_integer_in v)
   unfolding to_integer_in
-  to_integer_in_faults v = direct_faults _ (λ w. (seen_clean value.Integer (explicit_integer_of w.width (content_in w.objects v)) (explicit_integer_of_clean w.width (content_in w.objects v)))) (λ w. refl)
+  to_integer_in_explains v = direct_explains _ (λ w. seen_clean value.Integer (explicit_integer_of w.width (content_in w.objects v)) (explicit_integer_of_clean w.width (content_in w.objects v))) (λ w. refl)
 
-  pub buffer_bytes_faults : (v : Value) → WorldExplains accesses (buffer_bytes v)
+  pub buffer_bytes_explains : (v : Value) → WorldExplains accesses (buffer_bytes v)
   unfolding buffer_bytes
-  buffer_bytes_faults v = direct_faults _ (λ w. (to_buffer_of_clean w.width (content_in w.objects v))) (λ w. refl)
+  buffer_bytes_explains v = direct_explains _ (λ w. to_buffer_of_clean w.width (content_in w.objects v)) (λ w. refl)
 
-  pub new_buffer_of_faults : (v : Value) → WorldExplains accesses (new_buffer_of v)
+  pub new_buffer_of_explains : (v : Value) → WorldExplains accesses (new_buffer_of v)
   unfolding new_buffer_of
-  new_buffer_of_faults v = then_faults _ _ (buffer_bytes_faults v) (λ bytes. on_objects_faults _ (make_buffer_clean _))
+  new_buffer_of_explains v = then_explains _ _ (buffer_bytes_explains v) (λ bytes. on_objects_explains _ (make_buffer_clean _))
 
-  pub to_buffer_in_faults : (v : Value) → WorldExplains accesses (to_buffer_in v)
-  to_buffer_in_faults (value.Buffer o) = give_faults _
-  to_buffer_in_faults value.Uninitialized = new_buffer_of_faults _
-  to_buffer_in_faults (value.Integer n) = new_buffer_of_faults _
-  to_buffer_in_faults (value.String o) = new_buffer_of_faults _
-  to_buffer_in_faults (value.Package o) = new_buffer_of_faults _
-  to_buffer_in_faults (value.Reference r) = new_buffer_of_faults _
+  pub to_buffer_in_explains : (v : Value) → WorldExplains accesses (to_buffer_in v)
+  to_buffer_in_explains (value.Buffer o) = give_explains _
+  to_buffer_in_explains value.Uninitialized = new_buffer_of_explains _
+  to_buffer_in_explains (value.Integer n) = new_buffer_of_explains _
+  to_buffer_in_explains (value.String o) = new_buffer_of_explains _
+  to_buffer_in_explains (value.Package o) = new_buffer_of_explains _
+  to_buffer_in_explains (value.Reference r) = new_buffer_of_explains _
 
-  pub size_in_faults : (r : Referent) → WorldExplains accesses (size_in r)
+  pub size_in_explains : (r : Referent) → WorldExplains accesses (size_in r)
   unfolding size_in
-  size_in_faults r = direct_faults _ (λ w. (seen_clean value.Integer (size_of_referent w.objects r) (size_of_referent_clean w.objects r))) (λ w. refl)
+  size_in_explains r = direct_explains _ (λ w. seen_clean value.Integer (size_of_referent w.objects r) (size_of_referent_clean w.objects r)) (λ w. refl)
 
-  size_held_faults : (v : Value) → WorldExplains accesses (size_held v)
+  size_held_explains : (v : Value) → WorldExplains accesses (size_held v)
   unfolding size_held
-  size_held_faults v = direct_faults _ (λ w. (size_of_value_clean w.objects v)) (λ w. refl)
+  size_held_explains v = direct_explains _ (λ w. size_of_value_clean w.objects v) (λ w. refl)
 
-  indexed_faults : (v u : Value) → WorldExplains accesses (indexed v u)
+  indexed_explains : (v u : Value) → WorldExplains accesses (indexed v u)
   unfolding element_indexed byte_indexed
-  indexed_faults (value.Package o) u = then_faults _ _ (integer_in_faults u) (λ i. then_faults _ _ (size_held_faults _) (λ n. settle_faults _ (below_clean _ _ _)))
-  indexed_faults (value.String o) u = then_faults _ _ (integer_in_faults u) (λ i. then_faults _ _ (size_held_faults _) (λ n. settle_faults _ (below_clean _ _ _)))
-  indexed_faults (value.Buffer o) u = then_faults _ _ (integer_in_faults u) (λ i. then_faults _ _ (size_held_faults _) (λ n. settle_faults _ (below_clean _ _ _)))
-  indexed_faults value.Uninitialized u = stop_faults _ tt
-  indexed_faults (value.Integer n) u = stop_faults _ tt
-  indexed_faults (value.Reference r) u = stop_faults _ tt
+  indexed_explains (value.Package o) u = then_explains _ _ (integer_in_explains u) (λ i. then_explains _ _ (size_held_explains _) (λ n. settle_explains _ (below_clean _ _ _)))
+  indexed_explains (value.String o) u = then_explains _ _ (integer_in_explains u) (λ i. then_explains _ _ (size_held_explains _) (λ n. settle_explains _ (below_clean _ _ _)))
+  indexed_explains (value.Buffer o) u = then_explains _ _ (integer_in_explains u) (λ i. then_explains _ _ (size_held_explains _) (λ n. settle_explains _ (below_clean _ _ _)))
+  indexed_explains value.Uninitialized u = stop_explains _ tt
+  indexed_explains (value.Integer n) u = stop_explains _ tt
+  indexed_explains (value.Reference r) u = stop_explains _ tt
 
-  pub result_of_two_faults : (k : TwoOperands) (v u : Value) → WorldExplains accesses (result_of_two k v u)
-  result_of_two_faults (two.Integers op) v u = operated_faults op v u
-  result_of_two_faults two.Concatenate v u = joined_faults v u
-  result_of_two_faults two.ConcatenateResources v u = joined_resources_faults v u
-  result_of_two_faults two.Index v u = indexed_faults v u
+  pub result_of_two_explains : (k : TwoOperands) (v u : Value) → WorldExplains accesses (result_of_two k v u)
+  result_of_two_explains (two.Integers op) v u = operated_explains op v u
+  result_of_two_explains two.Concatenate v u = joined_explains v u
+  result_of_two_explains two.ConcatenateResources v u = joined_resources_explains v u
+  result_of_two_explains two.Index v u = indexed_explains v u
 
-  pub result_of_one_faults : (k : OneOperand) (v : Value) → WorldExplains accesses (result_of_one k v)
-  result_of_one_faults (one.Integer op) v = operated_on_one_faults op v
-  result_of_one_faults one.ToBuffer v = to_buffer_in_faults v
-  result_of_one_faults one.ToInteger v = to_integer_in_faults v
+  pub result_of_one_explains : (k : OneOperand) (v : Value) → WorldExplains accesses (result_of_one k v)
+  result_of_one_explains (one.Integer op) v = operated_on_one_explains op v
+  result_of_one_explains one.ToBuffer v = to_buffer_in_explains v
+  result_of_one_explains one.ToInteger v = to_integer_in_explains v
 
-  pub result_of_test_faults : (k : Test) (v u : Value) → WorldExplains accesses (result_of_test k v u)
-  result_of_test_faults (test.Logical op) v u = operated_logically_faults op v u
-  result_of_test_faults (test.Compare c) v u = compared_in_faults c v u
+  pub result_of_test_explains : (k : Test) (v u : Value) → WorldExplains accesses (result_of_test k v u)
+  result_of_test_explains (test.Logical op) v u = operated_logically_explains op v u
+  result_of_test_explains (test.Compare c) v u = compared_in_explains c v u
 
-  pub counted_by_faults : (k : Count) (n : ℕ) → WorldExplains accesses (counted_by k n)
-  counted_by_faults count.Up n = next_integer_faults n
-  counted_by_faults count.Down n = integer_before_faults n
+  pub counted_by_explains : (k : Count) (n : ℕ) → WorldExplains accesses (counted_by k n)
+  counted_by_explains count.Up n = next_integer_explains n
+  counted_by_explains count.Down n = integer_before_explains n
 
   -- ---- calls
 
-  pub osi_answered_faults : (arguments : List Value) → WorldExplains accesses (osi_answered arguments)
+  pub osi_answered_explains : (arguments : List Value) → WorldExplains accesses (osi_answered arguments)
   unfolding osi_answered
-  osi_answered_faults arguments = direct_faults _ (λ w. (osi_answer_clean w.width w.osi (content_in w.objects (slice_index_or arguments 0 value.Uninitialized)))) (λ w. refl)
+  osi_answered_explains arguments = direct_explains _ (λ w. osi_answer_clean w.width w.osi (content_in w.objects (slice_index_or arguments 0 value.Uninitialized))) (λ w. refl)
 
-  pub body_terms_faults : (q : List Seg) (body : List ℕ) → WorldExplains accesses (body_terms q body)
+  pub body_terms_explains : (q : List Seg) (body : List ℕ) → WorldExplains accesses (body_terms q body)
   unfolding body_terms
-  body_terms_faults q body = direct_faults _ (λ w. (seen_clean trees_of (reading body q true (body_arities w)) (reading_clean body q true (body_arities w)))) (λ w. refl)
+  body_terms_explains q body = direct_explains _ (λ w. seen_clean trees_of (reading body q true (body_arities w)) (reading_clean body q true (body_arities w))) (λ w. refl)
 
   -- ---- what is found and called
 
-  pub named_use_faults : (scope : List Seg) (n : Name) → WorldExplains accesses (named_use scope n)
+  pub named_use_explains : (scope : List Seg) (n : Name) → WorldExplains accesses (named_use scope n)
   unfolding named_use
-  named_use_faults scope n = direct_faults _ (λ w. (invocation_of_clean (found w.names.map scope n) (found_clean w.names.map scope n))) (λ w. refl)
+  named_use_explains scope n = direct_explains _ (λ w. invocation_of_clean (found w.names.map scope n) (found_clean w.names.map scope n)) (λ w. refl)
 
-  pub invocation_found_faults : (scope : List Seg) (n : Name) (many : ℕ) → WorldExplains accesses (invocation_found scope n many)
+  pub invocation_found_explains : (scope : List Seg) (n : Name) (many : ℕ) → WorldExplains accesses (invocation_found scope n many)
   unfolding invocation_found
-  invocation_found_faults scope n many = then_faults _ _ (arguments_found_faults scope n) (λ wanted. then_faults _ _ (settle_faults _ (as_many_clean _ _)) (λ fit. named_use_faults scope n))
+  invocation_found_explains scope n many = then_explains _ _ (arguments_found_explains scope n) (λ wanted. then_explains _ _ (settle_explains _ (as_many_clean _ _)) (λ fit. named_use_explains scope n))

@@ -16,31 +16,31 @@ use Rattle.aml_meaning.specs.Meaning.{meaning}
 use Rattle.aml_meaning.specs.Calling.{loaded, evaluated, answered}
 use Rattle.aml_laws.specs.SpaceFaults.{Faults, read, written, LastFaults, NeverFaults}
 use Rattle.aml_laws.proofs.FaultsOfChanges.{Explained}
-use Rattle.aml_laws.proofs.FaultsOfCalls.{in_turn_faults, invoked_faults}
-use Rattle.aml_laws.proofs.FaultsOfTerms.{meaning_faults}
-use Rattle.aml_laws.proofs.FaultsOfEvaluations.{loaded_faults, evaluated_faults, answered_faults}
+use Rattle.aml_laws.proofs.FaultsOfCalls.{in_turn_explains, invoked_explains}
+use Rattle.aml_laws.proofs.FaultsOfTerms.{meaning_explains}
+use Rattle.aml_laws.proofs.FaultsOfEvaluations.{loaded_explains, evaluated_explains, answered_explains}
 
 module _ {S : Type 0} (accesses : Accesses S) where
   fault_explained : {A : Type 0} (x : Outcome A) (s t : S) (fault : SpaceFault) → Explained accesses x s t → x ≡ Err (Space fault) → LastFaults accesses fault s t
   fault_explained x s t fault h e = subst (λ y. Explained accesses y s t) e h
 
   pub fault_of_term : (fault : SpaceFault) (t : Task) (s : State S × ℕ) → (meaning accesses t s).0 ≡ Err (Space fault) → LastFaults accesses fault s.0.space (meaning accesses t s).1.0.space
-  fault_of_term fault t s e = fault_explained (meaning accesses t s).0 s.0.space _ fault ((meaning_faults accesses t).explained s) e
+  fault_of_term fault t s e = fault_explained (meaning accesses t s).0 s.0.space _ fault ((meaning_explains accesses t).explained s) e
 
   pub fault_of_list : (fault : SpaceFault) (scope : List Seg) (depth : ℕ) (ts : Trees) (s : State S × ℕ) → (in_turn (meaning accesses) scope depth ts s).0 ≡ Err (Space fault) → LastFaults accesses fault s.0.space (in_turn (meaning accesses) scope depth ts s).1.0.space
-  fault_of_list fault scope depth ts s e = fault_explained (in_turn (meaning accesses) scope depth ts s).0 s.0.space _ fault ((in_turn_faults accesses (meaning accesses) (meaning_faults accesses) scope depth ts).explained s) e
+  fault_of_list fault scope depth ts s e = fault_explained (in_turn (meaning accesses) scope depth ts s).0 s.0.space _ fault ((in_turn_explains accesses (meaning accesses) (meaning_explains accesses) scope depth ts).explained s) e
 
   pub fault_of_call : (fault : SpaceFault) (depth : ℕ) (p : List Seg) (body : List ℕ) (arguments : List Value) (s : State S × ℕ) → (invoked (meaning accesses) depth p body arguments s).0 ≡ Err (Space fault) → LastFaults accesses fault s.0.space (invoked (meaning accesses) depth p body arguments s).1.0.space
-  fault_of_call fault depth p body arguments s e = fault_explained (invoked (meaning accesses) depth p body arguments s).0 s.0.space _ fault ((invoked_faults accesses (meaning accesses) (meaning_faults accesses) depth p body arguments).explained s) e
+  fault_of_call fault depth p body arguments s e = fault_explained (invoked (meaning accesses) depth p body arguments s).0 s.0.space _ fault ((invoked_explains accesses (meaning accesses) (meaning_explains accesses) depth p body arguments).explained s) e
 
   pub fault_of_table : (fault : SpaceFault) (bytes : List ℕ) (steps : ℕ) (w : State S) → (loaded accesses bytes steps w).0 ≡ Err (Space fault) → LastFaults accesses fault w.space (loaded accesses bytes steps w).1.space
-  fault_of_table fault bytes steps w e = fault_explained (loaded accesses bytes steps w).0 w.space _ fault ((loaded_faults accesses bytes steps).explained w) e
+  fault_of_table fault bytes steps w e = fault_explained (loaded accesses bytes steps w).0 w.space _ fault ((loaded_explains accesses bytes steps).explained w) e
 
   pub fault_of_value : (fault : SpaceFault) (p : List Seg) (arguments : List Value) (steps : ℕ) (w : State S) → (evaluated accesses p arguments steps w).0 ≡ Err (Space fault) → LastFaults accesses fault w.space (evaluated accesses p arguments steps w).1.space
-  fault_of_value fault p arguments steps w e = fault_explained (evaluated accesses p arguments steps w).0 w.space _ fault ((evaluated_faults accesses p arguments steps).explained w) e
+  fault_of_value fault p arguments steps w e = fault_explained (evaluated accesses p arguments steps w).0 w.space _ fault ((evaluated_explains accesses p arguments steps).explained w) e
 
   pub fault_of_answer : (fault : SpaceFault) (p : List Seg) (arguments : List Given) (steps : ℕ) (w : State S) → (answered accesses p arguments steps w).0 ≡ Err (Space fault) → LastFaults accesses fault w.space (answered accesses p arguments steps w).1.space
-  fault_of_answer fault p arguments steps w e = fault_explained (answered accesses p arguments steps w).0 w.space _ fault ((answered_faults accesses p arguments steps).explained w) e
+  fault_of_answer fault p arguments steps w e = fault_explained (answered accesses p arguments steps w).0 w.space _ fault ((answered_explains accesses p arguments steps).explained w) e
 
   -- ---- a space that never answers with the fault
 
