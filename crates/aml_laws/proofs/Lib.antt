@@ -1,10 +1,19 @@
 -- The lemmas. One about a definition is named by the definition and by what is proved of it: `x_preserves` (x leads each world to one
 -- that every world relation relates to it), `x_maintains` (where what is known of a state holds, it holds after x, and what x gives
--- fits), `x_counts` (x over a space with a counter does what it does without), `x_respects`, `x_keeps_kinds`, `x_fits`, `x_stands`;
+-- fits), `x_counts` (x over a space with a counter does what it does without), `x_clean` (x answers with no fault of the register
+-- space), `x_explains` (a fault of the register space that x is refused by is what its last access answered), `x_respects`,
+-- `x_keeps_kinds`, `x_fits`, `x_stands`;
 -- a lemma that goes through the cases for another ends with `_by_cases`.
 pub mod ArgumentsAndAnswersPreserve
 pub mod ChangesNothing
 pub mod ChangesPreserve
+pub mod CleanChanges
+pub mod CleanNames
+pub mod CleanObjects
+pub mod CleanOutcomes
+pub mod CleanReading
+pub mod CleanValues
+pub mod CleanWorlds
 pub mod CountNeverFalls
 pub mod CountedCalls
 pub mod CountedChanges
@@ -18,6 +27,14 @@ pub mod DeclarationNumbers
 pub mod DeclaredNamesStand
 pub mod EndOfCalls
 pub mod EvaluationsPreserve
+pub mod FaultsOfCalls
+pub mod FaultsOfChanges
+pub mod FaultsOfEvaluations
+pub mod FaultsOfFields
+pub mod FaultsOfOperations
+pub mod FaultsOfRules
+pub mod FaultsOfStoreTargets
+pub mod FaultsOfTerms
 pub mod FieldsPreserve
 pub mod FoundNamesStand
 pub mod FrameNumbers
@@ -52,6 +69,7 @@ pub mod RefusedDeclarations
 pub mod RegisterAccesses
 pub mod RuleByParts
 pub mod RulesPreserve
+pub mod SpaceFaultsExplained
 pub mod SpaceReached
 pub mod StoreTargetsPreserve
 pub mod WorldRelations

@@ -12,4 +12,5 @@ pub mod Outside
 pub mod Parts
 pub mod Plain
 pub mod Reached
+pub mod SpaceFaults
 pub mod Within

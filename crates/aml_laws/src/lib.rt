@@ -27,7 +27,10 @@ pub use references::{
     a_reference_refers_to_its_target, a_reference_to_a_name_finds_its_declaration,
     a_reference_to_a_slot_reads_that_slot,
 };
-pub use space::space_is_reached_by_accesses;
+pub use space::{
+    faults_that_no_access_answers_are_never_refused, space_faults_are_answers_of_the_last_access,
+    space_is_reached_by_accesses,
+};
 pub use steps::{
     no_more_terms_than_steps, terms_of_tables_and_answers_are_counted, terms_that_begin_are_counted,
 };

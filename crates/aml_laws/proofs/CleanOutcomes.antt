@@ -1,0 +1,26 @@
+-- Outcomes that are no fault of the register space. A lemma `x_clean` says so of each outcome of x, whatever the state is.
+use Rattle.std.specs.Prelude.{Bool, true, false, Ok, Err, if◌then◌else◌}
+use Rattle.ar_space.specs.declared.refusal.Refusal.{Refusal}
+use Rattle.ar_space.specs.declared.refusal.Refusal.TheVariants as refusals
+use Rattle.ar_space.specs.Outcome.{Outcome, seen, ◌>>=◌}
+
+abbrev pub OfNoSpace : Refusal → Type 0
+OfNoSpace (refusals.Space fault) = ⊥
+OfNoSpace _ = Unit {0}
+
+abbrev pub Clean : {A : Type 0} → Outcome A → Type 0
+Clean (Ok a) = Unit {0}
+Clean (Err e) = OfNoSpace e
+
+pub if_clean : {A : Type 0} (b : Bool) (x y : Outcome A) → Clean x → Clean y → Clean (if b then x else y)
+if_clean true x y h i = h
+if_clean false x y h i = i
+
+pub seen_clean : {A B : Type 0} (view : A → B) (x : Outcome A) → Clean x → Clean (seen view x)
+seen_clean view (Ok a) h = h
+seen_clean view (Err e) h = h
+
+pub followed_clean : {A B : Type 0} (x : Outcome A) (k : A → Outcome B) → Clean x → ((a : A) → Clean (k a)) → Clean (x >>= k)
+unfolding ◌>>=◌
+followed_clean (Ok a) k h all = all a
+followed_clean (Err e) k h all = h

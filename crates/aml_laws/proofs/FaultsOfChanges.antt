@@ -1,0 +1,188 @@
+-- Changes whose refusals by a fault of the register space come from their last access. A lemma `x_explains` says so of x.
+use Rattle.std.specs.Prelude.{◌≡◌, ℕ, ◌==◌, ◌-◌, List, [], ◌∷◌, Bool, true, false, Result, Ok, Err, refl, if◌then◌else◌}
+use Rattle.std.proofs.Common.{subst, sym}
+use Rattle.ar_space.specs.declared.refusal.SpaceFault.{SpaceFault}
+use Rattle.ar_space.specs.declared.refusal.Refusal.{Refusal}
+use Rattle.ar_space.specs.declared.refusal.Refusal.TheVariants as refusals
+use Rattle.ar_space.specs.declared.refusal.EvaluationFault.TheVariants.{OutOfSteps}
+use Rattle.ar_space.specs.declared.space.Width.{Width}
+use Rattle.ar_space.specs.declared.space.Place.{Place}
+use Rattle.ar_space.specs.Accesses.{Accesses, bit_count}
+use Rattle.ar_space.specs.Outcome.{Outcome}
+use Rattle.ar_space.specs.Change.{Change, give, stop, settle, go_on, ◌>>=◌}
+use Rattle.aml_objects.specs.Objects.{Objects}
+use Rattle.aml_objects.specs.declared.entry.FieldUnit.{FieldUnit}
+use Rattle.aml_objects.specs.declared.entry.UpdateRule.{UpdateRule}
+use Rattle.aml_objects.specs.declared.entry.UpdateRule.TheVariants.{Preserve, WriteAsOnes, WriteAsZeros}
+use Rattle.aml_namespace.specs.Namespace.{Namespace}
+use Rattle.aml_fields.specs.declared.region.Region.{Region}
+use Rattle.aml_fields.specs.declared.field_units.Unit.{Unit as Access}
+use Rattle.aml_fields.specs.Units.{units_of}
+use Rattle.aml_fields.specs.UnitByUnit.{read_units, bits_read, write_units, kept_by, kept}
+use Rattle.aml_fields.specs.Regions.{faulted, read_access, read_unit, read_field, write_access, write_unit, write_field}
+use Rattle.aml_meaning.specs.State.{State, on_objects, on_names, on_space}
+use Rattle.aml_meaning.specs.Run.{Run, lift, charge}
+use Rattle.aml_laws.specs.Reached.{Reached}
+use Rattle.aml_laws.specs.Reached as by
+use Rattle.aml_laws.specs.SpaceFaults.{LastFaults}
+use Rattle.aml_laws.specs.SpaceFaults as space_faults
+use Rattle.aml_laws.proofs.RegisterAccesses.{reached_transitive}
+use Rattle.aml_laws.proofs.CleanOutcomes.{Clean, OfNoSpace}
+use Rattle.aml_laws.proofs.CleanChanges.{AllClean}
+use Rattle.aml_laws.proofs.CleanValues.{unit_place_clean}
+
+module _ {S : Type 0} (accesses : Accesses S) where
+  abbrev pub RefusalExplained : Refusal → S → S → Type 0
+  RefusalExplained (refusals.Space fault) s t = LastFaults accesses fault s t
+  RefusalExplained _ s t = Unit {0}
+
+  -- a value is reached by accesses, and a fault of the register space is that of the last one
+  abbrev pub Explained : {A : Type 0} → Outcome A → S → S → Type 0
+  Explained (Ok a) s t = Reached accesses s t
+  Explained (Err e) s t = RefusalExplained e s t
+
+  -- space: the register space of a state
+  pub record Explains {H A : Type 0} (space : H → S) (m : Change H A) : Type 0 where
+    pub explained : (h : H) → Explained (m h).0 (space h) (space (m h).1)
+
+module _ {S : Type 0} (accesses : Accesses S) where
+  further_refusal : (e : Refusal) (s t u : S) → Reached accesses s t → RefusalExplained accesses e t u → RefusalExplained accesses e s u
+  further_refusal (refusals.Space fault) s t u r h = record { last = h.last; reached = reached_transitive s t h.last r h.reached; faults = h.faults }
+  further_refusal _ s t u r h = tt
+
+  further : {A : Type 0} (x : Outcome A) (s t u : S) → Reached accesses s t → Explained accesses x t u → Explained accesses x s u
+  further (Ok a) s t u r h = reached_transitive s t u r h
+  further (Err e) s t u r h = further_refusal e s t u r h
+
+  clean_refusal : (e : Refusal) (s t : S) → OfNoSpace e → RefusalExplained accesses e s t
+  clean_refusal (refusals.Space fault) s t apart = absurd apart
+  clean_refusal _ s t apart = tt
+
+  clean_explained : {A : Type 0} (x : Outcome A) (s t : S) → Clean x → t ≡ s → Explained accesses x s t
+  clean_explained (Ok a) s t c e = subst (λ u. Reached accesses s u) (sym e) by.none
+  clean_explained (Err r) s t c e = clean_refusal r s t c
+
+  module _ {H : Type 0} (space : H → S) where
+    branch_explained : {A : Type 0} (b : Bool) (s : S) (x y : Outcome A × H) → Explained accesses x.0 s (space x.1) → Explained accesses y.0 s (space y.1) → Explained accesses (if b then x else y).0 s (space (if b then x else y).1)
+    branch_explained true s x y f g = f
+    branch_explained false s x y f g = g
+
+    go_on_explained : {A B : Type 0} (s : S) (r : Outcome A) (h : H) (k : A → Change H B) → Explained accesses r s (space h) → ((a : A) → Explains accesses space (k a)) → Explained accesses (go_on r h k).0 s (space (go_on r h k).1)
+    unfolding go_on
+    go_on_explained s (Ok a) h k r all = further (k a h).0 s (space h) (space (k a h).1) r ((all a).explained h)
+    go_on_explained s (Err e) h k r all = r
+
+module _ {S : Type 0} {accesses : Accesses S} {H : Type 0} {space : H → S} where
+  -- a change that makes no access
+  pub direct_explains : {A : Type 0} (m : Change H A) → ((h : H) → Clean (m h).0) → ((h : H) → space (m h).1 ≡ space h) → Explains accesses space m
+  direct_explains m c e = record { explained = λ h. clean_explained accesses (m h).0 (space h) (space (m h).1) (c h) (e h) }
+
+  pub give_explains : {A : Type 0} (a : A) → Explains accesses space (give a)
+  unfolding give
+  give_explains a = direct_explains _ (λ h. tt) (λ h. refl)
+
+  pub stop_explains : {A : Type 0} (e : Refusal) → OfNoSpace e → Explains accesses {A = A} space (stop e)
+  unfolding stop
+  stop_explains e apart = direct_explains _ (λ h. apart) (λ h. refl)
+
+  pub settle_explains : {A : Type 0} (x : Outcome A) → Clean x → Explains accesses space (settle x)
+  unfolding settle
+  settle_explains x c = direct_explains _ (λ h. c) (λ h. refl)
+
+  pub then_explains : {A B : Type 0} (m : Change H A) (k : A → Change H B) → Explains accesses space m → ((a : A) → Explains accesses space (k a)) → Explains accesses space (m >>= k)
+  unfolding ◌>>=◌
+  then_explains m k f all = record { explained = λ h. go_on_explained accesses space (space h) (m h).0 (m h).1 k (f.explained h) all }
+
+  pub either_branch_explains : {A : Type 0} (test : H → Bool) (m k : Change H A) → Explains accesses space m → Explains accesses space k → Explains accesses space (λ h. if test h then m h else k h)
+  either_branch_explains test m k f g = record { explained = λ h. branch_explained accesses space (test h) (space h) (m h) (k h) (f.explained h) (g.explained h) }
+
+  -- ---- unit by unit
+
+  read_units_explains : (read : Access → Change H ℕ) → ((u : Access) → Explains accesses space (read u)) → (us : List Access) → Explains accesses space (read_units read us)
+  unfolding read_units
+  read_units_explains read each [] = give_explains _
+  read_units_explains read each (u ∷ us) = then_explains _ _ (each u) (λ unit. then_explains _ _ (read_units_explains read each us) (λ bits. give_explains _))
+
+  pub bits_read_explains : (read : Access → Change H ℕ) → ((u : Access) → Explains accesses space (read u)) → (f : FieldUnit) → Explains accesses space (bits_read read f)
+  unfolding bits_read
+  bits_read_explains read each f = then_explains _ _ (read_units_explains read each (units_of f.bit_offset f.bits f.access)) (λ bits. give_explains _)
+
+  pub write_units_explains : (write : Access → Change H (Unit {0})) → ((u : Access) → Explains accesses space (write u)) → (us : List Access) → Explains accesses space (write_units write us)
+  unfolding write_units
+  write_units_explains write each [] = give_explains _
+  write_units_explains write each (u ∷ us) = then_explains _ _ (each u) (λ done. write_units_explains write each us)
+
+  kept_by_explains : (rule : UpdateRule) (read : Change H ℕ) → Explains accesses space read → Explains accesses space (λ h. kept_by rule read h)
+  kept_by_explains Preserve read f = record { explained = f.explained }
+  kept_by_explains WriteAsOnes read f = record { explained = λ h. by.none }
+  kept_by_explains WriteAsZeros read f = record { explained = λ h. by.none }
+
+  pub kept_explains : (f : FieldUnit) (u : Access) (read : Change H ℕ) → Explains accesses space read → Explains accesses space (kept f u read)
+  unfolding kept
+  kept_explains f u read g = record { explained = λ h. branch_explained accesses space (u.count == bit_count f.access) (space h) (Ok 0, h) (kept_by f.update read h) by.none ((kept_by_explains f.update read g).explained h) }
+
+-- ---- the register space, worlds, and worlds with the steps that are left
+
+module _ {S : Type 0} (accesses : Accesses S) where
+  abbrev pub SpaceExplains : {A : Type 0} → Change S A → Type 0
+  SpaceExplains m = Explains accesses (λ s. s) m
+
+  abbrev pub WorldExplains : {A : Type 0} → Change (State S) A → Type 0
+  WorldExplains m = Explains accesses (λ w. w.space) m
+
+  abbrev pub RunExplains : {A : Type 0} → Run S A → Type 0
+  RunExplains m = Explains accesses (λ s. s.0.space) m
+
+module _ {S : Type 0} {accesses : Accesses S} where
+  pub on_objects_explains : {A : Type 0} (m : Change Objects A) → AllClean m → WorldExplains accesses (on_objects m)
+  unfolding on_objects
+  on_objects_explains m c = direct_explains _ (λ w. c.clean w.objects) (λ w. refl)
+
+  pub on_names_explains : {A : Type 0} (m : Change Namespace A) → AllClean m → WorldExplains accesses (on_names m)
+  unfolding on_names
+  on_names_explains m c = direct_explains _ (λ w. c.clean w.names) (λ w. refl)
+
+  pub on_space_explains : {A : Type 0} (m : Change S A) → SpaceExplains accesses m → WorldExplains accesses (on_space m)
+  unfolding on_space
+  on_space_explains m f = record { explained = λ w. f.explained w.space }
+
+  pub lift_explains : {A : Type 0} (m : Change (State S) A) → WorldExplains accesses m → RunExplains accesses (lift m)
+  unfolding lift
+  lift_explains m f = record { explained = λ s. f.explained s.0 }
+
+  pub charge_explains : RunExplains accesses charge
+  unfolding charge
+  charge_explains = record { explained = λ s. branch_explained accesses (λ x. x.0.space) (s.1 == 0) s.0.space (Err (refusals.Evaluation OutOfSteps), s) (Ok tt, (s.0, s.1 - 1)) tt by.none }
+
+-- ---- fields of regions
+
+module _ {S : Type 0} (accesses : Accesses S) where
+  read_explained : (s t : S) (p : Place) (width : Width) (x : Result ℕ SpaceFault) → accesses.reads s p width ≡ (x, t) → Explained accesses (faulted x) s t
+  read_explained s t p width (Ok n) e = subst (λ a. Reached accesses s a.1) e (by.read s p width by.none)
+  read_explained s t p width (Err f) e = record { last = s; reached = by.none; faults = space_faults.read p width e }
+
+  write_explained : (s t : S) (p : Place) (width : Width) (value : ℕ) (x : Result (Unit {0}) SpaceFault) → accesses.writes s p width value ≡ (x, t) → Explained accesses (faulted x) s t
+  write_explained s t p width value (Ok n) e = subst (λ a. Reached accesses s a.1) e (by.written s p width value by.none)
+  write_explained s t p width value (Err f) e = record { last = s; reached = by.none; faults = space_faults.written p width value e }
+
+  read_access_explains : (p : Place) (width : Width) → SpaceExplains accesses (read_access accesses p width)
+  unfolding read_access
+  read_access_explains p width = record { explained = λ s. read_explained s (accesses.reads s p width).1 p width (accesses.reads s p width).0 refl }
+
+  write_access_explains : (p : Place) (width : Width) (value : ℕ) → SpaceExplains accesses (write_access accesses p width value)
+  unfolding write_access
+  write_access_explains p width value = record { explained = λ s. write_explained s (accesses.writes s p width value).1 p width value (accesses.writes s p width value).0 refl }
+
+  read_unit_explains : (r : Region) (width : Width) (u : Access) → SpaceExplains accesses (read_unit accesses r width u)
+  unfolding read_unit
+  read_unit_explains r width u = then_explains _ _ (settle_explains _ (unit_place_clean r width u.offset)) (λ p. read_access_explains p width)
+
+  write_unit_explains : (r : Region) (f : FieldUnit) (source : List ℕ) (u : Access) → SpaceExplains accesses (write_unit accesses r f source u)
+  unfolding write_unit
+  write_unit_explains r f source u = then_explains _ _ (settle_explains _ (unit_place_clean r f.access u.offset)) (λ p. then_explains _ _ (kept_explains f u _ (read_access_explains p f.access)) (λ old. write_access_explains p f.access _))
+
+  pub read_field_explains : (r : Region) (f : FieldUnit) → SpaceExplains accesses (read_field accesses r f)
+  read_field_explains r f = bits_read_explains _ (read_unit_explains r f.access) f
+
+  pub write_field_explains : (r : Region) (f : FieldUnit) (source : List ℕ) → SpaceExplains accesses (write_field accesses r f source)
+  write_field_explains r f source = write_units_explains _ (write_unit_explains r f source) (units_of f.bit_offset f.bits f.access)
