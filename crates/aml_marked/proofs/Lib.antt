@@ -7,4 +7,5 @@ pub mod LeafNames
 pub mod Leaves
 pub mod Marks
 pub mod Moves
+pub mod Onward
 pub mod Operands

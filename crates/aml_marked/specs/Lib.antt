@@ -1,3 +1,4 @@
 pub mod Marked
+pub mod Moving
 pub mod Parting
 pub mod Walking

@@ -1,5 +1,5 @@
 //! Readers at the beginning of lists and terms.
-ghost use Rattle.std.specs.Prelude.{◌≡◌, ◌<◌, ◌-◌, ◌∷◌, ℕ, length, drop, false};
+ghost use Rattle.std.specs.Prelude.{◌≡◌, ◌<◌, ◌≤◌, ◌-◌, ◌∷◌, ℕ, length, drop, false};
 ghost use Rattle.aml_grammar.specs.Shape.{trees_of};
 ghost use Rattle.aml_marked.specs.Marked.{count_at, a_term, to_end, trees_by, walk_levels};
 ghost use Rattle.aml_terms.specs.AtTree.{at_tree, at_list, place_at, behind_of};
@@ -94,7 +94,8 @@ pub fn list_at<'a>(bytes: &'a [u8], marks: &'a Marks) -> At<'a>
     standing(&cursor, marks, LEVELS, bytes.len(), Kind::Items)
 }
 
-/// The term at an offset of a list, by the marks that the scan left, and the offset behind it. It takes no memory.
+/// The term at an offset of a list, by the marks that the scan left, and the offset behind it, which is greater and at most the number
+/// of bytes. It takes no memory.
 ///
 /// `bytes` begin where the scan began and end where the list ends in which the term stands: what is behind the end of a package is
 /// no part of its last term. From offset 0 of all bytes that were scanned, and from each offset that is answered until it is their
@@ -103,9 +104,11 @@ pub fn list_at<'a>(bytes: &'a [u8], marks: &'a Marks) -> At<'a>
 pub fn first_term<'a>(bytes: &'a [u8], at: usize, marks: &'a Marks) -> (At<'a>, usize)
     requires { at < length bytes.now }
     ensures tree { at_tree result.0 ≡ (a_term (count_at marks.now) walk_levels false (record { at = at; rest = drop at bytes.now })).0 }
-    ensures next { result.1 ≡ (a_term (count_at marks.now) walk_levels false (record { at = at; rest = drop at bytes.now })).1.at }
+    ensures next { (a_term (count_at marks.now) walk_levels false (record { at = at; rest = drop at bytes.now })).1 ≡ record { at = result.1; rest = drop result.1 bytes.now } }
+    ensures on { at < result.1 }
+    ensures within { result.1 ≤ length bytes.now }
     ensures items { (turns : ℕ) → 0 < turns → (to_end (a_term (count_at marks.now) walk_levels false) turns (record { at = at; rest = drop at bytes.now })).0
-        ≡ at_tree result.0 ∷ (to_end (a_term (count_at marks.now) walk_levels false) (turns - 1) (a_term (count_at marks.now) walk_levels false (record { at = at; rest = drop at bytes.now })).1).0 }
+        ≡ at_tree result.0 ∷ (to_end (a_term (count_at marks.now) walk_levels false) (turns - 1) (record { at = result.1; rest = drop result.1 bytes.now })).0 }
 {
     let cursor = Cursor::new(at, &bytes[at..]);
     let term = term_at(&cursor, marks, LEVELS, false);
