@@ -1,0 +1,28 @@
+//! What holds of all calls of a machine: each law is the contract of a function that does nothing.
+#![tactic(auto)]
+
+ghost use Rattle.std.specs.Prelude.{◌≡◌, ℕ, List, Err};
+ghost use Rattle.ar_space.specs.declared.refusal.SpaceFault.{SpaceFault};
+ghost use Rattle.ar_space.specs.declared.refusal.Refusal.TheVariants.{Space};
+ghost use Rattle.ar_space.specs.Accesses.{Accesses};
+ghost use Rattle.ar_tables.specs.declared.mode.Mode.{Mode};
+ghost use Rattle.ar_tables.specs.declared.tables.Tables.{Tables};
+ghost use Rattle.aml_path.specs.declared.segment.Seg.{Seg};
+ghost use Rattle.aml_meaning.specs.Given.{Given};
+ghost use Rattle.aml_meaning.specs.State.{State};
+ghost use Rattle.aml_laws.specs.SpaceFaults.{LastFaults};
+ghost use Rattle.acpi_machine.specs.MachineStates.{MachineState};
+ghost use Rattle.acpi_machine.specs.Loading.{loaded_tables};
+ghost use Rattle.acpi_machine.specs.Calls.{evaluated_object, initialized};
+
+/// Where the tables of a machine, its initialization or an object that it evaluates is refused by a fault of the register space, the
+/// last access answered with that fault.
+#[tactic(auto, using(crate::proofs::MachineFaults::fault_of_tables, crate::proofs::MachineFaults::fault_of_initialization, crate::proofs::MachineFaults::fault_of_object))]
+pub fn machine_faults_are_answers_of_the_last_access<S>()
+    ensures tables { (accesses : Accesses S) (fault : SpaceFault) (t : Tables) (steps : ℕ) (osi : List (List ℕ)) (w : State S) →
+        (loaded_tables accesses t steps osi w).0 ≡ Err (Space fault) → LastFaults accesses fault w.space (loaded_tables accesses t steps osi w).1.space }
+    ensures initialization { (accesses : Accesses S) (fault : SpaceFault) (mode : Mode) (s : MachineState S) →
+        (initialized accesses mode s).0 ≡ Err (Space fault) → LastFaults accesses fault s.world.space (initialized accesses mode s).1.world.space }
+    ensures object { (accesses : Accesses S) (fault : SpaceFault) (p : List Seg) (arguments : List Given) (s : MachineState S) →
+        (evaluated_object accesses p arguments s).0 ≡ Err (Space fault) → LastFaults accesses fault s.world.space (evaluated_object accesses p arguments s).1.world.space }
+{}
