@@ -52,73 +52,66 @@ use Rattle.aml_laws.proofs.CleanOutcomes.{Clean, if_clean, seen_clean}
 
 -- ---- operands of terms
 
-pub name_of_clean : (x0 : Option Part) → Clean (name_of x0)
+pub name_of_clean : (o : Option Part) → Clean (name_of o)
 name_of_clean (Some (name n)) = tt
 name_of_clean _ = tt
 
-pub bytes_of_clean : (x0 : Option Part) → Clean (bytes_of x0)
+pub bytes_of_clean : (o : Option Part) → Clean (bytes_of o)
 bytes_of_clean (Some (bytes bs)) = tt
 bytes_of_clean _ = tt
 
-pub number_of_clean : (x0 : Option Part) → Clean (number_of x0)
+pub number_of_clean : (o : Option Part) → Clean (number_of o)
 number_of_clean (Some (number n)) = tt
 number_of_clean _ = tt
 
-pub inner_of_clean : (x0 : Option Part) → Clean (inner_of x0)
+pub inner_of_clean : (o : Option Part) → Clean (inner_of o)
 inner_of_clean (Some (inner t)) = tt
 inner_of_clean _ = tt
 
-pub list_of_clean : (x0 : Option Part) → Clean (list_of x0)
+pub list_of_clean : (o : Option Part) → Clean (list_of o)
 list_of_clean (Some (list ts)) = tt
 list_of_clean _ = tt
 
 -- ---- values and names
 
-pub value_in_clean : (x0 : Flow) → Clean (value_in x0)
+pub value_in_clean : (f : Flow) → Clean (value_in f)
 value_in_clean (flow.Value v) = tt
-value_in_clean flow.Next = tt
-value_in_clean flow.Break = tt
-value_in_clean flow.Continue = tt
-value_in_clean (flow.Return v) = tt
+value_in_clean _ = tt
 
 pub scope_or_not_clean : (o : NamedObject) → Clean (scope_or_not o)
 scope_or_not_clean o = if_clean (is_scope o) _ _ tt tt
 
-pub as_many_clean : (wanted : ℕ) (count : ℕ) → Clean (as_many wanted count)
+pub as_many_clean : (wanted count : ℕ) → Clean (as_many wanted count)
 as_many_clean wanted count = if_clean (wanted == count) _ _ tt tt
 
 -- ---- what stands there
 
-pub holding_in_clean : (x0 : Option Entry) → Clean (holding_in x0)
+pub holding_in_clean : (o : Option Entry) → Clean (holding_in o)
 holding_in_clean None = tt
 holding_in_clean (Some e) = tt
 
-pub or_ended_clean : (x0 : Option ℕ) → Clean (or_ended x0)
+pub or_ended_clean : (o : Option ℕ) → Clean (or_ended o)
 or_ended_clean None = tt
 or_ended_clean (Some k) = tt
 
-pub initialized_clean : (x0 : Value) → Clean (initialized x0)
+pub initialized_clean : (v : Value) → Clean (initialized v)
 initialized_clean value.Uninitialized = tt
-initialized_clean (value.Integer n) = tt
-initialized_clean (value.String o) = tt
-initialized_clean (value.Buffer o) = tt
-initialized_clean (value.Package o) = tt
-initialized_clean (value.Reference r) = tt
+initialized_clean _ = tt
 
-pub or_gone_clean : (x0 : Option (List Seg × Entry)) → Clean (or_gone x0)
+pub or_gone_clean : (o : Option (List Seg × Entry)) → Clean (or_gone o)
 or_gone_clean None = tt
 or_gone_clean (Some e) = tt
 
-pub held_in_clean : (x0 : Holding) → Clean (held_in x0)
+pub held_in_clean : (h : Holding) → Clean (held_in h)
 held_in_clean (holding.Value v) = tt
 held_in_clean (holding.Field f) = tt
 held_in_clean holding.Nothing = tt
 
-pub number_in_frame_clean : (x0 : Option Frame) → Clean (number_in_frame x0)
+pub number_in_frame_clean : (o : Option Frame) → Clean (number_in_frame o)
 number_in_frame_clean None = tt
 number_in_frame_clean (Some f) = tt
 
-pub number_in_entry_clean : (x0 : Option Entry) → Clean (number_in_entry x0)
+pub number_in_entry_clean : (o : Option Entry) → Clean (number_in_entry o)
 number_in_entry_clean None = tt
 number_in_entry_clean (Some e) = tt
 
@@ -127,25 +120,25 @@ where_found_clean (Ok e) c = tt
 where_found_clean (Err (refusal.Namespace NotFound)) c = tt
 where_found_clean (Err e) c = c
 
-pub referent_in_clean : (x0 : Option Entry) → Clean (referent_in x0)
+pub referent_in_clean : (o : Option Entry) → Clean (referent_in o)
 referent_in_clean None = tt
 referent_in_clean (Some e) = tt
 
-pub slot_found_clean : (slot : Slot) (x1 : Option Frame) → Clean (slot_found slot x1)
+pub slot_found_clean : (slot : Slot) (o : Option Frame) → Clean (slot_found slot o)
 slot_found_clean slot None = tt
 slot_found_clean slot (Some f) = tt
 
-pub slot_at_clean : (slot : Slot) (frames : List Frame) (x2 : Option ℕ) → Clean (slot_at slot frames x2)
+pub slot_at_clean : (slot : Slot) (frames : List Frame) (o : Option ℕ) → Clean (slot_at slot frames o)
 slot_at_clean slot frames None = tt
 slot_at_clean slot frames (Some k) = slot_found_clean slot (slice_get frames k)
 
 -- ---- stores
 
-pub first_byte_clean : (x0 : List ℕ) → Clean (first_byte x0)
+pub first_byte_clean : (bs : List ℕ) → Clean (first_byte bs)
 first_byte_clean [] = tt
 first_byte_clean (b ∷ bs) = tt
 
-pub byte_of_clean : (x0 : Content) → Clean (byte_of x0)
+pub byte_of_clean : (c : Content) → Clean (byte_of c)
 byte_of_clean (Integer n) = tt
 byte_of_clean (String bs) = first_byte_clean bs
 byte_of_clean (Buffer bs) = first_byte_clean bs
@@ -153,11 +146,11 @@ byte_of_clean Other = tt
 
 -- ---- mutexes
 
-pub count_of_object_clean : (x0 : NamedObject) → Clean (count_of_object x0)
+pub count_of_object_clean : (ob : NamedObject) → Clean (count_of_object ob)
 count_of_object_clean (object.Mutex n) = tt
 count_of_object_clean _ = tt
 
-pub count_in_clean : (x0 : Option Entry) → Clean (count_in x0)
+pub count_in_clean : (o : Option Entry) → Clean (count_in o)
 count_in_clean None = tt
 count_in_clean (Some e) = count_of_object_clean e.object
 
@@ -169,13 +162,12 @@ once_less_clean n = if_clean (n == 0) _ _ tt tt
 
 -- ---- operators
 
-pub size_of_object_clean : (x0 : Option Object) → Clean (size_of_object x0)
+pub size_of_object_clean : (o : Option Object) → Clean (size_of_object o)
 size_of_object_clean None = tt
 size_of_object_clean (Some (objects.String bs)) = tt
-size_of_object_clean (Some (objects.Buffer bs)) = tt
-size_of_object_clean (Some (objects.Package elements)) = tt
+size_of_object_clean (Some _) = tt
 
-pub size_of_value_clean : (objects : List Object) (x1 : Value) → Clean (size_of_value objects x1)
+pub size_of_value_clean : (objects : List Object) (v : Value) → Clean (size_of_value objects v)
 size_of_value_clean objects (value.String o) = size_of_object_clean (slice_get objects o)
 size_of_value_clean objects (value.Buffer o) = size_of_object_clean (slice_get objects o)
 size_of_value_clean objects (value.Package o) = size_of_object_clean (slice_get objects o)
@@ -183,43 +175,28 @@ size_of_value_clean objects value.Uninitialized = tt
 size_of_value_clean objects (value.Integer n) = tt
 size_of_value_clean objects (value.Reference r) = tt
 
-pub size_of_referent_clean : (objects : List Object) (x1 : Referent) → Clean (size_of_referent objects x1)
+pub size_of_referent_clean : (objects : List Object) (r : Referent) → Clean (size_of_referent objects r)
 size_of_referent_clean objects (referent.Value v) = size_of_value_clean objects v
 size_of_referent_clean objects (referent.Object t) = tt
 size_of_referent_clean objects (referent.Field f) = tt
 size_of_referent_clean objects (referent.Bytes n) = tt
 
-pub below_clean : (n : ℕ) (i : ℕ) (r : Reference) → Clean (below n i r)
+pub below_clean : (n i : ℕ) (r : Reference) → Clean (below n i r)
 below_clean n i r = if_clean (nat_lt i n) _ _ tt tt
 
-pub reference_in_clean : (x0 : Value) → Clean (reference_in x0)
+pub reference_in_clean : (v : Value) → Clean (reference_in v)
 reference_in_clean (value.Reference r) = tt
-reference_in_clean value.Uninitialized = tt
-reference_in_clean (value.Integer n) = tt
-reference_in_clean (value.String o) = tt
-reference_in_clean (value.Buffer o) = tt
-reference_in_clean (value.Package o) = tt
+reference_in_clean _ = tt
 
 -- ---- calls
 
-pub invocation_of_body_clean : (p : List Seg) (x1 : MethodBody) → Clean (invocation_of_body p x1)
+pub invocation_of_body_clean : (p : List Seg) (m : MethodBody) → Clean (invocation_of_body p m)
 invocation_of_body_clean p Osi = tt
 invocation_of_body_clean p (Aml body) = tt
 
-pub invocation_of_object_clean : (p : List Seg) (n : ℕ) (x2 : NamedObject) → Clean (invocation_of_object p n x2)
-invocation_of_object_clean p n (object.Data v) = tt
+pub invocation_of_object_clean : (p : List Seg) (n : ℕ) (ob : NamedObject) → Clean (invocation_of_object p n ob)
 invocation_of_object_clean p n (object.Method m) = invocation_of_body_clean p m.body
-invocation_of_object_clean p n (object.FieldUnit u) = tt
-invocation_of_object_clean p n (object.BufferField b) = tt
-invocation_of_object_clean p n object.Scope = tt
-invocation_of_object_clean p n object.Device = tt
-invocation_of_object_clean p n object.Processor = tt
-invocation_of_object_clean p n object.PowerResource = tt
-invocation_of_object_clean p n object.ThermalZone = tt
-invocation_of_object_clean p n (object.OperationRegion r) = tt
-invocation_of_object_clean p n (object.Mutex c) = tt
-invocation_of_object_clean p n object.Event = tt
-invocation_of_object_clean p n (object.Alias q) = tt
+invocation_of_object_clean p n _ = tt
 
 pub invocation_of_clean : (x : Outcome (List Seg × Entry)) → Clean x → Clean (invocation_of x)
 invocation_of_clean (Ok e) c = invocation_of_object_clean e.0 e.1.number e.1.object
@@ -228,19 +205,17 @@ invocation_of_clean (Err e) c = c
 pub shallow_clean : (depth : ℕ) → Clean (shallow depth)
 shallow_clean depth = if_clean (nat_lt depth 32) _ _ tt tt
 
-pub osi_answer_clean : (width : IntegerWidth) (texts : List (List ℕ)) (x2 : Content) → Clean (osi_answer width texts x2)
+pub osi_answer_clean : (width : IntegerWidth) (texts : List (List ℕ)) (c : Content) → Clean (osi_answer width texts c)
 osi_answer_clean width texts (String text) = tt
-osi_answer_clean width texts (Integer n) = tt
-osi_answer_clean width texts (Buffer bs) = tt
-osi_answer_clean width texts Other = tt
+osi_answer_clean width texts _ = tt
 
 -- ---- declarations
 
-pub no_method_clean : (x0 : NamedObject) → Clean (no_method x0)
+pub no_method_clean : (ob : NamedObject) → Clean (no_method ob)
 no_method_clean (object.Method m) = tt
 no_method_clean _ = tt
 
-pub no_method_in_clean : (x0 : Option Entry) → Clean (no_method_in x0)
+pub no_method_in_clean : (o : Option Entry) → Clean (no_method_in o)
 no_method_in_clean None = tt
 no_method_in_clean (Some e) = no_method_clean e.object
 
@@ -253,68 +228,56 @@ further_clean at count = if_clean (nat_lt (at.bit_offset + count) (2 ^ 64)) _ _ 
 pub unconnected_clean : (op : Opcode) (ts : Trees) → Clean (unconnected op ts)
 unconnected_clean op ts = if_clean (has_connection ts) _ _ tt tt
 
-pub region_number_clean : (n : ℕ) (x1 : NamedObject) → Clean (region_number n x1)
+pub region_number_clean : (n : ℕ) (ob : NamedObject) → Clean (region_number n ob)
 region_number_clean n (object.OperationRegion r) = tt
 region_number_clean n _ = tt
 
-pub in_region_clean : (n : ℕ) (x1 : FieldSource) → Clean (in_region n x1)
+pub in_region_clean : (n : ℕ) (source : FieldSource) → Clean (in_region n source)
 in_region_clean n (sources.Region r) = tt
 in_region_clean n (sources.Index i d) = tt
 
-pub field_number_clean : (n : ℕ) (x1 : NamedObject) → Clean (field_number n x1)
+pub field_number_clean : (n : ℕ) (ob : NamedObject) → Clean (field_number n ob)
 field_number_clean n (object.FieldUnit u) = in_region_clean n u.source
 field_number_clean n _ = tt
 
-pub buffer_of_clean : (x0 : Value) → Clean (buffer_of x0)
+pub buffer_of_clean : (v : Value) → Clean (buffer_of v)
 buffer_of_clean (value.Buffer o) = tt
-buffer_of_clean value.Uninitialized = tt
-buffer_of_clean (value.Integer n) = tt
-buffer_of_clean (value.String o) = tt
-buffer_of_clean (value.Package o) = tt
-buffer_of_clean (value.Reference r) = tt
+buffer_of_clean _ = tt
 
 -- ---- regions
 
-pub integer_only_clean : (x0 : Value) → Clean (integer_only x0)
+pub integer_only_clean : (v : Value) → Clean (integer_only v)
 integer_only_clean value.Uninitialized = tt
-integer_only_clean (value.Integer n) = tt
-integer_only_clean (value.String o) = tt
-integer_only_clean (value.Buffer o) = tt
-integer_only_clean (value.Package o) = tt
-integer_only_clean (value.Reference r) = tt
+integer_only_clean _ = tt
 
-pub pci_space_clean : (seg : ℕ) (bus : ℕ) (address : ℕ) → Clean (pci_space seg bus address)
+pub pci_space_clean : (seg : ℕ) (bus address : ℕ) → Clean (pci_space seg bus address)
 pci_space_clean seg bus address = if_clean (nat_lt seg 65536 && (nat_lt bus 256 && (nat_lt (address / 65536) 32 && nat_lt (address % 65536) 8))) _ _ tt tt
 
-pub region_of_object_clean : (x0 : NamedObject) → Clean (region_of_object x0)
+pub region_of_object_clean : (ob : NamedObject) → Clean (region_of_object ob)
 region_of_object_clean (object.OperationRegion r) = tt
 region_of_object_clean _ = tt
 
-pub region_field_clean : (x0 : FieldSource) (u : FieldUnit) → Clean (region_field x0 u)
+pub region_field_clean : (source : FieldSource) (u : FieldUnit) → Clean (region_field source u)
 region_field_clean (sources.Region n) u = tt
 region_field_clean (sources.Index i d) u = tt
 
-pub field_of_object_clean : (x0 : NamedObject) → Clean (field_of_object x0)
+pub field_of_object_clean : (ob : NamedObject) → Clean (field_of_object ob)
 field_of_object_clean (object.FieldUnit u) = region_field_clean u.source u
 field_of_object_clean _ = tt
 
-pub or_deep_clean : (x0 : Option (List Seg)) → Clean (or_deep x0)
+pub or_deep_clean : (o : Option (List Seg)) → Clean (or_deep o)
 or_deep_clean None = tt
 or_deep_clean (Some p) = tt
 
-pub or_behind_clean : (x0 : Option (List Seg)) → Clean (or_behind x0)
+pub or_behind_clean : (o : Option (List Seg)) → Clean (or_behind o)
 or_behind_clean None = tt
 or_behind_clean (Some p) = tt
 
 -- ---- answers
 
 value_or_path_clean : (v : Value) (p : Outcome (List Seg)) → Clean p → Clean (value_or_path v p)
-value_or_path_clean value.Uninitialized p c = tt
-value_or_path_clean (value.Integer n) p c = tt
-value_or_path_clean (value.String o) p c = tt
-value_or_path_clean (value.Buffer o) p c = tt
-value_or_path_clean (value.Package o) p c = tt
 value_or_path_clean (value.Reference r) p c = seen_clean _ _ c
+value_or_path_clean _ p c = tt
 
 held_or_path_clean : (o : NamedObject) (p : Outcome (List Seg)) → Clean p → Clean (held_or_path o p)
 held_or_path_clean (object.Data v) p c = value_or_path_clean v p c
