@@ -21,7 +21,7 @@ use Rattle.aml_laws.proofs.FaultsOfTerms.{meaning_explains}
 use Rattle.aml_laws.proofs.FaultsOfEvaluations.{loaded_explains, evaluated_explains, answered_explains}
 
 module _ {S : Type 0} (accesses : Accesses S) where
-  fault_explained : {A : Type 0} (x : Outcome A) (s t : S) (fault : SpaceFault) → Explained accesses x s t → x ≡ Err (Space fault) → LastFaults accesses fault s t
+  pub fault_explained : {A : Type 0} (x : Outcome A) (s t : S) (fault : SpaceFault) → Explained accesses x s t → x ≡ Err (Space fault) → LastFaults accesses fault s t
   fault_explained x s t fault h e = subst (λ y. Explained accesses y s t) e h
 
   pub fault_of_term : (fault : SpaceFault) (t : Task) (s : State S × ℕ) → (meaning accesses t s).0 ≡ Err (Space fault) → LastFaults accesses fault s.0.space (meaning accesses t s).1.0.space
