@@ -17,7 +17,7 @@
  * Nothing is kept between two calls, and there is no global state: any number of threads may make calls at once, each over its
  * own buffers. Everything that is handed in stays the caller's. A call reads no file, prints nothing, and touches no register.
  *
- * A call takes up to 4.5 MiB of stack, and as much memory as the tables ask for. The option `--steps` bounds how many terms an
+ * A call takes up to 4 MiB of stack, and as much memory as the tables ask for. The option `--steps` bounds how many terms an
  * evaluation begins, and neither time nor memory.
  */
 #ifndef ACPIROUTE_H

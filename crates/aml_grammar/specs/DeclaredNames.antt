@@ -12,7 +12,7 @@ use Rattle.aml_grammar.specs.declared.context.Context.{Context}
 abbrev pub begins_outside : Name → Bool
 begins_outside n = not (begins_here n.prefix)
 
--- in a body only names below the method's own path are declared; start is the term's first byte
+-- in a body only names without `\` or `^` are declared, so below the method's own path; start is the term's first byte
 abbrev pub allowed : Context → ℕ → Name → List Seg → Outcome (List Seg)
 allowed context start n path = if context.body && begins_outside n then Err (refusals.Term NotInBody start) else Ok path
 

@@ -75,7 +75,7 @@ impl<'a, C: ArgumentCounts, B: Before> Declarations<'a, C, B> {
         }
     }
 
-    /// How many arguments a name takes that stands, without a search, for a path: none where it isn't found.
+    /// How many arguments a name takes that stands, without a search, for a path: 0 where it isn't found.
     #[tactic(auto, using(ar_space::specs::Outcome::answering), unfolding(aml_grammar::specs::Arities::arity_of, aml_grammar::specs::Arities::found))]
     pub(crate) fn arity_of(
         &self,

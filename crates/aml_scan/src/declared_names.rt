@@ -39,7 +39,7 @@ pub(crate) fn declared_path(
     allowed_path(alloc, scope, context, start, name)
 }
 
-/// The path of a name that may be declared here: in a body, only at its scope or below it.
+/// The path of a name that may be declared here: in a body, only of a name without `\` or `^`.
 #[tactic(auto, using(ar_space::specs::Outcome::answering), unfolding(aml_grammar::specs::DeclaredNames::allowed_path))]
 fn allowed_path(
     alloc: Global,

@@ -21,7 +21,7 @@ const MAX_DEPTH: usize = 64;
 pub struct Noted {
     /// The calls that have arguments, in the order in which they begin.
     pub marks: Vec<Mark>,
-    /// The names that the list declares, with the arguments that they take. A body adds none.
+    /// The names that the list declares or an External of it names, with the arguments that they take. A body adds none.
     pub added: Arities,
 }
 
@@ -47,7 +47,7 @@ pub fn scan<C: ArgumentCounts>(
     scan_behind::<C, Brand>(alloc, bytes, scope, body, counts)
 }
 
-/// The same, where the counts from before have a name in clauses.
+/// The same. `B` gives clauses a name for the counts from before.
 #[tactic(auto, using(crate::proofs::Scans::noting), unfolding(aml_grammar::specs::Grammar::term_list))]
 fn scan_behind<C: ArgumentCounts, B: Before>(
     alloc: Global,

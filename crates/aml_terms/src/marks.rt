@@ -33,7 +33,7 @@ impl Marks {
         Marks { list }
     }
 
-    /// How many arguments follow the name that begins at an offset. It is found by halving.
+    /// How many arguments follow the name that begins at an offset, 0 where no mark stands. It is found by halving.
     pub fn count_at(&self, offset: usize) -> u8
         ensures { result ≡ count_at self.now offset }
     {

@@ -69,7 +69,7 @@ pub(crate) fn term_at<'a>(
     }
 }
 
-/// What stands behind a term or an element of a package.
+/// What stands behind a term, an element of a package, an Else or a field element; of a list, its own place.
 pub(crate) fn behind<'a>(term: &At<'a>) -> Cursor<'a>
     ensures { result ≡ behind_of term.now.kind (count_at term.now.marks.now) term.now.levels (place_at term.now) }
 {

@@ -32,8 +32,8 @@ pub fn scan_list<C: ArgumentCounts>(
     Ok(Marks::new(noted.marks))
 }
 
-/// Scans a table after its header, whose names stand at the root; the names that it declares take their arguments behind those from
-/// before. It is refused as `parse_table` refuses it, and then no name takes other arguments.
+/// Scans a table after its header, whose names stand at the root; the argument counts of names that it declares are appended to
+/// `arities`. It is refused as `parse_table` refuses it, and then no name takes other arguments.
 #[tactic(auto, using(crate::proofs::Scans::scanning))]
 pub fn scan_table(alloc: Global, bytes: &[u8], arities: &mut Arities) -> Result<Marks, Refusal>
     ensures marks { Answers (seen (λ m. (m, arities.new)) result) (noted (term_list by_arities bytes.now [] false arities.old)) }
