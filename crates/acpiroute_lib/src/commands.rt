@@ -9,9 +9,9 @@ use acpiroute_words::{Answer, Request, check_answer};
 use ar_space::Refusal;
 use std::alloc::Global;
 
-/// The answer to a request over the whole input.
-pub(crate) fn answer_to(alloc: Global, request: Request, input: &[u8]) -> Result<Answer, Refusal>
-    ensures { NotMemory result → IsAnswer request input.now result }
+/// The answer to a request over the whole input, which is given up as soon as it is read.
+pub(crate) fn answer_to(alloc: Global, request: Request, input: Vec<u8>) -> Result<Answer, Refusal>
+    ensures { NotMemory result → IsAnswer request input.items result }
 {
     match request {
         Request::Route {
@@ -27,6 +27,6 @@ pub(crate) fn answer_to(alloc: Global, request: Request, input: &[u8]) -> Result
             path,
             arguments,
         } => eval_answer(alloc, mode, steps, &path, &arguments, input),
-        Request::Check => check_answer(alloc, input),
+        Request::Check => check_answer(alloc, input.as_slice()),
     }
 }

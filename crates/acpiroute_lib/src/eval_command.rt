@@ -74,9 +74,9 @@ pub(crate) fn eval_answer(
     steps: u64,
     path: &PathText,
     integers: &Integers,
-    text: &[u8],
+    text: Vec<u8>,
 ) -> Result<Answer, Refusal>
-    ensures { Answers result (eval_answer mode steps path.now integers.now text.now) }
+    ensures { Answers result (eval_answer mode steps path.now integers.now text.items) }
 {
     let mut machine = machine_of_text_in(alloc, mode, steps, text)?;
     evaluated_text(alloc, &mut machine, path.as_str(), integers.as_slice())

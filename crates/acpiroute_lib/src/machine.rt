@@ -1,13 +1,14 @@
 //! The machine that a machine text describes.
 ghost use Rattle.std.specs.Prelude.{◌≡◌, IfOk, map};
 ghost use Rattle.ar_space.specs.Outcome.{Answers};
+ghost use Rattle.machine_text.specs.MachineText.{machine_text};
 ghost use Rattle.acpiroute_lib.specs.Machines.{machine_with, machine_of_text, initialized_machine, machine_of_text_in};
 
 use acpi_machine::{Machine, Mode, load_tables};
 use aml_objects::Octets;
 use ar_space::{Refusal, Sparse};
 use ar_tables::{Tables, find_tables};
-use machine_text::read_machine;
+use machine_text::{MachineText, read_machine};
 use std::alloc::{AllocError, Global};
 
 /// Texts that `_OSI` is to know.
@@ -38,17 +39,24 @@ fn machine_with(
     }
 }
 
+/// What a machine text says. The text is given up here: the memory that holds it is free before any table is loaded.
+fn machine_said(alloc: Global, text: Vec<u8>) -> Result<MachineText, Refusal>
+    ensures { Answers result (machine_text text.items) }
+{
+    read_machine(alloc, text.as_slice())
+}
+
 /// The machine of a machine text, with its tables loaded, each within `steps` steps. The text's own refusal comes first,
 /// then that of the tables, then that of loading them.
 #[tactic(auto, using(ar_space::specs::Outcome::answering), unfolding(crate::specs::Machines::machine_of_text))]
 pub(crate) fn machine_of_text(
     alloc: Global,
     steps: u64,
-    text: &[u8],
+    text: Vec<u8>,
 ) -> Result<Machine<Sparse>, Refusal>
-    ensures { Answers result (machine_of_text steps text.now) }
+    ensures { Answers result (machine_of_text steps text.items) }
 {
-    let said = read_machine(alloc, text)?;
+    let said = machine_said(alloc, text)?;
     let tables = find_tables(alloc, said.space.memory(), said.rsdp)?;
     let osi = octets(alloc, said.osi.into_vec())?;
     machine_with(alloc, tables, steps, said.space, osi)
@@ -73,9 +81,9 @@ pub(crate) fn machine_of_text_in(
     alloc: Global,
     mode: Mode,
     steps: u64,
-    text: &[u8],
+    text: Vec<u8>,
 ) -> Result<Machine<Sparse>, Refusal>
-    ensures { Answers result (machine_of_text_in mode steps text.now) }
+    ensures { Answers result (machine_of_text_in mode steps text.items) }
 {
     let machine = machine_of_text(alloc, steps, text)?;
     initialized_machine(alloc, mode, machine)

@@ -24,8 +24,8 @@ fn names_of_machine(alloc: Global, machine: &Machine<Sparse>) -> Result<Answer, 
 /// What `names` answers over a machine text, with a budget of steps for each table: its names, one a line. It doesn't
 /// initialize the machine.
 #[tactic(auto, using(ar_space::specs::Outcome::answering), unfolding(crate::specs::NamesCommand::names_answer))]
-pub(crate) fn names_answer(alloc: Global, steps: u64, text: &[u8]) -> Result<Answer, Refusal>
-    ensures { Answers result (names_answer steps text.now) }
+pub(crate) fn names_answer(alloc: Global, steps: u64, text: Vec<u8>) -> Result<Answer, Refusal>
+    ensures { Answers result (names_answer steps text.items) }
 {
     let machine = machine_of_text(alloc, steps, text)?;
     names_of_machine(alloc, &machine)

@@ -28,7 +28,7 @@ fn serve<R: Source, W: Sink, E: Sink>(
 {
     match read_input(alloc, reader) {
         Ok(input) => {
-            let outcome = answer_to(alloc, request, input.as_slice());
+            let outcome = answer_to(alloc, request, input);
             deliver_outcome(alloc, outcome, writer, errors)
         }
         Err(stop) => deliver(b"", stop.line(), 1, writer, errors),

@@ -75,9 +75,9 @@ pub(crate) fn route_answer(
     steps: u64,
     dry: bool,
     avoid: &[u32],
-    text: &[u8],
+    text: Vec<u8>,
 ) -> Result<Answer, Refusal>
-    ensures { NotMemory result → IsRouteAnswer mode steps dry avoid.now text.now result }
+    ensures { NotMemory result → IsRouteAnswer mode steps dry avoid.now text.items result }
 {
     let mut machine = machine_of_text_in(alloc, mode, steps, text)?;
     routed(alloc, &mut machine, dry, avoid)

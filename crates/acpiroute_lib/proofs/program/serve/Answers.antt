@@ -1,14 +1,10 @@
-use Rattle.std.proofs.Common.{subst}
-use Rattle.ar_space.specs.Outcome.{NotMemory}
-use Rattle.acpiroute_lib.specs.Commands.{IsAnswer}
 use Rattle.acpiroute_lib.proofs.Deliveries.{answered, stopped}
 use Rattle.acpiroute_lib.proofs.program.serve.Goals as goal
 
 pub returns-in-Ok : goal.returns-in-Ok
 returns-in-Ok g c =
-    let outcome = c.answer_to-outcome.result in
-    answered c.args.request (g.R.Source.left c.args.reader.now) (g.R.Source.has_failed c.read_input.new.reader) _ _ _ _ _ c.in-Ok.input.items outcome c.in-Ok.ensures
-    (subst (λ xs. NotMemory outcome → IsAnswer c.args.request xs outcome) c.as_slice.ensures.value c.answer_to-outcome.ensures) c.deliver_outcome.ensures
+    answered c.args.request (g.R.Source.left c.args.reader.now) (g.R.Source.has_failed c.read_input.new.reader) _ _ _ _ _ c.in-Ok.input.items c.answer_to-outcome.result c.in-Ok.ensures
+    c.answer_to-outcome.ensures c.deliver_outcome.ensures
 
 pub returns-in-Err : goal.returns-in-Err
 returns-in-Err g c = stopped c.args.request (g.R.Source.left c.args.reader.now) (g.R.Source.has_failed c.read_input.new.reader) _ _ _ _ _ c.in-Err.stop c.line.result.now c.in-Err.ensures c.line.ensures c.deliver.ensures
