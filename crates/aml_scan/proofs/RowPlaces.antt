@@ -59,7 +59,7 @@ no_place number a b = none_among table number all_coded (rw (ne_eqb (number / 25
 
 -- ---- the row at a place
 
-got_within : (rows : List Row) (i : ℕ) (d : Row) → i < length rows → slice_get rows i ≡ Some (get_or rows i d)
+pub got_within : (rows : List Row) (i : ℕ) (d : Row) → i < length rows → slice_get rows i ≡ Some (get_or rows i d)
 got_within [] i d lt = absurd (omega arith)
 got_within (r ∷ rows) zero d lt = refl
 got_within (r ∷ rows) (suc i) d lt = got_within rows i d (omega arith)
@@ -70,7 +70,7 @@ got_behind (r ∷ rows) zero le = absurd (omega arith)
 got_behind (r ∷ rows) (suc i) le = got_behind rows i (omega arith)
 
 -- the row of an opcode stands at its place
-row_there : (number : ℕ) → row_of number ≡ slice_get table (place_of number)
+pub row_there : (number : ℕ) → row_of number ≡ slice_get table (place_of number)
 unfolding row_of place_of
 row_there number = find_at (λ r. number_of r.0 == number) table
 

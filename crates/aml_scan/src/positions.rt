@@ -156,7 +156,7 @@ pub(crate) fn row_at<C: ArgumentCounts, B: Before>(
             if context.body && is_module_level(row.1) {
                 return Err(Refusal::Term(TermFault::NotInBody, start));
             }
-            Ok(row)
+            Ok(*row)
         }
     }
 }

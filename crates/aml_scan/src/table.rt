@@ -1,8 +1,10 @@
 //! The table of terms (ACPI 6.5, 20.2): where each may stand, and its operands.
-ghost use Rattle.std.specs.Prelude.{◌≡◌};
+ghost use Rattle.std.specs.Prelude.{◌≡◌, ◌<◌, Some, option_map};
 ghost use Rattle.aml_grammar.specs.Table.{row_of};
 ghost use Rattle.aml_scan.specs.RowPlaces.{place_of};
+ghost use Rattle.aml_scan.specs.RowsAt.{row_at, row_at_any};
 
+use crate::row_places::RowPlace;
 use aml_grammar::Class::{
     AfterIf, Data, DebugObject, Expression, InBody, InLoop, ModuleLevel, Reference, Slot, Statement,
 };
@@ -406,14 +408,33 @@ fn place_of(number: u16) -> u8
     }
 }
 
-/// The row of an opcode, where the table has one.
-pub fn row_of(number: u16) -> Option<Row>
-    ensures { result ≡ row_of number }
+impl RowPlace {
+    /// The row that stands there.
+    pub fn row(self) -> &'static Row
+        ensures { Some result.now ≡ row_at self }
+    {
+        &TABLE[usize::from(self.place)]
+    }
+}
+
+/// Where the row of an opcode stands, where the table has one.
+pub fn row_place(number: u16) -> Option<RowPlace>
+    ensures { row_at_any result ≡ row_of number }
 {
-    let place = usize::from(place_of(number));
-    if place < TABLE.len() {
-        Some(TABLE[place])
+    let place = place_of(number);
+    if place < NO_ROW {
+        Some(RowPlace { place })
     } else {
         None
+    }
+}
+
+/// The row of an opcode, where the table has one.
+pub fn row_of(number: u16) -> Option<&'static Row>
+    ensures { option_map (λ row. row.now) result ≡ row_of number }
+{
+    match row_place(number) {
+        None => None,
+        Some(place) => Some(place.row()),
     }
 }

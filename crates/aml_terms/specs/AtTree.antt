@@ -1,8 +1,9 @@
 -- What a reader of bytes stands at: a function of its bytes, its place and its marks.
-use Rattle.std.specs.Prelude.{ℕ, List, true, false, Some}
+use Rattle.std.specs.Prelude.{ℕ, List, true, false}
 use Rattle.aml_grammar.specs.Tree.{Tree, Trees, no_trees}
 use Rattle.aml_grammar.specs.Shape.{trees_of}
 use Rattle.aml_marked.specs.Marked.{Place, a_term, an_else, a_field, with_row, turns_of, to_end, count_at, no_term}
+use Rattle.aml_scan.specs.RowsAt.{row_at}
 use Rattle.aml_terms.specs.declared.at.At.{At}
 use Rattle.aml_terms.specs.declared.at.Kind.{Kind}
 use Rattle.aml_terms.specs.declared.at.Kind.TheVariants as stood
@@ -10,7 +11,7 @@ use Rattle.aml_terms.specs.declared.at.Kind.TheVariants as stood
 abbrev pub tree_of : Kind → (ℕ → ℕ) → ℕ → Place → Tree
 tree_of stood.Term count levels p = (a_term count levels false p).0
 tree_of stood.Element count levels p = (a_term count levels true p).0
-tree_of (stood.Coded row) count levels p = (with_row (a_term count levels) (Some row) p).0
+tree_of (stood.Coded place) count levels p = (with_row (a_term count levels) (row_at place) p).0
 tree_of stood.Else count levels p = (an_else (a_term count levels) p).0
 tree_of stood.Field count levels p = (a_field (a_term count levels) p).0
 tree_of _ count levels p = no_term
@@ -19,7 +20,7 @@ tree_of _ count levels p = no_term
 abbrev pub behind_of : Kind → (ℕ → ℕ) → ℕ → Place → Place
 behind_of stood.Term count levels p = (a_term count levels false p).1
 behind_of stood.Element count levels p = (a_term count levels true p).1
-behind_of (stood.Coded row) count levels p = (with_row (a_term count levels) (Some row) p).1
+behind_of (stood.Coded place) count levels p = (with_row (a_term count levels) (row_at place) p).1
 behind_of stood.Else count levels p = (an_else (a_term count levels) p).1
 behind_of stood.Field count levels p = (a_field (a_term count levels) p).1
 behind_of _ count levels p = p

@@ -2,15 +2,15 @@
 ghost use Rattle.std.specs.Prelude.{◌+◌, ◌<◌, ◌^◌, length};
 
 use crate::marks::Marks;
-use aml_grammar::Row;
+use aml_scan::RowPlace;
 
 /// What stands at a place of the bytes.
-#[derive(Clone, Copy, Debug, PartialEq, Eq)]
+#[derive(Clone, Copy)]
 pub(crate) enum Kind {
     /// A term.
     Term,
-    /// A term whose opcode was read: what stands behind the opcode, by its row.
-    Coded(Row),
+    /// A term whose opcode was read: what stands behind the opcode, by the place of its row.
+    Coded(RowPlace),
     /// An element of a package.
     Element,
     /// An Else.

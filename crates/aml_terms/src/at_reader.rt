@@ -40,8 +40,8 @@ fn code_at(cursor: &mut Cursor<'_>, levels: u8, element: bool) -> TermCode
 
 /// The code of a term whose opcode was read.
 #[tactic(auto, unfolding(aml_marked::specs::Marked::with_row, aml_marked::specs::Marked::after, aml_marked::specs::Marked::gives))]
-fn row_code(row: Row) -> TermCode
-    ensures { (below : Below) → (p : Place) → result ≡ code_of (with_row below (Some row) p).0 }
+fn row_code(row: &Row) -> TermCode
+    ensures { (below : Below) → (p : Place) → result ≡ code_of (with_row below (Some row.now) p).0 }
 {
     TermCode::Opcode(row.0)
 }
@@ -120,7 +120,7 @@ impl<'a> TermReader for At<'a> {
     fn code(self) -> TermCode {
         let mut cursor = cursor_of(&self);
         match self.kind {
-            Kind::Coded(row) => row_code(row),
+            Kind::Coded(place) => row_code(place.row()),
             Kind::Term => code_at(&mut cursor, self.levels, false),
             Kind::Element => code_at(&mut cursor, self.levels, true),
             Kind::Else => TermCode::Opcode(Opcode::Else),

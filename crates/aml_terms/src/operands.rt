@@ -63,10 +63,10 @@ fn to_row_operand(
     cursor: &mut Cursor<'_>,
     marks: &Marks,
     levels: u8,
-    row: Row,
+    row: &Row,
     index: usize,
 ) -> Option<Spot>
-    ensures { option_map (λ s. spot_part (count_at marks.now) s cursor.new) result ≡ part_at (parts_of (of_row (a_term (count_at marks.now) levels) row cursor.old).0) index }
+    ensures { option_map (λ s. spot_part (count_at marks.now) s cursor.new) result ≡ part_at (parts_of (of_row (a_term (count_at marks.now) levels) row.now cursor.old).0) index }
 {
     let kinds = [row.3.0, row.3.1, row.3.2, row.3.3, row.3.4, row.3.5];
     if row.2 {
@@ -81,10 +81,10 @@ fn to_coded_operand(
     cursor: &mut Cursor<'_>,
     marks: &Marks,
     levels: u8,
-    row: Row,
+    row: &Row,
     index: usize,
 ) -> Option<Spot>
-    ensures { option_map (λ s. spot_part (count_at marks.now) s cursor.new) result ≡ operand_of (with_row (a_term (count_at marks.now) levels) (Some row) cursor.old).0 index }
+    ensures { option_map (λ s. spot_part (count_at marks.now) s cursor.new) result ≡ operand_of (with_row (a_term (count_at marks.now) levels) (Some row.now) cursor.old).0 index }
 {
     if index == 0 && !row.2 && !is_if(row.0) && !is_nothing(row.3.0) {
         return Some(Spot::Operand(row.3.0, levels));
@@ -98,10 +98,10 @@ fn to_operand_of_row(
     cursor: &mut Cursor<'_>,
     marks: &Marks,
     levels: u8,
-    row: Row,
+    row: &Row,
     index: usize,
 ) -> Option<Spot>
-    ensures { option_map (λ s. spot_part (count_at marks.now) s cursor.new) result ≡ operand_of (with_row (a_term (count_at marks.now) levels) (Some row) cursor.old).0 index }
+    ensures { option_map (λ s. spot_part (count_at marks.now) s cursor.new) result ≡ operand_of (with_row (a_term (count_at marks.now) levels) (Some row.now) cursor.old).0 index }
 {
     if !is_if(row.0) {
         return to_row_operand(cursor, marks, levels, row, index);
@@ -253,7 +253,9 @@ pub(crate) fn to_part<'a>(part: &At<'a>, cursor: &mut Cursor<'a>, index: usize) 
     ensures { option_map (λ s. spot_part (count_at part.now.marks.now) s cursor.new) result ≡ operand_of (at_tree part.now) index }
 {
     match part.kind {
-        Kind::Coded(row) => to_coded_operand(cursor, part.marks, part.levels, row, index),
+        Kind::Coded(place) => {
+            to_coded_operand(cursor, part.marks, part.levels, place.row(), index)
+        }
         Kind::Term => to_operand(cursor, part.marks, part.levels, false, index),
         Kind::Element => to_operand(cursor, part.marks, part.levels, true, index),
         Kind::Else => to_else_operand(cursor, part.levels, index),

@@ -8,7 +8,7 @@ use crate::at::{At, Kind};
 use crate::cursor::Cursor;
 use crate::marks::Marks;
 use crate::skip::{opcode, over_else, skip_field, skip_row_term, skip_term};
-use aml_scan::{row_of, starts_name};
+use aml_scan::{row_place, starts_name};
 
 /// One level more than the grammar counts: there, a local, an argument or Debug as a place costs none.
 const LEVELS: u8 = 65;
@@ -58,8 +58,8 @@ pub(crate) fn term_at<'a>(
 {
     if levels > 0 && !starts_name(cursor.first()) {
         let mut behind = Cursor::new(cursor.at(), cursor.rest());
-        if let Some(row) = row_of(opcode(&mut behind)) {
-            return standing(&behind, marks, levels - 1, 0, Kind::Coded(row));
+        if let Some(place) = row_place(opcode(&mut behind)) {
+            return standing(&behind, marks, levels - 1, 0, Kind::Coded(place));
         }
     }
     if element {
@@ -75,7 +75,7 @@ pub(crate) fn behind<'a>(term: &At<'a>) -> Cursor<'a>
 {
     let mut cursor = cursor_of(term);
     match term.kind {
-        Kind::Coded(row) => skip_row_term(&mut cursor, term.marks, term.levels, row),
+        Kind::Coded(place) => skip_row_term(&mut cursor, term.marks, term.levels, place.row()),
         Kind::Term => skip_term(&mut cursor, term.marks, term.levels, false),
         Kind::Element => skip_term(&mut cursor, term.marks, term.levels, true),
         Kind::Else => over_else(&mut cursor),

@@ -81,8 +81,8 @@ fn skip_coded(cursor: &mut Cursor<'_>, marks: &Marks, levels: u8)
 /// Goes over the operands of a term, and over the Else that may follow an If.
 #[cycle(skip)]
 #[tactic(auto, using(aml_marked::specs::Walking::walking), unfolding(aml_marked::specs::Marked::with_row, aml_marked::specs::Marked::after, aml_marked::specs::Marked::gives))]
-pub(crate) fn skip_row_term(cursor: &mut Cursor<'_>, marks: &Marks, levels: u8, row: Row)
-    ensures { cursor.new ≡ (with_row (a_term (count_at marks.now) levels) (Some row) cursor.old).1 }
+pub(crate) fn skip_row_term(cursor: &mut Cursor<'_>, marks: &Marks, levels: u8, row: &Row)
+    ensures { cursor.new ≡ (with_row (a_term (count_at marks.now) levels) (Some row.now) cursor.old).1 }
 {
     skip_row(cursor, marks, levels, row);
     if is_if(row.0) {
@@ -93,8 +93,8 @@ pub(crate) fn skip_row_term(cursor: &mut Cursor<'_>, marks: &Marks, levels: u8, 
 /// Goes over the operands of a row: over a package at once.
 #[cycle(skip)]
 #[tactic(auto, using(aml_marked::specs::Walking::walking), unfolding(aml_marked::specs::Marked::of_row, aml_marked::specs::Marked::inside, aml_marked::specs::Marked::all_operands, aml_marked::specs::Marked::gives))]
-pub(crate) fn skip_row(cursor: &mut Cursor<'_>, marks: &Marks, levels: u8, row: Row)
-    ensures { cursor.new ≡ (of_row (a_term (count_at marks.now) levels) row cursor.old).1 }
+pub(crate) fn skip_row(cursor: &mut Cursor<'_>, marks: &Marks, levels: u8, row: &Row)
+    ensures { cursor.new ≡ (of_row (a_term (count_at marks.now) levels) row.now cursor.old).1 }
 {
     if row.2 {
         let outer = cursor.open();
