@@ -99,7 +99,7 @@ fn eval_alias<S: Space>(
     let name = job.term.name(alloc, 1)?;
     let path = name.resolve_in(alloc, job.scope.path)?;
     run.world
-        .new_name(alloc, job.depth == 0, path, NamedObject::Alias(target))?;
+        .new_name(alloc, job.depth == 0, path, NamedObject::Alias(target.into_path()))?;
     Ok(Flow::Next)
 }
 
@@ -136,9 +136,9 @@ fn eval_scope<S: Space>(
     ensures means { Does result run.new (scope_rule (meaning S.accesses) job.now.scope.path.now job.now.depth (at_tree job.now.term)) run.old }
 {
     let name = job.term.name(alloc, 0)?;
-    let path = run.world.locate_scope(alloc, job.scope, &name)?;
+    let located = run.world.locate_scope(alloc, job.scope, &name)?;
     let items = list(job.term, 1)?;
-    let scope = run.world.scope(&path);
+    let scope = located.scope();
     eval_list(
         alloc,
         run,

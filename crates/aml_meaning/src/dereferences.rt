@@ -10,7 +10,7 @@ use crate::readings::read_as;
 use crate::store_target::{Held, StoreTarget};
 use crate::targets::initialized;
 use crate::world_state::WorldState;
-use aml_namespace::Scope;
+use aml_namespace::{Located, Scope};
 use aml_objects::{Element, Field, NamedObject, Reference, Slot, Value};
 use aml_path::{NameString, Path};
 use ar_space::{EvaluationFault, NamespaceFault, Refusal, ValueFault};
@@ -177,7 +177,7 @@ impl<S> WorldState<S> {
     }
 
     #[tactic(auto, using(ar_space::specs::Change::changing), unfolding(crate::specs::StoreTargets::name_reference))]
-    fn name_reference(&self, path: &Path) -> Result<Reference, Refusal>
+    fn name_reference(&self, path: &Located) -> Result<Reference, Refusal>
         ensures answer { Does result self.now (name_reference path.now) self.now }
         ensures memory { NotMemory result }
     {
@@ -187,11 +187,11 @@ impl<S> WorldState<S> {
 
     /// The number of the declaration at a path.
     #[tactic(auto, unfolding(crate::specs::StoreTargets::declared_number))]
-    fn declared_number(&self, path: &Path) -> Result<u64, Refusal>
+    fn declared_number(&self, path: &Located) -> Result<u64, Refusal>
         ensures answer { Does result self.now (declared_number path.now) self.now }
         ensures memory { NotMemory result }
     {
-        match self.names.get(path) {
+        match self.names.get_located(path) {
             None => Err(Refusal::Namespace(NamespaceFault::NotFound)),
             Some(entry) => Ok(entry.number),
         }

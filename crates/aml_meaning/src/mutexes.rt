@@ -9,8 +9,8 @@ ghost use Rattle.aml_meaning.specs.Mutexes.{count_of_object, mutex_count, once_m
 
 use crate::store_target::StoreTarget;
 use crate::world_state::WorldState;
+use aml_namespace::Located;
 use aml_objects::{NamedObject, Reference};
-use aml_path::Path;
 use ar_space::{EvaluationFault, NamespaceFault, Refusal, ValueFault};
 use std::alloc::Global;
 
@@ -86,7 +86,7 @@ impl<S> WorldState<S> {
     }
 
     #[tactic(auto, using(ar_space::specs::Change::changing), unfolding(crate::specs::Mutexes::acquired))]
-    fn acquire_at(&mut self, path: &Path) -> Result<(), Refusal>
+    fn acquire_at(&mut self, path: &Located) -> Result<(), Refusal>
         ensures change { Does result self.new (acquired path.now) self.old }
         ensures memory { NotMemory result }
     {
@@ -96,7 +96,7 @@ impl<S> WorldState<S> {
     }
 
     #[tactic(auto, using(ar_space::specs::Change::changing), unfolding(crate::specs::Mutexes::given_back))]
-    fn release_at(&mut self, path: &Path) -> Result<(), Refusal>
+    fn release_at(&mut self, path: &Located) -> Result<(), Refusal>
         ensures change { Does result self.new (given_back path.now) self.old }
         ensures memory { NotMemory result }
     {
@@ -106,20 +106,20 @@ impl<S> WorldState<S> {
     }
 
     #[tactic(auto, using(crate::proofs::Lifted::parts))]
-    fn put_count(&mut self, path: &Path, count: u64) -> Result<(), Refusal>
+    fn put_count(&mut self, path: &Located, count: u64) -> Result<(), Refusal>
         ensures change { Does result self.new (on_names (replaced path.now (object.Mutex count))) self.old }
         ensures memory { NotMemory result }
     {
-        self.names.replace(path, NamedObject::Mutex(count))
+        self.names.replace_located(path, NamedObject::Mutex(count))
     }
 
     /// How often the mutex at a path is acquired.
     #[tactic(auto, unfolding(crate::specs::Mutexes::mutex_count))]
-    fn mutex_count(&self, path: &Path) -> Result<u64, Refusal>
+    fn mutex_count(&self, path: &Located) -> Result<u64, Refusal>
         ensures answer { Does result self.now (mutex_count path.now) self.now }
         ensures memory { NotMemory result }
     {
-        match self.names.get(path) {
+        match self.names.get_located(path) {
             None => Err(Refusal::Namespace(NamespaceFault::NotFound)),
             Some(entry) => count_of(&entry.object),
         }

@@ -6,7 +6,7 @@ ghost use Rattle.aml_meaning.specs.Readings.{integer_kept, integer_in, entry_fou
 
 use crate::world_state::WorldState;
 use aml_convert::{to_integer, truncate_integer};
-use aml_namespace::Scope;
+use aml_namespace::{Located, Scope};
 use aml_objects::{Entry, NamedObject, Reference, Value};
 use aml_path::{NameString, Path};
 use ar_space::{EvaluationFault, Refusal, ValueFault};
@@ -56,14 +56,14 @@ impl<S> WorldState<S> {
         self.names.scope(path)
     }
 
-    /// The path of what a name finds from a scope; refused as `Names::locate` refuses it.
+    /// The path of what a name finds from a scope, with the node that is found; refused as `Names::locate` refuses it.
     #[tactic(auto, unfolding(crate::specs::Readings::path_found))]
     pub fn locate(
         &self,
         alloc: Global,
         scope: Scope<'_>,
         name: &NameString,
-    ) -> Result<Path, Refusal>
+    ) -> Result<Located, Refusal>
         ensures { Does result self.now (path_found scope.entry.path.now name.now) self.now }
     {
         self.names.locate_in(alloc, scope, name)
@@ -77,7 +77,7 @@ impl<S> WorldState<S> {
         alloc: Global,
         scope: Scope<'_>,
         name: &NameString,
-    ) -> Result<Path, Refusal>
+    ) -> Result<Located, Refusal>
         ensures { Does result self.now (scope_found scope.entry.path.now name.now) self.now }
     {
         let entry = self.entry_in(scope, name)?;

@@ -8,6 +8,7 @@ use crate::object_type::{ObjectType, Referent};
 use crate::readings::read_as;
 use crate::store_target::StoreTarget;
 use crate::world_state::WorldState;
+use aml_namespace::Located;
 use aml_objects::{Element, Field, NamedObject, Reference, Slot, Value};
 use aml_path::{NameString, Path};
 use ar_space::{EvaluationFault, NamespaceFault, Refusal};
@@ -50,7 +51,7 @@ impl<S> WorldState<S> {
     }
 
     #[tactic(auto, using(ar_space::specs::Change::changing), unfolding(crate::specs::StoreTargets::name_referent))]
-    fn name_referent(&self, path: &Path) -> Result<Referent, Refusal>
+    fn name_referent(&self, path: &Located) -> Result<Referent, Refusal>
         ensures answer { Does result self.now (name_referent path.now) self.now }
         ensures memory { NotMemory result }
     {
@@ -59,11 +60,11 @@ impl<S> WorldState<S> {
     }
 
     #[tactic(auto, unfolding(crate::specs::StoreTargets::declared_referent))]
-    fn declared_referent(&self, path: &Path) -> Result<Referent, Refusal>
+    fn declared_referent(&self, path: &Located) -> Result<Referent, Refusal>
         ensures answer { Does result self.now (declared_referent path.now) self.now }
         ensures memory { NotMemory result }
     {
-        match self.names.get(path) {
+        match self.names.get_located(path) {
             None => Err(Refusal::Namespace(NamespaceFault::NotFound)),
             Some(entry) => Ok(referent_of(&entry.object)),
         }

@@ -100,7 +100,7 @@ impl<S> WorldState<S> {
     {
         let (path, entry) = self.placed_declaration(alloc, number)?;
         let region = region_of_object(&entry.object)?;
-        Ok((above(path), region))
+        Ok((above(path.into_path()), region))
     }
 
     /// The field unit of a region with the number of a declaration; one that is gone is refused as `DeadReference`.

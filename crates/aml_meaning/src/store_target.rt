@@ -2,8 +2,8 @@
 ghost use Rattle.std.specs.Prelude.{◌≡◌};
 ghost use Rattle.aml_meaning.specs.FieldCalls.{is_element};
 
+use aml_namespace::Located;
 use aml_objects::{Field, Reference, Slot, Value};
-use aml_path::Path;
 
 /// Where a value is read or stored to: the operand of Store, a target, and what Increment counts.
 #[derive(Debug, Drop)]
@@ -12,8 +12,8 @@ pub enum StoreTarget {
     Nowhere,
     /// A local or an argument of the control method that runs.
     Slot(Slot),
-    /// The name at a path.
-    Name(Path),
+    /// The name at a path, where it was found.
+    Name(Located),
     /// What a reference refers to.
     Refers(Reference),
 }

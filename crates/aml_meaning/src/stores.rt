@@ -12,8 +12,8 @@ use crate::referents::MOST_REFERENCES;
 use crate::store_target::{Holding, StoreTarget, Stored};
 use crate::world_state::WorldState;
 use aml_convert::{to_buffer, to_text};
+use aml_namespace::Located;
 use aml_objects::{NamedObject, Octets, Slot, Value};
-use aml_path::Path;
 use ar_space::{Refusal, ValueFault};
 use std::alloc::Global;
 
@@ -72,7 +72,7 @@ impl<S> WorldState<S> {
     }
 
     #[tactic(auto, using(ar_space::specs::Change::changing), unfolding(crate::specs::Stores::store_in_name))]
-    fn store_in_name(&mut self, alloc: Global, path: &Path, value: Value) -> Result<Stored, Refusal>
+    fn store_in_name(&mut self, alloc: Global, path: &Located, value: Value) -> Result<Stored, Refusal>
         ensures { Does result self.new (store_in_name path.now value) self.old }
     {
         let held = self.held_at(path)?;
@@ -80,7 +80,7 @@ impl<S> WorldState<S> {
     }
 
     #[tactic(auto, using(ar_space::specs::Change::changing), unfolding(crate::specs::Stores::copy_in_name))]
-    fn copy_in_name(&mut self, alloc: Global, path: &Path, value: Value) -> Result<Stored, Refusal>
+    fn copy_in_name(&mut self, alloc: Global, path: &Located, value: Value) -> Result<Stored, Refusal>
         ensures { Does result self.new (copy_in_name path.now value) self.old }
     {
         let held = self.held_at(path)?;
@@ -92,7 +92,7 @@ impl<S> WorldState<S> {
         &mut self,
         alloc: Global,
         held: Holding,
-        path: &Path,
+        path: &Located,
         value: Value,
     ) -> Result<Stored, Refusal>
         ensures { Does result self.new (store_over held path.now value) self.old }
@@ -109,7 +109,7 @@ impl<S> WorldState<S> {
         &mut self,
         alloc: Global,
         old: Value,
-        path: &Path,
+        path: &Located,
         value: Value,
     ) -> Result<Stored, Refusal>
         ensures { Does result self.new (store_over_value old path.now value) self.old }
@@ -125,7 +125,7 @@ impl<S> WorldState<S> {
     }
 
     #[tactic(auto, using(ar_space::specs::Change::changing), unfolding(crate::specs::Stores::store_integer))]
-    fn store_integer(&mut self, path: &Path, value: Value) -> Result<Stored, Refusal>
+    fn store_integer(&mut self, path: &Located, value: Value) -> Result<Stored, Refusal>
         ensures change { Does result self.new (store_integer path.now value) self.old }
         ensures memory { NotMemory result }
     {
@@ -153,7 +153,7 @@ impl<S> WorldState<S> {
     }
 
     #[tactic(auto, using(ar_space::specs::Change::changing))]
-    fn store_package(&mut self, alloc: Global, path: &Path, value: Value) -> Result<Stored, Refusal>
+    fn store_package(&mut self, alloc: Global, path: &Located, value: Value) -> Result<Stored, Refusal>
         ensures { Does result self.new (store_package path.now value) self.old }
     {
         match value {
@@ -172,7 +172,7 @@ impl<S> WorldState<S> {
         &mut self,
         alloc: Global,
         held: Holding,
-        path: &Path,
+        path: &Located,
         value: Value,
     ) -> Result<Stored, Refusal>
         ensures { Does result self.new (copy_over held path.now value) self.old }
@@ -188,7 +188,7 @@ impl<S> WorldState<S> {
     fn copy_into_name(
         &mut self,
         alloc: Global,
-        path: &Path,
+        path: &Located,
         value: Value,
     ) -> Result<Stored, Refusal>
         ensures { Does result self.new (copy_into_name path.now value) self.old }
@@ -200,11 +200,11 @@ impl<S> WorldState<S> {
 
     /// The name at a path holds a value from now on.
     #[tactic(auto, using(crate::proofs::Lifted::parts))]
-    fn put_data(&mut self, path: &Path, value: Value) -> Result<(), Refusal>
+    fn put_data(&mut self, path: &Located, value: Value) -> Result<(), Refusal>
         ensures change { Does result self.new (on_names (replaced path.now (Data value))) self.old }
         ensures memory { NotMemory result }
     {
-        self.names.replace(path, NamedObject::Data(value))
+        self.names.replace_located(path, NamedObject::Data(value))
     }
 
     #[tactic(auto, using(ar_space::specs::Change::changing), unfolding(crate::specs::Stores::copy_into_slot))]

@@ -8,9 +8,9 @@ ghost use Rattle.aml_meaning.specs.TargetTerms.{target_named};
 use crate::slots::frame_index;
 use crate::store_target::{Held, Holding, StoreTarget};
 use crate::world_state::WorldState;
-use aml_namespace::Scope;
+use aml_namespace::{Located, Scope};
 use aml_objects::{Entry, Field, NamedObject, NodeId, Slot, Value};
-use aml_path::{NameString, Path};
+use aml_path::NameString;
 use ar_space::{EvaluationFault, NamespaceFault, Refusal, ValueFault};
 use std::alloc::Global;
 
@@ -25,17 +25,17 @@ impl<S> WorldState<S> {
     ) -> Result<StoreTarget, Refusal>
         ensures { Does result self.now (target_named scope.entry.path.now name.now) self.now }
     {
-        let path = self.locate(alloc, scope, name)?;
-        Ok(StoreTarget::Name(path))
+        let located = self.locate(alloc, scope, name)?;
+        Ok(StoreTarget::Name(located))
     }
 
     /// What the name at a path holds; refused as `NotFound` where none stands there.
     #[tactic(auto, unfolding(crate::specs::StoreTargets::held_at))]
-    pub(crate) fn held_at(&self, path: &Path) -> Result<Holding, Refusal>
+    pub(crate) fn held_at(&self, path: &Located) -> Result<Holding, Refusal>
         ensures answer { Does result self.now (held_at path.now) self.now }
         ensures memory { NotMemory result }
     {
-        match self.names.get(path) {
+        match self.names.get_located(path) {
             None => Err(Refusal::Namespace(NamespaceFault::NotFound)),
             Some(entry) => Ok(holding_of(&entry.object)),
         }
@@ -122,7 +122,7 @@ impl<S> WorldState<S> {
     }
 
     #[tactic(auto, using(ar_space::specs::Change::changing), unfolding(crate::specs::StoreTargets::name_read))]
-    fn name_read(&self, path: &Path) -> Result<Held, Refusal>
+    fn name_read(&self, path: &Located) -> Result<Held, Refusal>
         ensures answer { Does result self.now (name_read path.now) self.now }
         ensures memory { NotMemory result }
     {
@@ -148,15 +148,16 @@ impl<S> WorldState<S> {
         &self,
         alloc: Global,
         number: u64,
-    ) -> Result<(Path, &Entry), Refusal>
+    ) -> Result<(Located, &Entry), Refusal>
         ensures { Does (seen (λ d. (d.0, d.1.now)) result) self.now (declaration number) self.now }
     {
-        let Some(entry) = self.names.node(NodeId::numbered(number)) else {
+        let node = self.names.id_of(number);
+        let Some(entry) = self.names.node(node) else {
             return Err(Refusal::Evaluation(EvaluationFault::DeadReference));
         };
-        match self.names.path_of(alloc, NodeId::numbered(number))? {
+        match self.names.locate_node(alloc, node)? {
             None => Err(Refusal::Evaluation(EvaluationFault::DeadReference)),
-            Some(path) => Ok((path, entry)),
+            Some(located) => Ok((located, entry)),
         }
     }
 }

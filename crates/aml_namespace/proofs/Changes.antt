@@ -13,11 +13,15 @@ use Rattle.aml_path.specs.Paths.{path_cmp}
 use Rattle.aml_objects.specs.declared.entry.Entry.{Entry}
 use Rattle.aml_objects.specs.declared.entry.NamedObject.{NamedObject}
 use Rattle.aml_namespace.specs.declared.node.Node.{Node}
-use Rattle.aml_namespace.specs.Namespace.{Map, Namespace, with_object, replaced_in, replaced, entry_released, mutexes_released}
+use Rattle.aml_namespace.specs.Namespace.{Map, Namespace, with_object, replaced_in, replaced, entry_released, mutexes_released, numbered}
+use Rattle.aml_namespace.specs.Search.{Found, at_path}
 use Rattle.aml_namespace.specs.Nodes.{NodeMap, object_in, object_put, with_node_object, node_released}
 use Rattle.aml_namespace.specs.Tree.{Children, down, path_to, map_of, lies, Linked}
 use Rattle.aml_namespace.proofs.Numbers.{here, apart, insert_here, insert_apart}
 use Rattle.aml_namespace.proofs.Paths.{path_total, only_equal, same_path, path_itself, get_map, stands_of, path_of_root}
+use Rattle.aml_namespace.proofs.Numbering.{entry_at}
+use Rattle.aml_namespace.proofs.Climbing.{node_of}
+use Rattle.aml_namespace.proofs.Searching.{some_is, found_there}
 use Rattle.aml_namespace.proofs.Growth.{entry_of, changed_linked, changed_at}
 
 -- ---- values of a map through a function
@@ -137,3 +141,21 @@ replaced_none p o s none = ap (replaced_in p o s) none
 pub replaced_some : (p : List Seg) (o : NamedObject) (s : Namespace) (e : Entry) → get s.map p ≡ Some e → replaced p o s ≡ (Ok tt, record s { map = insert s.map p (with_object o e) })
 unfolding replaced
 replaced_some p o s e is = ap (replaced_in p o s) is
+
+-- ---- another object in the node that stands at a path
+
+module _ (m : NodeMap) (child : Children) (next : ℕ) (linked : Linked m child next) (n : ℕ) (o : NamedObject) (p : List Seg) (here : Some (numbered n (map_of m)) ≡ option_map Some (at_path (map_of m) p)) where
+  node_here : (x : Node) × (get m n ≡ Some x) × (path_to m n ≡ p) × (get (map_of m) p ≡ Some x.entry)
+  node_here =
+      let f = some_is _ _ here in
+      let x = node_of m child next linked n f.0 f.2 in
+      let way : path_to m n ≡ p = ap (λ (g : Found). g.0) (sym x.2) ∙ found_there (map_of m) p f.0 f.1 in
+      (x.0, x.1, way, ap (get (map_of m)) (sym way) ∙ entry_at m child next linked n x.0 x.1)
+
+  pub here_linked : Linked (object_put m n o) child next
+  here_linked = over_linked m child next linked n node_here.0 o node_here.1
+
+  pub here_replaced : replaced p o (record { map = map_of m; next = next }) ≡ (Ok tt, record { map = map_of (object_put m n o); next = next })
+  here_replaced =
+      replaced_some p o (record { map = map_of m; next = next }) node_here.0.entry node_here.3
+      ∙ ap (λ (q : Map). (Ok tt, record { map = q; next = next })) (sym (over_map m child next linked n node_here.0 o node_here.1 ∙ ap (λ (q : List Seg). insert (map_of m) q (with_object o node_here.0.entry)) node_here.2))

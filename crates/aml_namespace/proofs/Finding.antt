@@ -18,7 +18,7 @@ use Rattle.aml_namespace.specs.Nodes.{NodeMap}
 use Rattle.aml_namespace.specs.Tree.{Children, child_in, down, path_to, map_of, Linked}
 use Rattle.aml_namespace.proofs.Numbers.{insert_here, insert_apart}
 use Rattle.aml_namespace.proofs.Paths.{path_total, only_equal, get_map, down_append, there_is, path_of_root, node_of_root}
-use Rattle.aml_namespace.proofs.Numbering.{numbered_get, numbered_one, down_from}
+use Rattle.aml_namespace.proofs.Numbering.{numbered_get, numbered_one, numbered_stands, down_from}
 
 pub down_step : (child : Children) (n : ℕ) (ss : List Seg) (i : ℕ) (s : Seg) → i < length ss → s ≡ get_or ss i s → down child n (drop i ss) ≡ option_and_then (λ k. down child k (drop (i + 1) ss)) (child n s)
 down_step child n ss i s l at = rw (drop-cons ss i s l, ← at, add-one) refl
@@ -111,6 +111,16 @@ get_some names p n is = by (get names p) is
     by : (o : Option Entry) → Some (numbered n names) ≡ option_map Some (option_map (λ (e : Entry). (p, e)) o) → option_map (λ (f : Found). f.1) (numbered n names) ≡ o
     by None is = absurd (cc is)
     by (Some e) is = let at : numbered n names ≡ Some (p, e) = cc is in ap (option_map (λ (f : Found). f.1)) at
+
+-- the declaration with a number is what stands at a path, where it is known to be there
+pub stands_here : (names : Map) (p : List Seg) (n : ℕ) → option_map (λ (f : Found). f.0) (numbered n names) ≡ Some p → Some (numbered n names) ≡ option_map Some (at_path names p)
+stands_here names p n is = by (numbered n names) refl is
+  where
+    by : (o : Option Found) → numbered n names ≡ o → option_map (λ (f : Found). f.0) o ≡ Some p → Some (numbered n names) ≡ option_map Some (at_path names p)
+    by None at is = absurd (cc is)
+    by (Some f) at is =
+        let same : f.0 ≡ p = cc is in
+        ap Some at ∙ sym (ap (λ (q : List Seg). option_map Some (at_path names q)) (sym same) ∙ ap (λ o. option_map Some (option_map (λ (e : Entry). (f.0, e)) o)) (numbered_stands names n f at))
 
 -- what stands at a path stands under its number
 pub numbered_found : (s : Namespace) → Numbered s → (p : List Seg) (e : Entry) → get s.map p ≡ Some e → numbered e.number s.map ≡ Some (p, e)

@@ -96,6 +96,21 @@ module _ (names : Map) (n : ℕ) where
   unfolding numbered
   numbered_one p x at number only = one_in p x (entries names) (entries_sorted names) (λ q d is. get-entries names q ∙ is) only at number (sym (get-entries names p) ∙ at)
 
+-- what stands under a number stands at its path
+number_at : (n : ℕ) (es : List (List Seg × Entry)) → T (is_sorted path_cmp es) → (f : List Seg × Entry) → with_number n es ≡ Some f → find path_cmp f.0 es ≡ Some f.1
+number_at n [] sorted f is = absurd (cc is)
+number_at n (e ∷ es) sorted f is = by (e.1.number == n) is (number_at n es (second _ _ sorted) f)
+  where
+    by : (b : Bool) → (if b then Some e else with_number n es) ≡ Some f → (with_number n es ≡ Some f → find path_cmp f.0 es ≡ Some f.1) → find path_cmp f.0 (e ∷ es) ≡ Some f.1
+    by true is rest =
+        let same : e ≡ f = cc is in
+        ap (λ (g : List Seg × Entry). find path_cmp g.0 (e ∷ es)) (sym same) ∙ head_found e es ∙ ap (λ (g : List Seg × Entry). Some g.1) same
+    by false is rest = tail_found e es f.0 f.1 (first _ _ sorted) (rest is)
+
+pub numbered_stands : (names : Map) (n : ℕ) (f : List Seg × Entry) → numbered n names ≡ Some f → get names f.0 ≡ Some f.1
+unfolding numbered
+numbered_stands names n f is = get-entries names f.0 ∙ number_at n (entries names) (entries_sorted names) f is
+
 -- ---- in the tree
 
 -- the node that stands at a path

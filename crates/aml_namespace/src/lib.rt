@@ -4,6 +4,7 @@
 mod calls;
 mod climb;
 pub mod laws;
+mod located;
 mod mutexes;
 mod names;
 mod node;
@@ -15,5 +16,6 @@ mod tree;
 mod walk;
 
 pub use calls::{Call, PathList, Reply, SegmentList};
+pub use located::Located;
 pub use names::Names;
 pub use scope::Scope;

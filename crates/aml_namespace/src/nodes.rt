@@ -4,7 +4,7 @@ ghost use Rattle.std.specs.FinMap as map;
 ghost use Rattle.slab.specs.Slab as slots;
 ghost use Rattle.ar_space.specs.declared.refusal.Refusal.TheVariants.{OutOfMemory};
 ghost use Rattle.aml_namespace.specs.Mutexes.{acquired};
-ghost use Rattle.aml_namespace.specs.Nodes.{object_put, with_node_object, node_released};
+ghost use Rattle.aml_namespace.specs.Nodes.{Keyed, key_of, object_put, with_node_object, node_released};
 
 use crate::mutexes::{acquired, release};
 use crate::node::Node;
@@ -76,6 +76,16 @@ impl Nodes {
         }
     }
 
+    /// The id of the node with a number, with its key while it stands.
+    pub(crate) fn id_of(&self, number: u64) -> NodeId
+        ensures { result.number ≡ number }
+    {
+        match self.keys.get(&number) {
+            None => NodeId::numbered(number),
+            Some(key) => NodeId { key: *key, number },
+        }
+    }
+
     /// Puts a node that is new. Where there is no memory for it, nothing changes.
     pub(crate) fn insert(&mut self, node: Node) -> Result<NodeId, Refusal>
         requires new { map.get self.old node.entry.number ≡ None }
@@ -109,12 +119,12 @@ impl Nodes {
     pub(crate) fn replace(&mut self, id: NodeId, object: NamedObject)
         ensures { self.new ≡ object_put self.old id.number object }
     {
-        let Some(key) = self.keys.get(&id.number) else {
+        let Some(key) = key_of(&self.slab, &self.keys, id) else {
             return;
         };
         // So many mutexes are nodes, and the number of nodes fits.
         let _room = self.slab.capacity();
-        let node = &mut self.slab[*key];
+        let node = &mut self.slab[key];
         let before = acquired(&node.entry.object);
         let after = acquired(&object);
         put_object(node, object);
@@ -129,6 +139,19 @@ impl Nodes {
             release_all(&mut self.slab);
             self.acquired = 0;
         }
+    }
+}
+
+/// The key of the node with an id, while it stands: the id's own, where that node is in its slot, or the one of the number.
+fn key_of(slab: &Slab<Node>, keys: &BTreeMap<u64, usize>, id: NodeId) -> Option<usize>
+    ensures { Keyed slab.now.slots keys.now.entries → result ≡ key_of keys.now.entries id.number }
+{
+    match slab.get(id.key) {
+        Some(node) if node.entry.number == id.number => Some(id.key),
+        _ => match keys.get(&id.number) {
+            None => None,
+            Some(key) => Some(*key),
+        },
     }
 }
 

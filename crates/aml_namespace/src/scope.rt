@@ -6,6 +6,7 @@ ghost use Rattle.ar_space.specs.Outcome.{Answers, NotMemory, seen};
 ghost use Rattle.aml_namespace.specs.Namespace.{numbered};
 ghost use Rattle.aml_namespace.specs.Search.{found};
 
+use crate::located::Located;
 use crate::names::{Names, root_id};
 use crate::search::found_or_not;
 use aml_objects::{Entry, NodeId};
@@ -61,19 +62,19 @@ impl Names {
         }
     }
 
-    /// The path of what a name finds from a scope, refused as `lookup` is.
+    /// The path of what a name finds from a scope, with the node that is found; refused as `lookup` is.
     pub fn locate_in(
         &self,
         alloc: Global,
         scope: Scope<'_>,
         name: &NameString,
-    ) -> Result<Path, Refusal>
+    ) -> Result<Located, Refusal>
         ensures answer { Answers result (seen (λ f. f.0) (found self.now.map scope.entry.path.now name.now)) }
         ensures memory { IsErr (found self.now.map scope.entry.path.now name.now) → NotMemory result }
     {
         match self.search_in(scope, name) {
-            Ok(id) => match self.path_of(alloc, id)? {
-                Some(path) => Ok(path),
+            Ok(id) => match self.locate_node(alloc, id)? {
+                Some(located) => Ok(located),
                 None => Err(Refusal::Namespace(NamespaceFault::NotFound)),
             },
             Err(refusal) => Err(refusal),
@@ -82,7 +83,7 @@ impl Names {
 
     /// Whether a node stands at a path. It goes up from the node. Where it says no, it may stand there all the same: the search
     /// then finds the scope from the root.
-    fn is_at(&self, id: NodeId, segments: &[Seg]) -> bool
+    pub(crate) fn is_at(&self, id: NodeId, segments: &[Seg]) -> bool
         ensures { result ≡ true → option_map (λ f. f.0) (numbered id.number self.now.map) ≡ Some segments.now }
     {
         if self.node(id).is_none() {

@@ -1,4 +1,4 @@
-use Rattle.std.proofs.Common.{◌≡◌, ◌<◌, arith}
+use Rattle.std.proofs.Common.{◌<◌, arith}
 use Rattle.aml_namespace.proofs.Scopes.{passed}
 use Rattle.aml_namespace.proofs.names.Names.is_at.Goals as goal
 
