@@ -209,7 +209,7 @@ fn all_avoided(alloc: Global, link: &Path) -> Result<(), Refusal>
     ensures refused { IsErr result }
 {
     let text = link.text(alloc)?;
-    Err(Refusal::Routing(RoutingFault::Avoided(PathText::new(text))))
+    Err(Refusal::Routing(RoutingFault::Avoided(PathText::new(alloc, text)?)))
 }
 
 fn present_link(

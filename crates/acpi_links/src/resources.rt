@@ -61,7 +61,7 @@ fn no_offer(alloc: Global, link: &Path) -> Result<Offer, Refusal>
     ensures { Answers result (Err (refusals.Routing (routing.NoOffer (text_of link.now)))) }
 {
     let text = link.text(alloc)?;
-    Err(Refusal::Routing(RoutingFault::NoOffer(PathText::new(text))))
+    Err(Refusal::Routing(RoutingFault::NoOffer(PathText::new(alloc, text)?)))
 }
 
 /// The offer in the buffer that an object answers.

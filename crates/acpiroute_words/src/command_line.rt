@@ -224,7 +224,7 @@ fn path_named(alloc: Global, text: Option<&str>) -> Result<Option<PathText>, All
 {
     match text {
         None => Ok(None),
-        Some(text) => Ok(Some(PathText::new(String::from_str(alloc, text)?))),
+        Some(text) => Ok(Some(PathText::new(alloc, String::from_str(alloc, text)?)?)),
     }
 }
 

@@ -47,7 +47,7 @@ fn coded(name: &str, digits: &str) -> Option<Refusal> {
 
 /// The refusal of this name over a link device.
 fn linked(alloc: Global, name: &str, path: &str) -> Result<Option<Refusal>, AllocError> {
-    let path = PathText::new(path.to_string(alloc)?);
+    let path = PathText::new(alloc, path.to_string(alloc)?)?;
     Ok(match name {
         "no offer" => Some(Refusal::Routing(RoutingFault::NoOffer(path))),
         "avoided" => Some(Refusal::Routing(RoutingFault::Avoided(path))),

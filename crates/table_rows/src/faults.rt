@@ -5,6 +5,7 @@ use ar_space::{
     Refusal, ReportFault, ResourceFault, RoutingFault, RoutingTableFault, SpaceFault, TableFault,
     TermFault, ValueFault,
 };
+use std::alloc::{AllocError, Global};
 use test_rows::Exchange;
 
 /// The faults of an access.
@@ -143,28 +144,29 @@ fn resource(asked: &mut Exchange) -> ResourceFault {
     }
 }
 
-/// The text of a path.
-pub fn path_text(asked: &mut Exchange, text: &str) -> PathText {
-    let text = match text.to_string(asked.alloc()) {
-        Ok(text) => text,
-        Err(_) => {
-            asked.run_out();
-            String::new(asked.alloc())
-        }
-    };
-    PathText::new(text)
+/// The text of a path, of its own.
+fn own_path(alloc: Global, text: &str) -> Result<PathText, AllocError> {
+    PathText::new(alloc, text.to_string(alloc)?)
+}
+
+/// The text of a path, if there is memory for it.
+pub fn path_text(asked: &mut Exchange, text: &str) -> Option<PathText> {
+    let path = own_path(asked.alloc(), text).ok();
+    if path.is_none() {
+        asked.run_out();
+    }
+    path
 }
 
 /// A fault of routing that names a path: `no offer PATH`, `avoided PATH`.
 fn routing_of_path(asked: &mut Exchange, text: &str) -> RoutingFault {
     let (name, path) = text.rsplit_once(' ').unwrap_or((text, ""));
-    let path = path_text(asked, path);
-    match name {
-        "no offer" => RoutingFault::NoOffer(path),
-        "avoided" => RoutingFault::Avoided(path),
+    match (name, path_text(asked, path)) {
+        ("no offer", Some(path)) => RoutingFault::NoOffer(path),
+        ("avoided", Some(path)) => RoutingFault::Avoided(path),
         _ => {
             asked.misunderstand();
-            RoutingFault::Avoided(path)
+            RoutingFault::MixedPolarity
         }
     }
 }

@@ -81,11 +81,12 @@ fn bytes_and_bits(asked: &mut Exchange) {
 fn path(asked: &mut Exchange) {
     let call = asked.word();
     let text = asked.rest();
-    let path = path_text(asked, text);
-    if call == "lent" {
-        asked.say(path.as_str());
-    } else {
-        asked.say(path.into_string().as_str());
+    if let Some(path) = path_text(asked, text) {
+        if call == "lent" {
+            asked.say(path.as_str());
+        } else {
+            asked.say(path.into_string().as_str());
+        }
     }
 }
 
