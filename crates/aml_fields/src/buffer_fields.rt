@@ -15,7 +15,7 @@ use std::alloc::Global;
 #[tactic(auto, using(ar_space::specs::Change::changing), unfolding(crate::specs::BufferFields::new_buffer_field))]
 pub fn new_buffer_field(
     heap: &Heap,
-    object: usize,
+    object: u32,
     bit_offset: u128,
     bits: u32,
 ) -> Result<BufferField, Refusal>
@@ -67,7 +67,7 @@ pub fn write_buffer_field(
 }
 
 fn field_within(
-    buffer: usize,
+    buffer: u32,
     bit_offset: u128,
     bits: u32,
     bytes: &[u8],

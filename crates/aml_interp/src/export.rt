@@ -36,7 +36,7 @@ fn package(list: Vec<Datum>) -> Datum
 }
 
 #[tactic(auto, using(aml_meaning::proofs::Exports::exporting), unfolding(aml_meaning::specs::Exporting::text_exported))]
-fn text_exported<S: Space>(alloc: Global, run: &Running<S>, object: usize) -> Result<Datum, Refusal>
+fn text_exported<S: Space>(alloc: Global, run: &Running<S>, object: u32) -> Result<Datum, Refusal>
     ensures { Does (seen given.given_of result) run.now (text_exported object) run.now }
 {
     let bytes = run.world.string(alloc, object)?;
@@ -44,11 +44,7 @@ fn text_exported<S: Space>(alloc: Global, run: &Running<S>, object: usize) -> Re
 }
 
 #[tactic(auto, using(aml_meaning::proofs::Exports::exporting), unfolding(aml_meaning::specs::Exporting::bytes_exported))]
-fn bytes_exported<S: Space>(
-    alloc: Global,
-    run: &Running<S>,
-    object: usize,
-) -> Result<Datum, Refusal>
+fn bytes_exported<S: Space>(alloc: Global, run: &Running<S>, object: u32) -> Result<Datum, Refusal>
     ensures { Does (seen given.given_of result) run.now (bytes_exported object) run.now }
 {
     let bytes = run.world.buffer(alloc, object)?;
@@ -97,7 +93,7 @@ fn package_exported<S: Space>(
     alloc: Global,
     run: &mut Running<S>,
     levels: usize,
-    object: usize,
+    object: u32,
 ) -> Result<Datum, Refusal>
     ensures { Does (seen given.given_of result) run.new (package_exported S.accesses levels object) run.old }
 {
@@ -113,7 +109,7 @@ fn elements_exported<S: Space>(
     alloc: Global,
     run: &mut Running<S>,
     levels: usize,
-    object: usize,
+    object: u32,
 ) -> Result<Datum, Refusal>
     ensures { Does (seen given.given_of result) run.new (elements_exported S.accesses (package_exported S.accesses levels) object) run.old }
 {

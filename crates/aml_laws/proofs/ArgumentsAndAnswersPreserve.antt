@@ -113,7 +113,7 @@ module _ {S : Type 0} {accesses : Accesses S} {relation : WorldRelation accesses
   reference_exported_preserves : (r : Reference) → RunPreserves relation (reference_exported r)
   unfolding reference_exported
   reference_exported_preserves (reference.Name n) = lift_preserves _ (path_of_preserves n)
-  reference_exported_preserves (reference.Slot n slot) = run_give_preserves _
+  reference_exported_preserves (reference.Slot slot n) = run_give_preserves _
   reference_exported_preserves (reference.Element o i) = run_give_preserves _
   reference_exported_preserves (reference.Byte o i) = run_give_preserves _
 

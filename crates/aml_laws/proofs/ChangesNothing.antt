@@ -37,7 +37,7 @@ module _ {S : Type 0} where
   pub dereferenced_changes_nothing : (w : State S) (r : Reference) → (dereferenced r w).1 ≡ w
   unfolding declared_once declaration slot_once frame_found slot_held held_once byte_once element_at byte_at on_objects give
   dereferenced_changes_nothing w (reference.Name n) = then_changes_nothing _ _ (λ w. refl) (λ e w. refl) w
-  dereferenced_changes_nothing w (reference.Slot n slot) = then_changes_nothing _ _ (λ w. refl) (λ k. then_changes_nothing _ _ (λ w. refl) value_once_changes_nothing) w
+  dereferenced_changes_nothing w (reference.Slot slot n) = then_changes_nothing _ _ (λ w. refl) (λ k. then_changes_nothing _ _ (λ w. refl) value_once_changes_nothing) w
   dereferenced_changes_nothing w (reference.Element o i) = then_changes_nothing _ _ (λ w. refl) element_once_changes_nothing w
   dereferenced_changes_nothing w (reference.Byte o i) = then_changes_nothing _ _ (λ w. refl) (λ b w. refl) w
 

@@ -155,7 +155,7 @@ module _ {S : Type 0} where
   reference_exported_counts : (r : Reference) → RunCounts {S = S} (reference_exported r) (reference_exported r)
   unfolding reference_exported
   reference_exported_counts (reference.Name n) = lift_counts _ _ (path_of_counts n)
-  reference_exported_counts (reference.Slot n slot) = give_counts _
+  reference_exported_counts (reference.Slot slot n) = give_counts _
   reference_exported_counts (reference.Element o i) = give_counts _
   reference_exported_counts (reference.Byte o i) = give_counts _
 

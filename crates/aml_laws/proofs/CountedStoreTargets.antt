@@ -70,7 +70,7 @@ module _ {S : Type 0} where
   pub tested_counts : (r : Reference) → Counts {S = S} (tested r) (tested r)
   unfolding name_tested frame_tested byte_tested
   tested_counts (reference.Name n) = then_counts _ _ _ _ (declaration_counts n) (λ e. give_counts _)
-  tested_counts (reference.Slot n slot) = then_counts _ _ _ _ (frame_found_counts n) (λ k. give_counts _)
+  tested_counts (reference.Slot slot n) = then_counts _ _ _ _ (frame_found_counts n) (λ k. give_counts _)
   tested_counts (reference.Element o i) = on_objects_counts _
   tested_counts (reference.Byte o i) = then_counts _ _ _ _ (on_objects_counts _) (λ b. give_counts _)
 
@@ -86,7 +86,7 @@ module _ {S : Type 0} where
   pub dereferenced_counts : (r : Reference) → Counts {S = S} (dereferenced r) (dereferenced r)
   unfolding declared_once slot_once held_once byte_once
   dereferenced_counts (reference.Name n) = then_counts _ _ _ _ (declaration_counts n) (λ e. give_counts _)
-  dereferenced_counts (reference.Slot n slot) = then_counts _ _ _ _ (frame_found_counts n) (λ k. then_counts _ _ _ _ (slot_held_counts k slot) (λ v. value_once_counts v))
+  dereferenced_counts (reference.Slot slot n) = then_counts _ _ _ _ (frame_found_counts n) (λ k. then_counts _ _ _ _ (slot_held_counts k slot) (λ v. value_once_counts v))
   dereferenced_counts (reference.Element o i) = then_counts _ _ _ _ (on_objects_counts _) (λ e. element_once_counts e)
   dereferenced_counts (reference.Byte o i) = then_counts _ _ _ _ (on_objects_counts _) (λ b. give_counts _)
 
@@ -114,7 +114,7 @@ module _ {S : Type 0} where
   pub if_initialized_counts : (r : Reference) → Counts {S = S} (if_initialized r) (if_initialized r)
   unfolding slot_initialized element_initialized
   if_initialized_counts (reference.Name n) = give_counts _
-  if_initialized_counts (reference.Slot n slot) = then_counts _ _ _ _ (frame_found_counts n) (λ k. then_counts _ _ _ _ (slot_held_counts k slot) (λ v. give_counts _))
+  if_initialized_counts (reference.Slot slot n) = then_counts _ _ _ _ (frame_found_counts n) (λ k. then_counts _ _ _ _ (slot_held_counts k slot) (λ v. give_counts _))
   if_initialized_counts (reference.Element o i) = then_counts _ _ _ _ (on_objects_counts _) (λ e. give_counts _)
   if_initialized_counts (reference.Byte o i) = give_counts _
 
@@ -178,7 +178,7 @@ module _ {S : Type 0} where
 
     reference_followed_counts : (r : Reference) → Counts {S = S} (reference_followed follow r) (reference_followed uncounted r)
     reference_followed_counts (reference.Name n) = declared_followed_counts n
-    reference_followed_counts (reference.Slot n slot) = slot_followed_counts n slot
+    reference_followed_counts (reference.Slot slot n) = slot_followed_counts n slot
     reference_followed_counts (reference.Element o i) = held_followed_counts o i
     reference_followed_counts (reference.Byte o i) = byte_followed_counts o i
 
@@ -304,7 +304,7 @@ module _ {S : Type 0} where
 
     store_at_reference_counts : (r : Reference) (v : Value) → Counts {S = S} (store_at_reference through r v) (store_at_reference uncounted r v)
     store_at_reference_counts (reference.Name n) v = copy_into_declared_counts n v
-    store_at_reference_counts (reference.Slot n slot) v = store_in_frame_numbered_counts n slot v
+    store_at_reference_counts (reference.Slot slot n) v = store_in_frame_numbered_counts n slot v
     store_at_reference_counts (reference.Element o i) v = copy_into_element_counts o i v
     store_at_reference_counts (reference.Byte o i) v = store_byte_counts o i v
 
@@ -324,7 +324,7 @@ module _ {S : Type 0} where
   store_to_counts : (r : Reference) (v : Value) → Counts {S = S} (store_to r v) (store_to r v)
   unfolding store_in_declared
   store_to_counts (reference.Name n) v = then_counts _ _ _ _ (declaration_counts n) (λ e. store_over_counts _ e.0 v)
-  store_to_counts (reference.Slot n slot) v = store_in_frame_numbered_counts _ _ (stored_through_counts _) n slot v
+  store_to_counts (reference.Slot slot n) v = store_in_frame_numbered_counts _ _ (stored_through_counts _) n slot v
   store_to_counts (reference.Element o i) v = copy_into_element_counts o i v
   store_to_counts (reference.Byte o i) v = store_byte_counts o i v
 
@@ -357,7 +357,7 @@ module _ {S : Type 0} where
   acquired_by_counts : (r : Reference) → Counts {S = S} (acquired_by r) (acquired_by r)
   unfolding acquired_by_number
   acquired_by_counts (reference.Name n) = then_counts _ _ _ _ (declaration_counts n) (λ e. acquired_counts e.0)
-  acquired_by_counts (reference.Slot n slot) = stop_counts _
+  acquired_by_counts (reference.Slot slot n) = stop_counts _
   acquired_by_counts (reference.Element o i) = stop_counts _
   acquired_by_counts (reference.Byte o i) = stop_counts _
 
@@ -374,7 +374,7 @@ module _ {S : Type 0} where
   given_back_by_counts : (r : Reference) → Counts {S = S} (given_back_by r) (given_back_by r)
   unfolding given_back_by_number
   given_back_by_counts (reference.Name n) = then_counts _ _ _ _ (declaration_counts n) (λ e. given_back_counts e.0)
-  given_back_by_counts (reference.Slot n slot) = stop_counts _
+  given_back_by_counts (reference.Slot slot n) = stop_counts _
   given_back_by_counts (reference.Element o i) = stop_counts _
   given_back_by_counts (reference.Byte o i) = stop_counts _
 

@@ -115,7 +115,7 @@ module _ {S : Type 0} {accesses : Accesses S} where
   reference_exported_explains : (r : Reference) → RunExplains accesses (reference_exported r)
   unfolding reference_exported
   reference_exported_explains (reference.Name n) = lift_explains _ (path_of_explains n)
-  reference_exported_explains (reference.Slot n slot) = give_explains _
+  reference_exported_explains (reference.Slot slot n) = give_explains _
   reference_exported_explains (reference.Element o i) = give_explains _
   reference_exported_explains (reference.Byte o i) = give_explains _
 

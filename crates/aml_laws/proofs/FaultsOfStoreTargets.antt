@@ -82,7 +82,7 @@ module _ {S : Type 0} {accesses : Accesses S} where
   pub tested_explains : (r : Reference) → WorldExplains accesses (tested r)
   unfolding name_tested frame_tested byte_tested
   tested_explains (reference.Name n) = then_explains _ _ (declaration_explains n) (λ e. give_explains _)
-  tested_explains (reference.Slot n slot) = then_explains _ _ (frame_found_explains n) (λ k. give_explains _)
+  tested_explains (reference.Slot slot n) = then_explains _ _ (frame_found_explains n) (λ k. give_explains _)
   tested_explains (reference.Element o i) = on_objects_explains _ (element_there_clean _ _)
   tested_explains (reference.Byte o i) = then_explains _ _ (on_objects_explains _ (byte_at_clean _ _)) (λ b. give_explains _)
 
@@ -98,7 +98,7 @@ module _ {S : Type 0} {accesses : Accesses S} where
   pub dereferenced_explains : (r : Reference) → WorldExplains accesses (dereferenced r)
   unfolding declared_once slot_once held_once byte_once
   dereferenced_explains (reference.Name n) = then_explains _ _ (declaration_explains n) (λ e. give_explains _)
-  dereferenced_explains (reference.Slot n slot) = then_explains _ _ (frame_found_explains n) (λ k. then_explains _ _ (slot_held_explains k slot) (λ v. value_once_explains v))
+  dereferenced_explains (reference.Slot slot n) = then_explains _ _ (frame_found_explains n) (λ k. then_explains _ _ (slot_held_explains k slot) (λ v. value_once_explains v))
   dereferenced_explains (reference.Element o i) = then_explains _ _ (on_objects_explains _ (element_at_clean _ _)) (λ e. element_once_explains e)
   dereferenced_explains (reference.Byte o i) = then_explains _ _ (on_objects_explains _ (byte_at_clean _ _)) (λ b. give_explains _)
 
@@ -126,7 +126,7 @@ module _ {S : Type 0} {accesses : Accesses S} where
   pub if_initialized_explains : (r : Reference) → WorldExplains accesses (if_initialized r)
   unfolding slot_initialized element_initialized
   if_initialized_explains (reference.Name n) = give_explains _
-  if_initialized_explains (reference.Slot n slot) = then_explains _ _ (frame_found_explains n) (λ k. then_explains _ _ (slot_held_explains k slot) (λ v. give_explains _))
+  if_initialized_explains (reference.Slot slot n) = then_explains _ _ (frame_found_explains n) (λ k. then_explains _ _ (slot_held_explains k slot) (λ v. give_explains _))
   if_initialized_explains (reference.Element o i) = then_explains _ _ (on_objects_explains _ (element_at_clean _ _)) (λ e. give_explains _)
   if_initialized_explains (reference.Byte o i) = give_explains _
 
@@ -190,7 +190,7 @@ module _ {S : Type 0} {accesses : Accesses S} where
 
     reference_followed_explains : (r : Reference) → WorldExplains accesses (reference_followed follow r)
     reference_followed_explains (reference.Name n) = declared_followed_explains n
-    reference_followed_explains (reference.Slot n slot) = slot_followed_explains n slot
+    reference_followed_explains (reference.Slot slot n) = slot_followed_explains n slot
     reference_followed_explains (reference.Element o i) = held_followed_explains o i
     reference_followed_explains (reference.Byte o i) = byte_followed_explains o i
 
@@ -316,7 +316,7 @@ module _ {S : Type 0} {accesses : Accesses S} where
 
     store_at_reference_explains : (r : Reference) (v : Value) → WorldExplains accesses (store_at_reference through r v)
     store_at_reference_explains (reference.Name n) v = copy_into_declared_explains n v
-    store_at_reference_explains (reference.Slot n slot) v = store_in_frame_numbered_explains n slot v
+    store_at_reference_explains (reference.Slot slot n) v = store_in_frame_numbered_explains n slot v
     store_at_reference_explains (reference.Element o i) v = copy_into_element_explains o i v
     store_at_reference_explains (reference.Byte o i) v = store_byte_explains o i v
 
@@ -336,7 +336,7 @@ module _ {S : Type 0} {accesses : Accesses S} where
   store_to_explains : (r : Reference) (v : Value) → WorldExplains accesses (store_to r v)
   unfolding store_in_declared
   store_to_explains (reference.Name n) v = then_explains _ _ (declaration_explains n) (λ e. store_over_explains _ e.0 v)
-  store_to_explains (reference.Slot n slot) v = store_in_frame_numbered_explains _ (stored_through_explains _) n slot v
+  store_to_explains (reference.Slot slot n) v = store_in_frame_numbered_explains _ (stored_through_explains _) n slot v
   store_to_explains (reference.Element o i) v = copy_into_element_explains o i v
   store_to_explains (reference.Byte o i) v = store_byte_explains o i v
 
@@ -369,7 +369,7 @@ module _ {S : Type 0} {accesses : Accesses S} where
   acquired_by_explains : (r : Reference) → WorldExplains accesses (acquired_by r)
   unfolding acquired_by_number
   acquired_by_explains (reference.Name n) = then_explains _ _ (declaration_explains n) (λ e. acquired_explains e.0)
-  acquired_by_explains (reference.Slot n slot) = stop_explains _ tt
+  acquired_by_explains (reference.Slot slot n) = stop_explains _ tt
   acquired_by_explains (reference.Element o i) = stop_explains _ tt
   acquired_by_explains (reference.Byte o i) = stop_explains _ tt
 
@@ -386,7 +386,7 @@ module _ {S : Type 0} {accesses : Accesses S} where
   given_back_by_explains : (r : Reference) → WorldExplains accesses (given_back_by r)
   unfolding given_back_by_number
   given_back_by_explains (reference.Name n) = then_explains _ _ (declaration_explains n) (λ e. given_back_explains e.0)
-  given_back_by_explains (reference.Slot n slot) = stop_explains _ tt
+  given_back_by_explains (reference.Slot slot n) = stop_explains _ tt
   given_back_by_explains (reference.Element o i) = stop_explains _ tt
   given_back_by_explains (reference.Byte o i) = stop_explains _ tt
 

@@ -145,7 +145,7 @@ module _ (S : Type 0) (width : IntegerWidth) where
   reference_exported_maintains : (r : Reference) → Maintains (RunWithin S width) (GivenWithin width) (reference_exported r)
   unfolding reference_exported
   reference_exported_maintains (reference.Name n) = lift_maintains S width _ (path_of_maintains n)
-  reference_exported_maintains (reference.Slot n slot) = give_maintains _ tt
+  reference_exported_maintains (reference.Slot slot n) = give_maintains _ tt
   reference_exported_maintains (reference.Element o i) = give_maintains _ tt
   reference_exported_maintains (reference.Byte o i) = give_maintains _ tt
 

@@ -129,7 +129,7 @@ module _ (S : Type 0) (width : IntegerWidth) where
   unfolding acquired acquired_by_number
   acquired_at_maintains targets.Nowhere = stop_maintains _
   acquired_at_maintains (targets.Slot slot) = stop_maintains _
-  acquired_at_maintains (targets.Refers (reference.Slot n slot)) = stop_maintains _
+  acquired_at_maintains (targets.Refers (reference.Slot slot n)) = stop_maintains _
   acquired_at_maintains (targets.Refers (reference.Element o i)) = stop_maintains _
   acquired_at_maintains (targets.Refers (reference.Byte o i)) = stop_maintains _
   acquired_at_maintains (targets.Refers (reference.Name n)) = then_maintains _ _ (declaration_maintains S width n) (λ e f. then_maintains _ _ (mutex_count_maintains e.0) (λ m u. then_maintains {Fit = Any} _ _ (settle_maintains _ (λ a x. tt)) (λ k v. replaced_maintains S width e.0 _ tt)))
@@ -139,7 +139,7 @@ module _ (S : Type 0) (width : IntegerWidth) where
   unfolding given_back given_back_by_number
   given_back_at_maintains targets.Nowhere = stop_maintains _
   given_back_at_maintains (targets.Slot slot) = stop_maintains _
-  given_back_at_maintains (targets.Refers (reference.Slot n slot)) = stop_maintains _
+  given_back_at_maintains (targets.Refers (reference.Slot slot n)) = stop_maintains _
   given_back_at_maintains (targets.Refers (reference.Element o i)) = stop_maintains _
   given_back_at_maintains (targets.Refers (reference.Byte o i)) = stop_maintains _
   given_back_at_maintains (targets.Refers (reference.Name n)) = then_maintains _ _ (declaration_maintains S width n) (λ e f. then_maintains _ _ (mutex_count_maintains e.0) (λ m u. then_maintains {Fit = Any} _ _ (settle_maintains _ (λ a x. tt)) (λ k v. replaced_maintains S width e.0 _ tt)))

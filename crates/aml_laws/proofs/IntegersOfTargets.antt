@@ -167,7 +167,7 @@ module _ (S : Type 0) (width : IntegerWidth) where
   pub tested_maintains : (r : Reference) → Maintains (WorldWithin S width) Any (tested r)
   unfolding name_tested frame_tested byte_tested
   tested_maintains (reference.Name n) = then_maintains _ _ (declaration_maintains n) (λ e f. give_maintains _ tt)
-  tested_maintains (reference.Slot n slot) = then_maintains _ _ (frame_found_maintains n) (λ k u. give_maintains _ tt)
+  tested_maintains (reference.Slot slot n) = then_maintains _ _ (frame_found_maintains n) (λ k u. give_maintains _ tt)
   tested_maintains (reference.Element o i) = on_objects_maintains S width _ (element_there_maintains width o i)
   tested_maintains (reference.Byte o i) = then_maintains _ _ (on_objects_maintains S width _ (byte_at_maintains width o i)) (λ b u. give_maintains _ tt)
 
@@ -199,7 +199,7 @@ module _ (S : Type 0) (width : IntegerWidth) where
   pub dereferenced_maintains : (r : Reference) → Maintains (WorldWithin S width) (HeldFits width) (dereferenced r)
   unfolding declared_once slot_once held_once
   dereferenced_maintains (reference.Name n) = then_maintains _ _ (declaration_maintains n) (λ e f. give_maintains _ (once_fits n e.1.object f))
-  dereferenced_maintains (reference.Slot n slot) = then_maintains _ _ (frame_found_maintains n) (λ k u. then_maintains _ _ (slot_held_maintains k slot) (λ v f. value_once_maintains v f))
+  dereferenced_maintains (reference.Slot slot n) = then_maintains _ _ (frame_found_maintains n) (λ k u. then_maintains _ _ (slot_held_maintains k slot) (λ v f. value_once_maintains v f))
   dereferenced_maintains (reference.Element o i) = then_maintains _ _ (on_objects_maintains S width _ (element_at_maintains width o i)) (λ e f. element_once_maintains e f)
   dereferenced_maintains (reference.Byte o i) = byte_once_maintains o i
 
@@ -222,7 +222,7 @@ module _ (S : Type 0) (width : IntegerWidth) where
   pub if_initialized_maintains : (r : Reference) → Maintains (WorldWithin S width) Any (if_initialized r)
   unfolding slot_initialized element_initialized
   if_initialized_maintains (reference.Name n) = give_maintains _ tt
-  if_initialized_maintains (reference.Slot n slot) = then_maintains _ _ (frame_found_maintains n) (λ k u. then_maintains _ _ (slot_held_maintains k slot) (λ v f. give_maintains _ tt))
+  if_initialized_maintains (reference.Slot slot n) = then_maintains _ _ (frame_found_maintains n) (λ k u. then_maintains _ _ (slot_held_maintains k slot) (λ v f. give_maintains _ tt))
   if_initialized_maintains (reference.Element o i) = then_maintains _ _ (on_objects_maintains S width _ (element_at_maintains width o i)) (λ e f. give_maintains _ tt)
   if_initialized_maintains (reference.Byte o i) = give_maintains _ tt
 
@@ -271,7 +271,7 @@ module _ (S : Type 0) (width : IntegerWidth) where
     reference_followed_maintains : (r : Reference) → Maintains (WorldWithin S width) (ReferentFits width) (reference_followed follow r)
     unfolding held_followed
     reference_followed_maintains (reference.Name n) = declared_followed_maintains n
-    reference_followed_maintains (reference.Slot n slot) = slot_followed_maintains n slot
+    reference_followed_maintains (reference.Slot slot n) = slot_followed_maintains n slot
     reference_followed_maintains (reference.Element o i) = then_maintains _ _ (on_objects_maintains S width _ (element_at_maintains width o i)) (λ e f. element_followed_maintains e f)
     reference_followed_maintains (reference.Byte o i) = byte_followed_maintains o i
 
@@ -380,7 +380,7 @@ module _ (S : Type 0) (width : IntegerWidth) where
     store_at_reference_maintains : (r : Reference) (v : Value) → WithinWidth width v → Maintains (WorldWithin S width) (StoredFits width) (store_at_reference through r v)
     unfolding copy_into_declared store_in_frame_numbered
     store_at_reference_maintains (reference.Name n) v f = then_maintains _ _ (declaration_maintains n) (λ e g. copy_over_maintains _ e.0 v (holding_of_fits width e.1.object g) f)
-    store_at_reference_maintains (reference.Slot n slot) v f = then_maintains _ _ (frame_found_maintains n) (λ k u. store_in_frame_maintains k slot v f)
+    store_at_reference_maintains (reference.Slot slot n) v f = then_maintains _ _ (frame_found_maintains n) (λ k u. store_in_frame_maintains k slot v f)
     store_at_reference_maintains (reference.Element o i) v f = copy_into_element_maintains o i v f
     store_at_reference_maintains (reference.Byte o i) v f = store_byte_maintains o i v f
 
@@ -396,7 +396,7 @@ module _ (S : Type 0) (width : IntegerWidth) where
   store_to_maintains : (r : Reference) (v : Value) → WithinWidth width v → Maintains (WorldWithin S width) (StoredFits width) (store_to r v)
   unfolding store_in_declared store_in_frame_numbered
   store_to_maintains (reference.Name n) v f = then_maintains _ _ (declaration_maintains n) (λ e g. store_over_maintains _ e.0 v (holding_of_fits width e.1.object g) f)
-  store_to_maintains (reference.Slot n slot) v f = then_maintains _ _ (frame_found_maintains n) (λ k u. store_in_frame_maintains _ (stored_through_maintains most_references) k slot v f)
+  store_to_maintains (reference.Slot slot n) v f = then_maintains _ _ (frame_found_maintains n) (λ k u. store_in_frame_maintains _ (stored_through_maintains most_references) k slot v f)
   store_to_maintains (reference.Element o i) v f = copy_into_element_maintains o i v f
   store_to_maintains (reference.Byte o i) v f = store_byte_maintains o i v f
 

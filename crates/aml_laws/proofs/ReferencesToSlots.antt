@@ -46,16 +46,16 @@ pub record SlotFound {S : Type 0} (w : State S) (slot : Slot) (r : Reference) : 
   pub frame : Frame
   pub latest : last_index (length w.frames) ≡ Some index
   pub there : slice_get w.frames index ≡ Some frame
-  pub is : r ≡ reference.Slot frame.number slot
+  pub is : r ≡ reference.Slot slot frame.number
 
 slot_found_by_frame : {S : Type 0} (w : State S) (slot : Slot) (r : Reference) (k : ℕ) (o : Option Frame) → last_index (length w.frames) ≡ Some k → slice_get w.frames k ≡ o
-    → (go_on {S = State S} (number_in_frame o) w (λ n. give (reference.Slot n slot))).0 ≡ Ok r → SlotFound w slot r
+    → (go_on {S = State S} (number_in_frame o) w (λ n. give (reference.Slot slot n))).0 ≡ Ok r → SlotFound w slot r
 unfolding go_on give
 slot_found_by_frame w slot r k None latest at e = absurd (cc e)
 slot_found_by_frame w slot r k (Some f) latest at e = record { index = k; frame = f; latest = latest; there = at; is = sym (cc e) }
 
 slot_found_by_index : {S : Type 0} (w : State S) (slot : Slot) (r : Reference) (o : Option ℕ) → last_index (length w.frames) ≡ o
-    → (go_on {S = State S} (or_ended o) w (λ k. frame_number k >>= (λ n. give (reference.Slot n slot)))).0 ≡ Ok r → SlotFound w slot r
+    → (go_on {S = State S} (or_ended o) w (λ k. frame_number k >>= (λ n. give (reference.Slot slot n)))).0 ≡ Ok r → SlotFound w slot r
 unfolding go_on frame_number ◌>>=◌
 slot_found_by_index w slot r None latest e = absurd (cc e)
 slot_found_by_index w slot r (Some k) latest e = slot_found_by_frame w slot r k (slice_get w.frames k) latest refl e
@@ -102,7 +102,7 @@ module _ {S : Type 0} (w : State S) (slot : Slot) (r : Reference) (rise : RiseTo
 
 -- CopyObject through it, to a local
 module _ {S : Type 0} (w : State S) (i : ℕ) (r : Reference) (rise : RiseTo w.started (numbers_of w.frames)) (e : (slot_reference (Local i) w).0 ≡ Ok r) where
-  stored_through_is : (f : SlotFound w (Local i) r) (v : Value) → stored_through most_references (reference.Slot f.frame.number (Local i)) v w ≡ store_in_slot (Local i) v w
+  stored_through_is : (f : SlotFound w (Local i) r) (v : Value) → stored_through most_references (reference.Slot (Local i) f.frame.number) v w ≡ store_in_slot (Local i) v w
   unfolding stored_through store_in_frame_numbered store_in_slot store_in_frame
   stored_through_is f v = frame_found_then w (Local i) r rise e f (λ k. store_in_frame (stored_through 63) k (Local i) v)
 

@@ -90,7 +90,7 @@ module _ {S : Type 0} {accesses : Accesses S} {relation : WorldRelation accesses
   pub tested_preserves : (r : Reference) → Preserves relation (tested r)
   unfolding name_tested frame_tested byte_tested
   tested_preserves (reference.Name n) = then_preserves _ _ (declaration_preserves n) (λ e. give_preserves _)
-  tested_preserves (reference.Slot n slot) = then_preserves _ _ (frame_found_preserves n) (λ k. give_preserves _)
+  tested_preserves (reference.Slot slot n) = then_preserves _ _ (frame_found_preserves n) (λ k. give_preserves _)
   tested_preserves (reference.Element o i) = on_objects_preserves _ (element_there_keeps_kinds o i)
   tested_preserves (reference.Byte o i) = then_preserves _ _ (on_objects_preserves _ (byte_at_keeps_kinds o i)) (λ b. give_preserves _)
 
@@ -106,7 +106,7 @@ module _ {S : Type 0} {accesses : Accesses S} {relation : WorldRelation accesses
   pub dereferenced_preserves : (r : Reference) → Preserves relation (dereferenced r)
   unfolding declared_once slot_once held_once byte_once
   dereferenced_preserves (reference.Name n) = then_preserves _ _ (declaration_preserves n) (λ e. give_preserves _)
-  dereferenced_preserves (reference.Slot n slot) = then_preserves _ _ (frame_found_preserves n) (λ k. then_preserves _ _ (slot_held_preserves k slot) (λ v. value_once_preserves v))
+  dereferenced_preserves (reference.Slot slot n) = then_preserves _ _ (frame_found_preserves n) (λ k. then_preserves _ _ (slot_held_preserves k slot) (λ v. value_once_preserves v))
   dereferenced_preserves (reference.Element o i) = then_preserves _ _ (on_objects_preserves _ (element_at_keeps_kinds o i)) (λ e. element_once_preserves e)
   dereferenced_preserves (reference.Byte o i) = then_preserves _ _ (on_objects_preserves _ (byte_at_keeps_kinds o i)) (λ b. give_preserves _)
 
@@ -134,7 +134,7 @@ module _ {S : Type 0} {accesses : Accesses S} {relation : WorldRelation accesses
   pub if_initialized_preserves : (r : Reference) → Preserves relation (if_initialized r)
   unfolding slot_initialized element_initialized
   if_initialized_preserves (reference.Name n) = give_preserves _
-  if_initialized_preserves (reference.Slot n slot) = then_preserves _ _ (frame_found_preserves n) (λ k. then_preserves _ _ (slot_held_preserves k slot) (λ v. give_preserves _))
+  if_initialized_preserves (reference.Slot slot n) = then_preserves _ _ (frame_found_preserves n) (λ k. then_preserves _ _ (slot_held_preserves k slot) (λ v. give_preserves _))
   if_initialized_preserves (reference.Element o i) = then_preserves _ _ (on_objects_preserves _ (element_at_keeps_kinds o i)) (λ e. give_preserves _)
   if_initialized_preserves (reference.Byte o i) = give_preserves _
 
@@ -198,7 +198,7 @@ module _ {S : Type 0} {accesses : Accesses S} {relation : WorldRelation accesses
 
     reference_followed_preserves : (r : Reference) → Preserves relation (reference_followed follow r)
     reference_followed_preserves (reference.Name n) = declared_followed_preserves n
-    reference_followed_preserves (reference.Slot n slot) = slot_followed_preserves n slot
+    reference_followed_preserves (reference.Slot slot n) = slot_followed_preserves n slot
     reference_followed_preserves (reference.Element o i) = held_followed_preserves o i
     reference_followed_preserves (reference.Byte o i) = byte_followed_preserves o i
 
@@ -324,7 +324,7 @@ module _ {S : Type 0} {accesses : Accesses S} {relation : WorldRelation accesses
 
     store_at_reference_preserves : (r : Reference) (v : Value) → Preserves relation (store_at_reference through r v)
     store_at_reference_preserves (reference.Name n) v = copy_into_declared_preserves n v
-    store_at_reference_preserves (reference.Slot n slot) v = store_in_frame_numbered_preserves n slot v
+    store_at_reference_preserves (reference.Slot slot n) v = store_in_frame_numbered_preserves n slot v
     store_at_reference_preserves (reference.Element o i) v = copy_into_element_preserves o i v
     store_at_reference_preserves (reference.Byte o i) v = store_byte_preserves o i v
 
@@ -344,7 +344,7 @@ module _ {S : Type 0} {accesses : Accesses S} {relation : WorldRelation accesses
   store_to_preserves : (r : Reference) (v : Value) → Preserves relation (store_to r v)
   unfolding store_in_declared
   store_to_preserves (reference.Name n) v = then_preserves _ _ (declaration_preserves n) (λ e. store_over_preserves _ e.0 v)
-  store_to_preserves (reference.Slot n slot) v = store_in_frame_numbered_preserves _ (stored_through_preserves _) n slot v
+  store_to_preserves (reference.Slot slot n) v = store_in_frame_numbered_preserves _ (stored_through_preserves _) n slot v
   store_to_preserves (reference.Element o i) v = copy_into_element_preserves o i v
   store_to_preserves (reference.Byte o i) v = store_byte_preserves o i v
 
@@ -377,7 +377,7 @@ module _ {S : Type 0} {accesses : Accesses S} {relation : WorldRelation accesses
   acquired_by_preserves : (r : Reference) → Preserves relation (acquired_by r)
   unfolding acquired_by_number
   acquired_by_preserves (reference.Name n) = then_preserves _ _ (declaration_preserves n) (λ e. acquired_preserves e.0)
-  acquired_by_preserves (reference.Slot n slot) = stop_preserves _
+  acquired_by_preserves (reference.Slot slot n) = stop_preserves _
   acquired_by_preserves (reference.Element o i) = stop_preserves _
   acquired_by_preserves (reference.Byte o i) = stop_preserves _
 
@@ -394,7 +394,7 @@ module _ {S : Type 0} {accesses : Accesses S} {relation : WorldRelation accesses
   given_back_by_preserves : (r : Reference) → Preserves relation (given_back_by r)
   unfolding given_back_by_number
   given_back_by_preserves (reference.Name n) = then_preserves _ _ (declaration_preserves n) (λ e. given_back_preserves e.0)
-  given_back_by_preserves (reference.Slot n slot) = stop_preserves _
+  given_back_by_preserves (reference.Slot slot n) = stop_preserves _
   given_back_by_preserves (reference.Element o i) = stop_preserves _
   given_back_by_preserves (reference.Byte o i) = stop_preserves _
 

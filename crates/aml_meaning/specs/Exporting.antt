@@ -50,7 +50,7 @@ path_of n w = (Ok (standing (numbered n w.names.map)), w)
 
 unfoldable pub reference_exported : {S : Type 0} → Reference → Run S given.Given
 reference_exported (reference.Name n) = lift (path_of n)
-reference_exported (reference.Slot n slot) = give given.Reference
+reference_exported (reference.Slot slot n) = give given.Reference
 reference_exported (reference.Element o i) = give given.Reference
 reference_exported (reference.Byte o i) = give given.Reference
 

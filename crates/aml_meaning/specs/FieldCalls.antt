@@ -38,7 +38,7 @@ asked answer p = do
 abbrev pub is_element : StoreTarget → Bool
 is_element (targets.Refers (reference.Element o i)) = true
 is_element (targets.Refers (reference.Name n)) = false
-is_element (targets.Refers (reference.Slot n slot)) = false
+is_element (targets.Refers (reference.Slot slot n)) = false
 is_element (targets.Refers (reference.Byte o i)) = false
 is_element targets.Nowhere = false
 is_element (targets.Slot slot) = false

@@ -62,13 +62,13 @@ given_back_by_number n = do
 
 abbrev pub acquired_by : {S : Type 0} → Reference → Change (State S) (Unit {0})
 acquired_by (reference.Name n) = acquired_by_number n
-acquired_by (reference.Slot n slot) = stop (refusal.Value WrongType)
+acquired_by (reference.Slot slot n) = stop (refusal.Value WrongType)
 acquired_by (reference.Element o i) = stop (refusal.Value WrongType)
 acquired_by (reference.Byte o i) = stop (refusal.Value WrongType)
 
 abbrev pub given_back_by : {S : Type 0} → Reference → Change (State S) (Unit {0})
 given_back_by (reference.Name n) = given_back_by_number n
-given_back_by (reference.Slot n slot) = stop (refusal.Value WrongType)
+given_back_by (reference.Slot slot n) = stop (refusal.Value WrongType)
 given_back_by (reference.Element o i) = stop (refusal.Value WrongType)
 given_back_by (reference.Byte o i) = stop (refusal.Value WrongType)
 

@@ -126,7 +126,7 @@ byte_tested o i = do
 
 abbrev pub tested : {S : Type 0} → Reference → Change (State S) (Unit {0})
 tested (reference.Name n) = name_tested n
-tested (reference.Slot n slot) = frame_tested n
+tested (reference.Slot slot n) = frame_tested n
 tested (reference.Element o i) = on_objects (element_there o i)
 tested (reference.Byte o i) = byte_tested o i
 
@@ -182,7 +182,7 @@ byte_once o i = do
 -- what a reference refers to, one step on (DerefOf)
 abbrev pub dereferenced : {S : Type 0} → Reference → Change (State S) Held
 dereferenced (reference.Name n) = declared_once n
-dereferenced (reference.Slot n slot) = slot_once n slot
+dereferenced (reference.Slot slot n) = slot_once n slot
 dereferenced (reference.Element o i) = held_once o i
 dereferenced (reference.Byte o i) = byte_once o i
 
@@ -222,7 +222,7 @@ unfoldable pub slot_reference : {S : Type 0} → Slot → Change (State S) Refer
 slot_reference slot = do
   k ← latest_frame
   n ← frame_number k
-  give (reference.Slot n slot)
+  give (reference.Slot slot n)
 
 abbrev pub number_in_entry : Option Entry → Outcome ℕ
 number_in_entry None = Err (refusal.Namespace NotFound)
@@ -256,7 +256,7 @@ unfoldable pub slot_initialized : {S : Type 0} → ℕ → Slot → Change (Stat
 slot_initialized n slot = do
   k ← frame_found n
   v ← slot_held k slot
-  give (unless_empty v (reference.Slot n slot))
+  give (unless_empty v (reference.Slot slot n))
 
 abbrev pub unless_empty_element : Element → Reference → Option Reference
 unless_empty_element (element.Value v) r = unless_empty v r
@@ -269,7 +269,7 @@ element_initialized o i = do
 
 abbrev pub if_initialized : {S : Type 0} → Reference → Change (State S) (Option Reference)
 if_initialized (reference.Name n) = give (Some (reference.Name n))
-if_initialized (reference.Slot n slot) = slot_initialized n slot
+if_initialized (reference.Slot slot n) = slot_initialized n slot
 if_initialized (reference.Element o i) = element_initialized o i
 if_initialized (reference.Byte o i) = give (Some (reference.Byte o i))
 
@@ -357,7 +357,7 @@ module _ {S : Type 0} (follow : Reference → Change (State S) Referent) where
 
   abbrev pub reference_followed : Reference → Change (State S) Referent
   reference_followed (reference.Name n) = declared_followed n
-  reference_followed (reference.Slot n slot) = slot_followed n slot
+  reference_followed (reference.Slot slot n) = slot_followed n slot
   reference_followed (reference.Element o i) = held_followed o i
   reference_followed (reference.Byte o i) = byte_followed o i
 

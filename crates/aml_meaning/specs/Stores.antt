@@ -174,7 +174,7 @@ module _ {S : Type 0} (through : Reference → Value → Change (State S) Stored
 
   abbrev pub store_at_reference : Reference → Value → Change (State S) Stored
   store_at_reference (reference.Name n) v = copy_into_declared n v
-  store_at_reference (reference.Slot n slot) v = store_in_frame_numbered n slot v
+  store_at_reference (reference.Slot slot n) v = store_in_frame_numbered n slot v
   store_at_reference (reference.Element o i) v = copy_into_element o i v
   store_at_reference (reference.Byte o i) v = store_byte o i v
 
@@ -186,7 +186,7 @@ stored_through (suc n) r v = store_at_reference (stored_through n) r v
 -- a store to what a reference refers to converts; only an argument that is met on the way copies without conversion
 abbrev pub store_to : {S : Type 0} → Reference → Value → Change (State S) Stored
 store_to (reference.Name n) v = store_in_declared n v
-store_to (reference.Slot n slot) v = store_in_frame_numbered (stored_through most_references) n slot v
+store_to (reference.Slot slot n) v = store_in_frame_numbered (stored_through most_references) n slot v
 store_to (reference.Element o i) v = copy_into_element o i v
 store_to (reference.Byte o i) v = store_byte o i v
 

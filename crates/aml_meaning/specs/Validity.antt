@@ -13,7 +13,7 @@ module _ {S : Type 0} (w : State S) where
 
   abbrev pub is_valid_reference : Reference → Bool
   is_valid_reference (reference.Name n) = nat_lt n w.names.next
-  is_valid_reference (reference.Slot n slot) = nat_lt n w.started
+  is_valid_reference (reference.Slot slot n) = nat_lt n w.started
   is_valid_reference (reference.Element o i) = is_object o
   is_valid_reference (reference.Byte o i) = is_object o
 

@@ -48,7 +48,7 @@ impl<S> WorldState<S> {
     #[tactic(auto, using(crate::proofs::Lifted::parts))]
     pub fn new_buffer_field(
         &self,
-        object: usize,
+        object: u32,
         bit_offset: u128,
         bits: u32,
     ) -> Result<BufferField, Refusal>
@@ -84,7 +84,7 @@ impl<S> WorldState<S> {
 }
 
 /// The buffer that a value is; any other value is refused as `WrongType`.
-pub fn buffer_of(value: Value) -> Result<usize, Refusal>
+pub fn buffer_of(value: Value) -> Result<u32, Refusal>
     ensures answer { Answers result (buffer_of value) }
     ensures memory { NotMemory result }
 {

@@ -25,7 +25,7 @@ impl<S> WorldState<S> {
     {
         match reference {
             Reference::Name(number) => self.test_name(number),
-            Reference::Slot(number, _) => self.test_frame(number),
+            Reference::Slot(_, number) => self.test_frame(number),
             Reference::Element(object, index) => self.element_there(object, index),
             Reference::Byte(object, index) => self.test_byte(object, index),
         }
@@ -50,7 +50,7 @@ impl<S> WorldState<S> {
     }
 
     #[tactic(auto, using(ar_space::specs::Change::changing), unfolding(crate::specs::StoreTargets::byte_tested))]
-    fn test_byte(&self, object: usize, index: usize) -> Result<(), Refusal>
+    fn test_byte(&self, object: u32, index: usize) -> Result<(), Refusal>
         ensures answer { Does result self.now (byte_tested object index) self.now }
         ensures memory { NotMemory result }
     {
@@ -68,7 +68,7 @@ impl<S> WorldState<S> {
     {
         match reference {
             Reference::Name(number) => self.declared_once(number),
-            Reference::Slot(number, slot) => self.slot_once(number, slot),
+            Reference::Slot(slot, number) => self.slot_once(number, slot),
             Reference::Element(object, index) => self.held_once(object, index),
             Reference::Byte(object, index) => self.byte_once(object, index),
         }
@@ -103,7 +103,7 @@ impl<S> WorldState<S> {
     }
 
     #[tactic(auto, using(ar_space::specs::Change::changing), unfolding(crate::specs::StoreTargets::held_once))]
-    fn held_once(&self, object: usize, index: usize) -> Result<Held, Refusal>
+    fn held_once(&self, object: u32, index: usize) -> Result<Held, Refusal>
         ensures answer { Does result self.now (held_once object index) self.now }
         ensures memory { NotMemory result }
     {
@@ -132,7 +132,7 @@ impl<S> WorldState<S> {
     }
 
     #[tactic(auto, using(ar_space::specs::Change::changing), unfolding(crate::specs::StoreTargets::byte_once))]
-    fn byte_once(&self, object: usize, index: usize) -> Result<Held, Refusal>
+    fn byte_once(&self, object: u32, index: usize) -> Result<Held, Refusal>
         ensures answer { Does result self.now (byte_once object index) self.now }
         ensures memory { NotMemory result }
     {
@@ -161,7 +161,7 @@ impl<S> WorldState<S> {
     {
         let index = self.latest_frame()?;
         let number = self.frame_number(index)?;
-        Ok(Reference::Slot(number, slot))
+        Ok(Reference::Slot(slot, number))
     }
 
     /// The number of the frame at an index.
@@ -206,7 +206,7 @@ impl<S> WorldState<S> {
     {
         match reference {
             Reference::Name(number) => Ok(Some(Reference::Name(number))),
-            Reference::Slot(number, slot) => self.slot_initialized(number, slot),
+            Reference::Slot(slot, number) => self.slot_initialized(number, slot),
             Reference::Element(object, index) => self.element_initialized(object, index),
             Reference::Byte(object, index) => Ok(Some(Reference::Byte(object, index))),
         }
@@ -219,11 +219,11 @@ impl<S> WorldState<S> {
     {
         let index = self.frame_found(number)?;
         let value = self.slot_held(index, slot)?;
-        Ok(unless_empty(value, Reference::Slot(number, slot)))
+        Ok(unless_empty(value, Reference::Slot(slot, number)))
     }
 
     #[tactic(auto, using(ar_space::specs::Change::changing), unfolding(crate::specs::StoreTargets::element_initialized))]
-    fn element_initialized(&self, object: usize, index: usize) -> Result<Option<Reference>, Refusal>
+    fn element_initialized(&self, object: u32, index: usize) -> Result<Option<Reference>, Refusal>
         ensures answer { Does result self.now (element_initialized object index) self.now }
         ensures memory { NotMemory result }
     {

@@ -24,6 +24,9 @@ pub enum Flow {
     Return(Value),
 }
 
+// Each term that is evaluated answers one.
+const _: () = prove!(size_of::<Flow>() == 32);
+
 impl Flow {
     /// The value of a term, where one is wanted; a term without one is refused as `NoValue`.
     pub fn value(self) -> Result<Value, Refusal>

@@ -56,7 +56,7 @@ impl<S> WorldState<S> {
 
     /// The bytes of a string; another kind of object is refused as `WrongType`.
     #[tactic(auto, using(crate::proofs::Lifted::parts))]
-    pub fn string(&self, alloc: Global, object: usize) -> Result<Octets, Refusal>
+    pub fn string(&self, alloc: Global, object: u32) -> Result<Octets, Refusal>
         ensures { Does result self.now (on_objects (string_at object)) self.now }
     {
         self.heap.string(alloc, object)
@@ -64,7 +64,7 @@ impl<S> WorldState<S> {
 
     /// The bytes of a buffer; another kind of object is refused as `WrongType`.
     #[tactic(auto, using(crate::proofs::Lifted::parts))]
-    pub fn buffer(&self, alloc: Global, object: usize) -> Result<Octets, Refusal>
+    pub fn buffer(&self, alloc: Global, object: u32) -> Result<Octets, Refusal>
         ensures { Does result self.now (on_objects (buffer_at object)) self.now }
     {
         self.heap.buffer(alloc, object)
@@ -72,7 +72,7 @@ impl<S> WorldState<S> {
 
     /// The elements of a package; another kind of object is refused as `WrongType`.
     #[tactic(auto, using(crate::proofs::Lifted::parts))]
-    pub fn elements(&self, alloc: Global, object: usize) -> Result<Elements, Refusal>
+    pub fn elements(&self, alloc: Global, object: u32) -> Result<Elements, Refusal>
         ensures { Does result self.now (on_objects (elements_at object)) self.now }
     {
         self.heap.elements(alloc, object)
@@ -81,7 +81,7 @@ impl<S> WorldState<S> {
     /// Stores bytes into a buffer, cut or zero-filled to its length; an empty one takes them whole. Refused as
     /// `Heap::write_buffer` refuses it.
     #[tactic(auto, using(crate::proofs::Lifted::parts))]
-    pub fn write_buffer(&mut self, object: usize, bytes: Octets) -> Result<(), Refusal>
+    pub fn write_buffer(&mut self, object: u32, bytes: Octets) -> Result<(), Refusal>
         ensures { Does result self.new (on_objects (write_buffer object bytes)) self.old }
     {
         self.heap.write_buffer(object, bytes)
@@ -89,7 +89,7 @@ impl<S> WorldState<S> {
 
     /// Stores bytes into a string, which takes their length. Refused as `Heap::write_string` refuses it.
     #[tactic(auto, using(crate::proofs::Lifted::parts))]
-    pub fn write_string(&mut self, object: usize, bytes: Octets) -> Result<(), Refusal>
+    pub fn write_string(&mut self, object: u32, bytes: Octets) -> Result<(), Refusal>
         ensures change { Does result self.new (on_objects (write_string object bytes)) self.old }
         ensures memory { NotMemory result }
     {
@@ -98,7 +98,7 @@ impl<S> WorldState<S> {
 
     /// An element of a package; past its end, and of another kind of object, this is refused as `DeadReference`.
     #[tactic(auto, using(crate::proofs::Lifted::parts))]
-    pub(crate) fn element(&self, object: usize, index: usize) -> Result<&Element, Refusal>
+    pub(crate) fn element(&self, object: u32, index: usize) -> Result<&Element, Refusal>
         ensures answer { Does (seen (λ e. e.now) result) self.now (on_objects (element_at object index)) self.now }
         ensures memory { NotMemory result }
     {
@@ -107,7 +107,7 @@ impl<S> WorldState<S> {
 
     /// A byte of a string or a buffer; past its end this is refused as `DeadReference`.
     #[tactic(auto, using(crate::proofs::Lifted::parts))]
-    pub(crate) fn byte(&self, object: usize, index: usize) -> Result<u8, Refusal>
+    pub(crate) fn byte(&self, object: u32, index: usize) -> Result<u8, Refusal>
         ensures answer { Does result self.now (on_objects (byte_at object index)) self.now }
         ensures memory { NotMemory result }
     {
@@ -116,7 +116,7 @@ impl<S> WorldState<S> {
 
     /// Tests that a package has an element there; past its end, and of another kind of object, this is refused as `DeadReference`.
     #[tactic(auto, using(crate::proofs::Lifted::parts))]
-    pub(crate) fn element_there(&self, object: usize, index: usize) -> Result<(), Refusal>
+    pub(crate) fn element_there(&self, object: u32, index: usize) -> Result<(), Refusal>
         ensures answer { Does result self.now (on_objects (element_there object index)) self.now }
         ensures memory { NotMemory result }
     {
@@ -127,7 +127,7 @@ impl<S> WorldState<S> {
     #[tactic(auto, using(crate::proofs::Lifted::parts))]
     pub(crate) fn write_element(
         &mut self,
-        object: usize,
+        object: u32,
         index: usize,
         element: Element,
     ) -> Result<(), Refusal>
@@ -139,12 +139,7 @@ impl<S> WorldState<S> {
 
     /// Puts a byte in place of one of a string or a buffer.
     #[tactic(auto, using(crate::proofs::Lifted::parts))]
-    pub(crate) fn write_byte(
-        &mut self,
-        object: usize,
-        index: usize,
-        byte: u8,
-    ) -> Result<(), Refusal>
+    pub(crate) fn write_byte(&mut self, object: u32, index: usize, byte: u8) -> Result<(), Refusal>
         ensures change { Does result self.new (on_objects (write_byte object index byte)) self.old }
         ensures memory { NotMemory result }
     {

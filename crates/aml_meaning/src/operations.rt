@@ -139,7 +139,7 @@ impl<S> WorldState<S> {
     }
 
     #[tactic(auto, using(ar_space::specs::Change::changing), unfolding(crate::specs::Operations::element_indexed))]
-    fn index_element(&self, object: usize, index: Value) -> Result<Value, Refusal>
+    fn index_element(&self, object: u32, index: Value) -> Result<Value, Refusal>
         ensures answer { Does result self.now (element_indexed object index) self.now }
         ensures memory { NotMemory result }
     {
@@ -149,7 +149,7 @@ impl<S> WorldState<S> {
     }
 
     #[tactic(auto, using(ar_space::specs::Change::changing), unfolding(crate::specs::Operations::byte_indexed))]
-    fn index_byte(&self, source: Value, object: usize, index: Value) -> Result<Value, Refusal>
+    fn index_byte(&self, source: Value, object: u32, index: Value) -> Result<Value, Refusal>
         ensures answer { Does result self.now (byte_indexed source object index) self.now }
         ensures memory { NotMemory result }
     {

@@ -85,7 +85,7 @@ fn store_at_reference<S>(
 {
     match reference {
         Reference::Name(number) => world.copy_into_declared(alloc, number, value),
-        Reference::Slot(number, slot) => {
+        Reference::Slot(slot, number) => {
             store_in_frame_numbered(alloc, world, levels, number, slot, value)
         }
         Reference::Element(object, index) => world.copy_into_element(alloc, object, index, value),
@@ -129,7 +129,7 @@ impl<S> WorldState<S> {
     fn copy_into_element(
         &mut self,
         alloc: Global,
-        object: usize,
+        object: u32,
         index: usize,
         value: Value,
     ) -> Result<Stored, Refusal>
@@ -142,7 +142,7 @@ impl<S> WorldState<S> {
     }
 
     #[tactic(auto, using(ar_space::specs::Change::changing), unfolding(crate::specs::Stores::store_byte))]
-    fn store_byte(&mut self, object: usize, index: usize, value: Value) -> Result<Stored, Refusal>
+    fn store_byte(&mut self, object: u32, index: usize, value: Value) -> Result<Stored, Refusal>
         ensures change { Does result self.new (store_byte object index value) self.old }
         ensures memory { NotMemory result }
     {
@@ -179,7 +179,7 @@ impl<S> WorldState<S> {
     {
         match reference {
             Reference::Name(number) => self.store_in_declared(alloc, number, value),
-            Reference::Slot(number, slot) => {
+            Reference::Slot(slot, number) => {
                 store_in_frame_numbered(alloc, self, MOST_REFERENCES, number, slot, value)
             }
             Reference::Element(object, index) => {

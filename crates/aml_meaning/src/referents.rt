@@ -158,7 +158,7 @@ fn reference_followed<S>(
 {
     match reference {
         Reference::Name(number) => declared_followed(world, levels, number),
-        Reference::Slot(number, slot) => slot_followed(world, levels, number, slot),
+        Reference::Slot(slot, number) => slot_followed(world, levels, number, slot),
         Reference::Element(object, index) => held_followed(world, levels, object, index),
         Reference::Byte(object, index) => byte_followed(world, object, index),
     }
@@ -199,7 +199,7 @@ fn slot_followed<S>(
 fn held_followed<S>(
     world: &WorldState<S>,
     levels: usize,
-    object: usize,
+    object: u32,
     index: usize,
 ) -> Result<Referent, Refusal>
     ensures answer { Does result world.now (held_followed (followed levels) object index) world.now }
@@ -261,7 +261,7 @@ fn element_named<S>(
 }
 
 #[tactic(auto, using(ar_space::specs::Change::changing), unfolding(crate::specs::StoreTargets::byte_followed))]
-fn byte_followed<S>(world: &WorldState<S>, object: usize, index: usize) -> Result<Referent, Refusal>
+fn byte_followed<S>(world: &WorldState<S>, object: u32, index: usize) -> Result<Referent, Refusal>
     ensures answer { Does result world.now (byte_followed object index) world.now }
     ensures memory { NotMemory result }
 {

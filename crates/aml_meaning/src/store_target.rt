@@ -45,6 +45,8 @@ pub enum Held {
     Field(Field),
 }
 
+const _: () = prove!(size_of::<Held>() == 56);
+
 /// What a store came to: it is done, or it leads to a field, which is written next.
 #[derive(Clone, Copy, Debug, PartialEq, Eq)]
 pub enum Stored {

@@ -135,7 +135,7 @@ impl<S> WorldState<S> {
     }
 
     #[tactic(auto, using(ar_space::specs::Change::changing), unfolding(crate::specs::Stores::store_text))]
-    fn store_text(&mut self, alloc: Global, object: usize, value: Value) -> Result<Stored, Refusal>
+    fn store_text(&mut self, alloc: Global, object: u32, value: Value) -> Result<Stored, Refusal>
         ensures { Does result self.new (store_text object value) self.old }
     {
         let bytes = self.text_in(alloc, value)?;
@@ -144,7 +144,7 @@ impl<S> WorldState<S> {
     }
 
     #[tactic(auto, using(ar_space::specs::Change::changing), unfolding(crate::specs::Stores::store_bytes))]
-    fn store_bytes(&mut self, alloc: Global, object: usize, value: Value) -> Result<Stored, Refusal>
+    fn store_bytes(&mut self, alloc: Global, object: u32, value: Value) -> Result<Stored, Refusal>
         ensures { Does result self.new (store_bytes object value) self.old }
     {
         let bytes = self.bytes_in(alloc, value)?;

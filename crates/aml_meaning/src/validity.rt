@@ -25,15 +25,15 @@ impl<S> WorldState<S> {
     {
         match reference {
             Reference::Name(number) => self.names.was_given(number),
-            Reference::Slot(number, _) => number < self.started,
+            Reference::Slot(_, number) => number < self.started,
             Reference::Element(object, _) => self.has_object(object),
             Reference::Byte(object, _) => self.has_object(object),
         }
     }
 
-    fn has_object(&self, object: usize) -> bool
+    fn has_object(&self, object: u32) -> bool
         ensures { result ≡ is_object self.now object }
     {
-        object < self.heap.len()
+        (object as usize) < self.heap.len()
     }
 }

@@ -31,7 +31,7 @@ impl Heap {
         }
     }
 
-    fn string_content(&self, object: usize) -> Content<'_>
+    fn string_content(&self, object: u32) -> Content<'_>
         ensures { content_of result ≡ string_held (slice_get self.now object) }
     {
         match self.object(object) {
@@ -44,7 +44,7 @@ impl Heap {
         }
     }
 
-    fn buffer_content(&self, object: usize) -> Content<'_>
+    fn buffer_content(&self, object: u32) -> Content<'_>
         ensures { content_of result ≡ buffer_held (slice_get self.now object) }
     {
         match self.object(object) {

@@ -45,7 +45,7 @@ fn copy_value(alloc: Global, heap: &mut Heap, levels: usize, value: Value) -> Re
 }
 
 #[tactic(auto, using(ar_space::specs::Change::changing), unfolding(crate::specs::Copies::string_copy))]
-fn copy_string(alloc: Global, heap: &mut Heap, object: usize) -> Result<Value, Refusal>
+fn copy_string(alloc: Global, heap: &mut Heap, object: u32) -> Result<Value, Refusal>
     ensures { Does result heap.new (string_copy object) heap.old }
 {
     let bytes = heap.string(alloc, object)?;
@@ -53,7 +53,7 @@ fn copy_string(alloc: Global, heap: &mut Heap, object: usize) -> Result<Value, R
 }
 
 #[tactic(auto, using(ar_space::specs::Change::changing), unfolding(crate::specs::Copies::buffer_copy))]
-fn copy_buffer(alloc: Global, heap: &mut Heap, object: usize) -> Result<Value, Refusal>
+fn copy_buffer(alloc: Global, heap: &mut Heap, object: u32) -> Result<Value, Refusal>
     ensures { Does result heap.new (buffer_copy object) heap.old }
 {
     let bytes = heap.buffer(alloc, object)?;
@@ -66,7 +66,7 @@ fn copy_package(
     alloc: Global,
     heap: &mut Heap,
     levels: usize,
-    object: usize,
+    object: u32,
 ) -> Result<Value, Refusal>
     ensures { Does result heap.new (package_copy levels object) heap.old }
 {
@@ -78,12 +78,7 @@ fn copy_package(
 
 #[cycle(copies)]
 #[tactic(auto, using(ar_space::specs::Change::changing), unfolding(crate::specs::Copies::whole_copy))]
-fn copy_whole(
-    alloc: Global,
-    heap: &mut Heap,
-    levels: usize,
-    object: usize,
-) -> Result<Value, Refusal>
+fn copy_whole(alloc: Global, heap: &mut Heap, levels: usize, object: u32) -> Result<Value, Refusal>
     ensures { Does result heap.new (whole_copy (package_copy levels) object) heap.old }
 {
     let elements = heap.elements(alloc, object)?;

@@ -110,7 +110,7 @@ pub enum UpdateRule {
 /// it has.
 #[derive(Clone, Copy, Debug, PartialEq, Eq)]
 pub struct BufferField {
-    pub buffer: usize,
+    pub buffer: u32,
     pub bit_offset: u64,
     pub bits: u32,
 }

@@ -54,10 +54,10 @@ impl Heap {
     }
 
     /// The object with a number. It takes no memory.
-    pub fn object(&self, number: usize) -> Option<&Object>
+    pub fn object(&self, number: u32) -> Option<&Object>
         ensures { option_map (λ o. o.now) result ≡ slice_get self.now number }
     {
-        self.objects.get(number)
+        self.objects.get(number as usize)
     }
 
     /// The objects of a draft, behind those that are here. Only want of memory refuses it, and then nothing changes.
@@ -86,7 +86,7 @@ impl Heap {
     }
 
     /// A new object, and its number; one too many is refused as `ObjectLimit`.
-    pub(crate) fn make(&mut self, object: Object) -> Result<usize, Refusal>
+    pub(crate) fn make(&mut self, object: Object) -> Result<u32, Refusal>
         ensures { Does result self.new (make object) self.old }
     {
         make(&[], &mut self.objects, object)
@@ -117,13 +117,13 @@ impl Heap {
 
     /// The bytes of a string; another kind of object is refused as `WrongType`.
     #[tactic(auto, unfolding(crate::specs::Objects::string_at))]
-    pub fn string(&self, alloc: Global, object: usize) -> Result<Octets, Refusal>
+    pub fn string(&self, alloc: Global, object: u32) -> Result<Octets, Refusal>
         ensures { Does result self.now (string_at object) self.now }
     {
-        if object >= self.objects.len() {
+        if object as usize >= self.objects.len() {
             return Err(Refusal::Value(ValueFault::WrongType));
         }
-        match &self.objects[object] {
+        match &self.objects[object as usize] {
             Object::String(bytes) => bytes.copy(alloc),
             Object::Buffer(_) => Err(Refusal::Value(ValueFault::WrongType)),
             Object::Package(_) => Err(Refusal::Value(ValueFault::WrongType)),
@@ -132,13 +132,13 @@ impl Heap {
 
     /// The bytes of a buffer; another kind of object is refused as `WrongType`.
     #[tactic(auto, unfolding(crate::specs::Objects::buffer_at))]
-    pub fn buffer(&self, alloc: Global, object: usize) -> Result<Octets, Refusal>
+    pub fn buffer(&self, alloc: Global, object: u32) -> Result<Octets, Refusal>
         ensures { Does result self.now (buffer_at object) self.now }
     {
-        if object >= self.objects.len() {
+        if object as usize >= self.objects.len() {
             return Err(Refusal::Value(ValueFault::WrongType));
         }
-        match &self.objects[object] {
+        match &self.objects[object as usize] {
             Object::Buffer(bytes) => bytes.copy(alloc),
             Object::String(_) => Err(Refusal::Value(ValueFault::WrongType)),
             Object::Package(_) => Err(Refusal::Value(ValueFault::WrongType)),
@@ -147,7 +147,7 @@ impl Heap {
 
     /// The bytes of a buffer, lent; another kind of object is refused as `WrongType`.
     #[tactic(auto, unfolding(crate::specs::Objects::buffer_at))]
-    pub fn buffer_bytes(&self, object: usize) -> Result<&[u8], Refusal>
+    pub fn buffer_bytes(&self, object: u32) -> Result<&[u8], Refusal>
         ensures answer { Does (seen (λ bytes. bytes.now) result) self.now (buffer_at object) self.now }
         ensures memory { NotMemory result }
     {
@@ -160,25 +160,25 @@ impl Heap {
     /// Puts bytes in place of those of a buffer, which are given back; another kind of object is refused as `WrongType`, and
     /// then nothing changes.
     #[tactic(auto, unfolding(crate::specs::Objects::exchange_buffer))]
-    pub fn exchange_buffer(&mut self, object: usize, bytes: Octets) -> Result<Octets, Refusal>
+    pub fn exchange_buffer(&mut self, object: u32, bytes: Octets) -> Result<Octets, Refusal>
         ensures change { Does result self.new (exchange_buffer object bytes) self.old }
         ensures memory { NotMemory result }
     {
-        if object >= self.objects.len() {
+        if object as usize >= self.objects.len() {
             return Err(Refusal::Value(ValueFault::WrongType));
         }
-        exchanged(&mut self.objects[object], bytes)
+        exchanged(&mut self.objects[object as usize], bytes)
     }
 
     /// The elements of a package; another kind of object is refused as `WrongType`.
     #[tactic(auto, unfolding(crate::specs::Objects::elements_at))]
-    pub fn elements(&self, alloc: Global, object: usize) -> Result<Elements, Refusal>
+    pub fn elements(&self, alloc: Global, object: u32) -> Result<Elements, Refusal>
         ensures { Does result self.now (elements_at object) self.now }
     {
-        if object >= self.objects.len() {
+        if object as usize >= self.objects.len() {
             return Err(Refusal::Value(ValueFault::WrongType));
         }
-        match &self.objects[object] {
+        match &self.objects[object as usize] {
             Object::Package(elements) => elements.copy(alloc),
             Object::String(_) => Err(Refusal::Value(ValueFault::WrongType)),
             Object::Buffer(_) => Err(Refusal::Value(ValueFault::WrongType)),
@@ -187,26 +187,26 @@ impl Heap {
 
     /// Writes one byte of a string or a buffer. Past its end, and of another object, this is refused as `DeadReference`.
     #[tactic(auto, unfolding(crate::specs::Objects::write_byte))]
-    pub fn write_byte(&mut self, object: usize, index: usize, byte: u8) -> Result<(), Refusal>
+    pub fn write_byte(&mut self, object: u32, index: usize, byte: u8) -> Result<(), Refusal>
         ensures change { Does result self.new (write_byte object index byte) self.old }
         ensures memory { NotMemory result }
     {
-        if object >= self.objects.len() {
+        if object as usize >= self.objects.len() {
             return Err(Refusal::Evaluation(EvaluationFault::DeadReference));
         }
-        write_into(&mut self.objects[object], index, byte)
+        write_into(&mut self.objects[object as usize], index, byte)
     }
 
     /// One element of a package. Past its end, and of another object, this is refused as `DeadReference`.
     #[tactic(auto, unfolding(crate::specs::Objects::element_at))]
-    pub fn element(&self, object: usize, index: usize) -> Result<&Element, Refusal>
+    pub fn element(&self, object: u32, index: usize) -> Result<&Element, Refusal>
         ensures answer { Does (seen (λ e. e.now) result) self.now (element_at object index) self.now }
         ensures memory { NotMemory result }
     {
-        if object >= self.objects.len() {
+        if object as usize >= self.objects.len() {
             return Err(Refusal::Evaluation(EvaluationFault::DeadReference));
         }
-        match &self.objects[object] {
+        match &self.objects[object as usize] {
             Object::Package(elements) => elements.at(index),
             Object::String(_) => Err(Refusal::Evaluation(EvaluationFault::DeadReference)),
             Object::Buffer(_) => Err(Refusal::Evaluation(EvaluationFault::DeadReference)),
@@ -215,14 +215,14 @@ impl Heap {
 
     /// One byte of a string or a buffer. Past its end, and of another object, this is refused as `DeadReference`.
     #[tactic(auto, unfolding(crate::specs::Objects::byte_at))]
-    pub fn byte(&self, object: usize, index: usize) -> Result<u8, Refusal>
+    pub fn byte(&self, object: u32, index: usize) -> Result<u8, Refusal>
         ensures answer { Does result self.now (byte_at object index) self.now }
         ensures memory { NotMemory result }
     {
-        if object >= self.objects.len() {
+        if object as usize >= self.objects.len() {
             return Err(Refusal::Evaluation(EvaluationFault::DeadReference));
         }
-        match &self.objects[object] {
+        match &self.objects[object as usize] {
             Object::Package(_) => Err(Refusal::Evaluation(EvaluationFault::DeadReference)),
             Object::String(bytes) => byte_of(bytes, index),
             Object::Buffer(bytes) => byte_of(bytes, index),
@@ -231,7 +231,7 @@ impl Heap {
 
     /// Tests that a package has an element at an index. Past its end, and of another object, this is refused as `DeadReference`.
     #[tactic(auto, unfolding(crate::specs::Objects::element_there))]
-    pub fn element_there(&self, object: usize, index: usize) -> Result<(), Refusal>
+    pub fn element_there(&self, object: u32, index: usize) -> Result<(), Refusal>
         ensures answer { Does result self.now (element_there object index) self.now }
         ensures memory { NotMemory result }
     {
@@ -245,30 +245,30 @@ impl Heap {
     #[tactic(auto, unfolding(crate::specs::Objects::write_element))]
     pub fn write_element(
         &mut self,
-        object: usize,
+        object: u32,
         index: usize,
         element: Element,
     ) -> Result<(), Refusal>
         ensures change { Does result self.new (write_element object index element) self.old }
         ensures memory { NotMemory result }
     {
-        if object >= self.objects.len() {
+        if object as usize >= self.objects.len() {
             return Err(Refusal::Evaluation(EvaluationFault::DeadReference));
         }
-        element_into(&mut self.objects[object], index, element)
+        element_into(&mut self.objects[object as usize], index, element)
     }
 
     /// Stores bytes into a buffer, cut or zero-filled to its length; an empty one takes them whole.
     ///
     /// Another kind of object is refused as `WrongType`, too many bytes as `ObjectLimit`.
     #[tactic(auto, unfolding(crate::specs::Objects::write_buffer))]
-    pub fn write_buffer(&mut self, object: usize, bytes: Octets) -> Result<(), Refusal>
+    pub fn write_buffer(&mut self, object: u32, bytes: Octets) -> Result<(), Refusal>
         ensures { Does result self.new (write_buffer object bytes) self.old }
     {
-        if object >= self.objects.len() {
+        if object as usize >= self.objects.len() {
             return Err(Refusal::Value(ValueFault::WrongType));
         }
-        let room = match &self.objects[object] {
+        let room = match &self.objects[object as usize] {
             Object::Buffer(old) => old.as_slice().len(),
             Object::String(_) => return Err(Refusal::Value(ValueFault::WrongType)),
             Object::Package(_) => return Err(Refusal::Value(ValueFault::WrongType)),
@@ -277,7 +277,7 @@ impl Heap {
         if fitted.as_slice().len() > MAX_BYTES {
             return Err(Refusal::Evaluation(EvaluationFault::ObjectLimit));
         }
-        self.objects[object] = Object::Buffer(fitted);
+        self.objects[object as usize] = Object::Buffer(fitted);
         Ok(())
     }
 
@@ -285,14 +285,14 @@ impl Heap {
     ///
     /// Another kind of object is refused as `WrongType`, too many bytes as `ObjectLimit`.
     #[tactic(auto, unfolding(crate::specs::Objects::write_string))]
-    pub fn write_string(&mut self, object: usize, bytes: Octets) -> Result<(), Refusal>
+    pub fn write_string(&mut self, object: u32, bytes: Octets) -> Result<(), Refusal>
         ensures change { Does result self.new (write_string object bytes) self.old }
         ensures memory { NotMemory result }
     {
-        if object >= self.objects.len() {
+        if object as usize >= self.objects.len() {
             return Err(Refusal::Value(ValueFault::WrongType));
         }
-        match &self.objects[object] {
+        match &self.objects[object as usize] {
             Object::String(_) => {}
             Object::Buffer(_) => return Err(Refusal::Value(ValueFault::WrongType)),
             Object::Package(_) => return Err(Refusal::Value(ValueFault::WrongType)),
@@ -300,7 +300,7 @@ impl Heap {
         if bytes.as_slice().len() > MAX_BYTES {
             return Err(Refusal::Evaluation(EvaluationFault::ObjectLimit));
         }
-        self.objects[object] = Object::String(bytes);
+        self.objects[object as usize] = Object::String(bytes);
         Ok(())
     }
 }

@@ -8,7 +8,7 @@ use crate::object::{Elements, Object, Octets};
 use crate::value::Value;
 use ar_space::{EvaluationFault, Refusal};
 
-/// How many objects a machine may have.
+/// How many objects a machine may have: the number of each is a `u32`.
 const MAX_OBJECTS: usize = 262_144;
 
 /// How many bytes a string or a buffer may have.
@@ -23,7 +23,7 @@ pub(crate) fn make(
     before: &[Object],
     objects: &mut Vec<Object>,
     object: Object,
-) -> Result<usize, Refusal>
+) -> Result<u32, Refusal>
     ensures { Does result (before.now ++ objects.new.items) (make object) (before.now ++ objects.old.items) }
 {
     if objects.len() >= MAX_OBJECTS.saturating_sub(before.len()) {
@@ -31,7 +31,7 @@ pub(crate) fn make(
     }
     let number = before.len() + objects.len();
     objects.push(object)?;
-    Ok(number)
+    Ok(number as u32)
 }
 
 /// A package may have so many elements.

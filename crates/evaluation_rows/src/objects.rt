@@ -1,6 +1,6 @@
 //! The objects and the frames of a world.
 use crate::evaluation::Evaluation;
-use crate::reading::{first_word, index, number, slot, value};
+use crate::reading::{first_word, number, object_number, slot, value};
 use crate::telling;
 use crate::telling::{done, truth};
 use crate::trouble::Trouble;
@@ -84,7 +84,7 @@ fn contents(alloc: Global, world: &World<Traced<Sparse>>, rest: &str) -> Result<
 
 /// `count OBJECT`: how many elements the package with this number has.
 fn count(alloc: Global, world: &World<Traced<Sparse>>, rest: &str) -> Result<String, Trouble> {
-    let elements = world.running.world.elements(alloc, index(rest)?)?;
+    let elements = world.running.world.elements(alloc, object_number(rest)?)?;
     let count = elements.as_slice().len();
     Ok(format!(in alloc; "{count}")?)
 }
@@ -92,7 +92,7 @@ fn count(alloc: Global, world: &World<Traced<Sparse>>, rest: &str) -> Result<Str
 /// Stores bytes into a string.
 fn write_string(
     world: &mut World<Traced<Sparse>>,
-    object: usize,
+    object: u32,
     bytes: Octets,
 ) -> Result<(), Refusal> {
     world.running.world.write_string(object, bytes)
@@ -101,7 +101,7 @@ fn write_string(
 /// Stores bytes into a buffer.
 fn write_buffer(
     world: &mut World<Traced<Sparse>>,
-    object: usize,
+    object: u32,
     bytes: Octets,
 ) -> Result<(), Refusal> {
     world.running.world.write_buffer(object, bytes)
@@ -113,8 +113,8 @@ fn write(alloc: Global, world: &mut World<Traced<Sparse>>, rest: &str) -> Result
     let (object, text) = first_word(behind);
     let bytes = octets(alloc, text)?;
     match kind {
-        "string" => write_string(world, index(object)?, bytes)?,
-        "buffer" => write_buffer(world, index(object)?, bytes)?,
+        "string" => write_string(world, object_number(object)?, bytes)?,
+        "buffer" => write_buffer(world, object_number(object)?, bytes)?,
         _ => return Err(Trouble::Unread),
     }
     done(alloc)

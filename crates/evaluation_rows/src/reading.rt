@@ -36,6 +36,11 @@ pub fn index(text: &str) -> Result<usize, Trouble> {
     text.parse::<usize>().map_err(|_| Trouble::Unread)
 }
 
+/// The number of an object.
+pub fn object_number(text: &str) -> Result<u32, Trouble> {
+    text.parse::<u32>().map_err(|_| Trouble::Unread)
+}
+
 /// The first word of a text, and what is behind it.
 pub fn first_word(text: &str) -> (&str, &str) {
     text.split_once(' ').unwrap_or((text, ""))
@@ -107,9 +112,9 @@ fn reference(text: &str) -> Result<Reference, Trouble> {
     let (first, second) = first_word(behind);
     match kind {
         "name" => Ok(Reference::Name(number(first)?)),
-        "slot" => Ok(Reference::Slot(number(first)?, slot(second)?)),
-        "element" => Ok(Reference::Element(index(first)?, index(second)?)),
-        "byte" => Ok(Reference::Byte(index(first)?, index(second)?)),
+        "slot" => Ok(Reference::Slot(slot(second)?, number(first)?)),
+        "element" => Ok(Reference::Element(object_number(first)?, index(second)?)),
+        "byte" => Ok(Reference::Byte(object_number(first)?, index(second)?)),
         _ => Err(Trouble::Unread),
     }
 }
@@ -121,9 +126,9 @@ pub fn value(text: &str) -> Result<Value, Trouble> {
     match kind {
         "uninitialized" => Ok(Value::Uninitialized),
         "integer" => Ok(Value::Integer(number(behind)?)),
-        "string" => Ok(Value::String(index(digits)?)),
-        "buffer" => Ok(Value::Buffer(index(digits)?)),
-        "package" => Ok(Value::Package(index(digits)?)),
+        "string" => Ok(Value::String(object_number(digits)?)),
+        "buffer" => Ok(Value::Buffer(object_number(digits)?)),
+        "package" => Ok(Value::Package(object_number(digits)?)),
         "reference" => Ok(Value::Reference(reference(behind)?)),
         _ => Err(Trouble::Unread),
     }

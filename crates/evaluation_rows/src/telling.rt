@@ -121,7 +121,7 @@ fn slot(alloc: Global, slot: Slot) -> Result<String, Trouble> {
 fn reference(alloc: Global, reference: Reference) -> Result<String, Trouble> {
     match reference {
         Reference::Name(number) => Ok(format!(in alloc; "reference name {number}")?),
-        Reference::Slot(frame, place) => {
+        Reference::Slot(place, frame) => {
             let place = slot(alloc, place)?;
             Ok(format!(in alloc; "reference slot {frame} {place}")?)
         }

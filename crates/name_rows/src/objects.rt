@@ -2,7 +2,7 @@
 
 use crate::shown::show_characters;
 use crate::values::{element, say_value, show_element, value};
-use crate::words::{byte, count, refuse, say_done};
+use crate::words::{byte, count, object_number, refuse, say_done};
 use aml_objects::{Element, Elements, Heap, Octets, Value};
 use ar_space::Refusal;
 use std::alloc::Global;
@@ -122,7 +122,7 @@ impl Objects {
 
     /// The characters of a string.
     fn string(&self, asked: &mut Exchange) {
-        let object = count(asked);
+        let object = object_number(asked);
         match self.heap.string(asked.alloc(), object) {
             Ok(bytes) => show_characters(asked, bytes.as_slice()),
             Err(refusal) => refuse(asked, refusal),
@@ -131,7 +131,7 @@ impl Objects {
 
     /// The bytes of a buffer.
     fn buffer(&self, asked: &mut Exchange) {
-        let object = count(asked);
+        let object = object_number(asked);
         match self.heap.buffer(asked.alloc(), object) {
             Ok(bytes) => asked.say_bytes(bytes.as_slice()),
             Err(refusal) => refuse(asked, refusal),
@@ -140,7 +140,7 @@ impl Objects {
 
     /// How many elements a package has.
     fn elements(&self, asked: &mut Exchange) {
-        let object = count(asked);
+        let object = object_number(asked);
         match self.heap.elements(asked.alloc(), object) {
             Ok(elements) => asked.say_number(elements.as_slice().len() as u64),
             Err(refusal) => refuse(asked, refusal),
@@ -149,7 +149,7 @@ impl Objects {
 
     /// A byte of a string or a buffer.
     fn byte(&self, asked: &mut Exchange) {
-        let object = count(asked);
+        let object = object_number(asked);
         let index = count(asked);
         match self.heap.byte(object, index) {
             Ok(byte) => asked.say_bytes(&[byte]),
@@ -159,7 +159,7 @@ impl Objects {
 
     /// An element of a package.
     fn element(&self, asked: &mut Exchange) {
-        let object = count(asked);
+        let object = object_number(asked);
         let index = count(asked);
         match self.heap.element(object, index) {
             Ok(element) => show_element(asked, element),
@@ -176,21 +176,21 @@ impl Objects {
 
     /// Writes the bytes of a string.
     fn write_string(&mut self, asked: &mut Exchange) {
-        let object = count(asked);
+        let object = object_number(asked);
         let bytes = octets(asked);
         say_done(asked, self.heap.write_string(object, bytes));
     }
 
     /// Writes the bytes of a buffer.
     fn write_buffer(&mut self, asked: &mut Exchange) {
-        let object = count(asked);
+        let object = object_number(asked);
         let bytes = octets(asked);
         say_done(asked, self.heap.write_buffer(object, bytes));
     }
 
     /// Writes a byte of a string or a buffer.
     fn write_byte(&mut self, asked: &mut Exchange) {
-        let object = count(asked);
+        let object = object_number(asked);
         let index = count(asked);
         let byte = byte(asked);
         say_done(asked, self.heap.write_byte(object, index, byte));
@@ -198,7 +198,7 @@ impl Objects {
 
     /// Writes an element of a package.
     fn write_element(&mut self, asked: &mut Exchange) {
-        let object = count(asked);
+        let object = object_number(asked);
         let index = count(asked);
         let element = element(asked);
         say_done(asked, self.heap.write_element(object, index, element));

@@ -1,7 +1,7 @@
 //! Values, elements of packages, and what stands at names, as text.
 
 use crate::shown::show_name;
-use crate::words::{count, name, number, path, refuse, say_of, scope, show_path};
+use crate::words::{name, number, object_number, path, refuse, say_of, scope, show_path};
 use aml_objects::{Element, NamedObject, Reference, Slot, Value};
 use ar_space::Refusal;
 use test_rows::Exchange;
@@ -17,7 +17,7 @@ fn slot(asked: &mut Exchange, kind: &str) -> Value {
         "Local" => Slot::Local(index),
         _ => Slot::Argument(index),
     };
-    Value::Reference(Reference::Slot(frame, slot))
+    Value::Reference(Reference::Slot(slot, frame))
 }
 
 /// A value that a question has.
@@ -25,9 +25,9 @@ pub fn value(asked: &mut Exchange) -> Value {
     let kind = asked.word();
     match kind {
         "Integer" => Value::Integer(number(asked)),
-        "String" => Value::String(count(asked)),
-        "Buffer" => Value::Buffer(count(asked)),
-        "Package" => Value::Package(count(asked)),
+        "String" => Value::String(object_number(asked)),
+        "Buffer" => Value::Buffer(object_number(asked)),
+        "Package" => Value::Package(object_number(asked)),
         "Local" | "Arg" => slot(asked, kind),
         "Uninitialized" => Value::Uninitialized,
         _ => {
@@ -69,17 +69,17 @@ fn show_reference(asked: &mut Exchange, reference: Reference) {
             say_of(asked, "declaration", number);
             return;
         }
-        Reference::Slot(frame, Slot::Local(index)) => (
+        Reference::Slot(Slot::Local(index), frame) => (
             "Local",
             u64::from(index),
             "of frame",
             frame,
         ),
-        Reference::Slot(frame, Slot::Argument(index)) => {
+        Reference::Slot(Slot::Argument(index), frame) => {
             ("Arg", u64::from(index), "of frame", frame)
         }
-        Reference::Element(object, index) => ("element", index as u64, "of", object as u64),
-        Reference::Byte(object, index) => ("byte", index as u64, "of", object as u64),
+        Reference::Element(object, index) => ("element", index as u64, "of", u64::from(object)),
+        Reference::Byte(object, index) => ("byte", index as u64, "of", u64::from(object)),
     };
     say_of(asked, word, number);
     say_of(asked, of, whole);
@@ -90,9 +90,9 @@ fn show_value(asked: &mut Exchange, value: Value) {
     match value {
         Value::Uninitialized => asked.say("Uninitialized"),
         Value::Integer(number) => say_of(asked, "Integer", number),
-        Value::String(object) => say_of(asked, "String", object as u64),
-        Value::Buffer(object) => say_of(asked, "Buffer", object as u64),
-        Value::Package(object) => say_of(asked, "Package", object as u64),
+        Value::String(object) => say_of(asked, "String", u64::from(object)),
+        Value::Buffer(object) => say_of(asked, "Buffer", u64::from(object)),
+        Value::Package(object) => say_of(asked, "Package", u64::from(object)),
         Value::Reference(reference) => show_reference(asked, reference),
     }
 }

@@ -48,6 +48,11 @@ pub fn number(asked: &mut Exchange) -> u64 {
     asked.number(u64::MAX)
 }
 
+/// The number of an object in decimal digits.
+pub fn object_number(asked: &mut Exchange) -> u32 {
+    asked.number(0xFFFF_FFFF) as u32
+}
+
 /// A number of things in decimal digits.
 pub fn count(asked: &mut Exchange) -> usize {
     asked.number(u64::MAX) as usize

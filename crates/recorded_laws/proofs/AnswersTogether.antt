@@ -93,7 +93,7 @@ module _ {S T : Type 0} {accesses : Accesses S} {accesses2 : Accesses T} {side :
   reference_exported_together : (r : Reference) → Together side runs (reference_exported r) (reference_exported r)
   unfolding reference_exported
   reference_exported_together (reference.Name n) = lift_together (path_of_together n)
-  reference_exported_together (reference.Slot n slot) = give_together _
+  reference_exported_together (reference.Slot slot n) = give_together _
   reference_exported_together (reference.Element o i) = give_together _
   reference_exported_together (reference.Byte o i) = give_together _
 

@@ -72,7 +72,7 @@ module _ {S T : Type 0} {accesses : Accesses S} {accesses2 : Accesses T} {side :
   pub tested_together : (r : Reference) → Together side worlds (tested r) (tested r)
   unfolding name_tested frame_tested byte_tested
   tested_together (reference.Name n) = then_together (declaration_together n) (λ e. give_together _)
-  tested_together (reference.Slot n slot) = then_together (frame_found_together n) (λ k. give_together _)
+  tested_together (reference.Slot slot n) = then_together (frame_found_together n) (λ k. give_together _)
   tested_together (reference.Element o i) = objects_together _
   tested_together (reference.Byte o i) = then_together (objects_together _) (λ b. give_together _)
 
@@ -88,7 +88,7 @@ module _ {S T : Type 0} {accesses : Accesses S} {accesses2 : Accesses T} {side :
   pub dereferenced_together : (r : Reference) → Together side worlds (dereferenced r) (dereferenced r)
   unfolding declared_once slot_once held_once byte_once
   dereferenced_together (reference.Name n) = then_together (declaration_together n) (λ e. give_together _)
-  dereferenced_together (reference.Slot n slot) = then_together (frame_found_together n) (λ k. then_together (slot_held_together k slot) (λ v. value_once_together v))
+  dereferenced_together (reference.Slot slot n) = then_together (frame_found_together n) (λ k. then_together (slot_held_together k slot) (λ v. value_once_together v))
   dereferenced_together (reference.Element o i) = then_together (objects_together _) (λ e. element_once_together e)
   dereferenced_together (reference.Byte o i) = then_together (objects_together _) (λ b. give_together _)
 
@@ -116,7 +116,7 @@ module _ {S T : Type 0} {accesses : Accesses S} {accesses2 : Accesses T} {side :
   pub if_initialized_together : (r : Reference) → Together side worlds (if_initialized r) (if_initialized r)
   unfolding slot_initialized element_initialized
   if_initialized_together (reference.Name n) = give_together _
-  if_initialized_together (reference.Slot n slot) = then_together (frame_found_together n) (λ k. then_together (slot_held_together k slot) (λ v. give_together _))
+  if_initialized_together (reference.Slot slot n) = then_together (frame_found_together n) (λ k. then_together (slot_held_together k slot) (λ v. give_together _))
   if_initialized_together (reference.Element o i) = then_together (objects_together _) (λ e. give_together _)
   if_initialized_together (reference.Byte o i) = give_together _
 
@@ -180,7 +180,7 @@ module _ {S T : Type 0} {accesses : Accesses S} {accesses2 : Accesses T} {side :
 
     reference_followed_together : (r : Reference) → Together side worlds (reference_followed follow r) (reference_followed follow2 r)
     reference_followed_together (reference.Name n) = declared_followed_together n
-    reference_followed_together (reference.Slot n slot) = slot_followed_together n slot
+    reference_followed_together (reference.Slot slot n) = slot_followed_together n slot
     reference_followed_together (reference.Element o i) = held_followed_together o i
     reference_followed_together (reference.Byte o i) = byte_followed_together o i
 
@@ -306,7 +306,7 @@ module _ {S T : Type 0} {accesses : Accesses S} {accesses2 : Accesses T} {side :
 
     store_at_reference_together : (r : Reference) (v : Value) → Together side worlds (store_at_reference through r v) (store_at_reference through2 r v)
     store_at_reference_together (reference.Name n) v = copy_into_declared_together n v
-    store_at_reference_together (reference.Slot n slot) v = store_in_frame_numbered_together n slot v
+    store_at_reference_together (reference.Slot slot n) v = store_in_frame_numbered_together n slot v
     store_at_reference_together (reference.Element o i) v = copy_into_element_together o i v
     store_at_reference_together (reference.Byte o i) v = store_byte_together o i v
 
@@ -326,7 +326,7 @@ module _ {S T : Type 0} {accesses : Accesses S} {accesses2 : Accesses T} {side :
   store_to_together : (r : Reference) (v : Value) → Together side worlds (store_to r v) (store_to r v)
   unfolding store_in_declared
   store_to_together (reference.Name n) v = then_together (declaration_together n) (λ e. store_over_together _ e.0 v)
-  store_to_together (reference.Slot n slot) v = store_in_frame_numbered_together (stored_through_together _) n slot v
+  store_to_together (reference.Slot slot n) v = store_in_frame_numbered_together (stored_through_together _) n slot v
   store_to_together (reference.Element o i) v = copy_into_element_together o i v
   store_to_together (reference.Byte o i) v = store_byte_together o i v
 
@@ -359,7 +359,7 @@ module _ {S T : Type 0} {accesses : Accesses S} {accesses2 : Accesses T} {side :
   acquired_by_together : (r : Reference) → Together side worlds (acquired_by r) (acquired_by r)
   unfolding acquired_by_number
   acquired_by_together (reference.Name n) = then_together (declaration_together n) (λ e. acquired_together e.0)
-  acquired_by_together (reference.Slot n slot) = stop_together _
+  acquired_by_together (reference.Slot slot n) = stop_together _
   acquired_by_together (reference.Element o i) = stop_together _
   acquired_by_together (reference.Byte o i) = stop_together _
 
@@ -376,7 +376,7 @@ module _ {S T : Type 0} {accesses : Accesses S} {accesses2 : Accesses T} {side :
   given_back_by_together : (r : Reference) → Together side worlds (given_back_by r) (given_back_by r)
   unfolding given_back_by_number
   given_back_by_together (reference.Name n) = then_together (declaration_together n) (λ e. given_back_together e.0)
-  given_back_by_together (reference.Slot n slot) = stop_together _
+  given_back_by_together (reference.Slot slot n) = stop_together _
   given_back_by_together (reference.Element o i) = stop_together _
   given_back_by_together (reference.Byte o i) = stop_together _
 
