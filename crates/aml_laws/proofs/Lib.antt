@@ -4,9 +4,11 @@
 -- space), `x_explains` (a fault of the register space that x is refused by is what its last access answered), `x_respects`,
 -- `x_keeps_kinds`, `x_fits`, `x_stands`;
 -- a lemma that goes through the cases for another ends with `_by_cases`.
+pub mod AnswersTogether
 pub mod ArgumentsAndAnswersPreserve
 pub mod ChangesNothing
 pub mod ChangesPreserve
+pub mod ChangesTogether
 pub mod CleanChanges
 pub mod CleanNames
 pub mod CleanObjects
@@ -27,6 +29,7 @@ pub mod DeclarationNumbers
 pub mod DeclaredNamesStand
 pub mod EndOfCalls
 pub mod EvaluationsPreserve
+pub mod EvaluationsTogether
 pub mod FaultsOfCalls
 pub mod FaultsOfChanges
 pub mod FaultsOfEvaluations
@@ -36,6 +39,7 @@ pub mod FaultsOfRules
 pub mod FaultsOfStoreTargets
 pub mod FaultsOfTerms
 pub mod FieldsPreserve
+pub mod FieldsTogether
 pub mod FoundNamesStand
 pub mod FrameNumbers
 pub mod IntegersOfAnswers
@@ -51,13 +55,17 @@ pub mod IntegersOfTables
 pub mod IntegersOfTargets
 pub mod IntegersOfWorlds
 pub mod Invariants
+pub mod MeaningTogether
 pub mod MutexesFree
 pub mod NamesStay
+pub mod NotesOfFaults
+pub mod Noting
 pub mod NumbersKept
 pub mod NumbersRise
 pub mod ObjectKinds
 pub mod ObjectKindsStay
 pub mod OperandsAndCallsPreserve
+pub mod OperandsTogether
 pub mod OutsideOfMethods
 pub mod Preorders
 pub mod ReadTermsHoldBytes
@@ -69,7 +77,13 @@ pub mod RefusedDeclarations
 pub mod RegisterAccesses
 pub mod RuleByParts
 pub mod RulesPreserve
+pub mod RulesTogether
 pub mod SpaceFaultsExplained
+pub mod SpaceFaultsNoted
 pub mod SpaceReached
 pub mod StoreTargetsPreserve
+pub mod StoreTargetsTogether
+pub mod Together
+pub mod UnitsTogether
 pub mod WorldRelations
+pub mod WorldsTogether
