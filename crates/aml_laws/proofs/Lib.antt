@@ -1,8 +1,9 @@
 -- The lemmas. One about a definition is named by the definition and by what is proved of it: `x_preserves` (x leads each world to one
 -- that every world relation relates to it), `x_maintains` (where what is known of a state holds, it holds after x, and what x gives
 -- fits), `x_counts` (x over a space with a counter does what it does without), `x_clean` (x answers with no fault of the register
--- space), `x_explains` (a fault of the register space that x is refused by is what its last access answered), `x_respects`,
--- `x_keeps_kinds`, `x_fits`, `x_stands`;
+-- space), `x_explains` (a fault of the register space that x is refused by is what its last access answered, and no other access is
+-- answered with one), `x_together` (x goes the same way over two register spaces until they part), `x_unnoted` (noting the accesses of x
+-- changes nothing), `x_respects`, `x_keeps_kinds`, `x_fits`, `x_stands`;
 -- a lemma that goes through the cases for another ends with `_by_cases`.
 pub mod AnswersTogether
 pub mod ArgumentsAndAnswersPreserve

@@ -29,7 +29,8 @@ pub fn space_is_reached_by_accesses<S>()
 
 /// Where a term, a list of terms, a call of a control method, a table, an object with arguments, an answer or an access of a field is
 /// refused by a fault of the register space, accesses that are all answered with values lead from the space before it to a space at which
-/// one more access answers with that fault, and the space is left as that access leaves it. `notes` says that they are its own.
+/// one more is answered with that fault, and the space is left as that access leaves it. Of the accesses that were made themselves
+/// `space_faults_are_answers_of_the_last_access` says so.
 #[tactic(auto, using(crate::proofs::SpaceFaultsExplained::fault_of_term, crate::proofs::SpaceFaultsExplained::fault_of_list, crate::proofs::SpaceFaultsExplained::fault_of_call, crate::proofs::SpaceFaultsExplained::fault_of_table, crate::proofs::SpaceFaultsExplained::fault_of_value, crate::proofs::SpaceFaultsExplained::fault_of_answer, crate::proofs::SpaceFaultsExplained::fault_of_field_read, crate::proofs::SpaceFaultsExplained::fault_of_field_written))]
 pub fn space_faults_are_reached_by_accesses<S>()
     ensures term { (accesses : Accesses S) (fault : SpaceFault) (t : Task) (s : State S × ℕ) →

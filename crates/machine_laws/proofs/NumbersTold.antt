@@ -98,19 +98,19 @@ none_told n notes none all = subst (λ (fault : Option SpaceFault). FaultTells f
 number_tells : (e : Refusal) (notes : List Exchange) → RefusalTells e notes → NumberTells (number_of e) notes
 number_tells (refusal.Space NoRegister) notes told = told
 number_tells (refusal.Space Device) notes told = told
-number_tells (refusal.Table fault) notes told = none_told _ notes (of_table fault) told
-number_tells (refusal.Name fault) notes told = none_told _ notes (of_name fault) told
-number_tells (refusal.Term fault offset) notes told = none_told _ notes (of_term fault) told
-number_tells (refusal.Value fault) notes told = none_told _ notes (of_value fault) told
-number_tells (refusal.Field fault) notes told = none_told _ notes (of_field fault) told
-number_tells (refusal.Namespace fault) notes told = none_told _ notes (of_namespace fault) told
-number_tells (refusal.Evaluation fault) notes told = none_told _ notes (of_evaluation fault) told
-number_tells (refusal.Machine fault) notes told = none_told _ notes (of_machine fault) told
-number_tells (refusal.Resource fault) notes told = none_told _ notes (of_resource fault) told
-number_tells (refusal.RoutingTable fault) notes told = none_told _ notes (of_routing_table fault) told
-number_tells (refusal.Routing fault) notes told = none_told _ notes (of_routing fault) told
-number_tells (refusal.Report fault) notes told = none_told _ notes (of_report fault) told
-number_tells (refusal.Input fault) notes told = none_told _ notes (of_input fault) told
+number_tells (refusal.Table fault) notes told = none_told (table_fault_number fault) notes (of_table fault) told
+number_tells (refusal.Name fault) notes told = none_told (name_fault_number fault) notes (of_name fault) told
+number_tells (refusal.Term fault offset) notes told = none_told (term_fault_number fault) notes (of_term fault) told
+number_tells (refusal.Value fault) notes told = none_told (value_fault_number fault) notes (of_value fault) told
+number_tells (refusal.Field fault) notes told = none_told (field_fault_number fault) notes (of_field fault) told
+number_tells (refusal.Namespace fault) notes told = none_told (namespace_fault_number fault) notes (of_namespace fault) told
+number_tells (refusal.Evaluation fault) notes told = none_told (evaluation_fault_number fault) notes (of_evaluation fault) told
+number_tells (refusal.Machine fault) notes told = none_told (machine_fault_number fault) notes (of_machine fault) told
+number_tells (refusal.Resource fault) notes told = none_told (resource_fault_number fault) notes (of_resource fault) told
+number_tells (refusal.RoutingTable fault) notes told = none_told (routing_table_fault_number fault) notes (of_routing_table fault) told
+number_tells (refusal.Routing fault) notes told = none_told (routing_fault_number fault) notes (of_routing fault) told
+number_tells (refusal.Report fault) notes told = none_told (report_fault_number fault) notes (of_report fault) told
+number_tells (refusal.Input fault) notes told = none_told (input_fault_number fault) notes (of_input fault) told
 number_tells refusal.OutOfMemory notes told = told
 
 pub set_tells : (r : Outcome Bool) (notes : List Exchange) → Tells r notes → OutcomeTells (set_told r) notes

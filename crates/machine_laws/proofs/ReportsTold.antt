@@ -113,13 +113,13 @@ module _ {S : Type 0} (accesses : Accesses S) where
   report_told dry avoid before after report is =
       let found : TellsNotes (Ok is.found) before.world.space is.chosen_in.world.space = subst (λ (x : Outcome Gathering × MachineState (WithNotes S)). TellsNotes x.0 before.world.space x.1.world.space) is.is_found (notes_of_gathering accesses avoid before) in
       let set : SettingTold is.chosen_in.world.space (Ok is.settings, after) = subst (λ (x : Outcome (List SetLine × List ReportedAfter) × MachineState (WithNotes S)). SettingTold is.chosen_in.world.space x) is.is_settled (settling_told dry is.found.links is.answer.choice is.chosen_in) in
-      let same : set.settings ≡ is.settings = cc (set.is) in
+      let same : set.settings ≡ is.settings = cc set.is in
       record {
         gathering = found.made;
         setting = set.setting;
         reading = set.reading;
         are = set.are ∙ ap (λ notes. notes ++ set.setting ++ set.reading) found.are;
         answered = found.told;
-        sets = subst (λ lines. EachTells SetTells lines set.setting) (ap (λ x. x.0) same ∙ ap (λ (r : RoutingReport). r.sets) (sym is.lines)) set.sets;
-        afters = subst (λ lines. EachTells AfterTells lines set.reading) (ap (λ x. x.1) same ∙ ap (λ (r : RoutingReport). r.afters) (sym is.lines)) set.afters;
+        sets = subst (λ (lines : List SetLine). EachTells SetTells lines set.setting) (ap (λ x. x.0) same ∙ ap (λ (r : RoutingReport). r.sets) (sym is.lines)) set.sets;
+        afters = subst (λ (lines : List ReportedAfter). EachTells AfterTells lines set.reading) (ap (λ x. x.1) same ∙ ap (λ (r : RoutingReport). r.afters) (sym is.lines)) set.afters;
       }

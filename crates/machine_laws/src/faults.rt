@@ -19,8 +19,8 @@ ghost use Rattle.acpi_links.specs.Settings.{resources_set};
 ghost use Rattle.acpi_links.specs.Gatherings.{gathered};
 
 /// Where the tables of a machine, its initialization or an object that it evaluates is refused by a fault of the register space,
-/// accesses that are all answered with values lead to a space at which one more access answers with that fault, and the space is left as
-/// that access leaves it. `notes` says that they are the call's own.
+/// accesses that are all answered with values lead to a space at which one more is answered with that fault, and the space is left as
+/// that access leaves it. Of the accesses that the call made itself `machine_faults_are_answers_of_the_last_access` says so.
 #[tactic(auto, using(crate::proofs::MachineFaults::fault_of_tables, crate::proofs::MachineFaults::fault_of_initialization, crate::proofs::MachineFaults::fault_of_object))]
 pub fn machine_faults_are_reached_by_accesses<S>()
     ensures tables { (accesses : Accesses S) (fault : SpaceFault) (t : Tables) (steps : ℕ) (osi : List (List ℕ)) (w : State S) →

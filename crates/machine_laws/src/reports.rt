@@ -16,10 +16,10 @@ pub fn noting_changes_no_report<S>()
         → (left : MachineState (WithNotes S)) × (after ≡ machine_without_notes left) × IsReport (noted accesses) dry avoid before left report }
 {}
 
-/// Where the line of a report tells that setting a link, or reading what it is set to then, was refused by a fault of the register
-/// space, the last of the accesses that were made for it was answered with that fault, and all those before it with values. Where the
-/// line tells anything else, all accesses that were made for it were answered with values. The accesses of a run are those of gathering,
-/// all of which were answered with values, then those for the links that were set, line after line, and then those for reading them.
+/// The accesses of a run are those of gathering, all of which are answered with values, then those of setting link after link, and then
+/// those of reading what each link is set to. Where the line of a link tells that it was refused by a fault of the register space, the
+/// last access that was made for this line was answered with that fault, and all those before it with values. With any other line, all
+/// accesses that were made for it were answered with values.
 #[tactic(auto, using(crate::proofs::ReportsTold::report_told))]
 pub fn the_lines_of_a_report_tell_of_their_accesses<S>()
     ensures { (accesses : Accesses S) (dry : Bool) (avoid : List ℕ) (before after : MachineState (WithNotes S)) (report : RoutingReport) →
