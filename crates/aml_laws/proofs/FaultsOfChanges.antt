@@ -1,6 +1,6 @@
 -- Changes whose refusals by a fault of the register space come from their last access. A lemma `x_explains` says so of x.
 use Rattle.std.specs.Prelude.{◌≡◌, ℕ, ◌==◌, ◌-◌, List, [], ◌∷◌, Bool, true, false, Result, Ok, Err, refl, if◌then◌else◌}
-use Rattle.std.proofs.Common.{subst, sym}
+use Rattle.std.proofs.Common.{ap, subst, sym}
 use Rattle.ar_space.specs.declared.refusal.SpaceFault.{SpaceFault}
 use Rattle.ar_space.specs.declared.refusal.Refusal.{Refusal}
 use Rattle.ar_space.specs.declared.refusal.Refusal.TheVariants as refusals
@@ -22,11 +22,10 @@ use Rattle.aml_fields.specs.UnitByUnit.{read_units, bits_read, write_units, kept
 use Rattle.aml_fields.specs.Regions.{faulted, read_access, read_unit, read_field, write_access, write_unit, write_field}
 use Rattle.aml_meaning.specs.State.{State, on_objects, on_names, on_space}
 use Rattle.aml_meaning.specs.Run.{Run, lift, charge}
-use Rattle.aml_laws.specs.Reached.{Reached}
-use Rattle.aml_laws.specs.Reached as by
+use Rattle.aml_laws.specs.Answered.{Answered}
+use Rattle.aml_laws.specs.Answered as by
 use Rattle.aml_laws.specs.SpaceFaults.{LastFaults}
 use Rattle.aml_laws.specs.SpaceFaults as space_faults
-use Rattle.aml_laws.proofs.RegisterAccesses.{reached_transitive}
 use Rattle.aml_laws.proofs.CleanOutcomes.{Clean, OfNoSpace}
 use Rattle.aml_laws.proofs.CleanChanges.{AllClean}
 use Rattle.aml_laws.proofs.CleanValues.{unit_place_clean}
@@ -34,33 +33,39 @@ use Rattle.aml_laws.proofs.CleanValues.{unit_place_clean}
 module _ {S : Type 0} (accesses : Accesses S) where
   abbrev pub RefusalExplained : Refusal → S → S → Type 0
   RefusalExplained (refusals.Space fault) s t = LastFaults accesses fault s t
-  RefusalExplained _ s t = Unit {0}
+  RefusalExplained _ s t = Answered accesses s t
 
-  -- a value is reached by accesses, and a fault of the register space is that of the last one
+  -- a fault of the register space is the answer of the last access, and no other access answers with a fault
   abbrev pub Explained : {A : Type 0} → Outcome A → S → S → Type 0
-  Explained (Ok a) s t = Reached accesses s t
+  Explained (Ok a) s t = Answered accesses s t
   Explained (Err e) s t = RefusalExplained e s t
 
   -- space: the register space of a state
   pub record Explains {H A : Type 0} (space : H → S) (m : Change H A) : Type 0 where
     pub explained : (h : H) → Explained (m h).0 (space h) (space (m h).1)
 
-module _ {S : Type 0} (accesses : Accesses S) where
-  further_refusal : (e : Refusal) (s t u : S) → Reached accesses s t → RefusalExplained accesses e t u → RefusalExplained accesses e s u
-  further_refusal (refusals.Space fault) s t u r h = record { last = h.last; reached = reached_transitive s t h.last r h.reached; faults = h.faults }
-  further_refusal _ s t u r h = tt
+module _ {S : Type 0} {accesses : Accesses S} where
+  pub answered_transitive : (s t u : S) → Answered accesses s t → Answered accesses t u → Answered accesses s u
+  answered_transitive s t u h by.none = h
+  answered_transitive s t u h (by.read v place width value i is) = by.read v place width value (answered_transitive s t v h i) is
+  answered_transitive s t u h (by.written v place width value i is) = by.written v place width value (answered_transitive s t v h i) is
 
-  further : {A : Type 0} (x : Outcome A) (s t u : S) → Reached accesses s t → Explained accesses x t u → Explained accesses x s u
-  further (Ok a) s t u r h = reached_transitive s t u r h
+module _ {S : Type 0} (accesses : Accesses S) where
+  further_refusal : (e : Refusal) (s t u : S) → Answered accesses s t → RefusalExplained accesses e t u → RefusalExplained accesses e s u
+  further_refusal (refusals.Space fault) s t u r h = record { last = h.last; reached = answered_transitive s t h.last r h.reached; faults = h.faults }
+  further_refusal _ s t u r h = answered_transitive s t u r h
+
+  further : {A : Type 0} (x : Outcome A) (s t u : S) → Answered accesses s t → Explained accesses x t u → Explained accesses x s u
+  further (Ok a) s t u r h = answered_transitive s t u r h
   further (Err e) s t u r h = further_refusal e s t u r h
 
-  clean_refusal : (e : Refusal) (s t : S) → OfNoSpace e → RefusalExplained accesses e s t
-  clean_refusal (refusals.Space fault) s t apart = absurd apart
-  clean_refusal _ s t apart = tt
+  clean_refusal : (e : Refusal) (s t : S) → OfNoSpace e → t ≡ s → RefusalExplained accesses e s t
+  clean_refusal (refusals.Space fault) s t apart e = absurd apart
+  clean_refusal _ s t apart e = subst (λ u. Answered accesses s u) (sym e) by.none
 
   clean_explained : {A : Type 0} (x : Outcome A) (s t : S) → Clean x → t ≡ s → Explained accesses x s t
-  clean_explained (Ok a) s t c e = subst (λ u. Reached accesses s u) (sym e) by.none
-  clean_explained (Err r) s t c e = clean_refusal r s t c
+  clean_explained (Ok a) s t c e = subst (λ u. Answered accesses s u) (sym e) by.none
+  clean_explained (Err r) s t c e = clean_refusal r s t c e
 
   module _ {H : Type 0} (space : H → S) where
     branch_explained : {A : Type 0} (b : Bool) (s : S) (x y : Outcome A × H) → Explained accesses x.0 s (space x.1) → Explained accesses y.0 s (space y.1) → Explained accesses (if b then x else y).0 s (space (if b then x else y).1)
@@ -152,17 +157,17 @@ module _ {S : Type 0} {accesses : Accesses S} where
 
   pub charge_explains : RunExplains accesses charge
   unfolding charge
-  charge_explains = record { explained = λ s. branch_explained accesses (λ x. x.0.space) (s.1 == 0) s.0.space (Err (refusals.Evaluation OutOfSteps), s) (Ok tt, (s.0, s.1 - 1)) tt by.none }
+  charge_explains = record { explained = λ s. branch_explained accesses (λ x. x.0.space) (s.1 == 0) s.0.space (Err (refusals.Evaluation OutOfSteps), s) (Ok tt, (s.0, s.1 - 1)) by.none by.none }
 
 -- ---- fields of regions
 
 module _ {S : Type 0} (accesses : Accesses S) where
   read_explained : (s t : S) (p : Place) (width : Width) (x : Result ℕ SpaceFault) → accesses.reads s p width ≡ (x, t) → Explained accesses (faulted x) s t
-  read_explained s t p width (Ok n) e = subst (λ a. Reached accesses s a.1) e (by.read s p width by.none)
+  read_explained s t p width (Ok n) e = subst (λ a. Answered accesses s a.1) e (by.read s p width n by.none (ap (λ a. a.0) e))
   read_explained s t p width (Err f) e = record { last = s; reached = by.none; faults = space_faults.read p width e }
 
   write_explained : (s t : S) (p : Place) (width : Width) (value : ℕ) (x : Result (Unit {0}) SpaceFault) → accesses.writes s p width value ≡ (x, t) → Explained accesses (faulted x) s t
-  write_explained s t p width value (Ok n) e = subst (λ a. Reached accesses s a.1) e (by.written s p width value by.none)
+  write_explained s t p width value (Ok n) e = subst (λ a. Answered accesses s a.1) e (by.written s p width value by.none (ap (λ a. a.0) e))
   write_explained s t p width value (Err f) e = record { last = s; reached = by.none; faults = space_faults.written p width value e }
 
   read_access_explains : (p : Place) (width : Width) → SpaceExplains accesses (read_access accesses p width)

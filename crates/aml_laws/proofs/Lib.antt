@@ -1,12 +1,15 @@
 -- The lemmas. One about a definition is named by the definition and by what is proved of it: `x_preserves` (x leads each world to one
 -- that every world relation relates to it), `x_maintains` (where what is known of a state holds, it holds after x, and what x gives
 -- fits), `x_counts` (x over a space with a counter does what it does without), `x_clean` (x answers with no fault of the register
--- space), `x_explains` (a fault of the register space that x is refused by is what its last access answered), `x_respects`,
--- `x_keeps_kinds`, `x_fits`, `x_stands`;
+-- space), `x_explains` (a fault of the register space that x is refused by is what its last access answered, and no other access is
+-- answered with one), `x_together` (x goes the same way over two register spaces until they part), `x_unnoted` (noting the accesses of x
+-- changes nothing), `x_respects`, `x_keeps_kinds`, `x_fits`, `x_stands`;
 -- a lemma that goes through the cases for another ends with `_by_cases`.
+pub mod AnswersTogether
 pub mod ArgumentsAndAnswersPreserve
 pub mod ChangesNothing
 pub mod ChangesPreserve
+pub mod ChangesTogether
 pub mod CleanChanges
 pub mod CleanNames
 pub mod CleanObjects
@@ -27,6 +30,7 @@ pub mod DeclarationNumbers
 pub mod DeclaredNamesStand
 pub mod EndOfCalls
 pub mod EvaluationsPreserve
+pub mod EvaluationsTogether
 pub mod FaultsOfCalls
 pub mod FaultsOfChanges
 pub mod FaultsOfEvaluations
@@ -36,6 +40,7 @@ pub mod FaultsOfRules
 pub mod FaultsOfStoreTargets
 pub mod FaultsOfTerms
 pub mod FieldsPreserve
+pub mod FieldsTogether
 pub mod FoundNamesStand
 pub mod FrameNumbers
 pub mod IntegersOfAnswers
@@ -51,13 +56,17 @@ pub mod IntegersOfTables
 pub mod IntegersOfTargets
 pub mod IntegersOfWorlds
 pub mod Invariants
+pub mod MeaningTogether
 pub mod MutexesFree
 pub mod NamesStay
+pub mod NotesOfFaults
+pub mod Noting
 pub mod NumbersKept
 pub mod NumbersRise
 pub mod ObjectKinds
 pub mod ObjectKindsStay
 pub mod OperandsAndCallsPreserve
+pub mod OperandsTogether
 pub mod OutsideOfMethods
 pub mod Preorders
 pub mod ReadTermsHoldBytes
@@ -69,7 +78,13 @@ pub mod RefusedDeclarations
 pub mod RegisterAccesses
 pub mod RuleByParts
 pub mod RulesPreserve
+pub mod RulesTogether
 pub mod SpaceFaultsExplained
+pub mod SpaceFaultsNoted
 pub mod SpaceReached
 pub mod StoreTargetsPreserve
+pub mod StoreTargetsTogether
+pub mod Together
+pub mod UnitsTogether
 pub mod WorldRelations
+pub mod WorldsTogether

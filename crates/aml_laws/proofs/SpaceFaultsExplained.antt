@@ -8,6 +8,9 @@ use Rattle.ar_space.specs.Outcome.{Outcome}
 use Rattle.aml_path.specs.declared.segment.Seg.{Seg}
 use Rattle.aml_grammar.specs.Tree.{Trees}
 use Rattle.aml_objects.specs.declared.value.Value.{Value}
+use Rattle.aml_objects.specs.declared.entry.FieldUnit.{FieldUnit}
+use Rattle.aml_fields.specs.declared.region.Region.{Region}
+use Rattle.aml_fields.specs.Regions.{read_field, write_field}
 use Rattle.aml_meaning.specs.Given.{Given}
 use Rattle.aml_meaning.specs.State.{State}
 use Rattle.aml_meaning.specs.Tasks.{Task, in_turn}
@@ -15,7 +18,7 @@ use Rattle.aml_meaning.specs.Invocations.{invoked}
 use Rattle.aml_meaning.specs.Meaning.{meaning}
 use Rattle.aml_meaning.specs.Calling.{loaded, evaluated, answered}
 use Rattle.aml_laws.specs.SpaceFaults.{Faults, read, written, LastFaults, NeverFaults}
-use Rattle.aml_laws.proofs.FaultsOfChanges.{Explained}
+use Rattle.aml_laws.proofs.FaultsOfChanges.{Explained, read_field_explains, write_field_explains}
 use Rattle.aml_laws.proofs.FaultsOfCalls.{in_turn_explains, invoked_explains}
 use Rattle.aml_laws.proofs.FaultsOfTerms.{meaning_explains}
 use Rattle.aml_laws.proofs.FaultsOfEvaluations.{loaded_explains, evaluated_explains, answered_explains}
@@ -41,6 +44,12 @@ module _ {S : Type 0} (accesses : Accesses S) where
 
   pub fault_of_answer : (fault : SpaceFault) (p : List Seg) (arguments : List Given) (steps : ℕ) (w : State S) → (answered accesses p arguments steps w).0 ≡ Err (Space fault) → LastFaults accesses fault w.space (answered accesses p arguments steps w).1.space
   fault_of_answer fault p arguments steps w e = fault_explained (answered accesses p arguments steps w).0 w.space _ fault ((answered_explains accesses p arguments steps).explained w) e
+
+  pub fault_of_field_read : (fault : SpaceFault) (r : Region) (f : FieldUnit) (s : S) → (read_field accesses r f s).0 ≡ Err (Space fault) → LastFaults accesses fault s (read_field accesses r f s).1
+  fault_of_field_read fault r f s e = fault_explained (read_field accesses r f s).0 s _ fault ((read_field_explains accesses r f).explained s) e
+
+  pub fault_of_field_written : (fault : SpaceFault) (r : Region) (f : FieldUnit) (source : List ℕ) (s : S) → (write_field accesses r f source s).0 ≡ Err (Space fault) → LastFaults accesses fault s (write_field accesses r f source s).1
+  fault_of_field_written fault r f source s e = fault_explained (write_field accesses r f source s).0 s _ fault ((write_field_explains accesses r f source).explained s) e
 
   -- ---- a space that never answers with the fault
 

@@ -1,4 +1,5 @@
 pub mod AllWithin
+pub mod Answered
 pub mod Becomes
 pub mod Calls
 pub mod Counted
@@ -7,6 +8,7 @@ pub mod Declares
 pub mod Handed
 pub mod Kinds
 pub mod Mutexes
+pub mod Noted
 pub mod Numbers
 pub mod Outside
 pub mod Parts

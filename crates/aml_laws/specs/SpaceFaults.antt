@@ -4,17 +4,17 @@ use Rattle.ar_space.specs.declared.refusal.SpaceFault.{SpaceFault}
 use Rattle.ar_space.specs.declared.space.Width.{Width}
 use Rattle.ar_space.specs.declared.space.Place.{Place}
 use Rattle.ar_space.specs.Accesses.{Accesses}
-use Rattle.aml_laws.specs.Reached.{Reached}
+use Rattle.aml_laws.specs.Answered.{Answered}
 
 -- an access of a space answers with a fault, and leaves a space
 pub data Faults {S : Type 0} (accesses : Accesses S) (fault : SpaceFault) (before after : S) : Type 0 where
   read : (place : Place) (width : Width) → accesses.reads before place width ≡ (Err fault, after) → Faults accesses fault before after
   written : (place : Place) (width : Width) (value : ℕ) → accesses.writes before place width value ≡ (Err fault, after) → Faults accesses fault before after
 
--- accesses reach a space at which one more answers with the fault; no access comes after it
+-- accesses that are all answered with values reach a space at which one more answers with the fault; no access comes after it
 pub record LastFaults {S : Type 0} (accesses : Accesses S) (fault : SpaceFault) (before after : S) : Type 0 where
   pub last : S
-  pub reached : Reached accesses before last
+  pub reached : Answered accesses before last
   pub faults : Faults accesses fault last after
 
 -- no access answers with the fault, whatever the space is

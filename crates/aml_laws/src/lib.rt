@@ -7,6 +7,7 @@ mod frames;
 mod integers;
 mod mutexes;
 mod names;
+mod notes;
 mod numbers;
 mod objects;
 mod reading;
@@ -20,6 +21,7 @@ pub use frames::{frame_numbers_are_given_once, frames_are_balanced};
 pub use integers::{integers_stay_below_two_to_the_width, operators_form_integers_of_the_width};
 pub use mutexes::no_mutex_stays_acquired;
 pub use names::{declared_names_stand, names_stay, outside_of_control_methods};
+pub use notes::{noting_changes_nothing, space_faults_are_answers_of_the_last_access};
 pub use numbers::{numbers_are_given_once, numbers_never_fall, what_is_gone_stays_gone};
 pub use objects::objects_keep_number_and_kind;
 pub use reading::terms_of_bytes_hold_bytes;
@@ -28,7 +30,7 @@ pub use references::{
     a_reference_to_a_slot_reads_that_slot,
 };
 pub use space::{
-    faults_that_no_access_answers_are_never_refused, space_faults_are_answers_of_the_last_access,
+    faults_that_no_access_answers_are_never_refused, space_faults_are_reached_by_accesses,
     space_is_reached_by_accesses,
 };
 pub use steps::{

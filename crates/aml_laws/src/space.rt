@@ -6,6 +6,9 @@ ghost use Rattle.ar_space.specs.Accesses.{Accesses};
 ghost use Rattle.aml_path.specs.declared.segment.Seg.{Seg};
 ghost use Rattle.aml_grammar.specs.Tree.{Trees};
 ghost use Rattle.aml_objects.specs.declared.value.Value.{Value};
+ghost use Rattle.aml_objects.specs.declared.entry.FieldUnit.{FieldUnit};
+ghost use Rattle.aml_fields.specs.declared.region.Region.{Region};
+ghost use Rattle.aml_fields.specs.Regions.{read_field, write_field};
 ghost use Rattle.aml_meaning.specs.State.{State};
 ghost use Rattle.aml_meaning.specs.Given.{Given};
 ghost use Rattle.aml_meaning.specs.Tasks.{Task, in_turn};
@@ -24,11 +27,12 @@ pub fn space_is_reached_by_accesses<S>()
     ensures kept { (accesses : Accesses S) (test : S → Bool) (w v : State S) → KeptByAccesses accesses test → Becomes accesses w v → test w.space ≡ true → test v.space ≡ true }
 {}
 
-/// A fault of the register space is refused only where an access answered with it. Where a term, a list of terms, a call of a
-/// control method, a table, an object with arguments or an answer is refused by such a fault, its last access answered with that
-/// fault: accesses reached a space at which one more did so, and the evaluation leaves the space as that access left it.
-#[tactic(auto, using(crate::proofs::SpaceFaultsExplained::fault_of_term, crate::proofs::SpaceFaultsExplained::fault_of_list, crate::proofs::SpaceFaultsExplained::fault_of_call, crate::proofs::SpaceFaultsExplained::fault_of_table, crate::proofs::SpaceFaultsExplained::fault_of_value, crate::proofs::SpaceFaultsExplained::fault_of_answer))]
-pub fn space_faults_are_answers_of_the_last_access<S>()
+/// Where a term, a list of terms, a call of a control method, a table, an object with arguments, an answer or an access of a field is
+/// refused by a fault of the register space, accesses that are all answered with values lead from the space before it to a space at which
+/// one more is answered with that fault, and the space is left as that access leaves it. Of the accesses that were made themselves
+/// `space_faults_are_answers_of_the_last_access` says so.
+#[tactic(auto, using(crate::proofs::SpaceFaultsExplained::fault_of_term, crate::proofs::SpaceFaultsExplained::fault_of_list, crate::proofs::SpaceFaultsExplained::fault_of_call, crate::proofs::SpaceFaultsExplained::fault_of_table, crate::proofs::SpaceFaultsExplained::fault_of_value, crate::proofs::SpaceFaultsExplained::fault_of_answer, crate::proofs::SpaceFaultsExplained::fault_of_field_read, crate::proofs::SpaceFaultsExplained::fault_of_field_written))]
+pub fn space_faults_are_reached_by_accesses<S>()
     ensures term { (accesses : Accesses S) (fault : SpaceFault) (t : Task) (s : State S × ℕ) →
         (meaning accesses t s).0 ≡ Err (Space fault) → LastFaults accesses fault s.0.space (meaning accesses t s).1.0.space }
     ensures list { (accesses : Accesses S) (fault : SpaceFault) (scope : List Seg) (depth : ℕ) (ts : Trees) (s : State S × ℕ) →
@@ -41,6 +45,10 @@ pub fn space_faults_are_answers_of_the_last_access<S>()
         (evaluated accesses p arguments steps w).0 ≡ Err (Space fault) → LastFaults accesses fault w.space (evaluated accesses p arguments steps w).1.space }
     ensures answer { (accesses : Accesses S) (fault : SpaceFault) (p : List Seg) (arguments : List Given) (steps : ℕ) (w : State S) →
         (answered accesses p arguments steps w).0 ≡ Err (Space fault) → LastFaults accesses fault w.space (answered accesses p arguments steps w).1.space }
+    ensures field_read { (accesses : Accesses S) (fault : SpaceFault) (r : Region) (f : FieldUnit) (s : S) →
+        (read_field accesses r f s).0 ≡ Err (Space fault) → LastFaults accesses fault s (read_field accesses r f s).1 }
+    ensures field_written { (accesses : Accesses S) (fault : SpaceFault) (r : Region) (f : FieldUnit) (source : List ℕ) (s : S) →
+        (write_field accesses r f source s).0 ≡ Err (Space fault) → LastFaults accesses fault s (write_field accesses r f source s).1 }
 {}
 
 /// Where no access ever answers with a fault, no table, object or answer is refused by it.

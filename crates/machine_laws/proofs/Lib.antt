@@ -1,7 +1,16 @@
--- The lemmas. `x_clean` and `x_explains` say of x what they say in `aml_laws`: x answers with no fault of the register space, and a
--- fault of the register space that x is refused by is what its last access answered.
+-- The lemmas. `x_clean`, `x_explains` and `x_together` say of x what they say in `aml_laws`: x answers with no fault of the register
+-- space; a fault of the register space that x is refused by is what its last access answered; x goes the same way over two spaces that
+-- answer alike. `x_unnoted`: noting the accesses of x changes nothing.
 pub mod CleanLinks
 pub mod FaultsOfCalls
 pub mod FaultsOfLinks
 pub mod FaultsOfLoading
+pub mod LinksTogether
 pub mod MachineFaults
+pub mod MachineNotes
+pub mod MachineNoting
+pub mod MachinesTogether
+pub mod NumbersTold
+pub mod ReportsCarried
+pub mod ReportsTold
+pub mod SettingsTogether

@@ -14,7 +14,7 @@ use Rattle.recorded_space.specs.Recordings.{Recording, recorded, said_by, answer
 use Rattle.recorded_space.specs.Deciding.{Gives}
 use Rattle.recorded_space.proofs.Entries.{got_behind, found_read, found_write}
 use Rattle.recorded_laws.specs.Listed.{listed}
-use Rattle.recorded_laws.proofs.Together.{SideBySide}
+use Rattle.aml_laws.proofs.Together.{SideBySide}
 
 abbrev pub standing : List Exchange → ℕ → Recording
 standing entries used = record { entries = entries; used = used; missing = None }

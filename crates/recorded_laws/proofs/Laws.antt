@@ -20,7 +20,8 @@ use Rattle.recorded_route.specs.declared.settings.Settings.{Settings}
 use Rattle.recorded_route.specs.Runs.{Description, described, IsConfigured, IsConfiguredIf, IsMachineRun, IsLoadedRun, IsDescribedRun, IsRun, world_over as first_world}
 use Rattle.recorded_laws.specs.Listed.{listed}
 use Rattle.recorded_laws.proofs.Following.{following, following_listed}
-use Rattle.recorded_laws.proofs.Running.{Carried, run_carried}
+use Rattle.machine_laws.proofs.ReportsCarried.{Carried}
+use Rattle.recorded_laws.proofs.Running.{run_carried}
 use Rattle.recorded_laws.proofs.Meeting.{Meet, runs_meet}
 
 -- ---- a whole record

@@ -1,17 +1,3 @@
-mod Together
-mod Worlds
-mod Units
-mod ChangesTogether
-mod StoreTargetsTogether
-mod FieldsTogether
-mod OperandsTogether
-mod RulesTogether
-mod MeaningTogether
-mod AnswersTogether
-mod EvaluationsTogether
-mod Machines
-mod Links
-mod Settings
 mod Parting
 mod Running
 mod Following

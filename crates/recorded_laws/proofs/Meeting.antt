@@ -18,11 +18,11 @@ use Rattle.route_solve.specs.Problems.{RoutingProblem, RoutingAnswer}
 use Rattle.route_report.specs.Reports.{RoutingReport}
 use Rattle.recorded_route.specs.declared.settings.Settings.{Settings}
 use Rattle.recorded_route.specs.Runs.{Description, described, IsConfigured, IsConfiguredIf, IsStarted, IsMachineRun, IsLoadedRun, IsRunOver, IsDescribedRun, IsRun, world_over as first_world}
-use Rattle.recorded_laws.proofs.Together.{SideBySide, Goes}
-use Rattle.recorded_laws.proofs.Worlds.{world_over, worlds}
-use Rattle.recorded_laws.proofs.Machines.{machine_over, machines, loaded_tables_together, initialized_together}
-use Rattle.recorded_laws.proofs.Links.{gathered_together}
-use Rattle.recorded_laws.proofs.Settings.{settled_unless_together}
+use Rattle.aml_laws.proofs.Together.{SideBySide, Goes}
+use Rattle.aml_laws.proofs.WorldsTogether.{world_over, worlds}
+use Rattle.machine_laws.proofs.MachinesTogether.{machine_over, machines, loaded_tables_together, initialized_together}
+use Rattle.machine_laws.proofs.LinksTogether.{gathered_together}
+use Rattle.machine_laws.proofs.SettingsTogether.{settled_unless_together}
 use Rattle.recorded_laws.proofs.Parting.{settled_left, settled_right, configured_if_left, configured_if_right, loaded_run_left, loaded_run_right}
 
 abbrev pub Meet : {S T : Type 0} {accesses : Accesses S} {accesses2 : Accesses T} → SideBySide accesses accesses2 → S → T → Type 0

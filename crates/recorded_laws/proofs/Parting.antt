@@ -14,10 +14,10 @@ use Rattle.route_report.specs.declared.report.SetLine.{SetLine}
 use Rattle.route_report.specs.Reports.{RoutingReport, ReportedAfter}
 use Rattle.recorded_route.specs.declared.settings.Settings.{Settings}
 use Rattle.recorded_route.specs.Runs.{IsConfigured, IsConfiguredIf, IsMachineRun, IsLoadedRun}
-use Rattle.recorded_laws.proofs.Together.{SideBySide}
-use Rattle.recorded_laws.proofs.Machines.{initialized_together}
-use Rattle.recorded_laws.proofs.Links.{gathered_together}
-use Rattle.recorded_laws.proofs.Settings.{settled_unless_together}
+use Rattle.aml_laws.proofs.Together.{SideBySide}
+use Rattle.machine_laws.proofs.MachinesTogether.{initialized_together}
+use Rattle.machine_laws.proofs.LinksTogether.{gathered_together}
+use Rattle.machine_laws.proofs.SettingsTogether.{settled_unless_together}
 
 abbrev pub Settled : Type 0
 Settled = Outcome (List SetLine × List ReportedAfter)

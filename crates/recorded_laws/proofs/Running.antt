@@ -11,60 +11,18 @@ use Rattle.acpi_machine.specs.Calls.{initialized}
 use Rattle.acpi_machine.specs.MachineStates.{MachineState, machine_of}
 use Rattle.acpi_links.specs.Gathering.{Gathering}
 use Rattle.acpi_links.specs.Gatherings.{gathered}
-use Rattle.acpi_configure.specs.Configured.{IsReport}
-use Rattle.acpi_configure.specs.Settling.{settled_unless}
-use Rattle.route_report.specs.declared.report.SetLine.{SetLine}
-use Rattle.route_report.specs.Reports.{RoutingReport, ReportedAfter}
+use Rattle.route_report.specs.Reports.{RoutingReport}
 use Rattle.recorded_route.specs.declared.settings.Settings.{Settings}
 use Rattle.recorded_route.specs.Runs.{Description, described, IsConfigured, IsConfiguredIf, IsStarted, IsMachineRun, IsLoadedRun, IsRunOver, IsDescribedRun, IsRun, world_over as first_world}
-use Rattle.recorded_laws.proofs.Together.{SideBySide, Goes}
-use Rattle.recorded_laws.proofs.Worlds.{world_over, worlds}
-use Rattle.recorded_laws.proofs.Machines.{machine_over, machines, loaded_tables_together, initialized_together}
-use Rattle.recorded_laws.proofs.Links.{gathered_together}
-use Rattle.recorded_laws.proofs.Settings.{settled_unless_together}
-use Rattle.recorded_laws.proofs.Parting.{settled_left, configured_if_left, loaded_run_left}
-
--- the spaces have parted, or the same is so over the other space, and they are in step
-abbrev pub Carried : {S T : Type 0} {accesses : Accesses S} {accesses2 : Accesses T} → SideBySide accesses accesses2 → S → (T → Type 0) → Type 0
-Carried {T = T} side s is = ((t : T) × side.Parted s t) ⊎ ((t : T) × is t × side.InStep s t)
+use Rattle.aml_laws.proofs.Together.{SideBySide, Goes}
+use Rattle.aml_laws.proofs.WorldsTogether.{world_over, worlds}
+use Rattle.machine_laws.proofs.MachinesTogether.{machine_over, machines, loaded_tables_together, initialized_together}
+use Rattle.machine_laws.proofs.LinksTogether.{gathered_together}
+use Rattle.machine_laws.proofs.ReportsCarried.{Carried, report_carried}
+use Rattle.recorded_laws.proofs.Parting.{configured_if_left, loaded_run_left}
 
 module _ {S T : Type 0} {accesses : Accesses S} {accesses2 : Accesses T} (side : SideBySide accesses accesses2) (settings : Settings) (avoid : List ℕ) where
   -- ---- a run is the same over a space that is in step with that of another
-
-  settled_carried : (m after : MachineState S) (report : RoutingReport) (t u : T) (is : IsReport accesses settings.dry avoid m after report) → gathered accesses2 avoid (machine_over m t) ≡ (Ok is.found, machine_over is.chosen_in u)
-      → Goes side machines (Ok is.settings, after) (settled_unless accesses2 settings.dry is.found.links is.answer.choice (machine_over is.chosen_in u))
-      → Carried side after.world.space (λ v. IsReport accesses2 settings.dry avoid (machine_over m t) (machine_over after v) report)
-  settled_carried m after report t u is found (inl parted) = inl (_, parted)
-  settled_carried m after report t u is found (inr (v, same, i)) = inr (
-    v,
-    record {
-      found = is.found;
-      chosen_in = machine_over is.chosen_in u;
-      is_found = found;
-      answer = is.answer;
-      solves = is.solves;
-      settings = is.settings;
-      is_settled = same;
-      lines = is.lines;
-      readable = is.readable;
-      claims = is.claims;
-      valid = is.valid;
-      paths = is.paths;
-      offers = is.offers;
-      counts = is.counts;
-    },
-    i,
-  )
-
-  report_carried : (m after : MachineState S) (report : RoutingReport) (t : T) (is : IsReport accesses settings.dry avoid m after report) → Goes side machines (Ok is.found, is.chosen_in) (gathered accesses2 avoid (machine_over m t))
-      → Carried side after.world.space (λ v. IsReport accesses2 settings.dry avoid (machine_over m t) (machine_over after v) report)
-  report_carried m after report t is (inl parted) =
-      let u = (gathered accesses2 avoid (machine_over m t)).1.world.space in
-      inl (u, settled_left side settings avoid is.found.links is.answer.choice is.chosen_in after (Ok is.settings) u is.is_settled parted)
-  report_carried m after report t is (inr (u, same, i)) =
-      settled_carried m after report t u is same
-      (subst (λ (x : Outcome (List SetLine × List ReportedAfter) × MachineState S). Goes side machines x (settled_unless accesses2 settings.dry is.found.links is.answer.choice (machine_over is.chosen_in u))) is.is_settled
-      ((settled_unless_together {side = side} settings.dry is.found.links is.answer.choice).goes is.chosen_in u i))
 
   refusal_carried : (m after : MachineState S) (e : Refusal) (t : T) → Goes side machines (Err e, after) (gathered accesses2 avoid (machine_over m t)) → Carried side after.world.space (λ v. gathered accesses2 avoid (machine_over m t) ≡ (Err e, machine_over after v))
   refusal_carried m after e t (inl parted) = inl (_, parted)
@@ -73,7 +31,7 @@ module _ {S T : Type 0} {accesses : Accesses S} {accesses2 : Accesses T} (side :
   configured_carried : (m after : MachineState S) (outcome : Outcome RoutingReport) (t : T) → IsConfigured accesses settings avoid m outcome after → side.InStep m.world.space t
       → Carried side after.world.space (λ v. IsConfigured accesses2 settings avoid (machine_over m t) outcome (machine_over after v))
   configured_carried m after (Ok report) t is i =
-      report_carried m after report t is (subst (λ (x : Outcome Gathering × MachineState S). Goes side machines x (gathered accesses2 avoid (machine_over m t))) is.is_found ((gathered_together {side = side} avoid).goes m t i))
+      report_carried side settings.dry avoid m after report t is (subst (λ (x : Outcome Gathering × MachineState S). Goes side machines x (gathered accesses2 avoid (machine_over m t))) is.is_found ((gathered_together {side = side} avoid).goes m t i))
   configured_carried m after (Err e) t is i =
       refusal_carried m after e t (subst (λ (x : Outcome Gathering × MachineState S). Goes side machines x (gathered accesses2 avoid (machine_over m t))) is ((gathered_together {side = side} avoid).goes m t i))
 

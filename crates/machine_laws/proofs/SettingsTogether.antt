@@ -7,9 +7,9 @@ use Rattle.acpi_machine.specs.MachineStates.{MachineState}
 use Rattle.acpi_links.specs.Links.{PresentLink}
 use Rattle.acpi_configure.specs.Settling.{attempted, link_set, links_set, link_read, settled, settled_unless}
 use Rattle.route_report.specs.declared.report.SetLine.{SetLine}
-use Rattle.recorded_laws.proofs.Together.{SideBySide, Together, give_together, then_together, wrapped_together}
-use Rattle.recorded_laws.proofs.Machines.{machines}
-use Rattle.recorded_laws.proofs.Links.{folded_together, current_resources_together, resources_set_together}
+use Rattle.aml_laws.proofs.Together.{SideBySide, Together, give_together, then_together, wrapped_together}
+use Rattle.machine_laws.proofs.MachinesTogether.{machines}
+use Rattle.machine_laws.proofs.LinksTogether.{folded_together, current_resources_together, resources_set_together}
 
 module _ {S T : Type 0} {accesses : Accesses S} {accesses2 : Accesses T} {side : SideBySide accesses accesses2} where
   attempted_together : {A B : Type 0} (tell : Outcome A → B) {m : Change (MachineState S) A} {n : Change (MachineState T) A} → Together side machines m n → Together side machines (attempted tell m) (attempted tell n)

@@ -15,7 +15,7 @@ use Rattle.aml_meaning.specs.Invocations.{leaving, left, returned_by}
 use Rattle.aml_meaning.specs.Calling.{released, ending, with_steps, framed, in_frame, with_rest, counted}
 use Rattle.ar_space.specs.Outcome.{seen}
 use Rattle.std.proofs.Common.{inl, inr, ap}
-use Rattle.recorded_laws.proofs.Together.{SideBySide, Shape, Together, Goes, spaces, plain, then_together, choice_together, wrapped_together}
+use Rattle.aml_laws.proofs.Together.{SideBySide, Shape, Together, Goes, spaces, plain, then_together, choice_together, wrapped_together}
 
 -- a world over another space
 abbrev pub world_over : {S T : Type 0} → State S → T → State T

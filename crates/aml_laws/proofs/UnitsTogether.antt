@@ -15,7 +15,7 @@ use Rattle.aml_fields.specs.declared.field_units.Unit.{Unit as Access}
 use Rattle.aml_fields.specs.Units.{units_of}
 use Rattle.aml_fields.specs.UnitByUnit.{read_units, bits_read, write_units, kept_by, kept}
 use Rattle.aml_fields.specs.Regions.{faulted, read_access, read_unit, read_field, write_access, write_unit, write_field}
-use Rattle.recorded_laws.proofs.Together.{SideBySide, Shape, spaces, Together, Goes, plain, give_together, settle_together, then_together, either_together}
+use Rattle.aml_laws.proofs.Together.{SideBySide, Shape, spaces, Together, Goes, plain, give_together, settle_together, then_together, either_together}
 
 module _ {S T X Y : Type 0} {accesses : Accesses S} {accesses2 : Accesses T} {side : SideBySide accesses accesses2} {shape : Shape S T X Y} where
   read_units_together : {read : Access → Change X ℕ} {read2 : Access → Change Y ℕ} → ((u : Access) → Together side shape (read u) (read2 u)) → (us : List Access) → Together side shape (read_units read us) (read_units read2 us)

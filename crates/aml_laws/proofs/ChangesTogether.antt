@@ -29,8 +29,8 @@ use Rattle.aml_meaning.specs.Osi.{osi_answered}
 use Rattle.aml_meaning.specs.Operations.{integers_operated, operated, divided_in, integer_operated, operated_on_one, integers_tested, operated_logically, integer_turned, turned, next_integer, integer_before, compared_in, joined_contents, joined, joined_items, joined_resources, to_integer_in, buffer_bytes, new_buffer_of, to_buffer_in, size_held, element_indexed, byte_indexed, indexed, size_in}
 use Rattle.aml_meaning.specs.OperatorTerms.{result_of_two, result_of_one, result_of_test, counted_by}
 use Rattle.aml_meaning.specs.Invocations.{body_terms, named_use, invocation_found}
-use Rattle.recorded_laws.proofs.Together.{SideBySide, Together, give_together, plain, settle_together, stop_together, then_together}
-use Rattle.recorded_laws.proofs.Worlds.{names_together, objects_together, worlds}
+use Rattle.aml_laws.proofs.Together.{SideBySide, Together, give_together, plain, settle_together, stop_together, then_together}
+use Rattle.aml_laws.proofs.WorldsTogether.{names_together, objects_together, worlds}
 
 module _ {S T : Type 0} {accesses : Accesses S} {accesses2 : Accesses T} {side : SideBySide accesses accesses2} where
   -- ---- what names find, and what values are

@@ -14,12 +14,12 @@ use Rattle.aml_meaning.specs.Given.{Given}
 use Rattle.aml_meaning.specs.State.{State}
 use Rattle.aml_meaning.specs.Predefined as predefined
 use Rattle.aml_meaning.specs.Calling.{terms_kept, table_terms, at_root, table_run, loaded, value_of, called, evaluated, answer_exported, answered}
-use Rattle.recorded_laws.proofs.Together.{SideBySide, Together, give_together, plain, settle_together, then_together}
-use Rattle.recorded_laws.proofs.Worlds.{counted_together, ending_together, in_frame_together, lift_together, names_together, objects_together, runs, with_steps_together, world_over, worlds}
-use Rattle.recorded_laws.proofs.ChangesTogether.{invocation_found_together, osi_answered_together}
-use Rattle.recorded_laws.proofs.OperandsTogether.{field_read_together, method_value_together}
-use Rattle.recorded_laws.proofs.MeaningTogether.{list_together, meaning_together}
-use Rattle.recorded_laws.proofs.AnswersTogether.{all_imported_together, exported_together}
+use Rattle.aml_laws.proofs.Together.{SideBySide, Together, give_together, plain, settle_together, then_together}
+use Rattle.aml_laws.proofs.WorldsTogether.{counted_together, ending_together, in_frame_together, lift_together, names_together, objects_together, runs, with_steps_together, world_over, worlds}
+use Rattle.aml_laws.proofs.ChangesTogether.{invocation_found_together, osi_answered_together}
+use Rattle.aml_laws.proofs.OperandsTogether.{field_read_together, method_value_together}
+use Rattle.aml_laws.proofs.MeaningTogether.{list_together, meaning_together}
+use Rattle.aml_laws.proofs.AnswersTogether.{all_imported_together, exported_together}
 
 terms_kept_space : {S : Type 0} (r : Outcome (List Tree × List Arity)) (w : State S) → (terms_kept r w).1.space ≡ w.space
 terms_kept_space (Ok (ts, after)) w = refl

@@ -28,11 +28,11 @@ use Rattle.aml_meaning.specs.PciFunctions.{nearest, pci_function}
 use Rattle.aml_meaning.specs.Regions.{region_declared, field_declared, integer_of_bits, integer_value, value_of_bits, integer_alone, referent_of_bits, given_of_bits}
 use Rattle.aml_meaning.specs.Fields.{part_in, inherited, pci_address, space_at, located, region_bits, region_written, index_unit, index_unit_written, index_bits, index_written, field_unit_bits, field_unit_written, bits_in, written_in, field_value, field_integer, field_part, field_referent, field_stored, field_given}
 use Rattle.aml_meaning.specs.FieldTerms.{new_field, named_field, reserved_field, access_field, element_laid, elements_laid, region_found, field_found}
-use Rattle.recorded_laws.proofs.Together.{SideBySide, Together, choice_together, give_together, plain, settle_together, stop_together, then_together}
-use Rattle.recorded_laws.proofs.Worlds.{lift_together, objects_together, runs, space_together, worlds}
-use Rattle.recorded_laws.proofs.Units.{bits_read_together, kept_together, read_field_together, write_field_together, write_units_together}
-use Rattle.recorded_laws.proofs.ChangesTogether.{entry_found_together, new_name_together}
-use Rattle.recorded_laws.proofs.StoreTargetsTogether.{bytes_in_together, declaration_together}
+use Rattle.aml_laws.proofs.Together.{SideBySide, Together, choice_together, give_together, plain, settle_together, stop_together, then_together}
+use Rattle.aml_laws.proofs.WorldsTogether.{lift_together, objects_together, runs, space_together, worlds}
+use Rattle.aml_laws.proofs.UnitsTogether.{bits_read_together, kept_together, read_field_together, write_field_together, write_units_together}
+use Rattle.aml_laws.proofs.ChangesTogether.{entry_found_together, new_name_together}
+use Rattle.aml_laws.proofs.StoreTargetsTogether.{bytes_in_together, declaration_together}
 
 module _ {S T : Type 0} {accesses : Accesses S} {accesses2 : Accesses T} {side : SideBySide accesses accesses2} where
   -- ---- changes of the world

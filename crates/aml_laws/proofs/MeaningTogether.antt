@@ -8,10 +8,10 @@ use Rattle.aml_meaning.specs.State.{State}
 use Rattle.aml_meaning.specs.Tasks.{Task, in_turn}
 use Rattle.aml_meaning.specs.Evaluation.{rule}
 use Rattle.aml_meaning.specs.Meaning.{meaning, evaluated_within}
-use Rattle.recorded_laws.proofs.Together.{Goes, SideBySide, Together, plain}
-use Rattle.recorded_laws.proofs.Worlds.{runs, world_over}
-use Rattle.recorded_laws.proofs.OperandsTogether.{in_turn_together}
-use Rattle.recorded_laws.proofs.RulesTogether.{rule_together}
+use Rattle.aml_laws.proofs.Together.{Goes, SideBySide, Together, plain}
+use Rattle.aml_laws.proofs.WorldsTogether.{runs, world_over}
+use Rattle.aml_laws.proofs.OperandsTogether.{in_turn_together}
+use Rattle.aml_laws.proofs.RulesTogether.{rule_together}
 
 -- one step more than the parts of a term have
 module _ {S T : Type 0} {accesses : Accesses S} {accesses2 : Accesses T} (side : SideBySide accesses accesses2) (n : ℕ) (task : Task) (h : Together side runs (rule accesses (evaluated_within accesses n) task) (rule accesses2 (evaluated_within accesses2 n) task)) where

@@ -18,12 +18,12 @@ use Rattle.aml_meaning.specs.State.{State}
 use Rattle.aml_meaning.specs.Run.{Run}
 use Rattle.aml_meaning.specs.Importing.{reference_to, imported_by, each_imported, elements_imported, package_imported, taken_back, imported, all_imported}
 use Rattle.aml_meaning.specs.Exporting.{text_exported, bytes_exported, path_of, reference_exported, value_exported, name_use, use_exported, name_exported, held_exported, element_exported, each_exported, elements_exported, package_exported, exported}
-use Rattle.recorded_laws.proofs.Together.{SideBySide, Together, give_together, plain, stop_together, then_together, wrapped_together}
-use Rattle.recorded_laws.proofs.Worlds.{charge_together, lift_together, objects_together, runs, world_over, worlds}
-use Rattle.recorded_laws.proofs.ChangesTogether.{entry_found_together, integer_kept_together}
-use Rattle.recorded_laws.proofs.FieldsTogether.{field_given_together}
-use Rattle.recorded_laws.proofs.OperandsTogether.{called_at_together}
-use Rattle.recorded_laws.proofs.MeaningTogether.{meaning_together}
+use Rattle.aml_laws.proofs.Together.{SideBySide, Together, give_together, plain, stop_together, then_together, wrapped_together}
+use Rattle.aml_laws.proofs.WorldsTogether.{charge_together, lift_together, objects_together, runs, world_over, worlds}
+use Rattle.aml_laws.proofs.ChangesTogether.{entry_found_together, integer_kept_together}
+use Rattle.aml_laws.proofs.FieldsTogether.{field_given_together}
+use Rattle.aml_laws.proofs.OperandsTogether.{called_at_together}
+use Rattle.aml_laws.proofs.MeaningTogether.{meaning_together}
 
 -- ---- arguments
 

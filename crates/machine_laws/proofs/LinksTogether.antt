@@ -18,8 +18,8 @@ use Rattle.acpi_links.specs.Resources.{offer_at, possible_at, possible_resources
 use Rattle.acpi_links.specs.Settings.{setting_handed, set_at, resources_set}
 use Rattle.acpi_links.specs.Links.{link_found, link_if, link_asked}
 use Rattle.acpi_links.specs.Gatherings.{sci_shown, pins_found, links_found, gathered}
-use Rattle.recorded_laws.proofs.Together.{SideBySide, Shape, Together, plain, give_together, settle_together, stop_together, then_together, choice_together}
-use Rattle.recorded_laws.proofs.Machines.{machines, evaluated_object_together}
+use Rattle.aml_laws.proofs.Together.{SideBySide, Shape, Together, plain, give_together, settle_together, stop_together, then_together, choice_together}
+use Rattle.machine_laws.proofs.MachinesTogether.{machines, evaluated_object_together}
 
 -- what changes for each of a list add
 pub folded_together : {S T X Y A B R : Type 0} {accesses : Accesses S} {accesses2 : Accesses T} {side : SideBySide accesses accesses2} {shape : Shape S T X Y} (add : R → B → R) {f : A → Change X B} {g : A → Change Y B}
@@ -83,7 +83,7 @@ module _ {S T : Type 0} {accesses : Accesses S} {accesses2 : Accesses T} {side :
   pins_from_together [] pins = give_together _
   pins_from_together (entry ∷ entries) pins = then_together (pin_of_together entry) (λ pin. pins_from_together entries _)
 
-  routing_table_together : (device : List Seg) → Together side machines (routing_table accesses device) (routing_table accesses2 device)
+  pub routing_table_together : (device : List Seg) → Together side machines (routing_table accesses device) (routing_table accesses2 device)
   unfolding routing_table
   routing_table_together device = then_together (settle_together _) (λ name. then_together (evaluated_object_together name _) (λ answer. then_together (settle_together _) (λ entries. pins_from_together entries _)))
 
@@ -115,7 +115,7 @@ module _ {S T : Type 0} {accesses : Accesses S} {accesses2 : Accesses T} {side :
   unfolding possible_at
   possible_at_together link p = choice_together (stands p) (stands p) (λ s t. refl) (offer_at_together p) (plain (λ s. refl) (λ s. refl) (λ s t. refl))
 
-  possible_resources_together : (link : List Seg) → Together side machines (possible_resources accesses link) (possible_resources accesses2 link)
+  pub possible_resources_together : (link : List Seg) → Together side machines (possible_resources accesses link) (possible_resources accesses2 link)
   unfolding possible_resources
   possible_resources_together link = then_together (settle_together _) (λ prs. possible_at_together link prs)
 

@@ -13,9 +13,9 @@ use Rattle.aml_meaning.specs.State.{State}
 use Rattle.acpi_machine.specs.MachineStates.{MachineState}
 use Rattle.acpi_machine.specs.Loading.{table_loaded, each_loaded, all_loaded, loaded_tables}
 use Rattle.acpi_machine.specs.Calls.{on_world, unless_spent, object_answered, evaluated_object, object_called, called_where_it_stands, initial_calls, started, initialized}
-use Rattle.recorded_laws.proofs.Together.{SideBySide, Shape, Together, Goes, plain, give_together, settle_together, stop_together, then_together, choice_together}
-use Rattle.recorded_laws.proofs.Worlds.{world_over, worlds}
-use Rattle.recorded_laws.proofs.EvaluationsTogether.{loaded_together, answered_together, predefined_together}
+use Rattle.aml_laws.proofs.Together.{SideBySide, Shape, Together, Goes, plain, give_together, settle_together, stop_together, then_together, choice_together}
+use Rattle.aml_laws.proofs.WorldsTogether.{world_over, worlds}
+use Rattle.aml_laws.proofs.EvaluationsTogether.{loaded_together, answered_together, predefined_together}
 
 -- a machine over another space
 abbrev pub machine_over : {S T : Type 0} → MachineState S → T → MachineState T
