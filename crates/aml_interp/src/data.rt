@@ -29,7 +29,7 @@ pub(crate) fn eval_data<S: Space>(
     kind: DataKind,
 ) -> Result<Flow, Refusal>
     ensures spent { run.new.1 ≤ run.old.1 }
-    ensures means { Does result run.new (data_rule (meaning S.accesses) kind job.now.scope.path.now job.now.depth (at_tree job.now.term)) run.old }
+    ensures means { Does result run.new (data_rule (meaning S.accesses) kind job.now.place.now.scope.path.now job.now.place.now.depth (at_tree job.now.term.now)) run.old }
 {
     match kind {
         DataKind::Constant(number) => eval_constant(run, number),
@@ -52,8 +52,8 @@ fn eval_constant<S: Space>(run: &Running<S>, number: u64) -> Result<Flow, Refusa
 
 /// An integer that follows its opcode.
 #[tactic(auto, using(crate::proofs::Steps::evaluating), unfolding(aml_meaning::specs::DataTerms::integer_rule))]
-fn eval_integer<S: Space>(run: &Running<S>, term: Reader<'_>) -> Result<Flow, Refusal>
-    ensures { Does result run.now (integer_rule (meaning S.accesses) (at_tree term.entry)) run.now }
+fn eval_integer<S: Space>(run: &Running<S>, term: &Reader<'_>) -> Result<Flow, Refusal>
+    ensures { Does result run.now (integer_rule (meaning S.accesses) (at_tree term.now)) run.now }
 {
     let number = number(term, 0)?;
     eval_constant(run, number)
@@ -63,10 +63,10 @@ fn eval_integer<S: Space>(run: &Running<S>, term: Reader<'_>) -> Result<Flow, Re
 fn eval_string<S: Space>(
     alloc: Global,
     run: &mut Running<S>,
-    term: Reader<'_>,
+    term: &Reader<'_>,
 ) -> Result<Flow, Refusal>
     ensures spent { run.new.1 ≤ run.old.1 }
-    ensures means { Does result run.new (string_rule (meaning S.accesses) (at_tree term.entry)) run.old }
+    ensures means { Does result run.new (string_rule (meaning S.accesses) (at_tree term.now)) run.old }
 {
     let text = bytes(alloc, term, 0)?;
     let value = run.world.make_string(text)?;
@@ -81,10 +81,10 @@ fn eval_buffer<S: Space>(
     job: &Task<'_>,
 ) -> Result<Flow, Refusal>
     ensures spent { run.new.1 ≤ run.old.1 }
-    ensures means { Does result run.new (buffer_rule (meaning S.accesses) job.now.scope.path.now job.now.depth (at_tree job.now.term)) run.old }
+    ensures means { Does result run.new (buffer_rule (meaning S.accesses) job.now.place.now.scope.path.now job.now.place.now.depth (at_tree job.now.term.now)) run.old }
 {
     let size = inner(job.term, 0)?;
-    let length = eval_operand_integer(alloc, run, &Task { term: size, ..*job })?;
+    let length = eval_operand_integer(alloc, run, &Task { term: &size, ..*job })?;
     let bytes = bytes(alloc, job.term, 1)?;
     let value = run.world.new_buffer(length, bytes)?;
     Ok(Flow::Value(value))
@@ -98,7 +98,7 @@ fn eval_package<S: Space>(
     job: &Task<'_>,
 ) -> Result<Flow, Refusal>
     ensures spent { run.new.1 ≤ run.old.1 }
-    ensures means { Does result run.new (package_rule (meaning S.accesses) job.now.scope.path.now job.now.depth (at_tree job.now.term)) run.old }
+    ensures means { Does result run.new (package_rule (meaning S.accesses) job.now.place.now.scope.path.now job.now.place.now.depth (at_tree job.now.term.now)) run.old }
 {
     let count = number(job.term, 0)?;
     let elements = list(job.term, 1)?;
@@ -106,7 +106,7 @@ fn eval_package<S: Space>(
         alloc,
         run,
         &Task {
-            term: elements,
+            term: &elements,
             ..*job
         },
         count as usize,
@@ -121,17 +121,17 @@ fn eval_var_package<S: Space>(
     job: &Task<'_>,
 ) -> Result<Flow, Refusal>
     ensures spent { run.new.1 ≤ run.old.1 }
-    ensures means { Does result run.new (var_package_rule (meaning S.accesses) job.now.scope.path.now job.now.depth (at_tree job.now.term)) run.old }
+    ensures means { Does result run.new (var_package_rule (meaning S.accesses) job.now.place.now.scope.path.now job.now.place.now.depth (at_tree job.now.term.now)) run.old }
 {
     let size = inner(job.term, 0)?;
-    let count = eval_operand_integer(alloc, run, &Task { term: size, ..*job })?;
+    let count = eval_operand_integer(alloc, run, &Task { term: &size, ..*job })?;
     run.world.few_elements(count)?;
     let elements = list(job.term, 1)?;
     package_of(
         alloc,
         run,
         &Task {
-            term: elements,
+            term: &elements,
             ..*job
         },
         count as usize,
@@ -148,7 +148,7 @@ fn package_of<S: Space>(
     count: usize,
 ) -> Result<Flow, Refusal>
     ensures spent { run.new.1 ≤ run.old.1 }
-    ensures means { Does result run.new (package_of (meaning S.accesses) job.now.scope.path.now job.now.depth count (at_list job.now.term)) run.old }
+    ensures means { Does result run.new (package_of (meaning S.accesses) job.now.place.now.scope.path.now job.now.place.now.depth count (at_list job.now.term.now)) run.old }
 {
     let elements = eval_elements(alloc, run, job, count)?;
     let value = run.world.new_package(count, elements)?;
@@ -165,11 +165,11 @@ fn eval_elements<S: Space>(
     count: usize,
 ) -> Result<Elements, Refusal>
     ensures spent { run.new.1 ≤ run.old.1 }
-    ensures means { Does result run.new (elements_in_turn (meaning S.accesses) job.now.scope.path.now job.now.depth count (at_list job.now.term) []) run.old }
+    ensures means { Does result run.new (elements_in_turn (meaning S.accesses) job.now.place.now.scope.path.now job.now.place.now.depth count (at_list job.now.term.now) []) run.old }
 {
     let mut elements = Elements::new(alloc);
     let mut left = count;
-    let mut rest = job.term;
+    let mut rest = *job.term;
     'items: while left > 0 {
         match rest.next() {
             None => return Ok(elements),
@@ -179,7 +179,7 @@ fn eval_elements<S: Space>(
                     alloc,
                     run,
                     &Task {
-                        term: item.first,
+                        term: &item.first,
                         ..*job
                     },
                     code,
@@ -203,7 +203,7 @@ fn eval_element<S: Space>(
 ) -> Result<Element, Refusal>
     ensures spent { run.new.1 ≤ run.old.1 }
     ensures paid { OnOk result (run.new.1 < run.old.1) }
-    ensures means { Does result run.new (element_by (meaning S.accesses) code job.now.scope.path.now job.now.depth (at_tree job.now.term)) run.old }
+    ensures means { Does result run.new (element_by (meaning S.accesses) code job.now.place.now.scope.path.now job.now.place.now.depth (at_tree job.now.term.now)) run.old }
 {
     match code {
         TermCode::Name => named_element(alloc, run, job),
@@ -226,11 +226,11 @@ fn named_element<S: Space>(
 ) -> Result<Element, Refusal>
     ensures spent { run.new.1 ≤ run.old.1 }
     ensures paid { OnOk result (run.new.1 < run.old.1) }
-    ensures means { Does result run.new (named_element (meaning S.accesses) job.now.scope.path.now (at_tree job.now.term)) run.old }
+    ensures means { Does result run.new (named_element (meaning S.accesses) job.now.place.now.scope.path.now (at_tree job.now.term.now)) run.old }
 {
     run.charge()?;
     let name = job.term.name(alloc, 0)?;
-    element_of(alloc, name, job.scope.path)
+    element_of(alloc, name, job.place.scope.path)
 }
 
 #[cycle(evaluation)]
@@ -242,7 +242,7 @@ fn valued_element<S: Space>(
 ) -> Result<Element, Refusal>
     ensures spent { run.new.1 ≤ run.old.1 }
     ensures paid { OnOk result (run.new.1 < run.old.1) }
-    ensures means { Does result run.new (valued_element (meaning S.accesses) job.now.scope.path.now job.now.depth (at_tree job.now.term)) run.old }
+    ensures means { Does result run.new (valued_element (meaning S.accesses) job.now.place.now.scope.path.now job.now.place.now.depth (at_tree job.now.term.now)) run.old }
 {
     let value = eval_value(alloc, run, job)?;
     Ok(Element::Value(value))

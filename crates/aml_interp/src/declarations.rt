@@ -8,7 +8,7 @@ ghost use Rattle.aml_meaning.specs.DeclarationTerms.{declaration_rule, declaring
 ghost use Rattle.aml_meaning.specs.Declaring.{new_name};
 
 use crate::operands::{bytes, inner, list, number};
-use crate::task::Task;
+use crate::task::{Place, Task};
 use crate::terms::{eval_list, eval_value};
 use aml_grammar::TermReader;
 use aml_meaning::{DeclarationKind, Flow, Running, WorldState};
@@ -28,7 +28,7 @@ pub(crate) fn eval_declaration<S: Space>(
     kind: DeclarationKind,
 ) -> Result<Flow, Refusal>
     ensures spent { run.new.1 ≤ run.old.1 }
-    ensures means { Does result run.new (declaration_rule (meaning S.accesses) kind job.now.scope.path.now job.now.depth (at_tree job.now.term)) run.old }
+    ensures means { Does result run.new (declaration_rule (meaning S.accesses) kind job.now.place.now.scope.path.now job.now.place.now.depth (at_tree job.now.term.now)) run.old }
 {
     match kind {
         DeclarationKind::Scope => eval_scope(alloc, run, job),
@@ -59,11 +59,11 @@ pub(crate) fn eval_declaring<S: Space>(
     object: NamedObject,
 ) -> Result<Flow, Refusal>
     ensures spent { run.new.1 ≤ run.old.1 }
-    ensures means { Does result run.new (declaring (meaning S.accesses) job.now.scope.path.now job.now.depth (at_tree job.now.term) position object) run.old }
+    ensures means { Does result run.new (declaring (meaning S.accesses) job.now.place.now.scope.path.now job.now.place.now.depth (at_tree job.now.term.now) position object) run.old }
 {
     let name = job.term.name(alloc, position)?;
-    let path = name.resolve_in(alloc, job.scope.path)?;
-    run.world.new_name(alloc, job.depth == 0, path, object)?;
+    let path = name.resolve_in(alloc, job.place.scope.path)?;
+    run.world.new_name(alloc, job.place.depth == 0, path, object)?;
     Ok(Flow::Next)
 }
 
@@ -71,14 +71,14 @@ pub(crate) fn eval_declaring<S: Space>(
 #[tactic(auto, using(crate::proofs::Steps::evaluating), unfolding(aml_meaning::specs::DeclarationTerms::name_rule))]
 fn eval_name<S: Space>(alloc: Global, run: &mut Running<S>, job: &Task<'_>) -> Result<Flow, Refusal>
     ensures spent { run.new.1 ≤ run.old.1 }
-    ensures means { Does result run.new (name_rule (meaning S.accesses) job.now.scope.path.now job.now.depth (at_tree job.now.term)) run.old }
+    ensures means { Does result run.new (name_rule (meaning S.accesses) job.now.place.now.scope.path.now job.now.place.now.depth (at_tree job.now.term.now)) run.old }
 {
     let datum = inner(job.term, 1)?;
     let value = eval_value(
         alloc,
         run,
         &Task {
-            term: datum,
+            term: &datum,
             ..*job
         },
     )?;
@@ -92,14 +92,14 @@ fn eval_alias<S: Space>(
     job: &Task<'_>,
 ) -> Result<Flow, Refusal>
     ensures spent { run.new.1 ≤ run.old.1 }
-    ensures means { Does result run.new (alias_rule (meaning S.accesses) job.now.scope.path.now job.now.depth (at_tree job.now.term)) run.old }
+    ensures means { Does result run.new (alias_rule (meaning S.accesses) job.now.place.now.scope.path.now job.now.place.now.depth (at_tree job.now.term.now)) run.old }
 {
     let source = job.term.name(alloc, 0)?;
-    let target = run.world.locate(alloc, job.scope, &source)?;
+    let target = run.world.locate(alloc, job.place.scope, &source)?;
     let name = job.term.name(alloc, 1)?;
-    let path = name.resolve_in(alloc, job.scope.path)?;
+    let path = name.resolve_in(alloc, job.place.scope.path)?;
     run.world
-        .new_name(alloc, job.depth == 0, path, NamedObject::Alias(target))?;
+        .new_name(alloc, job.place.depth == 0, path, NamedObject::Alias(target))?;
     Ok(Flow::Next)
 }
 
@@ -110,17 +110,17 @@ fn eval_method<S: Space>(
     job: &Task<'_>,
 ) -> Result<Flow, Refusal>
     ensures spent { run.new.1 ≤ run.old.1 }
-    ensures means { Does result run.new (method_rule (meaning S.accesses) job.now.scope.path.now job.now.depth (at_tree job.now.term)) run.old }
+    ensures means { Does result run.new (method_rule (meaning S.accesses) job.now.place.now.scope.path.now job.now.place.now.depth (at_tree job.now.term.now)) run.old }
 {
     let name = job.term.name(alloc, 0)?;
-    let path = name.resolve_in(alloc, job.scope.path)?;
+    let path = name.resolve_in(alloc, job.place.scope.path)?;
     let flags = number(job.term, 1)?;
     let body = bytes(alloc, job.term, 2)?;
     let flags = MethodFlags {
         byte: (flags % 256) as u8,
     };
     run.world
-        .new_method(alloc, job.depth == 0, path, flags, body)?;
+        .new_method(alloc, job.place.depth == 0, path, flags, body)?;
     Ok(Flow::Next)
 }
 
@@ -133,19 +133,21 @@ fn eval_scope<S: Space>(
     job: &Task<'_>,
 ) -> Result<Flow, Refusal>
     ensures spent { run.new.1 ≤ run.old.1 }
-    ensures means { Does result run.new (scope_rule (meaning S.accesses) job.now.scope.path.now job.now.depth (at_tree job.now.term)) run.old }
+    ensures means { Does result run.new (scope_rule (meaning S.accesses) job.now.place.now.scope.path.now job.now.place.now.depth (at_tree job.now.term.now)) run.old }
 {
     let name = job.term.name(alloc, 0)?;
-    let path = run.world.locate_scope(alloc, job.scope, &name)?;
+    let path = run.world.locate_scope(alloc, job.place.scope, &name)?;
     let items = list(job.term, 1)?;
     let scope = run.world.scope(&path);
     eval_list(
         alloc,
         run,
         &Task {
-            scope,
-            term: items,
-            ..*job
+            place: &Place {
+                scope,
+                depth: job.place.depth,
+            },
+            term: &items,
         },
     )
 }
@@ -161,20 +163,22 @@ fn eval_new_scope<S: Space>(
     position: usize,
 ) -> Result<Flow, Refusal>
     ensures spent { run.new.1 ≤ run.old.1 }
-    ensures means { Does result run.new (new_scope (meaning S.accesses) object position job.now.scope.path.now job.now.depth (at_tree job.now.term)) run.old }
+    ensures means { Does result run.new (new_scope (meaning S.accesses) object position job.now.place.now.scope.path.now job.now.place.now.depth (at_tree job.now.term.now)) run.old }
 {
     let name = job.term.name(alloc, 0)?;
-    let path = name.resolve_in(alloc, job.scope.path)?;
-    declare(alloc, &mut run.world, job.depth, &path, object)?;
+    let path = name.resolve_in(alloc, job.place.scope.path)?;
+    declare(alloc, &mut run.world, job.place.depth, &path, object)?;
     let items = list(job.term, position)?;
     let scope = run.world.scope(&path);
     eval_list(
         alloc,
         run,
         &Task {
-            scope,
-            term: items,
-            ..*job
+            place: &Place {
+                scope,
+                depth: job.place.depth,
+            },
+            term: &items,
         },
     )
 }

@@ -16,7 +16,7 @@ ghost use Rattle.aml_meaning.specs.InvocationTerms.{osi_rule, arguments_in_turn,
 use crate::field_calls::eval_field_read;
 use crate::operands::{Reader, as_many, list};
 use crate::readings::read_body;
-use crate::task::Task;
+use crate::task::{Place, Task};
 use crate::terms::{eval_list, eval_value};
 use aml_grammar::TermReader;
 use aml_meaning::{Flow, Invocation, Running, WorldState};
@@ -40,16 +40,16 @@ pub(crate) fn eval_name_value<S: Space>(
     job: &Task<'_>,
 ) -> Result<Flow, Refusal>
     ensures spent { run.new.1 ≤ run.old.1 }
-    ensures means { Does result run.new (name_value S.accesses (meaning S.accesses) job.now.scope.path.now job.now.depth (at_tree job.now.term)) run.old }
+    ensures means { Does result run.new (name_value S.accesses (meaning S.accesses) job.now.place.now.scope.path.now job.now.place.now.depth (at_tree job.now.term.now)) run.old }
 {
     let name = job.term.name(alloc, 0)?;
     let arguments = list(job.term, 1)?;
-    let invocation = name_used(alloc, &run.world, job.scope, &name, arguments)?;
+    let invocation = name_used(alloc, &run.world, job.place.scope, &name, arguments)?;
     eval_invocation(
         alloc,
         run,
         &Task {
-            term: arguments,
+            term: &arguments,
             ..*job
         },
         invocation,
@@ -95,11 +95,11 @@ fn eval_invocation<S: Space>(
     invocation: Invocation,
 ) -> Result<Flow, Refusal>
     ensures spent { run.new.1 ≤ run.old.1 }
-    ensures means { Does result run.new (invocation_rule S.accesses (meaning S.accesses) job.now.scope.path.now job.now.depth (at_list job.now.term) invocation) run.old }
+    ensures means { Does result run.new (invocation_rule S.accesses (meaning S.accesses) job.now.place.now.scope.path.now job.now.place.now.depth (at_list job.now.term.now) invocation) run.old }
 {
     match invocation {
         Invocation::Value(value) => Ok(Flow::Value(value)),
-        Invocation::Field(field) => eval_field(alloc, run, job.depth, field),
+        Invocation::Field(field) => eval_field(alloc, run, job.place.depth, field),
         Invocation::Method(path, body) => eval_call(alloc, run, job, &path, &body),
         Invocation::Osi => eval_osi(alloc, run, job),
     }
@@ -131,10 +131,10 @@ fn eval_call<S: Space>(
     body: &Body,
 ) -> Result<Flow, Refusal>
     ensures spent { run.new.1 ≤ run.old.1 }
-    ensures means { Does result run.new (call_rule (meaning S.accesses) job.now.scope.path.now job.now.depth (at_list job.now.term) path.now body.now) run.old }
+    ensures means { Does result run.new (call_rule (meaning S.accesses) job.now.place.now.scope.path.now job.now.place.now.depth (at_list job.now.term.now) path.now body.now) run.old }
 {
     let values = eval_arguments(alloc, run, job)?;
-    eval_invoked(alloc, run, job.depth, path, body, &values)
+    eval_invoked(alloc, run, job.place.depth, path, body, &values)
 }
 
 /// A call of `\_OSI`, which has no frame.
@@ -142,10 +142,10 @@ fn eval_call<S: Space>(
 #[tactic(auto, using(crate::proofs::Steps::evaluating), unfolding(aml_meaning::specs::InvocationTerms::osi_rule))]
 fn eval_osi<S: Space>(alloc: Global, run: &mut Running<S>, job: &Task<'_>) -> Result<Flow, Refusal>
     ensures spent { run.new.1 ≤ run.old.1 }
-    ensures means { Does result run.new (osi_rule (meaning S.accesses) job.now.scope.path.now job.now.depth (at_list job.now.term)) run.old }
+    ensures means { Does result run.new (osi_rule (meaning S.accesses) job.now.place.now.scope.path.now job.now.place.now.depth (at_list job.now.term.now)) run.old }
 {
     let values = eval_arguments(alloc, run, job)?;
-    shallow(job.depth)?;
+    shallow(job.place.depth)?;
     let answer = run.world.osi(&values)?;
     Ok(Flow::Value(answer))
 }
@@ -159,10 +159,10 @@ fn eval_arguments<S: Space>(
     job: &Task<'_>,
 ) -> Result<Vec<Value>, Refusal>
     ensures spent { run.new.1 ≤ run.old.1 }
-    ensures means { Does (seen (λ list. list.items) result) run.new (arguments_in_turn (meaning S.accesses) job.now.scope.path.now job.now.depth (at_list job.now.term) []) run.old }
+    ensures means { Does (seen (λ list. list.items) result) run.new (arguments_in_turn (meaning S.accesses) job.now.place.now.scope.path.now job.now.place.now.depth (at_list job.now.term.now) []) run.old }
 {
     let mut values = Vec::new(alloc);
-    let mut rest = job.term;
+    let mut rest = *job.term;
     'items: loop {
         match rest.next() {
             None => return Ok(values),
@@ -171,7 +171,7 @@ fn eval_arguments<S: Space>(
                     alloc,
                     run,
                     &Task {
-                        term: item.first,
+                        term: &item.first,
                         ..*job
                     },
                 )?;
@@ -251,9 +251,8 @@ fn eval_body<S: Space>(
         alloc,
         run,
         &Task {
-            scope,
-            depth,
-            term: items,
+            place: &Place { scope, depth },
+            term: &items,
         },
     );
     run.world.leave(path);

@@ -16,8 +16,8 @@ use std::alloc::Global;
 pub(crate) type Reader<'t> = At<'t>;
 
 /// An operand that is a number.
-pub(crate) fn number(term: Reader<'_>, index: usize) -> Result<u64, Refusal>
-    ensures answer { Answers result (number_of (operand_of (at_tree term.entry) index)) }
+pub(crate) fn number(term: &Reader<'_>, index: usize) -> Result<u64, Refusal>
+    ensures answer { Answers result (number_of (operand_of (at_tree term.now) index)) }
     ensures memory { NotMemory result }
 {
     match term.operand(index) {
@@ -27,8 +27,8 @@ pub(crate) fn number(term: Reader<'_>, index: usize) -> Result<u64, Refusal>
 }
 
 /// An operand that is a term.
-pub(crate) fn inner(term: Reader<'_>, index: usize) -> Result<Reader<'_>, Refusal>
-    ensures answer { Answers (seen at_tree result) (inner_of (operand_of (at_tree term.entry) index)) }
+pub(crate) fn inner<'t>(term: &Reader<'t>, index: usize) -> Result<Reader<'t>, Refusal>
+    ensures answer { Answers (seen at_tree result) (inner_of (operand_of (at_tree term.now) index)) }
     ensures memory { NotMemory result }
 {
     match term.operand(index) {
@@ -38,8 +38,8 @@ pub(crate) fn inner(term: Reader<'_>, index: usize) -> Result<Reader<'_>, Refusa
 }
 
 /// An operand that is a list of terms.
-pub(crate) fn list(term: Reader<'_>, index: usize) -> Result<Reader<'_>, Refusal>
-    ensures answer { Answers (seen at_list result) (list_of (operand_of (at_tree term.entry) index)) }
+pub(crate) fn list<'t>(term: &Reader<'t>, index: usize) -> Result<Reader<'t>, Refusal>
+    ensures answer { Answers (seen at_list result) (list_of (operand_of (at_tree term.now) index)) }
     ensures memory { NotMemory result }
 {
     match term.operand(index) {
@@ -49,8 +49,8 @@ pub(crate) fn list(term: Reader<'_>, index: usize) -> Result<Reader<'_>, Refusal
 }
 
 /// The Else of an If, where it has one.
-pub(crate) fn else_of(term: Reader<'_>) -> Option<Reader<'_>>
-    ensures { option_map at_tree result ≡ else_of (operand_of (at_tree term.entry) 2) }
+pub(crate) fn else_of<'t>(term: &Reader<'t>) -> Option<Reader<'t>>
+    ensures { option_map at_tree result ≡ else_of (operand_of (at_tree term.now) 2) }
 {
     match term.operand(2) {
         OperandView::Term(part) => Some(part),
@@ -59,8 +59,8 @@ pub(crate) fn else_of(term: Reader<'_>) -> Option<Reader<'_>>
 }
 
 /// An operand that is bytes.
-pub(crate) fn bytes(alloc: Global, term: Reader<'_>, index: usize) -> Result<Octets, Refusal>
-    ensures { Answers result (bytes_of (operand_of (at_tree term.entry) index)) }
+pub(crate) fn bytes(alloc: Global, term: &Reader<'_>, index: usize) -> Result<Octets, Refusal>
+    ensures { Answers result (bytes_of (operand_of (at_tree term.now) index)) }
 {
     match term.bytes(alloc, index) {
         Ok(bytes) => Ok(Octets::from_vec(bytes)),

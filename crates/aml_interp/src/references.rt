@@ -26,7 +26,7 @@ pub(crate) fn eval_operand_referent<S: Space>(
     job: &Task<'_>,
 ) -> Result<Referent, Refusal>
     ensures spent { run.new.1 ≤ run.old.1 }
-    ensures means { Does result run.new (referent_at S.accesses (meaning S.accesses) job.now.scope.path.now job.now.depth (at_tree job.now.term)) run.old }
+    ensures means { Does result run.new (referent_at S.accesses (meaning S.accesses) job.now.place.now.scope.path.now job.now.place.now.depth (at_tree job.now.term.now)) run.old }
 {
     match job.term.operand(0) {
         OperandView::Absent => eval_target_referent(alloc, run, job),
@@ -51,12 +51,12 @@ fn eval_referent_by_kind<S: Space>(
     kind: TargetKind,
 ) -> Result<Referent, Refusal>
     ensures spent { run.new.1 ≤ run.old.1 }
-    ensures means { Does result run.new (referent_by_kind S.accesses (meaning S.accesses) job.now.scope.path.now job.now.depth (at_tree job.now.term) (at_tree operand.entry) kind) run.old }
+    ensures means { Does result run.new (referent_by_kind S.accesses (meaning S.accesses) job.now.place.now.scope.path.now job.now.place.now.depth (at_tree job.now.term.now) (at_tree operand.entry) kind) run.old }
 {
     match kind {
         TargetKind::RefOf | TargetKind::DerefOf | TargetKind::Index => {
             let inside = Task {
-                term: operand,
+                term: &operand,
                 ..*job
             };
             eval_value_referent(alloc, run, &inside)
@@ -76,7 +76,7 @@ fn eval_value_referent<S: Space>(
     job: &Task<'_>,
 ) -> Result<Referent, Refusal>
     ensures spent { run.new.1 ≤ run.old.1 }
-    ensures means { Does result run.new (referent_of_value S.accesses (meaning S.accesses) job.now.scope.path.now job.now.depth (at_tree job.now.term)) run.old }
+    ensures means { Does result run.new (referent_of_value S.accesses (meaning S.accesses) job.now.place.now.scope.path.now job.now.place.now.depth (at_tree job.now.term.now)) run.old }
 {
     let value = eval_value(alloc, run, job)?;
     run.world.value_referent(value)
@@ -91,7 +91,7 @@ fn eval_target_referent<S: Space>(
     job: &Task<'_>,
 ) -> Result<Referent, Refusal>
     ensures spent { run.new.1 ≤ run.old.1 }
-    ensures means { Does result run.new (referent_of_target S.accesses (meaning S.accesses) job.now.scope.path.now job.now.depth (at_tree job.now.term)) run.old }
+    ensures means { Does result run.new (referent_of_target S.accesses (meaning S.accesses) job.now.place.now.scope.path.now job.now.place.now.depth (at_tree job.now.term.now)) run.old }
 {
     let target = eval_target(alloc, run, job, 0)?;
     run.world.target_referent(&target)
@@ -106,7 +106,7 @@ pub(crate) fn eval_reference<S: Space>(
     job: &Task<'_>,
 ) -> Result<Flow, Refusal>
     ensures spent { run.new.1 ≤ run.old.1 }
-    ensures means { Does result run.new (reference_rule S.accesses (meaning S.accesses) job.now.scope.path.now job.now.depth (at_tree job.now.term)) run.old }
+    ensures means { Does result run.new (reference_rule S.accesses (meaning S.accesses) job.now.place.now.scope.path.now job.now.place.now.depth (at_tree job.now.term.now)) run.old }
 {
     let target = eval_target(alloc, run, job, 0)?;
     let reference = run.world.reference_of(&target)?;
@@ -122,12 +122,12 @@ pub(crate) fn eval_dereference<S: Space>(
     job: &Task<'_>,
 ) -> Result<Flow, Refusal>
     ensures spent { run.new.1 ≤ run.old.1 }
-    ensures means { Does result run.new (dereference_rule S.accesses (meaning S.accesses) job.now.scope.path.now job.now.depth (at_tree job.now.term)) run.old }
+    ensures means { Does result run.new (dereference_rule S.accesses (meaning S.accesses) job.now.place.now.scope.path.now job.now.place.now.depth (at_tree job.now.term.now)) run.old }
 {
     let value = eval_value_at(alloc, run, job, 0)?;
     let reference = reference_in(value)?;
     let held = run.world.dereference(reference)?;
-    let value = eval_held_value(alloc, run, job.depth, held)?;
+    let value = eval_held_value(alloc, run, job.place.depth, held)?;
     Ok(Flow::Value(value))
 }
 
@@ -140,7 +140,7 @@ pub(crate) fn eval_conditional_reference<S: Space>(
     job: &Task<'_>,
 ) -> Result<Flow, Refusal>
     ensures spent { run.new.1 ≤ run.old.1 }
-    ensures means { Does result run.new (conditional_rule S.accesses (meaning S.accesses) job.now.scope.path.now job.now.depth (at_tree job.now.term)) run.old }
+    ensures means { Does result run.new (conditional_rule S.accesses (meaning S.accesses) job.now.place.now.scope.path.now job.now.place.now.depth (at_tree job.now.term.now)) run.old }
 {
     let sought = eval_sought(alloc, run, job)?;
     eval_reference_found(alloc, run, job, sought)
@@ -155,7 +155,7 @@ fn eval_sought<S: Space>(
     job: &Task<'_>,
 ) -> Result<Option<Reference>, Refusal>
     ensures spent { run.new.1 ≤ run.old.1 }
-    ensures means { Does result run.new (sought S.accesses (meaning S.accesses) job.now.scope.path.now job.now.depth (at_tree job.now.term) (operand_of (at_tree job.now.term) 0)) run.old }
+    ensures means { Does result run.new (sought S.accesses (meaning S.accesses) job.now.place.now.scope.path.now job.now.place.now.depth (at_tree job.now.term.now) (operand_of (at_tree job.now.term.now) 0)) run.old }
 {
     match job.term.operand(0) {
         OperandView::Absent => eval_sought_target(alloc, run, job),
@@ -174,10 +174,10 @@ fn sought_name<S: Space>(
     run: &Running<S>,
     job: &Task<'_>,
 ) -> Result<Option<Reference>, Refusal>
-    ensures { Does result run.now (sought_name S.accesses (meaning S.accesses) job.now.scope.path.now (at_tree job.now.term)) run.now }
+    ensures { Does result run.now (sought_name S.accesses (meaning S.accesses) job.now.place.now.scope.path.now (at_tree job.now.term.now)) run.now }
 {
     let name = job.term.name(alloc, 0)?;
-    run.world.reference_if_found(job.scope, &name)
+    run.world.reference_if_found(job.place.scope, &name)
 }
 
 #[cycle(evaluation)]
@@ -188,7 +188,7 @@ fn eval_sought_target<S: Space>(
     job: &Task<'_>,
 ) -> Result<Option<Reference>, Refusal>
     ensures spent { run.new.1 ≤ run.old.1 }
-    ensures means { Does result run.new (sought_target S.accesses (meaning S.accesses) job.now.scope.path.now job.now.depth (at_tree job.now.term)) run.old }
+    ensures means { Does result run.new (sought_target S.accesses (meaning S.accesses) job.now.place.now.scope.path.now job.now.place.now.depth (at_tree job.now.term.now)) run.old }
 {
     let target = eval_target(alloc, run, job, 0)?;
     let reference = run.world.reference_of(&target)?;
@@ -204,7 +204,7 @@ fn eval_reference_found<S: Space>(
     found: Option<Reference>,
 ) -> Result<Flow, Refusal>
     ensures spent { run.new.1 ≤ run.old.1 }
-    ensures means { Does result run.new (reference_found S.accesses (meaning S.accesses) job.now.scope.path.now job.now.depth (at_tree job.now.term) found) run.old }
+    ensures means { Does result run.new (reference_found S.accesses (meaning S.accesses) job.now.place.now.scope.path.now job.now.place.now.depth (at_tree job.now.term.now) found) run.old }
 {
     match found {
         None => Ok(Flow::Value(Value::Integer(0))),
@@ -221,7 +221,7 @@ fn eval_reference_stored<S: Space>(
     reference: Reference,
 ) -> Result<Flow, Refusal>
     ensures spent { run.new.1 ≤ run.old.1 }
-    ensures means { Does result run.new (reference_stored S.accesses (meaning S.accesses) job.now.scope.path.now job.now.depth (at_tree job.now.term) reference) run.old }
+    ensures means { Does result run.new (reference_stored S.accesses (meaning S.accesses) job.now.place.now.scope.path.now job.now.place.now.depth (at_tree job.now.term.now) reference) run.old }
 {
     eval_targeted(alloc, run, job, 1, Value::Reference(reference))?;
     let value = run.world.integer_kept(u64::MAX)?;

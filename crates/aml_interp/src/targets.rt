@@ -24,7 +24,7 @@ pub(crate) fn eval_target<S: Space>(
     index: usize,
 ) -> Result<StoreTarget, Refusal>
     ensures spent { run.new.1 ≤ run.old.1 }
-    ensures means { Does result run.new (target_at (meaning S.accesses) job.now.scope.path.now job.now.depth (at_tree job.now.term) index) run.old }
+    ensures means { Does result run.new (target_at (meaning S.accesses) job.now.place.now.scope.path.now job.now.place.now.depth (at_tree job.now.term.now) index) run.old }
 {
     match job.term.operand(index) {
         OperandView::Absent => Err(Refusal::Name(NameFault::BadName)),
@@ -36,7 +36,7 @@ pub(crate) fn eval_target<S: Space>(
             alloc,
             run,
             &Task {
-                term: inner,
+                term: &inner,
                 ..*job
             },
         ),
@@ -51,10 +51,10 @@ fn named_target<S: Space>(
     job: &Task<'_>,
     index: usize,
 ) -> Result<StoreTarget, Refusal>
-    ensures { Does result run.now (name_target (meaning S.accesses) job.now.scope.path.now (at_tree job.now.term) index) run.now }
+    ensures { Does result run.now (name_target (meaning S.accesses) job.now.place.now.scope.path.now (at_tree job.now.term.now) index) run.now }
 {
     let name = job.term.name(alloc, index)?;
-    run.world.target_named(alloc, job.scope, &name)
+    run.world.target_named(alloc, job.place.scope, &name)
 }
 
 /// The target that a term is: Debug, a local or an argument, or what it refers to.
@@ -66,7 +66,7 @@ fn eval_inner_target<S: Space>(
     job: &Task<'_>,
 ) -> Result<StoreTarget, Refusal>
     ensures spent { run.new.1 ≤ run.old.1 }
-    ensures means { Does result run.new (target_of (meaning S.accesses) job.now.scope.path.now job.now.depth (at_tree job.now.term)) run.old }
+    ensures means { Does result run.new (target_of (meaning S.accesses) job.now.place.now.scope.path.now job.now.place.now.depth (at_tree job.now.term.now)) run.old }
 {
     eval_target_by_kind(alloc, run, job, target_kind(job.term.code()))
 }
@@ -80,7 +80,7 @@ fn eval_target_by_kind<S: Space>(
     kind: TargetKind,
 ) -> Result<StoreTarget, Refusal>
     ensures spent { run.new.1 ≤ run.old.1 }
-    ensures means { Does result run.new (target_by_kind (meaning S.accesses) job.now.scope.path.now job.now.depth (at_tree job.now.term) (target_at (meaning S.accesses) job.now.scope.path.now job.now.depth (at_tree job.now.term) 0) kind) run.old }
+    ensures means { Does result run.new (target_by_kind (meaning S.accesses) job.now.place.now.scope.path.now job.now.place.now.depth (at_tree job.now.term.now) (target_at (meaning S.accesses) job.now.place.now.scope.path.now job.now.place.now.depth (at_tree job.now.term.now) 0) kind) run.old }
 {
     match kind {
         TargetKind::Nowhere => Ok(StoreTarget::Nowhere),
@@ -101,7 +101,7 @@ fn eval_operand_target<S: Space>(
     job: &Task<'_>,
 ) -> Result<StoreTarget, Refusal>
     ensures spent { run.new.1 ≤ run.old.1 }
-    ensures means { Does result run.new (operand_target (meaning S.accesses) job.now.scope.path.now job.now.depth (at_tree job.now.term)) run.old }
+    ensures means { Does result run.new (operand_target (meaning S.accesses) job.now.place.now.scope.path.now job.now.place.now.depth (at_tree job.now.term.now)) run.old }
 {
     run.charge()?;
     eval_target(alloc, run, job, 0)
@@ -116,7 +116,7 @@ fn eval_dereferenced_target<S: Space>(
     job: &Task<'_>,
 ) -> Result<StoreTarget, Refusal>
     ensures spent { run.new.1 ≤ run.old.1 }
-    ensures means { Does result run.new (dereferenced_target (meaning S.accesses) job.now.scope.path.now job.now.depth (at_tree job.now.term)) run.old }
+    ensures means { Does result run.new (dereferenced_target (meaning S.accesses) job.now.place.now.scope.path.now job.now.place.now.depth (at_tree job.now.term.now)) run.old }
 {
     run.charge()?;
     let value = eval_value_at(alloc, run, job, 0)?;
@@ -134,7 +134,7 @@ fn eval_indexed_target<S: Space>(
     job: &Task<'_>,
 ) -> Result<StoreTarget, Refusal>
     ensures spent { run.new.1 ≤ run.old.1 }
-    ensures means { Does result run.new (indexed_target (meaning S.accesses) job.now.scope.path.now job.now.depth (at_tree job.now.term)) run.old }
+    ensures means { Does result run.new (indexed_target (meaning S.accesses) job.now.place.now.scope.path.now job.now.place.now.depth (at_tree job.now.term.now)) run.old }
 {
     let value = eval_value(alloc, run, job)?;
     let reference = reference_in(value)?;
@@ -152,9 +152,9 @@ pub(crate) fn eval_targeted<S: Space>(
     value: Value,
 ) -> Result<Flow, Refusal>
     ensures spent { run.new.1 ≤ run.old.1 }
-    ensures means { Does result run.new (targeted S.accesses (meaning S.accesses) job.now.scope.path.now job.now.depth (at_tree job.now.term) index value) run.old }
+    ensures means { Does result run.new (targeted S.accesses (meaning S.accesses) job.now.place.now.scope.path.now job.now.place.now.depth (at_tree job.now.term.now) index value) run.old }
 {
     let target = eval_target(alloc, run, job, index)?;
-    eval_stored_to(alloc, run, job.depth, &target, value)?;
+    eval_stored_to(alloc, run, job.place.depth, &target, value)?;
     Ok(Flow::Value(value))
 }

@@ -38,7 +38,7 @@ pub(crate) fn eval_term<S: Space>(
 ) -> Result<Flow, Refusal>
     ensures spent { run.new.1 ≤ run.old.1 }
     ensures paid { OnOk result (run.new.1 < run.old.1) }
-    ensures means { Does result run.new (meaning S.accesses (task job.now.scope.path.now job.now.depth (at_tree job.now.term))) run.old }
+    ensures means { Does result run.new (meaning S.accesses (task job.now.place.now.scope.path.now job.now.place.now.depth (at_tree job.now.term.now))) run.old }
 {
     run.charge()?;
     eval_code(alloc, run, job)
@@ -48,7 +48,7 @@ pub(crate) fn eval_term<S: Space>(
 #[tactic(auto, using(crate::proofs::Steps::evaluating))]
 fn eval_code<S: Space>(alloc: Global, run: &mut Running<S>, job: &Task<'_>) -> Result<Flow, Refusal>
     ensures spent { run.new.1 ≤ run.old.1 }
-    ensures means { Does result run.new (code_rule S.accesses (meaning S.accesses) (code_of (at_tree job.now.term)) job.now.scope.path.now job.now.depth (at_tree job.now.term)) run.old }
+    ensures means { Does result run.new (code_rule S.accesses (meaning S.accesses) (code_of (at_tree job.now.term.now)) job.now.place.now.scope.path.now job.now.place.now.depth (at_tree job.now.term.now)) run.old }
 {
     match job.term.code() {
         TermCode::Opcode(opcode) => eval_kind(alloc, run, job, opcode, kind_of(opcode)),
@@ -72,7 +72,7 @@ fn eval_kind<S: Space>(
     kind: TermKind,
 ) -> Result<Flow, Refusal>
     ensures spent { run.new.1 ≤ run.old.1 }
-    ensures means { Does result run.new (kind_rule S.accesses (meaning S.accesses) kind opcode job.now.scope.path.now job.now.depth (at_tree job.now.term)) run.old }
+    ensures means { Does result run.new (kind_rule S.accesses (meaning S.accesses) kind opcode job.now.place.now.scope.path.now job.now.place.now.depth (at_tree job.now.term.now)) run.old }
 {
     match kind {
         TermKind::Data(kind) => eval_data(alloc, run, job, kind),
@@ -100,7 +100,7 @@ pub(crate) fn eval_value<S: Space>(
 ) -> Result<Value, Refusal>
     ensures spent { run.new.1 ≤ run.old.1 }
     ensures paid { OnOk result (run.new.1 < run.old.1) }
-    ensures means { Does result run.new (operand_value (meaning S.accesses) job.now.scope.path.now job.now.depth (at_tree job.now.term)) run.old }
+    ensures means { Does result run.new (operand_value (meaning S.accesses) job.now.place.now.scope.path.now job.now.place.now.depth (at_tree job.now.term.now)) run.old }
 {
     let flow = eval_term(alloc, run, job)?;
     flow.value()
@@ -116,14 +116,14 @@ pub(crate) fn eval_value_at<S: Space>(
     index: usize,
 ) -> Result<Value, Refusal>
     ensures spent { run.new.1 ≤ run.old.1 }
-    ensures means { Does result run.new (value_at (meaning S.accesses) job.now.scope.path.now job.now.depth (at_tree job.now.term) index) run.old }
+    ensures means { Does result run.new (value_at (meaning S.accesses) job.now.place.now.scope.path.now job.now.place.now.depth (at_tree job.now.term.now) index) run.old }
 {
     let operand = inner(job.term, index)?;
     eval_value(
         alloc,
         run,
         &Task {
-            term: operand,
+            term: &operand,
             ..*job
         },
     )
@@ -138,7 +138,7 @@ pub(crate) fn eval_two_values<S: Space>(
     job: &Task<'_>,
 ) -> Result<(Value, Value), Refusal>
     ensures spent { run.new.1 ≤ run.old.1 }
-    ensures means { Does result run.new (two_values (meaning S.accesses) job.now.scope.path.now job.now.depth (at_tree job.now.term)) run.old }
+    ensures means { Does result run.new (two_values (meaning S.accesses) job.now.place.now.scope.path.now job.now.place.now.depth (at_tree job.now.term.now)) run.old }
 {
     let first = eval_value_at(alloc, run, job, 0)?;
     let second = eval_value_at(alloc, run, job, 1)?;
@@ -155,7 +155,7 @@ pub(crate) fn eval_operand_integer<S: Space>(
 ) -> Result<u64, Refusal>
     ensures spent { run.new.1 ≤ run.old.1 }
     ensures paid { OnOk result (run.new.1 < run.old.1) }
-    ensures means { Does result run.new (operand_integer (meaning S.accesses) job.now.scope.path.now job.now.depth (at_tree job.now.term)) run.old }
+    ensures means { Does result run.new (operand_integer (meaning S.accesses) job.now.place.now.scope.path.now job.now.place.now.depth (at_tree job.now.term.now)) run.old }
 {
     let value = eval_value(alloc, run, job)?;
     run.world.integer_in(value)
@@ -170,9 +170,9 @@ pub(crate) fn eval_list<S: Space>(
     job: &Task<'_>,
 ) -> Result<Flow, Refusal>
     ensures spent { run.new.1 ≤ run.old.1 }
-    ensures means { Does result run.new (in_turn (meaning S.accesses) job.now.scope.path.now job.now.depth (at_list job.now.term)) run.old }
+    ensures means { Does result run.new (in_turn (meaning S.accesses) job.now.place.now.scope.path.now job.now.place.now.depth (at_list job.now.term.now)) run.old }
 {
-    let mut rest = job.term;
+    let mut rest = *job.term;
     'items: loop {
         match rest.next() {
             None => return Ok(Flow::Next),
@@ -181,7 +181,7 @@ pub(crate) fn eval_list<S: Space>(
                     alloc,
                     run,
                     &Task {
-                        term: item.first,
+                        term: &item.first,
                         ..*job
                     },
                 )?;
