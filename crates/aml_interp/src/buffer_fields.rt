@@ -14,6 +14,7 @@ use ar_space::{Refusal, Space};
 use std::alloc::Global;
 
 /// CreateBitField, CreateByteField, CreateWordField, CreateDWordField and CreateQWordField: a buffer, an index and a name.
+#[inline(never)]
 #[cycle(evaluation)]
 #[tactic(auto, using(crate::proofs::Steps::evaluating), unfolding(aml_meaning::specs::FieldTerms::sized_field_rule))]
 pub(crate) fn eval_sized_field<S: Space>(
@@ -34,6 +35,7 @@ pub(crate) fn eval_sized_field<S: Space>(
 }
 
 /// CreateField: a buffer, the index of the first bit, how many bits, and a name.
+#[inline(never)]
 #[cycle(evaluation)]
 #[tactic(auto, using(crate::proofs::Steps::evaluating), unfolding(aml_meaning::specs::FieldTerms::bits_field_rule))]
 pub(crate) fn eval_bits_field<S: Space>(

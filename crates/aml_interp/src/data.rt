@@ -8,7 +8,7 @@ ghost use Rattle.aml_objects.specs.declared.object.Element.TheVariants as elemen
 ghost use Rattle.aml_meaning.specs.Meaning.{meaning};
 ghost use Rattle.aml_meaning.specs.DataTerms.{data_rule, constant_rule, integer_rule, string_rule, buffer_rule, named_element, valued_element, element_by, elements_in_turn, package_of, package_rule, var_package_rule};
 
-use crate::operands::{Reader, bytes, inner, list, number};
+use crate::operands::{Reader, bytes, code, inner, list, number, take_first};
 use crate::task::Task;
 use crate::terms::{eval_operand_integer, eval_value};
 use aml_grammar::{TermCode, TermReader};
@@ -19,7 +19,6 @@ use ar_space::{Refusal, Space};
 use std::alloc::Global;
 
 /// Data, by its kind.
-#[inline(never)]
 #[cycle(evaluation)]
 #[tactic(auto, using(crate::proofs::Steps::evaluating))]
 pub(crate) fn eval_data<S: Space>(
@@ -51,6 +50,7 @@ fn eval_constant<S: Space>(run: &Running<S>, number: u64) -> Result<Flow, Refusa
 }
 
 /// An integer that follows its opcode.
+#[inline(never)]
 #[tactic(auto, using(crate::proofs::Steps::evaluating), unfolding(aml_meaning::specs::DataTerms::integer_rule))]
 fn eval_integer<S: Space>(run: &Running<S>, term: &Reader<'_>) -> Result<Flow, Refusal>
     ensures { Does result run.now (integer_rule (meaning S.accesses) (at_tree term.now)) run.now }
@@ -59,6 +59,7 @@ fn eval_integer<S: Space>(run: &Running<S>, term: &Reader<'_>) -> Result<Flow, R
     eval_constant(run, number)
 }
 
+#[inline(never)]
 #[tactic(auto, using(crate::proofs::Steps::evaluating), unfolding(aml_meaning::specs::DataTerms::string_rule))]
 fn eval_string<S: Space>(
     alloc: Global,
@@ -73,6 +74,7 @@ fn eval_string<S: Space>(
     Ok(Flow::Value(value))
 }
 
+#[inline(never)]
 #[cycle(evaluation)]
 #[tactic(auto, using(crate::proofs::Steps::evaluating), unfolding(aml_meaning::specs::DataTerms::buffer_rule))]
 fn eval_buffer<S: Space>(
@@ -84,12 +86,20 @@ fn eval_buffer<S: Space>(
     ensures means { Does result run.new (buffer_rule (meaning S.accesses) job.now.place.now.scope.path.now job.now.place.now.depth (at_tree job.now.term.now)) run.old }
 {
     let size = inner(job.term, 0)?;
-    let length = eval_operand_integer(alloc, run, &Task { term: &size, ..*job })?;
+    let length = eval_operand_integer(
+        alloc,
+        run,
+        &Task {
+            term: &size,
+            ..*job
+        },
+    )?;
     let bytes = bytes(alloc, job.term, 1)?;
     let value = run.world.new_buffer(length, bytes)?;
     Ok(Flow::Value(value))
 }
 
+#[inline(never)]
 #[cycle(evaluation)]
 #[tactic(auto, using(crate::proofs::Steps::evaluating), unfolding(aml_meaning::specs::DataTerms::package_rule))]
 fn eval_package<S: Space>(
@@ -113,6 +123,7 @@ fn eval_package<S: Space>(
     )
 }
 
+#[inline(never)]
 #[cycle(evaluation)]
 #[tactic(auto, using(crate::proofs::Steps::evaluating), unfolding(aml_meaning::specs::DataTerms::var_package_rule))]
 fn eval_var_package<S: Space>(
@@ -124,7 +135,14 @@ fn eval_var_package<S: Space>(
     ensures means { Does result run.new (var_package_rule (meaning S.accesses) job.now.place.now.scope.path.now job.now.place.now.depth (at_tree job.now.term.now)) run.old }
 {
     let size = inner(job.term, 0)?;
-    let count = eval_operand_integer(alloc, run, &Task { term: &size, ..*job })?;
+    let count = eval_operand_integer(
+        alloc,
+        run,
+        &Task {
+            term: &size,
+            ..*job
+        },
+    )?;
     run.world.few_elements(count)?;
     let elements = list(job.term, 1)?;
     package_of(
@@ -171,22 +189,13 @@ fn eval_elements<S: Space>(
     let mut left = count;
     let mut rest = *job.term;
     'items: while left > 0 {
-        match rest.next() {
+        match take_first(&mut rest) {
             None => return Ok(elements),
-            Some(item) => {
-                let code = item.first.code();
-                let element = eval_element(
-                    alloc,
-                    run,
-                    &Task {
-                        term: &item.first,
-                        ..*job
-                    },
-                    code,
-                )?;
+            Some(ref item) => {
+                let code = code(item);
+                let element = eval_element(alloc, run, &Task { term: item, ..*job }, code)?;
                 elements.push(element)?;
                 left -= 1;
-                rest = item.rest;
             }
         }
     }

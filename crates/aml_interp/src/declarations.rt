@@ -18,7 +18,6 @@ use ar_space::{Refusal, Space};
 use std::alloc::Global;
 
 /// A declaration or a Scope, by its kind.
-#[inline(never)]
 #[cycle(evaluation)]
 #[tactic(auto, using(crate::proofs::Steps::evaluating))]
 pub(crate) fn eval_declaration<S: Space>(
@@ -50,6 +49,7 @@ pub(crate) fn eval_declaration<S: Space>(
 }
 
 /// A name that the term's operand at a position declares.
+#[inline(never)]
 #[tactic(auto, using(crate::proofs::Steps::evaluating), unfolding(aml_meaning::specs::DeclarationTerms::declaring))]
 pub(crate) fn eval_declaring<S: Space>(
     alloc: Global,
@@ -63,10 +63,12 @@ pub(crate) fn eval_declaring<S: Space>(
 {
     let name = job.term.name(alloc, position)?;
     let path = name.resolve_in(alloc, job.place.scope.path)?;
-    run.world.new_name(alloc, job.place.depth == 0, path, object)?;
+    run.world
+        .new_name(alloc, job.place.depth == 0, path, object)?;
     Ok(Flow::Next)
 }
 
+#[inline(never)]
 #[cycle(evaluation)]
 #[tactic(auto, using(crate::proofs::Steps::evaluating), unfolding(aml_meaning::specs::DeclarationTerms::name_rule))]
 fn eval_name<S: Space>(alloc: Global, run: &mut Running<S>, job: &Task<'_>) -> Result<Flow, Refusal>
@@ -85,6 +87,7 @@ fn eval_name<S: Space>(alloc: Global, run: &mut Running<S>, job: &Task<'_>) -> R
     eval_declaring(alloc, run, job, 0, NamedObject::Data(value))
 }
 
+#[inline(never)]
 #[tactic(auto, using(crate::proofs::Steps::evaluating), unfolding(aml_meaning::specs::DeclarationTerms::alias_rule))]
 fn eval_alias<S: Space>(
     alloc: Global,
@@ -98,11 +101,16 @@ fn eval_alias<S: Space>(
     let target = run.world.locate(alloc, job.place.scope, &source)?;
     let name = job.term.name(alloc, 1)?;
     let path = name.resolve_in(alloc, job.place.scope.path)?;
-    run.world
-        .new_name(alloc, job.place.depth == 0, path, NamedObject::Alias(target))?;
+    run.world.new_name(
+        alloc,
+        job.place.depth == 0,
+        path,
+        NamedObject::Alias(target),
+    )?;
     Ok(Flow::Next)
 }
 
+#[inline(never)]
 #[tactic(auto, using(crate::proofs::Steps::evaluating), unfolding(aml_meaning::specs::DeclarationTerms::method_rule))]
 fn eval_method<S: Space>(
     alloc: Global,
@@ -125,6 +133,7 @@ fn eval_method<S: Space>(
 }
 
 /// The list of a Scope stands in the scope that its name finds.
+#[inline(never)]
 #[cycle(evaluation)]
 #[tactic(auto, using(crate::proofs::Steps::evaluating), unfolding(aml_meaning::specs::DeclarationTerms::scope_rule))]
 fn eval_scope<S: Space>(
@@ -153,6 +162,7 @@ fn eval_scope<S: Space>(
 }
 
 /// A new name, and then the list of the term in it, which is the operand at a position.
+#[inline(never)]
 #[cycle(evaluation)]
 #[tactic(auto, using(crate::proofs::Steps::evaluating), unfolding(aml_meaning::specs::DeclarationTerms::new_scope))]
 fn eval_new_scope<S: Space>(
@@ -184,6 +194,7 @@ fn eval_new_scope<S: Space>(
 }
 
 /// Declares a name at a path that is used again.
+#[inline(never)]
 fn declare<S: Space>(
     alloc: Global,
     world: &mut WorldState<S>,

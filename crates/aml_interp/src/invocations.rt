@@ -14,7 +14,7 @@ ghost use Rattle.aml_meaning.specs.Invocations.{shallow, invocation_found, use_f
 ghost use Rattle.aml_meaning.specs.InvocationTerms.{osi_rule, arguments_in_turn, call_rule, field_rule, invocation_rule, name_value};
 
 use crate::field_calls::eval_field_read;
-use crate::operands::{Reader, as_many, list};
+use crate::operands::{Reader, as_many, list, name, take_first};
 use crate::readings::read_body;
 use crate::task::{Place, Task};
 use crate::terms::{eval_list, eval_value};
@@ -30,10 +30,9 @@ use std::alloc::Global;
 /// How many control methods may be called one inside another.
 pub(crate) const MAX_DEPTH: usize = 32;
 
-/// A name where a value stands, and its arguments.
-#[inline(never)]
+/// A name where a value stands.
 #[cycle(evaluation)]
-#[tactic(auto, using(crate::proofs::Steps::evaluating), unfolding(aml_meaning::specs::InvocationTerms::name_value))]
+#[tactic(auto, using(crate::proofs::Steps::evaluating))]
 pub(crate) fn eval_name_value<S: Space>(
     alloc: Global,
     run: &mut Running<S>,
@@ -42,9 +41,24 @@ pub(crate) fn eval_name_value<S: Space>(
     ensures spent { run.new.1 ≤ run.old.1 }
     ensures means { Does result run.new (name_value S.accesses (meaning S.accesses) job.now.place.now.scope.path.now job.now.place.now.depth (at_tree job.now.term.now)) run.old }
 {
-    let name = job.term.name(alloc, 0)?;
+    eval_used_name(alloc, run, job)
+}
+
+/// A name where a value stands, and its arguments.
+#[inline(never)]
+#[cycle(evaluation)]
+#[tactic(auto, using(crate::proofs::Steps::evaluating), unfolding(aml_meaning::specs::InvocationTerms::name_value))]
+fn eval_used_name<S: Space>(
+    alloc: Global,
+    run: &mut Running<S>,
+    job: &Task<'_>,
+) -> Result<Flow, Refusal>
+    ensures spent { run.new.1 ≤ run.old.1 }
+    ensures means { Does result run.new (name_value S.accesses (meaning S.accesses) job.now.place.now.scope.path.now job.now.place.now.depth (at_tree job.now.term.now)) run.old }
+{
+    let name = name(alloc, job.term, 0)?;
     let arguments = list(job.term, 1)?;
-    let invocation = name_used(alloc, &run.world, job.place.scope, &name, arguments)?;
+    let invocation = name_used(alloc, &run.world, job.place.scope, &name, &arguments)?;
     eval_invocation(
         alloc,
         run,
@@ -57,14 +71,15 @@ pub(crate) fn eval_name_value<S: Space>(
 }
 
 /// What a name is where a value stands, with the arguments that stand behind it; refused as `WorldState::invocation` is.
+#[inline(never)]
 fn name_used<S: Space>(
     alloc: Global,
     world: &WorldState<S>,
     scope: Scope<'_>,
     name: &NameString,
-    arguments: Reader<'_>,
+    arguments: &Reader<'_>,
 ) -> Result<Invocation, Refusal>
-    ensures { Does result world.now (invocation_found scope.entry.path.now name.now (count_of (at_list arguments.entry))) world.now }
+    ensures { Does result world.now (invocation_found scope.entry.path.now name.now (count_of (at_list arguments.now))) world.now }
 {
     match world.search(scope, name) {
         Ok(id) => used_with(alloc, world, id, arguments),
@@ -78,9 +93,9 @@ fn used_with<S: Space>(
     alloc: Global,
     world: &WorldState<S>,
     id: NodeId,
-    arguments: Reader<'_>,
+    arguments: &Reader<'_>,
 ) -> Result<Invocation, Refusal>
-    ensures { (f : List Seg × Entry) → numbered id.number world.now.names.map ≡ Some f → Does result world.now (use_found f (count_of (at_list arguments.entry))) world.now }
+    ensures { (f : List Seg × Entry) → numbered id.number world.now.names.map ≡ Some f → Does result world.now (use_found f (count_of (at_list arguments.now))) world.now }
 {
     as_many(arguments, world.arguments_at(id))?;
     world.use_of(alloc, id)
@@ -164,19 +179,11 @@ fn eval_arguments<S: Space>(
     let mut values = Vec::new(alloc);
     let mut rest = *job.term;
     'items: loop {
-        match rest.next() {
+        match take_first(&mut rest) {
             None => return Ok(values),
-            Some(item) => {
-                let value = eval_value(
-                    alloc,
-                    run,
-                    &Task {
-                        term: &item.first,
-                        ..*job
-                    },
-                )?;
+            Some(ref item) => {
+                let value = eval_value(alloc, run, &Task { term: item, ..*job })?;
                 values.push(value)?;
-                rest = item.rest;
             }
         }
     }

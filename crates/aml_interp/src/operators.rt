@@ -57,6 +57,7 @@ fn eval_slot<S: Space>(run: &Running<S>, slot: Slot) -> Result<Flow, Refusal>
     Ok(Flow::Value(value))
 }
 
+#[inline(never)]
 #[cycle(evaluation)]
 #[tactic(auto, using(crate::proofs::Steps::evaluating), unfolding(aml_meaning::specs::OperatorTerms::store_rule))]
 fn eval_store<S: Space>(
@@ -71,6 +72,7 @@ fn eval_store<S: Space>(
     eval_targeted(alloc, run, job, 1, value)
 }
 
+#[inline(never)]
 #[cycle(evaluation)]
 #[tactic(auto, using(crate::proofs::Steps::evaluating), unfolding(aml_meaning::specs::OperatorTerms::copy_rule))]
 fn eval_copy<S: Space>(alloc: Global, run: &mut Running<S>, job: &Task<'_>) -> Result<Flow, Refusal>
@@ -85,6 +87,7 @@ fn eval_copy<S: Space>(alloc: Global, run: &mut Running<S>, job: &Task<'_>) -> R
 }
 
 /// An operator with two operands and a target.
+#[inline(never)]
 #[cycle(evaluation)]
 #[tactic(auto, using(crate::proofs::Steps::evaluating), unfolding(aml_meaning::specs::OperatorTerms::two_rule))]
 fn eval_two<S: Space>(
@@ -119,6 +122,7 @@ fn eval_divide<S: Space>(
 }
 
 /// An operator with an operand and a target.
+#[inline(never)]
 #[cycle(evaluation)]
 #[tactic(auto, using(crate::proofs::Steps::evaluating), unfolding(aml_meaning::specs::OperatorTerms::one_rule))]
 fn eval_one<S: Space>(
@@ -136,6 +140,7 @@ fn eval_one<S: Space>(
 }
 
 /// An operator with two operands whose value is True or False.
+#[inline(never)]
 #[cycle(evaluation)]
 #[tactic(auto, using(crate::proofs::Steps::evaluating), unfolding(aml_meaning::specs::OperatorTerms::test_rule))]
 fn eval_test<S: Space>(
@@ -165,6 +170,7 @@ fn eval_not<S: Space>(alloc: Global, run: &mut Running<S>, job: &Task<'_>) -> Re
 }
 
 /// Increment and Decrement: the target is found once, read and stored to.
+#[inline(never)]
 #[cycle(evaluation)]
 #[tactic(auto, using(crate::proofs::Steps::evaluating), unfolding(aml_meaning::specs::OperatorTerms::count_rule))]
 fn eval_count<S: Space>(

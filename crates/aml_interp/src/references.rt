@@ -7,7 +7,7 @@ ghost use Rattle.aml_meaning.specs.Meaning.{meaning};
 ghost use Rattle.aml_meaning.specs.OperatorTerms.{referent_of_value, referent_of_target, referent_by_kind, referent_at, reference_rule, dereference_rule, sought_name, sought_target, sought, reference_stored, reference_found, conditional_rule};
 
 use crate::field_calls::eval_held_value;
-use crate::operands::Reader;
+use crate::operands::{Reader, code, operand};
 use crate::targets::{eval_target, eval_targeted};
 use crate::task::Task;
 use crate::terms::{eval_value, eval_value_at};
@@ -28,14 +28,14 @@ pub(crate) fn eval_operand_referent<S: Space>(
     ensures spent { run.new.1 ≤ run.old.1 }
     ensures means { Does result run.new (referent_at S.accesses (meaning S.accesses) job.now.place.now.scope.path.now job.now.place.now.depth (at_tree job.now.term.now)) run.old }
 {
-    match job.term.operand(0) {
+    match operand(job.term, 0) {
         OperandView::Absent => eval_target_referent(alloc, run, job),
         OperandView::Null => eval_target_referent(alloc, run, job),
         OperandView::Name => eval_target_referent(alloc, run, job),
         OperandView::Number(_) => eval_target_referent(alloc, run, job),
         OperandView::Bytes => eval_target_referent(alloc, run, job),
-        OperandView::Term(inner) => {
-            eval_referent_by_kind(alloc, run, job, inner, target_kind(inner.code()))
+        OperandView::Term(ref inner) => {
+            eval_referent_by_kind(alloc, run, job, inner, target_kind(code(inner)))
         }
         OperandView::List(_) => eval_target_referent(alloc, run, job),
     }
@@ -47,16 +47,16 @@ fn eval_referent_by_kind<S: Space>(
     alloc: Global,
     run: &mut Running<S>,
     job: &Task<'_>,
-    operand: Reader<'_>,
+    operand: &Reader<'_>,
     kind: TargetKind,
 ) -> Result<Referent, Refusal>
     ensures spent { run.new.1 ≤ run.old.1 }
-    ensures means { Does result run.new (referent_by_kind S.accesses (meaning S.accesses) job.now.place.now.scope.path.now job.now.place.now.depth (at_tree job.now.term.now) (at_tree operand.entry) kind) run.old }
+    ensures means { Does result run.new (referent_by_kind S.accesses (meaning S.accesses) job.now.place.now.scope.path.now job.now.place.now.depth (at_tree job.now.term.now) (at_tree operand.now) kind) run.old }
 {
     match kind {
         TargetKind::RefOf | TargetKind::DerefOf | TargetKind::Index => {
             let inside = Task {
-                term: &operand,
+                term: operand,
                 ..*job
             };
             eval_value_referent(alloc, run, &inside)
@@ -98,6 +98,7 @@ fn eval_target_referent<S: Space>(
 }
 
 /// RefOf: a reference to what its operand names.
+#[inline(never)]
 #[cycle(evaluation)]
 #[tactic(auto, using(crate::proofs::Steps::evaluating), unfolding(aml_meaning::specs::OperatorTerms::reference_rule))]
 pub(crate) fn eval_reference<S: Space>(
@@ -114,6 +115,7 @@ pub(crate) fn eval_reference<S: Space>(
 }
 
 /// DerefOf: what its operand refers to, one step on.
+#[inline(never)]
 #[cycle(evaluation)]
 #[tactic(auto, using(crate::proofs::Steps::evaluating), unfolding(aml_meaning::specs::OperatorTerms::dereference_rule))]
 pub(crate) fn eval_dereference<S: Space>(
@@ -132,6 +134,7 @@ pub(crate) fn eval_dereference<S: Space>(
 }
 
 /// CondRefOf: a reference is stored and it gives True, or nothing is stored and it gives False.
+#[inline(never)]
 #[cycle(evaluation)]
 #[tactic(auto, using(crate::proofs::Steps::evaluating), unfolding(aml_meaning::specs::OperatorTerms::conditional_rule))]
 pub(crate) fn eval_conditional_reference<S: Space>(
@@ -157,7 +160,7 @@ fn eval_sought<S: Space>(
     ensures spent { run.new.1 ≤ run.old.1 }
     ensures means { Does result run.new (sought S.accesses (meaning S.accesses) job.now.place.now.scope.path.now job.now.place.now.depth (at_tree job.now.term.now) (operand_of (at_tree job.now.term.now) 0)) run.old }
 {
-    match job.term.operand(0) {
+    match operand(job.term, 0) {
         OperandView::Absent => eval_sought_target(alloc, run, job),
         OperandView::Null => eval_sought_target(alloc, run, job),
         OperandView::Name => sought_name(alloc, run, job),
@@ -168,6 +171,7 @@ fn eval_sought<S: Space>(
     }
 }
 
+#[inline(never)]
 #[tactic(auto, using(crate::proofs::Steps::evaluating), unfolding(aml_meaning::specs::OperatorTerms::sought_name))]
 fn sought_name<S: Space>(
     alloc: Global,

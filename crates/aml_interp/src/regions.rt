@@ -21,7 +21,6 @@ use ar_space::{NameFault, Refusal, Space};
 use std::alloc::Global;
 
 /// An operation region, a list of fields or a buffer field, by its kind.
-#[inline(never)]
 #[cycle(evaluation)]
 #[tactic(auto, using(crate::proofs::Steps::evaluating))]
 pub(crate) fn eval_region_term<S: Space>(
@@ -43,6 +42,7 @@ pub(crate) fn eval_region_term<S: Space>(
 }
 
 /// An operation region, whose offset and length are evaluated here.
+#[inline(never)]
 #[cycle(evaluation)]
 #[tactic(auto, using(crate::proofs::Steps::evaluating), unfolding(aml_meaning::specs::FieldTerms::region_rule))]
 fn eval_region<S: Space>(
@@ -67,6 +67,7 @@ fn eval_region<S: Space>(
 }
 
 /// The fields of an operation region.
+#[inline(never)]
 #[tactic(auto, using(crate::proofs::Steps::evaluating), unfolding(aml_meaning::specs::FieldTerms::field_list_rule))]
 fn eval_field_list<S: Space>(
     alloc: Global,
@@ -94,6 +95,7 @@ fn eval_field_list<S: Space>(
 }
 
 /// The fields behind an index field and a data field.
+#[inline(never)]
 #[tactic(auto, using(crate::proofs::Steps::evaluating), unfolding(aml_meaning::specs::FieldTerms::index_list_rule))]
 fn eval_index_list<S: Space>(
     alloc: Global,

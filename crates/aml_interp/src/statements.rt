@@ -5,6 +5,7 @@ ghost use Rattle.aml_terms.specs.AtTree.{at_tree, at_list};
 ghost use Rattle.aml_grammar.specs.Apart.{operand_of};
 ghost use Rattle.aml_convert.specs.Operators.{is_true};
 ghost use Rattle.aml_meaning.specs.Meaning.{meaning};
+ghost use Rattle.aml_meaning.specs.Tasks.{operand_integer};
 ghost use Rattle.aml_meaning.specs.Terms.{else_of};
 ghost use Rattle.aml_meaning.specs.StatementTerms.{otherwise, branch, if_rule, else_rule, turn_of, turn, loop, while_rule, return_rule, release_rule, notify_rule, pause_rule, fatal_rule, statement_rule};
 
@@ -44,6 +45,7 @@ pub(crate) fn eval_statement<S: Space>(
     }
 }
 
+#[inline(never)]
 #[cycle(evaluation)]
 #[tactic(auto, using(crate::proofs::Steps::evaluating), unfolding(aml_meaning::specs::StatementTerms::if_rule))]
 fn eval_if<S: Space>(alloc: Global, run: &mut Running<S>, job: &Task<'_>) -> Result<Flow, Refusal>
@@ -52,15 +54,30 @@ fn eval_if<S: Space>(alloc: Global, run: &mut Running<S>, job: &Task<'_>) -> Res
 {
     let condition = inner(job.term, 0)?;
     let items = list(job.term, 1)?;
-    let number = eval_operand_integer(
+    let number = eval_condition(alloc, run, job, &condition)?;
+    eval_branch(alloc, run, job, &items, is_true(number))
+}
+
+/// The condition of an If.
+#[cycle(evaluation)]
+#[tactic(auto, using(crate::proofs::Steps::evaluating))]
+fn eval_condition<S: Space>(
+    alloc: Global,
+    run: &mut Running<S>,
+    job: &Task<'_>,
+    condition: &Reader<'_>,
+) -> Result<u64, Refusal>
+    ensures spent { run.new.1 ≤ run.old.1 }
+    ensures means { Does result run.new (operand_integer (meaning S.accesses) job.now.place.now.scope.path.now job.now.place.now.depth (at_tree condition.now)) run.old }
+{
+    eval_operand_integer(
         alloc,
         run,
         &Task {
-            term: &condition,
+            term: condition,
             ..*job
         },
-    )?;
-    eval_branch(alloc, run, job, &items, is_true(number))
+    )
 }
 
 /// The list of an If, or what follows it.
@@ -103,27 +120,31 @@ fn eval_otherwise<S: Space>(
 {
     match else_of(job.term) {
         None => Ok(Flow::Next),
-        Some(term) => eval_term(alloc, run, &Task { term: &term, ..*job }),
+        Some(ref term) => eval_term(alloc, run, &Task { term, ..*job }),
     }
 }
 
+#[inline(never)]
 #[cycle(evaluation)]
 #[tactic(auto, using(crate::proofs::Steps::evaluating), unfolding(aml_meaning::specs::StatementTerms::else_rule))]
 fn eval_else<S: Space>(alloc: Global, run: &mut Running<S>, job: &Task<'_>) -> Result<Flow, Refusal>
     ensures spent { run.new.1 ≤ run.old.1 }
     ensures means { Does result run.new (else_rule (meaning S.accesses) job.now.place.now.scope.path.now job.now.place.now.depth (at_tree job.now.term.now)) run.old }
 {
-    let items = list(job.term, 0)?;
-    eval_list(
-        alloc,
-        run,
-        &Task {
-            term: &items,
-            ..*job
-        },
-    )
+    match list(job.term, 0) {
+        Ok(ref items) => eval_list(
+            alloc,
+            run,
+            &Task {
+                term: items,
+                ..*job
+            },
+        ),
+        Err(refusal) => Err(refusal),
+    }
 }
 
+#[inline(never)]
 #[cycle(evaluation)]
 #[tactic(auto, using(crate::proofs::Steps::evaluating), unfolding(aml_meaning::specs::StatementTerms::while_rule))]
 fn eval_while<S: Space>(

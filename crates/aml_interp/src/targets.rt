@@ -6,6 +6,7 @@ ghost use Rattle.aml_meaning.specs.Meaning.{meaning};
 ghost use Rattle.aml_meaning.specs.TargetTerms.{operand_target, indexed_target, dereferenced_target, target_by_kind, target_of, name_target, target_at, targeted};
 
 use crate::field_calls::eval_stored_to;
+use crate::operands::{code, operand};
 use crate::task::Task;
 use crate::terms::{eval_value, eval_value_at};
 use aml_grammar::{OperandView, TermReader};
@@ -26,17 +27,17 @@ pub(crate) fn eval_target<S: Space>(
     ensures spent { run.new.1 ≤ run.old.1 }
     ensures means { Does result run.new (target_at (meaning S.accesses) job.now.place.now.scope.path.now job.now.place.now.depth (at_tree job.now.term.now) index) run.old }
 {
-    match job.term.operand(index) {
+    match operand(job.term, index) {
         OperandView::Absent => Err(Refusal::Name(NameFault::BadName)),
         OperandView::Null => Ok(StoreTarget::Nowhere),
         OperandView::Name => named_target(alloc, run, job, index),
         OperandView::Number(_) => Err(Refusal::Name(NameFault::BadName)),
         OperandView::Bytes => Err(Refusal::Name(NameFault::BadName)),
-        OperandView::Term(inner) => eval_inner_target(
+        OperandView::Term(ref inner) => eval_inner_target(
             alloc,
             run,
             &Task {
-                term: &inner,
+                term: inner,
                 ..*job
             },
         ),
@@ -44,6 +45,7 @@ pub(crate) fn eval_target<S: Space>(
     }
 }
 
+#[inline(never)]
 #[tactic(auto, using(crate::proofs::Steps::evaluating), unfolding(aml_meaning::specs::TargetTerms::name_target))]
 fn named_target<S: Space>(
     alloc: Global,
@@ -68,7 +70,7 @@ fn eval_inner_target<S: Space>(
     ensures spent { run.new.1 ≤ run.old.1 }
     ensures means { Does result run.new (target_of (meaning S.accesses) job.now.place.now.scope.path.now job.now.place.now.depth (at_tree job.now.term.now)) run.old }
 {
-    eval_target_by_kind(alloc, run, job, target_kind(job.term.code()))
+    eval_target_by_kind(alloc, run, job, target_kind(code(job.term)))
 }
 
 #[cycle(evaluation)]

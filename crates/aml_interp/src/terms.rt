@@ -14,12 +14,12 @@ ghost use Rattle.aml_meaning.specs.Terms.{kind_of};
 use crate::data::eval_data;
 use crate::declarations::eval_declaration;
 use crate::invocations::eval_name_value;
-use crate::operands::inner;
+use crate::operands::{code, inner, take_first};
 use crate::operators::eval_operator;
 use crate::regions::eval_region_term;
 use crate::statements::eval_statement;
 use crate::task::Task;
-use aml_grammar::{Opcode, TermCode, TermReader};
+use aml_grammar::{Opcode, TermCode};
 use aml_meaning::{Flow, Running, TermKind, kind_of};
 use aml_objects::Value;
 use ar_space::{EvaluationFault, NameFault, Refusal, Space};
@@ -50,7 +50,7 @@ fn eval_code<S: Space>(alloc: Global, run: &mut Running<S>, job: &Task<'_>) -> R
     ensures spent { run.new.1 ≤ run.old.1 }
     ensures means { Does result run.new (code_rule S.accesses (meaning S.accesses) (code_of (at_tree job.now.term.now)) job.now.place.now.scope.path.now job.now.place.now.depth (at_tree job.now.term.now)) run.old }
 {
-    match job.term.code() {
+    match code(job.term) {
         TermCode::Opcode(opcode) => eval_kind(alloc, run, job, opcode, kind_of(opcode)),
         TermCode::MethodInvocation => eval_name_value(alloc, run, job),
         TermCode::Name => Err(Refusal::Name(NameFault::BadName)),
@@ -118,15 +118,17 @@ pub(crate) fn eval_value_at<S: Space>(
     ensures spent { run.new.1 ≤ run.old.1 }
     ensures means { Does result run.new (value_at (meaning S.accesses) job.now.place.now.scope.path.now job.now.place.now.depth (at_tree job.now.term.now) index) run.old }
 {
-    let operand = inner(job.term, index)?;
-    eval_value(
-        alloc,
-        run,
-        &Task {
-            term: &operand,
-            ..*job
-        },
-    )
+    match inner(job.term, index) {
+        Ok(ref operand) => eval_value(
+            alloc,
+            run,
+            &Task {
+                term: operand,
+                ..*job
+            },
+        ),
+        Err(refusal) => Err(refusal),
+    }
 }
 
 /// The values of the first two operands.
@@ -174,21 +176,13 @@ pub(crate) fn eval_list<S: Space>(
 {
     let mut rest = *job.term;
     'items: loop {
-        match rest.next() {
+        match take_first(&mut rest) {
             None => return Ok(Flow::Next),
-            Some(item) => {
-                let flow = eval_term(
-                    alloc,
-                    run,
-                    &Task {
-                        term: &item.first,
-                        ..*job
-                    },
-                )?;
+            Some(ref item) => {
+                let flow = eval_term(alloc, run, &Task { term: item, ..*job })?;
                 if !flow.goes_on() {
                     return Ok(flow);
                 }
-                rest = item.rest;
             }
         }
     }
