@@ -239,7 +239,8 @@ fn named_element<S: Space>(
 {
     run.charge()?;
     let name = job.term.name(alloc, 0)?;
-    element_of(alloc, name, job.place.scope.path)
+    let scope = job.place.scope;
+    element_of(alloc, name, scope.path)
 }
 
 #[cycle(evaluation)]

@@ -78,7 +78,8 @@ pub(crate) fn eval_declaring<S: Space>(
     ensures means { Does result run.new (declaring (meaning S.accesses) job.now.place.now.scope.path.now job.now.place.now.depth (at_tree job.now.term.now) position object) run.old }
 {
     let name = job.term.name(alloc, position)?;
-    let path = name.resolve_in(alloc, job.place.scope.path)?;
+    let scope = job.place.scope;
+    let path = name.resolve_in(alloc, scope.path)?;
     run.world
         .new_name(alloc, job.place.depth == 0, path, object)?;
     Ok(Flow::Next)
@@ -116,7 +117,8 @@ fn eval_alias<S: Space>(
     let source = job.term.name(alloc, 0)?;
     let target = run.world.locate(alloc, job.place.scope, &source)?;
     let name = job.term.name(alloc, 1)?;
-    let path = name.resolve_in(alloc, job.place.scope.path)?;
+    let scope = job.place.scope;
+    let path = name.resolve_in(alloc, scope.path)?;
     run.world.new_name(
         alloc,
         job.place.depth == 0,
@@ -137,7 +139,8 @@ fn eval_method<S: Space>(
     ensures means { Does result run.new (method_rule (meaning S.accesses) job.now.place.now.scope.path.now job.now.place.now.depth (at_tree job.now.term.now)) run.old }
 {
     let name = job.term.name(alloc, 0)?;
-    let path = name.resolve_in(alloc, job.place.scope.path)?;
+    let scope = job.place.scope;
+    let path = name.resolve_in(alloc, scope.path)?;
     let flags = number(job.term, 1)?;
     let body = bytes(alloc, job.term, 2)?;
     let flags = MethodFlags {
@@ -192,7 +195,8 @@ fn eval_new_scope<S: Space>(
     ensures means { Does result run.new (new_scope (meaning S.accesses) object position job.now.place.now.scope.path.now job.now.place.now.depth (at_tree job.now.term.now)) run.old }
 {
     let name = job.term.name(alloc, 0)?;
-    let path = name.resolve_in(alloc, job.place.scope.path)?;
+    let outer = job.place.scope;
+    let path = name.resolve_in(alloc, outer.path)?;
     declare(alloc, &mut run.world, job.place.depth, &path, object)?;
     let items = list(job.term, position)?;
     let scope = run.world.scope(&path);

@@ -60,42 +60,42 @@ pub(crate) fn number(term: &Reader<'_>, index: usize) -> Result<u64, Refusal>
     ensures answer { Answers result (number_of (operand_of (at_tree term.now) index)) }
     ensures memory { NotMemory result }
 {
-    match term.operand(index) {
+    match operand(term, index) {
         OperandView::Number(number) => Ok(number),
         _ => Err(Refusal::Name(NameFault::BadName)),
     }
 }
 
 /// An operand that is a term.
-#[inline(never)]
+#[inline(always)]
 pub(crate) fn inner<'t>(term: &Reader<'t>, index: usize) -> Result<Reader<'t>, Refusal>
     ensures answer { Answers (seen at_tree result) (inner_of (operand_of (at_tree term.now) index)) }
     ensures memory { NotMemory result }
 {
-    match term.operand(index) {
+    match operand(term, index) {
         OperandView::Term(part) => Ok(part),
         _ => Err(Refusal::Name(NameFault::BadName)),
     }
 }
 
 /// An operand that is a list of terms.
-#[inline(never)]
+#[inline(always)]
 pub(crate) fn list<'t>(term: &Reader<'t>, index: usize) -> Result<Reader<'t>, Refusal>
     ensures answer { Answers (seen at_list result) (list_of (operand_of (at_tree term.now) index)) }
     ensures memory { NotMemory result }
 {
-    match term.operand(index) {
+    match operand(term, index) {
         OperandView::List(part) => Ok(part),
         _ => Err(Refusal::Name(NameFault::BadName)),
     }
 }
 
 /// The Else of an If, where it has one.
-#[inline(never)]
+#[inline(always)]
 pub(crate) fn else_of<'t>(term: &Reader<'t>) -> Option<Reader<'t>>
     ensures { option_map at_tree result ≡ else_of (operand_of (at_tree term.now) 2) }
 {
-    match term.operand(2) {
+    match operand(term, 2) {
         OperandView::Term(part) => Some(part),
         _ => None,
     }

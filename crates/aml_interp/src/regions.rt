@@ -233,7 +233,8 @@ fn lay_named<S: Space>(
     ensures { Does result world.new (named_field group job.now.place.now.scope.path.now job.now.place.now.depth at (at_tree job.now.term.now)) world.old }
 {
     let name = job.term.name(alloc, 0)?;
-    let path = name.resolve_in(alloc, job.place.scope.path)?;
+    let scope = job.place.scope;
+    let path = name.resolve_in(alloc, scope.path)?;
     let count = number(job.term, 1)?;
     world.new_field(alloc, group, job.place.depth == 0, path, at, count)
 }

@@ -120,7 +120,14 @@ fn eval_otherwise<S: Space>(
 {
     match else_of(job.term) {
         None => Ok(Flow::Next),
-        Some(ref term) => eval_term(alloc, run, &Task { term, ..*job }),
+        Some(term) => eval_term(
+            alloc,
+            run,
+            &Task {
+                term: &term,
+                ..*job
+            },
+        ),
     }
 }
 
@@ -131,17 +138,15 @@ fn eval_else<S: Space>(alloc: Global, run: &mut Running<S>, job: &Task<'_>) -> R
     ensures spent { run.new.1 ≤ run.old.1 }
     ensures means { Does result run.new (else_rule (meaning S.accesses) job.now.place.now.scope.path.now job.now.place.now.depth (at_tree job.now.term.now)) run.old }
 {
-    match list(job.term, 0) {
-        Ok(ref items) => eval_list(
-            alloc,
-            run,
-            &Task {
-                term: items,
-                ..*job
-            },
-        ),
-        Err(refusal) => Err(refusal),
-    }
+    let items = list(job.term, 0)?;
+    eval_list(
+        alloc,
+        run,
+        &Task {
+            term: &items,
+            ..*job
+        },
+    )
 }
 
 #[inline(never)]

@@ -107,6 +107,7 @@ pub(crate) fn eval_value<S: Space>(
 }
 
 /// The value of the operand at a position.
+#[inline(never)]
 #[cycle(evaluation)]
 #[tactic(auto, using(crate::proofs::Steps::evaluating), unfolding(aml_meaning::specs::Tasks::value_at))]
 pub(crate) fn eval_value_at<S: Space>(
@@ -118,20 +119,19 @@ pub(crate) fn eval_value_at<S: Space>(
     ensures spent { run.new.1 ≤ run.old.1 }
     ensures means { Does result run.new (value_at (meaning S.accesses) job.now.place.now.scope.path.now job.now.place.now.depth (at_tree job.now.term.now) index) run.old }
 {
-    match inner(job.term, index) {
-        Ok(ref operand) => eval_value(
-            alloc,
-            run,
-            &Task {
-                term: operand,
-                ..*job
-            },
-        ),
-        Err(refusal) => Err(refusal),
-    }
+    let operand = inner(job.term, index)?;
+    eval_value(
+        alloc,
+        run,
+        &Task {
+            term: &operand,
+            ..*job
+        },
+    )
 }
 
 /// The values of the first two operands.
+#[inline(never)]
 #[cycle(evaluation)]
 #[tactic(auto, using(crate::proofs::Steps::evaluating), unfolding(aml_meaning::specs::Tasks::two_values))]
 pub(crate) fn eval_two_values<S: Space>(
