@@ -10,7 +10,7 @@ ghost use Rattle.aml_meaning.specs.DataTerms.{data_rule, constant_rule, integer_
 
 use crate::operands::{Reader, bytes, code, inner, list, number, take_first};
 use crate::task::Task;
-use crate::terms::{eval_operand_integer, eval_value};
+use crate::terms::{eval_integer_of, eval_value};
 use aml_grammar::{TermCode, TermReader};
 use aml_meaning::{DataKind, Flow, Running};
 use aml_objects::{Element, Elements};

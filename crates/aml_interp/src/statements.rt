@@ -5,14 +5,13 @@ ghost use Rattle.aml_terms.specs.AtTree.{at_tree, at_list};
 ghost use Rattle.aml_grammar.specs.Apart.{operand_of};
 ghost use Rattle.aml_convert.specs.Operators.{is_true};
 ghost use Rattle.aml_meaning.specs.Meaning.{meaning};
-ghost use Rattle.aml_meaning.specs.Tasks.{operand_integer};
 ghost use Rattle.aml_meaning.specs.Terms.{else_of};
 ghost use Rattle.aml_meaning.specs.StatementTerms.{otherwise, branch, if_rule, else_rule, turn_of, turn, loop, while_rule, return_rule, release_rule, notify_rule, pause_rule, fatal_rule, statement_rule};
 
 use crate::operands::{Reader, else_of, inner, list};
 use crate::targets::eval_target;
 use crate::task::Task;
-use crate::terms::{eval_list, eval_operand_integer, eval_term, eval_value_at};
+use crate::terms::{eval_integer_of, eval_list, eval_operand_integer, eval_term, eval_value_at};
 use aml_convert::is_true;
 use aml_meaning::{Flow, Running, StatementKind};
 use ar_space::{EvaluationFault, Refusal, Space};
@@ -54,30 +53,8 @@ fn eval_if<S: Space>(alloc: Global, run: &mut Running<S>, job: &Task<'_>) -> Res
 {
     let condition = inner(job.term, 0)?;
     let items = list(job.term, 1)?;
-    let number = eval_condition(alloc, run, job, &condition)?;
+    let number = eval_integer_of(alloc, run, job, &condition)?;
     eval_branch(alloc, run, job, &items, is_true(number))
-}
-
-/// The condition of an If.
-#[cycle(evaluation)]
-#[tactic(auto, using(crate::proofs::Steps::evaluating))]
-fn eval_condition<S: Space>(
-    alloc: Global,
-    run: &mut Running<S>,
-    job: &Task<'_>,
-    condition: &Reader<'_>,
-) -> Result<u64, Refusal>
-    ensures spent { run.new.1 ≤ run.old.1 }
-    ensures means { Does result run.new (operand_integer (meaning S.accesses) job.now.place.now.scope.path.now job.now.place.now.depth (at_tree condition.now)) run.old }
-{
-    eval_operand_integer(
-        alloc,
-        run,
-        &Task {
-            term: condition,
-            ..*job
-        },
-    )
 }
 
 /// The list of an If, or what follows it.

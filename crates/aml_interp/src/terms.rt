@@ -14,7 +14,7 @@ ghost use Rattle.aml_meaning.specs.Terms.{kind_of};
 use crate::data::eval_data;
 use crate::declarations::eval_declaration;
 use crate::invocations::eval_name_value;
-use crate::operands::{code, inner, take_first};
+use crate::operands::{Reader, code, inner, take_first};
 use crate::operators::eval_operator;
 use crate::regions::eval_region_term;
 use crate::statements::eval_statement;
@@ -161,6 +161,21 @@ pub(crate) fn eval_operand_integer<S: Space>(
 {
     let value = eval_value(alloc, run, job)?;
     run.world.integer_in(value)
+}
+
+/// An integer that another term gives, evaluated where this one is.
+#[cycle(evaluation)]
+#[tactic(auto, using(crate::proofs::Steps::evaluating))]
+pub(crate) fn eval_integer_of<S: Space>(
+    alloc: Global,
+    run: &mut Running<S>,
+    job: &Task<'_>,
+    term: &Reader<'_>,
+) -> Result<u64, Refusal>
+    ensures spent { run.new.1 ≤ run.old.1 }
+    ensures means { Does result run.new (operand_integer (meaning S.accesses) job.now.place.now.scope.path.now job.now.place.now.depth (at_tree term.now)) run.old }
+{
+    eval_operand_integer(alloc, run, &Task { term, ..*job })
 }
 
 /// Items one after another, until one ends the list.
