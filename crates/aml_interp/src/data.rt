@@ -86,14 +86,7 @@ fn eval_buffer<S: Space>(
     ensures means { Does result run.new (buffer_rule (meaning S.accesses) job.now.place.now.scope.path.now job.now.place.now.depth (at_tree job.now.term.now)) run.old }
 {
     let size = inner(job.term, 0)?;
-    let length = eval_operand_integer(
-        alloc,
-        run,
-        &Task {
-            term: &size,
-            ..*job
-        },
-    )?;
+    let length = eval_integer_of(alloc, run, job, &size)?;
     let bytes = bytes(alloc, job.term, 1)?;
     let value = run.world.new_buffer(length, bytes)?;
     Ok(Flow::Value(value))
@@ -135,14 +128,7 @@ fn eval_var_package<S: Space>(
     ensures means { Does result run.new (var_package_rule (meaning S.accesses) job.now.place.now.scope.path.now job.now.place.now.depth (at_tree job.now.term.now)) run.old }
 {
     let size = inner(job.term, 0)?;
-    let count = eval_operand_integer(
-        alloc,
-        run,
-        &Task {
-            term: &size,
-            ..*job
-        },
-    )?;
+    let count = eval_integer_of(alloc, run, job, &size)?;
     run.world.few_elements(count)?;
     let elements = list(job.term, 1)?;
     package_of(
