@@ -14,6 +14,7 @@ use ar_space::{Refusal, Space};
 use std::alloc::Global;
 
 /// CreateBitField, CreateByteField, CreateWordField, CreateDWordField and CreateQWordField: a buffer, an index and a name.
+#[inline(never)]
 #[cycle(evaluation)]
 #[tactic(auto, using(crate::proofs::Steps::evaluating), unfolding(aml_meaning::specs::FieldTerms::sized_field_rule))]
 pub(crate) fn eval_sized_field<S: Space>(
@@ -23,7 +24,7 @@ pub(crate) fn eval_sized_field<S: Space>(
     size: BufferFieldSize,
 ) -> Result<Flow, Refusal>
     ensures spent { run.new.1 ≤ run.old.1 }
-    ensures means { Does result run.new (sized_field_rule (meaning S.accesses) size job.now.scope.path.now job.now.depth (at_tree job.now.term)) run.old }
+    ensures means { Does result run.new (sized_field_rule (meaning S.accesses) size job.now.place.now.scope.path.now job.now.place.now.depth (at_tree job.now.term.now)) run.old }
 {
     let (source, index) = eval_two_values(alloc, run, job)?;
     let buffer = buffer_of(source)?;
@@ -34,6 +35,7 @@ pub(crate) fn eval_sized_field<S: Space>(
 }
 
 /// CreateField: a buffer, the index of the first bit, how many bits, and a name.
+#[inline(never)]
 #[cycle(evaluation)]
 #[tactic(auto, using(crate::proofs::Steps::evaluating), unfolding(aml_meaning::specs::FieldTerms::bits_field_rule))]
 pub(crate) fn eval_bits_field<S: Space>(
@@ -42,7 +44,7 @@ pub(crate) fn eval_bits_field<S: Space>(
     job: &Task<'_>,
 ) -> Result<Flow, Refusal>
     ensures spent { run.new.1 ≤ run.old.1 }
-    ensures means { Does result run.new (bits_field_rule (meaning S.accesses) job.now.scope.path.now job.now.depth (at_tree job.now.term)) run.old }
+    ensures means { Does result run.new (bits_field_rule (meaning S.accesses) job.now.place.now.scope.path.now job.now.place.now.depth (at_tree job.now.term.now)) run.old }
 {
     let source = eval_value_at(alloc, run, job, 0)?;
     let index = eval_value_at(alloc, run, job, 1)?;

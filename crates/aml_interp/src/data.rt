@@ -8,9 +8,9 @@ ghost use Rattle.aml_objects.specs.declared.object.Element.TheVariants as elemen
 ghost use Rattle.aml_meaning.specs.Meaning.{meaning};
 ghost use Rattle.aml_meaning.specs.DataTerms.{data_rule, constant_rule, integer_rule, string_rule, buffer_rule, named_element, valued_element, element_by, elements_in_turn, package_of, package_rule, var_package_rule};
 
-use crate::operands::{Reader, bytes, inner, list, number};
+use crate::operands::{Reader, bytes, code, inner, list, number, take_first};
 use crate::task::Task;
-use crate::terms::{eval_operand_integer, eval_value};
+use crate::terms::{eval_integer_of, eval_value};
 use aml_grammar::{TermCode, TermReader};
 use aml_meaning::{DataKind, Flow, Running};
 use aml_objects::{Element, Elements};
@@ -19,7 +19,6 @@ use ar_space::{Refusal, Space};
 use std::alloc::Global;
 
 /// Data, by its kind.
-#[inline(never)]
 #[cycle(evaluation)]
 #[tactic(auto, using(crate::proofs::Steps::evaluating))]
 pub(crate) fn eval_data<S: Space>(
@@ -29,7 +28,7 @@ pub(crate) fn eval_data<S: Space>(
     kind: DataKind,
 ) -> Result<Flow, Refusal>
     ensures spent { run.new.1 ≤ run.old.1 }
-    ensures means { Does result run.new (data_rule (meaning S.accesses) kind job.now.scope.path.now job.now.depth (at_tree job.now.term)) run.old }
+    ensures means { Does result run.new (data_rule (meaning S.accesses) kind job.now.place.now.scope.path.now job.now.place.now.depth (at_tree job.now.term.now)) run.old }
 {
     match kind {
         DataKind::Constant(number) => eval_constant(run, number),
@@ -51,28 +50,31 @@ fn eval_constant<S: Space>(run: &Running<S>, number: u64) -> Result<Flow, Refusa
 }
 
 /// An integer that follows its opcode.
+#[inline(never)]
 #[tactic(auto, using(crate::proofs::Steps::evaluating), unfolding(aml_meaning::specs::DataTerms::integer_rule))]
-fn eval_integer<S: Space>(run: &Running<S>, term: Reader<'_>) -> Result<Flow, Refusal>
-    ensures { Does result run.now (integer_rule (meaning S.accesses) (at_tree term.entry)) run.now }
+fn eval_integer<S: Space>(run: &Running<S>, term: &Reader<'_>) -> Result<Flow, Refusal>
+    ensures { Does result run.now (integer_rule (meaning S.accesses) (at_tree term.now)) run.now }
 {
     let number = number(term, 0)?;
     eval_constant(run, number)
 }
 
+#[inline(never)]
 #[tactic(auto, using(crate::proofs::Steps::evaluating), unfolding(aml_meaning::specs::DataTerms::string_rule))]
 fn eval_string<S: Space>(
     alloc: Global,
     run: &mut Running<S>,
-    term: Reader<'_>,
+    term: &Reader<'_>,
 ) -> Result<Flow, Refusal>
     ensures spent { run.new.1 ≤ run.old.1 }
-    ensures means { Does result run.new (string_rule (meaning S.accesses) (at_tree term.entry)) run.old }
+    ensures means { Does result run.new (string_rule (meaning S.accesses) (at_tree term.now)) run.old }
 {
     let text = bytes(alloc, term, 0)?;
     let value = run.world.make_string(text)?;
     Ok(Flow::Value(value))
 }
 
+#[inline(never)]
 #[cycle(evaluation)]
 #[tactic(auto, using(crate::proofs::Steps::evaluating), unfolding(aml_meaning::specs::DataTerms::buffer_rule))]
 fn eval_buffer<S: Space>(
@@ -81,15 +83,16 @@ fn eval_buffer<S: Space>(
     job: &Task<'_>,
 ) -> Result<Flow, Refusal>
     ensures spent { run.new.1 ≤ run.old.1 }
-    ensures means { Does result run.new (buffer_rule (meaning S.accesses) job.now.scope.path.now job.now.depth (at_tree job.now.term)) run.old }
+    ensures means { Does result run.new (buffer_rule (meaning S.accesses) job.now.place.now.scope.path.now job.now.place.now.depth (at_tree job.now.term.now)) run.old }
 {
     let size = inner(job.term, 0)?;
-    let length = eval_operand_integer(alloc, run, &Task { term: size, ..*job })?;
+    let length = eval_integer_of(alloc, run, job, &size)?;
     let bytes = bytes(alloc, job.term, 1)?;
     let value = run.world.new_buffer(length, bytes)?;
     Ok(Flow::Value(value))
 }
 
+#[inline(never)]
 #[cycle(evaluation)]
 #[tactic(auto, using(crate::proofs::Steps::evaluating), unfolding(aml_meaning::specs::DataTerms::package_rule))]
 fn eval_package<S: Space>(
@@ -98,7 +101,7 @@ fn eval_package<S: Space>(
     job: &Task<'_>,
 ) -> Result<Flow, Refusal>
     ensures spent { run.new.1 ≤ run.old.1 }
-    ensures means { Does result run.new (package_rule (meaning S.accesses) job.now.scope.path.now job.now.depth (at_tree job.now.term)) run.old }
+    ensures means { Does result run.new (package_rule (meaning S.accesses) job.now.place.now.scope.path.now job.now.place.now.depth (at_tree job.now.term.now)) run.old }
 {
     let count = number(job.term, 0)?;
     let elements = list(job.term, 1)?;
@@ -106,13 +109,14 @@ fn eval_package<S: Space>(
         alloc,
         run,
         &Task {
-            term: elements,
+            term: &elements,
             ..*job
         },
         count as usize,
     )
 }
 
+#[inline(never)]
 #[cycle(evaluation)]
 #[tactic(auto, using(crate::proofs::Steps::evaluating), unfolding(aml_meaning::specs::DataTerms::var_package_rule))]
 fn eval_var_package<S: Space>(
@@ -121,17 +125,17 @@ fn eval_var_package<S: Space>(
     job: &Task<'_>,
 ) -> Result<Flow, Refusal>
     ensures spent { run.new.1 ≤ run.old.1 }
-    ensures means { Does result run.new (var_package_rule (meaning S.accesses) job.now.scope.path.now job.now.depth (at_tree job.now.term)) run.old }
+    ensures means { Does result run.new (var_package_rule (meaning S.accesses) job.now.place.now.scope.path.now job.now.place.now.depth (at_tree job.now.term.now)) run.old }
 {
     let size = inner(job.term, 0)?;
-    let count = eval_operand_integer(alloc, run, &Task { term: size, ..*job })?;
+    let count = eval_integer_of(alloc, run, job, &size)?;
     run.world.few_elements(count)?;
     let elements = list(job.term, 1)?;
     package_of(
         alloc,
         run,
         &Task {
-            term: elements,
+            term: &elements,
             ..*job
         },
         count as usize,
@@ -148,7 +152,7 @@ fn package_of<S: Space>(
     count: usize,
 ) -> Result<Flow, Refusal>
     ensures spent { run.new.1 ≤ run.old.1 }
-    ensures means { Does result run.new (package_of (meaning S.accesses) job.now.scope.path.now job.now.depth count (at_list job.now.term)) run.old }
+    ensures means { Does result run.new (package_of (meaning S.accesses) job.now.place.now.scope.path.now job.now.place.now.depth count (at_list job.now.term.now)) run.old }
 {
     let elements = eval_elements(alloc, run, job, count)?;
     let value = run.world.new_package(count, elements)?;
@@ -165,28 +169,19 @@ fn eval_elements<S: Space>(
     count: usize,
 ) -> Result<Elements, Refusal>
     ensures spent { run.new.1 ≤ run.old.1 }
-    ensures means { Does result run.new (elements_in_turn (meaning S.accesses) job.now.scope.path.now job.now.depth count (at_list job.now.term) []) run.old }
+    ensures means { Does result run.new (elements_in_turn (meaning S.accesses) job.now.place.now.scope.path.now job.now.place.now.depth count (at_list job.now.term.now) []) run.old }
 {
     let mut elements = Elements::new(alloc);
     let mut left = count;
-    let mut rest = job.term;
+    let mut rest = *job.term;
     'items: while left > 0 {
-        match rest.next() {
+        match take_first(&mut rest) {
             None => return Ok(elements),
-            Some(item) => {
-                let code = item.first.code();
-                let element = eval_element(
-                    alloc,
-                    run,
-                    &Task {
-                        term: item.first,
-                        ..*job
-                    },
-                    code,
-                )?;
+            Some(ref item) => {
+                let code = code(item);
+                let element = eval_element(alloc, run, &Task { term: item, ..*job }, code)?;
                 elements.push(element)?;
                 left -= 1;
-                rest = item.rest;
             }
         }
     }
@@ -203,7 +198,7 @@ fn eval_element<S: Space>(
 ) -> Result<Element, Refusal>
     ensures spent { run.new.1 ≤ run.old.1 }
     ensures paid { OnOk result (run.new.1 < run.old.1) }
-    ensures means { Does result run.new (element_by (meaning S.accesses) code job.now.scope.path.now job.now.depth (at_tree job.now.term)) run.old }
+    ensures means { Does result run.new (element_by (meaning S.accesses) code job.now.place.now.scope.path.now job.now.place.now.depth (at_tree job.now.term.now)) run.old }
 {
     match code {
         TermCode::Name => named_element(alloc, run, job),
@@ -226,11 +221,12 @@ fn named_element<S: Space>(
 ) -> Result<Element, Refusal>
     ensures spent { run.new.1 ≤ run.old.1 }
     ensures paid { OnOk result (run.new.1 < run.old.1) }
-    ensures means { Does result run.new (named_element (meaning S.accesses) job.now.scope.path.now (at_tree job.now.term)) run.old }
+    ensures means { Does result run.new (named_element (meaning S.accesses) job.now.place.now.scope.path.now (at_tree job.now.term.now)) run.old }
 {
     run.charge()?;
     let name = job.term.name(alloc, 0)?;
-    element_of(alloc, name, job.scope.path)
+    let scope = job.place.scope;
+    element_of(alloc, name, scope.path)
 }
 
 #[cycle(evaluation)]
@@ -242,7 +238,7 @@ fn valued_element<S: Space>(
 ) -> Result<Element, Refusal>
     ensures spent { run.new.1 ≤ run.old.1 }
     ensures paid { OnOk result (run.new.1 < run.old.1) }
-    ensures means { Does result run.new (valued_element (meaning S.accesses) job.now.scope.path.now job.now.depth (at_tree job.now.term)) run.old }
+    ensures means { Does result run.new (valued_element (meaning S.accesses) job.now.place.now.scope.path.now job.now.place.now.depth (at_tree job.now.term.now)) run.old }
 {
     let value = eval_value(alloc, run, job)?;
     Ok(Element::Value(value))

@@ -8,7 +8,7 @@ ghost use Rattle.aml_meaning.specs.DeclarationTerms.{declaration_rule, declaring
 ghost use Rattle.aml_meaning.specs.Declaring.{new_name};
 
 use crate::operands::{bytes, inner, list, number};
-use crate::task::Task;
+use crate::task::{Place, Task};
 use crate::terms::{eval_list, eval_value};
 use aml_grammar::TermReader;
 use aml_meaning::{DeclarationKind, Flow, Running, WorldState};
@@ -17,8 +17,7 @@ use aml_path::Path;
 use ar_space::{Refusal, Space};
 use std::alloc::Global;
 
-/// A declaration or a Scope, by its kind.
-#[inline(never)]
+/// A declaration or a Scope.
 #[cycle(evaluation)]
 #[tactic(auto, using(crate::proofs::Steps::evaluating))]
 pub(crate) fn eval_declaration<S: Space>(
@@ -28,7 +27,23 @@ pub(crate) fn eval_declaration<S: Space>(
     kind: DeclarationKind,
 ) -> Result<Flow, Refusal>
     ensures spent { run.new.1 ≤ run.old.1 }
-    ensures means { Does result run.new (declaration_rule (meaning S.accesses) kind job.now.scope.path.now job.now.depth (at_tree job.now.term)) run.old }
+    ensures means { Does result run.new (declaration_rule (meaning S.accesses) kind job.now.place.now.scope.path.now job.now.place.now.depth (at_tree job.now.term.now)) run.old }
+{
+    eval_declaration_kind(alloc, run, job, kind)
+}
+
+/// A declaration or a Scope, by its kind.
+#[inline(never)]
+#[cycle(evaluation)]
+#[tactic(auto, using(crate::proofs::Steps::evaluating))]
+fn eval_declaration_kind<S: Space>(
+    alloc: Global,
+    run: &mut Running<S>,
+    job: &Task<'_>,
+    kind: DeclarationKind,
+) -> Result<Flow, Refusal>
+    ensures spent { run.new.1 ≤ run.old.1 }
+    ensures means { Does result run.new (declaration_rule (meaning S.accesses) kind job.now.place.now.scope.path.now job.now.place.now.depth (at_tree job.now.term.now)) run.old }
 {
     match kind {
         DeclarationKind::Scope => eval_scope(alloc, run, job),
@@ -50,6 +65,7 @@ pub(crate) fn eval_declaration<S: Space>(
 }
 
 /// A name that the term's operand at a position declares.
+#[inline(never)]
 #[tactic(auto, using(crate::proofs::Steps::evaluating), unfolding(aml_meaning::specs::DeclarationTerms::declaring))]
 pub(crate) fn eval_declaring<S: Space>(
     alloc: Global,
@@ -59,32 +75,36 @@ pub(crate) fn eval_declaring<S: Space>(
     object: NamedObject,
 ) -> Result<Flow, Refusal>
     ensures spent { run.new.1 ≤ run.old.1 }
-    ensures means { Does result run.new (declaring (meaning S.accesses) job.now.scope.path.now job.now.depth (at_tree job.now.term) position object) run.old }
+    ensures means { Does result run.new (declaring (meaning S.accesses) job.now.place.now.scope.path.now job.now.place.now.depth (at_tree job.now.term.now) position object) run.old }
 {
     let name = job.term.name(alloc, position)?;
-    let path = name.resolve_in(alloc, job.scope.path)?;
-    run.world.new_name(alloc, job.depth == 0, path, object)?;
+    let scope = job.place.scope;
+    let path = name.resolve_in(alloc, scope.path)?;
+    run.world
+        .new_name(alloc, job.place.depth == 0, path, object)?;
     Ok(Flow::Next)
 }
 
+#[inline(never)]
 #[cycle(evaluation)]
 #[tactic(auto, using(crate::proofs::Steps::evaluating), unfolding(aml_meaning::specs::DeclarationTerms::name_rule))]
 fn eval_name<S: Space>(alloc: Global, run: &mut Running<S>, job: &Task<'_>) -> Result<Flow, Refusal>
     ensures spent { run.new.1 ≤ run.old.1 }
-    ensures means { Does result run.new (name_rule (meaning S.accesses) job.now.scope.path.now job.now.depth (at_tree job.now.term)) run.old }
+    ensures means { Does result run.new (name_rule (meaning S.accesses) job.now.place.now.scope.path.now job.now.place.now.depth (at_tree job.now.term.now)) run.old }
 {
     let datum = inner(job.term, 1)?;
     let value = eval_value(
         alloc,
         run,
         &Task {
-            term: datum,
+            term: &datum,
             ..*job
         },
     )?;
     eval_declaring(alloc, run, job, 0, NamedObject::Data(value))
 }
 
+#[inline(never)]
 #[tactic(auto, using(crate::proofs::Steps::evaluating), unfolding(aml_meaning::specs::DeclarationTerms::alias_rule))]
 fn eval_alias<S: Space>(
     alloc: Global,
@@ -92,17 +112,23 @@ fn eval_alias<S: Space>(
     job: &Task<'_>,
 ) -> Result<Flow, Refusal>
     ensures spent { run.new.1 ≤ run.old.1 }
-    ensures means { Does result run.new (alias_rule (meaning S.accesses) job.now.scope.path.now job.now.depth (at_tree job.now.term)) run.old }
+    ensures means { Does result run.new (alias_rule (meaning S.accesses) job.now.place.now.scope.path.now job.now.place.now.depth (at_tree job.now.term.now)) run.old }
 {
     let source = job.term.name(alloc, 0)?;
-    let target = run.world.locate(alloc, job.scope, &source)?;
+    let target = run.world.locate(alloc, job.place.scope, &source)?;
     let name = job.term.name(alloc, 1)?;
-    let path = name.resolve_in(alloc, job.scope.path)?;
-    run.world
-        .new_name(alloc, job.depth == 0, path, NamedObject::Alias(target.into_path()))?;
+    let scope = job.place.scope;
+    let path = name.resolve_in(alloc, scope.path)?;
+    run.world.new_name(
+        alloc,
+        job.place.depth == 0,
+        path,
+        NamedObject::Alias(target.into_path()),
+    )?;
     Ok(Flow::Next)
 }
 
+#[inline(never)]
 #[tactic(auto, using(crate::proofs::Steps::evaluating), unfolding(aml_meaning::specs::DeclarationTerms::method_rule))]
 fn eval_method<S: Space>(
     alloc: Global,
@@ -110,21 +136,23 @@ fn eval_method<S: Space>(
     job: &Task<'_>,
 ) -> Result<Flow, Refusal>
     ensures spent { run.new.1 ≤ run.old.1 }
-    ensures means { Does result run.new (method_rule (meaning S.accesses) job.now.scope.path.now job.now.depth (at_tree job.now.term)) run.old }
+    ensures means { Does result run.new (method_rule (meaning S.accesses) job.now.place.now.scope.path.now job.now.place.now.depth (at_tree job.now.term.now)) run.old }
 {
     let name = job.term.name(alloc, 0)?;
-    let path = name.resolve_in(alloc, job.scope.path)?;
+    let scope = job.place.scope;
+    let path = name.resolve_in(alloc, scope.path)?;
     let flags = number(job.term, 1)?;
     let body = bytes(alloc, job.term, 2)?;
     let flags = MethodFlags {
         byte: (flags % 256) as u8,
     };
     run.world
-        .new_method(alloc, job.depth == 0, path, flags, body)?;
+        .new_method(alloc, job.place.depth == 0, path, flags, body)?;
     Ok(Flow::Next)
 }
 
 /// The list of a Scope stands in the scope that its name finds.
+#[inline(never)]
 #[cycle(evaluation)]
 #[tactic(auto, using(crate::proofs::Steps::evaluating), unfolding(aml_meaning::specs::DeclarationTerms::scope_rule))]
 fn eval_scope<S: Space>(
@@ -133,24 +161,27 @@ fn eval_scope<S: Space>(
     job: &Task<'_>,
 ) -> Result<Flow, Refusal>
     ensures spent { run.new.1 ≤ run.old.1 }
-    ensures means { Does result run.new (scope_rule (meaning S.accesses) job.now.scope.path.now job.now.depth (at_tree job.now.term)) run.old }
+    ensures means { Does result run.new (scope_rule (meaning S.accesses) job.now.place.now.scope.path.now job.now.place.now.depth (at_tree job.now.term.now)) run.old }
 {
     let name = job.term.name(alloc, 0)?;
-    let located = run.world.locate_scope(alloc, job.scope, &name)?;
+    let located = run.world.locate_scope(alloc, job.place.scope, &name)?;
     let items = list(job.term, 1)?;
     let scope = located.scope();
     eval_list(
         alloc,
         run,
         &Task {
-            scope,
-            term: items,
-            ..*job
+            place: &Place {
+                scope,
+                depth: job.place.depth,
+            },
+            term: &items,
         },
     )
 }
 
 /// A new name, and then the list of the term in it, which is the operand at a position.
+#[inline(never)]
 #[cycle(evaluation)]
 #[tactic(auto, using(crate::proofs::Steps::evaluating), unfolding(aml_meaning::specs::DeclarationTerms::new_scope))]
 fn eval_new_scope<S: Space>(
@@ -161,25 +192,29 @@ fn eval_new_scope<S: Space>(
     position: usize,
 ) -> Result<Flow, Refusal>
     ensures spent { run.new.1 ≤ run.old.1 }
-    ensures means { Does result run.new (new_scope (meaning S.accesses) object position job.now.scope.path.now job.now.depth (at_tree job.now.term)) run.old }
+    ensures means { Does result run.new (new_scope (meaning S.accesses) object position job.now.place.now.scope.path.now job.now.place.now.depth (at_tree job.now.term.now)) run.old }
 {
     let name = job.term.name(alloc, 0)?;
-    let path = name.resolve_in(alloc, job.scope.path)?;
-    declare(alloc, &mut run.world, job.depth, &path, object)?;
+    let outer = job.place.scope;
+    let path = name.resolve_in(alloc, outer.path)?;
+    declare(alloc, &mut run.world, job.place.depth, &path, object)?;
     let items = list(job.term, position)?;
     let scope = run.world.scope(&path);
     eval_list(
         alloc,
         run,
         &Task {
-            scope,
-            term: items,
-            ..*job
+            place: &Place {
+                scope,
+                depth: job.place.depth,
+            },
+            term: &items,
         },
     )
 }
 
 /// Declares a name at a path that is used again.
+#[inline(never)]
 fn declare<S: Space>(
     alloc: Global,
     world: &mut WorldState<S>,

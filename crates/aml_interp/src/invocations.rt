@@ -14,9 +14,9 @@ ghost use Rattle.aml_meaning.specs.Invocations.{shallow, invocation_found, use_f
 ghost use Rattle.aml_meaning.specs.InvocationTerms.{osi_rule, arguments_in_turn, call_rule, field_rule, invocation_rule, name_value};
 
 use crate::field_calls::eval_field_read;
-use crate::operands::{Reader, as_many, list};
+use crate::operands::{Reader, as_many, list, name, take_first};
 use crate::readings::read_body;
-use crate::task::Task;
+use crate::task::{Place, Task};
 use crate::terms::{eval_list, eval_value};
 use aml_grammar::TermReader;
 use aml_meaning::{Flow, Invocation, Running, WorldState};
@@ -30,26 +30,40 @@ use std::alloc::Global;
 /// How many control methods may be called one inside another.
 pub(crate) const MAX_DEPTH: usize = 32;
 
-/// A name where a value stands, and its arguments.
-#[inline(never)]
+/// A name where a value stands.
 #[cycle(evaluation)]
-#[tactic(auto, using(crate::proofs::Steps::evaluating), unfolding(aml_meaning::specs::InvocationTerms::name_value))]
+#[tactic(auto, using(crate::proofs::Steps::evaluating))]
 pub(crate) fn eval_name_value<S: Space>(
     alloc: Global,
     run: &mut Running<S>,
     job: &Task<'_>,
 ) -> Result<Flow, Refusal>
     ensures spent { run.new.1 ≤ run.old.1 }
-    ensures means { Does result run.new (name_value S.accesses (meaning S.accesses) job.now.scope.path.now job.now.depth (at_tree job.now.term)) run.old }
+    ensures means { Does result run.new (name_value S.accesses (meaning S.accesses) job.now.place.now.scope.path.now job.now.place.now.depth (at_tree job.now.term.now)) run.old }
 {
-    let name = job.term.name(alloc, 0)?;
+    eval_used_name(alloc, run, job)
+}
+
+/// A name where a value stands, and its arguments.
+#[inline(never)]
+#[cycle(evaluation)]
+#[tactic(auto, using(crate::proofs::Steps::evaluating), unfolding(aml_meaning::specs::InvocationTerms::name_value))]
+fn eval_used_name<S: Space>(
+    alloc: Global,
+    run: &mut Running<S>,
+    job: &Task<'_>,
+) -> Result<Flow, Refusal>
+    ensures spent { run.new.1 ≤ run.old.1 }
+    ensures means { Does result run.new (name_value S.accesses (meaning S.accesses) job.now.place.now.scope.path.now job.now.place.now.depth (at_tree job.now.term.now)) run.old }
+{
+    let name = name(alloc, job.term, 0)?;
     let arguments = list(job.term, 1)?;
-    let invocation = name_used(alloc, &run.world, job.scope, &name, arguments)?;
+    let invocation = name_used(alloc, &run.world, job.place.scope, &name, &arguments)?;
     eval_invocation(
         alloc,
         run,
         &Task {
-            term: arguments,
+            term: &arguments,
             ..*job
         },
         invocation,
@@ -57,14 +71,15 @@ pub(crate) fn eval_name_value<S: Space>(
 }
 
 /// What a name is where a value stands, with the arguments that stand behind it; refused as `WorldState::invocation` is.
+#[inline(never)]
 fn name_used<S: Space>(
     alloc: Global,
     world: &WorldState<S>,
     scope: Scope<'_>,
     name: &NameString,
-    arguments: Reader<'_>,
+    arguments: &Reader<'_>,
 ) -> Result<Invocation, Refusal>
-    ensures { Does result world.now (invocation_found scope.entry.path.now name.now (count_of (at_list arguments.entry))) world.now }
+    ensures { Does result world.now (invocation_found scope.entry.path.now name.now (count_of (at_list arguments.now))) world.now }
 {
     match world.search(scope, name) {
         Ok(id) => used_with(alloc, world, id, arguments),
@@ -78,9 +93,9 @@ fn used_with<S: Space>(
     alloc: Global,
     world: &WorldState<S>,
     id: NodeId,
-    arguments: Reader<'_>,
+    arguments: &Reader<'_>,
 ) -> Result<Invocation, Refusal>
-    ensures { (f : List Seg × Entry) → numbered id.number world.now.names.map ≡ Some f → Does result world.now (use_found f (count_of (at_list arguments.entry))) world.now }
+    ensures { (f : List Seg × Entry) → numbered id.number world.now.names.map ≡ Some f → Does result world.now (use_found f (count_of (at_list arguments.now))) world.now }
 {
     as_many(arguments, world.arguments_at(id))?;
     world.use_of(alloc, id)
@@ -95,11 +110,11 @@ fn eval_invocation<S: Space>(
     invocation: Invocation,
 ) -> Result<Flow, Refusal>
     ensures spent { run.new.1 ≤ run.old.1 }
-    ensures means { Does result run.new (invocation_rule S.accesses (meaning S.accesses) job.now.scope.path.now job.now.depth (at_list job.now.term) invocation) run.old }
+    ensures means { Does result run.new (invocation_rule S.accesses (meaning S.accesses) job.now.place.now.scope.path.now job.now.place.now.depth (at_list job.now.term.now) invocation) run.old }
 {
     match invocation {
         Invocation::Value(value) => Ok(Flow::Value(value)),
-        Invocation::Field(field) => eval_field(alloc, run, job.depth, field),
+        Invocation::Field(field) => eval_field(alloc, run, job.place.depth, field),
         Invocation::Method(path, body) => eval_call(alloc, run, job, &path, &body),
         Invocation::Osi => eval_osi(alloc, run, job),
     }
@@ -131,10 +146,10 @@ fn eval_call<S: Space>(
     body: &Body,
 ) -> Result<Flow, Refusal>
     ensures spent { run.new.1 ≤ run.old.1 }
-    ensures means { Does result run.new (call_rule (meaning S.accesses) job.now.scope.path.now job.now.depth (at_list job.now.term) path.now body.now) run.old }
+    ensures means { Does result run.new (call_rule (meaning S.accesses) job.now.place.now.scope.path.now job.now.place.now.depth (at_list job.now.term.now) path.now body.now) run.old }
 {
     let values = eval_arguments(alloc, run, job)?;
-    eval_invoked(alloc, run, job.depth, path, body, &values)
+    eval_invoked(alloc, run, job.place.depth, path, body, &values)
 }
 
 /// A call of `\_OSI`, which has no frame.
@@ -142,10 +157,10 @@ fn eval_call<S: Space>(
 #[tactic(auto, using(crate::proofs::Steps::evaluating), unfolding(aml_meaning::specs::InvocationTerms::osi_rule))]
 fn eval_osi<S: Space>(alloc: Global, run: &mut Running<S>, job: &Task<'_>) -> Result<Flow, Refusal>
     ensures spent { run.new.1 ≤ run.old.1 }
-    ensures means { Does result run.new (osi_rule (meaning S.accesses) job.now.scope.path.now job.now.depth (at_list job.now.term)) run.old }
+    ensures means { Does result run.new (osi_rule (meaning S.accesses) job.now.place.now.scope.path.now job.now.place.now.depth (at_list job.now.term.now)) run.old }
 {
     let values = eval_arguments(alloc, run, job)?;
-    shallow(job.depth)?;
+    shallow(job.place.depth)?;
     let answer = run.world.osi(&values)?;
     Ok(Flow::Value(answer))
 }
@@ -159,24 +174,16 @@ fn eval_arguments<S: Space>(
     job: &Task<'_>,
 ) -> Result<Vec<Value>, Refusal>
     ensures spent { run.new.1 ≤ run.old.1 }
-    ensures means { Does (seen (λ list. list.items) result) run.new (arguments_in_turn (meaning S.accesses) job.now.scope.path.now job.now.depth (at_list job.now.term) []) run.old }
+    ensures means { Does (seen (λ list. list.items) result) run.new (arguments_in_turn (meaning S.accesses) job.now.place.now.scope.path.now job.now.place.now.depth (at_list job.now.term.now) []) run.old }
 {
     let mut values = Vec::new(alloc);
-    let mut rest = job.term;
+    let mut rest = *job.term;
     'items: loop {
-        match rest.next() {
+        match take_first(&mut rest) {
             None => return Ok(values),
-            Some(item) => {
-                let value = eval_value(
-                    alloc,
-                    run,
-                    &Task {
-                        term: item.first,
-                        ..*job
-                    },
-                )?;
+            Some(ref item) => {
+                let value = eval_value(alloc, run, &Task { term: item, ..*job })?;
                 values.push(value)?;
-                rest = item.rest;
             }
         }
     }
@@ -251,9 +258,8 @@ fn eval_body<S: Space>(
         alloc,
         run,
         &Task {
-            scope,
-            depth,
-            term: items,
+            place: &Place { scope, depth },
+            term: &items,
         },
     );
     run.world.leave(path);

@@ -7,7 +7,7 @@ ghost use Rattle.aml_meaning.specs.Meaning.{meaning};
 ghost use Rattle.aml_meaning.specs.OperatorTerms.{referent_of_value, referent_of_target, referent_by_kind, referent_at, reference_rule, dereference_rule, sought_name, sought_target, sought, reference_stored, reference_found, conditional_rule};
 
 use crate::field_calls::eval_held_value;
-use crate::operands::Reader;
+use crate::operands::{Reader, code, operand};
 use crate::targets::{eval_target, eval_targeted};
 use crate::task::Task;
 use crate::terms::{eval_value, eval_value_at};
@@ -26,16 +26,16 @@ pub(crate) fn eval_operand_referent<S: Space>(
     job: &Task<'_>,
 ) -> Result<Referent, Refusal>
     ensures spent { run.new.1 ≤ run.old.1 }
-    ensures means { Does result run.new (referent_at S.accesses (meaning S.accesses) job.now.scope.path.now job.now.depth (at_tree job.now.term)) run.old }
+    ensures means { Does result run.new (referent_at S.accesses (meaning S.accesses) job.now.place.now.scope.path.now job.now.place.now.depth (at_tree job.now.term.now)) run.old }
 {
-    match job.term.operand(0) {
+    match operand(job.term, 0) {
         OperandView::Absent => eval_target_referent(alloc, run, job),
         OperandView::Null => eval_target_referent(alloc, run, job),
         OperandView::Name => eval_target_referent(alloc, run, job),
         OperandView::Number(_) => eval_target_referent(alloc, run, job),
         OperandView::Bytes => eval_target_referent(alloc, run, job),
-        OperandView::Term(inner) => {
-            eval_referent_by_kind(alloc, run, job, inner, target_kind(inner.code()))
+        OperandView::Term(ref inner) => {
+            eval_referent_by_kind(alloc, run, job, inner, target_kind(code(inner)))
         }
         OperandView::List(_) => eval_target_referent(alloc, run, job),
     }
@@ -47,11 +47,11 @@ fn eval_referent_by_kind<S: Space>(
     alloc: Global,
     run: &mut Running<S>,
     job: &Task<'_>,
-    operand: Reader<'_>,
+    operand: &Reader<'_>,
     kind: TargetKind,
 ) -> Result<Referent, Refusal>
     ensures spent { run.new.1 ≤ run.old.1 }
-    ensures means { Does result run.new (referent_by_kind S.accesses (meaning S.accesses) job.now.scope.path.now job.now.depth (at_tree job.now.term) (at_tree operand.entry) kind) run.old }
+    ensures means { Does result run.new (referent_by_kind S.accesses (meaning S.accesses) job.now.place.now.scope.path.now job.now.place.now.depth (at_tree job.now.term.now) (at_tree operand.now) kind) run.old }
 {
     match kind {
         TargetKind::RefOf | TargetKind::DerefOf | TargetKind::Index => {
@@ -76,7 +76,7 @@ fn eval_value_referent<S: Space>(
     job: &Task<'_>,
 ) -> Result<Referent, Refusal>
     ensures spent { run.new.1 ≤ run.old.1 }
-    ensures means { Does result run.new (referent_of_value S.accesses (meaning S.accesses) job.now.scope.path.now job.now.depth (at_tree job.now.term)) run.old }
+    ensures means { Does result run.new (referent_of_value S.accesses (meaning S.accesses) job.now.place.now.scope.path.now job.now.place.now.depth (at_tree job.now.term.now)) run.old }
 {
     let value = eval_value(alloc, run, job)?;
     run.world.value_referent(value)
@@ -91,13 +91,14 @@ fn eval_target_referent<S: Space>(
     job: &Task<'_>,
 ) -> Result<Referent, Refusal>
     ensures spent { run.new.1 ≤ run.old.1 }
-    ensures means { Does result run.new (referent_of_target S.accesses (meaning S.accesses) job.now.scope.path.now job.now.depth (at_tree job.now.term)) run.old }
+    ensures means { Does result run.new (referent_of_target S.accesses (meaning S.accesses) job.now.place.now.scope.path.now job.now.place.now.depth (at_tree job.now.term.now)) run.old }
 {
     let target = eval_target(alloc, run, job, 0)?;
     run.world.target_referent(&target)
 }
 
 /// RefOf: a reference to what its operand names.
+#[inline(never)]
 #[cycle(evaluation)]
 #[tactic(auto, using(crate::proofs::Steps::evaluating), unfolding(aml_meaning::specs::OperatorTerms::reference_rule))]
 pub(crate) fn eval_reference<S: Space>(
@@ -106,7 +107,7 @@ pub(crate) fn eval_reference<S: Space>(
     job: &Task<'_>,
 ) -> Result<Flow, Refusal>
     ensures spent { run.new.1 ≤ run.old.1 }
-    ensures means { Does result run.new (reference_rule S.accesses (meaning S.accesses) job.now.scope.path.now job.now.depth (at_tree job.now.term)) run.old }
+    ensures means { Does result run.new (reference_rule S.accesses (meaning S.accesses) job.now.place.now.scope.path.now job.now.place.now.depth (at_tree job.now.term.now)) run.old }
 {
     let target = eval_target(alloc, run, job, 0)?;
     let reference = run.world.reference_of(&target)?;
@@ -114,6 +115,7 @@ pub(crate) fn eval_reference<S: Space>(
 }
 
 /// DerefOf: what its operand refers to, one step on.
+#[inline(never)]
 #[cycle(evaluation)]
 #[tactic(auto, using(crate::proofs::Steps::evaluating), unfolding(aml_meaning::specs::OperatorTerms::dereference_rule))]
 pub(crate) fn eval_dereference<S: Space>(
@@ -122,16 +124,17 @@ pub(crate) fn eval_dereference<S: Space>(
     job: &Task<'_>,
 ) -> Result<Flow, Refusal>
     ensures spent { run.new.1 ≤ run.old.1 }
-    ensures means { Does result run.new (dereference_rule S.accesses (meaning S.accesses) job.now.scope.path.now job.now.depth (at_tree job.now.term)) run.old }
+    ensures means { Does result run.new (dereference_rule S.accesses (meaning S.accesses) job.now.place.now.scope.path.now job.now.place.now.depth (at_tree job.now.term.now)) run.old }
 {
     let value = eval_value_at(alloc, run, job, 0)?;
     let reference = reference_in(value)?;
     let held = run.world.dereference(reference)?;
-    let value = eval_held_value(alloc, run, job.depth, held)?;
+    let value = eval_held_value(alloc, run, job.place.depth, held)?;
     Ok(Flow::Value(value))
 }
 
 /// CondRefOf: a reference is stored and it gives True, or nothing is stored and it gives False.
+#[inline(never)]
 #[cycle(evaluation)]
 #[tactic(auto, using(crate::proofs::Steps::evaluating), unfolding(aml_meaning::specs::OperatorTerms::conditional_rule))]
 pub(crate) fn eval_conditional_reference<S: Space>(
@@ -140,7 +143,7 @@ pub(crate) fn eval_conditional_reference<S: Space>(
     job: &Task<'_>,
 ) -> Result<Flow, Refusal>
     ensures spent { run.new.1 ≤ run.old.1 }
-    ensures means { Does result run.new (conditional_rule S.accesses (meaning S.accesses) job.now.scope.path.now job.now.depth (at_tree job.now.term)) run.old }
+    ensures means { Does result run.new (conditional_rule S.accesses (meaning S.accesses) job.now.place.now.scope.path.now job.now.place.now.depth (at_tree job.now.term.now)) run.old }
 {
     let sought = eval_sought(alloc, run, job)?;
     eval_reference_found(alloc, run, job, sought)
@@ -155,9 +158,9 @@ fn eval_sought<S: Space>(
     job: &Task<'_>,
 ) -> Result<Option<Reference>, Refusal>
     ensures spent { run.new.1 ≤ run.old.1 }
-    ensures means { Does result run.new (sought S.accesses (meaning S.accesses) job.now.scope.path.now job.now.depth (at_tree job.now.term) (operand_of (at_tree job.now.term) 0)) run.old }
+    ensures means { Does result run.new (sought S.accesses (meaning S.accesses) job.now.place.now.scope.path.now job.now.place.now.depth (at_tree job.now.term.now) (operand_of (at_tree job.now.term.now) 0)) run.old }
 {
-    match job.term.operand(0) {
+    match operand(job.term, 0) {
         OperandView::Absent => eval_sought_target(alloc, run, job),
         OperandView::Null => eval_sought_target(alloc, run, job),
         OperandView::Name => sought_name(alloc, run, job),
@@ -168,16 +171,17 @@ fn eval_sought<S: Space>(
     }
 }
 
+#[inline(never)]
 #[tactic(auto, using(crate::proofs::Steps::evaluating), unfolding(aml_meaning::specs::OperatorTerms::sought_name))]
 fn sought_name<S: Space>(
     alloc: Global,
     run: &Running<S>,
     job: &Task<'_>,
 ) -> Result<Option<Reference>, Refusal>
-    ensures { Does result run.now (sought_name S.accesses (meaning S.accesses) job.now.scope.path.now (at_tree job.now.term)) run.now }
+    ensures { Does result run.now (sought_name S.accesses (meaning S.accesses) job.now.place.now.scope.path.now (at_tree job.now.term.now)) run.now }
 {
     let name = job.term.name(alloc, 0)?;
-    run.world.reference_if_found(job.scope, &name)
+    run.world.reference_if_found(job.place.scope, &name)
 }
 
 #[cycle(evaluation)]
@@ -188,7 +192,7 @@ fn eval_sought_target<S: Space>(
     job: &Task<'_>,
 ) -> Result<Option<Reference>, Refusal>
     ensures spent { run.new.1 ≤ run.old.1 }
-    ensures means { Does result run.new (sought_target S.accesses (meaning S.accesses) job.now.scope.path.now job.now.depth (at_tree job.now.term)) run.old }
+    ensures means { Does result run.new (sought_target S.accesses (meaning S.accesses) job.now.place.now.scope.path.now job.now.place.now.depth (at_tree job.now.term.now)) run.old }
 {
     let target = eval_target(alloc, run, job, 0)?;
     let reference = run.world.reference_of(&target)?;
@@ -204,7 +208,7 @@ fn eval_reference_found<S: Space>(
     found: Option<Reference>,
 ) -> Result<Flow, Refusal>
     ensures spent { run.new.1 ≤ run.old.1 }
-    ensures means { Does result run.new (reference_found S.accesses (meaning S.accesses) job.now.scope.path.now job.now.depth (at_tree job.now.term) found) run.old }
+    ensures means { Does result run.new (reference_found S.accesses (meaning S.accesses) job.now.place.now.scope.path.now job.now.place.now.depth (at_tree job.now.term.now) found) run.old }
 {
     match found {
         None => Ok(Flow::Value(Value::Integer(0))),
@@ -221,7 +225,7 @@ fn eval_reference_stored<S: Space>(
     reference: Reference,
 ) -> Result<Flow, Refusal>
     ensures spent { run.new.1 ≤ run.old.1 }
-    ensures means { Does result run.new (reference_stored S.accesses (meaning S.accesses) job.now.scope.path.now job.now.depth (at_tree job.now.term) reference) run.old }
+    ensures means { Does result run.new (reference_stored S.accesses (meaning S.accesses) job.now.place.now.scope.path.now job.now.place.now.depth (at_tree job.now.term.now) reference) run.old }
 {
     eval_targeted(alloc, run, job, 1, Value::Reference(reference))?;
     let value = run.world.integer_kept(u64::MAX)?;

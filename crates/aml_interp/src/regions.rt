@@ -20,8 +20,7 @@ use aml_objects::{FieldSource, NamedObject, OperationRegion};
 use ar_space::{NameFault, Refusal, Space};
 use std::alloc::Global;
 
-/// An operation region, a list of fields or a buffer field, by its kind.
-#[inline(never)]
+/// An operation region, a list of fields or a buffer field.
 #[cycle(evaluation)]
 #[tactic(auto, using(crate::proofs::Steps::evaluating))]
 pub(crate) fn eval_region_term<S: Space>(
@@ -31,7 +30,23 @@ pub(crate) fn eval_region_term<S: Space>(
     kind: RegionKind,
 ) -> Result<Flow, Refusal>
     ensures spent { run.new.1 ≤ run.old.1 }
-    ensures means { Does result run.new (region_term_rule (meaning S.accesses) kind job.now.scope.path.now job.now.depth (at_tree job.now.term)) run.old }
+    ensures means { Does result run.new (region_term_rule (meaning S.accesses) kind job.now.place.now.scope.path.now job.now.place.now.depth (at_tree job.now.term.now)) run.old }
+{
+    eval_region_kind(alloc, run, job, kind)
+}
+
+/// An operation region, a list of fields or a buffer field, by its kind.
+#[inline(never)]
+#[cycle(evaluation)]
+#[tactic(auto, using(crate::proofs::Steps::evaluating))]
+fn eval_region_kind<S: Space>(
+    alloc: Global,
+    run: &mut Running<S>,
+    job: &Task<'_>,
+    kind: RegionKind,
+) -> Result<Flow, Refusal>
+    ensures spent { run.new.1 ≤ run.old.1 }
+    ensures means { Does result run.new (region_term_rule (meaning S.accesses) kind job.now.place.now.scope.path.now job.now.place.now.depth (at_tree job.now.term.now)) run.old }
 {
     match kind {
         RegionKind::OperationRegion => eval_region(alloc, run, job),
@@ -43,6 +58,7 @@ pub(crate) fn eval_region_term<S: Space>(
 }
 
 /// An operation region, whose offset and length are evaluated here.
+#[inline(never)]
 #[cycle(evaluation)]
 #[tactic(auto, using(crate::proofs::Steps::evaluating), unfolding(aml_meaning::specs::FieldTerms::region_rule))]
 fn eval_region<S: Space>(
@@ -51,7 +67,7 @@ fn eval_region<S: Space>(
     job: &Task<'_>,
 ) -> Result<Flow, Refusal>
     ensures spent { run.new.1 ≤ run.old.1 }
-    ensures means { Does result run.new (region_rule (meaning S.accesses) job.now.scope.path.now job.now.depth (at_tree job.now.term)) run.old }
+    ensures means { Does result run.new (region_rule (meaning S.accesses) job.now.place.now.scope.path.now job.now.place.now.depth (at_tree job.now.term.now)) run.old }
 {
     let space = number(job.term, 1)?;
     let offset = eval_value_at(alloc, run, job, 2)?;
@@ -67,6 +83,7 @@ fn eval_region<S: Space>(
 }
 
 /// The fields of an operation region.
+#[inline(never)]
 #[tactic(auto, using(crate::proofs::Steps::evaluating), unfolding(aml_meaning::specs::FieldTerms::field_list_rule))]
 fn eval_field_list<S: Space>(
     alloc: Global,
@@ -74,18 +91,18 @@ fn eval_field_list<S: Space>(
     job: &Task<'_>,
 ) -> Result<Flow, Refusal>
     ensures spent { run.new.1 ≤ run.old.1 }
-    ensures means { Does result run.new (field_list_rule (meaning S.accesses) job.now.scope.path.now job.now.depth (at_tree job.now.term)) run.old }
+    ensures means { Does result run.new (field_list_rule (meaning S.accesses) job.now.place.now.scope.path.now job.now.place.now.depth (at_tree job.now.term.now)) run.old }
 {
     let elements = list(job.term, 2)?;
     unconnected(Opcode::Field, elements)?;
     let name = job.term.name(alloc, 0)?;
-    let region = run.world.region_found(job.scope, &name)?;
+    let region = run.world.region_found(job.place.scope, &name)?;
     let flags = number(job.term, 1)?;
     lay_fields(
         alloc,
         run,
         &Task {
-            term: elements,
+            term: &elements,
             ..*job
         },
         FieldSource::Region(region),
@@ -94,6 +111,7 @@ fn eval_field_list<S: Space>(
 }
 
 /// The fields behind an index field and a data field.
+#[inline(never)]
 #[tactic(auto, using(crate::proofs::Steps::evaluating), unfolding(aml_meaning::specs::FieldTerms::index_list_rule))]
 fn eval_index_list<S: Space>(
     alloc: Global,
@@ -101,20 +119,20 @@ fn eval_index_list<S: Space>(
     job: &Task<'_>,
 ) -> Result<Flow, Refusal>
     ensures spent { run.new.1 ≤ run.old.1 }
-    ensures means { Does result run.new (index_list_rule (meaning S.accesses) job.now.scope.path.now job.now.depth (at_tree job.now.term)) run.old }
+    ensures means { Does result run.new (index_list_rule (meaning S.accesses) job.now.place.now.scope.path.now job.now.place.now.depth (at_tree job.now.term.now)) run.old }
 {
     let elements = list(job.term, 3)?;
     unconnected(Opcode::IndexField, elements)?;
     let name = job.term.name(alloc, 0)?;
-    let index = run.world.field_found(job.scope, &name)?;
+    let index = run.world.field_found(job.place.scope, &name)?;
     let name = job.term.name(alloc, 1)?;
-    let behind = run.world.field_found(job.scope, &name)?;
+    let behind = run.world.field_found(job.place.scope, &name)?;
     let flags = number(job.term, 2)?;
     lay_fields(
         alloc,
         run,
         &Task {
-            term: elements,
+            term: &elements,
             ..*job
         },
         FieldSource::Index(index, behind),
@@ -132,7 +150,7 @@ fn lay_fields<S: Space>(
     flags: u64,
 ) -> Result<Flow, Refusal>
     ensures spent { run.new.1 ≤ run.old.1 }
-    ensures means { Does result run.new (fields_laid job.now.scope.path.now job.now.depth source flags (at_list job.now.term)) run.old }
+    ensures means { Does result run.new (fields_laid job.now.place.now.scope.path.now job.now.place.now.depth source flags (at_list job.now.term.now)) run.old }
 {
     let group = FieldGroup {
         source,
@@ -154,10 +172,10 @@ fn lay_elements<S: Space>(
     job: &Task<'_>,
     first: FieldLayout,
 ) -> Result<(), Refusal>
-    ensures { Does result world.new (elements_laid group job.now.scope.path.now job.now.depth first (at_list job.now.term)) world.old }
+    ensures { Does result world.new (elements_laid group job.now.place.now.scope.path.now job.now.place.now.depth first (at_list job.now.term.now)) world.old }
 {
     let mut at = first;
-    let mut rest = job.term;
+    let mut rest = *job.term;
     'elements: loop {
         match rest.next() {
             None => return Ok(()),
@@ -168,7 +186,7 @@ fn lay_elements<S: Space>(
                     world,
                     group,
                     &Task {
-                        term: item.first,
+                        term: &item.first,
                         ..*job
                     },
                     code,
@@ -189,7 +207,7 @@ fn lay_element<S: Space>(
     code: TermCode,
     at: FieldLayout,
 ) -> Result<FieldLayout, Refusal>
-    ensures { Does result world.new (element_laid group job.now.scope.path.now job.now.depth code at (at_tree job.now.term)) world.old }
+    ensures { Does result world.new (element_laid group job.now.place.now.scope.path.now job.now.place.now.depth code at (at_tree job.now.term.now)) world.old }
 {
     match code {
         TermCode::NamedField => lay_named(alloc, world, group, job, at),
@@ -212,12 +230,13 @@ fn lay_named<S: Space>(
     job: &Task<'_>,
     at: FieldLayout,
 ) -> Result<FieldLayout, Refusal>
-    ensures { Does result world.new (named_field group job.now.scope.path.now job.now.depth at (at_tree job.now.term)) world.old }
+    ensures { Does result world.new (named_field group job.now.place.now.scope.path.now job.now.place.now.depth at (at_tree job.now.term.now)) world.old }
 {
     let name = job.term.name(alloc, 0)?;
-    let path = name.resolve_in(alloc, job.scope.path)?;
+    let scope = job.place.scope;
+    let path = name.resolve_in(alloc, scope.path)?;
     let count = number(job.term, 1)?;
-    world.new_field(alloc, group, job.depth == 0, path, at, count)
+    world.new_field(alloc, group, job.place.depth == 0, path, at, count)
 }
 
 /// Bits that are passed over.
@@ -228,7 +247,7 @@ fn lay_reserved<S: Space>(
     job: &Task<'_>,
     at: FieldLayout,
 ) -> Result<FieldLayout, Refusal>
-    ensures { Does result world.now (reserved_field group job.now.scope.path.now job.now.depth at (at_tree job.now.term)) world.now }
+    ensures { Does result world.now (reserved_field group job.now.place.now.scope.path.now job.now.place.now.depth at (at_tree job.now.term.now)) world.now }
 {
     let count = number(job.term, 0)?;
     at.further(count)
@@ -242,7 +261,7 @@ fn lay_access<S: Space>(
     job: &Task<'_>,
     at: FieldLayout,
 ) -> Result<FieldLayout, Refusal>
-    ensures { Does result world.now (access_field group job.now.scope.path.now job.now.depth at (at_tree job.now.term)) world.now }
+    ensures { Does result world.now (access_field group job.now.place.now.scope.path.now job.now.place.now.depth at (at_tree job.now.term.now)) world.now }
 {
     let flags = number(job.term, 0)?;
     Ok(at.with_access(flags))

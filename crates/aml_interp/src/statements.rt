@@ -11,7 +11,7 @@ ghost use Rattle.aml_meaning.specs.StatementTerms.{otherwise, branch, if_rule, e
 use crate::operands::{Reader, else_of, inner, list};
 use crate::targets::eval_target;
 use crate::task::Task;
-use crate::terms::{eval_list, eval_operand_integer, eval_term, eval_value_at};
+use crate::terms::{eval_integer_of, eval_list, eval_operand_integer, eval_term, eval_value_at};
 use aml_convert::is_true;
 use aml_meaning::{Flow, Running, StatementKind};
 use ar_space::{EvaluationFault, Refusal, Space};
@@ -27,7 +27,7 @@ pub(crate) fn eval_statement<S: Space>(
     kind: StatementKind,
 ) -> Result<Flow, Refusal>
     ensures spent { run.new.1 ≤ run.old.1 }
-    ensures means { Does result run.new (statement_rule (meaning S.accesses) kind job.now.scope.path.now job.now.depth (at_tree job.now.term)) run.old }
+    ensures means { Does result run.new (statement_rule (meaning S.accesses) kind job.now.place.now.scope.path.now job.now.place.now.depth (at_tree job.now.term.now)) run.old }
 {
     match kind {
         StatementKind::If => eval_if(alloc, run, job),
@@ -44,23 +44,17 @@ pub(crate) fn eval_statement<S: Space>(
     }
 }
 
+#[inline(never)]
 #[cycle(evaluation)]
 #[tactic(auto, using(crate::proofs::Steps::evaluating), unfolding(aml_meaning::specs::StatementTerms::if_rule))]
 fn eval_if<S: Space>(alloc: Global, run: &mut Running<S>, job: &Task<'_>) -> Result<Flow, Refusal>
     ensures spent { run.new.1 ≤ run.old.1 }
-    ensures means { Does result run.new (if_rule (meaning S.accesses) job.now.scope.path.now job.now.depth (at_tree job.now.term)) run.old }
+    ensures means { Does result run.new (if_rule (meaning S.accesses) job.now.place.now.scope.path.now job.now.place.now.depth (at_tree job.now.term.now)) run.old }
 {
     let condition = inner(job.term, 0)?;
     let items = list(job.term, 1)?;
-    let number = eval_operand_integer(
-        alloc,
-        run,
-        &Task {
-            term: condition,
-            ..*job
-        },
-    )?;
-    eval_branch(alloc, run, job, items, is_true(number))
+    let number = eval_integer_of(alloc, run, job, &condition)?;
+    eval_branch(alloc, run, job, &items, is_true(number))
 }
 
 /// The list of an If, or what follows it.
@@ -70,11 +64,11 @@ fn eval_branch<S: Space>(
     alloc: Global,
     run: &mut Running<S>,
     job: &Task<'_>,
-    items: Reader<'_>,
+    items: &Reader<'_>,
     holds: bool,
 ) -> Result<Flow, Refusal>
     ensures spent { run.new.1 ≤ run.old.1 }
-    ensures means { Does result run.new (branch (meaning S.accesses) job.now.scope.path.now job.now.depth (at_list items.entry) (else_of (operand_of (at_tree job.now.term) 2)) holds) run.old }
+    ensures means { Does result run.new (branch (meaning S.accesses) job.now.place.now.scope.path.now job.now.place.now.depth (at_list items.now) (else_of (operand_of (at_tree job.now.term.now) 2)) holds) run.old }
 {
     if holds {
         eval_list(
@@ -99,31 +93,40 @@ fn eval_otherwise<S: Space>(
     job: &Task<'_>,
 ) -> Result<Flow, Refusal>
     ensures spent { run.new.1 ≤ run.old.1 }
-    ensures means { Does result run.new (otherwise (meaning S.accesses) job.now.scope.path.now job.now.depth (else_of (operand_of (at_tree job.now.term) 2))) run.old }
+    ensures means { Does result run.new (otherwise (meaning S.accesses) job.now.place.now.scope.path.now job.now.place.now.depth (else_of (operand_of (at_tree job.now.term.now) 2))) run.old }
 {
     match else_of(job.term) {
         None => Ok(Flow::Next),
-        Some(term) => eval_term(alloc, run, &Task { term, ..*job }),
+        Some(term) => eval_term(
+            alloc,
+            run,
+            &Task {
+                term: &term,
+                ..*job
+            },
+        ),
     }
 }
 
+#[inline(never)]
 #[cycle(evaluation)]
 #[tactic(auto, using(crate::proofs::Steps::evaluating), unfolding(aml_meaning::specs::StatementTerms::else_rule))]
 fn eval_else<S: Space>(alloc: Global, run: &mut Running<S>, job: &Task<'_>) -> Result<Flow, Refusal>
     ensures spent { run.new.1 ≤ run.old.1 }
-    ensures means { Does result run.new (else_rule (meaning S.accesses) job.now.scope.path.now job.now.depth (at_tree job.now.term)) run.old }
+    ensures means { Does result run.new (else_rule (meaning S.accesses) job.now.place.now.scope.path.now job.now.place.now.depth (at_tree job.now.term.now)) run.old }
 {
     let items = list(job.term, 0)?;
     eval_list(
         alloc,
         run,
         &Task {
-            term: items,
+            term: &items,
             ..*job
         },
     )
 }
 
+#[inline(never)]
 #[cycle(evaluation)]
 #[tactic(auto, using(crate::proofs::Steps::evaluating), unfolding(aml_meaning::specs::StatementTerms::while_rule))]
 fn eval_while<S: Space>(
@@ -132,7 +135,7 @@ fn eval_while<S: Space>(
     job: &Task<'_>,
 ) -> Result<Flow, Refusal>
     ensures spent { run.new.1 ≤ run.old.1 }
-    ensures means { Does result run.new (while_rule (meaning S.accesses) job.now.scope.path.now job.now.depth (at_tree job.now.term)) run.old }
+    ensures means { Does result run.new (while_rule (meaning S.accesses) job.now.place.now.scope.path.now job.now.place.now.depth (at_tree job.now.term.now)) run.old }
 {
     let condition = inner(job.term, 0)?;
     let items = list(job.term, 1)?;
@@ -140,10 +143,10 @@ fn eval_while<S: Space>(
         alloc,
         run,
         &Task {
-            term: condition,
+            term: &condition,
             ..*job
         },
-        items,
+        &items,
     )
 }
 
@@ -154,10 +157,10 @@ fn eval_loop<S: Space>(
     alloc: Global,
     run: &mut Running<S>,
     job: &Task<'_>,
-    items: Reader<'_>,
+    items: &Reader<'_>,
 ) -> Result<Flow, Refusal>
     ensures spent { run.new.1 ≤ run.old.1 }
-    ensures means { Does result run.new (loop (meaning S.accesses) job.now.scope.path.now job.now.depth (at_tree job.now.term) (at_list items.entry)) run.old }
+    ensures means { Does result run.new (loop (meaning S.accesses) job.now.place.now.scope.path.now job.now.place.now.depth (at_tree job.now.term.now) (at_list items.now)) run.old }
 {
     'turns: loop {
         let flow = eval_turn(alloc, run, job, items)?;
@@ -175,11 +178,11 @@ fn eval_turn<S: Space>(
     alloc: Global,
     run: &mut Running<S>,
     job: &Task<'_>,
-    items: Reader<'_>,
+    items: &Reader<'_>,
 ) -> Result<Flow, Refusal>
     ensures spent { run.new.1 ≤ run.old.1 }
     ensures paid { OnOk result (run.new.1 < run.old.1) }
-    ensures means { Does result run.new (turn (meaning S.accesses) job.now.scope.path.now job.now.depth (at_tree job.now.term) (at_list items.entry)) run.old }
+    ensures means { Does result run.new (turn (meaning S.accesses) job.now.place.now.scope.path.now job.now.place.now.depth (at_tree job.now.term.now) (at_list items.now)) run.old }
 {
     let number = eval_operand_integer(alloc, run, job)?;
     eval_turn_of(
@@ -202,7 +205,7 @@ fn eval_turn_of<S: Space>(
     holds: bool,
 ) -> Result<Flow, Refusal>
     ensures spent { run.new.1 ≤ run.old.1 }
-    ensures means { Does result run.new (turn_of (meaning S.accesses) job.now.scope.path.now job.now.depth (at_list job.now.term) holds) run.old }
+    ensures means { Does result run.new (turn_of (meaning S.accesses) job.now.place.now.scope.path.now job.now.place.now.depth (at_list job.now.term.now) holds) run.old }
 {
     if holds {
         eval_list(alloc, run, job)
@@ -220,7 +223,7 @@ fn eval_return<S: Space>(
     job: &Task<'_>,
 ) -> Result<Flow, Refusal>
     ensures spent { run.new.1 ≤ run.old.1 }
-    ensures means { Does result run.new (return_rule (meaning S.accesses) job.now.scope.path.now job.now.depth (at_tree job.now.term)) run.old }
+    ensures means { Does result run.new (return_rule (meaning S.accesses) job.now.place.now.scope.path.now job.now.place.now.depth (at_tree job.now.term.now)) run.old }
 {
     let value = eval_value_at(alloc, run, job, 0)?;
     Ok(Flow::Return(value))
@@ -235,7 +238,7 @@ fn eval_release<S: Space>(
     job: &Task<'_>,
 ) -> Result<Flow, Refusal>
     ensures spent { run.new.1 ≤ run.old.1 }
-    ensures means { Does result run.new (release_rule (meaning S.accesses) job.now.scope.path.now job.now.depth (at_tree job.now.term)) run.old }
+    ensures means { Does result run.new (release_rule (meaning S.accesses) job.now.place.now.scope.path.now job.now.place.now.depth (at_tree job.now.term.now)) run.old }
 {
     let target = eval_target(alloc, run, job, 0)?;
     run.world.release(alloc, &target)?;
@@ -252,7 +255,7 @@ fn eval_notify<S: Space>(
     job: &Task<'_>,
 ) -> Result<Flow, Refusal>
     ensures spent { run.new.1 ≤ run.old.1 }
-    ensures means { Does result run.new (notify_rule (meaning S.accesses) job.now.scope.path.now job.now.depth (at_tree job.now.term)) run.old }
+    ensures means { Does result run.new (notify_rule (meaning S.accesses) job.now.place.now.scope.path.now job.now.place.now.depth (at_tree job.now.term.now)) run.old }
 {
     eval_target(alloc, run, job, 0)?;
     eval_value_at(alloc, run, job, 1)?;
@@ -269,7 +272,7 @@ fn eval_pause<S: Space>(
     job: &Task<'_>,
 ) -> Result<Flow, Refusal>
     ensures spent { run.new.1 ≤ run.old.1 }
-    ensures means { Does result run.new (pause_rule (meaning S.accesses) job.now.scope.path.now job.now.depth (at_tree job.now.term)) run.old }
+    ensures means { Does result run.new (pause_rule (meaning S.accesses) job.now.place.now.scope.path.now job.now.place.now.depth (at_tree job.now.term.now)) run.old }
 {
     eval_value_at(alloc, run, job, 0)?;
     Ok(Flow::Next)
@@ -284,7 +287,7 @@ fn eval_fatal<S: Space>(
     job: &Task<'_>,
 ) -> Result<Flow, Refusal>
     ensures spent { run.new.1 ≤ run.old.1 }
-    ensures means { Does result run.new (fatal_rule (meaning S.accesses) job.now.scope.path.now job.now.depth (at_tree job.now.term)) run.old }
+    ensures means { Does result run.new (fatal_rule (meaning S.accesses) job.now.place.now.scope.path.now job.now.place.now.depth (at_tree job.now.term.now)) run.old }
 {
     eval_value_at(alloc, run, job, 2)?;
     Err(Refusal::Evaluation(EvaluationFault::Fatal))

@@ -6,6 +6,7 @@ ghost use Rattle.aml_meaning.specs.Meaning.{meaning};
 ghost use Rattle.aml_meaning.specs.TargetTerms.{operand_target, indexed_target, dereferenced_target, target_by_kind, target_of, name_target, target_at, targeted};
 
 use crate::field_calls::eval_stored_to;
+use crate::operands::{code, operand};
 use crate::task::Task;
 use crate::terms::{eval_value, eval_value_at};
 use aml_grammar::{OperandView, TermReader};
@@ -24,15 +25,15 @@ pub(crate) fn eval_target<S: Space>(
     index: usize,
 ) -> Result<StoreTarget, Refusal>
     ensures spent { run.new.1 ≤ run.old.1 }
-    ensures means { Does result run.new (target_at (meaning S.accesses) job.now.scope.path.now job.now.depth (at_tree job.now.term) index) run.old }
+    ensures means { Does result run.new (target_at (meaning S.accesses) job.now.place.now.scope.path.now job.now.place.now.depth (at_tree job.now.term.now) index) run.old }
 {
-    match job.term.operand(index) {
+    match operand(job.term, index) {
         OperandView::Absent => Err(Refusal::Name(NameFault::BadName)),
         OperandView::Null => Ok(StoreTarget::Nowhere),
         OperandView::Name => named_target(alloc, run, job, index),
         OperandView::Number(_) => Err(Refusal::Name(NameFault::BadName)),
         OperandView::Bytes => Err(Refusal::Name(NameFault::BadName)),
-        OperandView::Term(inner) => eval_inner_target(
+        OperandView::Term(ref inner) => eval_inner_target(
             alloc,
             run,
             &Task {
@@ -44,6 +45,7 @@ pub(crate) fn eval_target<S: Space>(
     }
 }
 
+#[inline(never)]
 #[tactic(auto, using(crate::proofs::Steps::evaluating), unfolding(aml_meaning::specs::TargetTerms::name_target))]
 fn named_target<S: Space>(
     alloc: Global,
@@ -51,10 +53,10 @@ fn named_target<S: Space>(
     job: &Task<'_>,
     index: usize,
 ) -> Result<StoreTarget, Refusal>
-    ensures { Does result run.now (name_target (meaning S.accesses) job.now.scope.path.now (at_tree job.now.term) index) run.now }
+    ensures { Does result run.now (name_target (meaning S.accesses) job.now.place.now.scope.path.now (at_tree job.now.term.now) index) run.now }
 {
     let name = job.term.name(alloc, index)?;
-    run.world.target_named(alloc, job.scope, &name)
+    run.world.target_named(alloc, job.place.scope, &name)
 }
 
 /// The target that a term is: Debug, a local or an argument, or what it refers to.
@@ -66,9 +68,9 @@ fn eval_inner_target<S: Space>(
     job: &Task<'_>,
 ) -> Result<StoreTarget, Refusal>
     ensures spent { run.new.1 ≤ run.old.1 }
-    ensures means { Does result run.new (target_of (meaning S.accesses) job.now.scope.path.now job.now.depth (at_tree job.now.term)) run.old }
+    ensures means { Does result run.new (target_of (meaning S.accesses) job.now.place.now.scope.path.now job.now.place.now.depth (at_tree job.now.term.now)) run.old }
 {
-    eval_target_by_kind(alloc, run, job, target_kind(job.term.code()))
+    eval_target_by_kind(alloc, run, job, target_kind(code(job.term)))
 }
 
 #[cycle(evaluation)]
@@ -80,7 +82,7 @@ fn eval_target_by_kind<S: Space>(
     kind: TargetKind,
 ) -> Result<StoreTarget, Refusal>
     ensures spent { run.new.1 ≤ run.old.1 }
-    ensures means { Does result run.new (target_by_kind (meaning S.accesses) job.now.scope.path.now job.now.depth (at_tree job.now.term) (target_at (meaning S.accesses) job.now.scope.path.now job.now.depth (at_tree job.now.term) 0) kind) run.old }
+    ensures means { Does result run.new (target_by_kind (meaning S.accesses) job.now.place.now.scope.path.now job.now.place.now.depth (at_tree job.now.term.now) (target_at (meaning S.accesses) job.now.place.now.scope.path.now job.now.place.now.depth (at_tree job.now.term.now) 0) kind) run.old }
 {
     match kind {
         TargetKind::Nowhere => Ok(StoreTarget::Nowhere),
@@ -101,7 +103,7 @@ fn eval_operand_target<S: Space>(
     job: &Task<'_>,
 ) -> Result<StoreTarget, Refusal>
     ensures spent { run.new.1 ≤ run.old.1 }
-    ensures means { Does result run.new (operand_target (meaning S.accesses) job.now.scope.path.now job.now.depth (at_tree job.now.term)) run.old }
+    ensures means { Does result run.new (operand_target (meaning S.accesses) job.now.place.now.scope.path.now job.now.place.now.depth (at_tree job.now.term.now)) run.old }
 {
     run.charge()?;
     eval_target(alloc, run, job, 0)
@@ -116,7 +118,7 @@ fn eval_dereferenced_target<S: Space>(
     job: &Task<'_>,
 ) -> Result<StoreTarget, Refusal>
     ensures spent { run.new.1 ≤ run.old.1 }
-    ensures means { Does result run.new (dereferenced_target (meaning S.accesses) job.now.scope.path.now job.now.depth (at_tree job.now.term)) run.old }
+    ensures means { Does result run.new (dereferenced_target (meaning S.accesses) job.now.place.now.scope.path.now job.now.place.now.depth (at_tree job.now.term.now)) run.old }
 {
     run.charge()?;
     let value = eval_value_at(alloc, run, job, 0)?;
@@ -134,7 +136,7 @@ fn eval_indexed_target<S: Space>(
     job: &Task<'_>,
 ) -> Result<StoreTarget, Refusal>
     ensures spent { run.new.1 ≤ run.old.1 }
-    ensures means { Does result run.new (indexed_target (meaning S.accesses) job.now.scope.path.now job.now.depth (at_tree job.now.term)) run.old }
+    ensures means { Does result run.new (indexed_target (meaning S.accesses) job.now.place.now.scope.path.now job.now.place.now.depth (at_tree job.now.term.now)) run.old }
 {
     let value = eval_value(alloc, run, job)?;
     let reference = reference_in(value)?;
@@ -152,9 +154,9 @@ pub(crate) fn eval_targeted<S: Space>(
     value: Value,
 ) -> Result<Flow, Refusal>
     ensures spent { run.new.1 ≤ run.old.1 }
-    ensures means { Does result run.new (targeted S.accesses (meaning S.accesses) job.now.scope.path.now job.now.depth (at_tree job.now.term) index value) run.old }
+    ensures means { Does result run.new (targeted S.accesses (meaning S.accesses) job.now.place.now.scope.path.now job.now.place.now.depth (at_tree job.now.term.now) index value) run.old }
 {
     let target = eval_target(alloc, run, job, index)?;
-    eval_stored_to(alloc, run, job.depth, &target, value)?;
+    eval_stored_to(alloc, run, job.place.depth, &target, value)?;
     Ok(Flow::Value(value))
 }

@@ -3,11 +3,16 @@
 use crate::operands::Reader;
 use aml_namespace::Scope;
 
-/// A term or a list of terms to evaluate: the scope that its names stand in, how many control methods are being called, and where
-/// it is read.
+/// Where a term is evaluated: the scope that its names stand in, and how many control methods are being called.
 #[derive(Clone, Copy)]
-pub(crate) struct Task<'t> {
+pub(crate) struct Place<'t> {
     pub(crate) scope: Scope<'t>,
     pub(crate) depth: usize,
-    pub(crate) term: Reader<'t>,
+}
+
+/// A term or a list of terms to evaluate, and where. Each nested term has one of these on the stack, so it only refers to both.
+#[derive(Clone, Copy)]
+pub(crate) struct Task<'t> {
+    pub(crate) place: &'t Place<'t>,
+    pub(crate) term: &'t Reader<'t>,
 }

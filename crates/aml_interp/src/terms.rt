@@ -14,12 +14,12 @@ ghost use Rattle.aml_meaning.specs.Terms.{kind_of};
 use crate::data::eval_data;
 use crate::declarations::eval_declaration;
 use crate::invocations::eval_name_value;
-use crate::operands::inner;
+use crate::operands::{Reader, code, inner, take_first};
 use crate::operators::eval_operator;
 use crate::regions::eval_region_term;
 use crate::statements::eval_statement;
 use crate::task::Task;
-use aml_grammar::{Opcode, TermCode, TermReader};
+use aml_grammar::{Opcode, TermCode};
 use aml_meaning::{Flow, Running, TermKind, kind_of};
 use aml_objects::Value;
 use ar_space::{EvaluationFault, NameFault, Refusal, Space};
@@ -38,7 +38,7 @@ pub(crate) fn eval_term<S: Space>(
 ) -> Result<Flow, Refusal>
     ensures spent { run.new.1 ≤ run.old.1 }
     ensures paid { OnOk result (run.new.1 < run.old.1) }
-    ensures means { Does result run.new (meaning S.accesses (task job.now.scope.path.now job.now.depth (at_tree job.now.term))) run.old }
+    ensures means { Does result run.new (meaning S.accesses (task job.now.place.now.scope.path.now job.now.place.now.depth (at_tree job.now.term.now))) run.old }
 {
     run.charge()?;
     eval_code(alloc, run, job)
@@ -48,9 +48,9 @@ pub(crate) fn eval_term<S: Space>(
 #[tactic(auto, using(crate::proofs::Steps::evaluating))]
 fn eval_code<S: Space>(alloc: Global, run: &mut Running<S>, job: &Task<'_>) -> Result<Flow, Refusal>
     ensures spent { run.new.1 ≤ run.old.1 }
-    ensures means { Does result run.new (code_rule S.accesses (meaning S.accesses) (code_of (at_tree job.now.term)) job.now.scope.path.now job.now.depth (at_tree job.now.term)) run.old }
+    ensures means { Does result run.new (code_rule S.accesses (meaning S.accesses) (code_of (at_tree job.now.term.now)) job.now.place.now.scope.path.now job.now.place.now.depth (at_tree job.now.term.now)) run.old }
 {
-    match job.term.code() {
+    match code(job.term) {
         TermCode::Opcode(opcode) => eval_kind(alloc, run, job, opcode, kind_of(opcode)),
         TermCode::MethodInvocation => eval_name_value(alloc, run, job),
         TermCode::Name => Err(Refusal::Name(NameFault::BadName)),
@@ -72,7 +72,7 @@ fn eval_kind<S: Space>(
     kind: TermKind,
 ) -> Result<Flow, Refusal>
     ensures spent { run.new.1 ≤ run.old.1 }
-    ensures means { Does result run.new (kind_rule S.accesses (meaning S.accesses) kind opcode job.now.scope.path.now job.now.depth (at_tree job.now.term)) run.old }
+    ensures means { Does result run.new (kind_rule S.accesses (meaning S.accesses) kind opcode job.now.place.now.scope.path.now job.now.place.now.depth (at_tree job.now.term.now)) run.old }
 {
     match kind {
         TermKind::Data(kind) => eval_data(alloc, run, job, kind),
@@ -100,13 +100,14 @@ pub(crate) fn eval_value<S: Space>(
 ) -> Result<Value, Refusal>
     ensures spent { run.new.1 ≤ run.old.1 }
     ensures paid { OnOk result (run.new.1 < run.old.1) }
-    ensures means { Does result run.new (operand_value (meaning S.accesses) job.now.scope.path.now job.now.depth (at_tree job.now.term)) run.old }
+    ensures means { Does result run.new (operand_value (meaning S.accesses) job.now.place.now.scope.path.now job.now.place.now.depth (at_tree job.now.term.now)) run.old }
 {
     let flow = eval_term(alloc, run, job)?;
     flow.value()
 }
 
 /// The value of the operand at a position.
+#[inline(never)]
 #[cycle(evaluation)]
 #[tactic(auto, using(crate::proofs::Steps::evaluating), unfolding(aml_meaning::specs::Tasks::value_at))]
 pub(crate) fn eval_value_at<S: Space>(
@@ -116,20 +117,21 @@ pub(crate) fn eval_value_at<S: Space>(
     index: usize,
 ) -> Result<Value, Refusal>
     ensures spent { run.new.1 ≤ run.old.1 }
-    ensures means { Does result run.new (value_at (meaning S.accesses) job.now.scope.path.now job.now.depth (at_tree job.now.term) index) run.old }
+    ensures means { Does result run.new (value_at (meaning S.accesses) job.now.place.now.scope.path.now job.now.place.now.depth (at_tree job.now.term.now) index) run.old }
 {
     let operand = inner(job.term, index)?;
     eval_value(
         alloc,
         run,
         &Task {
-            term: operand,
+            term: &operand,
             ..*job
         },
     )
 }
 
 /// The values of the first two operands.
+#[inline(never)]
 #[cycle(evaluation)]
 #[tactic(auto, using(crate::proofs::Steps::evaluating), unfolding(aml_meaning::specs::Tasks::two_values))]
 pub(crate) fn eval_two_values<S: Space>(
@@ -138,7 +140,7 @@ pub(crate) fn eval_two_values<S: Space>(
     job: &Task<'_>,
 ) -> Result<(Value, Value), Refusal>
     ensures spent { run.new.1 ≤ run.old.1 }
-    ensures means { Does result run.new (two_values (meaning S.accesses) job.now.scope.path.now job.now.depth (at_tree job.now.term)) run.old }
+    ensures means { Does result run.new (two_values (meaning S.accesses) job.now.place.now.scope.path.now job.now.place.now.depth (at_tree job.now.term.now)) run.old }
 {
     let first = eval_value_at(alloc, run, job, 0)?;
     let second = eval_value_at(alloc, run, job, 1)?;
@@ -155,10 +157,25 @@ pub(crate) fn eval_operand_integer<S: Space>(
 ) -> Result<u64, Refusal>
     ensures spent { run.new.1 ≤ run.old.1 }
     ensures paid { OnOk result (run.new.1 < run.old.1) }
-    ensures means { Does result run.new (operand_integer (meaning S.accesses) job.now.scope.path.now job.now.depth (at_tree job.now.term)) run.old }
+    ensures means { Does result run.new (operand_integer (meaning S.accesses) job.now.place.now.scope.path.now job.now.place.now.depth (at_tree job.now.term.now)) run.old }
 {
     let value = eval_value(alloc, run, job)?;
     run.world.integer_in(value)
+}
+
+/// An integer that another term gives, evaluated where this one is.
+#[cycle(evaluation)]
+#[tactic(auto, using(crate::proofs::Steps::evaluating))]
+pub(crate) fn eval_integer_of<S: Space>(
+    alloc: Global,
+    run: &mut Running<S>,
+    job: &Task<'_>,
+    term: &Reader<'_>,
+) -> Result<u64, Refusal>
+    ensures spent { run.new.1 ≤ run.old.1 }
+    ensures means { Does result run.new (operand_integer (meaning S.accesses) job.now.place.now.scope.path.now job.now.place.now.depth (at_tree term.now)) run.old }
+{
+    eval_operand_integer(alloc, run, &Task { term, ..*job })
 }
 
 /// Items one after another, until one ends the list.
@@ -170,25 +187,17 @@ pub(crate) fn eval_list<S: Space>(
     job: &Task<'_>,
 ) -> Result<Flow, Refusal>
     ensures spent { run.new.1 ≤ run.old.1 }
-    ensures means { Does result run.new (in_turn (meaning S.accesses) job.now.scope.path.now job.now.depth (at_list job.now.term)) run.old }
+    ensures means { Does result run.new (in_turn (meaning S.accesses) job.now.place.now.scope.path.now job.now.place.now.depth (at_list job.now.term.now)) run.old }
 {
-    let mut rest = job.term;
+    let mut rest = *job.term;
     'items: loop {
-        match rest.next() {
+        match take_first(&mut rest) {
             None => return Ok(Flow::Next),
-            Some(item) => {
-                let flow = eval_term(
-                    alloc,
-                    run,
-                    &Task {
-                        term: item.first,
-                        ..*job
-                    },
-                )?;
+            Some(ref item) => {
+                let flow = eval_term(alloc, run, &Task { term: item, ..*job })?;
                 if !flow.goes_on() {
                     return Ok(flow);
                 }
-                rest = item.rest;
             }
         }
     }
