@@ -98,8 +98,12 @@ fn eval_alias<S: Space>(
     let target = run.world.locate(alloc, job.scope, &source)?;
     let name = job.term.name(alloc, 1)?;
     let path = name.resolve_in(alloc, job.scope.path)?;
-    run.world
-        .new_name(alloc, job.depth == 0, path, NamedObject::Alias(target.into_path()))?;
+    run.world.new_name(
+        alloc,
+        job.depth == 0,
+        path,
+        NamedObject::Alias(target.into_path()),
+    )?;
     Ok(Flow::Next)
 }
 

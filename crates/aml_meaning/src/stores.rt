@@ -72,7 +72,12 @@ impl<S> WorldState<S> {
     }
 
     #[tactic(auto, using(ar_space::specs::Change::changing), unfolding(crate::specs::Stores::store_in_name))]
-    fn store_in_name(&mut self, alloc: Global, path: &Located, value: Value) -> Result<Stored, Refusal>
+    fn store_in_name(
+        &mut self,
+        alloc: Global,
+        path: &Located,
+        value: Value,
+    ) -> Result<Stored, Refusal>
         ensures { Does result self.new (store_in_name path.now value) self.old }
     {
         let held = self.held_at(path)?;
@@ -80,7 +85,12 @@ impl<S> WorldState<S> {
     }
 
     #[tactic(auto, using(ar_space::specs::Change::changing), unfolding(crate::specs::Stores::copy_in_name))]
-    fn copy_in_name(&mut self, alloc: Global, path: &Located, value: Value) -> Result<Stored, Refusal>
+    fn copy_in_name(
+        &mut self,
+        alloc: Global,
+        path: &Located,
+        value: Value,
+    ) -> Result<Stored, Refusal>
         ensures { Does result self.new (copy_in_name path.now value) self.old }
     {
         let held = self.held_at(path)?;
@@ -153,7 +163,12 @@ impl<S> WorldState<S> {
     }
 
     #[tactic(auto, using(ar_space::specs::Change::changing))]
-    fn store_package(&mut self, alloc: Global, path: &Located, value: Value) -> Result<Stored, Refusal>
+    fn store_package(
+        &mut self,
+        alloc: Global,
+        path: &Located,
+        value: Value,
+    ) -> Result<Stored, Refusal>
         ensures { Does result self.new (store_package path.now value) self.old }
     {
         match value {
