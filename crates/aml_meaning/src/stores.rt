@@ -73,7 +73,12 @@ impl<S> WorldState<S> {
     }
 
     #[tactic(auto, using(ar_space::specs::Change::changing), unfolding(crate::specs::Stores::store_in_name))]
-    fn store_in_name(&mut self, alloc: Global, path: &Located, value: Value) -> Result<Stored, Refusal>
+    fn store_in_name(
+        &mut self,
+        alloc: Global,
+        path: &Located,
+        value: Value,
+    ) -> Result<Stored, Refusal>
         ensures { Does result self.new (store_in_name path.now value) self.old }
     {
         let held = self.held_at(path)?;
@@ -81,7 +86,12 @@ impl<S> WorldState<S> {
     }
 
     #[tactic(auto, using(ar_space::specs::Change::changing), unfolding(crate::specs::Stores::copy_in_name))]
-    fn copy_in_name(&mut self, alloc: Global, path: &Located, value: Value) -> Result<Stored, Refusal>
+    fn copy_in_name(
+        &mut self,
+        alloc: Global,
+        path: &Located,
+        value: Value,
+    ) -> Result<Stored, Refusal>
         ensures { Does result self.new (copy_in_name path.now value) self.old }
     {
         let held = self.held_at(path)?;
@@ -154,7 +164,12 @@ impl<S> WorldState<S> {
     }
 
     #[tactic(auto, using(ar_space::specs::Change::changing))]
-    fn store_package(&mut self, alloc: Global, path: &Located, value: Value) -> Result<Stored, Refusal>
+    fn store_package(
+        &mut self,
+        alloc: Global,
+        path: &Located,
+        value: Value,
+    ) -> Result<Stored, Refusal>
         ensures { Does result self.new (store_package path.now value) self.old }
     {
         match value {

@@ -101,11 +101,7 @@ impl Names {
     /// Puts another object in place of what stands at the path of a name that was found, as `replace` does. It takes no memory.
     ///
     /// Where nothing stands at the path this is refused as `NotFound`, and nothing changes.
-    pub fn replace_located(
-        &mut self,
-        located: &Located,
-        object: NamedObject,
-    ) -> Result<(), Refusal>
+    pub fn replace_located(&mut self, located: &Located, object: NamedObject) -> Result<(), Refusal>
         ensures change { Does result self.new (replaced located.now object) self.old }
         ensures memory { NotMemory result }
     {

@@ -1,6 +1,6 @@
 //! A namespace beside an ordered map of paths, over random calls of both.
 
-use aml_namespace::{Names, Scope};
+use aml_namespace::{Located, Names, Scope};
 use aml_objects::{Entry, NamedObject, NodeId};
 use aml_path::{NameString, Path, Prefix, Seg};
 use ar_space::Refusal;
@@ -163,6 +163,18 @@ impl Pair {
         }
     }
 
+    /// Whether the same stands at a path, whatever node is expected there.
+    fn placed_alike(&mut self, path: Path) -> bool {
+        let known = self.map.get(&path).copied();
+        match self.random_id() {
+            Some(node) => {
+                let located = Located::new(path, node);
+                known == self.names.get_located(&located).map(number_of)
+            }
+            None => known == self.names.get(&path).map(number_of),
+        }
+    }
+
     /// Whether a random segment finds the same from the node at a path and from the path.
     fn search_alike(&mut self, alloc: Global, scope: &Path) -> Result<bool, Refusal> {
         let name = single(alloc, random_segment(&mut self.state))?;
@@ -213,7 +225,7 @@ impl Pair {
     /// Makes a random call of both, and gives whether they answer alike.
     fn call_alike(&mut self, alloc: Global) -> Result<bool, Refusal> {
         let path = random_path(alloc, &mut self.state)?;
-        match next(&mut self.state, 12) {
+        match next(&mut self.state, 13) {
             0 => {
                 self.clear(&path);
                 Ok(true)
@@ -221,6 +233,7 @@ impl Pair {
             1..=3 => self.find_alike(alloc, &path),
             4 | 5 => self.know_alike(alloc),
             6 => self.search_alike(alloc, &path),
+            7 => Ok(self.placed_alike(path)),
             _ => self.declare_alike(alloc, path),
         }
     }
