@@ -9,7 +9,6 @@ ghost use Rattle.machine_laws.specs.Notes.{machine_without_notes};
 ghost use Rattle.machine_laws.specs.ReportedNotes.{ReportTells};
 
 /// Noting accesses changes no report: a report of a machine is one with notes, too, and the machine after it is the same but for them.
-#[tactic(auto, using(crate::proofs::ReportsCarried::report_noted))]
 pub fn noting_changes_no_report<S>()
     ensures { (accesses : Accesses S) (dry : Bool) (avoid : List ℕ) (before : MachineState (WithNotes S)) (after : MachineState S) (report : RoutingReport) →
         IsReport accesses dry avoid (machine_without_notes before) after report
@@ -20,7 +19,6 @@ pub fn noting_changes_no_report<S>()
 /// those of reading what each link is set to. Where the line of a link tells that it was refused by a fault of the register space, the
 /// last access that was made for this line was answered with that fault, and all those before it with values. With any other line, all
 /// accesses that were made for it were answered with values.
-#[tactic(auto, using(crate::proofs::ReportsTold::report_told))]
 pub fn the_lines_of_a_report_tell_of_their_accesses<S>()
     ensures { (accesses : Accesses S) (dry : Bool) (avoid : List ℕ) (before after : MachineState (WithNotes S)) (report : RoutingReport) →
         IsReport (noted accesses) dry avoid before after report → ReportTells report before.world.space after.world.space }
