@@ -55,11 +55,14 @@ fn eval_referent_by_kind<S: Space>(
 {
     match kind {
         TargetKind::RefOf | TargetKind::DerefOf | TargetKind::Index => {
-            let inside = Task {
-                term: operand,
-                ..*job
-            };
-            eval_value_referent(alloc, run, &inside)
+            eval_value_referent(
+                alloc,
+                run,
+                &Task {
+                    term: &*operand,
+                    ..*job
+                },
+            )
         }
         TargetKind::Nowhere | TargetKind::Slot(_) | TargetKind::Other => {
             eval_target_referent(alloc, run, job)

@@ -75,7 +75,7 @@ fn eval_branch<S: Space>(
             alloc,
             run,
             &Task {
-                term: items,
+                term: &*items,
                 ..*job
             },
         )
@@ -189,7 +189,7 @@ fn eval_turn<S: Space>(
         alloc,
         run,
         &Task {
-            term: items,
+            term: &*items,
             ..*job
         },
         is_true(number),

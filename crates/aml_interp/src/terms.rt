@@ -175,7 +175,14 @@ pub(crate) fn eval_integer_of<S: Space>(
     ensures spent { run.new.1 ≤ run.old.1 }
     ensures means { Does result run.new (operand_integer (meaning S.accesses) job.now.place.now.scope.path.now job.now.place.now.depth (at_tree term.now)) run.old }
 {
-    eval_operand_integer(alloc, run, &Task { term, ..*job })
+    eval_operand_integer(
+        alloc,
+        run,
+        &Task {
+            term: &*term,
+            ..*job
+        },
+    )
 }
 
 /// Items one after another, until one ends the list.
