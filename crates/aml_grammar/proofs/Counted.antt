@@ -1,200 +1,303 @@
--- What a map of counts has after one step.
-use Rattle.std.specs.Prelude.{◌≡◌, ℕ, List, [], ◌∷◌, ◌++◌, Bool, true, false, not, T, Option, Some, None, cond, if◌then◌else◌}
-use Rattle.std.proofs.Common.{ap, sym, ◌∙◌, refl, subst, rules}
-use Rattle.std.specs.Option.{is_some, unwrap_or}
-use Rattle.std.specs.BTreeMap.{is_at}
-use Rattle.std.specs.Map.{lookup}
-use Rattle.std.specs.Cmp.{IsTotalOrder, eq_by_cmp_equiv}
-use Rattle.std.specs.Cmp.Rules.{comparing}
-use Rattle.std.specs.FinMap.{get, insert, contains_key, from_entries, IsAntisymmetric, slice_cmp-IsAntisymmetric, get-insert}
-use Rattle.aml_grammar.proofs.Entries.{get_entry, put_entry}
+-- What the numbers of paths, the counts under them and the entries show after one step.
+use Rattle.std.specs.Prelude.{◌≡◌, ◌+◌, ◌<◌, ◌≤◌, ℕ, zero, suc, List, [], ◌∷◌, ◌++◌, length, map, take, replicate, get_or, set, Bool, true, false, not, Option, Some, None, if◌then◌else◌}
+use Rattle.std.proofs.Common.{ap, sym, ◌∙◌, refl, subst, arith, inl, inr, ◌⊎◌, ◌&&◌}
+use Rattle.std.proofs.lemmas.Bool.{cases_eq, cases_lt}
+use Rattle.std.proofs.lemmas.List.{take_more, get_or_past, get_or-set_same, get_or-set_other, get_or_at, take_all, length-take-le, map-append}
 use Rattle.aml_path.specs.declared.segment.Seg.{Seg}
-use Rattle.aml_path.specs.Segments.{seg_cmp_exact}
-use Rattle.aml_path.specs.Paths.{path_cmp, path_eq}
+use Rattle.aml_path.specs.Paths.{path_eq}
 use Rattle.aml_grammar.specs.declared.counts.Counts.{Counts}
 use Rattle.aml_grammar.specs.declared.arities.Arity.{Arity}
+use Rattle.aml_grammar.specs.declared.arities.Entry.{Entry}
 use Rattle.aml_grammar.specs.Arities.{latest, or_else, is_of}
-use Rattle.aml_grammar.specs.Counts.{CountsByPath, count_of, count_in, with_count, with_count_under, no_counts, counted_under, changed, with_room, added, added_under, counted, counted_over, HasRoom}
+use Rattle.aml_grammar.specs.PathTree.{number_of, Kept, Leads}
+use Rattle.aml_grammar.specs.Counts.{Counted, no_counts, count_of, with_count, over, counts_at, count_at, shown, with_added, SameCounts, BothCounts, arity_of_entry, arities_of, Placed, moved_by, Holds}
+use Rattle.aml_grammar.proofs.PathTrees.{tied, itself, number_is, kept_length, kept_path, kept_number, kept_back}
 
-pub path_total : IsTotalOrder path_cmp
-path_total = search (comparing, rules) depth 9
-
--- only equal paths tie
-pub only_equal : IsAntisymmetric path_cmp
-only_equal = slice_cmp-IsAntisymmetric seg_cmp_exact
-
--- ---- arities entries
-
-pub counted_entry : (es fs : List (List Seg × Counts)) (k : List Seg) (n : ℕ) (external : Bool) (x y : Counts) → x ≡ with_count y n external → lookup (is_at (path_cmp k)) es ≡ Some y
-    → ((q : List Seg) → lookup (is_at (path_cmp q)) fs ≡ cond (is_at (path_cmp k) q) (Some x) (lookup (is_at (path_cmp q)) es))
-    → from_entries {R = path_cmp} fs ≡ counted (from_entries es) k n external
-counted_entry es fs k n external x y is stands h =
-    put_entry path_total only_equal es fs k x h
-    ∙ ap (insert (from_entries es) k) is
-    ∙ sym (ap (counted_over (from_entries es) k n external) (get_entry path_total es k ∙ stands))
-
-pub counted_none : (es : List (List Seg × Counts)) (k : List Seg) (n : ℕ) (external : Bool) → lookup (is_at (path_cmp k)) es ≡ None → from_entries {R = path_cmp} es ≡ counted (from_entries es) k n external
-counted_none es k n external none = sym (ap (counted_over (from_entries es) k n external) (get_entry path_total es k ∙ none))
-
--- the counts of a path changed, or none where it had none
-pub changed_entry : (f : Counts → Counts) (es fs : List (List Seg × Counts)) (k : List Seg) (x : Counts) → x ≡ f (unwrap_or (lookup (is_at (path_cmp k)) es) no_counts)
-    → ((q : List Seg) → lookup (is_at (path_cmp q)) fs ≡ cond (is_at (path_cmp k) q) (Some x) (lookup (is_at (path_cmp q)) es))
-    → from_entries {R = path_cmp} fs ≡ changed f (from_entries es) k
-changed_entry f es fs k x is h =
-    put_entry path_total only_equal es fs k x h
-    ∙ ap (insert (from_entries es) k) (is ∙ ap (λ o. f (unwrap_or o no_counts)) (sym (get_entry path_total es k)))
-
--- ---- what it has at any path
-
-at : (m : CountsByPath) (k : List Seg) (c : Counts) (q : List Seg) → get (insert m k c) q ≡ cond (path_eq k q) (Some c) (get m q)
-at m k c q = get-insert path_total m k c q ∙ ap (λ b. cond b (Some c) (get m q)) ((eq_by_cmp_equiv path_total).symm q k)
-
-tied : (k q : List Seg) → path_eq k q ≡ true → k ≡ q
-tied k q e = only_equal k q (search (rules, e))
-
--- the counts of a path, none where it has none
-count_here : (external : Bool) (o : Option Counts) → count_of (unwrap_or o no_counts) external ≡ count_in external o
-count_here true None = refl
-count_here false None = refl
-count_here external (Some c) = refl
-
--- room changes no count
-room_by : (b : Bool) (external : Bool) (o p : Option Counts) → (b ≡ true → p ≡ o) → count_in external (cond b (Some (unwrap_or o no_counts)) p) ≡ count_in external p
-room_by true external o p h = rw (h refl) (count_here external o)
-room_by false external o p h = refl
-
-pub room_same : (m : CountsByPath) (k q : List Seg) (external : Bool) → count_in external (get (with_room m k) q) ≡ count_in external (get m q)
-room_same m k q external =
-    ap (count_in external) (at m k _ q)
-    ∙ room_by (path_eq k q) external (get m k) (get m q) (λ e. ap (get m) (sym (tied k q e)))
-
--- where something was, something is
-is_kept : (b : Bool) (c : Counts) (o : Option Counts) → T (is_some o) → T (is_some (cond b (Some c) o))
-is_kept true c o h = tt
-is_kept false c o h = h
-
-insert_kept : (m : CountsByPath) (k : List Seg) (c : Counts) (q : List Seg) → T (contains_key m q) → T (contains_key (insert m k c) q)
-insert_kept m k c q h = subst (λ o. T (is_some o)) (sym (at m k c q)) (is_kept (path_eq k q) c (get m q) h)
-
-itself : (k : List Seg) → path_eq k k ≡ true
-itself k = (eq_by_cmp_equiv path_total).refl k
-
-insert_there : (m : CountsByPath) (k : List Seg) (c : Counts) → T (contains_key (insert m k c) k)
-insert_there m k c = subst (λ o. T (is_some o)) (sym (at m k c k ∙ ap (λ b. cond b (Some c) (get m k)) (itself k))) tt
-
-pub room_there : (m : CountsByPath) (k : List Seg) → T (contains_key (with_room m k) k)
-room_there m k = insert_there m k _
-
-pub room_kept : (m : CountsByPath) (k : List Seg) (arities : List Arity) → HasRoom m arities → HasRoom (with_room m k) arities
-room_kept m k [] h = tt
-room_kept m k (a ∷ arities) h = (insert_kept m k _ a.path h.0, room_kept m k arities h.1)
-
-pub room_push : (m : CountsByPath) (arities : List Arity) (a : Arity) → HasRoom m arities → T (contains_key m a.path) → HasRoom m (arities ++ a ∷ [])
-room_push m [] a h is = (is, tt)
-room_push m (x ∷ arities) a h is = (h.0, room_push m arities a h.1 is)
-
-or_none : {A : Type 0} (a : Option A) → a ≡ or_else a None
+pub or_none : {A : Type 0} (a : Option A) → or_else a None ≡ a
 or_none None = refl
 or_none (Some x) = refl
-
--- ---- a count that is noted
-
-counted_kept_by : (m : CountsByPath) (k : List Seg) (n : ℕ) (x : Bool) (o : Option Counts) (q : List Seg) → T (contains_key m q) → T (contains_key (counted_over m k n x o) q)
-counted_kept_by m k n x None q h = h
-counted_kept_by m k n x (Some c) q h = insert_kept m k _ q h
-
-pub counted_kept : (m : CountsByPath) (k : List Seg) (n : ℕ) (x : Bool) (arities : List Arity) → HasRoom m arities → HasRoom (counted m k n x) arities
-counted_kept m k n x [] h = tt
-counted_kept m k n x (a ∷ arities) h = (counted_kept_by m k n x (get m k) a.path h.0, counted_kept m k n x arities h.1)
-
--- the last entry of a path and sort counts
-one_by : (b : Bool) (c : Counts) (n : ℕ) (a : Arity) (x e : Bool) (q : List Seg) (o : Option Counts) → path_eq a.path q ≡ b → (b ≡ true → count_in e o ≡ count_of c e)
-    → count_in e (cond b (Some (with_count c n x)) o) ≡ or_else (if is_of q e (record a { count = n; external = x }) then Some n else None) (count_in e o)
-one_by true c n a true true q o is h = rw is refl
-one_by true c n a true false q o is h = sym (h refl)
-one_by true c n a false true q o is h = sym (h refl)
-one_by true c n a false false q o is h = rw is refl
-one_by false c n a true true q o is h = rw is refl
-one_by false c n a true false q o is h = refl
-one_by false c n a false true q o is h = refl
-one_by false c n a false false q o is h = rw is refl
-
-counted_by : (m : CountsByPath) (a : Arity) (o : Option Counts) (q : List Seg) (e : Bool) → get m a.path ≡ o → T (is_some o)
-    → count_in e (get (counted_over m a.path a.count a.external o) q) ≡ or_else (if is_of q e a then Some a.count else None) (count_in e (get m q))
-counted_by m a None q e is h = absurd h
-counted_by m a (Some c) q e is h =
-    ap (count_in e) (at m a.path _ q)
-    ∙ one_by (path_eq a.path q) c a.count a a.external e q (get m q) refl (λ t. ap (count_in e) (subst (λ p. get m p ≡ Some c) (tied a.path q t) is))
-
-pub counted_one : (m : CountsByPath) (a : Arity) (q : List Seg) (e : Bool) → T (contains_key m a.path)
-    → count_in e (get (counted m a.path a.count a.external) q) ≡ or_else (if is_of q e a then Some a.count else None) (count_in e (get m q))
-counted_one m a q e h = counted_by m a (get m a.path) q e refl h
 
 or_else_again : {A : Type 0} (a b c : Option A) → or_else (or_else a b) c ≡ or_else a (or_else b c)
 or_else_again None b c = refl
 or_else_again (Some x) b c = refl
 
--- one entry noted, and then the others
-pub counted_more : (m : CountsByPath) (a : Arity) (arities : List Arity) (q : List Seg) (e : Bool) → T (contains_key m a.path)
-    → or_else (latest q e arities) (count_in e (get (counted m a.path a.count a.external) q)) ≡ or_else (latest q e (a ∷ arities)) (count_in e (get m q))
-counted_more m a arities q e h = ap (or_else (latest q e arities)) (counted_one m a q e h) ∙ sym (or_else_again (latest q e arities) _ _)
-
 -- arities in two parts
 pub latest_append : (path : List Seg) (external : Bool) (xs ys : List Arity) → latest path external (xs ++ ys) ≡ or_else (latest path external ys) (latest path external xs)
-latest_append path external [] ys = or_none (latest path external ys)
+latest_append path external [] ys = sym (or_none (latest path external ys))
 latest_append path external (x ∷ xs) ys = rw (latest_append path external xs ys) (or_else_again (latest path external ys) (latest path external xs) _)
 
--- ---- a count that is added, as the latest or under the others
+none_of_sort : (e : Bool) → count_of no_counts e ≡ None
+none_of_sort true = refl
+none_of_sort false = refl
 
--- the counts that a path has, at any path that is equal to it
-same_here : (m : CountsByPath) (k q : List Seg) (e : Bool) → path_eq k q ≡ true → count_in e (get m q) ≡ count_of (unwrap_or (get m k) no_counts) e
-same_here m k q e t = sym (count_here e (get m q)) ∙ ap (λ p. count_of (unwrap_or (get m p) no_counts) e) (sym (tied k q t))
+-- ---- more paths and room for counts
 
-added_one : (m : CountsByPath) (a : Arity) (q : List Seg) (e : Bool)
-    → count_in e (get (added m a.path a.count a.external) q) ≡ or_else (if is_of q e a then Some a.count else None) (count_in e (get m q))
-added_one m a q e =
-    ap (count_in e) (at m a.path _ q)
-    ∙ one_by (path_eq a.path q) (unwrap_or (get m a.path) no_counts) a.count a a.external e q (get m q) refl (same_here m a.path q e)
+module _ (ps qs : List (List Seg)) (kept : Kept ps qs) (cs ds : List Counts) (few : length cs ≤ length ps) (same : (n : ℕ) → counts_at ds n ≡ counts_at cs n) where
+  by_number : (q : List Seg) (e : Bool) (o r : Option ℕ) → number_of q ps ≡ o → number_of q qs ≡ r → count_at cs e r ≡ count_at cs e o
+  by_number q e None None was is = refl
+  by_number q e (Some n) None was is = absurd (cc (sym is ∙ kept_number ps qs kept q n was))
+  by_number q e None (Some n) was is = late (cases_lt n (length ps))
+    where
+      late : (n < length ps) ⊎ (length ps ≤ n) → count_of (counts_at cs n) e ≡ None
+      late (inl lt) = absurd (cc (sym was ∙ kept_back ps qs kept q n lt is))
+      late (inr ge) = ap (λ c. count_of c e) (get_or_past cs n no_counts (omega (arith, ge, few))) ∙ none_of_sort e
+  by_number q e (Some n) (Some m) was is = let number : Some n ≡ Some m = sym (kept_number ps qs kept q n was) ∙ is in ap (count_at cs e) (sym number)
 
--- an entry behind those that the map has
-pub added_last : (m : CountsByPath) (a : Arity) (arities : List Arity) (q : List Seg) (e : Bool) → count_in e (get m q) ≡ latest q e arities
-    → count_in e (get (added m a.path a.count a.external) q) ≡ latest q e (arities ++ a ∷ [])
-added_last m a arities q e h = added_one m a q e ∙ ap (or_else (if is_of q e a then Some a.count else None)) h ∙ sym (latest_append q e arities (a ∷ []))
+  same_at : (e : Bool) (o : Option ℕ) → count_at ds e o ≡ count_at cs e o
+  same_at e None = refl
+  same_at e (Some n) = ap (λ c. count_of c e) (same n)
 
--- an older count changes none of the other sort
-under_other : (c : Counts) (n : ℕ) (x : Bool) (o : Option ℕ) → count_of (counted_under c n x o) (not x) ≡ count_of c (not x)
-under_other c n true None = refl
-under_other c n true (Some y) = refl
-under_other c n false None = refl
-under_other c n false (Some y) = refl
+  pub room_same : SameCounts (record { paths = ps; counts = cs }) (record { paths = qs; counts = ds })
+  room_same q e = same_at e (number_of q qs) ∙ by_number q e (number_of q ps) (number_of q qs) refl refl
 
--- and of its own only where there is none
-under_same : (c : Counts) (n : ℕ) (x : Bool) (o : Option ℕ) → count_of c x ≡ o → count_of (counted_under c n x o) x ≡ or_else o (Some n)
-under_same c n true None h = refl
-under_same c n false None h = refl
-under_same c n x (Some y) h = h
+filled : (cs : List Counts) (m n : ℕ) → counts_at (cs ++ replicate m no_counts) n ≡ counts_at cs n
+filled [] zero n = refl
+filled [] (suc m) zero = refl
+filled [] (suc m) (suc n) = filled [] m n
+filled (c ∷ cs) m zero = refl
+filled (c ∷ cs) m (suc n) = filled cs m n
 
-under_by : (b : Bool) (c : Counts) (n : ℕ) (a : Arity) (x e : Bool) (q : List Seg) (o : Option Counts) → path_eq a.path q ≡ b → (b ≡ true → count_in e o ≡ count_of c e)
-    → count_in e (cond b (Some (with_count_under c n x)) o) ≡ or_else (count_in e o) (if is_of q e (record a { count = n; external = x }) then Some n else None)
-under_by true c n a true true q o is h = rw (is, h refl) (under_same c n true c.external refl)
-under_by true c n a true false q o is h = rw (h refl) (under_other c n true c.external ∙ or_none c.declared)
-under_by true c n a false true q o is h = rw (h refl) (under_other c n false c.declared ∙ or_none c.external)
-under_by true c n a false false q o is h = rw (is, h refl) (under_same c n false c.declared refl)
-under_by false c n a true true q o is h = rw is (or_none (count_in true o))
-under_by false c n a true false q o is h = or_none (count_in false o)
-under_by false c n a false true q o is h = or_none (count_in true o)
-under_by false c n a false false q o is h = rw is (or_none (count_in false o))
+-- room is made by counts of neither sort
+pub filled_same : (cs ds : List Counts) (n m : ℕ) → length cs ≤ n → ds ≡ take n cs ++ replicate m no_counts → (k : ℕ) → counts_at ds k ≡ counts_at cs k
+filled_same cs ds n m enough is k = ap (λ l. counts_at l k) (is ∙ ap (λ l. l ++ replicate m no_counts) (take_all n cs enough)) ∙ filled cs m k
 
-under_one : (m : CountsByPath) (a : Arity) (q : List Seg) (e : Bool)
-    → count_in e (get (added_under m a.path a.count a.external) q) ≡ or_else (count_in e (get m q)) (if is_of q e a then Some a.count else None)
-under_one m a q e =
-    ap (count_in e) (at m a.path _ q)
-    ∙ under_by (path_eq a.path q) (unwrap_or (get m a.path) no_counts) a.count a a.external e q (get m q) refl (same_here m a.path q e)
+-- ---- counts put over others, or under them
 
--- one entry more before those that were put under the first counts
-pub under_more : (m : CountsByPath) (a : Arity) (arities : List Arity) (q : List Seg) (e : Bool) (o : Option ℕ) → count_in e (get m q) ≡ or_else o (latest q e arities)
-    → count_in e (get (added_under m a.path a.count a.external) q) ≡ or_else o (latest q e (a ∷ arities))
-under_more m a arities q e o h =
-    under_one m a q e
-    ∙ ap (λ p. or_else p (if is_of q e a then Some a.count else None)) h
-    ∙ or_else_again o (latest q e arities) _
+pushed_other : (xs : List Counts) (c d : Counts) (j : ℕ) → (j ≡ length xs → ⊥) → get_or (xs ++ c ∷ []) j d ≡ get_or xs j d
+pushed_other [] c d zero ne = absurd (ne refl)
+pushed_other [] c d (suc j) ne = refl
+pushed_other (x ∷ xs) c d zero ne = refl
+pushed_other (x ∷ xs) c d (suc j) ne = pushed_other xs c d j (λ e. ne (ap suc e))
+
+module _ (f : Option ℕ → Option ℕ → Option ℕ) (nothing : (o : Option ℕ) → f None o ≡ o)
+    (ps qs : List (List Seg)) (ns : List ℕ) (leads : Leads ps qs ns) (cs ds more : List Counts) (k : ℕ) (c x : Counts) (t : ℕ)
+    (within : k < length more) (within_nodes : k < length ns) (at : c ≡ get_or more k c) (node : t ≡ get_or ns k 0) (there : t < length ds)
+    (is : (e : Bool) → count_of x e ≡ f (count_of c e) (count_of (counts_at ds t) e)) where
+  abbrev before : List Counts
+  before = take k more
+
+  after_is : take (k + 1) more ≡ before ++ c ∷ []
+  after_is = take_more more k c within ∙ ap (λ y. before ++ y ∷ []) (sym at)
+
+  many : length before ≡ k
+  many = length-take-le k more (omega (arith, within))
+
+  path_there : get_or ps t [] ≡ get_or qs k []
+  path_there = ap (λ n. get_or ps n []) node ∙ (number_is (get_or qs k []) ps (get_or ns k 0) (leads.each k (omega (arith, within_nodes, leads.many)))).1
+
+  -- the path that leads there is the one with this number
+  back : (q : List Seg) → number_of q ps ≡ Some t → number_of q qs ≡ Some k
+  back q lead =
+      let here : q ≡ get_or qs k [] = sym (number_is q ps t lead).1 ∙ path_there in
+      ap (λ p. number_of p qs) here ∙ leads.distinct k (omega (arith, within_nodes, leads.many))
+
+  forth : (q : List Seg) → number_of q qs ≡ Some k → number_of q ps ≡ Some t
+  forth q has =
+      ap (λ p. number_of p ps) (sym (number_is q qs k has).1) ∙ leads.each k (omega (arith, within_nodes, leads.many)) ∙ ap Some (sym node)
+
+  other_added : (q : List Seg) (e : Bool) (o : Option ℕ) → number_of q qs ≡ o → (o ≡ Some k → ⊥) → count_at (before ++ c ∷ []) e o ≡ count_at before e o
+  other_added q e None has ne = refl
+  other_added q e (Some j) has ne = ap (λ y. count_of y e) (pushed_other before c no_counts j (λ s. ne (ap Some (s ∙ many))))
+
+  other_changed : (q : List Seg) (e : Bool) (o : Option ℕ) → (o ≡ Some t → ⊥) → count_at (set ds t x) e o ≡ count_at ds e o
+  other_changed q e None ne = refl
+  other_changed q e (Some m) ne = ap (λ y. count_of y e) (get_or-set_other ds t m x no_counts (λ s. ne (ap Some s)))
+
+  module _ (q : List Seg) (e : Bool) (so_far : count_at ds e (number_of q ps) ≡ f (count_at before e (number_of q qs)) (count_at cs e (number_of q ps))) where
+    here : number_of q ps ≡ Some t → count_at (set ds t x) e (number_of q ps) ≡ f (count_at (before ++ c ∷ []) e (number_of q qs)) (count_at cs e (number_of q ps))
+    here lead =
+        let has = back q lead in
+        let old : count_of (counts_at ds t) e ≡ count_at cs e (number_of q ps) =
+        ap (count_at ds e) (sym lead) ∙ so_far
+        ∙ ap (λ o. f o (count_at cs e (number_of q ps))) (ap (count_at before e) has ∙ ap (λ y. count_of y e) (get_or_past before k no_counts (omega (arith, many))) ∙ none_of_sort e)
+        ∙ nothing (count_at cs e (number_of q ps)) in
+        ap (count_at (set ds t x) e) lead
+        ∙ ap (λ y. count_of y e) (get_or-set_same ds t x no_counts there)
+        ∙ is e
+        ∙ ap (f (count_of c e)) old
+        ∙ ap (λ o. f o (count_at cs e (number_of q ps))) (sym (ap (count_at (before ++ c ∷ []) e) has ∙ ap (λ y. count_of y e) (get_or_at before c [] no_counts k many)))
+
+    elsewhere : (number_of q ps ≡ Some t → ⊥) → count_at (set ds t x) e (number_of q ps) ≡ f (count_at (before ++ c ∷ []) e (number_of q qs)) (count_at cs e (number_of q ps))
+    elsewhere ne =
+        other_changed q e (number_of q ps) ne
+        ∙ so_far
+        ∙ ap (λ o. f o (count_at cs e (number_of q ps))) (sym (other_added q e (number_of q qs) refl (λ has. ne (forth q has))))
+
+    by_place : (o : Option ℕ) → number_of q ps ≡ o → count_at (set ds t x) e (number_of q ps) ≡ f (count_at (before ++ c ∷ []) e (number_of q qs)) (count_at cs e (number_of q ps))
+    by_place None lead = elsewhere (λ h. cc (sym lead ∙ h))
+    by_place (Some m) lead = elim (cases_eq m t) [
+      | inl same ↦ here (lead ∙ ap Some same)
+      | inr ne ↦ elsewhere (λ h. ne (cc (sym lead ∙ h)))
+    ]
+
+    pub put_more : count_at (set ds t x) e (number_of q ps) ≡ f (count_at (take (k + 1) more) e (number_of q qs)) (count_at cs e (number_of q ps))
+    put_more = by_place (number_of q ps) refl ∙ ap (λ l. f (count_at l e (number_of q qs)) (count_at cs e (number_of q ps))) (sym after_is)
+
+pub over_sort : (later earlier : Counts) (e : Bool) → count_of (over later earlier) e ≡ or_else (count_of later e) (count_of earlier e)
+over_sort later earlier true = refl
+over_sort later earlier false = refl
+
+-- nothing put over or under changes nothing
+none_at : (e : Bool) (o : Option ℕ) → count_at [] e o ≡ None
+none_at e None = refl
+none_at e (Some n) = none_of_sort e
+
+pub none_over : (ps qs : List (List Seg)) (cs : List Counts) → BothCounts (record { paths = ps; counts = cs }) (record { paths = qs; counts = [] }) (record { paths = ps; counts = cs })
+none_over ps qs cs q e = ap (λ o. or_else o (count_at cs e (number_of q ps))) (sym (none_at e (number_of q qs)))
+
+pub none_under : (ps qs : List (List Seg)) (cs : List Counts) → BothCounts (record { paths = qs; counts = [] }) (record { paths = ps; counts = cs }) (record { paths = ps; counts = cs })
+none_under ps qs cs q e = sym (ap (or_else (count_at cs e (number_of q ps))) (none_at e (number_of q qs)) ∙ or_none (count_at cs e (number_of q ps)))
+
+-- ---- one entry more
+
+one_here : (c : Counts) (n : ℕ) (a : Arity) (x e : Bool) (q : List Seg) → path_eq a.path q ≡ true → count_of (with_count c n x) e ≡ or_else (if is_of q e (record a { count = n; external = x }) then Some n else None) (count_of c e)
+one_here c n a true true q is = rw is refl
+one_here c n a true false q is = refl
+one_here c n a false true q is = refl
+one_here c n a false false q is = rw is refl
+
+one_apart : (o : Option ℕ) (n : ℕ) (a : Arity) (x e : Bool) (q : List Seg) → path_eq a.path q ≡ false → o ≡ or_else (if is_of q e (record a { count = n; external = x }) then Some n else None) o
+one_apart o n a true true q is = rw is refl
+one_apart o n a true false q is = refl
+one_apart o n a false true q is = refl
+one_apart o n a false false q is = rw is refl
+
+module _ (t : Counted) (a : Arity) (node : ℕ) (has : number_of a.path t.paths ≡ Some node) (room : node < length t.counts) where
+  changed_apart : (q : List Seg) (e : Bool) (o : Option ℕ) → (o ≡ Some node → ⊥) → count_at (with_added t node a.count a.external).counts e o ≡ count_at t.counts e o
+  changed_apart q e None ne = refl
+  changed_apart q e (Some m) ne = ap (λ y. count_of y e) (get_or-set_other t.counts node m (with_count (counts_at t.counts node) a.count a.external) no_counts (λ s. ne (ap Some s)))
+
+  added_by : (b : Bool) (q : List Seg) (e : Bool) → path_eq a.path q ≡ b → shown (with_added t node a.count a.external) q e ≡ or_else (if is_of q e a then Some a.count else None) (shown t q e)
+  added_by true q e is =
+      let number : number_of q t.paths ≡ Some node = ap (λ p. number_of p t.paths) (sym (tied a.path q is)) ∙ has in
+      ap (count_at (with_added t node a.count a.external).counts e) number
+      ∙ ap (λ y. count_of y e) (get_or-set_same t.counts node (with_count (counts_at t.counts node) a.count a.external) no_counts room)
+      ∙ one_here (counts_at t.counts node) a.count a a.external e q is
+      ∙ ap (or_else (if is_of q e a then Some a.count else None)) (ap (count_at t.counts e) (sym number))
+  added_by false q e is =
+      changed_apart q e (number_of q t.paths) (λ h. cc (sym is ∙ ap (path_eq a.path) (sym (number_is q t.paths node h).1 ∙ (number_is a.path t.paths node has).1) ∙ itself a.path))
+      ∙ one_apart (shown t q e) a.count a a.external e q is
+
+  added_one : (q : List Seg) (e : Bool) → shown (with_added t node a.count a.external) q e ≡ or_else (if is_of q e a then Some a.count else None) (shown t q e)
+  added_one q e = added_by (path_eq a.path q) q e refl
+
+-- ---- entries
+
+pub placed_more : (n m : ℕ) (es : List Entry) → n ≤ m → Placed n es → Placed m es
+placed_more n m [] le h = tt
+placed_more n m (e ∷ es) le h = let low = h.0 in (omega (arith, low, le), placed_more n m es le h.1)
+
+pub placed_append : (n : ℕ) (es fs : List Entry) → Placed n es → Placed n fs → Placed n (es ++ fs)
+placed_append n [] fs h k = k
+placed_append n (e ∷ es) fs h k = (h.0, placed_append n es fs h.1 k)
+
+pub placed_at : (n : ℕ) (es : List Entry) (i : ℕ) (d : Entry) → i < length es → Placed n es → (get_or es i d).node < n
+placed_at n [] i d lt h = absurd (omega (arith, lt))
+placed_at n (e ∷ es) zero d lt h = h.0
+placed_at n (e ∷ es) (suc i) d lt h = placed_at n es i d (omega (arith, lt)) h.1
+
+module _ (ps qs : List (List Seg)) (kept : Kept ps qs) where
+  same_entries : (es : List Entry) → Placed (length ps) es → arities_of qs es ≡ arities_of ps es
+  same_entries [] h = refl
+  same_entries (e ∷ es) h = rw (kept_path ps qs kept e.node h.0, same_entries es h.1) refl
+
+module _ (ps qs : List (List Seg)) (ns : List ℕ) (leads : Leads ps qs ns) where
+  pub led : (n : ℕ) → n < length qs → (get_or ns n 0 < length ps) × (get_or ps (get_or ns n 0) [] ≡ get_or qs n [])
+  led n lt = number_is (get_or qs n []) ps (get_or ns n 0) (leads.each n lt)
+
+  pub moved_entries : (es : List Entry) → Placed (length qs) es → arities_of ps (map (moved_by ns) es) ≡ arities_of qs es
+  moved_entries [] h = refl
+  moved_entries (e ∷ es) h = rw ((led e.node h.0).1, moved_entries es h.1) refl
+
+  pub moved_placed : (es : List Entry) → Placed (length qs) es → Placed (length ps) (map (moved_by ns) es)
+  moved_placed [] h = tt
+  moved_placed (e ∷ es) h = ((led e.node h.0).0, moved_placed es h.1)
+
+-- more paths change nothing that is shown
+module _ (t u : Counted) (es : List Entry) (kept : Kept t.paths u.paths) (same : SameCounts t u) (holds : Holds t es) where
+  pub grown_shows : arities_of u.paths es ≡ arities_of t.paths es
+  grown_shows = same_entries t.paths u.paths kept es holds.placed
+
+  pub grown_holds : Holds u es
+  grown_holds = record {
+    placed = placed_more (length t.paths) (length u.paths) es (kept_length t.paths u.paths kept) holds.placed;
+    latest = λ q e. same q e ∙ holds.latest q e ∙ ap (latest q e) (sym grown_shows);
+  }
+
+-- one entry behind the others
+module _ (t : Counted) (es : List Entry) (x : Entry) (path : List Seg) (has : number_of path t.paths ≡ Some x.node) (room : x.node < length t.counts) (holds : Holds t es) where
+  abbrev arity : Arity
+  arity = record { path = path; count = x.count; external = x.external }
+
+  pub added_shows : arities_of t.paths (es ++ x ∷ []) ≡ arities_of t.paths es ++ arity ∷ []
+  added_shows = map-append (arity_of_entry t.paths) es (x ∷ []) ∙ ap (λ p. arities_of t.paths es ++ record { path = p; count = x.count; external = x.external } ∷ []) (number_is path t.paths x.node has).1
+
+  pub added_holds : Holds (with_added t x.node x.count x.external) (es ++ x ∷ [])
+  added_holds = record {
+    placed = placed_append (length t.paths) es (x ∷ []) holds.placed ((number_is path t.paths x.node has).0, tt);
+    latest = λ q e.
+        added_one t arity x.node has room q e
+        ∙ ap (or_else (if is_of q e arity then Some arity.count else None)) (holds.latest q e)
+        ∙ sym (latest_append q e (arities_of t.paths es) (arity ∷ []))
+        ∙ ap (latest q e) (sym added_shows);
+  }
+
+-- entries behind others, at paths of their own
+module _ (t earlier later : Counted) (es fs : List Entry) (xs ys : List Arity) (shows : arities_of t.paths es ≡ xs) (shows_later : arities_of t.paths fs ≡ ys)
+    (placed : Placed (length t.paths) es) (placed_later : Placed (length t.paths) fs) (both : BothCounts earlier later t)
+    (holds : (q : List Seg) (e : Bool) → shown earlier q e ≡ latest q e xs) (holds_later : (q : List Seg) (e : Bool) → shown later q e ≡ latest q e ys) where
+  both_shows : arities_of t.paths (es ++ fs) ≡ xs ++ ys
+  both_shows = map-append (arity_of_entry t.paths) es fs ∙ ap (λ l. l ++ arities_of t.paths fs) shows ∙ ap (λ l. xs ++ l) shows_later
+
+  pub both_hold : Holds t (es ++ fs)
+  both_hold = record {
+    placed = placed_append (length t.paths) es fs placed placed_later;
+    latest = λ q e.
+        both q e
+        ∙ ap (λ o. or_else o (shown earlier q e)) (holds_later q e)
+        ∙ ap (or_else (latest q e ys)) (holds q e)
+        ∙ sym (latest_append q e xs ys)
+        ∙ ap (latest q e) (sym both_shows);
+  }
+
+-- entries taken over behind those of a tree that was made ready for them
+module _ (own ready added t : Counted) (es fs : List Entry) (ns : List ℕ) (kept : Kept own.paths ready.paths) (same : SameCounts own ready) (leads : Leads ready.paths added.paths ns)
+    (paths : t.paths ≡ ready.paths) (both : BothCounts ready added t) (holds : Holds own es) (holds_added : Holds added fs) where
+  grown : Holds ready es
+  grown = grown_holds own ready es kept same holds
+
+  first : arities_of t.paths es ≡ arities_of own.paths es
+  first = ap (λ ps. arities_of ps es) paths ∙ grown_shows own ready es kept same holds
+
+  behind : arities_of t.paths (map (moved_by ns) fs) ≡ arities_of added.paths fs
+  behind = ap (λ ps. arities_of ps (map (moved_by ns) fs)) paths ∙ moved_entries ready.paths added.paths ns leads fs holds_added.placed
+
+  pub over_shows : arities_of t.paths (es ++ map (moved_by ns) fs) ≡ arities_of own.paths es ++ arities_of added.paths fs
+  over_shows = map-append (arity_of_entry t.paths) es (map (moved_by ns) fs) ∙ ap (λ l. l ++ arities_of t.paths (map (moved_by ns) fs)) first ∙ ap (λ l. arities_of own.paths es ++ l) behind
+
+  pub over_holds : Holds t (es ++ map (moved_by ns) fs)
+  over_holds = both_hold t ready added es (map (moved_by ns) fs) (arities_of own.paths es) (arities_of added.paths fs) first behind
+      (subst (λ ps. Placed (length ps) es) (sym paths) grown.placed)
+      (subst (λ ps. Placed (length ps) (map (moved_by ns) fs)) (sym paths) (moved_placed ready.paths added.paths ns leads fs holds_added.placed))
+      both (λ q e. grown.latest q e ∙ ap (latest q e) (grown_shows own ready es kept same holds)) holds_added.latest
+
+-- entries put before those of a tree that was made ready for them
+module _ (own ready added t : Counted) (es fs : List Entry) (ns : List ℕ) (kept : Kept added.paths ready.paths) (same : SameCounts added ready) (leads : Leads ready.paths own.paths ns)
+    (paths : t.paths ≡ ready.paths) (both : BothCounts own ready t) (holds : Holds own es) (holds_added : Holds added fs) where
+  grown_added : Holds ready fs
+  grown_added = grown_holds added ready fs kept same holds_added
+
+  before_them : arities_of t.paths (map (moved_by ns) es) ≡ arities_of own.paths es
+  before_them = ap (λ ps. arities_of ps (map (moved_by ns) es)) paths ∙ moved_entries ready.paths own.paths ns leads es holds.placed
+
+  last : arities_of t.paths fs ≡ arities_of added.paths fs
+  last = ap (λ ps. arities_of ps fs) paths ∙ grown_shows added ready fs kept same holds_added
+
+  pub under_shows : arities_of t.paths (map (moved_by ns) es ++ fs) ≡ arities_of own.paths es ++ arities_of added.paths fs
+  under_shows = map-append (arity_of_entry t.paths) (map (moved_by ns) es) fs ∙ ap (λ l. l ++ arities_of t.paths fs) before_them ∙ ap (λ l. arities_of own.paths es ++ l) last
+
+  pub under_holds : Holds t (map (moved_by ns) es ++ fs)
+  under_holds = both_hold t own ready (map (moved_by ns) es) fs (arities_of own.paths es) (arities_of added.paths fs) before_them last
+      (subst (λ ps. Placed (length ps) (map (moved_by ns) es)) (sym paths) (moved_placed ready.paths own.paths ns leads es holds.placed))
+      (subst (λ ps. Placed (length ps) fs) (sym paths) grown_added.placed)
+      both holds.latest (λ q e. grown_added.latest q e ∙ ap (latest q e) (grown_shows added ready fs kept same holds_added))

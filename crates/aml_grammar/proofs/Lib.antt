@@ -1,3 +1,3 @@
-pub mod Counted
-pub mod Entries
+pub mod PathTrees
 pub mod TermOperands
+pub mod Counted

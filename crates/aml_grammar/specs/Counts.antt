@@ -1,92 +1,83 @@
--- The latest argument counts of each path, as a finite map.
-use Rattle.std.specs.Prelude.{◌≡◌, ℕ, List, [], ◌∷◌, Bool, true, false, T, Option, Some, None, refl}
-use Rattle.std.specs.FinMap.{FinMap, get, insert, contains_key, code}
+-- The latest argument counts of paths, by the numbers of the paths.
+use Rattle.std.specs.Prelude.{◌≡◌, ◌<◌, ℕ, List, [], ◌∷◌, length, map, get_or, set, Bool, true, false, Option, Some, None, refl}
 use Rattle.std.specs.Coded.{Coded, code_by, coded×, coded_list, coded_option, coded_ℕ}
-use Rattle.std.specs.Option.{unwrap_or}
 use Rattle.aml_path.specs.contracts.segment.Seg as seg
 use Rattle.aml_path.specs.declared.segment.Seg.{Seg}
-use Rattle.aml_path.specs.Paths.{path_cmp}
 use Rattle.aml_grammar.specs.declared.counts.Counts.{Counts}
 use Rattle.aml_grammar.specs.declared.arities.Arity.{Arity}
+use Rattle.aml_grammar.specs.declared.arities.Entry.{Entry}
 use Rattle.aml_grammar.specs.Arities.{latest, or_else}
+use Rattle.aml_grammar.specs.PathTree.{number_of}
 
-abbrev pub CountsByPath : Type 0
-CountsByPath = FinMap path_cmp Counts
+-- the paths, and the counts of those that have some, both by number
+pub record Counted : Type 0 where
+  pub paths : List (List Seg)
+  pub counts : List Counts
 
 abbrev pub coded_counts : Coded Counts
 coded_counts = code_by (Option ℕ × Option ℕ) (coded× (coded_option coded_ℕ) (coded_option coded_ℕ)) (λ c. (c.declared, c.external)) (λ p. record { declared = p.0; external = p.1 }) (λ _. refl)
 
-abbrev pub counts_code : Coded CountsByPath
-counts_code = code (coded_list seg.the_row.coded) coded_counts
+abbrev pub counted_code : Coded Counted
+counted_code = code_by (List (List Seg) × List Counts) (coded× (coded_list (coded_list seg.the_row.coded)) (coded_list coded_counts)) (λ t. (t.paths, t.counts)) (λ p. record { paths = p.0; counts = p.1 }) (λ _. refl)
+
+abbrev pub no_counts : Counts
+no_counts = record { declared = None; external = None }
 
 -- the count of one sort
 abbrev pub count_of : Counts → Bool → Option ℕ
 count_of c true = c.external
 count_of c false = c.declared
 
-abbrev pub count_in : Bool → Option Counts → Option ℕ
-count_in external None = None
-count_in external (Some c) = count_of c external
-
 -- another count of one sort
 abbrev pub with_count : Counts → ℕ → Bool → Counts
 with_count c n true = record c { external = Some n }
 with_count c n false = record c { declared = Some n }
 
--- the counts, and under them an older one of one sort, which counts where there was none
-abbrev pub counted_under : Counts → ℕ → Bool → Option ℕ → Counts
-counted_under c n external None = with_count c n external
-counted_under c n external (Some x) = c
+-- the later count of each sort
+abbrev pub over : Counts → Counts → Counts
+over later earlier = record { declared = or_else later.declared earlier.declared; external = or_else later.external earlier.external }
 
-abbrev pub with_count_under : Counts → ℕ → Bool → Counts
-with_count_under c n external = counted_under c n external (count_of c external)
+-- the counts under a number
+abbrev pub counts_at : List Counts → ℕ → Counts
+counts_at cs n = get_or cs n no_counts
 
-abbrev pub no_counts : Counts
-no_counts = record { declared = None; external = None }
+abbrev pub count_at : List Counts → Bool → Option ℕ → Option ℕ
+count_at cs external None = None
+count_at cs external (Some n) = count_of (counts_at cs n) external
 
--- the map with other counts of a path: none, where it had none, changed
-abbrev pub changed : (Counts → Counts) → CountsByPath → List Seg → CountsByPath
-changed f m path = insert m path (f (unwrap_or (get m path) no_counts))
+-- the count of a path, among those of one sort
+abbrev pub shown : Counted → List Seg → Bool → Option ℕ
+shown t path external = count_at t.counts external (number_of path t.paths)
 
--- room for the counts of a path: none as yet, where it has none
-abbrev pub with_room : CountsByPath → List Seg → CountsByPath
-with_room m path = changed (λ c. c) m path
+-- one count more of the path with a number
+abbrev pub with_added : Counted → ℕ → ℕ → Bool → Counted
+with_added t node n external = record t { counts = set t.counts node (with_count (counts_at t.counts node) n external) }
 
--- the latest count of a path
-abbrev pub added : CountsByPath → List Seg → ℕ → Bool → CountsByPath
-added m path n external = changed (λ c. with_count c n external) m path
+abbrev pub SameCounts : Counted → Counted → Type 0
+SameCounts t u = (path : List Seg) (external : Bool) → shown u path external ≡ shown t path external
 
--- a count of a path that came before those of the map
-abbrev pub added_under : CountsByPath → List Seg → ℕ → Bool → CountsByPath
-added_under m path n external = changed (λ c. with_count_under c n external) m path
+-- earlier counts, and over them later ones
+abbrev pub BothCounts : Counted → Counted → Counted → Type 0
+BothCounts earlier later both = (path : List Seg) (external : Bool) → shown both path external ≡ or_else (shown later path external) (shown earlier path external)
 
-abbrev pub counted_over : CountsByPath → List Seg → ℕ → Bool → Option Counts → CountsByPath
-counted_over m path n external None = m
-counted_over m path n external (Some c) = insert m path (with_count c n external)
+-- ---- entries, each with the number of its path
 
--- the latest count of a path for which there is room
-abbrev pub counted : CountsByPath → List Seg → ℕ → Bool → CountsByPath
-counted m path n external = counted_over m path n external (get m path)
+abbrev pub arity_of_entry : List (List Seg) → Entry → Arity
+arity_of_entry ps e = record { path = get_or ps e.node []; count = e.count; external = e.external }
 
--- ---- what the map has of a list
+abbrev pub arities_of : List (List Seg) → List Entry → List Arity
+arities_of ps entries = map (arity_of_entry ps) entries
 
--- the count of the last entry of each path and sort
-abbrev pub HasLatest : CountsByPath → List Arity → Type 0
-HasLatest m arities = (path : List Seg) (external : Bool) → count_in external (get m path) ≡ latest path external arities
+-- each entry's number is one of so many
+abbrev pub Placed : ℕ → List Entry → Type 0
+Placed n [] = Unit {0}
+Placed n (e ∷ es) = (e.node < n) × Placed n es
 
--- room for each path of the list
-abbrev pub HasRoom : CountsByPath → List Arity → Type 0
-HasRoom m [] = Unit {0}
-HasRoom m (a ∷ arities) = T (contains_key m a.path) × HasRoom m arities
+-- the entry at the node to which its own leads
+abbrev pub moved_by : List ℕ → Entry → Entry
+moved_by nodes e = record e { node = get_or nodes e.node 0 }
 
--- the same counts
-abbrev pub SameCounts : CountsByPath → CountsByPath → Type 0
-SameCounts m k = (path : List Seg) (external : Bool) → count_in external (get k path) ≡ count_in external (get m path)
-
--- the counts of a map, and over them those of the list
-abbrev pub CountsOver : CountsByPath → List Arity → CountsByPath → Type 0
-CountsOver m arities k = (path : List Seg) (external : Bool) → count_in external (get k path) ≡ or_else (latest path external arities) (count_in external (get m path))
-
--- the counts of a map, and under them those of the list
-abbrev pub CountsUnder : CountsByPath → List Arity → CountsByPath → Type 0
-CountsUnder m arities k = (path : List Seg) (external : Bool) → count_in external (get k path) ≡ or_else (count_in external (get m path)) (latest path external arities)
+-- each entry has a path, and the count of a path is that of its last entry of the sort
+pub record Holds (t : Counted) (entries : List Entry) : Type 0 where
+  pub placed : Placed (length t.paths) entries
+  pub latest : (path : List Seg) (external : Bool) → shown t path external ≡ latest path external (arities_of t.paths entries)

@@ -7,6 +7,7 @@ pub mod Names
 pub mod Opcodes
 pub mod Operands
 pub mod PartTree
+pub mod PathTree
 pub mod Shape
 pub mod State
 pub mod Table

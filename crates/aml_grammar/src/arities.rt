@@ -1,10 +1,10 @@
 //! How many arguments a path takes.
-ghost use Rattle.std.specs.Prelude.{List, ◌≡◌, ◌++◌, ◌∷◌, [], OnOk, OnErr};
+ghost use Rattle.std.specs.Prelude.{List, ◌≡◌, ◌==◌, ◌++◌, ◌∷◌, [], OnOk, OnErr, IfOk, length, map};
 ghost use Rattle.aml_grammar.specs.declared.arities.Arity.{Arity};
 ghost use Rattle.aml_grammar.specs.Arities.{latest, arity_at};
-ghost use Rattle.aml_grammar.specs.Counts.{HasRoom, SameCounts, CountsOver, CountsUnder};
+ghost use Rattle.aml_grammar.specs.Counts.{Placed, moved_by};
 
-use crate::counts::CountMap;
+use crate::counts::CountTree;
 use aml_path::Path;
 use std::alloc::{AllocError, Global};
 use std::marker::Model;
@@ -33,26 +33,35 @@ pub trait ArgumentCounts {
         ensures { result ≡ latest path.now external (counts self.now) };
 }
 
+/// An entry: the number of its path, and the rest of an `Arity`. Numbers are `u32` to save memory.
+#[derive(Clone, Copy, Debug)]
+struct Entry {
+    node: u32,
+    count: u8,
+    external: bool,
+}
+
 /// The argument counts of declared paths and of Externals, in the order in which they came.
 ///
-/// At one path a declared name counts before an External, and of two of the same sort the later. A count is found by halving.
+/// At one path a declared name counts before an External, and of two of the same sort the later. Each path is kept once, as a
+/// node of a tree, and a count is found from the root down.
 #[derive(Debug, Drop)]
 pub struct Arities {
     alloc: Global,
-    entries: Vec<Arity>,
-    index: CountMap,
+    names: CountTree,
+    entries: Vec<Entry>,
 }
 
 impl Model for Arities {
     ghost use Rattle.std.specs.Prelude.{List};
     ghost use Rattle.aml_grammar.specs.declared.arities.Arity.{Arity};
-    ghost use Rattle.aml_grammar.specs.Counts.{HasLatest};
+    ghost use Rattle.aml_grammar.specs.Counts.{arities_of, Holds};
 
     ghost Value = { List Arity };
 
-    ghost view = { λ a. a.entries.items };
+    ghost view = { λ a. arities_of a.names.paths a.entries.items };
 
-    ghost invariant = { λ a. HasLatest a.index a.entries.items };
+    ghost invariant = { λ a. Holds a.names a.entries.items };
 }
 
 impl Arities {
@@ -62,35 +71,43 @@ impl Arities {
     {
         Arities {
             alloc,
+            names: CountTree::new(alloc),
             entries: Vec::new(alloc),
-            index: CountMap::new(alloc),
         }
     }
 
-    /// The entries, the latest last.
-    pub fn entries(&self) -> &[Arity]
-        ensures { result.now ≡ self.now }
+    /// How many entries there are.
+    pub fn len(&self) -> usize
+        ensures { result ≡ length self.now }
     {
-        &self.entries
+        self.entries.len()
     }
 
-    /// Adds a path, declared or named by an External, as the latest. All memory is taken before anything changes.
+    /// Whether there is no entry.
+    pub fn is_empty(&self) -> bool
+        ensures { result ≡ (length self.now == 0) }
+    {
+        self.entries.is_empty()
+    }
+
+    /// Adds a path, declared or named by an External, as the latest. All memory is taken before anything changes. It is refused
+    /// also where its nodes would be more than 2^32.
     pub fn add(&mut self, path: Path, count: u8, external: bool) -> Result<(), AllocError>
         ensures ok { OnOk result (self.new ≡ self.old ++ record { path = path; count = count; external = external } ∷ []) }
         ensures err { OnErr result (self.new ≡ self.old) }
     {
-        let segments = Vec::from_slice(self.alloc, path.segments())?;
         self.entries.reserve(1)?;
-        self.index.add(Path::from_vec(segments), count, external)?;
-        self.entries.push_reserved(Arity {
-            path,
+        let node = self.names.make(&path)?;
+        self.names.add(node, count, external);
+        self.entries.push_reserved(Entry {
+            node,
             count,
             external,
         });
         Ok(())
     }
 
-    /// Adds all entries of others behind its own. Where memory runs out, nothing changes.
+    /// Adds all entries of others behind its own. Where memory runs out, or their nodes would be more than 2^32, nothing changes.
     ///
     /// Only the entries of the shorter list are counted anew.
     pub fn append(&mut self, added: Arities) -> Result<(), AllocError>
@@ -98,38 +115,40 @@ impl Arities {
         ensures err { OnErr result (self.new ≡ self.old) }
     {
         if self.entries.len() < added.entries.len() {
-            self.take_over_with_map(added)
+            self.take_over_with_names(added)
         } else {
-            self.take_over(added.entries)
+            self.take_over(added)
         }
     }
 
-    /// Takes entries over behind its own, with their map, under whose counts it puts its own.
-    fn take_over_with_map(&mut self, added: Arities) -> Result<(), AllocError>
+    /// Takes entries over behind its own, with their tree, under whose counts it puts its own.
+    fn take_over_with_names(&mut self, added: Arities) -> Result<(), AllocError>
         ensures ok { OnOk result (self.new ≡ self.old ++ added) }
         ensures err { OnErr result (self.new ≡ self.old) }
     {
         let mut added = added;
-        add_all_under(self.alloc, &mut added.index, &self.entries)?;
-        self.entries.append(&mut added.entries)?;
-        self.index = added.index;
+        let nodes = added.names.make_all(self.alloc, &self.names)?;
+        let mut entries = moved(self.alloc, &self.entries, &nodes)?;
+        entries.append(&mut added.entries)?;
+        added.names.put_under(&self.names, &nodes);
+        self.names = added.names;
+        self.entries = entries;
         Ok(())
     }
 
     /// Takes entries over behind its own. All memory is taken before anything changes.
-    fn take_over(&mut self, added: Vec<Arity>) -> Result<(), AllocError>
-        ensures ok { OnOk result (self.new ≡ self.old ++ added.items) }
+    fn take_over(&mut self, added: Arities) -> Result<(), AllocError>
+        ensures ok { OnOk result (self.new ≡ self.old ++ added) }
         ensures err { OnErr result (self.new ≡ self.old) }
     {
-        let mut added = added;
-        make_room(self.alloc, &mut self.index, &added)?;
-        let before = self.entries.len();
-        self.entries.append(&mut added)?;
-        note_all(&mut self.index, &self.entries[before..]);
+        let nodes = self.names.make_all(self.alloc, &added.names)?;
+        let mut entries = moved(self.alloc, &added.entries, &nodes)?;
+        self.entries.append(&mut entries)?;
+        self.names.put_over(&added.names, &nodes);
         Ok(())
     }
 
-    /// How many arguments a path takes, where it is known.
+    /// How many arguments a path takes, where it is known. It takes no memory.
     #[tactic(auto, unfolding(crate::specs::Arities::arity_at))]
     pub fn arity_at(&self, path: &Path) -> Option<u8>
         ensures { result ≡ arity_at self.now path.now }
@@ -145,40 +164,22 @@ impl ArgumentCounts for Arities {
     ghost counts = { λ arities. arities };
 
     fn latest(&self, path: &Path, external: bool) -> Option<u8> {
-        self.index.latest(path, external)
+        self.names.latest(path, external)
     }
 }
 
-/// Makes room for the counts of all entries, and changes no count.
-fn make_room(alloc: Global, index: &mut CountMap, entries: &[Arity]) -> Result<(), AllocError>
-    ensures same { SameCounts index.old index.new }
-    ensures room { OnOk result (HasRoom index.new entries.now) }
+/// Entries at the nodes to which their own lead.
+fn moved(alloc: Global, entries: &[Entry], nodes: &[u32]) -> Result<Vec<Entry>, AllocError>
+    requires { Placed (length nodes.now) entries.now }
+    ensures { IfOk result (λ moved. moved.items ≡ map (moved_by nodes.now) entries.now) }
 {
+    let mut list = Vec::with_capacity(alloc, entries.len())?;
     for entry in entries {
-        let segments = Vec::from_slice(alloc, entry.path.segments())?;
-        index.make_room(Path::from_vec(segments))?;
+        list.push(Entry {
+            node: nodes[entry.node as usize],
+            count: entry.count,
+            external: entry.external,
+        })?;
     }
-    Ok(())
-}
-
-/// Notes the counts of all entries, for which there is room. It takes no memory.
-fn note_all(index: &mut CountMap, entries: &[Arity])
-    requires { HasRoom index.old entries.now }
-    ensures { CountsOver index.old entries.now index.new }
-{
-    for entry in entries {
-        index.note(&entry.path, entry.count, entry.external);
-    }
-}
-
-/// Adds the counts of entries that came before all that the map has, the latest of them first.
-fn add_all_under(alloc: Global, index: &mut CountMap, entries: &[Arity]) -> Result<(), AllocError>
-    ensures { OnOk result (CountsUnder index.old entries.now index.new) }
-{
-    for above in 0..entries.len() {
-        let entry = &entries[entries.len() - 1 - above];
-        let segments = Vec::from_slice(alloc, entry.path.segments())?;
-        index.add_under(Path::from_vec(segments), entry.count, entry.external)?;
-    }
-    Ok(())
+    Ok(list)
 }

@@ -1,11 +1,12 @@
 //! The latest argument counts, by path.
-ghost use Rattle.std.specs.Prelude.{◌≡◌, OnOk, OnErr};
-ghost use Rattle.std.specs.FinMap as map;
-ghost use Rattle.aml_grammar.specs.Counts.{count_of, count_in, with_count, with_count_under, with_room, added, added_under, counted};
+ghost use Rattle.std.specs.Prelude.{◌≡◌, ◌<◌, ◌≤◌, ℕ, List, [], ◌∷◌, IfOk, OnOk, length, get_or};
+ghost use Rattle.aml_path.specs.declared.segment.Seg.{Seg as Segment};
+ghost use Rattle.aml_grammar.specs.PathTree.{number_of, Kept, Leads};
+ghost use Rattle.aml_grammar.specs.Counts.{count_of, counts_at, with_count, over, shown, with_added, SameCounts, BothCounts};
 
+use crate::path_tree::PathTree;
 use aml_path::Path;
 use std::alloc::{AllocError, Global};
-use std::collections::BTreeMap;
 use std::marker::Model;
 
 /// The latest argument counts of one path.
@@ -23,84 +24,143 @@ const NO_COUNTS: Counts = Counts {
     external: None,
 };
 
-/// The latest argument counts of each path, found by halving.
+/// The latest argument counts of each path, found from the root down.
+///
+/// A path past those that have counts has none, so that the root alone takes no memory.
 #[derive(Debug, Drop)]
-pub(crate) struct CountMap {
-    paths: BTreeMap<Path, Counts>,
+pub(crate) struct CountTree {
+    tree: PathTree,
+    counts: Vec<Counts>,
 }
 
-impl Model for CountMap {
-    ghost use Rattle.std.specs.FinMap as map;
-    ghost use Rattle.aml_grammar.specs.Counts.{CountsByPath, counts_code};
+impl Model for CountTree {
+    ghost use Rattle.std.specs.Prelude.{◌≤◌, length};
+    ghost use Rattle.aml_grammar.specs.Counts.{Counted, counted_code};
 
-    ghost Value = { CountsByPath };
+    ghost Value = { Counted };
 
-    ghost coded = { counts_code };
+    ghost coded = { counted_code };
 
-    ghost view = { λ m. map.from_entries m.paths.entries };
+    ghost view = { λ t. record { paths = t.tree; counts = t.counts.items } };
+
+    ghost invariant = { λ t. length t.counts.items ≤ length t.tree };
 }
 
-impl CountMap {
-    /// No path. It takes no memory.
-    pub(crate) fn new(alloc: Global) -> CountMap
-        ensures { result ≡ map.empty }
+impl CountTree {
+    /// No count. It takes no memory.
+    pub(crate) fn new(alloc: Global) -> CountTree
+        ensures { result ≡ record { paths = [] ∷ []; counts = [] } }
     {
-        CountMap {
-            paths: BTreeMap::new(alloc),
+        CountTree {
+            tree: PathTree::new(alloc),
+            counts: Vec::new(alloc),
         }
     }
 
-    /// The latest count of a path, among those of one sort.
+    /// The latest count of a path, among those of one sort. It takes no memory.
     pub(crate) fn latest(&self, path: &Path, external: bool) -> Option<u8>
-        ensures { result ≡ count_in external (map.get self.now path.now) }
+        ensures { result ≡ shown self.now path.now external }
     {
-        match self.paths.get(path) {
+        match self.tree.find(path) {
             None => None,
-            Some(counts) => count_of(counts, external),
+            Some(node) => self.at(node, external),
         }
     }
 
-    /// Makes room for the counts of a path, so that noting one takes no memory.
-    pub(crate) fn make_room(&mut self, path: Path) -> Result<(), AllocError>
-        ensures ok { OnOk result (self.new ≡ with_room self.old path) }
-        ensures err { OnErr result (self.new ≡ self.old) }
+    /// The latest count under a number, among those of one sort.
+    fn at(&self, node: u32, external: bool) -> Option<u8>
+        ensures { result ≡ count_of (counts_at self.now.counts node) external }
     {
-        self.paths.entry(path)?.or_insert(NO_COUNTS);
-        Ok(())
+        let place = node as usize;
+        if place < self.counts.len() {
+            count_of(&self.counts[place], external)
+        } else {
+            None
+        }
     }
 
-    /// Adds the latest count of a path.
-    pub(crate) fn add(&mut self, path: Path, count: u8, external: bool) -> Result<(), AllocError>
-        ensures ok { OnOk result (self.new ≡ added self.old path count external) }
-        ensures err { OnErr result (self.new ≡ self.old) }
+    /// The number of a path, and room for its counts, so that adding one takes no memory. It is refused also where no number is
+    /// left.
+    pub(crate) fn make(&mut self, path: &Path) -> Result<u32, AllocError>
+        ensures kept { Kept self.old.paths self.new.paths }
+        ensures same { SameCounts self.old self.new }
+        ensures node { IfOk result (λ node. number_of path.now self.new.paths ≡ Some node) }
+        ensures room { IfOk result (λ node. node < length self.new.counts) }
     {
-        let counts = self.paths.entry(path)?.or_insert(NO_COUNTS);
-        *counts = with_count(*counts, count, external);
-        Ok(())
+        let node = self.tree.make(path)?;
+        self.counts.resize(self.tree.len(), NO_COUNTS)?;
+        Ok(node)
     }
 
-    /// Adds a count of a path that came before those that the map has.
-    pub(crate) fn add_under(
+    /// The numbers of the paths of others, and room for their counts. It is refused also where no number is left.
+    pub(crate) fn make_all(
         &mut self,
-        path: Path,
-        count: u8,
-        external: bool,
-    ) -> Result<(), AllocError>
-        ensures ok { OnOk result (self.new ≡ added_under self.old path count external) }
-        ensures err { OnErr result (self.new ≡ self.old) }
+        alloc: Global,
+        others: &CountTree,
+    ) -> Result<Vec<u32>, AllocError>
+        ensures kept { Kept self.old.paths self.new.paths }
+        ensures same { SameCounts self.old self.new }
+        ensures nodes { IfOk result (λ nodes. Leads self.new.paths others.now.paths nodes.items) }
+        ensures room { OnOk result (length self.new.paths ≤ length self.new.counts) }
     {
-        let counts = self.paths.entry(path)?.or_insert(NO_COUNTS);
-        *counts = with_count_under(*counts, count, external);
-        Ok(())
+        let nodes = self.tree.make_all(alloc, &others.tree)?;
+        self.counts.resize(self.tree.len(), NO_COUNTS)?;
+        Ok(nodes)
     }
 
-    /// Notes the latest count of a path for which there is room. It takes no memory.
-    pub(crate) fn note(&mut self, path: &Path, count: u8, external: bool)
-        ensures { self.new ≡ counted self.old path.now count external }
+    /// Adds the latest count of the path with a number.
+    pub(crate) fn add(&mut self, node: u32, count: u8, external: bool)
+        requires { node < length self.old.counts }
+        ensures { self.new ≡ with_added self.old node count external }
     {
-        if let Some(counts) = self.paths.get_mut(path) {
-            *counts = with_count(*counts, count, external);
-        }
+        let place = node as usize;
+        self.counts[place] = with_count(self.counts[place], count, external);
+    }
+
+    /// Puts later counts over its own, by the numbers of their paths here. It takes no memory.
+    pub(crate) fn put_over(&mut self, later: &CountTree, nodes: &[u32])
+        requires leads { Leads self.old.paths later.now.paths nodes.now }
+        requires room { length self.old.paths ≤ length self.old.counts }
+        ensures paths { self.new.paths ≡ self.old.paths }
+        ensures counts { BothCounts self.old later.now self.new }
+    {
+        put_over(&mut self.counts, &later.counts, nodes);
+    }
+
+    /// Puts earlier counts under its own, by the numbers of their paths here. It takes no memory.
+    pub(crate) fn put_under(&mut self, earlier: &CountTree, nodes: &[u32])
+        requires leads { Leads self.old.paths earlier.now.paths nodes.now }
+        requires room { length self.old.paths ≤ length self.old.counts }
+        ensures paths { self.new.paths ≡ self.old.paths }
+        ensures counts { BothCounts earlier.now self.old self.new }
+    {
+        put_under(&mut self.counts, &earlier.counts, nodes);
+    }
+}
+
+/// Puts later counts over some, each at its number.
+fn put_over(counts: &mut Vec<Counts>, later: &[Counts], nodes: &[u32])
+    requires many { length later.now ≤ length nodes.now }
+    requires within { (n : ℕ) → n < length nodes.now → get_or nodes.now n 0 < length counts.old.items }
+    ensures long { length counts.new.items ≡ length counts.old.items }
+    ensures both { (ps qs : List (List Segment)) → Leads ps qs nodes.now → BothCounts (record { paths = ps; counts = counts.old.items }) (record { paths = qs; counts = later.now }) (record { paths = ps; counts = counts.new.items }) }
+{
+    for node in 0..later.len() {
+        let place = nodes[node] as usize;
+        counts[place] = over(later[node], counts[place]);
+    }
+}
+
+/// Puts earlier counts under some, each at its number.
+fn put_under(counts: &mut Vec<Counts>, earlier: &[Counts], nodes: &[u32])
+    requires many { length earlier.now ≤ length nodes.now }
+    requires within { (n : ℕ) → n < length nodes.now → get_or nodes.now n 0 < length counts.old.items }
+    ensures long { length counts.new.items ≡ length counts.old.items }
+    ensures both { (ps qs : List (List Segment)) → Leads ps qs nodes.now → BothCounts (record { paths = qs; counts = earlier.now }) (record { paths = ps; counts = counts.old.items }) (record { paths = ps; counts = counts.new.items }) }
+{
+    for node in 0..earlier.len() {
+        let place = nodes[node] as usize;
+        counts[place] = over(counts[place], earlier[node]);
     }
 }
 
@@ -132,12 +192,12 @@ fn with_count(counts: Counts, count: u8, external: bool) -> Counts
     }
 }
 
-/// The counts, and under them an older one of one sort, which counts where there was none.
-fn with_count_under(counts: Counts, count: u8, external: bool) -> Counts
-    ensures { result ≡ with_count_under counts count external }
+/// The later count of each sort, or else the earlier.
+fn over(later: Counts, earlier: Counts) -> Counts
+    ensures { result ≡ over later earlier }
 {
-    match count_of(&counts, external) {
-        Some(_) => counts,
-        None => with_count(counts, count, external),
+    Counts {
+        declared: later.declared.or(earlier.declared),
+        external: later.external.or(earlier.external),
     }
 }

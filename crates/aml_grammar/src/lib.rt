@@ -9,6 +9,7 @@ mod kinds;
 mod marks;
 mod opcode;
 mod operand_view;
+mod path_tree;
 mod term;
 mod term_part;
 mod term_reader;

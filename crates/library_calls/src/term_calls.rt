@@ -25,7 +25,7 @@ fn of_table<T: Drop>(
     came: Result<T, Refusal>,
     known: &Arities,
 ) -> Result<T, Ended> {
-    if came.is_ok() == known.entries().is_empty() {
+    if came.is_ok() == known.is_empty() {
         return Err(Ended::Broken(call));
     }
     answered(call, came)
@@ -52,7 +52,7 @@ fn call_noting(alloc: Global) -> Result<(), Ended> {
         "scan",
         scan(alloc, TABLE, &root, false, &Arities::new(alloc)),
     )?;
-    if noted.marks.len() != 1 || noted.added.entries().is_empty() {
+    if noted.marks.len() != 1 || noted.added.is_empty() {
         return Err(Ended::Broken("scan"));
     }
     Ok(())

@@ -93,7 +93,7 @@ impl Lists {
         if self.arities.append(arities).is_err() {
             asked.run_out();
         }
-        asked.say_number(self.arities.entries().len() as u64);
+        asked.say_number(self.arities.len() as u64);
     }
 
     /// Answers a question about lists of terms, and says whether it is one.
