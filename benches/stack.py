@@ -4,9 +4,11 @@
     benches/stack.py [PROGRAM]
 
 For each kind of term, 32 control methods call one another, each through as many terms of this kind, one inside the other, as are
-taken. The program is run on the last of them with ever smaller stacks, and the least one on which it ends without a signal is printed,
-in KiB, to the nearest 16. With no program named, it is the built one in crates/acpiroute/out. The last kind is a table whose devices
-nest as deep as they may.
+taken. The last one ends the evaluation by Fatal, so that the terms around the calls need not give the values that are wanted there.
+The program is run on the first of them with ever smaller stacks, and the least one on which it ends without a signal is printed, in
+KiB, to the nearest 16. With no program named, it is the built one in crates/acpiroute/out. In the kinds of fields, the calls are those
+of `_ADR`, which an access to a register of a PCI device makes. In the last kind a table calls the methods, from devices that nest as
+deep as they may.
 """
 import pathlib
 import resource
@@ -32,26 +34,57 @@ def either(body):
     return with_length(b"\xA0", b"\x00") + with_length(b"\xA1", body)
 
 
+def index(of):
+    return b"\x88" + of + b"\x00\x00"
+
+
+def dereferenced(term):
+    return b"\x83" + term
+
+
+def buffer(size):
+    return with_length(b"\x11", size)
+
+
 KINDS = {
     "Else": either,
     "If": lambda x: with_length(b"\xA0", b"\x01" + x),
-    "If, in its predicate": lambda x: with_length(b"\xA0", x),
     "While": lambda x: with_length(b"\xA2", b"\x01" + x + b"\xA5"),
     "Add": lambda x: b"\x72" + x + b"\x00\x00",
     "Add, second operand": lambda x: b"\x72\x00" + x + b"\x00",
     "Divide": lambda x: b"\x78" + x + b"\x01\x00\x00",
     "Not": lambda x: b"\x80" + x + b"\x00",
     "Store": lambda x: b"\x70" + x + b"\x60",
+    "CopyObject": lambda x: b"\x9D" + x + b"\x60",
     "LNot": lambda x: b"\x92" + x,
     "LAnd": lambda x: b"\x90" + x + b"\x01",
     "Concat": lambda x: b"\x73" + x + b"\x00\x00",
     "ConcatRes": lambda x: b"\x84" + x + b"\x11\x02\x00\x00",
     "ToInteger": lambda x: b"\x99" + x + b"\x00",
-    "Mid": lambda x: b"\x9E" + x + b"\x00\x00\x00",
-    "Buffer": lambda x: with_length(b"\x11", x),
-    "Return": lambda x: b"\xA4" + x,
-    "Notify": lambda x: b"\x86\x5C" + x,
+    "Index": index,
+    "DerefOf": dereferenced,
+    "SizeOf of a DerefOf": lambda x: b"\x87" + dereferenced(x),
+    "SizeOf of an Index": lambda x: b"\x87" + index(x),
+    "ObjectType of an Index": lambda x: b"\x8E" + index(x),
+    "CondRefOf of an Index": lambda x: b"\x5B\x12" + index(x) + b"\x00",
+    "RefOf of an Index": lambda x: b"\x71" + index(x),
+    "RefOf of a DerefOf": lambda x: b"\x71" + dereferenced(x),
+    "Increment of an Index": lambda x: b"\x75" + index(x),
+    "Acquire of an Index": lambda x: b"\x5B\x23" + index(x) + b"\xFF\xFF",
+    "Store to an Index": lambda x: b"\x70\x00" + index(x),
+    "Store to a DerefOf": lambda x: b"\x70\x00" + dereferenced(x),
+    "Add to an Index": lambda x: b"\x72\x00\x00" + index(x),
+    "Divide to an Index": lambda x: b"\x78\x00\x01" + index(x) + b"\x00",
+    "Not to an Index": lambda x: b"\x80\x00" + index(x),
+    "Buffer": buffer,
+    "VarPackage, its size": lambda x: with_length(b"\x13", x),
     "argument of a call": lambda x: b"ID__" + x,
+}
+
+# A package holds no calls but in the sizes of its buffers.
+ELEMENTS = {
+    "Package": lambda x: with_length(b"\x12", b"\x01" + x),
+    "VarPackage": lambda x: with_length(b"\x13", b"\x01" + x),
 }
 
 
@@ -65,16 +98,32 @@ def nested(wrap, depth, inner):
     return inner
 
 
-def calls(wrap, depth):
+# Refused as 77.
+FATAL = b"\x5B\x32\x00\x00\x00\x00\x00\x00"
+
+
+def calls(wrap, depth, last=lambda x: x):
     """A table of methods, each of which calls the next one inside so many terms."""
     table = method(b"ID__", 1, b"\xA4\x68")
     for n in range(CALLS - 1):
-        table += method(b"M%03d" % n, 0, nested(wrap, depth, b"M%03d" % (n + 1)) + b"\xA4\x00")
-    return table + method(b"M%03d" % (CALLS - 1), 0, b"\xA4\x00")
+        table += method(b"M%03d" % n, 0, nested(wrap, depth, last(b"M%03d" % (n + 1))))
+    return table + method(b"M%03d" % (CALLS - 1), 0, FATAL)
+
+
+def fields(wrap, depth, access):
+    """A table of devices: an access to the register of one calls its `_ADR`, which makes an access to the next one's."""
+    register = lambda n: b"\x5C\x2F\x03PCI0D%03dREG_" % n
+    asked = lambda n: FATAL if n == CALLS - 1 else nested(wrap, depth, access(register(n + 1)))
+    region = b"\x5B\x80SPC_\x02\x00\x0A\x04" + with_length(b"\x5B\x81", b"SPC_\x03REG_\x20")
+    table = b"".join(with_length(b"\x5B\x82", b"D%03d" % n + method(b"_ADR", 0, asked(n)) + region) for n in range(1, CALLS))
+    bridge = with_length(b"\x5B\x82", b"PCI0" + b"\x08_HID\x0C\x41\xD0\x0A\x03" + table)
+    return bridge + method(b"M000", 0, asked(0))
 
 
 def devices(depth):
-    return nested(lambda x: with_length(b"\x5B\x82", b"DEV_" + x), depth, method(b"M000", 0, b"\xA4\x00"))
+    """A table of devices one inside the other, the innermost of which has a region whose offset the methods say, each through Else."""
+    region = b"\x5B\x80SPC_\x00M000\x01"
+    return calls(either, 63) + nested(lambda x: with_length(b"\x5B\x82", b"DEV_" + x), depth, region)
 
 
 def table(signature, revision, body):
@@ -117,7 +166,7 @@ def deepest(program, make):
     for depth in range(64, 0, -1):
         text = machine(make(depth))
         status, errors = ended(program, text, 65536)
-        if status == 0:
+        if errors == "refused 77":
             return depth, text
     return 0, machine(make(0))
 
@@ -125,7 +174,11 @@ def deepest(program, make):
 def main():
     program = sys.argv[1] if sys.argv[1:] else PROGRAM
     cases = [(name, lambda depth, wrap=wrap: calls(wrap, depth)) for name, wrap in KINDS.items()]
-    for name, make in [*cases, ("devices, one in the other", devices)]:
+    cases += [(name, lambda depth, wrap=wrap: calls(wrap, depth, buffer)) for name, wrap in ELEMENTS.items()]
+    accesses = (("read", lambda it: it), ("stored to", lambda it: b"\x70\x00" + it), ("counted", lambda it: b"\x75" + it))
+    for what, access in accesses:
+        cases.append((f"Else, and fields {what}", lambda depth, access=access: fields(either, depth, access)))
+    for name, make in [*cases, ("Else, called from devices", devices)]:
         depth, text = deepest(program, make)
         print(f"{name:28} {depth} deep: {least(program, text)} KiB", flush=True)
 

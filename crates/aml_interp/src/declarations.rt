@@ -180,6 +180,7 @@ fn eval_new_scope<S: Space>(
 }
 
 /// Declares a name at a path that is used again.
+#[inline(never)]
 fn declare<S: Space>(
     alloc: Global,
     world: &mut WorldState<S>,

@@ -57,6 +57,7 @@ pub(crate) fn eval_name_value<S: Space>(
 }
 
 /// What a name is where a value stands, with the arguments that stand behind it; refused as `WorldState::invocation` is.
+#[inline(never)]
 fn name_used<S: Space>(
     alloc: Global,
     world: &WorldState<S>,

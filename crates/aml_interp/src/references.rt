@@ -168,6 +168,7 @@ fn eval_sought<S: Space>(
     }
 }
 
+#[inline(never)]
 #[tactic(auto, using(crate::proofs::Steps::evaluating), unfolding(aml_meaning::specs::OperatorTerms::sought_name))]
 fn sought_name<S: Space>(
     alloc: Global,

@@ -44,6 +44,7 @@ pub(crate) fn eval_target<S: Space>(
     }
 }
 
+#[inline(never)]
 #[tactic(auto, using(crate::proofs::Steps::evaluating), unfolding(aml_meaning::specs::TargetTerms::name_target))]
 fn named_target<S: Space>(
     alloc: Global,

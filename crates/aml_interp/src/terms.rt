@@ -107,6 +107,7 @@ pub(crate) fn eval_value<S: Space>(
 }
 
 /// The value of the operand at a position.
+#[inline(never)]
 #[cycle(evaluation)]
 #[tactic(auto, using(crate::proofs::Steps::evaluating), unfolding(aml_meaning::specs::Tasks::value_at))]
 pub(crate) fn eval_value_at<S: Space>(
@@ -130,6 +131,7 @@ pub(crate) fn eval_value_at<S: Space>(
 }
 
 /// The values of the first two operands.
+#[inline(never)]
 #[cycle(evaluation)]
 #[tactic(auto, using(crate::proofs::Steps::evaluating), unfolding(aml_meaning::specs::Tasks::two_values))]
 pub(crate) fn eval_two_values<S: Space>(

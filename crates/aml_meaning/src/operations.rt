@@ -22,6 +22,7 @@ use std::alloc::Global;
 
 impl<S> WorldState<S> {
     /// What an operator gives of two values. Both are converted first, from left to right, and refused as that is.
+    #[inline(never)]
     #[tactic(auto, using(ar_space::specs::Change::changing))]
     pub fn operate_on_two(
         &mut self,
@@ -41,6 +42,7 @@ impl<S> WorldState<S> {
     }
 
     /// What an operator gives of a value, converted first and refused as that is.
+    #[inline(never)]
     #[tactic(auto, using(ar_space::specs::Change::changing))]
     pub fn operate_on_one(
         &mut self,
@@ -59,6 +61,7 @@ impl<S> WorldState<S> {
 
     /// Whether a test holds of two values: True or False. Both are converted to integers first, or, where they are compared, the
     /// second to the type of the first, and refused as that is.
+    #[inline(never)]
     #[tactic(auto, using(ar_space::specs::Change::changing))]
     pub fn test(
         &self,
@@ -76,6 +79,7 @@ impl<S> WorldState<S> {
     }
 
     /// The quotient and the remainder of two values; a divisor of 0 is refused as `DivideByZero`.
+    #[inline(never)]
     #[tactic(auto, using(ar_space::specs::Change::changing), unfolding(crate::specs::Operations::divided_in))]
     pub fn divide(&self, first: Value, second: Value) -> Result<Division, Refusal>
         ensures answer { Does result self.now (divided_in first second) self.now }

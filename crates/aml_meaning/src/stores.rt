@@ -44,6 +44,7 @@ impl<S> WorldState<S> {
 
     /// Stores a copy of a value to a target, without conversion: a name that holds a value holds the copy after it. Anything
     /// else is as `store` has it.
+    #[inline(never)]
     #[tactic(auto, using(ar_space::specs::Change::changing))]
     pub fn copy_to(
         &mut self,
