@@ -175,7 +175,8 @@ fn eval_elements<S: Space>(
     let mut left = count;
     let mut rest = *job.term;
     'items: while left > 0 {
-        match take_first(&mut rest) {
+        let taken = take_first(&mut rest);
+        match taken {
             None => return Ok(elements),
             Some(ref item) => {
                 let code = code(item);

@@ -179,7 +179,8 @@ fn eval_arguments<S: Space>(
     let mut values = Vec::new(alloc);
     let mut rest = *job.term;
     'items: loop {
-        match take_first(&mut rest) {
+        let taken = take_first(&mut rest);
+        match taken {
             None => return Ok(values),
             Some(ref item) => {
                 let value = eval_value(alloc, run, &Task { term: item, ..*job })?;

@@ -28,7 +28,8 @@ pub(crate) fn eval_operand_referent<S: Space>(
     ensures spent { run.new.1 ≤ run.old.1 }
     ensures means { Does result run.new (referent_at S.accesses (meaning S.accesses) job.now.place.now.scope.path.now job.now.place.now.depth (at_tree job.now.term.now)) run.old }
 {
-    match operand(job.term, 0) {
+    let operand = operand(job.term, 0);
+    match operand {
         OperandView::Absent => eval_target_referent(alloc, run, job),
         OperandView::Null => eval_target_referent(alloc, run, job),
         OperandView::Name => eval_target_referent(alloc, run, job),
@@ -163,7 +164,8 @@ fn eval_sought<S: Space>(
     ensures spent { run.new.1 ≤ run.old.1 }
     ensures means { Does result run.new (sought S.accesses (meaning S.accesses) job.now.place.now.scope.path.now job.now.place.now.depth (at_tree job.now.term.now) (operand_of (at_tree job.now.term.now) 0)) run.old }
 {
-    match operand(job.term, 0) {
+    let operand = operand(job.term, 0);
+    match operand {
         OperandView::Absent => eval_sought_target(alloc, run, job),
         OperandView::Null => eval_sought_target(alloc, run, job),
         OperandView::Name => sought_name(alloc, run, job),

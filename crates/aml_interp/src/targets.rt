@@ -27,7 +27,8 @@ pub(crate) fn eval_target<S: Space>(
     ensures spent { run.new.1 ≤ run.old.1 }
     ensures means { Does result run.new (target_at (meaning S.accesses) job.now.place.now.scope.path.now job.now.place.now.depth (at_tree job.now.term.now) index) run.old }
 {
-    match operand(job.term, index) {
+    let operand = operand(job.term, index);
+    match operand {
         OperandView::Absent => Err(Refusal::Name(NameFault::BadName)),
         OperandView::Null => Ok(StoreTarget::Nowhere),
         OperandView::Name => named_target(alloc, run, job, index),

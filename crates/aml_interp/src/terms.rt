@@ -198,7 +198,8 @@ pub(crate) fn eval_list<S: Space>(
 {
     let mut rest = *job.term;
     'items: loop {
-        match take_first(&mut rest) {
+        let taken = take_first(&mut rest);
+        match taken {
             None => return Ok(Flow::Next),
             Some(ref item) => {
                 let flow = eval_term(alloc, run, &Task { term: item, ..*job })?;
