@@ -12,7 +12,7 @@ use Rattle.recorded_space.specs.declared.exchange.Exchange.TheVariants as note
 use Rattle.aml_laws.specs.Answered.{Answered}
 use Rattle.aml_laws.specs.Answered as by
 use Rattle.aml_laws.specs.SpaceFaults.{Faults, read, written}
-use Rattle.aml_laws.specs.Noted.{WithNotes, noted, fault_in, fault_of, AllAnswered, EndsWith, RefusalTells, TellsNotes}
+use Rattle.aml_laws.specs.Noted.{WithNotes, noted, fault_in, fault_of, AllAnswered, TellsNotes}
 use Rattle.aml_laws.proofs.FaultsOfChanges.{Explained, RefusalExplained}
 
 -- one note more

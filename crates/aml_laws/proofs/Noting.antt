@@ -16,7 +16,7 @@ use Rattle.aml_meaning.specs.Invocations.{invoked}
 use Rattle.aml_meaning.specs.Meaning.{meaning}
 use Rattle.aml_meaning.specs.Calling.{loaded, evaluated, answered}
 use Rattle.aml_laws.specs.Noted.{WithNotes, noted, without_notes, outcome_without_notes}
-use Rattle.aml_laws.proofs.Together.{SideBySide, Shape, Goes, Together, spaces}
+use Rattle.aml_laws.proofs.Together.{SideBySide, Shape, Goes, spaces}
 use Rattle.aml_laws.proofs.WorldsTogether.{worlds, runs, world_over}
 use Rattle.aml_laws.proofs.UnitsTogether.{read_field_together, write_field_together}
 use Rattle.aml_laws.proofs.OperandsTogether.{invoked_together}

@@ -4,3 +4,4 @@ mod Following
 mod Meeting
 mod Laws
 mod Growing
+mod RunsTold

@@ -1,5 +1,5 @@
 -- Runs over two register spaces that are in step.
-use Rattle.std.specs.Prelude.{◌≡◌, ◌⊎◌, ℕ, List, Ok, Err, refl}
+use Rattle.std.specs.Prelude.{◌≡◌, ℕ, List, Ok, Err, refl}
 use Rattle.std.proofs.Common.{inl, inr, sym, subst, ap}
 use Rattle.ar_space.specs.declared.refusal.Refusal.{Refusal}
 use Rattle.ar_space.specs.Accesses.{Accesses}

@@ -10,9 +10,11 @@ ghost use Rattle.recorded_space.specs.Deciding.{Gives};
 ghost use Rattle.recorded_space.specs.Recordings.{Recording, begun, recorded};
 ghost use Rattle.route_report.specs.Reports.{RoutingReport};
 ghost use Rattle.recorded_route.specs.declared.settings.Settings.{Settings};
-ghost use Rattle.recorded_route.specs.Runs.{IsRun};
+ghost use Rattle.recorded_route.specs.Runs.{Description, IsRun, IsRunOver};
+ghost use Rattle.aml_laws.specs.Noted.{WithNotes, noted};
 ghost use Rattle.recorded_laws.specs.Grown.{left_by};
 ghost use Rattle.recorded_laws.specs.Listed.{listed};
+ghost use Rattle.recorded_laws.specs.RunNotes.{RunTells};
 
 use acpi_configure::laws::a_problem_has_one_answer;
 
@@ -45,4 +47,18 @@ pub fn the_wanted_access_is_the_next_one<S>()
 /// record: what a caller appends access by access stays a record of its registers.
 pub fn a_record_grows_with_the_answers_of_a_space<S>()
     ensures { (accesses : Accesses S) (space : S) (entries more : List Exchange) → Gives accesses entries space → Gives accesses more (left_by accesses entries space) → Gives accesses (entries ++ more) space }
+{}
+
+/// Noting the accesses of a register space, each with its answer, changes no run: it comes out in the same way, and leaves the same space.
+pub fn noting_changes_no_run<S>()
+    ensures { (accesses : Accesses S) (settings : Settings) (avoid text : List ℕ) (before : WithNotes S) (outcome : Outcome RoutingReport) (left : S) → IsRun accesses settings avoid text before.0 outcome left
+        → (after : WithNotes S) × (left ≡ after.0) × IsRun (noted accesses) settings avoid text before outcome after }
+{}
+
+/// Where a run over a register space is refused by a fault of that space, the last of its own accesses is answered with that fault, and
+/// all those before it with values. With any other refusal all are answered with values, and with a report all but those that its lines
+/// tell of. The law is of runs whose text describes tables: other texts are refused before any access.
+pub fn a_run_tells_of_its_accesses<S>()
+    ensures { (accesses : Accesses S) (settings : Settings) (avoid : List ℕ) (d : Description) (before : WithNotes S) (outcome : Outcome RoutingReport) (after : WithNotes S) → IsRunOver (noted accesses) settings avoid d before outcome after
+        → RunTells outcome before after }
 {}
