@@ -136,6 +136,7 @@ fn eval_field<S: Space>(
     Ok(Flow::Value(value))
 }
 
+#[inline(always)]
 #[cycle(evaluation)]
 #[tactic(auto, using(crate::proofs::Steps::evaluating), unfolding(aml_meaning::specs::InvocationTerms::call_rule))]
 fn eval_call<S: Space>(
