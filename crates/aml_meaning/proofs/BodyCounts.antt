@@ -6,18 +6,27 @@ use Rattle.std.specs.declared.cmp.Ordering.TheVariants.{Less, Equal, Greater}
 use Rattle.std.specs.List.{filter}
 use Rattle.std.specs.Ordering.{is_lt}
 use Rattle.std.specs.Option.{option_map}
-use Rattle.std.specs.Cmp.{eq_by_cmp_equiv}
-use Rattle.std.specs.FinMap.{get, entries, entries_sorted, get-entries, find, is_sorted}
+use Rattle.std.specs.Cmp.{IsTotalOrder, eq_by_cmp_equiv}
+use Rattle.std.specs.Cmp.Rules.{comparing}
+use Rattle.std.specs.FinMap.{get, entries, entries_sorted, get-entries, find, is_sorted, IsAntisymmetric, slice_cmp-IsAntisymmetric}
 use Rattle.std.specs.FinMap.Entries.{below_all}
 use Rattle.aml_path.specs.declared.segment.Seg.{Seg}
+use Rattle.aml_path.specs.Segments.{seg_cmp_exact}
 use Rattle.aml_path.specs.Paths.{path_cmp, path_eq}
 use Rattle.aml_grammar.specs.declared.arities.Arity.{Arity}
 use Rattle.aml_grammar.specs.Arities.{latest, or_else}
-use Rattle.aml_grammar.proofs.Counted.{path_total, only_equal, latest_append}
+use Rattle.aml_grammar.proofs.Counted.{latest_append}
 use Rattle.aml_objects.specs.declared.entry.Entry.{Entry}
 use Rattle.aml_namespace.specs.Namespace.{Map}
 use Rattle.aml_meaning.specs.State.{State}
 use Rattle.aml_meaning.specs.Invocations.{count_through, arity_of_entry, body_arities}
+
+path_total : IsTotalOrder path_cmp
+path_total = search (comparing, rules) depth 9
+
+-- only equal paths tie
+only_equal : IsAntisymmetric path_cmp
+only_equal = slice_cmp-IsAntisymmetric seg_cmp_exact
 
 first : (a b : Bool) → T (a && b) → T a
 first true b p = tt

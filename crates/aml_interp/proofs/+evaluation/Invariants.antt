@@ -26,6 +26,18 @@ decreases-terms::eval_value_at g l = 40 * (l.run.now.1 + (32 - l.job.now.place.n
 abbrev pub decreases-terms::eval_operand_integer : goal.decreases-terms::eval_operand_integer
 decreases-terms::eval_operand_integer g l = 40 * (l.run.now.1 + (32 - l.job.now.place.now.depth)) + 2
 
+abbrev pub decreases-declarations::eval_declaration_kind : goal.decreases-declarations::eval_declaration_kind
+decreases-declarations::eval_declaration_kind g l = 40 * (l.run.now.1 + (32 - l.job.now.place.now.depth)) + 31
+
+abbrev pub decreases-invocations::eval_used_name : goal.decreases-invocations::eval_used_name
+decreases-invocations::eval_used_name g l = 40 * (l.run.now.1 + (32 - l.job.now.place.now.depth)) + 27
+
+abbrev pub decreases-regions::eval_region_kind : goal.decreases-regions::eval_region_kind
+decreases-regions::eval_region_kind g l = 40 * (l.run.now.1 + (32 - l.job.now.place.now.depth)) + 31
+
+abbrev pub decreases-terms::eval_integer_of : goal.decreases-terms::eval_integer_of
+decreases-terms::eval_integer_of g l = 40 * (l.run.now.1 + (32 - l.job.now.place.now.depth)) + 3
+
 abbrev pub decreases-terms::eval_two_values : goal.decreases-terms::eval_two_values
 decreases-terms::eval_two_values g l = 40 * (l.run.now.1 + (32 - l.job.now.place.now.depth)) + 3
 
@@ -48,7 +60,7 @@ abbrev pub decreases-data::eval_var_package : goal.decreases-data::eval_var_pack
 decreases-data::eval_var_package g l = 40 * (l.run.now.1 + (32 - l.job.now.place.now.depth)) + 6
 
 abbrev pub decreases-data::eval_buffer : goal.decreases-data::eval_buffer
-decreases-data::eval_buffer g l = 40 * (l.run.now.1 + (32 - l.job.now.place.now.depth)) + 3
+decreases-data::eval_buffer g l = 40 * (l.run.now.1 + (32 - l.job.now.place.now.depth)) + 4
 
 abbrev pub decreases-data::eval_data : goal.decreases-data::eval_data
 decreases-data::eval_data g l = 40 * (l.run.now.1 + (32 - l.job.now.place.now.depth)) + 32
@@ -117,7 +129,7 @@ abbrev pub decreases-statements::eval_branch : goal.decreases-statements::eval_b
 decreases-statements::eval_branch g l = 40 * (l.run.now.1 + (32 - l.job.now.place.now.depth)) + 2
 
 abbrev pub decreases-statements::eval_if : goal.decreases-statements::eval_if
-decreases-statements::eval_if g l = 40 * (l.run.now.1 + (32 - l.job.now.place.now.depth)) + 3
+decreases-statements::eval_if g l = 40 * (l.run.now.1 + (32 - l.job.now.place.now.depth)) + 4
 
 abbrev pub decreases-statements::eval_else : goal.decreases-statements::eval_else
 decreases-statements::eval_else g l = 40 * (l.run.now.1 + (32 - l.job.now.place.now.depth)) + 2
@@ -171,7 +183,7 @@ abbrev pub decreases-invocations::eval_invocation : goal.decreases-invocations::
 decreases-invocations::eval_invocation g l = 40 * (l.run.now.1 + (32 - l.job.now.place.now.depth)) + 26
 
 abbrev pub decreases-invocations::eval_name_value : goal.decreases-invocations::eval_name_value
-decreases-invocations::eval_name_value g l = 40 * (l.run.now.1 + (32 - l.job.now.place.now.depth)) + 27
+decreases-invocations::eval_name_value g l = 40 * (l.run.now.1 + (32 - l.job.now.place.now.depth)) + 28
 
 abbrev pub decreases-invocations::eval_method_value : goal.decreases-invocations::eval_method_value
 decreases-invocations::eval_method_value g l = 40 * (l.run.now.1 + (32 - l.depth)) + 4
@@ -369,7 +381,7 @@ abbrev pub decreases-invocations::eval_arguments-items : goal.decreases-invocati
 decreases-invocations::eval_arguments-items g l = l.run.1
 
 abbrev pub invariant-statements::eval_loop-turns : goal.invariant-statements::eval_loop-turns
-invariant-statements::eval_loop-turns g l = (l.run.1 ≤ l.fn.run.1) × Same (loop (meaning g.S.Space.accesses) l.fn.job.place.now.scope.path.now l.fn.job.place.now.depth (at_tree l.fn.job.term.now) (at_list l.fn.items.now)) l.fn.run (loop (meaning g.S.Space.accesses) l.fn.job.place.now.scope.path.now l.fn.job.place.now.depth (at_tree l.fn.job.term.now) (at_list l.fn.items.now)) l.run
+invariant-statements::eval_loop-turns g l = (l.run.1 ≤ l.fn.run.1) × Same (loop (meaning g.S.Space.accesses) l.fn.job.place.now.scope.path.now l.fn.job.place.now.depth (at_tree l.fn.job.term.now) (at_list l.fn.items)) l.fn.run (loop (meaning g.S.Space.accesses) l.fn.job.place.now.scope.path.now l.fn.job.place.now.depth (at_tree l.fn.job.term.now) (at_list l.fn.items)) l.run
 
 abbrev pub decreases-statements::eval_loop-turns : goal.decreases-statements::eval_loop-turns
 decreases-statements::eval_loop-turns g l = l.run.1
