@@ -24,7 +24,7 @@ pub(crate) fn eval_sized_field<S: Space>(
     size: BufferFieldSize,
 ) -> Result<Flow, Refusal>
     ensures spent { run.new.1 ≤ run.old.1 }
-    ensures means { Does result run.new (sized_field_rule (meaning S.accesses) size job.now.place.now.scope.path.now job.now.place.now.depth (at_tree job.now.term.now)) run.old }
+    ensures means { Does result run.new (sized_field_rule (meaning S.accesses) size job.now.site.now.scope.path.now job.now.site.now.depth (at_tree job.now.term.now)) run.old }
 {
     let (source, index) = eval_two_values(alloc, run, job)?;
     let buffer = buffer_of(source)?;
@@ -44,7 +44,7 @@ pub(crate) fn eval_bits_field<S: Space>(
     job: &Task<'_>,
 ) -> Result<Flow, Refusal>
     ensures spent { run.new.1 ≤ run.old.1 }
-    ensures means { Does result run.new (bits_field_rule (meaning S.accesses) job.now.place.now.scope.path.now job.now.place.now.depth (at_tree job.now.term.now)) run.old }
+    ensures means { Does result run.new (bits_field_rule (meaning S.accesses) job.now.site.now.scope.path.now job.now.site.now.depth (at_tree job.now.term.now)) run.old }
 {
     let source = eval_value_at(alloc, run, job, 0)?;
     let index = eval_value_at(alloc, run, job, 1)?;

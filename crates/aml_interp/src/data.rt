@@ -28,7 +28,7 @@ pub(crate) fn eval_data<S: Space>(
     kind: DataKind,
 ) -> Result<Flow, Refusal>
     ensures spent { run.new.1 ≤ run.old.1 }
-    ensures means { Does result run.new (data_rule (meaning S.accesses) kind job.now.place.now.scope.path.now job.now.place.now.depth (at_tree job.now.term.now)) run.old }
+    ensures means { Does result run.new (data_rule (meaning S.accesses) kind job.now.site.now.scope.path.now job.now.site.now.depth (at_tree job.now.term.now)) run.old }
 {
     match kind {
         DataKind::Constant(number) => eval_constant(run, number),
@@ -83,7 +83,7 @@ fn eval_buffer<S: Space>(
     job: &Task<'_>,
 ) -> Result<Flow, Refusal>
     ensures spent { run.new.1 ≤ run.old.1 }
-    ensures means { Does result run.new (buffer_rule (meaning S.accesses) job.now.place.now.scope.path.now job.now.place.now.depth (at_tree job.now.term.now)) run.old }
+    ensures means { Does result run.new (buffer_rule (meaning S.accesses) job.now.site.now.scope.path.now job.now.site.now.depth (at_tree job.now.term.now)) run.old }
 {
     let size = inner(job.term, 0)?;
     let length = eval_integer_of(alloc, run, job, &size)?;
@@ -101,7 +101,7 @@ fn eval_package<S: Space>(
     job: &Task<'_>,
 ) -> Result<Flow, Refusal>
     ensures spent { run.new.1 ≤ run.old.1 }
-    ensures means { Does result run.new (package_rule (meaning S.accesses) job.now.place.now.scope.path.now job.now.place.now.depth (at_tree job.now.term.now)) run.old }
+    ensures means { Does result run.new (package_rule (meaning S.accesses) job.now.site.now.scope.path.now job.now.site.now.depth (at_tree job.now.term.now)) run.old }
 {
     let count = number(job.term, 0)?;
     let elements = list(job.term, 1)?;
@@ -125,7 +125,7 @@ fn eval_var_package<S: Space>(
     job: &Task<'_>,
 ) -> Result<Flow, Refusal>
     ensures spent { run.new.1 ≤ run.old.1 }
-    ensures means { Does result run.new (var_package_rule (meaning S.accesses) job.now.place.now.scope.path.now job.now.place.now.depth (at_tree job.now.term.now)) run.old }
+    ensures means { Does result run.new (var_package_rule (meaning S.accesses) job.now.site.now.scope.path.now job.now.site.now.depth (at_tree job.now.term.now)) run.old }
 {
     let size = inner(job.term, 0)?;
     let count = eval_integer_of(alloc, run, job, &size)?;
@@ -152,7 +152,7 @@ fn package_of<S: Space>(
     count: usize,
 ) -> Result<Flow, Refusal>
     ensures spent { run.new.1 ≤ run.old.1 }
-    ensures means { Does result run.new (package_of (meaning S.accesses) job.now.place.now.scope.path.now job.now.place.now.depth count (at_list job.now.term.now)) run.old }
+    ensures means { Does result run.new (package_of (meaning S.accesses) job.now.site.now.scope.path.now job.now.site.now.depth count (at_list job.now.term.now)) run.old }
 {
     let elements = eval_elements(alloc, run, job, count)?;
     let value = run.world.new_package(count, elements)?;
@@ -169,7 +169,7 @@ fn eval_elements<S: Space>(
     count: usize,
 ) -> Result<Elements, Refusal>
     ensures spent { run.new.1 ≤ run.old.1 }
-    ensures means { Does result run.new (elements_in_turn (meaning S.accesses) job.now.place.now.scope.path.now job.now.place.now.depth count (at_list job.now.term.now) []) run.old }
+    ensures means { Does result run.new (elements_in_turn (meaning S.accesses) job.now.site.now.scope.path.now job.now.site.now.depth count (at_list job.now.term.now) []) run.old }
 {
     let mut elements = Elements::new(alloc);
     let mut left = count;
@@ -199,7 +199,7 @@ fn eval_element<S: Space>(
 ) -> Result<Element, Refusal>
     ensures spent { run.new.1 ≤ run.old.1 }
     ensures paid { OnOk result (run.new.1 < run.old.1) }
-    ensures means { Does result run.new (element_by (meaning S.accesses) code job.now.place.now.scope.path.now job.now.place.now.depth (at_tree job.now.term.now)) run.old }
+    ensures means { Does result run.new (element_by (meaning S.accesses) code job.now.site.now.scope.path.now job.now.site.now.depth (at_tree job.now.term.now)) run.old }
 {
     match code {
         TermCode::Name => named_element(alloc, run, job),
@@ -222,11 +222,11 @@ fn named_element<S: Space>(
 ) -> Result<Element, Refusal>
     ensures spent { run.new.1 ≤ run.old.1 }
     ensures paid { OnOk result (run.new.1 < run.old.1) }
-    ensures means { Does result run.new (named_element (meaning S.accesses) job.now.place.now.scope.path.now (at_tree job.now.term.now)) run.old }
+    ensures means { Does result run.new (named_element (meaning S.accesses) job.now.site.now.scope.path.now (at_tree job.now.term.now)) run.old }
 {
     run.charge()?;
     let name = job.term.name(alloc, 0)?;
-    let scope = job.place.scope;
+    let scope = job.site.scope;
     element_of(alloc, name, scope.path)
 }
 
@@ -239,7 +239,7 @@ fn valued_element<S: Space>(
 ) -> Result<Element, Refusal>
     ensures spent { run.new.1 ≤ run.old.1 }
     ensures paid { OnOk result (run.new.1 < run.old.1) }
-    ensures means { Does result run.new (valued_element (meaning S.accesses) job.now.place.now.scope.path.now job.now.place.now.depth (at_tree job.now.term.now)) run.old }
+    ensures means { Does result run.new (valued_element (meaning S.accesses) job.now.site.now.scope.path.now job.now.site.now.depth (at_tree job.now.term.now)) run.old }
 {
     let value = eval_value(alloc, run, job)?;
     Ok(Element::Value(value))

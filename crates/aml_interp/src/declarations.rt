@@ -8,7 +8,7 @@ ghost use Rattle.aml_meaning.specs.DeclarationTerms.{declaration_rule, declaring
 ghost use Rattle.aml_meaning.specs.Declaring.{new_name};
 
 use crate::operands::{bytes, inner, list, number};
-use crate::task::{Place, Task};
+use crate::task::{Site, Task};
 use crate::terms::{eval_list, eval_value};
 use aml_grammar::TermReader;
 use aml_meaning::{DeclarationKind, Flow, Running, WorldState};
@@ -17,7 +17,7 @@ use aml_path::Path;
 use ar_space::{Refusal, Space};
 use std::alloc::Global;
 
-/// A declaration or a Scope.
+/// A declaration or a Scope. Its rules have a frame of their own, which is no part of that of `eval_term`.
 #[cycle(evaluation)]
 #[tactic(auto, using(crate::proofs::Steps::evaluating))]
 pub(crate) fn eval_declaration<S: Space>(
@@ -27,7 +27,7 @@ pub(crate) fn eval_declaration<S: Space>(
     kind: DeclarationKind,
 ) -> Result<Flow, Refusal>
     ensures spent { run.new.1 ≤ run.old.1 }
-    ensures means { Does result run.new (declaration_rule (meaning S.accesses) kind job.now.place.now.scope.path.now job.now.place.now.depth (at_tree job.now.term.now)) run.old }
+    ensures means { Does result run.new (declaration_rule (meaning S.accesses) kind job.now.site.now.scope.path.now job.now.site.now.depth (at_tree job.now.term.now)) run.old }
 {
     eval_declaration_kind(alloc, run, job, kind)
 }
@@ -43,7 +43,7 @@ fn eval_declaration_kind<S: Space>(
     kind: DeclarationKind,
 ) -> Result<Flow, Refusal>
     ensures spent { run.new.1 ≤ run.old.1 }
-    ensures means { Does result run.new (declaration_rule (meaning S.accesses) kind job.now.place.now.scope.path.now job.now.place.now.depth (at_tree job.now.term.now)) run.old }
+    ensures means { Does result run.new (declaration_rule (meaning S.accesses) kind job.now.site.now.scope.path.now job.now.site.now.depth (at_tree job.now.term.now)) run.old }
 {
     match kind {
         DeclarationKind::Scope => eval_scope(alloc, run, job),
@@ -75,13 +75,13 @@ pub(crate) fn eval_declaring<S: Space>(
     object: NamedObject,
 ) -> Result<Flow, Refusal>
     ensures spent { run.new.1 ≤ run.old.1 }
-    ensures means { Does result run.new (declaring (meaning S.accesses) job.now.place.now.scope.path.now job.now.place.now.depth (at_tree job.now.term.now) position object) run.old }
+    ensures means { Does result run.new (declaring (meaning S.accesses) job.now.site.now.scope.path.now job.now.site.now.depth (at_tree job.now.term.now) position object) run.old }
 {
     let name = job.term.name(alloc, position)?;
-    let scope = job.place.scope;
+    let scope = job.site.scope;
     let path = name.resolve_in(alloc, scope.path)?;
     run.world
-        .new_name(alloc, job.place.depth == 0, path, object)?;
+        .new_name(alloc, job.site.depth == 0, path, object)?;
     Ok(Flow::Next)
 }
 
@@ -90,7 +90,7 @@ pub(crate) fn eval_declaring<S: Space>(
 #[tactic(auto, using(crate::proofs::Steps::evaluating), unfolding(aml_meaning::specs::DeclarationTerms::name_rule))]
 fn eval_name<S: Space>(alloc: Global, run: &mut Running<S>, job: &Task<'_>) -> Result<Flow, Refusal>
     ensures spent { run.new.1 ≤ run.old.1 }
-    ensures means { Does result run.new (name_rule (meaning S.accesses) job.now.place.now.scope.path.now job.now.place.now.depth (at_tree job.now.term.now)) run.old }
+    ensures means { Does result run.new (name_rule (meaning S.accesses) job.now.site.now.scope.path.now job.now.site.now.depth (at_tree job.now.term.now)) run.old }
 {
     let datum = inner(job.term, 1)?;
     let value = eval_value(
@@ -112,16 +112,16 @@ fn eval_alias<S: Space>(
     job: &Task<'_>,
 ) -> Result<Flow, Refusal>
     ensures spent { run.new.1 ≤ run.old.1 }
-    ensures means { Does result run.new (alias_rule (meaning S.accesses) job.now.place.now.scope.path.now job.now.place.now.depth (at_tree job.now.term.now)) run.old }
+    ensures means { Does result run.new (alias_rule (meaning S.accesses) job.now.site.now.scope.path.now job.now.site.now.depth (at_tree job.now.term.now)) run.old }
 {
     let source = job.term.name(alloc, 0)?;
-    let target = run.world.locate(alloc, job.place.scope, &source)?;
+    let target = run.world.locate(alloc, job.site.scope, &source)?;
     let name = job.term.name(alloc, 1)?;
-    let scope = job.place.scope;
+    let scope = job.site.scope;
     let path = name.resolve_in(alloc, scope.path)?;
     run.world.new_name(
         alloc,
-        job.place.depth == 0,
+        job.site.depth == 0,
         path,
         NamedObject::Alias(target.into_path()),
     )?;
@@ -136,10 +136,10 @@ fn eval_method<S: Space>(
     job: &Task<'_>,
 ) -> Result<Flow, Refusal>
     ensures spent { run.new.1 ≤ run.old.1 }
-    ensures means { Does result run.new (method_rule (meaning S.accesses) job.now.place.now.scope.path.now job.now.place.now.depth (at_tree job.now.term.now)) run.old }
+    ensures means { Does result run.new (method_rule (meaning S.accesses) job.now.site.now.scope.path.now job.now.site.now.depth (at_tree job.now.term.now)) run.old }
 {
     let name = job.term.name(alloc, 0)?;
-    let scope = job.place.scope;
+    let scope = job.site.scope;
     let path = name.resolve_in(alloc, scope.path)?;
     let flags = number(job.term, 1)?;
     let body = bytes(alloc, job.term, 2)?;
@@ -147,7 +147,7 @@ fn eval_method<S: Space>(
         byte: (flags % 256) as u8,
     };
     run.world
-        .new_method(alloc, job.place.depth == 0, path, flags, body)?;
+        .new_method(alloc, job.site.depth == 0, path, flags, body)?;
     Ok(Flow::Next)
 }
 
@@ -161,19 +161,19 @@ fn eval_scope<S: Space>(
     job: &Task<'_>,
 ) -> Result<Flow, Refusal>
     ensures spent { run.new.1 ≤ run.old.1 }
-    ensures means { Does result run.new (scope_rule (meaning S.accesses) job.now.place.now.scope.path.now job.now.place.now.depth (at_tree job.now.term.now)) run.old }
+    ensures means { Does result run.new (scope_rule (meaning S.accesses) job.now.site.now.scope.path.now job.now.site.now.depth (at_tree job.now.term.now)) run.old }
 {
     let name = job.term.name(alloc, 0)?;
-    let located = run.world.locate_scope(alloc, job.place.scope, &name)?;
+    let located = run.world.locate_scope(alloc, job.site.scope, &name)?;
     let items = list(job.term, 1)?;
     let scope = located.scope();
     eval_list(
         alloc,
         run,
         &Task {
-            place: &Place {
+            site: &Site {
                 scope,
-                depth: job.place.depth,
+                depth: job.site.depth,
             },
             term: &items,
         },
@@ -192,21 +192,21 @@ fn eval_new_scope<S: Space>(
     position: usize,
 ) -> Result<Flow, Refusal>
     ensures spent { run.new.1 ≤ run.old.1 }
-    ensures means { Does result run.new (new_scope (meaning S.accesses) object position job.now.place.now.scope.path.now job.now.place.now.depth (at_tree job.now.term.now)) run.old }
+    ensures means { Does result run.new (new_scope (meaning S.accesses) object position job.now.site.now.scope.path.now job.now.site.now.depth (at_tree job.now.term.now)) run.old }
 {
     let name = job.term.name(alloc, 0)?;
-    let outer = job.place.scope;
+    let outer = job.site.scope;
     let path = name.resolve_in(alloc, outer.path)?;
-    declare(alloc, &mut run.world, job.place.depth, &path, object)?;
+    declare(alloc, &mut run.world, job.site.depth, &path, object)?;
     let items = list(job.term, position)?;
     let scope = run.world.scope(&path);
     eval_list(
         alloc,
         run,
         &Task {
-            place: &Place {
+            site: &Site {
                 scope,
-                depth: job.place.depth,
+                depth: job.site.depth,
             },
             term: &items,
         },

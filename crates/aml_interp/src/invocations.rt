@@ -16,7 +16,7 @@ ghost use Rattle.aml_meaning.specs.InvocationTerms.{osi_rule, arguments_in_turn,
 use crate::field_calls::eval_field_read;
 use crate::operands::{Reader, as_many, list, name, take_first};
 use crate::readings::read_body;
-use crate::task::{Place, Task};
+use crate::task::{Site, Task};
 use crate::terms::{eval_list, eval_value};
 use aml_grammar::TermReader;
 use aml_meaning::{Flow, Invocation, Running, WorldState};
@@ -30,7 +30,7 @@ use std::alloc::Global;
 /// How many control methods may be called one inside another.
 pub(crate) const MAX_DEPTH: usize = 32;
 
-/// A name where a value stands.
+/// A name where a value stands. Its rule has a frame of its own, which is no part of that of `eval_term`.
 #[cycle(evaluation)]
 #[tactic(auto, using(crate::proofs::Steps::evaluating))]
 pub(crate) fn eval_name_value<S: Space>(
@@ -39,7 +39,7 @@ pub(crate) fn eval_name_value<S: Space>(
     job: &Task<'_>,
 ) -> Result<Flow, Refusal>
     ensures spent { run.new.1 ≤ run.old.1 }
-    ensures means { Does result run.new (name_value S.accesses (meaning S.accesses) job.now.place.now.scope.path.now job.now.place.now.depth (at_tree job.now.term.now)) run.old }
+    ensures means { Does result run.new (name_value S.accesses (meaning S.accesses) job.now.site.now.scope.path.now job.now.site.now.depth (at_tree job.now.term.now)) run.old }
 {
     eval_used_name(alloc, run, job)
 }
@@ -54,11 +54,11 @@ fn eval_used_name<S: Space>(
     job: &Task<'_>,
 ) -> Result<Flow, Refusal>
     ensures spent { run.new.1 ≤ run.old.1 }
-    ensures means { Does result run.new (name_value S.accesses (meaning S.accesses) job.now.place.now.scope.path.now job.now.place.now.depth (at_tree job.now.term.now)) run.old }
+    ensures means { Does result run.new (name_value S.accesses (meaning S.accesses) job.now.site.now.scope.path.now job.now.site.now.depth (at_tree job.now.term.now)) run.old }
 {
     let name = name(alloc, job.term, 0)?;
     let arguments = list(job.term, 1)?;
-    let invocation = name_used(alloc, &run.world, job.place.scope, &name, &arguments)?;
+    let invocation = name_used(alloc, &run.world, job.site.scope, &name, &arguments)?;
     eval_invocation(
         alloc,
         run,
@@ -110,11 +110,11 @@ fn eval_invocation<S: Space>(
     invocation: Invocation,
 ) -> Result<Flow, Refusal>
     ensures spent { run.new.1 ≤ run.old.1 }
-    ensures means { Does result run.new (invocation_rule S.accesses (meaning S.accesses) job.now.place.now.scope.path.now job.now.place.now.depth (at_list job.now.term.now) invocation) run.old }
+    ensures means { Does result run.new (invocation_rule S.accesses (meaning S.accesses) job.now.site.now.scope.path.now job.now.site.now.depth (at_list job.now.term.now) invocation) run.old }
 {
     match invocation {
         Invocation::Value(value) => Ok(Flow::Value(value)),
-        Invocation::Field(field) => eval_field(alloc, run, job.place.depth, field),
+        Invocation::Field(field) => eval_field(alloc, run, job.site.depth, field),
         Invocation::Method(path, body) => eval_call(alloc, run, job, &path, &body),
         Invocation::Osi => eval_osi(alloc, run, job),
     }
@@ -147,10 +147,10 @@ fn eval_call<S: Space>(
     body: &Body,
 ) -> Result<Flow, Refusal>
     ensures spent { run.new.1 ≤ run.old.1 }
-    ensures means { Does result run.new (call_rule (meaning S.accesses) job.now.place.now.scope.path.now job.now.place.now.depth (at_list job.now.term.now) path.now body.now) run.old }
+    ensures means { Does result run.new (call_rule (meaning S.accesses) job.now.site.now.scope.path.now job.now.site.now.depth (at_list job.now.term.now) path.now body.now) run.old }
 {
     let values = eval_arguments(alloc, run, job)?;
-    eval_invoked(alloc, run, job.place.depth, path, body, &values)
+    eval_invoked(alloc, run, job.site.depth, path, body, &values)
 }
 
 /// A call of `\_OSI`, which has no frame.
@@ -158,10 +158,10 @@ fn eval_call<S: Space>(
 #[tactic(auto, using(crate::proofs::Steps::evaluating), unfolding(aml_meaning::specs::InvocationTerms::osi_rule))]
 fn eval_osi<S: Space>(alloc: Global, run: &mut Running<S>, job: &Task<'_>) -> Result<Flow, Refusal>
     ensures spent { run.new.1 ≤ run.old.1 }
-    ensures means { Does result run.new (osi_rule (meaning S.accesses) job.now.place.now.scope.path.now job.now.place.now.depth (at_list job.now.term.now)) run.old }
+    ensures means { Does result run.new (osi_rule (meaning S.accesses) job.now.site.now.scope.path.now job.now.site.now.depth (at_list job.now.term.now)) run.old }
 {
     let values = eval_arguments(alloc, run, job)?;
-    shallow(job.place.depth)?;
+    shallow(job.site.depth)?;
     let answer = run.world.osi(&values)?;
     Ok(Flow::Value(answer))
 }
@@ -175,7 +175,7 @@ fn eval_arguments<S: Space>(
     job: &Task<'_>,
 ) -> Result<Vec<Value>, Refusal>
     ensures spent { run.new.1 ≤ run.old.1 }
-    ensures means { Does (seen (λ list. list.items) result) run.new (arguments_in_turn (meaning S.accesses) job.now.place.now.scope.path.now job.now.place.now.depth (at_list job.now.term.now) []) run.old }
+    ensures means { Does (seen (λ list. list.items) result) run.new (arguments_in_turn (meaning S.accesses) job.now.site.now.scope.path.now job.now.site.now.depth (at_list job.now.term.now) []) run.old }
 {
     let mut values = Vec::new(alloc);
     let mut rest = *job.term;
@@ -260,7 +260,7 @@ fn eval_body<S: Space>(
         alloc,
         run,
         &Task {
-            place: &Place { scope, depth },
+            site: &Site { scope, depth },
             term: &items,
         },
     );

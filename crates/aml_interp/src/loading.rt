@@ -7,7 +7,7 @@ ghost use Rattle.aml_meaning.specs.Calling.{loaded, table_run, in_frame, framed,
 
 use crate::operands::Reader;
 use crate::readings::read_table;
-use crate::task::{Place, Task};
+use crate::task::{Site, Task};
 use crate::terms::eval_list;
 use aml_meaning::{Running, World};
 use aml_objects::Value;
@@ -96,12 +96,12 @@ fn at_root<S: Space>(alloc: Global, run: &mut Running<S>, items: Reader<'_>) -> 
     ensures { Does result run.new (at_root S.accesses (at_list items.entry)) run.old }
 {
     let root = Path::root(alloc);
-    let place = Place {
+    let site = Site {
         scope: run.world.scope(&root),
         depth: 0,
     };
     let job = Task {
-        place: &place,
+        site: &site,
         term: &items,
     };
     eval_list(alloc, run, &job)?;

@@ -27,7 +27,7 @@ pub(crate) fn eval_operator<S: Space>(
     kind: OperatorKind,
 ) -> Result<Flow, Refusal>
     ensures spent { run.new.1 ≤ run.old.1 }
-    ensures means { Does result run.new (operator_rule S.accesses (meaning S.accesses) kind job.now.place.now.scope.path.now job.now.place.now.depth (at_tree job.now.term.now)) run.old }
+    ensures means { Does result run.new (operator_rule S.accesses (meaning S.accesses) kind job.now.site.now.scope.path.now job.now.site.now.depth (at_tree job.now.term.now)) run.old }
 {
     match kind {
         OperatorKind::Slot(slot) => eval_slot(run, slot),
@@ -66,7 +66,7 @@ fn eval_store<S: Space>(
     job: &Task<'_>,
 ) -> Result<Flow, Refusal>
     ensures spent { run.new.1 ≤ run.old.1 }
-    ensures means { Does result run.new (store_rule S.accesses (meaning S.accesses) job.now.place.now.scope.path.now job.now.place.now.depth (at_tree job.now.term.now)) run.old }
+    ensures means { Does result run.new (store_rule S.accesses (meaning S.accesses) job.now.site.now.scope.path.now job.now.site.now.depth (at_tree job.now.term.now)) run.old }
 {
     let value = eval_value_at(alloc, run, job, 0)?;
     eval_targeted(alloc, run, job, 1, value)
@@ -77,12 +77,12 @@ fn eval_store<S: Space>(
 #[tactic(auto, using(crate::proofs::Steps::evaluating), unfolding(aml_meaning::specs::OperatorTerms::copy_rule))]
 fn eval_copy<S: Space>(alloc: Global, run: &mut Running<S>, job: &Task<'_>) -> Result<Flow, Refusal>
     ensures spent { run.new.1 ≤ run.old.1 }
-    ensures means { Does result run.new (copy_rule S.accesses (meaning S.accesses) job.now.place.now.scope.path.now job.now.place.now.depth (at_tree job.now.term.now)) run.old }
+    ensures means { Does result run.new (copy_rule S.accesses (meaning S.accesses) job.now.site.now.scope.path.now job.now.site.now.depth (at_tree job.now.term.now)) run.old }
 {
     let value = eval_value_at(alloc, run, job, 0)?;
     let target = eval_target(alloc, run, job, 1)?;
     let stored = run.world.copy_to(alloc, &target, value)?;
-    eval_completed(alloc, run, job.place.depth, stored, value)?;
+    eval_completed(alloc, run, job.site.depth, stored, value)?;
     Ok(Flow::Value(value))
 }
 
@@ -97,7 +97,7 @@ fn eval_two<S: Space>(
     kind: TwoOperands,
 ) -> Result<Flow, Refusal>
     ensures spent { run.new.1 ≤ run.old.1 }
-    ensures means { Does result run.new (two_rule S.accesses (meaning S.accesses) kind job.now.place.now.scope.path.now job.now.place.now.depth (at_tree job.now.term.now)) run.old }
+    ensures means { Does result run.new (two_rule S.accesses (meaning S.accesses) kind job.now.site.now.scope.path.now job.now.site.now.depth (at_tree job.now.term.now)) run.old }
 {
     let values = eval_two_values(alloc, run, job)?;
     let result = run.world.operate_on_two(alloc, kind, values.0, values.1)?;
@@ -113,7 +113,7 @@ fn eval_divide<S: Space>(
     job: &Task<'_>,
 ) -> Result<Flow, Refusal>
     ensures spent { run.new.1 ≤ run.old.1 }
-    ensures means { Does result run.new (divide_rule S.accesses (meaning S.accesses) job.now.place.now.scope.path.now job.now.place.now.depth (at_tree job.now.term.now)) run.old }
+    ensures means { Does result run.new (divide_rule S.accesses (meaning S.accesses) job.now.site.now.scope.path.now job.now.site.now.depth (at_tree job.now.term.now)) run.old }
 {
     let values = eval_two_values(alloc, run, job)?;
     let division = run.world.divide(values.0, values.1)?;
@@ -132,7 +132,7 @@ fn eval_one<S: Space>(
     kind: OneOperand,
 ) -> Result<Flow, Refusal>
     ensures spent { run.new.1 ≤ run.old.1 }
-    ensures means { Does result run.new (one_rule S.accesses (meaning S.accesses) kind job.now.place.now.scope.path.now job.now.place.now.depth (at_tree job.now.term.now)) run.old }
+    ensures means { Does result run.new (one_rule S.accesses (meaning S.accesses) kind job.now.site.now.scope.path.now job.now.site.now.depth (at_tree job.now.term.now)) run.old }
 {
     let value = eval_value_at(alloc, run, job, 0)?;
     let result = run.world.operate_on_one(alloc, kind, value)?;
@@ -150,7 +150,7 @@ fn eval_test<S: Space>(
     kind: Test,
 ) -> Result<Flow, Refusal>
     ensures spent { run.new.1 ≤ run.old.1 }
-    ensures means { Does result run.new (test_rule S.accesses (meaning S.accesses) kind job.now.place.now.scope.path.now job.now.place.now.depth (at_tree job.now.term.now)) run.old }
+    ensures means { Does result run.new (test_rule S.accesses (meaning S.accesses) kind job.now.site.now.scope.path.now job.now.site.now.depth (at_tree job.now.term.now)) run.old }
 {
     let values = eval_two_values(alloc, run, job)?;
     let result = run.world.test(alloc, kind, values.0, values.1)?;
@@ -162,7 +162,7 @@ fn eval_test<S: Space>(
 #[tactic(auto, using(crate::proofs::Steps::evaluating), unfolding(aml_meaning::specs::OperatorTerms::not_rule))]
 fn eval_not<S: Space>(alloc: Global, run: &mut Running<S>, job: &Task<'_>) -> Result<Flow, Refusal>
     ensures spent { run.new.1 ≤ run.old.1 }
-    ensures means { Does result run.new (not_rule S.accesses (meaning S.accesses) job.now.place.now.scope.path.now job.now.place.now.depth (at_tree job.now.term.now)) run.old }
+    ensures means { Does result run.new (not_rule S.accesses (meaning S.accesses) job.now.site.now.scope.path.now job.now.site.now.depth (at_tree job.now.term.now)) run.old }
 {
     let value = eval_value_at(alloc, run, job, 0)?;
     let result = run.world.logical_not(value)?;
@@ -180,13 +180,13 @@ fn eval_count<S: Space>(
     kind: Count,
 ) -> Result<Flow, Refusal>
     ensures spent { run.new.1 ≤ run.old.1 }
-    ensures means { Does result run.new (count_rule S.accesses (meaning S.accesses) kind job.now.place.now.scope.path.now job.now.place.now.depth (at_tree job.now.term.now)) run.old }
+    ensures means { Does result run.new (count_rule S.accesses (meaning S.accesses) kind job.now.site.now.scope.path.now job.now.site.now.depth (at_tree job.now.term.now)) run.old }
 {
     let target = eval_target(alloc, run, job, 0)?;
     let held = run.world.target_read(&target)?;
-    let number = eval_held(alloc, run, job.place.depth, held)?;
+    let number = eval_held(alloc, run, job.site.depth, held)?;
     let result = run.world.count(kind, number)?;
-    eval_stored_back(alloc, run, job.place.depth, held, &target, result)?;
+    eval_stored_back(alloc, run, job.site.depth, held, &target, result)?;
     Ok(Flow::Value(result))
 }
 
@@ -195,10 +195,10 @@ fn eval_count<S: Space>(
 #[tactic(auto, using(crate::proofs::Steps::evaluating), unfolding(aml_meaning::specs::OperatorTerms::size_rule))]
 fn eval_size<S: Space>(alloc: Global, run: &mut Running<S>, job: &Task<'_>) -> Result<Flow, Refusal>
     ensures spent { run.new.1 ≤ run.old.1 }
-    ensures means { Does result run.new (size_rule S.accesses (meaning S.accesses) job.now.place.now.scope.path.now job.now.place.now.depth (at_tree job.now.term.now)) run.old }
+    ensures means { Does result run.new (size_rule S.accesses (meaning S.accesses) job.now.site.now.scope.path.now job.now.site.now.depth (at_tree job.now.term.now)) run.old }
 {
     let referent = eval_operand_referent(alloc, run, job)?;
-    let referent = eval_referent(alloc, run, job.place.depth, referent)?;
+    let referent = eval_referent(alloc, run, job.site.depth, referent)?;
     let size = run.world.size(referent)?;
     Ok(Flow::Value(size))
 }
@@ -208,10 +208,10 @@ fn eval_size<S: Space>(alloc: Global, run: &mut Running<S>, job: &Task<'_>) -> R
 #[tactic(auto, using(crate::proofs::Steps::evaluating), unfolding(aml_meaning::specs::OperatorTerms::type_rule))]
 fn eval_type<S: Space>(alloc: Global, run: &mut Running<S>, job: &Task<'_>) -> Result<Flow, Refusal>
     ensures spent { run.new.1 ≤ run.old.1 }
-    ensures means { Does result run.new (type_rule S.accesses (meaning S.accesses) job.now.place.now.scope.path.now job.now.place.now.depth (at_tree job.now.term.now)) run.old }
+    ensures means { Does result run.new (type_rule S.accesses (meaning S.accesses) job.now.site.now.scope.path.now job.now.site.now.depth (at_tree job.now.term.now)) run.old }
 {
     let referent = eval_operand_referent(alloc, run, job)?;
-    let referent = eval_referent(alloc, run, job.place.depth, referent)?;
+    let referent = eval_referent(alloc, run, job.site.depth, referent)?;
     Ok(Flow::Value(Value::Integer(referent.object_type().number())))
 }
 
@@ -225,7 +225,7 @@ fn eval_acquire<S: Space>(
     job: &Task<'_>,
 ) -> Result<Flow, Refusal>
     ensures spent { run.new.1 ≤ run.old.1 }
-    ensures means { Does result run.new (acquire_rule S.accesses (meaning S.accesses) job.now.place.now.scope.path.now job.now.place.now.depth (at_tree job.now.term.now)) run.old }
+    ensures means { Does result run.new (acquire_rule S.accesses (meaning S.accesses) job.now.site.now.scope.path.now job.now.site.now.depth (at_tree job.now.term.now)) run.old }
 {
     let target = eval_target(alloc, run, job, 0)?;
     run.world.acquire(alloc, &target)?;

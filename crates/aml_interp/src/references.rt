@@ -26,7 +26,7 @@ pub(crate) fn eval_operand_referent<S: Space>(
     job: &Task<'_>,
 ) -> Result<Referent, Refusal>
     ensures spent { run.new.1 ≤ run.old.1 }
-    ensures means { Does result run.new (referent_at S.accesses (meaning S.accesses) job.now.place.now.scope.path.now job.now.place.now.depth (at_tree job.now.term.now)) run.old }
+    ensures means { Does result run.new (referent_at S.accesses (meaning S.accesses) job.now.site.now.scope.path.now job.now.site.now.depth (at_tree job.now.term.now)) run.old }
 {
     let operand = operand(job.term, 0);
     match operand {
@@ -52,7 +52,7 @@ fn eval_referent_by_kind<S: Space>(
     kind: TargetKind,
 ) -> Result<Referent, Refusal>
     ensures spent { run.new.1 ≤ run.old.1 }
-    ensures means { Does result run.new (referent_by_kind S.accesses (meaning S.accesses) job.now.place.now.scope.path.now job.now.place.now.depth (at_tree job.now.term.now) (at_tree operand.now) kind) run.old }
+    ensures means { Does result run.new (referent_by_kind S.accesses (meaning S.accesses) job.now.site.now.scope.path.now job.now.site.now.depth (at_tree job.now.term.now) (at_tree operand.now) kind) run.old }
 {
     match kind {
         TargetKind::RefOf | TargetKind::DerefOf | TargetKind::Index => {
@@ -80,7 +80,7 @@ fn eval_value_referent<S: Space>(
     job: &Task<'_>,
 ) -> Result<Referent, Refusal>
     ensures spent { run.new.1 ≤ run.old.1 }
-    ensures means { Does result run.new (referent_of_value S.accesses (meaning S.accesses) job.now.place.now.scope.path.now job.now.place.now.depth (at_tree job.now.term.now)) run.old }
+    ensures means { Does result run.new (referent_of_value S.accesses (meaning S.accesses) job.now.site.now.scope.path.now job.now.site.now.depth (at_tree job.now.term.now)) run.old }
 {
     let value = eval_value(alloc, run, job)?;
     run.world.value_referent(value)
@@ -95,7 +95,7 @@ fn eval_target_referent<S: Space>(
     job: &Task<'_>,
 ) -> Result<Referent, Refusal>
     ensures spent { run.new.1 ≤ run.old.1 }
-    ensures means { Does result run.new (referent_of_target S.accesses (meaning S.accesses) job.now.place.now.scope.path.now job.now.place.now.depth (at_tree job.now.term.now)) run.old }
+    ensures means { Does result run.new (referent_of_target S.accesses (meaning S.accesses) job.now.site.now.scope.path.now job.now.site.now.depth (at_tree job.now.term.now)) run.old }
 {
     let target = eval_target(alloc, run, job, 0)?;
     run.world.target_referent(&target)
@@ -111,7 +111,7 @@ pub(crate) fn eval_reference<S: Space>(
     job: &Task<'_>,
 ) -> Result<Flow, Refusal>
     ensures spent { run.new.1 ≤ run.old.1 }
-    ensures means { Does result run.new (reference_rule S.accesses (meaning S.accesses) job.now.place.now.scope.path.now job.now.place.now.depth (at_tree job.now.term.now)) run.old }
+    ensures means { Does result run.new (reference_rule S.accesses (meaning S.accesses) job.now.site.now.scope.path.now job.now.site.now.depth (at_tree job.now.term.now)) run.old }
 {
     let target = eval_target(alloc, run, job, 0)?;
     let reference = run.world.reference_of(&target)?;
@@ -128,12 +128,12 @@ pub(crate) fn eval_dereference<S: Space>(
     job: &Task<'_>,
 ) -> Result<Flow, Refusal>
     ensures spent { run.new.1 ≤ run.old.1 }
-    ensures means { Does result run.new (dereference_rule S.accesses (meaning S.accesses) job.now.place.now.scope.path.now job.now.place.now.depth (at_tree job.now.term.now)) run.old }
+    ensures means { Does result run.new (dereference_rule S.accesses (meaning S.accesses) job.now.site.now.scope.path.now job.now.site.now.depth (at_tree job.now.term.now)) run.old }
 {
     let value = eval_value_at(alloc, run, job, 0)?;
     let reference = reference_in(value)?;
     let held = run.world.dereference(reference)?;
-    let value = eval_held_value(alloc, run, job.place.depth, held)?;
+    let value = eval_held_value(alloc, run, job.site.depth, held)?;
     Ok(Flow::Value(value))
 }
 
@@ -147,7 +147,7 @@ pub(crate) fn eval_conditional_reference<S: Space>(
     job: &Task<'_>,
 ) -> Result<Flow, Refusal>
     ensures spent { run.new.1 ≤ run.old.1 }
-    ensures means { Does result run.new (conditional_rule S.accesses (meaning S.accesses) job.now.place.now.scope.path.now job.now.place.now.depth (at_tree job.now.term.now)) run.old }
+    ensures means { Does result run.new (conditional_rule S.accesses (meaning S.accesses) job.now.site.now.scope.path.now job.now.site.now.depth (at_tree job.now.term.now)) run.old }
 {
     let sought = eval_sought(alloc, run, job)?;
     eval_reference_found(alloc, run, job, sought)
@@ -162,7 +162,7 @@ fn eval_sought<S: Space>(
     job: &Task<'_>,
 ) -> Result<Option<Reference>, Refusal>
     ensures spent { run.new.1 ≤ run.old.1 }
-    ensures means { Does result run.new (sought S.accesses (meaning S.accesses) job.now.place.now.scope.path.now job.now.place.now.depth (at_tree job.now.term.now) (operand_of (at_tree job.now.term.now) 0)) run.old }
+    ensures means { Does result run.new (sought S.accesses (meaning S.accesses) job.now.site.now.scope.path.now job.now.site.now.depth (at_tree job.now.term.now) (operand_of (at_tree job.now.term.now) 0)) run.old }
 {
     let operand = operand(job.term, 0);
     match operand {
@@ -183,10 +183,10 @@ fn sought_name<S: Space>(
     run: &Running<S>,
     job: &Task<'_>,
 ) -> Result<Option<Reference>, Refusal>
-    ensures { Does result run.now (sought_name S.accesses (meaning S.accesses) job.now.place.now.scope.path.now (at_tree job.now.term.now)) run.now }
+    ensures { Does result run.now (sought_name S.accesses (meaning S.accesses) job.now.site.now.scope.path.now (at_tree job.now.term.now)) run.now }
 {
     let name = job.term.name(alloc, 0)?;
-    run.world.reference_if_found(job.place.scope, &name)
+    run.world.reference_if_found(job.site.scope, &name)
 }
 
 #[cycle(evaluation)]
@@ -197,7 +197,7 @@ fn eval_sought_target<S: Space>(
     job: &Task<'_>,
 ) -> Result<Option<Reference>, Refusal>
     ensures spent { run.new.1 ≤ run.old.1 }
-    ensures means { Does result run.new (sought_target S.accesses (meaning S.accesses) job.now.place.now.scope.path.now job.now.place.now.depth (at_tree job.now.term.now)) run.old }
+    ensures means { Does result run.new (sought_target S.accesses (meaning S.accesses) job.now.site.now.scope.path.now job.now.site.now.depth (at_tree job.now.term.now)) run.old }
 {
     let target = eval_target(alloc, run, job, 0)?;
     let reference = run.world.reference_of(&target)?;
@@ -213,7 +213,7 @@ fn eval_reference_found<S: Space>(
     found: Option<Reference>,
 ) -> Result<Flow, Refusal>
     ensures spent { run.new.1 ≤ run.old.1 }
-    ensures means { Does result run.new (reference_found S.accesses (meaning S.accesses) job.now.place.now.scope.path.now job.now.place.now.depth (at_tree job.now.term.now) found) run.old }
+    ensures means { Does result run.new (reference_found S.accesses (meaning S.accesses) job.now.site.now.scope.path.now job.now.site.now.depth (at_tree job.now.term.now) found) run.old }
 {
     match found {
         None => Ok(Flow::Value(Value::Integer(0))),
@@ -230,7 +230,7 @@ fn eval_reference_stored<S: Space>(
     reference: Reference,
 ) -> Result<Flow, Refusal>
     ensures spent { run.new.1 ≤ run.old.1 }
-    ensures means { Does result run.new (reference_stored S.accesses (meaning S.accesses) job.now.place.now.scope.path.now job.now.place.now.depth (at_tree job.now.term.now) reference) run.old }
+    ensures means { Does result run.new (reference_stored S.accesses (meaning S.accesses) job.now.site.now.scope.path.now job.now.site.now.depth (at_tree job.now.term.now) reference) run.old }
 {
     eval_targeted(alloc, run, job, 1, Value::Reference(reference))?;
     let value = run.world.integer_kept(u64::MAX)?;

@@ -20,7 +20,7 @@ use aml_objects::{FieldSource, NamedObject, OperationRegion};
 use ar_space::{NameFault, Refusal, Space};
 use std::alloc::Global;
 
-/// An operation region, a list of fields or a buffer field.
+/// An operation region, a list of fields or a buffer field. Its rules have a frame of their own, which is no part of that of `eval_term`.
 #[cycle(evaluation)]
 #[tactic(auto, using(crate::proofs::Steps::evaluating))]
 pub(crate) fn eval_region_term<S: Space>(
@@ -30,7 +30,7 @@ pub(crate) fn eval_region_term<S: Space>(
     kind: RegionKind,
 ) -> Result<Flow, Refusal>
     ensures spent { run.new.1 ≤ run.old.1 }
-    ensures means { Does result run.new (region_term_rule (meaning S.accesses) kind job.now.place.now.scope.path.now job.now.place.now.depth (at_tree job.now.term.now)) run.old }
+    ensures means { Does result run.new (region_term_rule (meaning S.accesses) kind job.now.site.now.scope.path.now job.now.site.now.depth (at_tree job.now.term.now)) run.old }
 {
     eval_region_kind(alloc, run, job, kind)
 }
@@ -46,7 +46,7 @@ fn eval_region_kind<S: Space>(
     kind: RegionKind,
 ) -> Result<Flow, Refusal>
     ensures spent { run.new.1 ≤ run.old.1 }
-    ensures means { Does result run.new (region_term_rule (meaning S.accesses) kind job.now.place.now.scope.path.now job.now.place.now.depth (at_tree job.now.term.now)) run.old }
+    ensures means { Does result run.new (region_term_rule (meaning S.accesses) kind job.now.site.now.scope.path.now job.now.site.now.depth (at_tree job.now.term.now)) run.old }
 {
     match kind {
         RegionKind::OperationRegion => eval_region(alloc, run, job),
@@ -67,7 +67,7 @@ fn eval_region<S: Space>(
     job: &Task<'_>,
 ) -> Result<Flow, Refusal>
     ensures spent { run.new.1 ≤ run.old.1 }
-    ensures means { Does result run.new (region_rule (meaning S.accesses) job.now.place.now.scope.path.now job.now.place.now.depth (at_tree job.now.term.now)) run.old }
+    ensures means { Does result run.new (region_rule (meaning S.accesses) job.now.site.now.scope.path.now job.now.site.now.depth (at_tree job.now.term.now)) run.old }
 {
     let space = number(job.term, 1)?;
     let offset = eval_value_at(alloc, run, job, 2)?;
@@ -91,12 +91,12 @@ fn eval_field_list<S: Space>(
     job: &Task<'_>,
 ) -> Result<Flow, Refusal>
     ensures spent { run.new.1 ≤ run.old.1 }
-    ensures means { Does result run.new (field_list_rule (meaning S.accesses) job.now.place.now.scope.path.now job.now.place.now.depth (at_tree job.now.term.now)) run.old }
+    ensures means { Does result run.new (field_list_rule (meaning S.accesses) job.now.site.now.scope.path.now job.now.site.now.depth (at_tree job.now.term.now)) run.old }
 {
     let elements = list(job.term, 2)?;
     unconnected(Opcode::Field, elements)?;
     let name = job.term.name(alloc, 0)?;
-    let region = run.world.region_found(job.place.scope, &name)?;
+    let region = run.world.region_found(job.site.scope, &name)?;
     let flags = number(job.term, 1)?;
     lay_fields(
         alloc,
@@ -119,14 +119,14 @@ fn eval_index_list<S: Space>(
     job: &Task<'_>,
 ) -> Result<Flow, Refusal>
     ensures spent { run.new.1 ≤ run.old.1 }
-    ensures means { Does result run.new (index_list_rule (meaning S.accesses) job.now.place.now.scope.path.now job.now.place.now.depth (at_tree job.now.term.now)) run.old }
+    ensures means { Does result run.new (index_list_rule (meaning S.accesses) job.now.site.now.scope.path.now job.now.site.now.depth (at_tree job.now.term.now)) run.old }
 {
     let elements = list(job.term, 3)?;
     unconnected(Opcode::IndexField, elements)?;
     let name = job.term.name(alloc, 0)?;
-    let index = run.world.field_found(job.place.scope, &name)?;
+    let index = run.world.field_found(job.site.scope, &name)?;
     let name = job.term.name(alloc, 1)?;
-    let behind = run.world.field_found(job.place.scope, &name)?;
+    let behind = run.world.field_found(job.site.scope, &name)?;
     let flags = number(job.term, 2)?;
     lay_fields(
         alloc,
@@ -150,7 +150,7 @@ fn lay_fields<S: Space>(
     flags: u64,
 ) -> Result<Flow, Refusal>
     ensures spent { run.new.1 ≤ run.old.1 }
-    ensures means { Does result run.new (fields_laid job.now.place.now.scope.path.now job.now.place.now.depth source flags (at_list job.now.term.now)) run.old }
+    ensures means { Does result run.new (fields_laid job.now.site.now.scope.path.now job.now.site.now.depth source flags (at_list job.now.term.now)) run.old }
 {
     let group = FieldGroup {
         source,
@@ -172,7 +172,7 @@ fn lay_elements<S: Space>(
     job: &Task<'_>,
     first: FieldLayout,
 ) -> Result<(), Refusal>
-    ensures { Does result world.new (elements_laid group job.now.place.now.scope.path.now job.now.place.now.depth first (at_list job.now.term.now)) world.old }
+    ensures { Does result world.new (elements_laid group job.now.site.now.scope.path.now job.now.site.now.depth first (at_list job.now.term.now)) world.old }
 {
     let mut at = first;
     let mut rest = *job.term;
@@ -207,7 +207,7 @@ fn lay_element<S: Space>(
     code: TermCode,
     at: FieldLayout,
 ) -> Result<FieldLayout, Refusal>
-    ensures { Does result world.new (element_laid group job.now.place.now.scope.path.now job.now.place.now.depth code at (at_tree job.now.term.now)) world.old }
+    ensures { Does result world.new (element_laid group job.now.site.now.scope.path.now job.now.site.now.depth code at (at_tree job.now.term.now)) world.old }
 {
     match code {
         TermCode::NamedField => lay_named(alloc, world, group, job, at),
@@ -230,13 +230,13 @@ fn lay_named<S: Space>(
     job: &Task<'_>,
     at: FieldLayout,
 ) -> Result<FieldLayout, Refusal>
-    ensures { Does result world.new (named_field group job.now.place.now.scope.path.now job.now.place.now.depth at (at_tree job.now.term.now)) world.old }
+    ensures { Does result world.new (named_field group job.now.site.now.scope.path.now job.now.site.now.depth at (at_tree job.now.term.now)) world.old }
 {
     let name = job.term.name(alloc, 0)?;
-    let scope = job.place.scope;
+    let scope = job.site.scope;
     let path = name.resolve_in(alloc, scope.path)?;
     let count = number(job.term, 1)?;
-    world.new_field(alloc, group, job.place.depth == 0, path, at, count)
+    world.new_field(alloc, group, job.site.depth == 0, path, at, count)
 }
 
 /// Bits that are passed over.
@@ -247,7 +247,7 @@ fn lay_reserved<S: Space>(
     job: &Task<'_>,
     at: FieldLayout,
 ) -> Result<FieldLayout, Refusal>
-    ensures { Does result world.now (reserved_field group job.now.place.now.scope.path.now job.now.place.now.depth at (at_tree job.now.term.now)) world.now }
+    ensures { Does result world.now (reserved_field group job.now.site.now.scope.path.now job.now.site.now.depth at (at_tree job.now.term.now)) world.now }
 {
     let count = number(job.term, 0)?;
     at.further(count)
@@ -261,7 +261,7 @@ fn lay_access<S: Space>(
     job: &Task<'_>,
     at: FieldLayout,
 ) -> Result<FieldLayout, Refusal>
-    ensures { Does result world.now (access_field group job.now.place.now.scope.path.now job.now.place.now.depth at (at_tree job.now.term.now)) world.now }
+    ensures { Does result world.now (access_field group job.now.site.now.scope.path.now job.now.site.now.depth at (at_tree job.now.term.now)) world.now }
 {
     let flags = number(job.term, 0)?;
     Ok(at.with_access(flags))

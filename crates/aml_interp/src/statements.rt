@@ -27,7 +27,7 @@ pub(crate) fn eval_statement<S: Space>(
     kind: StatementKind,
 ) -> Result<Flow, Refusal>
     ensures spent { run.new.1 ≤ run.old.1 }
-    ensures means { Does result run.new (statement_rule (meaning S.accesses) kind job.now.place.now.scope.path.now job.now.place.now.depth (at_tree job.now.term.now)) run.old }
+    ensures means { Does result run.new (statement_rule (meaning S.accesses) kind job.now.site.now.scope.path.now job.now.site.now.depth (at_tree job.now.term.now)) run.old }
 {
     match kind {
         StatementKind::If => eval_if(alloc, run, job),
@@ -49,7 +49,7 @@ pub(crate) fn eval_statement<S: Space>(
 #[tactic(auto, using(crate::proofs::Steps::evaluating), unfolding(aml_meaning::specs::StatementTerms::if_rule))]
 fn eval_if<S: Space>(alloc: Global, run: &mut Running<S>, job: &Task<'_>) -> Result<Flow, Refusal>
     ensures spent { run.new.1 ≤ run.old.1 }
-    ensures means { Does result run.new (if_rule (meaning S.accesses) job.now.place.now.scope.path.now job.now.place.now.depth (at_tree job.now.term.now)) run.old }
+    ensures means { Does result run.new (if_rule (meaning S.accesses) job.now.site.now.scope.path.now job.now.site.now.depth (at_tree job.now.term.now)) run.old }
 {
     let condition = inner(job.term, 0)?;
     let items = list(job.term, 1)?;
@@ -68,7 +68,7 @@ fn eval_branch<S: Space>(
     holds: bool,
 ) -> Result<Flow, Refusal>
     ensures spent { run.new.1 ≤ run.old.1 }
-    ensures means { Does result run.new (branch (meaning S.accesses) job.now.place.now.scope.path.now job.now.place.now.depth (at_list items.now) (else_of (operand_of (at_tree job.now.term.now) 2)) holds) run.old }
+    ensures means { Does result run.new (branch (meaning S.accesses) job.now.site.now.scope.path.now job.now.site.now.depth (at_list items.now) (else_of (operand_of (at_tree job.now.term.now) 2)) holds) run.old }
 {
     if holds {
         eval_list(
@@ -93,7 +93,7 @@ fn eval_otherwise<S: Space>(
     job: &Task<'_>,
 ) -> Result<Flow, Refusal>
     ensures spent { run.new.1 ≤ run.old.1 }
-    ensures means { Does result run.new (otherwise (meaning S.accesses) job.now.place.now.scope.path.now job.now.place.now.depth (else_of (operand_of (at_tree job.now.term.now) 2))) run.old }
+    ensures means { Does result run.new (otherwise (meaning S.accesses) job.now.site.now.scope.path.now job.now.site.now.depth (else_of (operand_of (at_tree job.now.term.now) 2))) run.old }
 {
     match else_of(job.term) {
         None => Ok(Flow::Next),
@@ -113,7 +113,7 @@ fn eval_otherwise<S: Space>(
 #[tactic(auto, using(crate::proofs::Steps::evaluating), unfolding(aml_meaning::specs::StatementTerms::else_rule))]
 fn eval_else<S: Space>(alloc: Global, run: &mut Running<S>, job: &Task<'_>) -> Result<Flow, Refusal>
     ensures spent { run.new.1 ≤ run.old.1 }
-    ensures means { Does result run.new (else_rule (meaning S.accesses) job.now.place.now.scope.path.now job.now.place.now.depth (at_tree job.now.term.now)) run.old }
+    ensures means { Does result run.new (else_rule (meaning S.accesses) job.now.site.now.scope.path.now job.now.site.now.depth (at_tree job.now.term.now)) run.old }
 {
     let items = list(job.term, 0)?;
     eval_list(
@@ -135,7 +135,7 @@ fn eval_while<S: Space>(
     job: &Task<'_>,
 ) -> Result<Flow, Refusal>
     ensures spent { run.new.1 ≤ run.old.1 }
-    ensures means { Does result run.new (while_rule (meaning S.accesses) job.now.place.now.scope.path.now job.now.place.now.depth (at_tree job.now.term.now)) run.old }
+    ensures means { Does result run.new (while_rule (meaning S.accesses) job.now.site.now.scope.path.now job.now.site.now.depth (at_tree job.now.term.now)) run.old }
 {
     let condition = inner(job.term, 0)?;
     let items = list(job.term, 1)?;
@@ -160,7 +160,7 @@ fn eval_loop<S: Space>(
     items: &Reader<'_>,
 ) -> Result<Flow, Refusal>
     ensures spent { run.new.1 ≤ run.old.1 }
-    ensures means { Does result run.new (loop (meaning S.accesses) job.now.place.now.scope.path.now job.now.place.now.depth (at_tree job.now.term.now) (at_list items.now)) run.old }
+    ensures means { Does result run.new (loop (meaning S.accesses) job.now.site.now.scope.path.now job.now.site.now.depth (at_tree job.now.term.now) (at_list items.now)) run.old }
 {
     'turns: loop {
         let flow = eval_turn(alloc, run, job, items)?;
@@ -182,7 +182,7 @@ fn eval_turn<S: Space>(
 ) -> Result<Flow, Refusal>
     ensures spent { run.new.1 ≤ run.old.1 }
     ensures paid { OnOk result (run.new.1 < run.old.1) }
-    ensures means { Does result run.new (turn (meaning S.accesses) job.now.place.now.scope.path.now job.now.place.now.depth (at_tree job.now.term.now) (at_list items.now)) run.old }
+    ensures means { Does result run.new (turn (meaning S.accesses) job.now.site.now.scope.path.now job.now.site.now.depth (at_tree job.now.term.now) (at_list items.now)) run.old }
 {
     let number = eval_operand_integer(alloc, run, job)?;
     eval_turn_of(
@@ -205,7 +205,7 @@ fn eval_turn_of<S: Space>(
     holds: bool,
 ) -> Result<Flow, Refusal>
     ensures spent { run.new.1 ≤ run.old.1 }
-    ensures means { Does result run.new (turn_of (meaning S.accesses) job.now.place.now.scope.path.now job.now.place.now.depth (at_list job.now.term.now) holds) run.old }
+    ensures means { Does result run.new (turn_of (meaning S.accesses) job.now.site.now.scope.path.now job.now.site.now.depth (at_list job.now.term.now) holds) run.old }
 {
     if holds {
         eval_list(alloc, run, job)
@@ -223,7 +223,7 @@ fn eval_return<S: Space>(
     job: &Task<'_>,
 ) -> Result<Flow, Refusal>
     ensures spent { run.new.1 ≤ run.old.1 }
-    ensures means { Does result run.new (return_rule (meaning S.accesses) job.now.place.now.scope.path.now job.now.place.now.depth (at_tree job.now.term.now)) run.old }
+    ensures means { Does result run.new (return_rule (meaning S.accesses) job.now.site.now.scope.path.now job.now.site.now.depth (at_tree job.now.term.now)) run.old }
 {
     let value = eval_value_at(alloc, run, job, 0)?;
     Ok(Flow::Return(value))
@@ -238,7 +238,7 @@ fn eval_release<S: Space>(
     job: &Task<'_>,
 ) -> Result<Flow, Refusal>
     ensures spent { run.new.1 ≤ run.old.1 }
-    ensures means { Does result run.new (release_rule (meaning S.accesses) job.now.place.now.scope.path.now job.now.place.now.depth (at_tree job.now.term.now)) run.old }
+    ensures means { Does result run.new (release_rule (meaning S.accesses) job.now.site.now.scope.path.now job.now.site.now.depth (at_tree job.now.term.now)) run.old }
 {
     let target = eval_target(alloc, run, job, 0)?;
     run.world.release(alloc, &target)?;
@@ -255,7 +255,7 @@ fn eval_notify<S: Space>(
     job: &Task<'_>,
 ) -> Result<Flow, Refusal>
     ensures spent { run.new.1 ≤ run.old.1 }
-    ensures means { Does result run.new (notify_rule (meaning S.accesses) job.now.place.now.scope.path.now job.now.place.now.depth (at_tree job.now.term.now)) run.old }
+    ensures means { Does result run.new (notify_rule (meaning S.accesses) job.now.site.now.scope.path.now job.now.site.now.depth (at_tree job.now.term.now)) run.old }
 {
     eval_target(alloc, run, job, 0)?;
     eval_value_at(alloc, run, job, 1)?;
@@ -272,7 +272,7 @@ fn eval_pause<S: Space>(
     job: &Task<'_>,
 ) -> Result<Flow, Refusal>
     ensures spent { run.new.1 ≤ run.old.1 }
-    ensures means { Does result run.new (pause_rule (meaning S.accesses) job.now.place.now.scope.path.now job.now.place.now.depth (at_tree job.now.term.now)) run.old }
+    ensures means { Does result run.new (pause_rule (meaning S.accesses) job.now.site.now.scope.path.now job.now.site.now.depth (at_tree job.now.term.now)) run.old }
 {
     eval_value_at(alloc, run, job, 0)?;
     Ok(Flow::Next)
@@ -287,7 +287,7 @@ fn eval_fatal<S: Space>(
     job: &Task<'_>,
 ) -> Result<Flow, Refusal>
     ensures spent { run.new.1 ≤ run.old.1 }
-    ensures means { Does result run.new (fatal_rule (meaning S.accesses) job.now.place.now.scope.path.now job.now.place.now.depth (at_tree job.now.term.now)) run.old }
+    ensures means { Does result run.new (fatal_rule (meaning S.accesses) job.now.site.now.scope.path.now job.now.site.now.depth (at_tree job.now.term.now)) run.old }
 {
     eval_value_at(alloc, run, job, 2)?;
     Err(Refusal::Evaluation(EvaluationFault::Fatal))

@@ -25,7 +25,7 @@ pub(crate) fn eval_target<S: Space>(
     index: usize,
 ) -> Result<StoreTarget, Refusal>
     ensures spent { run.new.1 ≤ run.old.1 }
-    ensures means { Does result run.new (target_at (meaning S.accesses) job.now.place.now.scope.path.now job.now.place.now.depth (at_tree job.now.term.now) index) run.old }
+    ensures means { Does result run.new (target_at (meaning S.accesses) job.now.site.now.scope.path.now job.now.site.now.depth (at_tree job.now.term.now) index) run.old }
 {
     let operand = operand(job.term, index);
     match operand {
@@ -54,10 +54,10 @@ fn named_target<S: Space>(
     job: &Task<'_>,
     index: usize,
 ) -> Result<StoreTarget, Refusal>
-    ensures { Does result run.now (name_target (meaning S.accesses) job.now.place.now.scope.path.now (at_tree job.now.term.now) index) run.now }
+    ensures { Does result run.now (name_target (meaning S.accesses) job.now.site.now.scope.path.now (at_tree job.now.term.now) index) run.now }
 {
     let name = job.term.name(alloc, index)?;
-    run.world.target_named(alloc, job.place.scope, &name)
+    run.world.target_named(alloc, job.site.scope, &name)
 }
 
 /// The target that a term is: Debug, a local or an argument, or what it refers to.
@@ -69,7 +69,7 @@ fn eval_inner_target<S: Space>(
     job: &Task<'_>,
 ) -> Result<StoreTarget, Refusal>
     ensures spent { run.new.1 ≤ run.old.1 }
-    ensures means { Does result run.new (target_of (meaning S.accesses) job.now.place.now.scope.path.now job.now.place.now.depth (at_tree job.now.term.now)) run.old }
+    ensures means { Does result run.new (target_of (meaning S.accesses) job.now.site.now.scope.path.now job.now.site.now.depth (at_tree job.now.term.now)) run.old }
 {
     eval_target_by_kind(alloc, run, job, target_kind(code(job.term)))
 }
@@ -83,7 +83,7 @@ fn eval_target_by_kind<S: Space>(
     kind: TargetKind,
 ) -> Result<StoreTarget, Refusal>
     ensures spent { run.new.1 ≤ run.old.1 }
-    ensures means { Does result run.new (target_by_kind (meaning S.accesses) job.now.place.now.scope.path.now job.now.place.now.depth (at_tree job.now.term.now) (target_at (meaning S.accesses) job.now.place.now.scope.path.now job.now.place.now.depth (at_tree job.now.term.now) 0) kind) run.old }
+    ensures means { Does result run.new (target_by_kind (meaning S.accesses) job.now.site.now.scope.path.now job.now.site.now.depth (at_tree job.now.term.now) (target_at (meaning S.accesses) job.now.site.now.scope.path.now job.now.site.now.depth (at_tree job.now.term.now) 0) kind) run.old }
 {
     match kind {
         TargetKind::Nowhere => Ok(StoreTarget::Nowhere),
@@ -104,7 +104,7 @@ fn eval_operand_target<S: Space>(
     job: &Task<'_>,
 ) -> Result<StoreTarget, Refusal>
     ensures spent { run.new.1 ≤ run.old.1 }
-    ensures means { Does result run.new (operand_target (meaning S.accesses) job.now.place.now.scope.path.now job.now.place.now.depth (at_tree job.now.term.now)) run.old }
+    ensures means { Does result run.new (operand_target (meaning S.accesses) job.now.site.now.scope.path.now job.now.site.now.depth (at_tree job.now.term.now)) run.old }
 {
     run.charge()?;
     eval_target(alloc, run, job, 0)
@@ -119,7 +119,7 @@ fn eval_dereferenced_target<S: Space>(
     job: &Task<'_>,
 ) -> Result<StoreTarget, Refusal>
     ensures spent { run.new.1 ≤ run.old.1 }
-    ensures means { Does result run.new (dereferenced_target (meaning S.accesses) job.now.place.now.scope.path.now job.now.place.now.depth (at_tree job.now.term.now)) run.old }
+    ensures means { Does result run.new (dereferenced_target (meaning S.accesses) job.now.site.now.scope.path.now job.now.site.now.depth (at_tree job.now.term.now)) run.old }
 {
     run.charge()?;
     let value = eval_value_at(alloc, run, job, 0)?;
@@ -137,7 +137,7 @@ fn eval_indexed_target<S: Space>(
     job: &Task<'_>,
 ) -> Result<StoreTarget, Refusal>
     ensures spent { run.new.1 ≤ run.old.1 }
-    ensures means { Does result run.new (indexed_target (meaning S.accesses) job.now.place.now.scope.path.now job.now.place.now.depth (at_tree job.now.term.now)) run.old }
+    ensures means { Does result run.new (indexed_target (meaning S.accesses) job.now.site.now.scope.path.now job.now.site.now.depth (at_tree job.now.term.now)) run.old }
 {
     let value = eval_value(alloc, run, job)?;
     let reference = reference_in(value)?;
@@ -155,9 +155,9 @@ pub(crate) fn eval_targeted<S: Space>(
     value: Value,
 ) -> Result<Flow, Refusal>
     ensures spent { run.new.1 ≤ run.old.1 }
-    ensures means { Does result run.new (targeted S.accesses (meaning S.accesses) job.now.place.now.scope.path.now job.now.place.now.depth (at_tree job.now.term.now) index value) run.old }
+    ensures means { Does result run.new (targeted S.accesses (meaning S.accesses) job.now.site.now.scope.path.now job.now.site.now.depth (at_tree job.now.term.now) index value) run.old }
 {
     let target = eval_target(alloc, run, job, index)?;
-    eval_stored_to(alloc, run, job.place.depth, &target, value)?;
+    eval_stored_to(alloc, run, job.site.depth, &target, value)?;
     Ok(Flow::Value(value))
 }

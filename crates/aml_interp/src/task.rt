@@ -5,7 +5,7 @@ use aml_namespace::Scope;
 
 /// Where a term is evaluated: the scope that its names stand in, and how many control methods are being called.
 #[derive(Clone, Copy)]
-pub(crate) struct Place<'t> {
+pub(crate) struct Site<'t> {
     pub(crate) scope: Scope<'t>,
     pub(crate) depth: usize,
 }
@@ -13,6 +13,6 @@ pub(crate) struct Place<'t> {
 /// A term or a list of terms to evaluate, and where. Each nested term has one of these on the stack, so it only refers to both.
 #[derive(Clone, Copy)]
 pub(crate) struct Task<'t> {
-    pub(crate) place: &'t Place<'t>,
+    pub(crate) site: &'t Site<'t>,
     pub(crate) term: &'t Reader<'t>,
 }

@@ -27,8 +27,8 @@ use std::alloc::Global;
 
 /// A term: it costs a step, and is then evaluated by its rule.
 ///
-/// The frame of this function stands on the stack once for each nested term. Rules with many locals that run seldom are therefore kept
-/// out of it, by `inline(never)`.
+/// The frame of this function stands on the stack once for each nested term. Rules with many locals are therefore kept out of it, by
+/// `inline(never)`.
 #[cycle(evaluation)]
 #[tactic(auto, using(crate::proofs::Steps::evaluating), unfolding(aml_meaning::specs::Evaluation::rule))]
 pub(crate) fn eval_term<S: Space>(
@@ -38,7 +38,7 @@ pub(crate) fn eval_term<S: Space>(
 ) -> Result<Flow, Refusal>
     ensures spent { run.new.1 ≤ run.old.1 }
     ensures paid { OnOk result (run.new.1 < run.old.1) }
-    ensures means { Does result run.new (meaning S.accesses (task job.now.place.now.scope.path.now job.now.place.now.depth (at_tree job.now.term.now))) run.old }
+    ensures means { Does result run.new (meaning S.accesses (task job.now.site.now.scope.path.now job.now.site.now.depth (at_tree job.now.term.now))) run.old }
 {
     run.charge()?;
     eval_code(alloc, run, job)
@@ -48,7 +48,7 @@ pub(crate) fn eval_term<S: Space>(
 #[tactic(auto, using(crate::proofs::Steps::evaluating))]
 fn eval_code<S: Space>(alloc: Global, run: &mut Running<S>, job: &Task<'_>) -> Result<Flow, Refusal>
     ensures spent { run.new.1 ≤ run.old.1 }
-    ensures means { Does result run.new (code_rule S.accesses (meaning S.accesses) (code_of (at_tree job.now.term.now)) job.now.place.now.scope.path.now job.now.place.now.depth (at_tree job.now.term.now)) run.old }
+    ensures means { Does result run.new (code_rule S.accesses (meaning S.accesses) (code_of (at_tree job.now.term.now)) job.now.site.now.scope.path.now job.now.site.now.depth (at_tree job.now.term.now)) run.old }
 {
     match code(job.term) {
         TermCode::Opcode(opcode) => eval_kind(alloc, run, job, opcode, kind_of(opcode)),
@@ -72,7 +72,7 @@ fn eval_kind<S: Space>(
     kind: TermKind,
 ) -> Result<Flow, Refusal>
     ensures spent { run.new.1 ≤ run.old.1 }
-    ensures means { Does result run.new (kind_rule S.accesses (meaning S.accesses) kind opcode job.now.place.now.scope.path.now job.now.place.now.depth (at_tree job.now.term.now)) run.old }
+    ensures means { Does result run.new (kind_rule S.accesses (meaning S.accesses) kind opcode job.now.site.now.scope.path.now job.now.site.now.depth (at_tree job.now.term.now)) run.old }
 {
     match kind {
         TermKind::Data(kind) => eval_data(alloc, run, job, kind),
@@ -100,7 +100,7 @@ pub(crate) fn eval_value<S: Space>(
 ) -> Result<Value, Refusal>
     ensures spent { run.new.1 ≤ run.old.1 }
     ensures paid { OnOk result (run.new.1 < run.old.1) }
-    ensures means { Does result run.new (operand_value (meaning S.accesses) job.now.place.now.scope.path.now job.now.place.now.depth (at_tree job.now.term.now)) run.old }
+    ensures means { Does result run.new (operand_value (meaning S.accesses) job.now.site.now.scope.path.now job.now.site.now.depth (at_tree job.now.term.now)) run.old }
 {
     let flow = eval_term(alloc, run, job)?;
     flow.value()
@@ -117,7 +117,7 @@ pub(crate) fn eval_value_at<S: Space>(
     index: usize,
 ) -> Result<Value, Refusal>
     ensures spent { run.new.1 ≤ run.old.1 }
-    ensures means { Does result run.new (value_at (meaning S.accesses) job.now.place.now.scope.path.now job.now.place.now.depth (at_tree job.now.term.now) index) run.old }
+    ensures means { Does result run.new (value_at (meaning S.accesses) job.now.site.now.scope.path.now job.now.site.now.depth (at_tree job.now.term.now) index) run.old }
 {
     let operand = inner(job.term, index)?;
     eval_value(
@@ -140,7 +140,7 @@ pub(crate) fn eval_two_values<S: Space>(
     job: &Task<'_>,
 ) -> Result<(Value, Value), Refusal>
     ensures spent { run.new.1 ≤ run.old.1 }
-    ensures means { Does result run.new (two_values (meaning S.accesses) job.now.place.now.scope.path.now job.now.place.now.depth (at_tree job.now.term.now)) run.old }
+    ensures means { Does result run.new (two_values (meaning S.accesses) job.now.site.now.scope.path.now job.now.site.now.depth (at_tree job.now.term.now)) run.old }
 {
     let first = eval_value_at(alloc, run, job, 0)?;
     let second = eval_value_at(alloc, run, job, 1)?;
@@ -157,7 +157,7 @@ pub(crate) fn eval_operand_integer<S: Space>(
 ) -> Result<u64, Refusal>
     ensures spent { run.new.1 ≤ run.old.1 }
     ensures paid { OnOk result (run.new.1 < run.old.1) }
-    ensures means { Does result run.new (operand_integer (meaning S.accesses) job.now.place.now.scope.path.now job.now.place.now.depth (at_tree job.now.term.now)) run.old }
+    ensures means { Does result run.new (operand_integer (meaning S.accesses) job.now.site.now.scope.path.now job.now.site.now.depth (at_tree job.now.term.now)) run.old }
 {
     let value = eval_value(alloc, run, job)?;
     run.world.integer_in(value)
@@ -173,7 +173,7 @@ pub(crate) fn eval_integer_of<S: Space>(
     term: &Reader<'_>,
 ) -> Result<u64, Refusal>
     ensures spent { run.new.1 ≤ run.old.1 }
-    ensures means { Does result run.new (operand_integer (meaning S.accesses) job.now.place.now.scope.path.now job.now.place.now.depth (at_tree term.now)) run.old }
+    ensures means { Does result run.new (operand_integer (meaning S.accesses) job.now.site.now.scope.path.now job.now.site.now.depth (at_tree term.now)) run.old }
 {
     eval_operand_integer(
         alloc,
@@ -194,7 +194,7 @@ pub(crate) fn eval_list<S: Space>(
     job: &Task<'_>,
 ) -> Result<Flow, Refusal>
     ensures spent { run.new.1 ≤ run.old.1 }
-    ensures means { Does result run.new (in_turn (meaning S.accesses) job.now.place.now.scope.path.now job.now.place.now.depth (at_list job.now.term.now)) run.old }
+    ensures means { Does result run.new (in_turn (meaning S.accesses) job.now.site.now.scope.path.now job.now.site.now.depth (at_list job.now.term.now)) run.old }
 {
     let mut rest = *job.term;
     'items: loop {

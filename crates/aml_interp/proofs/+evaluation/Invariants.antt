@@ -12,157 +12,157 @@ use Rattle.aml_meaning.specs.InvocationTerms.{arguments_in_turn}
 use Rattle.aml_interp.proofs.+evaluation.Given as goal
 
 abbrev pub decreases-terms::eval_term : goal.decreases-terms::eval_term
-decreases-terms::eval_term g l = 40 * (l.run.now.1 + (32 - l.job.now.place.now.depth)) + 0
+decreases-terms::eval_term g l = 40 * (l.run.now.1 + (32 - l.job.now.site.now.depth)) + 0
 
 abbrev pub decreases-terms::eval_value : goal.decreases-terms::eval_value
-decreases-terms::eval_value g l = 40 * (l.run.now.1 + (32 - l.job.now.place.now.depth)) + 1
+decreases-terms::eval_value g l = 40 * (l.run.now.1 + (32 - l.job.now.site.now.depth)) + 1
 
 abbrev pub decreases-terms::eval_list : goal.decreases-terms::eval_list
-decreases-terms::eval_list g l = 40 * (l.run.now.1 + (32 - l.job.now.place.now.depth)) + 1
+decreases-terms::eval_list g l = 40 * (l.run.now.1 + (32 - l.job.now.site.now.depth)) + 1
 
 abbrev pub decreases-terms::eval_value_at : goal.decreases-terms::eval_value_at
-decreases-terms::eval_value_at g l = 40 * (l.run.now.1 + (32 - l.job.now.place.now.depth)) + 2
+decreases-terms::eval_value_at g l = 40 * (l.run.now.1 + (32 - l.job.now.site.now.depth)) + 2
 
 abbrev pub decreases-terms::eval_operand_integer : goal.decreases-terms::eval_operand_integer
-decreases-terms::eval_operand_integer g l = 40 * (l.run.now.1 + (32 - l.job.now.place.now.depth)) + 2
+decreases-terms::eval_operand_integer g l = 40 * (l.run.now.1 + (32 - l.job.now.site.now.depth)) + 2
 
 abbrev pub decreases-declarations::eval_declaration_kind : goal.decreases-declarations::eval_declaration_kind
-decreases-declarations::eval_declaration_kind g l = 40 * (l.run.now.1 + (32 - l.job.now.place.now.depth)) + 31
+decreases-declarations::eval_declaration_kind g l = 40 * (l.run.now.1 + (32 - l.job.now.site.now.depth)) + 31
 
 abbrev pub decreases-invocations::eval_used_name : goal.decreases-invocations::eval_used_name
-decreases-invocations::eval_used_name g l = 40 * (l.run.now.1 + (32 - l.job.now.place.now.depth)) + 27
+decreases-invocations::eval_used_name g l = 40 * (l.run.now.1 + (32 - l.job.now.site.now.depth)) + 27
 
 abbrev pub decreases-regions::eval_region_kind : goal.decreases-regions::eval_region_kind
-decreases-regions::eval_region_kind g l = 40 * (l.run.now.1 + (32 - l.job.now.place.now.depth)) + 31
+decreases-regions::eval_region_kind g l = 40 * (l.run.now.1 + (32 - l.job.now.site.now.depth)) + 31
 
 abbrev pub decreases-terms::eval_integer_of : goal.decreases-terms::eval_integer_of
-decreases-terms::eval_integer_of g l = 40 * (l.run.now.1 + (32 - l.job.now.place.now.depth)) + 3
+decreases-terms::eval_integer_of g l = 40 * (l.run.now.1 + (32 - l.job.now.site.now.depth)) + 3
 
 abbrev pub decreases-terms::eval_two_values : goal.decreases-terms::eval_two_values
-decreases-terms::eval_two_values g l = 40 * (l.run.now.1 + (32 - l.job.now.place.now.depth)) + 3
+decreases-terms::eval_two_values g l = 40 * (l.run.now.1 + (32 - l.job.now.site.now.depth)) + 3
 
 abbrev pub decreases-data::valued_element : goal.decreases-data::valued_element
-decreases-data::valued_element g l = 40 * (l.run.now.1 + (32 - l.job.now.place.now.depth)) + 2
+decreases-data::valued_element g l = 40 * (l.run.now.1 + (32 - l.job.now.site.now.depth)) + 2
 
 abbrev pub decreases-data::eval_element : goal.decreases-data::eval_element
-decreases-data::eval_element g l = 40 * (l.run.now.1 + (32 - l.job.now.place.now.depth)) + 3
+decreases-data::eval_element g l = 40 * (l.run.now.1 + (32 - l.job.now.site.now.depth)) + 3
 
 abbrev pub decreases-data::eval_elements : goal.decreases-data::eval_elements
-decreases-data::eval_elements g l = 40 * (l.run.now.1 + (32 - l.job.now.place.now.depth)) + 4
+decreases-data::eval_elements g l = 40 * (l.run.now.1 + (32 - l.job.now.site.now.depth)) + 4
 
 abbrev pub decreases-data::package_of : goal.decreases-data::package_of
-decreases-data::package_of g l = 40 * (l.run.now.1 + (32 - l.job.now.place.now.depth)) + 5
+decreases-data::package_of g l = 40 * (l.run.now.1 + (32 - l.job.now.site.now.depth)) + 5
 
 abbrev pub decreases-data::eval_package : goal.decreases-data::eval_package
-decreases-data::eval_package g l = 40 * (l.run.now.1 + (32 - l.job.now.place.now.depth)) + 6
+decreases-data::eval_package g l = 40 * (l.run.now.1 + (32 - l.job.now.site.now.depth)) + 6
 
 abbrev pub decreases-data::eval_var_package : goal.decreases-data::eval_var_package
-decreases-data::eval_var_package g l = 40 * (l.run.now.1 + (32 - l.job.now.place.now.depth)) + 6
+decreases-data::eval_var_package g l = 40 * (l.run.now.1 + (32 - l.job.now.site.now.depth)) + 6
 
 abbrev pub decreases-data::eval_buffer : goal.decreases-data::eval_buffer
-decreases-data::eval_buffer g l = 40 * (l.run.now.1 + (32 - l.job.now.place.now.depth)) + 4
+decreases-data::eval_buffer g l = 40 * (l.run.now.1 + (32 - l.job.now.site.now.depth)) + 4
 
 abbrev pub decreases-data::eval_data : goal.decreases-data::eval_data
-decreases-data::eval_data g l = 40 * (l.run.now.1 + (32 - l.job.now.place.now.depth)) + 32
+decreases-data::eval_data g l = 40 * (l.run.now.1 + (32 - l.job.now.site.now.depth)) + 32
 
 abbrev pub decreases-declarations::eval_name : goal.decreases-declarations::eval_name
-decreases-declarations::eval_name g l = 40 * (l.run.now.1 + (32 - l.job.now.place.now.depth)) + 2
+decreases-declarations::eval_name g l = 40 * (l.run.now.1 + (32 - l.job.now.site.now.depth)) + 2
 
 abbrev pub decreases-declarations::eval_scope : goal.decreases-declarations::eval_scope
-decreases-declarations::eval_scope g l = 40 * (l.run.now.1 + (32 - l.job.now.place.now.depth)) + 2
+decreases-declarations::eval_scope g l = 40 * (l.run.now.1 + (32 - l.job.now.site.now.depth)) + 2
 
 abbrev pub decreases-declarations::eval_new_scope : goal.decreases-declarations::eval_new_scope
-decreases-declarations::eval_new_scope g l = 40 * (l.run.now.1 + (32 - l.job.now.place.now.depth)) + 2
+decreases-declarations::eval_new_scope g l = 40 * (l.run.now.1 + (32 - l.job.now.site.now.depth)) + 2
 
 abbrev pub decreases-declarations::eval_declaration : goal.decreases-declarations::eval_declaration
-decreases-declarations::eval_declaration g l = 40 * (l.run.now.1 + (32 - l.job.now.place.now.depth)) + 32
+decreases-declarations::eval_declaration g l = 40 * (l.run.now.1 + (32 - l.job.now.site.now.depth)) + 32
 
 abbrev pub decreases-targets::eval_inner_target : goal.decreases-targets::eval_inner_target
-decreases-targets::eval_inner_target g l = 40 * (l.run.now.1 + (32 - l.job.now.place.now.depth)) + 4
+decreases-targets::eval_inner_target g l = 40 * (l.run.now.1 + (32 - l.job.now.site.now.depth)) + 4
 
 abbrev pub decreases-targets::eval_target : goal.decreases-targets::eval_target
-decreases-targets::eval_target g l = 40 * (l.run.now.1 + (32 - l.job.now.place.now.depth)) + 5
+decreases-targets::eval_target g l = 40 * (l.run.now.1 + (32 - l.job.now.site.now.depth)) + 5
 
 abbrev pub decreases-targets::eval_targeted : goal.decreases-targets::eval_targeted
-decreases-targets::eval_targeted g l = 40 * (l.run.now.1 + (32 - l.job.now.place.now.depth)) + 26
+decreases-targets::eval_targeted g l = 40 * (l.run.now.1 + (32 - l.job.now.site.now.depth)) + 26
 
 abbrev pub decreases-operators::eval_store : goal.decreases-operators::eval_store
-decreases-operators::eval_store g l = 40 * (l.run.now.1 + (32 - l.job.now.place.now.depth)) + 27
+decreases-operators::eval_store g l = 40 * (l.run.now.1 + (32 - l.job.now.site.now.depth)) + 27
 
 abbrev pub decreases-operators::eval_copy : goal.decreases-operators::eval_copy
-decreases-operators::eval_copy g l = 40 * (l.run.now.1 + (32 - l.job.now.place.now.depth)) + 27
+decreases-operators::eval_copy g l = 40 * (l.run.now.1 + (32 - l.job.now.site.now.depth)) + 27
 
 abbrev pub decreases-operators::eval_two : goal.decreases-operators::eval_two
-decreases-operators::eval_two g l = 40 * (l.run.now.1 + (32 - l.job.now.place.now.depth)) + 27
+decreases-operators::eval_two g l = 40 * (l.run.now.1 + (32 - l.job.now.site.now.depth)) + 27
 
 abbrev pub decreases-operators::eval_divide : goal.decreases-operators::eval_divide
-decreases-operators::eval_divide g l = 40 * (l.run.now.1 + (32 - l.job.now.place.now.depth)) + 27
+decreases-operators::eval_divide g l = 40 * (l.run.now.1 + (32 - l.job.now.site.now.depth)) + 27
 
 abbrev pub decreases-operators::eval_one : goal.decreases-operators::eval_one
-decreases-operators::eval_one g l = 40 * (l.run.now.1 + (32 - l.job.now.place.now.depth)) + 27
+decreases-operators::eval_one g l = 40 * (l.run.now.1 + (32 - l.job.now.site.now.depth)) + 27
 
 abbrev pub decreases-operators::eval_test : goal.decreases-operators::eval_test
-decreases-operators::eval_test g l = 40 * (l.run.now.1 + (32 - l.job.now.place.now.depth)) + 5
+decreases-operators::eval_test g l = 40 * (l.run.now.1 + (32 - l.job.now.site.now.depth)) + 5
 
 abbrev pub decreases-operators::eval_not : goal.decreases-operators::eval_not
-decreases-operators::eval_not g l = 40 * (l.run.now.1 + (32 - l.job.now.place.now.depth)) + 5
+decreases-operators::eval_not g l = 40 * (l.run.now.1 + (32 - l.job.now.site.now.depth)) + 5
 
 abbrev pub decreases-operators::eval_count : goal.decreases-operators::eval_count
-decreases-operators::eval_count g l = 40 * (l.run.now.1 + (32 - l.job.now.place.now.depth)) + 28
+decreases-operators::eval_count g l = 40 * (l.run.now.1 + (32 - l.job.now.site.now.depth)) + 28
 
 abbrev pub decreases-operators::eval_size : goal.decreases-operators::eval_size
-decreases-operators::eval_size g l = 40 * (l.run.now.1 + (32 - l.job.now.place.now.depth)) + 26
+decreases-operators::eval_size g l = 40 * (l.run.now.1 + (32 - l.job.now.site.now.depth)) + 26
 
 abbrev pub decreases-operators::eval_type : goal.decreases-operators::eval_type
-decreases-operators::eval_type g l = 40 * (l.run.now.1 + (32 - l.job.now.place.now.depth)) + 26
+decreases-operators::eval_type g l = 40 * (l.run.now.1 + (32 - l.job.now.site.now.depth)) + 26
 
 abbrev pub decreases-operators::eval_acquire : goal.decreases-operators::eval_acquire
-decreases-operators::eval_acquire g l = 40 * (l.run.now.1 + (32 - l.job.now.place.now.depth)) + 6
+decreases-operators::eval_acquire g l = 40 * (l.run.now.1 + (32 - l.job.now.site.now.depth)) + 6
 
 abbrev pub decreases-operators::eval_operator : goal.decreases-operators::eval_operator
-decreases-operators::eval_operator g l = 40 * (l.run.now.1 + (32 - l.job.now.place.now.depth)) + 32
+decreases-operators::eval_operator g l = 40 * (l.run.now.1 + (32 - l.job.now.site.now.depth)) + 32
 
 abbrev pub decreases-statements::eval_otherwise : goal.decreases-statements::eval_otherwise
-decreases-statements::eval_otherwise g l = 40 * (l.run.now.1 + (32 - l.job.now.place.now.depth)) + 1
+decreases-statements::eval_otherwise g l = 40 * (l.run.now.1 + (32 - l.job.now.site.now.depth)) + 1
 
 abbrev pub decreases-statements::eval_branch : goal.decreases-statements::eval_branch
-decreases-statements::eval_branch g l = 40 * (l.run.now.1 + (32 - l.job.now.place.now.depth)) + 2
+decreases-statements::eval_branch g l = 40 * (l.run.now.1 + (32 - l.job.now.site.now.depth)) + 2
 
 abbrev pub decreases-statements::eval_if : goal.decreases-statements::eval_if
-decreases-statements::eval_if g l = 40 * (l.run.now.1 + (32 - l.job.now.place.now.depth)) + 4
+decreases-statements::eval_if g l = 40 * (l.run.now.1 + (32 - l.job.now.site.now.depth)) + 4
 
 abbrev pub decreases-statements::eval_else : goal.decreases-statements::eval_else
-decreases-statements::eval_else g l = 40 * (l.run.now.1 + (32 - l.job.now.place.now.depth)) + 2
+decreases-statements::eval_else g l = 40 * (l.run.now.1 + (32 - l.job.now.site.now.depth)) + 2
 
 abbrev pub decreases-statements::eval_turn_of : goal.decreases-statements::eval_turn_of
-decreases-statements::eval_turn_of g l = 40 * (l.run.now.1 + (32 - l.job.now.place.now.depth)) + 2
+decreases-statements::eval_turn_of g l = 40 * (l.run.now.1 + (32 - l.job.now.site.now.depth)) + 2
 
 abbrev pub decreases-statements::eval_turn : goal.decreases-statements::eval_turn
-decreases-statements::eval_turn g l = 40 * (l.run.now.1 + (32 - l.job.now.place.now.depth)) + 3
+decreases-statements::eval_turn g l = 40 * (l.run.now.1 + (32 - l.job.now.site.now.depth)) + 3
 
 abbrev pub decreases-statements::eval_loop : goal.decreases-statements::eval_loop
-decreases-statements::eval_loop g l = 40 * (l.run.now.1 + (32 - l.job.now.place.now.depth)) + 4
+decreases-statements::eval_loop g l = 40 * (l.run.now.1 + (32 - l.job.now.site.now.depth)) + 4
 
 abbrev pub decreases-statements::eval_while : goal.decreases-statements::eval_while
-decreases-statements::eval_while g l = 40 * (l.run.now.1 + (32 - l.job.now.place.now.depth)) + 5
+decreases-statements::eval_while g l = 40 * (l.run.now.1 + (32 - l.job.now.site.now.depth)) + 5
 
 abbrev pub decreases-statements::eval_return : goal.decreases-statements::eval_return
-decreases-statements::eval_return g l = 40 * (l.run.now.1 + (32 - l.job.now.place.now.depth)) + 3
+decreases-statements::eval_return g l = 40 * (l.run.now.1 + (32 - l.job.now.site.now.depth)) + 3
 
 abbrev pub decreases-statements::eval_release : goal.decreases-statements::eval_release
-decreases-statements::eval_release g l = 40 * (l.run.now.1 + (32 - l.job.now.place.now.depth)) + 6
+decreases-statements::eval_release g l = 40 * (l.run.now.1 + (32 - l.job.now.site.now.depth)) + 6
 
 abbrev pub decreases-statements::eval_notify : goal.decreases-statements::eval_notify
-decreases-statements::eval_notify g l = 40 * (l.run.now.1 + (32 - l.job.now.place.now.depth)) + 6
+decreases-statements::eval_notify g l = 40 * (l.run.now.1 + (32 - l.job.now.site.now.depth)) + 6
 
 abbrev pub decreases-statements::eval_pause : goal.decreases-statements::eval_pause
-decreases-statements::eval_pause g l = 40 * (l.run.now.1 + (32 - l.job.now.place.now.depth)) + 3
+decreases-statements::eval_pause g l = 40 * (l.run.now.1 + (32 - l.job.now.site.now.depth)) + 3
 
 abbrev pub decreases-statements::eval_fatal : goal.decreases-statements::eval_fatal
-decreases-statements::eval_fatal g l = 40 * (l.run.now.1 + (32 - l.job.now.place.now.depth)) + 3
+decreases-statements::eval_fatal g l = 40 * (l.run.now.1 + (32 - l.job.now.site.now.depth)) + 3
 
 abbrev pub decreases-statements::eval_statement : goal.decreases-statements::eval_statement
-decreases-statements::eval_statement g l = 40 * (l.run.now.1 + (32 - l.job.now.place.now.depth)) + 32
+decreases-statements::eval_statement g l = 40 * (l.run.now.1 + (32 - l.job.now.site.now.depth)) + 32
 
 abbrev pub decreases-invocations::eval_body : goal.decreases-invocations::eval_body
 decreases-invocations::eval_body g l = 40 * (l.run.now.1 + (32 - l.depth)) + 2
@@ -171,19 +171,19 @@ abbrev pub decreases-invocations::eval_invoked : goal.decreases-invocations::eva
 decreases-invocations::eval_invoked g l = 40 * (l.run.now.1 + (32 - l.depth)) + 3
 
 abbrev pub decreases-invocations::eval_osi : goal.decreases-invocations::eval_osi
-decreases-invocations::eval_osi g l = 40 * (l.run.now.1 + (32 - l.job.now.place.now.depth)) + 4
+decreases-invocations::eval_osi g l = 40 * (l.run.now.1 + (32 - l.job.now.site.now.depth)) + 4
 
 abbrev pub decreases-invocations::eval_arguments : goal.decreases-invocations::eval_arguments
-decreases-invocations::eval_arguments g l = 40 * (l.run.now.1 + (32 - l.job.now.place.now.depth)) + 2
+decreases-invocations::eval_arguments g l = 40 * (l.run.now.1 + (32 - l.job.now.site.now.depth)) + 2
 
 abbrev pub decreases-invocations::eval_call : goal.decreases-invocations::eval_call
-decreases-invocations::eval_call g l = 40 * (l.run.now.1 + (32 - l.job.now.place.now.depth)) + 4
+decreases-invocations::eval_call g l = 40 * (l.run.now.1 + (32 - l.job.now.site.now.depth)) + 4
 
 abbrev pub decreases-invocations::eval_invocation : goal.decreases-invocations::eval_invocation
-decreases-invocations::eval_invocation g l = 40 * (l.run.now.1 + (32 - l.job.now.place.now.depth)) + 26
+decreases-invocations::eval_invocation g l = 40 * (l.run.now.1 + (32 - l.job.now.site.now.depth)) + 26
 
 abbrev pub decreases-invocations::eval_name_value : goal.decreases-invocations::eval_name_value
-decreases-invocations::eval_name_value g l = 40 * (l.run.now.1 + (32 - l.job.now.place.now.depth)) + 28
+decreases-invocations::eval_name_value g l = 40 * (l.run.now.1 + (32 - l.job.now.site.now.depth)) + 28
 
 abbrev pub decreases-invocations::eval_method_value : goal.decreases-invocations::eval_method_value
 decreases-invocations::eval_method_value g l = 40 * (l.run.now.1 + (32 - l.depth)) + 4
@@ -258,10 +258,10 @@ abbrev pub decreases-fields::eval_unit_written : goal.decreases-fields::eval_uni
 decreases-fields::eval_unit_written g l = 40 * (l.run.now.1 + l.calls) + 21
 
 abbrev pub decreases-buffer_fields::eval_sized_field : goal.decreases-buffer_fields::eval_sized_field
-decreases-buffer_fields::eval_sized_field g l = 40 * (l.run.now.1 + (32 - l.job.now.place.now.depth)) + 5
+decreases-buffer_fields::eval_sized_field g l = 40 * (l.run.now.1 + (32 - l.job.now.site.now.depth)) + 5
 
 abbrev pub decreases-buffer_fields::eval_bits_field : goal.decreases-buffer_fields::eval_bits_field
-decreases-buffer_fields::eval_bits_field g l = 40 * (l.run.now.1 + (32 - l.job.now.place.now.depth)) + 5
+decreases-buffer_fields::eval_bits_field g l = 40 * (l.run.now.1 + (32 - l.job.now.site.now.depth)) + 5
 
 abbrev pub decreases-fields::eval_field_value : goal.decreases-fields::eval_field_value
 decreases-fields::eval_field_value g l = 40 * (l.run.now.1 + l.calls) + 23
@@ -285,10 +285,10 @@ abbrev pub decreases-field_calls::eval_completed : goal.decreases-field_calls::e
 decreases-field_calls::eval_completed g l = 40 * (l.run.now.1 + (32 - l.depth)) + 24
 
 abbrev pub decreases-regions::eval_region : goal.decreases-regions::eval_region
-decreases-regions::eval_region g l = 40 * (l.run.now.1 + (32 - l.job.now.place.now.depth)) + 5
+decreases-regions::eval_region g l = 40 * (l.run.now.1 + (32 - l.job.now.site.now.depth)) + 5
 
 abbrev pub decreases-regions::eval_region_term : goal.decreases-regions::eval_region_term
-decreases-regions::eval_region_term g l = 40 * (l.run.now.1 + (32 - l.job.now.place.now.depth)) + 32
+decreases-regions::eval_region_term g l = 40 * (l.run.now.1 + (32 - l.job.now.site.now.depth)) + 32
 
 abbrev pub decreases-field_calls::eval_method_integer : goal.decreases-field_calls::eval_method_integer
 decreases-field_calls::eval_method_integer g l = 40 * (l.run.now.1 + (32 - l.depth)) + 5
@@ -306,55 +306,55 @@ abbrev pub decreases-field_calls::eval_stored_back : goal.decreases-field_calls:
 decreases-field_calls::eval_stored_back g l = 40 * (l.run.now.1 + (32 - l.depth)) + 27
 
 abbrev pub decreases-terms::eval_kind : goal.decreases-terms::eval_kind
-decreases-terms::eval_kind g l = 40 * (l.run.now.1 + (32 - l.job.now.place.now.depth)) + 33
+decreases-terms::eval_kind g l = 40 * (l.run.now.1 + (32 - l.job.now.site.now.depth)) + 33
 
 abbrev pub decreases-terms::eval_code : goal.decreases-terms::eval_code
-decreases-terms::eval_code g l = 40 * (l.run.now.1 + (32 - l.job.now.place.now.depth)) + 34
+decreases-terms::eval_code g l = 40 * (l.run.now.1 + (32 - l.job.now.site.now.depth)) + 34
 
 abbrev pub decreases-targets::eval_target_by_kind : goal.decreases-targets::eval_target_by_kind
-decreases-targets::eval_target_by_kind g l = 40 * (l.run.now.1 + (32 - l.job.now.place.now.depth)) + 3
+decreases-targets::eval_target_by_kind g l = 40 * (l.run.now.1 + (32 - l.job.now.site.now.depth)) + 3
 
 abbrev pub decreases-targets::eval_operand_target : goal.decreases-targets::eval_operand_target
-decreases-targets::eval_operand_target g l = 40 * (l.run.now.1 + (32 - l.job.now.place.now.depth)) + 1
+decreases-targets::eval_operand_target g l = 40 * (l.run.now.1 + (32 - l.job.now.site.now.depth)) + 1
 
 abbrev pub decreases-targets::eval_dereferenced_target : goal.decreases-targets::eval_dereferenced_target
-decreases-targets::eval_dereferenced_target g l = 40 * (l.run.now.1 + (32 - l.job.now.place.now.depth)) + 1
+decreases-targets::eval_dereferenced_target g l = 40 * (l.run.now.1 + (32 - l.job.now.site.now.depth)) + 1
 
 abbrev pub decreases-targets::eval_indexed_target : goal.decreases-targets::eval_indexed_target
-decreases-targets::eval_indexed_target g l = 40 * (l.run.now.1 + (32 - l.job.now.place.now.depth)) + 2
+decreases-targets::eval_indexed_target g l = 40 * (l.run.now.1 + (32 - l.job.now.site.now.depth)) + 2
 
 abbrev pub decreases-references::eval_operand_referent : goal.decreases-references::eval_operand_referent
-decreases-references::eval_operand_referent g l = 40 * (l.run.now.1 + (32 - l.job.now.place.now.depth)) + 8
+decreases-references::eval_operand_referent g l = 40 * (l.run.now.1 + (32 - l.job.now.site.now.depth)) + 8
 
 abbrev pub decreases-references::eval_referent_by_kind : goal.decreases-references::eval_referent_by_kind
-decreases-references::eval_referent_by_kind g l = 40 * (l.run.now.1 + (32 - l.job.now.place.now.depth)) + 7
+decreases-references::eval_referent_by_kind g l = 40 * (l.run.now.1 + (32 - l.job.now.site.now.depth)) + 7
 
 abbrev pub decreases-references::eval_value_referent : goal.decreases-references::eval_value_referent
-decreases-references::eval_value_referent g l = 40 * (l.run.now.1 + (32 - l.job.now.place.now.depth)) + 2
+decreases-references::eval_value_referent g l = 40 * (l.run.now.1 + (32 - l.job.now.site.now.depth)) + 2
 
 abbrev pub decreases-references::eval_target_referent : goal.decreases-references::eval_target_referent
-decreases-references::eval_target_referent g l = 40 * (l.run.now.1 + (32 - l.job.now.place.now.depth)) + 6
+decreases-references::eval_target_referent g l = 40 * (l.run.now.1 + (32 - l.job.now.site.now.depth)) + 6
 
 abbrev pub decreases-references::eval_reference : goal.decreases-references::eval_reference
-decreases-references::eval_reference g l = 40 * (l.run.now.1 + (32 - l.job.now.place.now.depth)) + 6
+decreases-references::eval_reference g l = 40 * (l.run.now.1 + (32 - l.job.now.site.now.depth)) + 6
 
 abbrev pub decreases-references::eval_dereference : goal.decreases-references::eval_dereference
-decreases-references::eval_dereference g l = 40 * (l.run.now.1 + (32 - l.job.now.place.now.depth)) + 27
+decreases-references::eval_dereference g l = 40 * (l.run.now.1 + (32 - l.job.now.site.now.depth)) + 27
 
 abbrev pub decreases-references::eval_conditional_reference : goal.decreases-references::eval_conditional_reference
-decreases-references::eval_conditional_reference g l = 40 * (l.run.now.1 + (32 - l.job.now.place.now.depth)) + 29
+decreases-references::eval_conditional_reference g l = 40 * (l.run.now.1 + (32 - l.job.now.site.now.depth)) + 29
 
 abbrev pub decreases-references::eval_sought : goal.decreases-references::eval_sought
-decreases-references::eval_sought g l = 40 * (l.run.now.1 + (32 - l.job.now.place.now.depth)) + 7
+decreases-references::eval_sought g l = 40 * (l.run.now.1 + (32 - l.job.now.site.now.depth)) + 7
 
 abbrev pub decreases-references::eval_sought_target : goal.decreases-references::eval_sought_target
-decreases-references::eval_sought_target g l = 40 * (l.run.now.1 + (32 - l.job.now.place.now.depth)) + 6
+decreases-references::eval_sought_target g l = 40 * (l.run.now.1 + (32 - l.job.now.site.now.depth)) + 6
 
 abbrev pub decreases-references::eval_reference_found : goal.decreases-references::eval_reference_found
-decreases-references::eval_reference_found g l = 40 * (l.run.now.1 + (32 - l.job.now.place.now.depth)) + 28
+decreases-references::eval_reference_found g l = 40 * (l.run.now.1 + (32 - l.job.now.site.now.depth)) + 28
 
 abbrev pub decreases-references::eval_reference_stored : goal.decreases-references::eval_reference_stored
-decreases-references::eval_reference_stored g l = 40 * (l.run.now.1 + (32 - l.job.now.place.now.depth)) + 27
+decreases-references::eval_reference_stored g l = 40 * (l.run.now.1 + (32 - l.job.now.site.now.depth)) + 27
 
 abbrev pub decreases-field_calls::eval_held_value : goal.decreases-field_calls::eval_held_value
 decreases-field_calls::eval_held_value g l = 40 * (l.run.now.1 + (32 - l.depth)) + 25
@@ -363,25 +363,25 @@ abbrev pub decreases-field_calls::eval_back_to : goal.decreases-field_calls::eva
 decreases-field_calls::eval_back_to g l = 40 * (l.run.now.1 + (32 - l.depth)) + 26
 
 abbrev pub invariant-terms::eval_list-items : goal.invariant-terms::eval_list-items
-invariant-terms::eval_list-items g l = (l.run.1 ≤ l.fn.run.1) × Same (in_turn (meaning g.S.Space.accesses) l.fn.job.place.now.scope.path.now l.fn.job.place.now.depth (at_list l.fn.job.term.now)) l.fn.run (in_turn (meaning g.S.Space.accesses) l.fn.job.place.now.scope.path.now l.fn.job.place.now.depth (at_list l.rest)) l.run
+invariant-terms::eval_list-items g l = (l.run.1 ≤ l.fn.run.1) × Same (in_turn (meaning g.S.Space.accesses) l.fn.job.site.now.scope.path.now l.fn.job.site.now.depth (at_list l.fn.job.term.now)) l.fn.run (in_turn (meaning g.S.Space.accesses) l.fn.job.site.now.scope.path.now l.fn.job.site.now.depth (at_list l.rest)) l.run
 
 abbrev pub decreases-terms::eval_list-items : goal.decreases-terms::eval_list-items
 decreases-terms::eval_list-items g l = l.run.1
 
 abbrev pub invariant-data::eval_elements-items : goal.invariant-data::eval_elements-items
-invariant-data::eval_elements-items g l = (l.run.1 ≤ l.fn.run.1) × Same (elements_in_turn (meaning g.S.Space.accesses) l.fn.job.place.now.scope.path.now l.fn.job.place.now.depth l.fn.count (at_list l.fn.job.term.now) []) l.fn.run (elements_in_turn (meaning g.S.Space.accesses) l.fn.job.place.now.scope.path.now l.fn.job.place.now.depth l.left (at_list l.rest) l.elements) l.run
+invariant-data::eval_elements-items g l = (l.run.1 ≤ l.fn.run.1) × Same (elements_in_turn (meaning g.S.Space.accesses) l.fn.job.site.now.scope.path.now l.fn.job.site.now.depth l.fn.count (at_list l.fn.job.term.now) []) l.fn.run (elements_in_turn (meaning g.S.Space.accesses) l.fn.job.site.now.scope.path.now l.fn.job.site.now.depth l.left (at_list l.rest) l.elements) l.run
 
 abbrev pub decreases-data::eval_elements-items : goal.decreases-data::eval_elements-items
 decreases-data::eval_elements-items g l = l.left
 
 abbrev pub invariant-invocations::eval_arguments-items : goal.invariant-invocations::eval_arguments-items
-invariant-invocations::eval_arguments-items g l = (l.run.1 ≤ l.fn.run.1) × Same (arguments_in_turn (meaning g.S.Space.accesses) l.fn.job.place.now.scope.path.now l.fn.job.place.now.depth (at_list l.fn.job.term.now) []) l.fn.run (arguments_in_turn (meaning g.S.Space.accesses) l.fn.job.place.now.scope.path.now l.fn.job.place.now.depth (at_list l.rest) l.values.items) l.run
+invariant-invocations::eval_arguments-items g l = (l.run.1 ≤ l.fn.run.1) × Same (arguments_in_turn (meaning g.S.Space.accesses) l.fn.job.site.now.scope.path.now l.fn.job.site.now.depth (at_list l.fn.job.term.now) []) l.fn.run (arguments_in_turn (meaning g.S.Space.accesses) l.fn.job.site.now.scope.path.now l.fn.job.site.now.depth (at_list l.rest) l.values.items) l.run
 
 abbrev pub decreases-invocations::eval_arguments-items : goal.decreases-invocations::eval_arguments-items
 decreases-invocations::eval_arguments-items g l = l.run.1
 
 abbrev pub invariant-statements::eval_loop-turns : goal.invariant-statements::eval_loop-turns
-invariant-statements::eval_loop-turns g l = (l.run.1 ≤ l.fn.run.1) × Same (loop (meaning g.S.Space.accesses) l.fn.job.place.now.scope.path.now l.fn.job.place.now.depth (at_tree l.fn.job.term.now) (at_list l.fn.items)) l.fn.run (loop (meaning g.S.Space.accesses) l.fn.job.place.now.scope.path.now l.fn.job.place.now.depth (at_tree l.fn.job.term.now) (at_list l.fn.items)) l.run
+invariant-statements::eval_loop-turns g l = (l.run.1 ≤ l.fn.run.1) × Same (loop (meaning g.S.Space.accesses) l.fn.job.site.now.scope.path.now l.fn.job.site.now.depth (at_tree l.fn.job.term.now) (at_list l.fn.items)) l.fn.run (loop (meaning g.S.Space.accesses) l.fn.job.site.now.scope.path.now l.fn.job.site.now.depth (at_tree l.fn.job.term.now) (at_list l.fn.items)) l.run
 
 abbrev pub decreases-statements::eval_loop-turns : goal.decreases-statements::eval_loop-turns
 decreases-statements::eval_loop-turns g l = l.run.1

@@ -9,14 +9,14 @@ pub elements-init : goal.elements-init
 elements-init g c = record { is = refl }
 
 pub returns-in-None : goal.returns-in-None
-returns-in-None g c = laid_end c.args.group c.args.job.now.place.now.scope.path.now c.args.job.now.place.now.depth c.elements.at _ c.elements.invariant (c.next.ensures ∙ ap (first_of at_tree at_list) c.in-None.is)
+returns-in-None g c = laid_end c.args.group c.args.job.now.site.now.scope.path.now c.args.job.now.site.now.depth c.elements.at _ c.elements.invariant (c.next.ensures ∙ ap (first_of at_tree at_list) c.in-None.is)
 
 pub returns-in_err-at-in-Some : goal.returns-in_err-at-in-Some
 returns-in_err-at-in-Some g c =
-    does_same (same_laid c.args.group c.args.job.now.place.now.scope.path.now c.args.job.now.place.now.depth c.elements.at _ c.elements.invariant (c.next.ensures ∙ ap (first_of at_tree at_list) c.in-Some.is))
-    (does_err _ _ (laid_by c.args.group c.args.job.now.place.now.scope.path.now c.args.job.now.place.now.depth _ _ c.elements.at (at_tree c.in-Some.item.first) c.code-code.ensures c.in_err-at-in-Some.ensures) c.from_residual.ensures)
+    does_same (same_laid c.args.group c.args.job.now.site.now.scope.path.now c.args.job.now.site.now.depth c.elements.at _ c.elements.invariant (c.next.ensures ∙ ap (first_of at_tree at_list) c.in-Some.is))
+    (does_err _ _ (laid_by c.args.group c.args.job.now.site.now.scope.path.now c.args.job.now.site.now.depth _ _ c.elements.at (at_tree c.in-Some.item.first) c.code-code.ensures c.in_err-at-in-Some.ensures) c.from_residual.ensures)
 
 pub elements-preserved : goal.elements-preserved
 elements-preserved g c =
-    same_ok _ _ (same_laid c.args.group c.args.job.now.place.now.scope.path.now c.args.job.now.place.now.depth c.elements.at _ c.elements.invariant (c.next.ensures ∙ ap (first_of at_tree at_list) c.in-Some.is))
-    (laid_by c.args.group c.args.job.now.place.now.scope.path.now c.args.job.now.place.now.depth _ _ c.elements.at (at_tree c.in-Some.item.first) c.code-code.ensures c.in_ok-at-in-Some.ensures)
+    same_ok _ _ (same_laid c.args.group c.args.job.now.site.now.scope.path.now c.args.job.now.site.now.depth c.elements.at _ c.elements.invariant (c.next.ensures ∙ ap (first_of at_tree at_list) c.in-Some.is))
+    (laid_by c.args.group c.args.job.now.site.now.scope.path.now c.args.job.now.site.now.depth _ _ c.elements.at (at_tree c.in-Some.item.first) c.code-code.ensures c.in_ok-at-in-Some.ensures)

@@ -5,7 +5,7 @@ use Rattle.aml_meaning.specs.FieldTerms.{elements_laid}
 use Rattle.aml_interp.proofs.regions.lay_elements.Given as goal
 
 abbrev pub invariant-elements : goal.invariant-elements
-invariant-elements g l = Same (elements_laid l.group l.fn.job.place.now.scope.path.now l.fn.job.place.now.depth l.fn.first (at_list l.fn.job.term.now)) l.fn.world (elements_laid l.group l.fn.job.place.now.scope.path.now l.fn.job.place.now.depth l.at (at_list l.rest)) l.world
+invariant-elements g l = Same (elements_laid l.group l.fn.job.site.now.scope.path.now l.fn.job.site.now.depth l.fn.first (at_list l.fn.job.term.now)) l.fn.world (elements_laid l.group l.fn.job.site.now.scope.path.now l.fn.job.site.now.depth l.at (at_list l.rest)) l.world
 
 abbrev pub decreases-elements : goal.decreases-elements
 decreases-elements g l = count_of (at_list l.rest)
