@@ -13,34 +13,34 @@ use Rattle.aml_interp.proofs.Steps.{same_argument, arguments_end, same_turn, sam
 use Rattle.aml_interp.proofs.+evaluation.Goals as goal
 
 pub terms::eval_list-returns-in-None-clause-means : goal.terms::eval_list-returns-in-None-clause-means
-terms::eval_list-returns-in-None-clause-means g t c = items_end (meaning g.S.Space.accesses) c.args.job.now.site.now.scope.path.now c.args.job.now.site.now.depth _ c.items.invariant.1 (c.take_first.ensures.none c.in-None.is)
+terms::eval_list-returns-in-None-clause-means g t c = items_end (meaning g.S.Space.accesses) c.args.job.now.site.now.scope.path.now c.args.job.now.site.now.depth _ c.items.invariant.1 (c.take_first-taken.ensures.none c.in-None.is)
 
 pub terms::eval_list-returns-in_err-flow-in-Some-clause-means : goal.terms::eval_list-returns-in_err-flow-in-Some-clause-means
 terms::eval_list-returns-in_err-flow-in-Some-clause-means g t c =
-    does_same (same_item (meaning g.S.Space.accesses) c.args.job.now.site.now.scope.path.now c.args.job.now.site.now.depth _ c.items.invariant.1 (c.take_first.ensures.first _ c.in-Some.is)) (does_err _ _ c.in_err-flow-in-Some.ensures.means c.from_residual.ensures)
+    does_same (same_item (meaning g.S.Space.accesses) c.args.job.now.site.now.scope.path.now c.args.job.now.site.now.depth _ c.items.invariant.1 (c.take_first-taken.ensures.first _ c.in-Some.is)) (does_err _ _ c.in_err-flow-in-Some.ensures.means c.from_residual.ensures)
 
 pub terms::eval_list-returns-then-not-goes_on-clause-means : goal.terms::eval_list-returns-then-not-goes_on-clause-means
 terms::eval_list-returns-then-not-goes_on-clause-means g t c =
-    does_same (same_false _ _ _ (same_ok _ _ (same_item (meaning g.S.Space.accesses) c.args.job.now.site.now.scope.path.now c.args.job.now.site.now.depth _ c.items.invariant.1 (c.take_first.ensures.first _ c.in-Some.is)) c.in_ok-flow-in-Some.ensures.means) (sym c.goes_on.ensures ∙ c.if-not-goes_on.true)) does_give
+    does_same (same_false _ _ _ (same_ok _ _ (same_item (meaning g.S.Space.accesses) c.args.job.now.site.now.scope.path.now c.args.job.now.site.now.depth _ c.items.invariant.1 (c.take_first-taken.ensures.first _ c.in-Some.is)) c.in_ok-flow-in-Some.ensures.means) (sym c.goes_on.ensures ∙ c.if-not-goes_on.true)) does_give
 
 pub terms::eval_list-items-preserved : goal.terms::eval_list-items-preserved
 terms::eval_list-items-preserved g t c = (
   let d = c.items.invariant.0 in let e = c.eval_term.ensures.spent in omega arith,
-  same_true _ _ _ (same_ok _ _ (same_item (meaning g.S.Space.accesses) c.args.job.now.site.now.scope.path.now c.args.job.now.site.now.depth _ c.items.invariant.1 (c.take_first.ensures.first _ c.in-Some.is)) c.in_ok-flow-in-Some.ensures.means) (sym c.goes_on.ensures ∙ c.if-not-goes_on.false),
+  same_true _ _ _ (same_ok _ _ (same_item (meaning g.S.Space.accesses) c.args.job.now.site.now.scope.path.now c.args.job.now.site.now.depth _ c.items.invariant.1 (c.take_first-taken.ensures.first _ c.in-Some.is)) c.in_ok-flow-in-Some.ensures.means) (sym c.goes_on.ensures ∙ c.if-not-goes_on.false),
 )
 
 pub data::eval_elements-returns-in-None-clause-means : goal.data::eval_elements-returns-in-None-clause-means
-data::eval_elements-returns-in-None-clause-means g t c = elements_end (meaning g.S.Space.accesses) c.args.job.now.site.now.scope.path.now c.args.job.now.site.now.depth c.items.left _ c.items.elements c.items.invariant.1 (c.take_first.ensures.none c.in-None.is)
+data::eval_elements-returns-in-None-clause-means g t c = elements_end (meaning g.S.Space.accesses) c.args.job.now.site.now.scope.path.now c.args.job.now.site.now.depth c.items.left _ c.items.elements c.items.invariant.1 (c.take_first-taken.ensures.none c.in-None.is)
 
 pub data::eval_elements-returns-in_err-element-in-Some-clause-means : goal.data::eval_elements-returns-in_err-element-in-Some-clause-means
 data::eval_elements-returns-in_err-element-in-Some-clause-means g t c =
-    does_same (same_element (meaning g.S.Space.accesses) c.args.job.now.site.now.scope.path.now c.args.job.now.site.now.depth c.items.left _ c.items.elements c.items.invariant.1 (c.take_first.ensures.first _ c.in-Some.is) (omega arith))
+    does_same (same_element (meaning g.S.Space.accesses) c.args.job.now.site.now.scope.path.now c.args.job.now.site.now.depth c.items.left _ c.items.elements c.items.invariant.1 (c.take_first-taken.ensures.first _ c.in-Some.is) (omega arith))
     (does_err _ _ (coded (meaning g.S.Space.accesses) _ _ c.args.job.now.site.now.scope.path.now c.args.job.now.site.now.depth (at_tree c.in-Some.item.now) c.code-code.ensures c.in_err-element-in-Some.ensures.means) c.from_residual.ensures)
 
 pub data::eval_elements-items-preserved : goal.data::eval_elements-items-preserved
 data::eval_elements-items-preserved g t c = (
   let d = c.items.invariant.0 in let e = c.eval_element.ensures.spent in omega arith,
-  rw (c.in_ok-push-in-Some.ensures.ok) (same_ok _ _ (same_element (meaning g.S.Space.accesses) c.args.job.now.site.now.scope.path.now c.args.job.now.site.now.depth c.items.left _ c.items.elements c.items.invariant.1 (c.take_first.ensures.first _ c.in-Some.is) (omega arith))
+  rw (c.in_ok-push-in-Some.ensures.ok) (same_ok _ _ (same_element (meaning g.S.Space.accesses) c.args.job.now.site.now.scope.path.now c.args.job.now.site.now.depth c.items.left _ c.items.elements c.items.invariant.1 (c.take_first-taken.ensures.first _ c.in-Some.is) (omega arith))
       (coded (meaning g.S.Space.accesses) _ _ c.args.job.now.site.now.scope.path.now c.args.job.now.site.now.depth (at_tree c.in-Some.item.now) c.code-code.ensures c.in_ok-element-in-Some.ensures.means)),
 )
 
@@ -48,16 +48,16 @@ pub data::eval_elements-returns-clause-means : goal.data::eval_elements-returns-
 data::eval_elements-returns-clause-means g t c = elements_full (meaning g.S.Space.accesses) c.args.job.now.site.now.scope.path.now c.args.job.now.site.now.depth c.items.left _ c.items.elements c.items.invariant.1 (omega arith)
 
 pub invocations::eval_arguments-returns-in-None-clause-means : goal.invocations::eval_arguments-returns-in-None-clause-means
-invocations::eval_arguments-returns-in-None-clause-means g t c = arguments_end (meaning g.S.Space.accesses) c.args.job.now.site.now.scope.path.now c.args.job.now.site.now.depth _ c.items.values.items c.items.invariant.1 (c.take_first.ensures.none c.in-None.is)
+invocations::eval_arguments-returns-in-None-clause-means g t c = arguments_end (meaning g.S.Space.accesses) c.args.job.now.site.now.scope.path.now c.args.job.now.site.now.depth _ c.items.values.items c.items.invariant.1 (c.take_first-taken.ensures.none c.in-None.is)
 
 pub invocations::eval_arguments-returns-in_err-value-in-Some-clause-means : goal.invocations::eval_arguments-returns-in_err-value-in-Some-clause-means
 invocations::eval_arguments-returns-in_err-value-in-Some-clause-means g t c =
-    does_same (same_argument (meaning g.S.Space.accesses) c.args.job.now.site.now.scope.path.now c.args.job.now.site.now.depth _ c.items.values.items c.items.invariant.1 (c.take_first.ensures.first _ c.in-Some.is)) (does_seen_err c.from_residual.result (λ v. v.items) _ _ c.in_err-value-in-Some.ensures.means c.from_residual.ensures)
+    does_same (same_argument (meaning g.S.Space.accesses) c.args.job.now.site.now.scope.path.now c.args.job.now.site.now.depth _ c.items.values.items c.items.invariant.1 (c.take_first-taken.ensures.first _ c.in-Some.is)) (does_seen_err c.from_residual.result (λ v. v.items) _ _ c.in_err-value-in-Some.ensures.means c.from_residual.ensures)
 
 pub invocations::eval_arguments-items-preserved : goal.invocations::eval_arguments-items-preserved
 invocations::eval_arguments-items-preserved g t c = (
   let d = c.items.invariant.0 in let e = c.eval_value.ensures.spent in omega arith,
-  rw (c.in_ok-push-in-Some.ensures.items) (same_ok _ _ (same_argument (meaning g.S.Space.accesses) c.args.job.now.site.now.scope.path.now c.args.job.now.site.now.depth _ c.items.values.items c.items.invariant.1 (c.take_first.ensures.first _ c.in-Some.is)) c.in_ok-value-in-Some.ensures.means),
+  rw (c.in_ok-push-in-Some.ensures.items) (same_ok _ _ (same_argument (meaning g.S.Space.accesses) c.args.job.now.site.now.scope.path.now c.args.job.now.site.now.depth _ c.items.values.items c.items.invariant.1 (c.take_first-taken.ensures.first _ c.in-Some.is)) c.in_ok-value-in-Some.ensures.means),
 )
 
 pub statements::eval_loop-returns-in_err-flow-clause-means : goal.statements::eval_loop-returns-in_err-flow-clause-means
