@@ -35,13 +35,13 @@ data::eval_elements-returns-in-None-clause-means g t c = elements_end (meaning g
 pub data::eval_elements-returns-in_err-element-in-Some-clause-means : goal.data::eval_elements-returns-in_err-element-in-Some-clause-means
 data::eval_elements-returns-in_err-element-in-Some-clause-means g t c =
     does_same (same_element (meaning g.S.Space.accesses) c.args.job.now.site.now.scope.path.now c.args.job.now.site.now.depth c.items.left _ c.items.elements c.items.invariant.1 (c.take_first-taken.ensures.first _ c.in-Some.is) (omega arith))
-    (does_err _ _ (coded (meaning g.S.Space.accesses) _ _ c.args.job.now.site.now.scope.path.now c.args.job.now.site.now.depth (at_tree c.in-Some.item.now) c.code-code.ensures c.in_err-element-in-Some.ensures.means) c.from_residual.ensures)
+    (does_err _ _ (coded (meaning g.S.Space.accesses) _ _ c.args.job.now.site.now.scope.path.now c.args.job.now.site.now.depth (at_tree c.in-Some.item) c.code-code.ensures c.in_err-element-in-Some.ensures.means) c.from_residual.ensures)
 
 pub data::eval_elements-items-preserved : goal.data::eval_elements-items-preserved
 data::eval_elements-items-preserved g t c = (
   let d = c.items.invariant.0 in let e = c.eval_element.ensures.spent in omega arith,
   rw (c.in_ok-push-in-Some.ensures.ok) (same_ok _ _ (same_element (meaning g.S.Space.accesses) c.args.job.now.site.now.scope.path.now c.args.job.now.site.now.depth c.items.left _ c.items.elements c.items.invariant.1 (c.take_first-taken.ensures.first _ c.in-Some.is) (omega arith))
-      (coded (meaning g.S.Space.accesses) _ _ c.args.job.now.site.now.scope.path.now c.args.job.now.site.now.depth (at_tree c.in-Some.item.now) c.code-code.ensures c.in_ok-element-in-Some.ensures.means)),
+      (coded (meaning g.S.Space.accesses) _ _ c.args.job.now.site.now.scope.path.now c.args.job.now.site.now.depth (at_tree c.in-Some.item) c.code-code.ensures c.in_ok-element-in-Some.ensures.means)),
 )
 
 pub data::eval_elements-returns-clause-means : goal.data::eval_elements-returns-clause-means
