@@ -90,7 +90,7 @@ impl Arities {
         self.entries.is_empty()
     }
 
-    /// Adds a path, declared or named by an External, as the latest. All memory is taken before anything changes. It is refused
+    /// Adds a path, declared or named by an External, as the latest. All memory is taken before the list changes. It is refused
     /// also where its nodes would be more than 2^32.
     pub fn add(&mut self, path: Path, count: u8, external: bool) -> Result<(), AllocError>
         ensures ok { OnOk result (self.new ≡ self.old ++ record { path = path; count = count; external = external } ∷ []) }
@@ -109,7 +109,7 @@ impl Arities {
 
     /// Adds all entries of others behind its own. Where memory runs out, or their nodes would be more than 2^32, nothing changes.
     ///
-    /// Only the entries of the shorter list are counted anew.
+    /// The nodes of the shorter list are found or made in the tree of the longer one, and its counts are put over or under the others.
     pub fn append(&mut self, added: Arities) -> Result<(), AllocError>
         ensures ok { OnOk result (self.new ≡ self.old ++ added) }
         ensures err { OnErr result (self.new ≡ self.old) }

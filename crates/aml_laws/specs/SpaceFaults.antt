@@ -1,4 +1,4 @@
--- Where a fault of the register space comes from: the last access that was made answered with it.
+-- Where a fault of the register space comes from: accesses lead to a space at which one more is answered with it.
 use Rattle.std.specs.Prelude.{◌≡◌, ◌≢◌, ℕ, Err}
 use Rattle.ar_space.specs.declared.refusal.SpaceFault.{SpaceFault}
 use Rattle.ar_space.specs.declared.space.Width.{Width}

@@ -16,9 +16,10 @@ pub fn noting_changes_no_report<S>()
 {}
 
 /// The accesses of a run are those of gathering, all of which are answered with values, then those of setting link after link, and then
-/// those of reading what each link is set to. Where the line of a link tells that it was refused by a fault of the register space, the
-/// last access that was made for this line was answered with that fault, and all those before it with values. With any other line, all
-/// accesses that were made for it were answered with values.
+/// those of reading what each link is set to. The accesses of setting, and those of reading, can be cut
+/// into one part for each line, in the order of the lines: where a line tells that its link was refused by a fault of the register space,
+/// the last access of its part was answered with that fault, and all those before it with values. With any other line, all accesses of
+/// its part were answered with values.
 pub fn the_lines_of_a_report_tell_of_their_accesses<S>()
     ensures { (accesses : Accesses S) (dry : Bool) (avoid : List ℕ) (before after : MachineState (WithNotes S)) (report : RoutingReport) →
         IsReport (noted accesses) dry avoid before after report → ReportTells report before.world.space after.world.space }
