@@ -1,3 +1,4 @@
 pub mod PathTrees
 pub mod TermOperands
 pub mod Counted
+pub mod Deepest

@@ -1,5 +1,5 @@
 -- How many arguments a path takes, and where a name is found among the paths that are known.
-use Rattle.std.specs.Prelude.{ℕ, zero, suc, List, [], ◌∷◌, ◌++◌, length, take, Bool, true, false, not, Option, Some, None, option_map, ◌&&◌, if◌then◌else◌}
+use Rattle.std.specs.Prelude.{ℕ, zero, suc, List, [], ◌∷◌, ◌++◌, length, take, Bool, true, false, not, Option, Some, None, option_map, is_some, ◌&&◌, if◌then◌else◌}
 use Rattle.aml_path.specs.declared.segment.Seg.{Seg}
 use Rattle.aml_path.specs.Paths.{Name, path_eq, is_searched}
 use Rattle.aml_grammar.specs.declared.arities.Arity.{Arity}
@@ -30,6 +30,18 @@ known arities path = option_map (λ n. path) (arity_at arities path)
 unfoldable pub search_up : List Arity → List Seg → List Seg → ℕ → Option (List Seg)
 search_up arities scope segments zero = known arities (take 0 scope ++ segments)
 search_up arities scope segments (suc n) = or_else (known arities (take (suc n) scope ++ segments)) (search_up arities scope segments n)
+
+-- the greatest number up to n of which something holds
+abbrev pub greatest : (ℕ → Bool) → ℕ → Option ℕ
+greatest holds zero = if holds zero then Some zero else None
+greatest holds (suc n) = if holds (suc n) then Some (suc n) else greatest holds n
+
+-- whether some segments below the first n segments of a scope are a path that is known, and whether an External names it
+abbrev pub is_known_below : List Arity → List Seg → List Seg → ℕ → Bool
+is_known_below arities scope segments n = is_some (arity_at arities (take n scope ++ segments))
+
+abbrev pub is_told_below : List Arity → List Seg → List Seg → ℕ → Bool
+is_told_below arities scope segments n = is_some (latest (take n scope ++ segments) true arities)
 
 -- the path where a name is found that stands, without a search, for a path
 unfoldable pub found : List Arity → List Seg → Name → List Seg → Option (List Seg)

@@ -1,5 +1,5 @@
 -- The latest argument counts of paths, by the numbers of the paths.
-use Rattle.std.specs.Prelude.{◌≡◌, ◌<◌, ℕ, List, [], ◌∷◌, length, map, get_or, set, Bool, true, false, Option, Some, None, refl}
+use Rattle.std.specs.Prelude.{◌≡◌, ◌<◌, ℕ, List, [], ◌∷◌, ◌++◌, length, map, take, get_or, set, Bool, true, false, Option, Some, None, is_some, ◌&&◌, ◌||◌, refl}
 use Rattle.std.specs.Coded.{Coded, code_by, coded×, coded_list, coded_option, coded_ℕ}
 use Rattle.aml_path.specs.contracts.segment.Seg as seg
 use Rattle.aml_path.specs.declared.segment.Seg.{Seg}
@@ -48,6 +48,18 @@ count_at cs external (Some n) = count_of (counts_at cs n) external
 -- the count of a path, among those of one sort
 abbrev pub shown : Counted → List Seg → Bool → Option ℕ
 shown t path external = count_at t.counts external (number_of path t.paths)
+
+-- whether there is a count: one that an External tells, or any
+abbrev pub is_counted : Bool → Counts → Bool
+is_counted any c = is_some c.external || (any && is_some c.declared)
+
+-- the same of a path
+abbrev pub is_shown : Bool → Counted → List Seg → Bool
+is_shown any t path = is_some (shown t path true) || (any && is_some (shown t path false))
+
+-- whether some segments below the first n segments of a scope have one
+abbrev pub is_shown_below : Bool → Counted → List Seg → List Seg → ℕ → Bool
+is_shown_below any t scope segments n = is_shown any t (take n scope ++ segments)
 
 -- one count more of the path with a number
 abbrev pub with_added : Counted → ℕ → ℕ → Bool → Counted

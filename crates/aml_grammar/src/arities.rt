@@ -1,11 +1,11 @@
 //! How many arguments a path takes.
-ghost use Rattle.std.specs.Prelude.{List, ◌≡◌, ◌==◌, ◌++◌, ◌∷◌, [], OnOk, OnErr, IfOk, length, map};
+ghost use Rattle.std.specs.Prelude.{ℕ, Bool, List, ◌≡◌, ◌==◌, ◌||◌, ◌++◌, ◌∷◌, [], OnOk, OnErr, IfOk, length, map};
 ghost use Rattle.aml_grammar.specs.declared.arities.Arity.{Arity};
-ghost use Rattle.aml_grammar.specs.Arities.{latest, arity_at};
+ghost use Rattle.aml_grammar.specs.Arities.{latest, arity_at, greatest, is_told_below};
 ghost use Rattle.aml_grammar.specs.Counts.{Placed, moved_by};
 
 use crate::counts::CountTree;
-use aml_path::Path;
+use aml_path::{Path, Seg};
 use std::alloc::{AllocError, Global};
 use std::marker::Model;
 
@@ -22,8 +22,9 @@ pub struct Arity {
 
 /// Argument counts, lent by whoever knows them: readers of terms look them up, and copy none.
 pub trait ArgumentCounts {
-    ghost use Rattle.std.specs.Prelude.{List};
+    ghost use Rattle.std.specs.Prelude.{List, length};
     ghost use Rattle.aml_grammar.specs.declared.arities.Arity.{Arity};
+    ghost use Rattle.aml_grammar.specs.Arities.{greatest, is_known_below};
 
     /// The counts, the latest last.
     ghost counts: { Self → List Arity };
@@ -31,6 +32,11 @@ pub trait ArgumentCounts {
     /// The count of the last entry of a path, among those of one sort. It takes no memory.
     fn latest(&self, path: &Path, external: bool) -> Option<u8>
         ensures { result ≡ latest path.now external (counts self.now) };
+
+    /// How many segments of a scope lead to the place below which some segments are a path with a count: of all such places, from the
+    /// root down to the scope itself, the deepest. It takes no memory.
+    fn deepest(&self, scope: &Path, segments: &[Seg]) -> Option<usize>
+        ensures { result ≡ greatest (is_known_below (counts self.now) scope.now segments.now) (length scope.now) };
 }
 
 /// An entry: the number of its path, and the rest of an `Arity`. Numbers are `u32` to save memory.
@@ -148,6 +154,13 @@ impl Arities {
         Ok(())
     }
 
+    /// As `deepest`, of the paths that Externals name. It takes no memory.
+    pub fn deepest_external(&self, scope: &Path, segments: &[Seg]) -> Option<usize>
+        ensures { result ≡ greatest (is_told_below self.now scope.now segments.now) (length scope.now) }
+    {
+        self.names.deepest(false, scope, segments)
+    }
+
     /// How many arguments a path takes, where it is known. It takes no memory.
     #[tactic(auto, unfolding(crate::specs::Arities::arity_at))]
     pub fn arity_at(&self, path: &Path) -> Option<u8>
@@ -165,6 +178,24 @@ impl ArgumentCounts for Arities {
 
     fn latest(&self, path: &Path, external: bool) -> Option<u8> {
         self.names.latest(path, external)
+    }
+
+    fn deepest(&self, scope: &Path, segments: &[Seg]) -> Option<usize> {
+        self.names.deepest(true, scope, segments)
+    }
+}
+
+/// The greater of two depths: of the greatest of which one thing holds and the greatest of which another does, the greatest of which
+/// either holds.
+pub fn deeper(first: Option<usize>, second: Option<usize>) -> Option<usize>
+    ensures { (f g : ℕ → Bool) (n : ℕ) → first ≡ greatest f n → second ≡ greatest g n → result ≡ greatest (λ k. f k || g k) n }
+{
+    match first {
+        None => second,
+        Some(one) => match second {
+            None => first,
+            Some(other) => { if one < other { second } else { first } }
+        },
     }
 }
 

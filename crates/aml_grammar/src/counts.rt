@@ -1,11 +1,12 @@
 //! The latest argument counts, by path.
-ghost use Rattle.std.specs.Prelude.{◌≡◌, ◌<◌, ◌≤◌, ℕ, List, [], ◌∷◌, IfOk, OnOk, length, get_or};
+ghost use Rattle.std.specs.Prelude.{◌≡◌, ◌<◌, ◌≤◌, ◌++◌, ℕ, List, [], ◌∷◌, Some, IfOk, OnOk, length, get_or, if◌then◌else◌};
 ghost use Rattle.aml_path.specs.declared.segment.Seg.{Seg as Segment};
 ghost use Rattle.aml_grammar.specs.PathTree.{number_of, Kept, Leads};
-ghost use Rattle.aml_grammar.specs.Counts.{count_of, counts_at, with_count, over, shown, with_added, SameCounts, BothCounts};
+ghost use Rattle.aml_grammar.specs.Arities.{greatest};
+ghost use Rattle.aml_grammar.specs.Counts.{count_of, counts_at, with_count, over, shown, is_counted, is_shown, is_shown_below, with_added, SameCounts, BothCounts};
 
 use crate::path_tree::PathTree;
-use aml_path::Path;
+use aml_path::{Path, Seg};
 use std::alloc::{AllocError, Global};
 use std::marker::Model;
 
@@ -65,6 +66,44 @@ impl CountTree {
             None => None,
             Some(node) => self.at(node, external),
         }
+    }
+
+    /// How many segments of a scope lead to the place below which some segments have a count, the longest such way from the root
+    /// down: a count that an External tells, or, with `any`, also one that a declaration has. It takes no memory.
+    pub(crate) fn deepest(&self, any: bool, scope: &Path, segments: &[Seg]) -> Option<usize>
+        ensures { result ≡ greatest (is_shown_below any self.now scope.now segments.now) (length scope.now) }
+    {
+        let mut node = self.tree.root();
+        let mut depth = 0;
+        let mut deepest = deepest_so_far(None, self.is_shown(any, node, segments), depth);
+        let steps = scope.segments();
+        for step in steps {
+            match self.tree.below(node, *step) {
+                None => return deepest,
+                Some(next) => node = next,
+            }
+            depth += 1;
+            deepest = deepest_so_far(deepest, self.is_shown(any, node, segments), depth);
+        }
+        deepest
+    }
+
+    /// Whether some segments below the node with a number have a count.
+    fn is_shown(&self, any: bool, node: u32, segments: &[Seg]) -> bool
+        requires { node < length self.now.paths }
+        ensures { result ≡ is_shown any self.now (get_or self.now.paths node [] ++ segments.now) }
+    {
+        match self.tree.descend(node, segments) {
+            None => false,
+            Some(below) => self.is_counted(any, below),
+        }
+    }
+
+    /// Whether the path with a number has a count.
+    fn is_counted(&self, any: bool, node: u32) -> bool
+        ensures { result ≡ is_counted any (counts_at self.now.counts node) }
+    {
+        self.at(node, true).is_some() || any && self.at(node, false).is_some()
     }
 
     /// The latest count under a number, among those of one sort.
@@ -162,6 +201,13 @@ fn put_under(counts: &mut Vec<Counts>, earlier: &[Counts], nodes: &[u32])
         let place = nodes[node] as usize;
         counts[place] = over(counts[place], earlier[node]);
     }
+}
+
+/// The depth, where something holds there, or else the depth so far.
+fn deepest_so_far(so_far: Option<usize>, holds: bool, depth: usize) -> Option<usize>
+    ensures { result ≡ if holds then Some depth else so_far }
+{
+    if holds { Some(depth) } else { so_far }
 }
 
 /// The count of one sort.

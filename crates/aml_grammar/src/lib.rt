@@ -14,7 +14,7 @@ mod term;
 mod term_part;
 mod term_reader;
 
-pub use arities::{ArgumentCounts, Arities, Arity};
+pub use arities::{ArgumentCounts, Arities, Arity, deeper};
 pub use context::{Context, Earlier, Position};
 pub use counts::Counts;
 pub use kinds::{Class, OperandKind, OperandKinds, Row};

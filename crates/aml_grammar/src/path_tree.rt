@@ -47,8 +47,8 @@ impl PathTree {
         self.steps.len() + 1
     }
 
-    /// The number of the root.
-    fn root(&self) -> u32
+    /// The number of the root. It takes no memory.
+    pub(crate) fn root(&self) -> u32
         ensures { number_of [] self.now ≡ Some result }
     {
         // The steps are read for what holds of them.
@@ -104,12 +104,14 @@ impl PathTree {
         self.steps[before]
     }
 
-    /// The number of a path. It takes no memory.
-    pub(crate) fn find(&self, path: &Path) -> Option<u32>
-        ensures { result ≡ number_of path.now self.now }
+    /// The number of the path that some segments lead to from a node. It takes no memory.
+    pub(crate) fn descend(&self, start: u32, segments: &[Seg]) -> Option<u32>
+        requires { start < length self.now }
+        ensures { result ≡ number_of (get_or self.now start [] ++ segments.now) self.now }
     {
-        let mut node = self.root();
-        let segments = path.segments();
+        // The steps are read for what holds of them.
+        let _steps = &self.steps;
+        let mut node = start;
         for segment in segments {
             match self.below(node, *segment) {
                 None => return None,
@@ -117,6 +119,13 @@ impl PathTree {
             }
         }
         Some(node)
+    }
+
+    /// The number of a path. It takes no memory.
+    pub(crate) fn find(&self, path: &Path) -> Option<u32>
+        ensures { result ≡ number_of path.now self.now }
+    {
+        self.descend(self.root(), path.segments())
     }
 
     /// The number of a path, which is given one where it has none. It is refused also where no number is left.

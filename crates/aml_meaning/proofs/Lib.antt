@@ -2,6 +2,7 @@ pub mod Agree
 pub mod AgreeFields
 pub mod AgreeTerms
 pub mod BodyCounts
+pub mod BodyDepths
 pub mod Declared
 pub mod Exports
 pub mod Filling

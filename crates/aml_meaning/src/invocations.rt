@@ -4,7 +4,7 @@ ghost use Rattle.std.specs.Prelude as list;
 ghost use Rattle.std.specs.FinMap.{get};
 ghost use Rattle.ar_space.specs.Change.{Does};
 ghost use Rattle.ar_space.specs.Outcome.{Answers, NotMemory, seen};
-ghost use Rattle.aml_path.specs.declared.segment.Seg.{Seg};
+ghost use Rattle.aml_path.specs.declared.segment.Seg.{Seg as Segment};
 ghost use Rattle.aml_objects.specs.declared.entry.Entry.{Entry};
 ghost use Rattle.aml_namespace.specs.Namespace.{numbered};
 ghost use Rattle.aml_namespace.specs.Search.{found};
@@ -14,10 +14,10 @@ ghost use Rattle.aml_meaning.specs.Invocations.{invocation_of_body, invocation_o
 use crate::invocation::Invocation;
 use crate::readings::{arguments_of, as_many, read_as};
 use crate::world_state::WorldState;
-use aml_grammar::ArgumentCounts;
+use aml_grammar::{ArgumentCounts, deeper};
 use aml_namespace::{Names, Scope};
 use aml_objects::{Entry, Field, MethodBody, NamedObject, NodeId, Reference, Value};
-use aml_path::{NameString, Path};
+use aml_path::{NameString, Path, Seg};
 use ar_space::{NamespaceFault, Refusal};
 use std::alloc::Global;
 
@@ -52,7 +52,7 @@ impl<S> WorldState<S> {
 
     /// How many arguments it takes to evaluate the node with an id: those of a control method, none of anything else.
     pub fn arguments_at(&self, id: NodeId) -> u8
-        ensures { (f : List Seg × Entry) → numbered id.number self.now.names.map ≡ Some f → result ≡ arguments_of f.1.object }
+        ensures { (f : List Segment × Entry) → numbered id.number self.now.names.map ≡ Some f → result ≡ arguments_of f.1.object }
     {
         match self.names.node(id) {
             None => 0,
@@ -63,7 +63,7 @@ impl<S> WorldState<S> {
     /// What the node is that a name finds, where a value stands with so many arguments.
     #[tactic(auto, using(ar_space::specs::Change::changing), unfolding(crate::specs::Invocations::use_found))]
     fn use_with(&self, alloc: Global, id: NodeId, count: usize) -> Result<Invocation, Refusal>
-        ensures { (f : List Seg × Entry) → numbered id.number self.now.names.map ≡ Some f → Does result self.now (use_found f count) self.now }
+        ensures { (f : List Segment × Entry) → numbered id.number self.now.names.map ≡ Some f → Does result self.now (use_found f count) self.now }
     {
         as_many(self.arguments_at(id), count)?;
         self.use_of(alloc, id)
@@ -87,7 +87,7 @@ impl<S> WorldState<S> {
 
     /// What the node is that a name finds, where a value stands.
     pub fn use_of(&self, alloc: Global, id: NodeId) -> Result<Invocation, Refusal>
-        ensures { (f : List Seg × Entry) → numbered id.number self.now.names.map ≡ Some f → Answers result (invocation_of_object f.0 f.1.number f.1.object) }
+        ensures { (f : List Segment × Entry) → numbered id.number self.now.names.map ≡ Some f → Answers result (invocation_of_object f.0 f.1.number f.1.object) }
     {
         let Some(entry) = self.names.node(id) else {
             return Err(Refusal::Namespace(NamespaceFault::NotFound));
@@ -102,7 +102,7 @@ impl<S> WorldState<S> {
     }
 
     fn call_of(&self, alloc: Global, id: NodeId, body: &MethodBody) -> Result<Invocation, Refusal>
-        ensures { (f : List Seg × Entry) → numbered id.number self.now.names.map ≡ Some f → Answers result (invocation_of_body f.0 body.now) }
+        ensures { (f : List Segment × Entry) → numbered id.number self.now.names.map ≡ Some f → Answers result (invocation_of_body f.0 body.now) }
     {
         match body {
             MethodBody::Osi => Ok(Invocation::Osi),
@@ -134,6 +134,22 @@ impl<S> ArgumentCounts for WorldState<S> {
         } else {
             count_at(&self.names, path)
         }
+    }
+
+    fn deepest(&self, scope: &Path, segments: &[Seg]) -> Option<usize> {
+        let named = depth_of(self.names.nearest(scope, segments));
+        let told = self.arities.deepest_external(scope, segments);
+        deeper(named, told)
+    }
+}
+
+/// How many segments of a scope lead to what was found.
+fn depth_of(near: Option<(usize, NodeId)>) -> Option<usize>
+    ensures { result ≡ list.option_map (λ n. n.0) near }
+{
+    match near {
+        None => None,
+        Some((depth, _)) => Some(depth),
     }
 }
 

@@ -10,6 +10,7 @@ pub mod Declaring
 pub mod Climbing
 pub mod Scopes
 pub mod Searching
+pub mod NearestScopes
 pub mod Cutting
 pub mod Changes
 pub mod Ascent

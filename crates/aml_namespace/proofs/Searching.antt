@@ -1,8 +1,9 @@
 -- Steps of a search, and names that are resolved.
-use Rattle.std.proofs.Common.{◌≡◌, ◌≢◌, ℕ, zero, suc, ◌+◌, ◌-◌, ◌<◌, ◌≤◌, ◌++◌, ◌∷◌, [], List, take, length, Option, Some, None, Ok, Err, refl, ap, sym, ◌∙◌, arith, length-append}
+use Rattle.std.proofs.Common.{◌≡◌, ◌≢◌, ℕ, zero, suc, ◌+◌, ◌-◌, ◌<◌, ◌≤◌, ◌++◌, ◌∷◌, [], List, take, length, Option, Some, None, Ok, Err, refl, ap, sym, ◌∙◌, arith, inl, inr, length-append}
 use Rattle.std.specs.Prelude.{true, false, nat_lt}
 use Rattle.std.specs.Option.{option_map}
 use Rattle.std.proofs.lemmas.List.{take_all, take-append-le}
+use Rattle.std.proofs.lemmas.Bool.{cases_lt}
 use Rattle.std.proofs.lemmas.Bool.Decides.{nat_tests}
 use Rattle.ar_space.specs.declared.refusal.Refusal.{Refusal}
 use Rattle.ar_space.specs.declared.refusal.Refusal.TheVariants as refusal
@@ -67,6 +68,14 @@ module _ (m : Map) (scope segments : List Seg) where
   unfolding search_up
   search_next zero is some = absurd (some refl)
   search_next (suc n) is some = let back : suc n - 1 ≡ n = omega arith in rw (is, back) refl
+
+  -- where nothing stands further down
+  pub search_ends : (n k : ℕ) → n ≤ k → ((j : ℕ) → n < j → at_path m (take j scope ++ segments) ≡ None) → search_up m scope segments k ≡ search_up m scope segments n
+  search_ends n zero le none = let e : zero ≡ n = omega (arith, le) in ap (search_up m scope segments) e
+  search_ends n (suc k) le none = elim (cases_lt n (suc k)) [
+    | inl lt ↦ search_next (suc k) (none (suc k) lt) (λ e. cc e) ∙ ap (search_up m scope segments) (omega arith) ∙ search_ends n k (omega (arith, lt)) none
+    | inr ge ↦ (let e : suc k ≡ n = omega (arith, le, ge) in ap (search_up m scope segments) e)
+  ]
 
   whole : take (length scope) scope ≡ scope
   whole = take_all (length scope) scope (omega arith)

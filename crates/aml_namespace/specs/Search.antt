@@ -20,9 +20,9 @@ abbrev pub at_path : Map → List Seg → Option Found
 at_path m p = option_map (λ e. (p, e)) (get m p)
 
 -- the first of two, if there is one
-abbrev pub or_else : Option Found → Option Found → Option Found
+abbrev pub or_else : {A : Type 0} → Option A → Option A → Option A
 or_else None o = o
-or_else (Some f) o = Some f
+or_else (Some x) o = Some x
 
 -- what stands at some segments below a prefix of the scope: the longest of those of at most n segments counts
 unfoldable pub search_up : Map → List Seg → List Seg → ℕ → Option Found

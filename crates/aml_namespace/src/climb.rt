@@ -1,5 +1,5 @@
 //! Ways through the tree by ids: up to the nodes above, and down to those below.
-ghost use Rattle.std.specs.Prelude.{◌≡◌, ◌<◌, ◌++◌, List, [], Some, Ok, IfSome, MatchOption, length, option_map};
+ghost use Rattle.std.specs.Prelude.{◌≡◌, ◌<◌, ◌++◌, List, [], ◌∷◌, None, Some, Ok, IfSome, MatchOption, length, option_map};
 ghost use Rattle.ar_space.specs.Outcome.{Answers};
 ghost use Rattle.aml_path.specs.declared.segment.Seg.{Seg};
 ghost use Rattle.aml_objects.specs.declared.entry.Entry.{Entry};
@@ -7,7 +7,7 @@ ghost use Rattle.aml_namespace.specs.Namespace.{numbered};
 ghost use Rattle.aml_namespace.specs.Search.{at_path, IsParent, IsAncestor};
 
 use crate::names::{Names, root_id};
-use crate::tree::descend;
+use crate::tree::{child, descend};
 use aml_objects::NodeId;
 use aml_path::{Path, Seg};
 use ar_space::Refusal;
@@ -59,6 +59,14 @@ impl Names {
         ensures { (f : List Seg × Entry) → numbered id.number self.now.map ≡ Some f → option_map (λ id. numbered id.number self.now.map) result ≡ option_map Some (at_path self.now.map (f.0 ++ segments.now)) }
     {
         descend(&self.index, id, segments)
+    }
+
+    /// The node one segment below one that stands. Where there is none, nothing stands further below either.
+    pub(crate) fn child_of(&self, id: NodeId, segment: Seg) -> Option<NodeId>
+        ensures here { (f : List Seg × Entry) → numbered id.number self.now.map ≡ Some f → option_map (λ id. numbered id.number self.now.map) result ≡ option_map Some (at_path self.now.map (f.0 ++ segment ∷ [])) }
+        ensures deeper { (f : List Seg × Entry) → numbered id.number self.now.map ≡ Some f → result ≡ None → (rest : List Seg) → at_path self.now.map (f.0 ++ segment ∷ rest) ≡ None }
+    {
+        child(&self.index, id.number, segment)
     }
 
     /// The path of the node with an id; none where its declaration doesn't stand.

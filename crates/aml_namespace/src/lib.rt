@@ -7,6 +7,7 @@ pub mod laws;
 mod located;
 mod mutexes;
 mod names;
+mod nearest;
 mod node;
 mod nodes;
 mod removal;

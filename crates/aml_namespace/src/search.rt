@@ -98,30 +98,13 @@ impl Names {
         }
     }
 
-    /// What stands at some segments in a scope's path, or in the nearest scope above it. Where the scope stands, the way up is
-    /// from node to node.
+    /// What stands at some segments in a scope's path, or in the nearest scope above it; the scope need not stand.
     fn search_from(&self, scope: &Path, segments: &[Seg]) -> Option<NodeId>
         ensures { option_map (λ id. numbered id.number self.now.map) result ≡ option_map Some (search_up self.now.map scope.now segments.now (length scope.now)) }
     {
-        match self.at(&[], scope.segments()) {
-            Some(id) => self.search_above(id, segments),
-            None => self.search_up(scope, segments),
-        }
-    }
-
-    /// What stands at some segments in a scope's path, or in the nearest scope above it; the scope need not stand.
-    fn search_up(&self, scope: &Path, segments: &[Seg]) -> Option<NodeId>
-        ensures { option_map (λ id. numbered id.number self.now.map) result ≡ option_map Some (search_up self.now.map scope.now segments.now (length scope.now)) }
-    {
-        let mut depth = scope.depth();
-        'scopes: loop {
-            if let Some(found) = self.at(&scope.segments()[..depth], segments) {
-                return Some(found);
-            }
-            if depth == 0 {
-                return None;
-            }
-            depth -= 1;
+        match self.nearest(scope, segments) {
+            None => None,
+            Some((_, found)) => Some(found),
         }
     }
 

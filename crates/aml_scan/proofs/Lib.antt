@@ -6,6 +6,7 @@ pub mod RowPlaces
 pub mod Rows
 pub mod ScanLoops
 pub mod Scans
+pub mod Searches
 pub mod Segments
 pub mod SpelledNames
 pub mod SpelledNumbers

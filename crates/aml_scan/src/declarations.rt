@@ -1,10 +1,10 @@
 //! The arities that hold while a list is read.
 ghost use Rattle.std.specs.Prelude.{◌≡◌, ◌≤◌, ◌++◌, ◌∷◌, [], Ok, OnOk, length};
 ghost use Rattle.ar_space.specs.Outcome.{Answers};
-ghost use Rattle.aml_grammar.specs.Arities.{latest, arity_at, known, search_up, found, arity_of, or_path};
+ghost use Rattle.aml_grammar.specs.Arities.{latest, arity_at, known, greatest, is_known_below, search_up, found, arity_of, or_path};
 
 use crate::before::Before;
-use aml_grammar::{ArgumentCounts, Arities};
+use aml_grammar::{ArgumentCounts, Arities, deeper};
 use aml_path::{NameString, Path, Seg};
 use ar_space::Refusal;
 use std::alloc::{AllocError, Global};
@@ -89,7 +89,7 @@ impl<'a, C: ArgumentCounts, B: Before> Declarations<'a, C, B> {
         if !name.is_searched() {
             return Ok(self.arity_at(path).unwrap_or(0));
         }
-        match self.search_up(alloc, scope, name.segments(), scope.depth())? {
+        match self.search(alloc, scope, name.segments())? {
             None => Ok(0),
             Some(found) => Ok(self.arity_at(&found).unwrap_or(0)),
         }
@@ -109,33 +109,34 @@ impl<'a, C: ArgumentCounts, B: Before> Declarations<'a, C, B> {
         if !name.is_searched() {
             return Ok(path);
         }
-        match self.search_up(alloc, scope, name.segments(), scope.depth())? {
+        match self.search(alloc, scope, name.segments())? {
             None => Ok(path),
             Some(found) => Ok(found),
         }
     }
 
-    /// Tries below the first `depth` segments of the scope, and then below fewer. It keeps one path at a time.
-    #[tactic(auto, using(ar_space::specs::Outcome::answering), unfolding(aml_grammar::specs::Arities::search_up))]
-    fn search_up(
+    /// The path where some segments are found below the scope, or below the nearest one above it.
+    #[tactic(auto, using(ar_space::specs::Outcome::answering))]
+    fn search(
         &self,
         alloc: Global,
         scope: &Path,
         segments: &[Seg],
-        mut depth: usize,
     ) -> Result<Option<Path>, Refusal>
-        requires { depth ≤ length scope.now }
-        ensures { Answers result (Ok (search_up self.now scope.now segments.now depth)) }
+        ensures { Answers result (Ok (search_up self.now scope.now segments.now (length scope.now))) }
     {
-        'scopes: loop {
-            let path = scope.below_prefix(alloc, depth, segments)?;
-            if self.arity_at(&path).is_some() {
-                return Ok(Some(path));
-            }
-            if depth == 0 {
-                return Ok(None);
-            }
-            depth -= 1;
+        match self.deepest(scope, segments) {
+            None => Ok(None),
+            Some(depth) => Ok(Some(scope.below_prefix(alloc, depth, segments)?)),
         }
+    }
+
+    /// As `ArgumentCounts::deepest`, of both lists together.
+    fn deepest(&self, scope: &Path, segments: &[Seg]) -> Option<usize>
+        ensures { result ≡ greatest (is_known_below self.now scope.now segments.now) (length scope.now) }
+    {
+        let added = self.added.deepest(scope, segments);
+        let lent = self.lent.deepest(scope, segments);
+        deeper(added, lent)
     }
 }
