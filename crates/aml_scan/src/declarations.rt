@@ -117,12 +117,7 @@ impl<'a, C: ArgumentCounts, B: Before> Declarations<'a, C, B> {
 
     /// The path where some segments are found below the scope, or below the nearest one above it.
     #[tactic(auto, using(ar_space::specs::Outcome::answering))]
-    fn search(
-        &self,
-        alloc: Global,
-        scope: &Path,
-        segments: &[Seg],
-    ) -> Result<Option<Path>, Refusal>
+    fn search(&self, alloc: Global, scope: &Path, segments: &[Seg]) -> Result<Option<Path>, Refusal>
         ensures { Answers result (Ok (search_up self.now scope.now segments.now (length scope.now))) }
     {
         match self.deepest(scope, segments) {
