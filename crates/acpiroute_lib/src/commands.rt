@@ -9,7 +9,8 @@ use acpiroute_words::{Answer, Request, check_answer};
 use ar_space::Refusal;
 use std::alloc::Global;
 
-/// The answer to a request over the whole input. A machine text is given up as soon as it is read, a report at the end.
+/// The answer to a request over the whole input. A machine text is given up as soon as it is read, before any table of it is loaded. A
+/// report is kept while `check` reads and judges it, and given up with the answer.
 pub(crate) fn answer_to(alloc: Global, request: Request, input: Vec<u8>) -> Result<Answer, Refusal>
     ensures { NotMemory result → IsAnswer request input.items result }
 {

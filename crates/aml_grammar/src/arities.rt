@@ -97,7 +97,7 @@ impl Arities {
     }
 
     /// Adds a path, declared or named by an External, as the latest. All memory is taken before the list changes. It is refused
-    /// also where its nodes would be more than 2^32.
+    /// also where the tree would have more than 2^32 nodes. Nodes that were made until then stay, without counts.
     pub fn add(&mut self, path: Path, count: u8, external: bool) -> Result<(), AllocError>
         ensures ok { OnOk result (self.new ≡ self.old ++ record { path = path; count = count; external = external } ∷ []) }
         ensures err { OnErr result (self.new ≡ self.old) }
@@ -113,9 +113,10 @@ impl Arities {
         Ok(())
     }
 
-    /// Adds all entries of others behind its own. Where memory runs out, or their nodes would be more than 2^32, nothing changes.
+    /// Adds all entries of others behind its own. Where memory runs out, or a tree would have more than 2^32 nodes, the list is as it was.
     ///
-    /// The nodes of the shorter list are found or made in the tree of the longer one, and its counts are put over or under the others.
+    /// The nodes of the list with fewer entries are found or made in the tree of the other. Then its own counts are put under those that
+    /// are added, or those that are added over its own.
     pub fn append(&mut self, added: Arities) -> Result<(), AllocError>
         ensures ok { OnOk result (self.new ≡ self.old ++ added) }
         ensures err { OnErr result (self.new ≡ self.old) }
@@ -127,7 +128,8 @@ impl Arities {
         }
     }
 
-    /// Takes entries over behind its own, with their tree, under whose counts it puts its own.
+    /// Takes entries over behind its own, with their tree, under whose counts it puts its own. All memory is taken before anything of its
+    /// own changes.
     fn take_over_with_names(&mut self, added: Arities) -> Result<(), AllocError>
         ensures ok { OnOk result (self.new ≡ self.old ++ added) }
         ensures err { OnErr result (self.new ≡ self.old) }
@@ -142,7 +144,8 @@ impl Arities {
         Ok(())
     }
 
-    /// Takes entries over behind its own. All memory is taken before anything changes.
+    /// Takes entries over behind its own, into its own tree, over whose counts it puts theirs. All memory is taken before the list or a
+    /// count changes; nodes that were made until then stay, without counts.
     fn take_over(&mut self, added: Arities) -> Result<(), AllocError>
         ensures ok { OnOk result (self.new ≡ self.old ++ added) }
         ensures err { OnErr result (self.new ≡ self.old) }

@@ -1,4 +1,5 @@
--- Where a fault of the register space comes from: accesses lead to a space at which one more is answered with it.
+-- Where a fault of the register space may come from: accesses lead to a space at which one more is answered with it. Which accesses were
+-- made is not said here: `Noted` says it of a space that notes them.
 use Rattle.std.specs.Prelude.{◌≡◌, ◌≢◌, ℕ, Err}
 use Rattle.ar_space.specs.declared.refusal.SpaceFault.{SpaceFault}
 use Rattle.ar_space.specs.declared.space.Width.{Width}
@@ -11,7 +12,8 @@ pub data Faults {S : Type 0} (accesses : Accesses S) (fault : SpaceFault) (befor
   read : (place : Place) (width : Width) → accesses.reads before place width ≡ (Err fault, after) → Faults accesses fault before after
   written : (place : Place) (width : Width) (value : ℕ) → accesses.writes before place width value ≡ (Err fault, after) → Faults accesses fault before after
 
--- accesses that are all answered with values reach a space at which one more answers with the fault; no access comes after it
+-- some accesses that are all answered with values reach a space at which one more answers with the fault, and that one leaves the space
+-- after
 pub record LastFaults {S : Type 0} (accesses : Accesses S) (fault : SpaceFault) (before after : S) : Type 0 where
   pub last : S
   pub reached : Answered accesses before last
