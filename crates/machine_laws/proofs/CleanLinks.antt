@@ -38,7 +38,7 @@ unfolding the_offer
 the_offer_clean (Some found) d = tt
 the_offer_clean None d = offer_of_clean d
 
-ok_or_clean : {A : Type 0} (o : Option A) (e : Refusal) → OfNoSpace e → Clean (ok_or o e)
+pub ok_or_clean : {A : Type 0} (o : Option A) (e : Refusal) → OfNoSpace e → Clean (ok_or o e)
 ok_or_clean None e apart = apart
 ok_or_clean (Some a) e apart = tt
 

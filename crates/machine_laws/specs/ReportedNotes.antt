@@ -1,10 +1,17 @@
 -- What the lines of a report tell of the accesses that were made for each of them.
-use Rattle.std.specs.Prelude.{◌≡◌, ℕ, ◌==◌, List, [], ◌∷◌, ◌++◌, Option, Some, None, if◌then◌else◌}
+use Rattle.std.specs.Prelude.{◌≡◌, ℕ, ◌==◌, Bool, List, [], ◌∷◌, ◌++◌, map, Option, Some, None, Ok, if◌then◌else◌}
 use Rattle.ar_space.specs.declared.refusal.SpaceFault.{SpaceFault}
 use Rattle.ar_space.specs.declared.refusal.SpaceFault.TheVariants.{NoRegister, Device}
+use Rattle.ar_space.specs.Accesses.{Accesses}
+use Rattle.ar_space.specs.Change.{Change}
 use Rattle.ar_space.specs.Numbers.{space_fault_number}
 use Rattle.recorded_space.specs.declared.exchange.Exchange.{Exchange}
-use Rattle.aml_laws.specs.Noted.{WithNotes, AllAnswered, EndsWith}
+use Rattle.aml_laws.specs.Noted.{WithNotes, noted, AllAnswered, EndsWith, TellsNotes}
+use Rattle.acpi_machine.specs.MachineStates.{MachineState}
+use Rattle.acpi_links.specs.Gathering.{Gathering}
+use Rattle.acpi_links.specs.Links.{PresentLink}
+use Rattle.acpi_configure.specs.Configured.{IsReport}
+use Rattle.acpi_configure.specs.Settling.{link_set, link_read}
 use Rattle.route_report.specs.declared.report.SetLine.{SetLine}
 use Rattle.route_report.specs.declared.report.SetOutcome.{SetOutcome}
 use Rattle.route_report.specs.declared.report.SetOutcome.TheVariants as outcome
@@ -40,18 +47,37 @@ SetTells line notes = OutcomeTells line.outcome notes
 abbrev pub AfterTells : ReportedAfter → List Exchange → Type 0
 AfterTells line notes = StateTells line.state notes
 
--- line after line, each tells of its own accesses
-abbrev pub EachTells : {L : Type 0} → (L → List Exchange → Type 0) → List L → List Exchange → Type 0
-EachTells tells [] notes = notes ≡ []
-EachTells tells (line ∷ lines) notes = (own : List Exchange) × (rest : List Exchange) × (notes ≡ own ++ rest) × tells line own × EachTells tells lines rest
+-- accesses: what the register space makes of them
+module _ {S : Type 0} (accesses : Accesses S) where
+  -- the calls that set links, each to the interrupt that it is given, in the order of the links
+  abbrev pub setting_calls : List PresentLink → List ℕ → List (Change (MachineState S) SetLine)
+  setting_calls [] ns = []
+  setting_calls (link ∷ links) [] = []
+  setting_calls (link ∷ links) (n ∷ ns) = link_set accesses link n ∷ setting_calls links ns
 
--- The notes after are those before, then those of gathering, none of which is a fault, then those of setting link after link, and those of
--- reading what each is set to then.
-pub record ReportTells {S : Type 0} (report : RoutingReport) (before after : WithNotes S) : Type 0 where
-  pub gathering : List Exchange
-  pub setting : List Exchange
-  pub reading : List Exchange
-  pub are : after.1 ≡ before.1 ++ gathering ++ setting ++ reading
-  pub answered : AllAnswered gathering
-  pub sets : EachTells SetTells report.sets setting
-  pub afters : EachTells AfterTells report.afters reading
+  -- the calls that read what each link is set to, in the same order
+  abbrev pub reading_calls : List PresentLink → List (Change (MachineState S) ReportedAfter)
+  reading_calls links = map (link_read accesses) links
+
+module _ {S L : Type 0} (tells : L → List Exchange → Type 0) where
+  -- a call of a machine makes this line, its accesses are noted behind those before, and the line tells of them
+  pub record LineTells (call : Change (MachineState (WithNotes S)) L) (before : MachineState (WithNotes S)) (line : L) : Type 0 where
+    pub own : List Exchange
+    pub is : (call before).0 ≡ Ok line
+    pub are : (call before).1.world.space.1 ≡ before.world.space.1 ++ own
+    pub told : tells line own
+
+  -- call after call makes a line, each of them on the machine that those before it left, and the line tells of the accesses of its own
+  -- call; the last call leaves the machine after
+  abbrev pub EachTells : List (Change (MachineState (WithNotes S)) L) → List L → MachineState (WithNotes S) → MachineState (WithNotes S) → Type 0
+  EachTells [] [] before after = after ≡ before
+  EachTells (call ∷ calls) (line ∷ lines) before after = LineTells call before line × EachTells calls lines (call before).1 after
+  EachTells calls lines before after = ⊥
+
+-- Of a report: all accesses of gathering were answered with values. Then come the calls that set the links that were found, each with
+-- its line `set`, and on the machine that they leave those that read the links, each with its line `after`. A dry run has none.
+pub record ReportTells {S : Type 0} (accesses : Accesses S) {dry : Bool} {avoid : List ℕ} {before after : MachineState (WithNotes S)} {report : RoutingReport} (is : IsReport (noted accesses) dry avoid before after report) : Type 0 where
+  pub gathering : TellsNotes {A = Gathering} (Ok is.found) before.world.space is.chosen_in.world.space
+  pub set_in : MachineState (WithNotes S)
+  pub sets : EachTells SetTells (if dry then [] else setting_calls (noted accesses) is.found.links is.answer.choice) report.sets is.chosen_in set_in
+  pub afters : EachTells AfterTells (if dry then [] else reading_calls (noted accesses) is.found.links) report.afters set_in after

@@ -10,4 +10,7 @@ pub use notes::{
     machine_faults_are_answers_of_the_last_access, noting_changes_no_call,
     routing_faults_are_answers_of_the_last_access,
 };
-pub use reports::{noting_changes_no_report, the_lines_of_a_report_tell_of_their_accesses};
+pub use reports::{
+    a_line_of_a_report_tells_of_its_accesses, noting_changes_no_report,
+    the_lines_of_a_report_tell_of_their_accesses,
+};

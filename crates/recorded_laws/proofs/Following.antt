@@ -65,16 +65,16 @@ module _ {S : Type 0} (accesses : Accesses S) where
   Follows r s = (r.missing ≡ None) × Gives accesses (drop r.used r.entries) s
 
   -- what an access came to over the record and over the space
-  abbrev pub Step : {A : Type 0} → Result A SpaceFault × Recording → Result A SpaceFault × S → Type 0
-  Step p q = HasMissed p.1 ⊎ ((q.0 ≡ p.0) × Follows p.1 q.1)
+  abbrev pub CameTo : {A : Type 0} → Result A SpaceFault × Recording → Result A SpaceFault × S → Type 0
+  CameTo p q = HasMissed p.1 ⊎ ((q.0 ≡ p.0) × Follows p.1 q.1)
 
   pub read_steps : (entries : List Exchange) (used : ℕ) (s : S) (place : Place) (width : Width) (said : Option (Result ℕ SpaceFault)) → said_by (slice_get entries used) (read_answer place width) ≡ said → Gives accesses (drop used entries) s
-      → Step (answered (standing entries used) (Read place width) said) (accesses.reads s place width)
+      → CameTo (answered (standing entries used) (Read place width) said) (accesses.reads s place width)
   read_steps entries used s place width None is gives = inl (Read place width, refl)
   read_steps entries used s place width (Some answer) is gives = let given = read_given accesses entries used s place width answer is gives in inr (given.0, (refl, given.1))
 
   pub write_steps : (entries : List Exchange) (used : ℕ) (s : S) (place : Place) (width : Width) (value : ℕ) (said : Option (Result (Unit {0}) SpaceFault)) → said_by (slice_get entries used) (write_answer place width value) ≡ said
-      → Gives accesses (drop used entries) s → Step (answered (standing entries used) (Write place width value) said) (accesses.writes s place width value)
+      → Gives accesses (drop used entries) s → CameTo (answered (standing entries used) (Write place width value) said) (accesses.writes s place width value)
   write_steps entries used s place width value None is gives = inl (Write place width value, refl)
   write_steps entries used s place width value (Some answer) is gives = let given = write_given accesses entries used s place width value answer is gives in inr (given.0, (refl, given.1))
 
@@ -82,8 +82,8 @@ module _ {S : Type 0} (accesses : Accesses S) where
   following = record {
     InStep = Follows;
     Parted = λ r s. HasMissed r;
-    reads = λ r s place width i. subst (λ (x : Recording). Step (recorded.reads x place width) (accesses.reads s place width)) (sym (stands_so r i.0)) (read_steps r.entries r.used s place width _ refl i.1);
-    writes = λ r s place width value i. subst (λ (x : Recording). Step (recorded.writes x place width value) (accesses.writes s place width value)) (sym (stands_so r i.0)) (write_steps r.entries r.used s place width value _ refl i.1);
+    reads = λ r s place width i. subst (λ (x : Recording). CameTo (recorded.reads x place width) (accesses.reads s place width)) (sym (stands_so r i.0)) (read_steps r.entries r.used s place width _ refl i.1);
+    writes = λ r s place width value i. subst (λ (x : Recording). CameTo (recorded.writes x place width value) (accesses.writes s place width value)) (sym (stands_so r i.0)) (write_steps r.entries r.used s place width value _ refl i.1);
     left_reads = λ r s place width p. read_misses r place width p;
     left_writes = λ r s place width value p. write_misses r place width value p;
     right_reads = λ r s place width p. p;
@@ -109,16 +109,16 @@ module _ {S : Type 0} (accesses : Accesses S) where
   abbrev pub FollowsListed : Recording → S × List Access → Type 0
   FollowsListed r s = (r.missing ≡ None) × Gives accesses (drop r.used r.entries) s.0 × (length s.1 ≡ r.used)
 
-  abbrev pub ListedStep : {A : Type 0} → Result A SpaceFault × Recording → Result A SpaceFault × (S × List Access) → Type 0
-  ListedStep p q = HasMissedNext p.1 q.1.1 ⊎ ((q.0 ≡ p.0) × FollowsListed p.1 q.1)
+  abbrev pub CameToListed : {A : Type 0} → Result A SpaceFault × Recording → Result A SpaceFault × (S × List Access) → Type 0
+  CameToListed p q = HasMissedNext p.1 q.1.1 ⊎ ((q.0 ≡ p.0) × FollowsListed p.1 q.1)
 
   pub read_steps_listed : (entries : List Exchange) (used : ℕ) (s : S × List Access) (place : Place) (width : Width) (said : Option (Result ℕ SpaceFault)) → said_by (slice_get entries used) (read_answer place width) ≡ said
-      → Gives accesses (drop used entries) s.0 → length s.1 ≡ used → ListedStep (answered (standing entries used) (Read place width) said) ((listed accesses).reads s place width)
+      → Gives accesses (drop used entries) s.0 → length s.1 ≡ used → CameToListed (answered (standing entries used) (Read place width) said) ((listed accesses).reads s place width)
   read_steps_listed entries used s place width None is gives at = inl (Read place width, refl, got_last s.1 used (Read place width) at)
   read_steps_listed entries used s place width (Some answer) is gives at = let given = read_given accesses entries used s.0 place width answer is gives in inr (given.0, (refl, given.1, one_more s.1 used (Read place width) at))
 
   pub write_steps_listed : (entries : List Exchange) (used : ℕ) (s : S × List Access) (place : Place) (width : Width) (value : ℕ) (said : Option (Result (Unit {0}) SpaceFault)) → said_by (slice_get entries used) (write_answer place width value) ≡ said
-      → Gives accesses (drop used entries) s.0 → length s.1 ≡ used → ListedStep (answered (standing entries used) (Write place width value) said) ((listed accesses).writes s place width value)
+      → Gives accesses (drop used entries) s.0 → length s.1 ≡ used → CameToListed (answered (standing entries used) (Write place width value) said) ((listed accesses).writes s place width value)
   write_steps_listed entries used s place width value None is gives at = inl (Write place width value, refl, got_last s.1 used (Write place width value) at)
   write_steps_listed entries used s place width value (Some answer) is gives at =
       let given = write_given accesses entries used s.0 place width value answer is gives in inr (given.0, (refl, given.1, one_more s.1 used (Write place width value) at))
@@ -127,9 +127,9 @@ module _ {S : Type 0} (accesses : Accesses S) where
   following_listed = record {
     InStep = FollowsListed;
     Parted = λ r s. HasMissedNext r s.1;
-    reads = λ r s place width i. subst (λ (x : Recording). ListedStep (recorded.reads x place width) ((listed accesses).reads s place width)) (sym (stands_so r i.0)) (read_steps_listed r.entries r.used s place width _ refl i.1 i.2);
+    reads = λ r s place width i. subst (λ (x : Recording). CameToListed (recorded.reads x place width) ((listed accesses).reads s place width)) (sym (stands_so r i.0)) (read_steps_listed r.entries r.used s place width _ refl i.1 i.2);
     writes = λ r s place width value i.
-        subst (λ (x : Recording). ListedStep (recorded.writes x place width value) ((listed accesses).writes s place width value)) (sym (stands_so r i.0)) (write_steps_listed r.entries r.used s place width value _ refl i.1 i.2);
+        subst (λ (x : Recording). CameToListed (recorded.writes x place width value) ((listed accesses).writes s place width value)) (sym (stands_so r i.0)) (write_steps_listed r.entries r.used s place width value _ refl i.1 i.2);
     left_reads = λ r s place width p. read_misses_next r s.1 place width p;
     left_writes = λ r s place width value p. write_misses_next r s.1 place width value p;
     right_reads = λ r s place width p. behind_more r s.1 (Read place width) p;

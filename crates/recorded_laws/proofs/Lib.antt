@@ -4,4 +4,6 @@ mod Following
 mod Meeting
 mod Laws
 mod Growing
+mod CleanTables
+mod CleanTexts
 mod RunsTold

@@ -1,11 +1,36 @@
 -- What comes out of a run tells of the accesses that were made for it.
-use Rattle.std.specs.Prelude.{Ok, Err}
+use Rattle.std.specs.Prelude.{◌≡◌, ℕ, List, Ok, Err}
+use Rattle.ar_space.specs.Accesses.{Accesses}
 use Rattle.ar_space.specs.Outcome.{Outcome}
-use Rattle.aml_laws.specs.Noted.{WithNotes, TellsNotes}
+use Rattle.aml_meaning.specs.State.{State}
+use Rattle.aml_laws.specs.Noted.{WithNotes, noted, TellsNotes}
+use Rattle.acpi_machine.specs.Calls.{initialized}
+use Rattle.acpi_machine.specs.MachineStates.{MachineState, machine_of}
+use Rattle.acpi_configure.specs.Configured.{IsReport}
 use Rattle.route_report.specs.Reports.{RoutingReport}
 use Rattle.machine_laws.specs.ReportedNotes.{ReportTells}
+use Rattle.recorded_route.specs.declared.settings.Settings.{Settings}
+use Rattle.recorded_route.specs.Runs.{Description, described, world_over}
 
--- a report, where loading the tables and initializing the machine stand before gathering; or the refusal that ended the run
-abbrev pub RunTells : {S : Type 0} → Outcome RoutingReport → WithNotes S → WithNotes S → Type 0
-RunTells (Ok report) before after = ReportTells report before after
-RunTells (Err e) before after = TellsNotes {A = RoutingReport} (Err e) before after
+-- accesses: what the register space makes of them; settings and avoid: what the caller wants; text: the machine text
+module _ {S : Type 0} (accesses : Accesses S) (settings : Settings) (avoid text : List ℕ) where
+  -- A run that comes out with a report. All accesses of loading the tables, and then all of initializing the machine, were answered with
+  -- values; and the report of the machine that is left tells of those behind them.
+  pub record ReportedRunTells (report : RoutingReport) (before after : WithNotes S) : Type 0 where
+    pub description : Description
+    pub is_described : described text ≡ Ok description
+    pub loaded : State (WithNotes S)
+    pub is_loaded : world_over (noted accesses) settings avoid description before ≡ (Ok tt, loaded)
+    pub loading : TellsNotes {A = Unit {0}} (Ok tt) before loaded.space
+    pub ready : MachineState (WithNotes S)
+    pub is_ready : initialized (noted accesses) settings.mode (machine_of description.0 settings.steps loaded) ≡ (Ok tt, ready)
+    pub initializing : TellsNotes {A = Unit {0}} (Ok tt) loaded.space ready.world.space
+    pub left : MachineState (WithNotes S)
+    pub is_report : IsReport (noted accesses) settings.dry avoid ready left report
+    pub told : ReportTells accesses is_report
+    pub is_after : left.world.space ≡ after
+
+  -- a report, or the refusal that ended the run
+  abbrev pub RunTells : Outcome RoutingReport → WithNotes S → WithNotes S → Type 0
+  RunTells (Ok report) before after = ReportedRunTells report before after
+  RunTells (Err e) before after = TellsNotes {A = RoutingReport} (Err e) before after

@@ -1,7 +1,10 @@
 //! What holds of all runs over a record of accesses: each law is the contract of a function that does nothing.
 #![tactic(auto)]
 
-ghost use Rattle.std.specs.Prelude.{◌≡◌, ◌++◌, ℕ, List, [], None, Some, slice_get};
+ghost use Rattle.std.specs.Prelude.{◌≡◌, ◌≢◌, ◌++◌, ℕ, List, [], None, Some, Err, slice_get};
+ghost use Rattle.ar_space.specs.declared.refusal.SpaceFault.{SpaceFault};
+ghost use Rattle.ar_space.specs.declared.refusal.Refusal.{Refusal};
+ghost use Rattle.ar_space.specs.declared.refusal.Refusal.TheVariants.{Space};
 ghost use Rattle.ar_space.specs.Accesses.{Accesses};
 ghost use Rattle.ar_space.specs.Outcome.{Outcome};
 ghost use Rattle.space_trace.specs.declared.access.Access.{Access};
@@ -10,7 +13,7 @@ ghost use Rattle.recorded_space.specs.Deciding.{Gives};
 ghost use Rattle.recorded_space.specs.Recordings.{Recording, begun, recorded};
 ghost use Rattle.route_report.specs.Reports.{RoutingReport};
 ghost use Rattle.recorded_route.specs.declared.settings.Settings.{Settings};
-ghost use Rattle.recorded_route.specs.Runs.{Description, IsRun, IsRunOver};
+ghost use Rattle.recorded_route.specs.Runs.{described, IsRun};
 ghost use Rattle.aml_laws.specs.Noted.{WithNotes, noted};
 ghost use Rattle.recorded_laws.specs.Grown.{left_by};
 ghost use Rattle.recorded_laws.specs.Listed.{listed};
@@ -57,8 +60,16 @@ pub fn noting_changes_no_run<S>()
 
 /// Where a run over a register space is refused by a fault of that space, the last of its own accesses is answered with that fault, and
 /// all those before it with values. With any other refusal all are answered with values, and with a report all but those that its lines
-/// tell of. The law is of runs whose text describes tables: other texts are refused before any access.
+/// tell of: `ReportedRunTells` has the run by its steps, from the text up to the report, and of each what its accesses are.
 pub fn a_run_tells_of_its_accesses<S>()
-    ensures { (accesses : Accesses S) (settings : Settings) (avoid : List ℕ) (d : Description) (before : WithNotes S) (outcome : Outcome RoutingReport) (after : WithNotes S) → IsRunOver (noted accesses) settings avoid d before outcome after
-        → RunTells outcome before after }
+    ensures { (accesses : Accesses S) (settings : Settings) (avoid text : List ℕ) (before : WithNotes S) (outcome : Outcome RoutingReport) (after : WithNotes S) → IsRun (noted accesses) settings avoid text before outcome after
+        → RunTells accesses settings avoid text outcome before after }
+{}
+
+/// A text that describes no tables is refused before any access: the run leaves the space as it was. What such a text is refused by is no
+/// fault of a register space.
+pub fn a_text_without_tables_is_refused_before_any_access<S>()
+    ensures run { (accesses : Accesses S) (settings : Settings) (avoid text : List ℕ) (before : S) (outcome : Outcome RoutingReport) (after : S) (e : Refusal) → described text ≡ Err e → IsRun accesses settings avoid text before outcome after
+        → (outcome ≡ Err e) × (before ≡ after) }
+    ensures fault { (text : List ℕ) (fault : SpaceFault) → described text ≢ Err (Space fault) }
 {}
