@@ -68,7 +68,7 @@ module _ {S L : Type 0} (tells : L → List Exchange → Type 0) where
     pub told : tells line own
 
   -- call after call makes a line, each of them on the machine that those before it left, and the line tells of the accesses of its own
-  -- call; the last call leaves the machine after
+  -- call; there are as many lines as calls, and the machine after is the one that the last call leaves
   abbrev pub EachTells : List (Change (MachineState (WithNotes S)) L) → List L → MachineState (WithNotes S) → MachineState (WithNotes S) → Type 0
   EachTells [] [] before after = after ≡ before
   EachTells (call ∷ calls) (line ∷ lines) before after = LineTells call before line × EachTells calls lines (call before).1 after

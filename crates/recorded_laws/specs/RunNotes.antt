@@ -14,8 +14,8 @@ use Rattle.recorded_route.specs.Runs.{Description, described, world_over}
 
 -- accesses: what the register space makes of them; settings and avoid: what the caller wants; text: the machine text
 module _ {S : Type 0} (accesses : Accesses S) (settings : Settings) (avoid text : List ℕ) where
-  -- A run that comes out with a report. All accesses of loading the tables, and then all of initializing the machine, were answered with
-  -- values; and the report of the machine that is left tells of those behind them.
+  -- A run that comes out with a report: the text describes tables, which are loaded, and the machine is initialized. All accesses of both
+  -- were answered with values, and of those behind them the report of the initialized machine tells.
   pub record ReportedRunTells (report : RoutingReport) (before after : WithNotes S) : Type 0 where
     pub description : Description
     pub is_described : described text ≡ Ok description
