@@ -6,4 +6,5 @@ pub mod Readables
 pub mod Reported
 pub mod Settled
 pub mod Sources
+pub mod Stopped
 pub mod Turns

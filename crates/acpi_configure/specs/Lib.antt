@@ -1,3 +1,4 @@
 pub mod Configured
 pub mod Lines
 pub mod Settling
+pub mod Stops

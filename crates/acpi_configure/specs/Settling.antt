@@ -5,7 +5,6 @@ use Rattle.ar_space.specs.Numbers.{number_of}
 use Rattle.ar_space.specs.Outcome.{Outcome}
 use Rattle.ar_space.specs.Change.{Change, give, ◌>>=◌}
 use Rattle.acpi_machine.specs.MachineStates.{MachineState}
-use Rattle.acpi_machine.specs.Evaluations.{Evaluation, is_asked, is_any, Leaves, leaves_more}
 use Rattle.acpi_links.specs.Links.{PresentLink}
 use Rattle.acpi_links.specs.Resources.{current_resources}
 use Rattle.acpi_links.specs.Settings.{resources_set}
@@ -64,14 +63,3 @@ module _ {S : Type 0} (accesses : Accesses S) where
   unfoldable pub settled_unless : Bool → List PresentLink → List ℕ → Change (MachineState S) (List SetLine × List ReportedAfter)
   settled_unless true links ns = give ([], [])
   settled_unless false links ns = settled links ns
-
--- a dry run only asks
-abbrev pub allowed : Bool → Evaluation → Bool
-allowed true = is_asked
-allowed false = is_any
-
-pub leaves_in : {S : Type 0} {accesses : Accesses S} {s t : MachineState S} (dry : Bool) → Leaves accesses is_asked s t → Leaves accesses (allowed dry) s t
-leaves_in true h = h
-leaves_in false h = leaves_more h
-
-pub ruleset leaving_in = (leaves_in)

@@ -4,14 +4,14 @@ ghost use Rattle.ar_space.specs.declared.refusal.Refusal.TheVariants.{OutOfMemor
 ghost use Rattle.std.specs.List.{AllZip};
 ghost use Rattle.ar_space.specs.Outcome.{Answers, seen};
 ghost use Rattle.ar_space.specs.Change.{Does};
-ghost use Rattle.acpi_machine.specs.Evaluations.{Leaves};
 ghost use Rattle.route_model.specs.Bound.{IsLowerBound};
 ghost use Rattle.route_model.specs.Links.{offers_of};
 ghost use Rattle.route_solve.specs.Fits.{Fits};
 ghost use Rattle.acpi_links.specs.Gatherings.{gathered};
 ghost use Rattle.route_report.specs.Readable.{IsReadableOffer};
 ghost use Rattle.acpi_configure.specs.Configured.{Solves, report_of, with_settings, IsReport};
-ghost use Rattle.acpi_configure.specs.Settling.{allowed, settled_unless};
+ghost use Rattle.acpi_configure.specs.Settling.{settled_unless};
+ghost use Rattle.acpi_configure.specs.Stops.{StopsInSettling, StopsInRun};
 
 use crate::chosen_lines::{bound_for, gives_of};
 use crate::link_lines::link_lines;
@@ -50,7 +50,6 @@ use std::alloc::Global;
 /// let report = configure(alloc, &mut machine, false, &[3, 4])?;
 /// let text = route_report::print(alloc, &report)?;
 /// ```
-#[tactic(auto, using(acpi_machine::specs::Evaluations::leaving, crate::specs::Settling::leaving_in))]
 pub fn configure<S: Space>(
     alloc: Global,
     machine: &mut Machine<S>,
@@ -58,7 +57,7 @@ pub fn configure<S: Space>(
     avoid: &[u32],
 ) -> Result<Report, Refusal>
     ensures report { IfOk result (λ report. IsReport S.accesses dry avoid.now machine.old machine.new report) }
-    ensures evaluated { Leaves S.accesses (allowed dry) machine.old machine.new }
+    ensures evaluated { StopsInRun S.accesses dry avoid.now machine.old machine.new }
     ensures refusal { IfErr result (λ refusal. refusal ≢ OutOfMemory → gathered S.accesses avoid.now machine.old ≡ (Err refusal, machine.new)) }
 {
     let sci = machine.sci();
@@ -89,7 +88,6 @@ fn with_settings(report: Report, settings: Settings) -> Report
 }
 
 /// Sets each link that was gathered to its interrupt of an answer, and reads what each is set to, unless the run is dry.
-#[tactic(auto, using(acpi_machine::specs::Evaluations::leaving))]
 fn settle_answer<S: Space>(
     alloc: Global,
     machine: &mut Machine<S>,
@@ -100,7 +98,7 @@ fn settle_answer<S: Space>(
     requires each { length answer.now.choice ≡ length gathered.now.links }
     requires offered { AllZip Contains (map (λ link. link.1.numbers) gathered.now.links) answer.now.choice }
     ensures value { Does (seen (λ x. (x.0.items, x.1.items)) result) machine.new (settled_unless S.accesses dry gathered.now.links answer.now.choice) machine.old }
-    ensures evaluated { Leaves S.accesses (allowed dry) machine.old machine.new }
+    ensures evaluated { StopsInSettling S.accesses dry gathered.now.links answer.now.choice machine.old machine.new }
     ensures memory { IfErr result (λ refusal. refusal ≡ OutOfMemory) }
 {
     settle_unless(alloc, machine, dry, gathered.links(), &answer.choice)

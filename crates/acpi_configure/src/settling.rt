@@ -1,15 +1,16 @@
 //! Links are set, and then what each of them is set to is read (ACPI 6.5, 6.2.16 and 6.2.2).
-ghost use Rattle.std.specs.Prelude.{◌≡◌, ◌≢◌, ◌++◌, ◌∷◌, [], Ok, Err, IfErr, Contains, length, map, option_map};
+ghost use Rattle.std.specs.Prelude.{◌≡◌, ◌≢◌, ◌++◌, ◌∷◌, [], false, Ok, Err, IfErr, Contains, length, map, option_map};
 ghost use Rattle.std.specs.List.{AllZip};
 ghost use Rattle.ar_space.specs.declared.refusal.Refusal.{Refusal};
 ghost use Rattle.ar_space.specs.declared.refusal.Refusal.TheVariants.{OutOfMemory};
 ghost use Rattle.ar_space.specs.Outcome.{NotMemory, Answers, seen};
 ghost use Rattle.ar_space.specs.Change.{Does};
-ghost use Rattle.acpi_machine.specs.Evaluations.{Leaves, is_any};
+ghost use Rattle.acpi_machine.specs.Stops.{AllOrNone};
 ghost use Rattle.route_report.specs.Reports.{after_state};
 ghost use Rattle.acpi_links.specs.Resources.{current_resources};
 ghost use Rattle.acpi_links.specs.Settings.{resources_set};
-ghost use Rattle.acpi_configure.specs.Settling.{allowed, attempted, set_told, state_told, link_set, links_set, link_read, links_read, settled, settled_unless};
+ghost use Rattle.acpi_configure.specs.Settling.{attempted, set_told, state_told, link_set, links_set, link_read, links_read, settled, settled_unless};
+ghost use Rattle.acpi_configure.specs.Stops.{StopsInSets, StopsInReads, StopsInSettling};
 
 use crate::link_lines::numbers_now;
 use acpi_links::{PresentLink, get_current_resources, set_current_resources};
@@ -25,7 +26,7 @@ pub(crate) type Settings = (Vec<SetLine>, Vec<AfterLine>);
 
 /// Sets each of some links to the interrupt that it is given, and then reads what each is set to; neither where no link is to be
 /// set. Only want of memory refuses it: any other refusal is told in the line of its link, and the next link follows.
-#[tactic(auto, using(ar_space::specs::Change::changing, acpi_machine::specs::Evaluations::leaving), unfolding(crate::specs::Settling::settled_unless))]
+#[tactic(auto, using(ar_space::specs::Change::changing, acpi_machine::specs::Stops::making), unfolding(crate::specs::Settling::settled_unless))]
 pub(crate) fn settle_unless<S: Space>(
     alloc: Global,
     machine: &mut Machine<S>,
@@ -36,7 +37,7 @@ pub(crate) fn settle_unless<S: Space>(
     requires each { length choice.now ≡ length links.now }
     requires offered { AllZip Contains (map (λ link. link.1.numbers) links.now) choice.now }
     ensures value { Does (seen (λ x. (x.0.items, x.1.items)) result) machine.new (settled_unless S.accesses dry links.now choice.now) machine.old }
-    ensures evaluated { Leaves S.accesses (allowed dry) machine.old machine.new }
+    ensures evaluated { StopsInSettling S.accesses dry links.now choice.now machine.old machine.new }
     ensures memory { IfErr result (λ refusal. refusal ≡ OutOfMemory) }
 {
     match dry {
@@ -45,7 +46,7 @@ pub(crate) fn settle_unless<S: Space>(
     }
 }
 
-#[tactic(auto, using(ar_space::specs::Change::changing, acpi_machine::specs::Evaluations::leaving), unfolding(crate::specs::Settling::settled))]
+#[tactic(auto, using(ar_space::specs::Change::changing), unfolding(crate::specs::Settling::settled))]
 fn settle<S: Space>(
     alloc: Global,
     machine: &mut Machine<S>,
@@ -55,7 +56,7 @@ fn settle<S: Space>(
     requires each { length choice.now ≡ length links.now }
     requires offered { AllZip Contains (map (λ link. link.1.numbers) links.now) choice.now }
     ensures value { Does (seen (λ x. (x.0.items, x.1.items)) result) machine.new (settled S.accesses links.now choice.now) machine.old }
-    ensures evaluated { Leaves S.accesses is_any machine.old machine.new }
+    ensures evaluated { StopsInSettling S.accesses false links.now choice.now machine.old machine.new }
     ensures memory { IfErr result (λ refusal. refusal ≡ OutOfMemory) }
 {
     let sets = set_links(alloc, machine, links, choice)?;
@@ -64,7 +65,6 @@ fn settle<S: Space>(
 }
 
 /// Each link is set to the interrupt that it is given, in the order of the links.
-#[tactic(auto, using(acpi_machine::specs::Evaluations::leaving))]
 fn set_links<S: Space>(
     alloc: Global,
     machine: &mut Machine<S>,
@@ -74,7 +74,7 @@ fn set_links<S: Space>(
     requires each { length choice.now ≡ length links.now }
     requires offered { AllZip Contains (map (λ link. link.1.numbers) links.now) choice.now }
     ensures value { Does (seen (λ list. list.items) result) machine.new (links_set S.accesses links.now choice.now []) machine.old }
-    ensures evaluated { Leaves S.accesses is_any machine.old machine.new }
+    ensures evaluated { StopsInSets S.accesses links.now choice.now machine.old machine.new }
     ensures memory { IfErr result (λ refusal. refusal ≡ OutOfMemory) }
 {
     let mut list = Vec::new(alloc);
@@ -86,7 +86,7 @@ fn set_links<S: Space>(
 }
 
 /// One link is set, and what came of it is told.
-#[tactic(auto, using(ar_space::specs::Change::changing, acpi_machine::specs::Evaluations::leaving), unfolding(crate::specs::Settling::link_set))]
+#[tactic(auto, using(ar_space::specs::Change::changing), unfolding(crate::specs::Settling::link_set))]
 fn set_link<S: Space>(
     alloc: Global,
     machine: &mut Machine<S>,
@@ -95,14 +95,14 @@ fn set_link<S: Space>(
 ) -> Result<SetLine, Refusal>
     requires { Contains link.now.1.numbers number }
     ensures value { Does result machine.new (link_set S.accesses link.now number) machine.old }
-    ensures evaluated { Leaves S.accesses is_any machine.old machine.new }
+    ensures evaluated { AllOrNone (link_set S.accesses link.now number) machine.old machine.new }
     ensures memory { IfErr result (λ refusal. refusal ≡ OutOfMemory) }
 {
     let outcome = try_to_set(alloc, machine, link, number)?;
     set_line(alloc, &link.0, outcome)
 }
 
-#[tactic(auto, using(acpi_machine::specs::Evaluations::leaving, crate::proofs::Settled::does_attempted))]
+#[tactic(auto, using(crate::proofs::Settled::does_attempted))]
 fn try_to_set<S: Space>(
     alloc: Global,
     machine: &mut Machine<S>,
@@ -111,7 +111,7 @@ fn try_to_set<S: Space>(
 ) -> Result<SetOutcome, Refusal>
     requires { Contains link.now.1.numbers number }
     ensures value { Does result machine.new (attempted set_told (resources_set S.accesses link.now.0 link.now.1 number)) machine.old }
-    ensures evaluated { Leaves S.accesses is_any machine.old machine.new }
+    ensures evaluated { AllOrNone (attempted set_told (resources_set S.accesses link.now.0 link.now.1 number)) machine.old machine.new }
     ensures memory { IfErr result (λ refusal. refusal ≡ OutOfMemory) }
 {
     let outcome = set_current_resources(alloc, machine, &link.0, &link.1, number);
@@ -144,14 +144,13 @@ fn set_outcome(outcome: Result<bool, Refusal>) -> Result<SetOutcome, Refusal>
 }
 
 /// What each link is set to, in the order of the links.
-#[tactic(auto, using(acpi_machine::specs::Evaluations::leaving))]
 fn read_links<S: Space>(
     alloc: Global,
     machine: &mut Machine<S>,
     links: &[PresentLink],
 ) -> Result<Vec<AfterLine>, Refusal>
     ensures value { Does (seen (λ list. list.items) result) machine.new (links_read S.accesses links.now) machine.old }
-    ensures evaluated { Leaves S.accesses is_any machine.old machine.new }
+    ensures evaluated { StopsInReads S.accesses links.now machine.old machine.new }
     ensures memory { IfErr result (λ refusal. refusal ≡ OutOfMemory) }
 {
     let mut list = Vec::new(alloc);
@@ -163,28 +162,28 @@ fn read_links<S: Space>(
 }
 
 /// What one link is set to.
-#[tactic(auto, using(ar_space::specs::Change::changing, acpi_machine::specs::Evaluations::leaving), unfolding(crate::specs::Settling::link_read))]
+#[tactic(auto, using(ar_space::specs::Change::changing), unfolding(crate::specs::Settling::link_read))]
 fn read_link<S: Space>(
     alloc: Global,
     machine: &mut Machine<S>,
     link: &PresentLink,
 ) -> Result<AfterLine, Refusal>
     ensures value { Does result machine.new (link_read S.accesses link.now) machine.old }
-    ensures evaluated { Leaves S.accesses is_any machine.old machine.new }
+    ensures evaluated { AllOrNone (link_read S.accesses link.now) machine.old machine.new }
     ensures memory { IfErr result (λ refusal. refusal ≡ OutOfMemory) }
 {
     let state = try_to_read(alloc, machine, link)?;
     after_line(alloc, &link.0, state)
 }
 
-#[tactic(auto, using(acpi_machine::specs::Evaluations::leaving, crate::proofs::Settled::does_attempted))]
+#[tactic(auto, using(crate::proofs::Settled::does_attempted))]
 fn try_to_read<S: Space>(
     alloc: Global,
     machine: &mut Machine<S>,
     link: &PresentLink,
 ) -> Result<After, Refusal>
     ensures value { Does (seen after_state result) machine.new (attempted state_told (current_resources S.accesses link.now.0)) machine.old }
-    ensures evaluated { Leaves S.accesses is_any machine.old machine.new }
+    ensures evaluated { AllOrNone (attempted state_told (current_resources S.accesses link.now.0)) machine.old machine.new }
     ensures memory { IfErr result (λ refusal. refusal ≡ OutOfMemory) }
 {
     let state = get_current_resources(alloc, machine, &link.0);

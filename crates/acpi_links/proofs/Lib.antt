@@ -7,5 +7,6 @@ pub mod Members
 pub mod Named
 pub mod Posed
 pub mod Settled
+pub mod Stopped
 pub mod Tally
 pub mod Wired

@@ -8,4 +8,5 @@ pub mod Presence
 pub mod Problems
 pub mod Resources
 pub mod Settings
+pub mod Stops
 pub mod Wiring

@@ -2,7 +2,7 @@
 ghost use Rattle.std.specs.Prelude.{◌≡◌, Ok};
 ghost use Rattle.ar_space.specs.Outcome.{Answers, NotMemory, seen};
 ghost use Rattle.ar_space.specs.Change.{Does};
-ghost use Rattle.acpi_machine.specs.Evaluations.{Leaves, is_asked};
+ghost use Rattle.acpi_machine.specs.Stops.{AllOrNone};
 ghost use Rattle.aml_meaning.specs.Given.{given_of};
 ghost use Rattle.acpi_machine.specs.Calls.{evaluated_object};
 ghost use Rattle.acpi_links.specs.Answered.{stands, bytes_in, buffer_at};
@@ -22,14 +22,14 @@ pub(crate) fn stands<S: Space>(machine: &Machine<S>, path: &Path) -> bool
 }
 
 /// The bytes of the buffer that the object at a path answers, without arguments; `WrongType` for any other value.
-#[tactic(auto, using(ar_space::specs::Change::changing, acpi_machine::specs::Evaluations::leaving), unfolding(crate::specs::Answered::buffer_at))]
+#[tactic(auto, using(ar_space::specs::Change::changing), unfolding(crate::specs::Answered::buffer_at))]
 pub(crate) fn buffer_at<S: Space>(
     alloc: Global,
     machine: &mut Machine<S>,
     path: &Path,
 ) -> Result<Octets, Refusal>
     ensures value { Does result machine.new (buffer_at S.accesses path.now) machine.old }
-    ensures evaluated { Leaves S.accesses is_asked machine.old machine.new }
+    ensures evaluated { AllOrNone (buffer_at S.accesses path.now) machine.old machine.new }
 {
     let answer = machine.evaluate_object(alloc, path, Vec::new(alloc))?;
     bytes_in(answer)

@@ -3,12 +3,12 @@ ghost use Rattle.std.specs.Prelude.{◌≡◌, ◌≤◌, ◌+◌, All, Ok, IfOk
 ghost use Rattle.std.specs.List.Sorted.{IsStrictlySortedBy};
 ghost use Rattle.ar_space.specs.Outcome.{Answers, seen};
 ghost use Rattle.ar_space.specs.Change.{Does};
-ghost use Rattle.acpi_machine.specs.Evaluations.{Leaves, is_asked};
+ghost use Rattle.acpi_links.specs.Stops.{StopsInTables, StopsInLinks, StopsInGathering};
 ghost use Rattle.aml_path.specs.Paths.{path_cmp};
 ghost use Rattle.route_solve.specs.Fits.{Fits};
 ghost use Rattle.acpi_machine.specs.MachineStates.{sci_of};
-ghost use Rattle.acpi_links.specs.Links.{HasLeft};
-ghost use Rattle.acpi_links.specs.Devices.{devices_listed};
+ghost use Rattle.acpi_links.specs.Links.{HasLeft, links_named};
+ghost use Rattle.acpi_links.specs.Devices.{devices, devices_listed};
 ghost use Rattle.acpi_links.specs.Gatherings.{sci_shown, pins_found, links_found, gathering, gathered};
 ghost use Rattle.acpi_links.specs.Problems.{problem_of};
 
@@ -33,14 +33,14 @@ use std::alloc::Global;
 ///
 /// In the problem no link offers an interrupt that is avoided, and the System Control Interrupt is one more wired source. Sources
 /// that are wired to an avoided interrupt count as others do.
-#[tactic(auto, using(ar_space::specs::Change::changing, acpi_machine::specs::Evaluations::leaving), unfolding(crate::specs::Gatherings::gathered))]
+#[tactic(auto, using(ar_space::specs::Change::changing, acpi_machine::specs::Stops::making), unfolding(crate::specs::Gatherings::gathered))]
 pub fn gather<S: Space>(
     alloc: Global,
     machine: &mut Machine<S>,
     avoid: &[u32],
 ) -> Result<Gathered, Refusal>
     ensures value { Does result machine.new (gathered S.accesses avoid.now) machine.old }
-    ensures evaluated { Leaves S.accesses is_asked machine.old machine.new }
+    ensures evaluated { StopsInGathering S.accesses avoid.now machine.old machine.new }
     ensures posed { IfOk result (λ g. g.problem ≡ problem_of avoid.now (sci_of machine.old) g.links g.pins) }
     ensures fits { IfOk result (λ g. Fits g.problem) }
     ensures few_wired { IfOk result (λ g. length g.problem.wired ≤ 4096) }
@@ -62,14 +62,14 @@ fn sci_shown<S: Space>(machine: &Machine<S>) -> Result<Option<u32>, Refusal>
 }
 
 /// The pins of all routing tables.
-#[tactic(auto, using(ar_space::specs::Change::changing, acpi_machine::specs::Evaluations::leaving), unfolding(crate::specs::Gatherings::pins_found))]
+#[tactic(auto, using(ar_space::specs::Change::changing), unfolding(crate::specs::Gatherings::pins_found))]
 fn pins_found<S: Space>(
     alloc: Global,
     machine: &mut Machine<S>,
     sci: Option<u32>,
 ) -> Result<Vec<(Path, Pin)>, Refusal>
     ensures value { Does (seen (λ list. list.items) result) machine.new (pins_found S.accesses sci) machine.old }
-    ensures evaluated { Leaves S.accesses is_asked machine.old machine.new }
+    ensures evaluated { StopsInTables S.accesses (devices machine.old) machine.old machine.new }
     ensures few { IfOk result (λ list. length list.items + length (option_to_list sci) ≤ 4096) }
 {
     let list = devices_listed(alloc, machine)?;
@@ -86,7 +86,7 @@ fn devices_listed<S: Space>(alloc: Global, machine: &Machine<S>) -> Result<Vec<P
 }
 
 /// The present links that some pins lead to.
-#[tactic(auto, using(ar_space::specs::Change::changing, acpi_machine::specs::Evaluations::leaving), unfolding(crate::specs::Gatherings::links_found))]
+#[tactic(auto, using(ar_space::specs::Change::changing), unfolding(crate::specs::Gatherings::links_found))]
 fn links_found<S: Space>(
     alloc: Global,
     machine: &mut Machine<S>,
@@ -94,7 +94,7 @@ fn links_found<S: Space>(
     pins: &[(Path, Pin)],
 ) -> Result<Vec<PresentLink>, Refusal>
     ensures value { Does (seen (λ list. list.items) result) machine.new (links_found S.accesses avoid.now pins.now) machine.old }
-    ensures evaluated { Leaves S.accesses is_asked machine.old machine.new }
+    ensures evaluated { StopsInLinks S.accesses avoid.now (links_named pins.now) machine.old machine.new }
     ensures few { IfOk result (λ list. length list.items ≤ 256) }
     ensures in_order { IfOk result (λ list. IsStrictlySortedBy path_cmp (map (λ link. link.0) list.items)) }
     ensures left { IfOk result (λ list. All (HasLeft avoid.now) list.items) }

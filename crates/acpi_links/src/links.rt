@@ -9,7 +9,7 @@ ghost use Rattle.ar_space.specs.declared.refusal.Refusal.TheVariants as refusals
 ghost use Rattle.ar_space.specs.declared.refusal.RoutingFault.TheVariants as routing;
 ghost use Rattle.ar_space.specs.Outcome.{Answers, NotMemory, seen};
 ghost use Rattle.ar_space.specs.Change.{Does};
-ghost use Rattle.acpi_machine.specs.Evaluations.{Leaves, is_asked};
+ghost use Rattle.acpi_links.specs.Stops.{StopsInOffer, StopsIfPresent, StopsInLink, StopsInLinks};
 ghost use Rattle.route_model.specs.Avoided.{are_all_avoided};
 ghost use Rattle.acpi_links.specs.Links.{few_pins, with_route, links_named, few_links, some_left, link_found, link_if, link_asked, with_link, IsAt, HasLeft, IsLeft, links_of_each, is_low, is_high, mixed, one_polarity};
 
@@ -105,7 +105,6 @@ pub(crate) fn few_links(links: &[Path]) -> Result<(), Refusal>
 }
 
 /// Those of some links that are present, each with what it offers and what it is set to.
-#[tactic(auto, using(acpi_machine::specs::Evaluations::leaving))]
 pub(crate) fn links_of_each<S: Space>(
     alloc: Global,
     machine: &mut Machine<S>,
@@ -113,7 +112,7 @@ pub(crate) fn links_of_each<S: Space>(
     links: &[Path],
 ) -> Result<Vec<PresentLink>, Refusal>
     ensures value { Does (seen (λ list. list.items) result) machine.new (links_of_each S.accesses avoid.now links.now) machine.old }
-    ensures evaluated { Leaves S.accesses is_asked machine.old machine.new }
+    ensures evaluated { StopsInLinks S.accesses avoid.now links.now machine.old machine.new }
     ensures left { IfOk result (λ list. All (HasLeft avoid.now) list.items) }
     ensures few { IfOk result (λ list. length list.items ≤ length links.now) }
     ensures in_order { IfOk result (λ list. IsStrictlySortedBy path_cmp links.now → IsStrictlySortedBy path_cmp (map (λ link. link.0) list.items)) }
@@ -137,7 +136,7 @@ fn push_found(list: &mut Vec<PresentLink>, found: Option<PresentLink>) -> Result
 }
 
 /// A link, if it is present.
-#[tactic(auto, using(ar_space::specs::Change::changing, acpi_machine::specs::Evaluations::leaving), unfolding(crate::specs::Links::link_asked))]
+#[tactic(auto, using(ar_space::specs::Change::changing), unfolding(crate::specs::Links::link_asked))]
 fn link_asked<S: Space>(
     alloc: Global,
     machine: &mut Machine<S>,
@@ -145,7 +144,7 @@ fn link_asked<S: Space>(
     link: &Path,
 ) -> Result<Option<PresentLink>, Refusal>
     ensures value { Does result machine.new (link_asked S.accesses avoid.now link.now) machine.old }
-    ensures evaluated { Leaves S.accesses is_asked machine.old machine.new }
+    ensures evaluated { StopsInLink S.accesses avoid.now link.now machine.old machine.new }
     ensures path { IfOk result (λ found. IsAt link.now found) }
     ensures left { IfOk result (λ found. IsLeft avoid.now found) }
 {
@@ -153,7 +152,7 @@ fn link_asked<S: Space>(
     link_if(alloc, machine, avoid, present, link)
 }
 
-#[tactic(auto, using(ar_space::specs::Change::changing, acpi_machine::specs::Evaluations::leaving), unfolding(crate::specs::Links::link_if))]
+#[tactic(auto, using(ar_space::specs::Change::changing, acpi_machine::specs::Stops::making), unfolding(crate::specs::Links::link_if))]
 fn link_if<S: Space>(
     alloc: Global,
     machine: &mut Machine<S>,
@@ -162,7 +161,7 @@ fn link_if<S: Space>(
     link: &Path,
 ) -> Result<Option<PresentLink>, Refusal>
     ensures value { Does result machine.new (link_if S.accesses avoid.now present link.now) machine.old }
-    ensures evaluated { Leaves S.accesses is_asked machine.old machine.new }
+    ensures evaluated { StopsIfPresent S.accesses avoid.now present link.now machine.old machine.new }
     ensures path { IfOk result (λ found. IsAt link.now found) }
     ensures left { IfOk result (λ found. IsLeft avoid.now found) }
 {
@@ -173,7 +172,7 @@ fn link_if<S: Space>(
 }
 
 /// A link that is present.
-#[tactic(auto, using(ar_space::specs::Change::changing, acpi_machine::specs::Evaluations::leaving), unfolding(crate::specs::Links::link_found))]
+#[tactic(auto, using(ar_space::specs::Change::changing), unfolding(crate::specs::Links::link_found))]
 fn link_found<S: Space>(
     alloc: Global,
     machine: &mut Machine<S>,
@@ -181,7 +180,7 @@ fn link_found<S: Space>(
     link: &Path,
 ) -> Result<Option<PresentLink>, Refusal>
     ensures value { Does result machine.new (link_found S.accesses avoid.now link.now) machine.old }
-    ensures evaluated { Leaves S.accesses is_asked machine.old machine.new }
+    ensures evaluated { StopsInOffer S.accesses avoid.now link.now machine.old machine.new }
     ensures path { IfOk result (λ found. IsAt link.now found) }
     ensures left { IfOk result (λ found. IsLeft avoid.now found) }
 {

@@ -2,7 +2,7 @@
 ghost use Rattle.std.specs.Prelude.{Ok};
 ghost use Rattle.ar_space.specs.Outcome.{Answers, NotMemory};
 ghost use Rattle.ar_space.specs.Change.{Does};
-ghost use Rattle.acpi_machine.specs.Evaluations.{Leaves, is_asked};
+ghost use Rattle.acpi_machine.specs.Stops.{AllOrNone};
 ghost use Rattle.aml_meaning.specs.Given.{given_of};
 ghost use Rattle.acpi_links.specs.Presence.{presence, status_at, presence_at, is_present};
 
@@ -17,28 +17,28 @@ use std::alloc::Global;
 /// Whether a link device is present: bit 0 of the integer that its `_STA` answers; one without `_STA` is.
 ///
 /// An answer that is no integer is refused as `WrongType`; a refusal of the evaluation is handed on.
-#[tactic(auto, using(ar_space::specs::Change::changing, acpi_machine::specs::Evaluations::leaving), unfolding(crate::specs::Presence::is_present))]
+#[tactic(auto, using(ar_space::specs::Change::changing, acpi_machine::specs::Stops::making), unfolding(crate::specs::Presence::is_present))]
 pub(crate) fn is_present<S: Space>(
     alloc: Global,
     machine: &mut Machine<S>,
     link: &Path,
 ) -> Result<bool, Refusal>
     ensures value { Does result machine.new (is_present S.accesses link.now) machine.old }
-    ensures evaluated { Leaves S.accesses is_asked machine.old machine.new }
+    ensures evaluated { AllOrNone (is_present S.accesses link.now) machine.old machine.new }
 {
     let path = child_named(alloc, link, *b"_STA")?;
     presence_at(alloc, machine, &path)
 }
 
 /// Whether a link device is present whose `_STA` stands at a path, if it does.
-#[tactic(auto, using(acpi_machine::specs::Evaluations::leaving), unfolding(crate::specs::Presence::presence_at))]
+#[tactic(auto, using(acpi_machine::specs::Stops::making), unfolding(crate::specs::Presence::presence_at))]
 fn presence_at<S: Space>(
     alloc: Global,
     machine: &mut Machine<S>,
     path: &Path,
 ) -> Result<bool, Refusal>
     ensures value { Does result machine.new (presence_at S.accesses path.now) machine.old }
-    ensures evaluated { Leaves S.accesses is_asked machine.old machine.new }
+    ensures evaluated { AllOrNone (presence_at S.accesses path.now) machine.old machine.new }
 {
     if stands(machine, path) {
         status_at(alloc, machine, path)
@@ -48,14 +48,14 @@ fn presence_at<S: Space>(
 }
 
 /// Whether the status that an object answers says present.
-#[tactic(auto, using(ar_space::specs::Change::changing, acpi_machine::specs::Evaluations::leaving), unfolding(crate::specs::Presence::status_at))]
+#[tactic(auto, using(ar_space::specs::Change::changing), unfolding(crate::specs::Presence::status_at))]
 fn status_at<S: Space>(
     alloc: Global,
     machine: &mut Machine<S>,
     path: &Path,
 ) -> Result<bool, Refusal>
     ensures value { Does result machine.new (status_at S.accesses path.now) machine.old }
-    ensures evaluated { Leaves S.accesses is_asked machine.old machine.new }
+    ensures evaluated { AllOrNone (status_at S.accesses path.now) machine.old machine.new }
 {
     let answer = machine.evaluate_object(alloc, path, Vec::new(alloc))?;
     presence(&answer)

@@ -2,7 +2,7 @@
 ghost use Rattle.std.specs.Prelude.{Ok, Err, ◌∷◌, [], map, Contains};
 ghost use Rattle.ar_space.specs.Outcome.{Answers, seen};
 ghost use Rattle.ar_space.specs.Change.{Does};
-ghost use Rattle.acpi_machine.specs.Evaluations.{Leaves, is_asked, is_any};
+ghost use Rattle.acpi_machine.specs.Stops.{AllOrNone};
 ghost use Rattle.ar_space.specs.declared.refusal.Refusal.TheVariants as refusals;
 ghost use Rattle.ar_space.specs.declared.refusal.RoutingFault.TheVariants as routing;
 ghost use Rattle.aml_path.specs.Text.{text_of};
@@ -25,21 +25,21 @@ use std::alloc::Global;
 ///
 /// Without `_PRS` it is refused as `NoOffer`, with the link's path. An answer that is no buffer is refused as `WrongType`, and
 /// bytes that are no offer of interrupts as `possible` says; a refusal of the evaluation is handed on.
-#[tactic(auto, using(ar_space::specs::Change::changing, acpi_machine::specs::Evaluations::leaving), unfolding(crate::specs::Resources::possible_resources))]
+#[tactic(auto, using(ar_space::specs::Change::changing, acpi_machine::specs::Stops::making), unfolding(crate::specs::Resources::possible_resources))]
 pub fn get_possible_resources<S: Space>(
     alloc: Global,
     machine: &mut Machine<S>,
     link: &Path,
 ) -> Result<Offer, Refusal>
     ensures value { Does result machine.new (possible_resources S.accesses link.now) machine.old }
-    ensures evaluated { Leaves S.accesses is_asked machine.old machine.new }
+    ensures evaluated { AllOrNone (possible_resources S.accesses link.now) machine.old machine.new }
 {
     let path = child_named(alloc, link, *b"_PRS")?;
     possible_at(alloc, machine, link, &path)
 }
 
 /// What a link device offers whose `_PRS` stands at a path, if it does.
-#[tactic(auto, using(acpi_machine::specs::Evaluations::leaving), unfolding(crate::specs::Resources::possible_at))]
+#[tactic(auto, using(acpi_machine::specs::Stops::making), unfolding(crate::specs::Resources::possible_at))]
 fn possible_at<S: Space>(
     alloc: Global,
     machine: &mut Machine<S>,
@@ -47,7 +47,7 @@ fn possible_at<S: Space>(
     path: &Path,
 ) -> Result<Offer, Refusal>
     ensures value { Does result machine.new (possible_at S.accesses link.now path.now) machine.old }
-    ensures evaluated { Leaves S.accesses is_asked machine.old machine.new }
+    ensures evaluated { AllOrNone (possible_at S.accesses link.now path.now) machine.old machine.new }
 {
     if stands(machine, path) {
         offer_at(alloc, machine, path)
@@ -65,14 +65,14 @@ fn no_offer(alloc: Global, link: &Path) -> Result<Offer, Refusal>
 }
 
 /// The offer in the buffer that an object answers.
-#[tactic(auto, using(ar_space::specs::Change::changing, acpi_machine::specs::Evaluations::leaving), unfolding(crate::specs::Resources::offer_at))]
+#[tactic(auto, using(ar_space::specs::Change::changing), unfolding(crate::specs::Resources::offer_at))]
 fn offer_at<S: Space>(
     alloc: Global,
     machine: &mut Machine<S>,
     path: &Path,
 ) -> Result<Offer, Refusal>
     ensures value { Does result machine.new (offer_at S.accesses path.now) machine.old }
-    ensures evaluated { Leaves S.accesses is_asked machine.old machine.new }
+    ensures evaluated { AllOrNone (offer_at S.accesses path.now) machine.old machine.new }
 {
     let bytes = buffer_at(alloc, machine, path)?;
     possible(alloc, bytes.as_slice())
@@ -82,28 +82,28 @@ fn offer_at<S: Space>(
 ///
 /// An answer that is no buffer is refused as `WrongType`, and bytes that are no resource descriptors as `current` says; a
 /// refusal of the evaluation is handed on.
-#[tactic(auto, using(ar_space::specs::Change::changing, acpi_machine::specs::Evaluations::leaving), unfolding(crate::specs::Resources::current_resources))]
+#[tactic(auto, using(ar_space::specs::Change::changing, acpi_machine::specs::Stops::making), unfolding(crate::specs::Resources::current_resources))]
 pub fn get_current_resources<S: Space>(
     alloc: Global,
     machine: &mut Machine<S>,
     link: &Path,
 ) -> Result<Option<InterruptNumbers>, Refusal>
     ensures value { Does result machine.new (current_resources S.accesses link.now) machine.old }
-    ensures evaluated { Leaves S.accesses is_asked machine.old machine.new }
+    ensures evaluated { AllOrNone (current_resources S.accesses link.now) machine.old machine.new }
 {
     let path = child_named(alloc, link, *b"_CRS")?;
     current_at(alloc, machine, &path)
 }
 
 /// What a link device is set to whose `_CRS` stands at a path, if it does.
-#[tactic(auto, using(acpi_machine::specs::Evaluations::leaving), unfolding(crate::specs::Resources::current_at))]
+#[tactic(auto, using(acpi_machine::specs::Stops::making), unfolding(crate::specs::Resources::current_at))]
 fn current_at<S: Space>(
     alloc: Global,
     machine: &mut Machine<S>,
     path: &Path,
 ) -> Result<Option<InterruptNumbers>, Refusal>
     ensures value { Does result machine.new (current_at S.accesses path.now) machine.old }
-    ensures evaluated { Leaves S.accesses is_asked machine.old machine.new }
+    ensures evaluated { AllOrNone (current_at S.accesses path.now) machine.old machine.new }
 {
     if stands(machine, path) {
         numbers_at(alloc, machine, path)
@@ -113,14 +113,14 @@ fn current_at<S: Space>(
 }
 
 /// The numbers in the buffer that an object answers.
-#[tactic(auto, using(ar_space::specs::Change::changing, acpi_machine::specs::Evaluations::leaving), unfolding(crate::specs::Resources::numbers_at))]
+#[tactic(auto, using(ar_space::specs::Change::changing), unfolding(crate::specs::Resources::numbers_at))]
 fn numbers_at<S: Space>(
     alloc: Global,
     machine: &mut Machine<S>,
     path: &Path,
 ) -> Result<Option<InterruptNumbers>, Refusal>
     ensures value { Does result machine.new (numbers_at S.accesses path.now) machine.old }
-    ensures evaluated { Leaves S.accesses is_asked machine.old machine.new }
+    ensures evaluated { AllOrNone (numbers_at S.accesses path.now) machine.old machine.new }
 {
     let bytes = buffer_at(alloc, machine, path)?;
     let numbers = current(alloc, bytes.as_slice())?;
@@ -131,7 +131,7 @@ fn numbers_at<S: Space>(
 ///
 /// The argument of `_SRS` is `acpi_resources::setting` of the interrupt. What it answers is dropped; a refusal of its evaluation
 /// is handed on.
-#[tactic(auto, using(ar_space::specs::Change::changing, acpi_machine::specs::Evaluations::leaving), unfolding(crate::specs::Settings::resources_set))]
+#[tactic(auto, using(ar_space::specs::Change::changing, acpi_machine::specs::Stops::making), unfolding(crate::specs::Settings::resources_set))]
 pub fn set_current_resources<S: Space>(
     alloc: Global,
     machine: &mut Machine<S>,
@@ -141,14 +141,14 @@ pub fn set_current_resources<S: Space>(
 ) -> Result<bool, Refusal>
     requires { Contains offer.now.numbers number }
     ensures value { Does result machine.new (resources_set S.accesses link.now offer.now number) machine.old }
-    ensures evaluated { Leaves S.accesses is_any machine.old machine.new }
+    ensures evaluated { AllOrNone (resources_set S.accesses link.now offer.now number) machine.old machine.new }
 {
     let path = child_named(alloc, link, *b"_SRS")?;
     set_at(alloc, machine, &path, offer, number)
 }
 
 /// Sets a link device whose `_SRS` stands at a path, if it does.
-#[tactic(auto, using(acpi_machine::specs::Evaluations::leaving), unfolding(crate::specs::Settings::set_at))]
+#[tactic(auto, using(acpi_machine::specs::Stops::making), unfolding(crate::specs::Settings::set_at))]
 fn set_at<S: Space>(
     alloc: Global,
     machine: &mut Machine<S>,
@@ -158,7 +158,7 @@ fn set_at<S: Space>(
 ) -> Result<bool, Refusal>
     requires { Contains offer.now.numbers number }
     ensures value { Does result machine.new (set_at S.accesses path.now offer.now number) machine.old }
-    ensures evaluated { Leaves S.accesses is_any machine.old machine.new }
+    ensures evaluated { AllOrNone (set_at S.accesses path.now offer.now number) machine.old machine.new }
 {
     if stands(machine, path) {
         hand_setting(alloc, machine, path, offer, number)
@@ -168,7 +168,7 @@ fn set_at<S: Space>(
 }
 
 /// Calls the method at a path with a setting.
-#[tactic(auto, using(ar_space::specs::Change::changing, acpi_machine::specs::Evaluations::leaving), unfolding(crate::specs::Settings::setting_handed))]
+#[tactic(auto, using(ar_space::specs::Change::changing, acpi_machine::specs::Stops::making), unfolding(crate::specs::Settings::setting_handed))]
 fn hand_setting<S: Space>(
     alloc: Global,
     machine: &mut Machine<S>,
@@ -178,7 +178,7 @@ fn hand_setting<S: Space>(
 ) -> Result<bool, Refusal>
     requires { Contains offer.now.numbers number }
     ensures value { Does result machine.new (setting_handed S.accesses path.now offer.now number) machine.old }
-    ensures evaluated { Leaves S.accesses is_any machine.old machine.new }
+    ensures evaluated { AllOrNone (setting_handed S.accesses path.now offer.now number) machine.old machine.new }
 {
     let arguments = arguments_of(alloc, offer, number)?;
     machine.evaluate_object(alloc, path, arguments)?;

@@ -11,7 +11,7 @@ ghost use Rattle.aml_meaning.specs.declared.datum.Datum.TheVariants as datum;
 ghost use Rattle.aml_path.specs.Segments.{seg_of};
 ghost use Rattle.acpi_machine.specs.FixedPaths.{at_root, below_root};
 ghost use Rattle.acpi_machine.specs.Noticing.{noticed, ran_out};
-ghost use Rattle.acpi_machine.specs.Evaluations.{LeftBy};
+ghost use Rattle.acpi_machine.specs.Stops.{Made};
 ghost use Rattle.acpi_machine.specs.Calls.{object_answered, evaluated_object, object_called, called_where_it_stands, initial_calls, started, initialized, texts_kept, few_texts_kept, osi_set};
 
 use crate::loading::few_texts;
@@ -69,7 +69,7 @@ impl<S: Space> Machine<S> {
     ) -> Result<Datum, Refusal>
         ensures answer { Does (seen given_of result) self.new (evaluated_object S.accesses path.now (map given_of arguments.items)) self.old }
         ensures memory { IfErr result (λ refusal. refusal ≡ OutOfMemory → self.new.spent ≡ true) }
-        ensures evaluated { LeftBy S.accesses ((path.now, map given_of arguments.items) ∷ []) self.old self.new }
+        ensures evaluated { Made (evaluated_object S.accesses path.now (map given_of arguments.items)) self.old self.new }
         ensures spent { self.old.spent ≡ true → (result ≡ Err (refusals.Machine Spent)) × (self.new ≡ self.old) }
     {
         if self.spent {

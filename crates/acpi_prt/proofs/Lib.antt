@@ -1,4 +1,5 @@
 pub mod Entries
 pub mod Firsts
 pub mod Places
+pub mod Stopped
 pub mod Turns

@@ -6,3 +6,4 @@ pub mod Links
 pub mod Pins
 pub mod RoutingTables
 pub mod Said
+pub mod Stops

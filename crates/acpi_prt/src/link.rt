@@ -2,7 +2,7 @@
 ghost use Rattle.std.specs.Prelude.{◌≡◌, [], ◌∷◌, ◌++◌, Ok, option_map};
 ghost use Rattle.ar_space.specs.Outcome.{Answers};
 ghost use Rattle.ar_space.specs.Change.{Does};
-ghost use Rattle.acpi_machine.specs.Evaluations.{Leaves, is_asked};
+ghost use Rattle.acpi_machine.specs.Stops.{AllOrNone};
 ghost use Rattle.aml_path.specs.Segments.{seg_of};
 ghost use Rattle.aml_meaning.specs.Given.{given_of};
 ghost use Rattle.acpi_machine.specs.Kinds.{kind_seen};
@@ -22,14 +22,14 @@ const NOT_A_LINK: Refusal = Refusal::RoutingTable(RoutingTableFault::NotALink);
 const LINK_EISA_ID: u64 = 0x0F0C_D041;
 
 /// The path of the link device that stands at a path, or that an alias there leads to; else `NotALink`.
-#[tactic(auto, using(ar_space::specs::Change::changing, acpi_machine::specs::Evaluations::leaving), unfolding(crate::specs::Links::link_at))]
+#[tactic(auto, using(ar_space::specs::Change::changing, acpi_machine::specs::Stops::making), unfolding(crate::specs::Links::link_at))]
 pub(crate) fn link_at<S: Space>(
     alloc: Global,
     machine: &mut Machine<S>,
     path: &Path,
 ) -> Result<Path, Refusal>
     ensures value { Does result machine.new (link_at S.accesses path.now) machine.old }
-    ensures evaluated { Leaves S.accesses is_asked machine.old machine.new }
+    ensures evaluated { AllOrNone (link_at S.accesses path.now) machine.old machine.new }
 {
     let device = device_at(alloc, machine, path)?;
     let hid = child_named(alloc, &device, *b"_HID")?;

@@ -2,8 +2,9 @@
 ghost use Rattle.std.specs.Prelude.{◌≡◌, [], Ok, map};
 ghost use Rattle.ar_space.specs.Outcome.{Answers, seen};
 ghost use Rattle.ar_space.specs.Change.{Does};
-ghost use Rattle.acpi_machine.specs.Evaluations.{Leaves, is_asked};
+ghost use Rattle.acpi_machine.specs.Stops.{AllOrNone};
 ghost use Rattle.aml_meaning.specs.Given.{given_of};
+ghost use Rattle.acpi_prt.specs.Stops.{StopsInEntries, StopsInTable};
 ghost use Rattle.acpi_prt.specs.RoutingTables.{linked, route_of, pin_among, pin_with, pin_of, pins_from, routing_table};
 
 use crate::entry::{
@@ -26,14 +27,14 @@ use std::alloc::Global;
 /// index no integer of at most 32 bits, or its source neither 0 nor a name; `BadPin` where the pin is above 3; `NotALink`
 /// where the source names no link device: a Device whose `_HID` is a name that holds EISAID("PNP0C0F") or "PNP0C0F";
 /// `SourceIndex` where the source index at a link device isn't 0. `Spent` where an earlier call ran out of memory.
-#[tactic(auto, using(ar_space::specs::Change::changing, acpi_machine::specs::Evaluations::leaving), unfolding(crate::specs::RoutingTables::routing_table))]
+#[tactic(auto, using(ar_space::specs::Change::changing), unfolding(crate::specs::RoutingTables::routing_table))]
 pub fn get_irq_routing_table<S: Space>(
     alloc: Global,
     machine: &mut Machine<S>,
     device: &Path,
 ) -> Result<Vec<Pin>, Refusal>
     ensures value { Does (seen (λ pins. pins.items) result) machine.new (routing_table S.accesses device.now) machine.old }
-    ensures evaluated { Leaves S.accesses is_asked machine.old machine.new }
+    ensures evaluated { StopsInTable S.accesses device.now machine.old machine.new }
 {
     let name = child_named(alloc, device, *b"_PRT")?;
     let answer = machine.evaluate_object(alloc, &name, Vec::new(alloc))?;
@@ -48,7 +49,7 @@ fn pins_from<S: Space>(
     entries: &[Datum],
 ) -> Result<Vec<Pin>, Refusal>
     ensures value { Does (seen (λ pins. pins.items) result) machine.new (pins_from S.accesses (map given_of entries.now) []) machine.old }
-    ensures evaluated { Leaves S.accesses is_asked machine.old machine.new }
+    ensures evaluated { StopsInEntries S.accesses (map given_of entries.now) machine.old machine.new }
 {
     let mut pins = FirstPins::new(alloc);
     for entry in entries {
@@ -59,14 +60,14 @@ fn pins_from<S: Space>(
 }
 
 /// The pin of an entry; none of one that was left out.
-#[tactic(auto, using(ar_space::specs::Change::changing, acpi_machine::specs::Evaluations::leaving, crate::specs::Entries::rows))]
+#[tactic(auto, using(ar_space::specs::Change::changing, acpi_machine::specs::Stops::making, crate::specs::Entries::rows))]
 fn pin_of<S: Space>(
     alloc: Global,
     machine: &mut Machine<S>,
     entry: &Datum,
 ) -> Result<Option<Pin>, Refusal>
     ensures value { Does result machine.new (pin_of S.accesses (given_of entry.now)) machine.old }
-    ensures evaluated { Leaves S.accesses is_asked machine.old machine.new }
+    ensures evaluated { AllOrNone (pin_of S.accesses (given_of entry.now)) machine.old machine.new }
 {
     match entry {
         Datum::Nothing => Ok(None),
@@ -76,14 +77,14 @@ fn pin_of<S: Space>(
 }
 
 /// The pin of an entry of four parts.
-#[tactic(auto, using(crate::proofs::Entries::others_refused, acpi_machine::specs::Evaluations::leaving))]
+#[tactic(auto, using(crate::proofs::Entries::others_refused, acpi_machine::specs::Stops::making))]
 fn pin_among<S: Space>(
     alloc: Global,
     machine: &mut Machine<S>,
     parts: &[Datum],
 ) -> Result<Option<Pin>, Refusal>
     ensures value { Does result machine.new (pin_among S.accesses (map given_of parts.now)) machine.old }
-    ensures evaluated { Leaves S.accesses is_asked machine.old machine.new }
+    ensures evaluated { AllOrNone (pin_among S.accesses (map given_of parts.now)) machine.old machine.new }
 {
     if parts.len() != 4 {
         return Err(BAD_ENTRY);
@@ -92,7 +93,7 @@ fn pin_among<S: Space>(
     pin_with(alloc, machine, address, pin, source, index)
 }
 
-#[tactic(auto, using(ar_space::specs::Change::changing, acpi_machine::specs::Evaluations::leaving), unfolding(crate::specs::RoutingTables::pin_with))]
+#[tactic(auto, using(ar_space::specs::Change::changing, acpi_machine::specs::Stops::making), unfolding(crate::specs::RoutingTables::pin_with))]
 fn pin_with<S: Space>(
     alloc: Global,
     machine: &mut Machine<S>,
@@ -102,7 +103,7 @@ fn pin_with<S: Space>(
     index: &Datum,
 ) -> Result<Option<Pin>, Refusal>
     ensures value { Does result machine.new (pin_with S.accesses (given_of address.now) (given_of pin.now) (given_of source.now) (given_of index.now)) machine.old }
-    ensures evaluated { Leaves S.accesses is_asked machine.old machine.new }
+    ensures evaluated { AllOrNone (pin_with S.accesses (given_of address.now) (given_of pin.now) (given_of source.now) (given_of index.now)) machine.old machine.new }
 {
     let address = word_of(address)?;
     let pin = word_of(pin)?;
@@ -118,7 +119,7 @@ fn pin_with<S: Space>(
 }
 
 /// Where a source leads to with an index.
-#[tactic(auto, using(ar_space::specs::Change::changing, acpi_machine::specs::Evaluations::leaving))]
+#[tactic(auto, using(ar_space::specs::Change::changing, acpi_machine::specs::Stops::making))]
 fn route_of<S: Space>(
     alloc: Global,
     machine: &mut Machine<S>,
@@ -126,7 +127,7 @@ fn route_of<S: Space>(
     index: u32,
 ) -> Result<Route, Refusal>
     ensures value { Does result machine.new (route_of S.accesses (given_of source.now) index) machine.old }
-    ensures evaluated { Leaves S.accesses is_asked machine.old machine.new }
+    ensures evaluated { AllOrNone (route_of S.accesses (given_of source.now) index) machine.old machine.new }
 {
     match source {
         Datum::Integer(_) => Ok(Route::Wired(index)),
@@ -139,7 +140,7 @@ fn route_of<S: Space>(
     }
 }
 
-#[tactic(auto, using(ar_space::specs::Change::changing, acpi_machine::specs::Evaluations::leaving), unfolding(crate::specs::RoutingTables::linked))]
+#[tactic(auto, using(ar_space::specs::Change::changing), unfolding(crate::specs::RoutingTables::linked))]
 fn linked<S: Space>(
     alloc: Global,
     machine: &mut Machine<S>,
@@ -147,7 +148,7 @@ fn linked<S: Space>(
     index: u32,
 ) -> Result<Route, Refusal>
     ensures value { Does result machine.new (linked S.accesses path.now index) machine.old }
-    ensures evaluated { Leaves S.accesses is_asked machine.old machine.new }
+    ensures evaluated { AllOrNone (linked S.accesses path.now index) machine.old machine.new }
 {
     let link = link_at(alloc, machine, path)?;
     no_index(index)?;

@@ -1,11 +1,11 @@
 use Rattle.std.proofs.Common.{◌≤◌, length, subst, ◌∙◌, arith}
-use Rattle.acpi_machine.specs.Evaluations.{leaves_next}
+use Rattle.acpi_machine.specs.Stops.{stops_first}
 use Rattle.acpi_links.specs.Problems.{pin_counts}
 use Rattle.acpi_configure.specs.Configured.{Solves}
-use Rattle.acpi_configure.specs.Settling.{leaves_in}
 use Rattle.acpi_configure.proofs.Claims.{Bounded, Laws}
 use Rattle.acpi_configure.proofs.Reported.{reported, memory, told, offers_told}
 use Rattle.acpi_configure.proofs.Settled.{chosen_each, offered_each}
+use Rattle.acpi_configure.proofs.Stopped.{behind_answer}
 use Rattle.acpi_configure.proofs.configuring.configure.Goals as goal
 
 pub settle_answer-requires-clause-each : goal.settle_answer-requires-clause-each
@@ -40,8 +40,19 @@ returns-clause-report g c =
     c.in_ok-settings.ensures.value
     (c.with_settings.ensures ∙ told c.in_ok-report.report _ _ c.in_ok-report.ensures.lines) c.sci-sci.ensures
 
+pub returns-in_err-gathered-clause-evaluated : goal.returns-in_err-gathered-clause-evaluated
+returns-in_err-gathered-clause-evaluated g c = stops_first c.in_err-gathered.ensures.evaluated
+
+pub returns-in_err-answer-clause-evaluated : goal.returns-in_err-answer-clause-evaluated
+returns-in_err-answer-clause-evaluated g c = stops_first c.in_ok-gathered.ensures.evaluated
+
+pub returns-in_err-report-clause-evaluated : goal.returns-in_err-report-clause-evaluated
+returns-in_err-report-clause-evaluated g c = stops_first c.in_ok-gathered.ensures.evaluated
+
 pub returns-in_err-settings-clause-evaluated : goal.returns-in_err-settings-clause-evaluated
-returns-in_err-settings-clause-evaluated g c = leaves_next (leaves_in c.args.dry c.in_ok-gathered.ensures.evaluated) c.in_err-settings.ensures.evaluated
+returns-in_err-settings-clause-evaluated g c =
+    behind_answer g.S.Space.accesses c.args.avoid.now c.args.machine.now _ _ c.args.dry c.in_ok-gathered.gathered c.in_ok-answer.answer c.in_ok-gathered.ensures.value (subst (λ p. Solves p c.in_ok-answer.answer) c.problem.ensures c.in_ok-answer.ensures.solves) c.in_err-settings.ensures.evaluated
 
 pub returns-clause-evaluated : goal.returns-clause-evaluated
-returns-clause-evaluated g c = leaves_next (leaves_in c.args.dry c.in_ok-gathered.ensures.evaluated) c.in_ok-settings.ensures.evaluated
+returns-clause-evaluated g c =
+    behind_answer g.S.Space.accesses c.args.avoid.now c.args.machine.now _ _ c.args.dry c.in_ok-gathered.gathered c.in_ok-answer.answer c.in_ok-gathered.ensures.value (subst (λ p. Solves p c.in_ok-answer.answer) c.problem.ensures c.in_ok-answer.ensures.solves) c.in_ok-settings.ensures.evaluated

@@ -1,8 +1,9 @@
 use Rattle.std.proofs.Common.{arith, refl}
 use Rattle.ar_space.specs.Change.{does_same, does_seen_err, same_ok}
-use Rattle.acpi_machine.specs.Evaluations.{leaves_next}
+use Rattle.acpi_machine.specs.Stops.{none_made, stops_first, stops_here, stops_in, goes_on}
 use Rattle.acpi_links.specs.Folds.{same_turn, same_added, fold_end}
 use Rattle.acpi_links.specs.Links.{with_link, link_asked}
+use Rattle.acpi_links.specs.Stops.{StopsInLink}
 use Rattle.acpi_links.proofs.Kept.{kept_in_order, kept_few, kept_left, end_in_order}
 use Rattle.acpi_links.proofs.links.links_of_each.Goals as goal
 
@@ -12,7 +13,7 @@ loop-link-preserved g c = (
   kept_few _ _ _ _ c.in_ok-push_found.ensures.items c.loop-link.invariant.1,
   λ s. kept_in_order _ _ _ c.args.links.now c.loop-link.link-index _ c.in_ok-push_found.ensures.items c.in_ok-found.ensures.path (omega arith) c.link-item.is (c.loop-link.invariant.2 s),
   kept_left _ _ _ _ c.in_ok-push_found.ensures.items c.in_ok-found.ensures.left c.loop-link.invariant.3,
-  leaves_next c.loop-link.invariant.4 c.in_ok-found.ensures.evaluated,
+  goes_on (link_asked g.S.Space.accesses c.args.avoid.now) (StopsInLink g.S.Space.accesses c.args.avoid.now) c.args.links.now c.loop-link.link-index _ c.loop-link.invariant.4 (omega arith) c.link-item.is c.in_ok-found.ensures.value,
 )
 
 pub returns-in_err-found-clause-value : goal.returns-in_err-found-clause-value
@@ -25,3 +26,15 @@ returns-clause-value g c = fold_end with_link (link_asked g.S.Space.accesses c.a
 
 pub returns-clause-in_order : goal.returns-clause-in_order
 returns-clause-in_order g c = λ s. end_in_order c.loop-link.list.items c.args.links.now c.loop-link.link-index (omega arith) (c.loop-link.invariant.2 s)
+
+pub returns-in_err-found-clause-evaluated : goal.returns-in_err-found-clause-evaluated
+returns-in_err-found-clause-evaluated g c =
+    stops_in (link_asked g.S.Space.accesses c.args.avoid.now) (StopsInLink g.S.Space.accesses c.args.avoid.now) c.args.links.now c.loop-link.link-index _ c.loop-link.invariant.4 (omega arith) c.link-item.is c.in_err-found.ensures.evaluated
+
+pub returns-in_err-push_found-clause-evaluated : goal.returns-in_err-push_found-clause-evaluated
+returns-in_err-push_found-clause-evaluated g c =
+    stops_here (link_asked g.S.Space.accesses c.args.avoid.now) (StopsInLink g.S.Space.accesses c.args.avoid.now) (λ link u. stops_first none_made) _
+    (goes_on (link_asked g.S.Space.accesses c.args.avoid.now) (StopsInLink g.S.Space.accesses c.args.avoid.now) c.args.links.now c.loop-link.link-index _ c.loop-link.invariant.4 (omega arith) c.link-item.is c.in_ok-found.ensures.value)
+
+pub returns-clause-evaluated : goal.returns-clause-evaluated
+returns-clause-evaluated g c = stops_here (link_asked g.S.Space.accesses c.args.avoid.now) (StopsInLink g.S.Space.accesses c.args.avoid.now) (λ link u. stops_first none_made) _ c.loop-link.invariant.4

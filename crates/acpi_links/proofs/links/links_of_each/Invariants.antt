@@ -3,9 +3,10 @@ use Rattle.std.specs.Prelude.{All}
 use Rattle.std.specs.List.Sorted.{IsStrictlySortedBy}
 use Rattle.ar_space.specs.Change.{Same}
 use Rattle.aml_path.specs.Paths.{path_cmp}
-use Rattle.acpi_machine.specs.Evaluations.{Leaves, is_asked}
+use Rattle.acpi_machine.specs.Stops.{Goes}
 use Rattle.acpi_links.specs.Folds.{folded}
 use Rattle.acpi_links.specs.Links.{HasLeft, with_link, link_asked, links_of_each}
+use Rattle.acpi_links.specs.Stops.{StopsInLinks}
 use Rattle.acpi_links.proofs.links.links_of_each.Given as goal
 
 abbrev pub invariant-loop-link : goal.invariant-loop-link
@@ -14,4 +15,4 @@ invariant-loop-link g l =
     × (length l.list.items ≤ l.link-index)
     × (IsStrictlySortedBy path_cmp l.links → IsStrictlySortedBy path_cmp (map (λ link. link.0) l.list.items ++ drop l.link-index l.links))
     × All (HasLeft l.avoid) l.list.items
-    × Leaves g.S.Space.accesses is_asked l.fn.machine l.machine
+    × Goes (StopsInLinks g.S.Space.accesses l.avoid l.links) l.fn.machine (StopsInLinks g.S.Space.accesses l.avoid (drop l.link-index l.links)) l.machine

@@ -1,7 +1,7 @@
 use Rattle.std.proofs.Common.{sym, ap, ◌∙◌}
 use Rattle.aml_meaning.specs.Given.{given_of}
 use Rattle.acpi_machine.specs.Calls.{evaluated_object}
-use Rattle.acpi_machine.specs.Evaluations.{left_by_one}
+use Rattle.acpi_machine.specs.Stops.{made}
 use Rattle.acpi_machine.specs.MachineStates.{MachineState}
 use Rattle.acpi_machine.specs.Noticing.{does_unspent}
 use Rattle.acpi_machine.proofs.machine.Machine.evaluate_object.Goals as goal
@@ -9,4 +9,4 @@ use Rattle.acpi_machine.proofs.machine.Machine.evaluate_object.Goals as goal
 pub returns-clause-evaluated : goal.returns-clause-evaluated
 unfolding evaluated_object
 returns-clause-evaluated g c =
-    left_by_one g.S.Space.accesses c.args.self.now c.args.path.now _ c.answer_noticed.result given_of (does_unspent _ c.args.self.now (sym (ap (λ (s : MachineState g.row.S.Denot). s.spent) c.self.view_is) ∙ c.if-self.false) c.answer_noticed.ensures.answer) c.answer_noticed.ensures.memory
+    made (evaluated_object g.S.Space.accesses c.args.path.now _) c.args.self.now c.answer_noticed.result given_of (does_unspent _ c.args.self.now (sym (ap (λ (s : MachineState g.row.S.Denot). s.spent) c.self.view_is) ∙ c.if-self.false) c.answer_noticed.ensures.answer) c.answer_noticed.ensures.memory

@@ -1,0 +1,58 @@
+-- Where the calls that set links and read them stop.
+use Rattle.std.proofs.Common.{◌≡◌, ℕ, zero, suc, ◌<◌, List, [], ◌∷◌, length, get_or, Bool, true, false, Ok, refl, arith}
+use Rattle.std.specs.Prelude.{zip}
+use Rattle.ar_space.specs.Accesses.{Accesses}
+use Rattle.ar_space.specs.Outcome.{Outcome}
+use Rattle.ar_space.specs.Change.{Change, Does}
+use Rattle.acpi_machine.specs.MachineStates.{MachineState}
+use Rattle.acpi_machine.specs.Stops.{Stop, AllOrNone, made_as, made_given, none_made, goes_start, stops_here, stops_next}
+use Rattle.acpi_links.specs.Links.{PresentLink}
+use Rattle.acpi_links.specs.Resources.{current_resources}
+use Rattle.acpi_links.specs.Settings.{resources_set}
+use Rattle.acpi_links.specs.Gathering.{Gathering}
+use Rattle.acpi_links.specs.Gatherings.{gathered}
+use Rattle.route_solve.specs.Problems.{RoutingAnswer}
+use Rattle.acpi_configure.specs.Configured.{Solves}
+use Rattle.acpi_configure.specs.Settling.{attempted, set_told, state_told, link_set, link_read}
+use Rattle.acpi_configure.specs.Stops.{StopsInSettling, StopsBehind, StopsInRun}
+
+pub attempt_made : {S A B : Type 0} {s t : MachineState S} (tell : Outcome A → B) (m : Change (MachineState S) A) → AllOrNone m s t → AllOrNone (attempted tell m) s t
+unfolding attempted
+attempt_made tell m h = made_as m (attempted tell m) refl h
+
+module _ {S : Type 0} (accesses : Accesses S) {s t : MachineState S} where
+  pub link_set_made : (link : PresentLink) (n : ℕ) → AllOrNone (attempted set_told (resources_set accesses link.0 link.1 n)) s t → AllOrNone (link_set accesses link n) s t
+  unfolding link_set
+  link_set_made link n h = made_given (attempted set_told (resources_set accesses link.0 link.1 n)) _ h
+
+  pub link_read_made : (link : PresentLink) → AllOrNone (attempted state_told (current_resources accesses link.0)) s t → AllOrNone (link_read accesses link) s t
+  unfolding link_read
+  link_read_made link h = made_given (attempted state_told (current_resources accesses link.0)) _ h
+
+  pub unless_dry : (dry : Bool) (links : List PresentLink) (ns : List ℕ) → dry ≡ false → StopsInSettling accesses false links ns s t → StopsInSettling accesses dry links ns s t
+  unless_dry dry links ns is h = rw is h
+
+-- ---- links and interrupts side by side
+
+module _ {A B : Type 0} where
+  pub zip_within : (xs : List A) (ys : List B) (i : ℕ) → i < length xs → i < length ys → i < length (zip xs ys)
+  zip_within [] ys i l m = l
+  zip_within (x ∷ xs) [] i l m = m
+  zip_within (x ∷ xs) (y ∷ ys) zero l m = omega arith
+  zip_within (x ∷ xs) (y ∷ ys) (suc i) l m = let h = zip_within xs ys i (omega arith) (omega arith) in omega arith
+
+  pub zip_item : (xs : List A) (ys : List B) (i : ℕ) (d : A) (e : B) (f : A × B) → i < length xs → i < length ys → get_or (zip xs ys) i f ≡ (get_or xs i d, get_or ys i e)
+  zip_item [] ys i d e f l m = absurd (omega arith)
+  zip_item (x ∷ xs) [] i d e f l m = absurd (omega arith)
+  zip_item (x ∷ xs) (y ∷ ys) zero d e f l m = refl
+  zip_item (x ∷ xs) (y ∷ ys) (suc i) d e f l m = zip_item xs ys i d e f (omega arith) (omega arith)
+
+pub pair_at : (ls : List PresentLink) (ns : List ℕ) (i : ℕ) (l : PresentLink) → i < length ls → i < length ns → l ≡ get_or ls i l → (l, get_or ns i 0) ≡ get_or (zip ls ns) i (l, get_or ns i 0)
+pair_at ls ns i l within there at = rw (zip_item ls ns i l 0 (l, get_or ns i 0) within there, ← at) refl
+
+-- ---- a run
+
+module _ {S : Type 0} (accesses : Accesses S) (avoid : List ℕ) (s t u : MachineState S) where
+  pub behind_answer : (dry : Bool) (found : Gathering) (answer : RoutingAnswer) → Does (Ok found) t (gathered accesses avoid) s → Solves found.problem answer
+      → StopsInSettling accesses dry found.links answer.choice t u → StopsInRun accesses dry avoid s u
+  behind_answer dry found answer d solves h = stops_next d (record { answer = answer; solves = solves; settling = h })

@@ -1,0 +1,10 @@
+use Rattle.std.proofs.Common.{map, ap}
+use Rattle.aml_meaning.specs.Given.{given_of}
+use Rattle.acpi_links.proofs.Stopped.{buffer_made}
+use Rattle.acpi_links.proofs.child_objects.buffer_at.Goals as goal
+
+pub returns-in_err-answer-clause-evaluated : goal.returns-in_err-answer-clause-evaluated
+returns-in_err-answer-clause-evaluated g c = buffer_made g.S.Space.accesses c.args.path.now _ c.in_err-answer.ensures.evaluated (ap (map given_of) c.new.ensures.items)
+
+pub returns-clause-evaluated : goal.returns-clause-evaluated
+returns-clause-evaluated g c = buffer_made g.S.Space.accesses c.args.path.now _ c.in_ok-answer.ensures.evaluated (ap (map given_of) c.new.ensures.items)
