@@ -1,11 +1,11 @@
 -- Where the calls that set links and read them stop.
-use Rattle.std.proofs.Common.{◌≡◌, ℕ, zero, suc, ◌<◌, List, [], ◌∷◌, length, get_or, Bool, true, false, Ok, refl, arith}
+use Rattle.std.proofs.Common.{◌≡◌, ℕ, zero, suc, ◌<◌, List, [], ◌∷◌, length, get_or, Bool, false, Ok, refl, arith}
 use Rattle.std.specs.Prelude.{zip}
 use Rattle.ar_space.specs.Accesses.{Accesses}
 use Rattle.ar_space.specs.Outcome.{Outcome}
 use Rattle.ar_space.specs.Change.{Change, Does}
 use Rattle.acpi_machine.specs.MachineStates.{MachineState}
-use Rattle.acpi_machine.specs.Stops.{Stop, AllOrNone, made_as, made_given, none_made, goes_start, stops_here, stops_next}
+use Rattle.acpi_machine.specs.Stops.{AllOrNone, made_as, made_given, stops_next}
 use Rattle.acpi_links.specs.Links.{PresentLink}
 use Rattle.acpi_links.specs.Resources.{current_resources}
 use Rattle.acpi_links.specs.Settings.{resources_set}
@@ -14,7 +14,7 @@ use Rattle.acpi_links.specs.Gatherings.{gathered}
 use Rattle.route_solve.specs.Problems.{RoutingAnswer}
 use Rattle.acpi_configure.specs.Configured.{Solves}
 use Rattle.acpi_configure.specs.Settling.{attempted, set_told, state_told, link_set, link_read}
-use Rattle.acpi_configure.specs.Stops.{StopsInSettling, StopsBehind, StopsInRun}
+use Rattle.acpi_configure.specs.Stops.{StopsInSettling, StopsInRun}
 
 pub attempt_made : {S A B : Type 0} {s t : MachineState S} (tell : Outcome A → B) (m : Change (MachineState S) A) → AllOrNone m s t → AllOrNone (attempted tell m) s t
 unfolding attempted

@@ -1,5 +1,5 @@
 -- Links are set, and then what each of them is set to is read (ACPI 6.5, 6.2.16 and 6.2.2). A refusal is told, and the next link follows.
-use Rattle.std.specs.Prelude.{◌≡◌, ℕ, List, [], ◌∷◌, ◌++◌, Bool, true, false, Option, Ok, Err}
+use Rattle.std.specs.Prelude.{ℕ, List, [], ◌∷◌, ◌++◌, Bool, true, false, Option, Ok, Err}
 use Rattle.ar_space.specs.Accesses.{Accesses}
 use Rattle.ar_space.specs.Numbers.{number_of}
 use Rattle.ar_space.specs.Outcome.{Outcome}

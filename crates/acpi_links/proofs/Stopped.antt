@@ -1,9 +1,8 @@
 -- Where the calls that ask links and routing tables stop.
-use Rattle.std.proofs.Common.{◌≡◌, ℕ, List, [], ◌∷◌, Bool, true, false, Option, Some, Ok, Err, refl, sym, ap, subst}
-use Rattle.std.specs.Prelude.{codes}
+use Rattle.std.proofs.Common.{◌≡◌, ℕ, List, [], ◌∷◌, Bool, true, Option, Some, Ok, refl, sym, ap, subst}
 use Rattle.ar_space.specs.Accesses.{Accesses}
 use Rattle.ar_space.specs.Outcome.{Outcome, Answers}
-use Rattle.ar_space.specs.Change.{Change, Does, give, does_ok, does_made, does_settle, settle_ok}
+use Rattle.ar_space.specs.Change.{Does, give, does_ok, does_made, does_settle}
 use Rattle.aml_path.specs.declared.segment.Seg.{Seg}
 use Rattle.aml_meaning.specs.Given.{Given, Bytes}
 use Rattle.acpi_resources.specs.Records.{InterruptOffer}
@@ -12,14 +11,13 @@ use Rattle.acpi_resources.specs.Current.{current_of}
 use Rattle.acpi_resources.specs.Settings.{setting_of}
 use Rattle.acpi_machine.specs.MachineStates.{MachineState, sci_of}
 use Rattle.acpi_machine.specs.Calls.{evaluated_object}
-use Rattle.acpi_machine.specs.Stops.{Stop, Made, AllOrNone, StopsThen, StopsEach, all_made, none_made, made_as, made_asked, made_after, made_settled, made_given, made_then_settled, made_then_tested, stops_first, stops_next, goes_start, stops_here}
-use Rattle.acpi_prt.specs.Children.{child_named}
+use Rattle.acpi_machine.specs.Stops.{Made, AllOrNone, all_made, none_made, made_as, made_asked, made_after, made_given, made_then_settled, made_then_tested, stops_first, stops_next, goes_start, stops_here}
 use Rattle.acpi_prt.specs.Stops.{StopsInTable}
 use Rattle.acpi_prt.specs.declared.pin.Pin.{Pin}
 use Rattle.acpi_links.specs.Answered.{stands, bytes_in, buffer_at}
-use Rattle.acpi_links.specs.Presence.{presence, status_at, presence_at, is_present}
+use Rattle.acpi_links.specs.Presence.{presence, status_at, presence_at}
 use Rattle.acpi_links.specs.Resources.{offer_at, possible_at, possible_resources, numbers_at, current_at, current_resources}
-use Rattle.acpi_links.specs.Settings.{setting_handed, set_at, resources_set}
+use Rattle.acpi_links.specs.Settings.{setting_handed, set_at}
 use Rattle.acpi_links.specs.Devices.{devices, devices_listed, pins_of_device}
 use Rattle.acpi_links.specs.Gatherings.{pins_found}
 use Rattle.acpi_links.specs.Links.{links_named, some_left, link_asked}

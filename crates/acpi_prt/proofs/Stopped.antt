@@ -1,21 +1,21 @@
 -- Where the calls that read a routing table stop.
-use Rattle.std.proofs.Common.{◌≡◌, ℕ, ◌<◌, List, [], length, get_or, map, Ok, Err, refl, sym, ap, ◌∙◌}
+use Rattle.std.proofs.Common.{◌≡◌, ℕ, ◌<◌, List, [], length, get_or, map, Ok, sym, ap, ◌∙◌}
 use Rattle.std.specs.Prelude.{codes}
 use Rattle.std.proofs.lemmas.List.{get_or-map}
 use Rattle.ar_space.specs.Accesses.{Accesses}
-use Rattle.ar_space.specs.Outcome.{Outcome, Answers}
-use Rattle.ar_space.specs.Change.{Change, Does, does_ok, does_settle, settle_ok}
+use Rattle.ar_space.specs.Outcome.{Answers}
+use Rattle.ar_space.specs.Change.{Does, does_ok, does_settle, settle_ok}
 use Rattle.aml_path.specs.declared.segment.Seg.{Seg}
 use Rattle.aml_meaning.specs.declared.datum.Datum.{Datum}
 use Rattle.aml_meaning.specs.Given.{Given, given_of}
 use Rattle.acpi_machine.specs.MachineStates.{MachineState}
 use Rattle.acpi_machine.specs.Calls.{evaluated_object}
-use Rattle.acpi_machine.specs.Stops.{Stop, Made, AllOrNone, StopsThen, none_made, made_asked, made_after, made_settled, made_given, made_then_settled, made_then_tested, stops_first, stops_next}
+use Rattle.acpi_machine.specs.Stops.{Made, AllOrNone, made_asked, made_after, made_settled, made_given, made_then_settled, made_then_tested, stops_first, stops_next}
 use Rattle.acpi_prt.specs.declared.pin.Route.TheVariants.{Link}
 use Rattle.acpi_prt.specs.Children.{child_named}
 use Rattle.acpi_prt.specs.Entries.{entries_of, word_of, source_tested, letter_of, no_index}
 use Rattle.acpi_prt.specs.Links.{device_at, id_at, is_link_id, link_at}
-use Rattle.acpi_prt.specs.RoutingTables.{linked, route_of, pin_with, pin_of}
+use Rattle.acpi_prt.specs.RoutingTables.{linked, route_of, pin_with}
 use Rattle.acpi_prt.specs.Stops.{entries_answered, StopsInEntries, StopsInTable}
 
 module _ {S : Type 0} (accesses : Accesses S) {s t : MachineState S} where

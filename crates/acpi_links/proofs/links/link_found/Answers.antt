@@ -1,4 +1,3 @@
-use Rattle.acpi_machine.specs.Stops.{none_made}
 use Rattle.acpi_links.proofs.Stopped.{in_offer, behind_offer}
 use Rattle.acpi_links.proofs.links.link_found.Goals as goal
 
