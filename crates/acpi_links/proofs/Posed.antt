@@ -2,8 +2,8 @@
 use Rattle.std.proofs.Common.{◌≡◌, ℕ, ◌+◌, ◌<◌, ◌≤◌, Bool, true, false, ◌&&◌, List, [], ◌∷◌, ◌++◌, Option, Some, None, length, map, drop, get_or, Ok, arith, refl, ◌∙◌, sym, ap, drop-cons, add-one, append_assoc, append-nil}
 use Rattle.std.proofs.lemmas.List.{drop_all, get_or-map, length-map}
 use Rattle.std.proofs.lemmas.List.Kept.{IsStrictlyIncreasing-filter}
-use Rattle.std.specs.Prelude.{All, sum_by, not, filter, option_to_list}
-use Rattle.std.specs.List.{cons_option, list_all}
+use Rattle.std.specs.Prelude.{All, sum_by, not}
+use Rattle.std.specs.List.{cons_option}
 use Rattle.std.specs.List.Sorted.{IsStrictlySortedBy, IsStrictlyIncreasing}
 use Rattle.std.specs.Ordering.{nat_cmp, match_ordering}
 use Rattle.std.specs.declared.cmp.Ordering.{Ordering}
@@ -15,7 +15,7 @@ use Rattle.aml_path.specs.Paths.{path_cmp}
 use Rattle.acpi_resources.specs.Numbers.{with_numbers}
 use Rattle.acpi_prt.specs.declared.pin.Pin.{Pin}
 use Rattle.route_model.specs.Avoided.{is_avoided, are_all_avoided, without}
-use Rattle.route_model.specs.Links.{OfferingLink, offers_of, paths_of}
+use Rattle.route_model.specs.Links.{OfferingLink, paths_of}
 use Rattle.route_solve.specs.Fits.{Fits, IsOffer}
 use Rattle.acpi_links.specs.Links.{PresentLink}
 use Rattle.acpi_links.specs.Problems.{wired_number, with_number, wired_numbers, wired_counts, source_numbers, offering, problem_of}

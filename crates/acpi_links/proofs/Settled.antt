@@ -1,5 +1,5 @@
 -- A refusal of an outcome that depends on no state, handed on where the value is seen by a view.
-use Rattle.std.proofs.Common.{◌≡◌, Ok, Err, refl, ◌∙◌}
+use Rattle.std.proofs.Common.{◌≡◌, Err}
 use Rattle.std.specs.Prelude.{IsErr, IsErrAnd}
 use Rattle.ar_space.specs.declared.refusal.Refusal.{Refusal}
 use Rattle.ar_space.specs.Outcome.{Outcome, Answers, seen}

@@ -1,5 +1,6 @@
 -- Where the calls that ask links and routing tables stop.
-use Rattle.std.proofs.Common.{◌≡◌, ℕ, List, [], ◌∷◌, Bool, true, Option, Some, Ok, refl, sym, ap, subst}
+use Rattle.std.specs.Prelude.{codes}
+use Rattle.std.proofs.Common.{◌≡◌, ℕ, List, [], ◌∷◌, Bool, true, false, Option, Some, Ok, refl, sym, ap, subst}
 use Rattle.ar_space.specs.Accesses.{Accesses}
 use Rattle.ar_space.specs.Outcome.{Outcome, Answers}
 use Rattle.ar_space.specs.Change.{Does, give, does_ok, does_made, does_settle}
@@ -11,7 +12,8 @@ use Rattle.acpi_resources.specs.Current.{current_of}
 use Rattle.acpi_resources.specs.Settings.{setting_of}
 use Rattle.acpi_machine.specs.MachineStates.{MachineState, sci_of}
 use Rattle.acpi_machine.specs.Calls.{evaluated_object}
-use Rattle.acpi_machine.specs.Stops.{Made, AllOrNone, all_made, none_made, made_as, made_asked, made_after, made_given, made_then_settled, made_then_tested, stops_first, stops_next, goes_start, stops_here}
+use Rattle.acpi_machine.specs.Stops.{Made, AllOrNone, all_made, made_as, made_asked, made_after, made_given, made_then_settled, made_then_tested, stops_first, stops_next, goes_start, stops_here}
+use Rattle.acpi_prt.specs.Children.{child_named}
 use Rattle.acpi_prt.specs.Stops.{StopsInTable}
 use Rattle.acpi_prt.specs.declared.pin.Pin.{Pin}
 use Rattle.acpi_links.specs.Answered.{stands, bytes_in, buffer_at}
@@ -20,8 +22,8 @@ use Rattle.acpi_links.specs.Resources.{offer_at, possible_at, possible_resources
 use Rattle.acpi_links.specs.Settings.{setting_handed, set_at}
 use Rattle.acpi_links.specs.Devices.{devices, devices_listed, pins_of_device}
 use Rattle.acpi_links.specs.Gatherings.{pins_found}
-use Rattle.acpi_links.specs.Links.{links_named, some_left, link_asked}
-use Rattle.acpi_links.specs.Stops.{StopsInTables, offer_asked, StopsInOffer, StopsIfPresent, StopsInLink, StopsInLinks, StopsInGathering}
+use Rattle.acpi_links.specs.Links.{links_named, few_links, some_left}
+use Rattle.acpi_links.specs.Stops.{StopsIfStands, StopsInDevice, StopsInTables, offer_asked, StopsInOffer, StopsIfPresent, StopsInLinks, StopsInFew, StopsInGathering}
 
 -- ---- calls that evaluate one object at most
 
@@ -82,10 +84,16 @@ module _ {S : Type 0} (accesses : Accesses S) (avoid : List ℕ) {s t : MachineS
 
 module _ {S : Type 0} (accesses : Accesses S) where
   pub no_table : (list : List (List Seg)) (s : MachineState S) → StopsInTables accesses list s s
-  no_table list s = stops_here (pins_of_device accesses) (StopsInTable accesses) (λ device u. stops_first none_made) list goes_start
+  no_table list s = stops_here (pins_of_device accesses) (StopsInDevice accesses) (λ device u. stops_first refl) list goes_start
 
-  pub no_link : (avoid : List ℕ) (list : List (List Seg)) (s : MachineState S) → StopsInLinks accesses avoid list s s
-  no_link avoid list s = stops_here (link_asked accesses avoid) (StopsInLink accesses avoid) (λ link u. stops_first none_made) list goes_start
+  pub if_stands : (is : Bool) (device : List Seg) (s t : MachineState S) → is ≡ true → StopsInTable accesses device s t → StopsIfStands accesses is device s t
+  if_stands is device s t e h = rw e h
+
+  pub if_none_stands : (is : Bool) (device : List Seg) (s : MachineState S) → is ≡ false → StopsIfStands accesses is device s s
+  if_none_stands is device s e = rw e refl
+
+  pub in_device : (device prt : List Seg) (s t : MachineState S) → Answers (Ok prt) (child_named device (codes "_PRT")) → StopsIfStands accesses (stands prt s) device s t → StopsInDevice accesses device s t
+  in_device device prt s t a h = stops_next (does_settle (Ok prt) (child_named device (codes "_PRT")) a) h
 
   pub devices_as_listed : (list : List (List Seg)) (s t : MachineState S) → Does (Ok list) s devices_listed s → StopsInTables accesses list s t → StopsInTables accesses (devices s) s t
   unfolding devices_listed
@@ -93,13 +101,16 @@ module _ {S : Type 0} (accesses : Accesses S) where
       let is : devices s ≡ list = (let e = ap (λ (x : Outcome (List (List Seg)) × MachineState S). x.0) (d.is tt) in cc e) in
       subst (λ xs. StopsInTables accesses xs s t) (sym is) h
 
-  pub links_as_named : (avoid : List ℕ) (list : List (List Seg)) (pins : List (List Seg × Pin)) (s t : MachineState S) → Answers (Ok list) (Ok (links_named pins)) → StopsInLinks accesses avoid list s t → StopsInLinks accesses avoid (links_named pins) s t
-  links_as_named avoid list pins s t a h =
+  pub no_few : (avoid : List ℕ) (list : List (List Seg)) (s : MachineState S) → StopsInFew accesses avoid list s s
+  no_few avoid list s = stops_first refl
+
+  pub few_named : (avoid : List ℕ) (list : List (List Seg)) (pins : List (List Seg × Pin)) (s t : MachineState S) → Answers (Ok list) (Ok (links_named pins)) → Answers (Ok tt) (few_links list) → StopsInLinks accesses avoid list s t → StopsInFew accesses avoid (links_named pins) s t
+  few_named avoid list pins s t a f h =
       let is : links_named pins ≡ list = cc (a.is tt) in
-      subst (λ xs. StopsInLinks accesses avoid xs s t) (sym is) h
+      subst (λ xs. StopsInFew accesses avoid xs s t) (sym is) (stops_next (does_settle (Ok tt) (few_links list) f) h)
 
   -- links are asked in the machine that the routing tables left
-  pub behind_tables : (avoid : List ℕ) (sci : Option ℕ) (pins : List (List Seg × Pin)) (s t u : MachineState S) → ◌≡◌ {A = Outcome (Option ℕ)} (Ok sci) (Ok (sci_of s)) → Does (Ok pins) t (pins_found accesses sci) s → StopsInLinks accesses avoid (links_named pins) t u → StopsInGathering accesses avoid s u
+  pub behind_tables : (avoid : List ℕ) (sci : Option ℕ) (pins : List (List Seg × Pin)) (s t u : MachineState S) → ◌≡◌ {A = Outcome (Option ℕ)} (Ok sci) (Ok (sci_of s)) → Does (Ok pins) t (pins_found accesses sci) s → StopsInFew accesses avoid (links_named pins) t u → StopsInGathering accesses avoid s u
   behind_tables avoid sci pins s t u e d h =
       let is : sci ≡ sci_of s = cc e in
       let found : Does (Ok pins) t (pins_found accesses (sci_of s)) s = subst (λ n. Does (Ok pins) t (pins_found accesses n) s) is d in

@@ -1,5 +1,5 @@
 -- Objects below a device, and what kind of value they answer (ACPI 6.5, 6.1 and 6.2).
-use Rattle.std.specs.Prelude.{ℕ, List, [], ◌∷◌, ◌++◌, Bool, Ok, Err}
+use Rattle.std.specs.Prelude.{ℕ, List, [], Bool, Ok, Err}
 use Rattle.std.specs.Option.{is_some}
 use Rattle.ar_space.specs.declared.refusal.Refusal.TheVariants as refusal
 use Rattle.ar_space.specs.declared.refusal.ValueFault.TheVariants.{WrongType}

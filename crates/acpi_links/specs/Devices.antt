@@ -1,5 +1,5 @@
 -- The devices of a machine, and the pins of their routing tables (ACPI 6.5, 6.2.13).
-use Rattle.std.specs.Prelude.{ℕ, ◌+◌, List, [], ◌∷◌, ◌++◌, map, Bool, true, false, Option, Some, None, Ok, codes, if◌then◌else◌}
+use Rattle.std.specs.Prelude.{List, [], ◌++◌, map, Bool, true, false, Option, Some, None, Ok, codes, if◌then◌else◌}
 use Rattle.std.specs.List.{filter_map}
 use Rattle.ar_space.specs.Accesses.{Accesses}
 use Rattle.ar_space.specs.Change.{Change, give, settle, ◌>>=◌}

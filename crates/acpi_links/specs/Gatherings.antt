@@ -3,10 +3,8 @@ use Rattle.std.specs.Prelude.{ℕ, List, Option, Ok}
 use Rattle.ar_space.specs.Accesses.{Accesses}
 use Rattle.ar_space.specs.Change.{Change, give, settle, ◌>>=◌, ◌>>◌}
 use Rattle.aml_path.specs.declared.segment.Seg.{Seg}
-use Rattle.acpi_resources.specs.Records.{InterruptOffer}
 use Rattle.acpi_machine.specs.MachineStates.{MachineState, sci_of}
 use Rattle.acpi_prt.specs.declared.pin.Pin.{Pin}
-use Rattle.route_solve.specs.Problems.{RoutingProblem}
 use Rattle.acpi_links.specs.Devices.{devices_listed, pins_of_each}
 use Rattle.acpi_links.specs.Links.{PresentLink, few_pins, links_named, few_links, links_of_each, one_polarity}
 use Rattle.acpi_links.specs.Problems.{problem_of}

@@ -1,5 +1,5 @@
 -- Whether a link device is present (ACPI 6.5, 6.3.7).
-use Rattle.std.specs.Prelude.{ℕ, ◌%◌, ◌==◌, List, [], Bool, true, Ok, Err, codes, if◌then◌else◌}
+use Rattle.std.specs.Prelude.{◌%◌, ◌==◌, List, [], Bool, true, Ok, Err, codes, if◌then◌else◌}
 use Rattle.ar_space.specs.declared.refusal.Refusal.TheVariants as refusal
 use Rattle.ar_space.specs.declared.refusal.ValueFault.TheVariants.{WrongType}
 use Rattle.ar_space.specs.Accesses.{Accesses}

@@ -3,8 +3,8 @@ ghost use Rattle.std.specs.Prelude.{◌≡◌, Ok, map};
 ghost use Rattle.std.specs.List.{filter_map};
 ghost use Rattle.ar_space.specs.Outcome.{Answers, seen};
 ghost use Rattle.ar_space.specs.Change.{Does};
-ghost use Rattle.acpi_prt.specs.Stops.{StopsInTable};
-ghost use Rattle.acpi_links.specs.Stops.{StopsInTables};
+ghost use Rattle.acpi_links.specs.Answered.{stands};
+ghost use Rattle.acpi_links.specs.Stops.{StopsIfStands, StopsInDevice, StopsInTables};
 ghost use Rattle.acpi_machine.specs.Kinds.{kind_seen};
 ghost use Rattle.acpi_links.specs.Devices.{is_device, device_path, devices, pins_at, with_device, pins_of_device, pins_of_each};
 
@@ -60,14 +60,14 @@ pub(crate) fn pins_of_each<S: Space>(
 }
 
 /// The pins of the routing table of a device, if it has one.
-#[tactic(auto, using(ar_space::specs::Change::changing, acpi_machine::specs::Stops::making), unfolding(crate::specs::Devices::pins_of_device))]
+#[tactic(auto, using(ar_space::specs::Change::changing), unfolding(crate::specs::Devices::pins_of_device))]
 fn pins_of_device<S: Space>(
     alloc: Global,
     machine: &mut Machine<S>,
     device: &Path,
 ) -> Result<Vec<(Path, Pin)>, Refusal>
     ensures value { Does (seen (λ list. list.items) result) machine.new (pins_of_device S.accesses device.now) machine.old }
-    ensures evaluated { StopsInTable S.accesses device.now machine.old machine.new }
+    ensures evaluated { StopsInDevice S.accesses device.now machine.old machine.new }
 {
     let path = child_named(alloc, device, *b"_PRT")?;
     let pins = pins_at(alloc, machine, device, &path)?;
@@ -75,7 +75,7 @@ fn pins_of_device<S: Space>(
 }
 
 /// The pins of a device whose routing table stands at a path, if it does.
-#[tactic(auto, using(acpi_machine::specs::Stops::making), unfolding(crate::specs::Devices::pins_at))]
+#[tactic(auto, using(crate::proofs::Stopped::if_stands), unfolding(crate::specs::Devices::pins_at))]
 fn pins_at<S: Space>(
     alloc: Global,
     machine: &mut Machine<S>,
@@ -83,7 +83,7 @@ fn pins_at<S: Space>(
     path: &Path,
 ) -> Result<Vec<Pin>, Refusal>
     ensures value { Does (seen (λ list. list.items) result) machine.new (pins_at S.accesses device.now path.now) machine.old }
-    ensures evaluated { StopsInTable S.accesses device.now machine.old machine.new }
+    ensures evaluated { StopsIfStands S.accesses (stands path.now machine.old) device.now machine.old machine.new }
 {
     if stands(machine, path) {
         get_irq_routing_table(alloc, machine, device)

@@ -3,7 +3,7 @@ ghost use Rattle.std.specs.Prelude.{◌≡◌, ◌≤◌, ◌+◌, All, Ok, IfOk
 ghost use Rattle.std.specs.List.Sorted.{IsStrictlySortedBy};
 ghost use Rattle.ar_space.specs.Outcome.{Answers, seen};
 ghost use Rattle.ar_space.specs.Change.{Does};
-ghost use Rattle.acpi_links.specs.Stops.{StopsInTables, StopsInLinks, StopsInGathering};
+ghost use Rattle.acpi_links.specs.Stops.{StopsInTables, StopsInFew, StopsInGathering};
 ghost use Rattle.aml_path.specs.Paths.{path_cmp};
 ghost use Rattle.route_solve.specs.Fits.{Fits};
 ghost use Rattle.acpi_machine.specs.MachineStates.{sci_of};
@@ -94,7 +94,7 @@ fn links_found<S: Space>(
     pins: &[(Path, Pin)],
 ) -> Result<Vec<PresentLink>, Refusal>
     ensures value { Does (seen (λ list. list.items) result) machine.new (links_found S.accesses avoid.now pins.now) machine.old }
-    ensures evaluated { StopsInLinks S.accesses avoid.now (links_named pins.now) machine.old machine.new }
+    ensures evaluated { StopsInFew S.accesses avoid.now (links_named pins.now) machine.old machine.new }
     ensures few { IfOk result (λ list. length list.items ≤ 256) }
     ensures in_order { IfOk result (λ list. IsStrictlySortedBy path_cmp (map (λ link. link.0) list.items)) }
     ensures left { IfOk result (λ list. All (HasLeft avoid.now) list.items) }

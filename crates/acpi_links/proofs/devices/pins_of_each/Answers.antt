@@ -1,15 +1,15 @@
 use Rattle.std.proofs.Common.{◌++◌, arith, refl}
 use Rattle.ar_space.specs.Change.{does_same, does_seen_err, same_ok}
-use Rattle.acpi_machine.specs.Stops.{none_made, stops_first, stops_here, stops_in, goes_on}
-use Rattle.acpi_prt.specs.Stops.{StopsInTable}
+use Rattle.acpi_machine.specs.Stops.{stops_first, stops_here, stops_in, goes_on}
 use Rattle.acpi_links.specs.Folds.{same_turn, same_added, fold_end}
 use Rattle.acpi_links.specs.Devices.{pins_of_device}
+use Rattle.acpi_links.specs.Stops.{StopsInDevice}
 use Rattle.acpi_links.proofs.devices.pins_of_each.Goals as goal
 
 pub loop-device-preserved : goal.loop-device-preserved
 loop-device-preserved g c = (
   same_added _ _ _ _ _ (same_ok _ _ (same_turn ◌++◌ (pins_of_device g.S.Space.accesses) c.args.devices.now c.loop-device.list.items c.loop-device.device-index _ c.loop-device.invariant.0 (omega arith) c.device-item.is) c.in_ok-pins.ensures.value) c.in_ok-append.ensures.items,
-  goes_on (pins_of_device g.S.Space.accesses) (StopsInTable g.S.Space.accesses) c.args.devices.now c.loop-device.device-index _ c.loop-device.invariant.1 (omega arith) c.device-item.is c.in_ok-pins.ensures.value,
+  goes_on (pins_of_device g.S.Space.accesses) (StopsInDevice g.S.Space.accesses) c.args.devices.now c.loop-device.device-index _ c.loop-device.invariant.1 (omega arith) c.device-item.is c.in_ok-pins.ensures.value,
 )
 
 pub returns-in_err-pins-clause-value : goal.returns-in_err-pins-clause-value
@@ -22,12 +22,12 @@ returns-clause-value g c = fold_end ◌++◌ (pins_of_device g.S.Space.accesses)
 
 pub returns-in_err-pins-clause-evaluated : goal.returns-in_err-pins-clause-evaluated
 returns-in_err-pins-clause-evaluated g c =
-    stops_in (pins_of_device g.S.Space.accesses) (StopsInTable g.S.Space.accesses) c.args.devices.now c.loop-device.device-index _ c.loop-device.invariant.1 (omega arith) c.device-item.is c.in_err-pins.ensures.evaluated
+    stops_in (pins_of_device g.S.Space.accesses) (StopsInDevice g.S.Space.accesses) c.args.devices.now c.loop-device.device-index _ c.loop-device.invariant.1 (omega arith) c.device-item.is c.in_err-pins.ensures.evaluated
 
 pub returns-in_err-append-clause-evaluated : goal.returns-in_err-append-clause-evaluated
 returns-in_err-append-clause-evaluated g c =
-    stops_here (pins_of_device g.S.Space.accesses) (StopsInTable g.S.Space.accesses) (λ device u. stops_first none_made) _
-    (goes_on (pins_of_device g.S.Space.accesses) (StopsInTable g.S.Space.accesses) c.args.devices.now c.loop-device.device-index _ c.loop-device.invariant.1 (omega arith) c.device-item.is c.in_ok-pins.ensures.value)
+    stops_here (pins_of_device g.S.Space.accesses) (StopsInDevice g.S.Space.accesses) (λ device u. stops_first refl) _
+    (goes_on (pins_of_device g.S.Space.accesses) (StopsInDevice g.S.Space.accesses) c.args.devices.now c.loop-device.device-index _ c.loop-device.invariant.1 (omega arith) c.device-item.is c.in_ok-pins.ensures.value)
 
 pub returns-clause-evaluated : goal.returns-clause-evaluated
-returns-clause-evaluated g c = stops_here (pins_of_device g.S.Space.accesses) (StopsInTable g.S.Space.accesses) (λ device u. stops_first none_made) _ c.loop-device.invariant.1
+returns-clause-evaluated g c = stops_here (pins_of_device g.S.Space.accesses) (StopsInDevice g.S.Space.accesses) (λ device u. stops_first refl) _ c.loop-device.invariant.1

@@ -1,7 +1,7 @@
 use Rattle.ar_space.specs.Change.{does_ok, does_seen_err, does_give, does_made, settle_ok}
 use Rattle.acpi_links.specs.Gatherings.{links_found}
 use Rattle.acpi_links.proofs.Settled.{settle_seen_err}
-use Rattle.acpi_links.proofs.Stopped.{no_link, links_as_named}
+use Rattle.acpi_links.proofs.Stopped.{no_few, few_named}
 use Rattle.acpi_links.proofs.gathering.links_found.Goals as goal
 
 pub returns-in_err-few_links-clause-value : goal.returns-in_err-few_links-clause-value
@@ -34,16 +34,16 @@ returns-clause-value g c =
     (settle_ok _ _ (rw (← c.deref-3.ensures.value) c.in_ok-one_polarity.ensures.value) does_give)))
 
 pub returns-in_err-named-clause-evaluated : goal.returns-in_err-named-clause-evaluated
-returns-in_err-named-clause-evaluated g c = no_link g.S.Space.accesses c.args.avoid.now _ _
+returns-in_err-named-clause-evaluated g c = no_few g.S.Space.accesses c.args.avoid.now _ _
 
 pub returns-in_err-few_links-clause-evaluated : goal.returns-in_err-few_links-clause-evaluated
-returns-in_err-few_links-clause-evaluated g c = no_link g.S.Space.accesses c.args.avoid.now _ _
+returns-in_err-few_links-clause-evaluated g c = no_few g.S.Space.accesses c.args.avoid.now _ _
 
 pub returns-in_err-links-clause-evaluated : goal.returns-in_err-links-clause-evaluated
-returns-in_err-links-clause-evaluated g c = links_as_named g.S.Space.accesses c.args.avoid.now _ c.args.pins.now _ _ c.in_ok-named.ensures.value (rw (← c.deref-2.ensures.value) c.in_err-links.ensures.evaluated)
+returns-in_err-links-clause-evaluated g c = few_named g.S.Space.accesses c.args.avoid.now _ c.args.pins.now _ _ c.in_ok-named.ensures.value (rw (← c.deref.ensures.value) c.in_ok-few_links.ensures.value) (rw (← c.deref-2.ensures.value) c.in_err-links.ensures.evaluated)
 
 pub returns-in_err-one_polarity-clause-evaluated : goal.returns-in_err-one_polarity-clause-evaluated
-returns-in_err-one_polarity-clause-evaluated g c = links_as_named g.S.Space.accesses c.args.avoid.now _ c.args.pins.now _ _ c.in_ok-named.ensures.value (rw (← c.deref-2.ensures.value) c.in_ok-links.ensures.evaluated)
+returns-in_err-one_polarity-clause-evaluated g c = few_named g.S.Space.accesses c.args.avoid.now _ c.args.pins.now _ _ c.in_ok-named.ensures.value (rw (← c.deref.ensures.value) c.in_ok-few_links.ensures.value) (rw (← c.deref-2.ensures.value) c.in_ok-links.ensures.evaluated)
 
 pub returns-clause-evaluated : goal.returns-clause-evaluated
-returns-clause-evaluated g c = links_as_named g.S.Space.accesses c.args.avoid.now _ c.args.pins.now _ _ c.in_ok-named.ensures.value (rw (← c.deref-2.ensures.value) c.in_ok-links.ensures.evaluated)
+returns-clause-evaluated g c = few_named g.S.Space.accesses c.args.avoid.now _ c.args.pins.now _ _ c.in_ok-named.ensures.value (rw (← c.deref.ensures.value) c.in_ok-few_links.ensures.value) (rw (← c.deref-2.ensures.value) c.in_ok-links.ensures.evaluated)
