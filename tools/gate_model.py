@@ -3,7 +3,8 @@
 
 tools/gate_table.txt has a line for each crate: the processor seconds of its proof, and those of its edits. Tasks, their order and
 what waits for what are the gate's own: a crate is proved once those below it are, its edits come in one lane after it, and of
-what is ready the task with the longest chain of source lines behind it begins first. Programs run at the end.
+what is ready the task with the longest chain of source lines behind it begins first. A proof begins where the memory is free that it
+is expected to need, and gets the lanes that no other proof waits for, at most four. Programs run at the end.
 
 --twice reckons twice the code: each crate once more beside the first, and two of the new ones in the longest chain."""
 import heapq
@@ -13,23 +14,33 @@ import sys
 ROOT = os.path.join(os.path.dirname(os.path.abspath(__file__)), "..")
 # seconds for running the programs at the end, once nothing is left to prove
 LAST = 30
+# the memory that the gate takes into account on a machine of 24 GiB, in GB
+MEMORY = 18.7
+# the share of the time of one lane that a proof takes in one to four lanes
+TIME_IN_LANES = [1, 0.6, 0.47, 0.4]
+
+
+def lines_of(name, part):
+    """How many lines the files of a crate in one of its folders have."""
+    found = 0
+    for at, _, files in os.walk(f"{ROOT}/crates/{name}/{part}"):
+        for file in files:
+            with open(f"{at}/{file}", "rb") as it:
+                found += it.read().count(b"\n")
+    return found
 
 
 def read_repository():
-    """Each crate with those below it, and with its lines of source."""
-    deps, lines = {}, {}
+    """Each crate with those below it, its lines of source, and those of its definitions and lemmas."""
+    deps = {}
     with open(f"{ROOT}/crates.txt", encoding="utf-8") as it:
         for line in it.read().splitlines():
             if line.strip() and not line.startswith("#"):
                 name, _, below = line.partition(":")
                 deps[name.split()[0]] = below.split()
-    for name in deps:
-        lines[name] = 0
-        for at, _, files in os.walk(f"{ROOT}/crates/{name}/src"):
-            for file in files:
-                with open(f"{at}/{file}", "rb") as it:
-                    lines[name] += it.read().count(b"\n")
-    return {name: [it for it in below if it in deps] for name, below in deps.items()}, lines
+    lines = {name: lines_of(name, "src") for name in deps}
+    lemmas = {name: lines_of(name, "specs") + lines_of(name, "proofs") for name in deps}
+    return {name: [it for it in below if it in deps] for name, below in deps.items()}, lines, lemmas
 
 
 def read_table():
@@ -38,11 +49,11 @@ def read_table():
     return {row[0]: [float(it) for it in row[1:]] for row in rows if row}
 
 
-def twice(deps, lines, table):
+def twice(deps, lines, lemmas, table):
     again = lambda name: f"{name}_2"
     for name in [*deps]:
         deps[again(name)] = [again(it) for it in deps[name]]
-        lines[again(name)], table[again(name)] = lines[name], table[name]
+        lines[again(name)], lemmas[again(name)], table[again(name)] = lines[name], lemmas[name], table[name]
     # two of the new crates stand in the longest chain
     deps["acpi_links_2"].append("acpi_configure")
     deps["acpi_configure_2"] = ["acpi_links_2"]
@@ -56,15 +67,28 @@ def below(deps, name):
     return found
 
 
-def tasks_of(deps, lines, table):
+def tasks_of(deps, lines, lemmas, table):
+    """Of each task: what it waits for, its lines, its seconds, and the GB of memory that the gate expects it to need."""
     if missing := [it for it in deps if it not in table]:
         sys.exit(f"tools/gate_table.txt has no line for {', '.join(missing)}")
     tasks = {}
     for name in sorted(deps, key=lambda it: len(below(deps, it))):
         proof, edits = table[name]
-        tasks[name, "proof"] = ([(it, "proof") for it in below(deps, name)], lines[name], proof)
-        tasks[name, "edits"] = ([(name, "proof")], lines[name] * bool(edits), edits)
+        lower = below(deps, name)
+        needs = 1.3 + lines[name] / 1000 + lemmas[name] / 5000 + sum(lines[it] for it in lower) / 12500
+        tasks[name, "proof"] = ([(it, "proof") for it in lower], lines[name], proof, needs)
+        if edits:
+            tasks[name, "edits"] = ([(name, "proof")], 0, edits, needs)
     return tasks
+
+
+def lanes_for(key, ready, idle, room, needs):
+    """How many lanes a task gets: a proof those that no other proof waits for, where their memory is free."""
+    proofs = [it for it in ready if it[1] == "proof"]
+    if key not in proofs:
+        return 1
+    others = len(proofs) - proofs.index(key)
+    return max(1, min(4, idle // others, 1 + int((room / needs - 1) / 0.6)))
 
 
 def run(tasks, lanes):
@@ -74,14 +98,22 @@ def run(tasks, lanes):
         behind[key] += tasks[key][1]
         for it in tasks[key][0]:
             behind[it] = max(behind[it], behind[key])
-    left, running, ended, now = sorted(tasks, key=lambda it: -behind[it]), [], {}, 0.0
+    left = sorted(tasks, key=lambda it: (it[1] != "proof", -behind[it]))
+    running, ends, ended, now = {}, [], {}, 0.0
     while left or running:
-        for key in [it for it in left if all(low in ended for low in tasks[it][0])]:
-            if len(running) < lanes:
+        ready = [it for it in left if all(low in ended for low in tasks[it][0])]
+        for key in ready:
+            _, _, seconds, needs = tasks[key]
+            idle = lanes - sum(it for it, _ in running.values())
+            room = MEMORY - sum(it for _, it in running.values())
+            if idle > 0 and (not running or needs <= room):
                 left.remove(key)
-                heapq.heappush(running, (now + tasks[key][2], key))
-        now, key = heapq.heappop(running)
+                own = lanes_for(key, ready, idle, room, needs)
+                running[key] = own, needs * (1 + 0.6 * (own - 1))
+                heapq.heappush(ends, (now + seconds * TIME_IN_LANES[own - 1], key))
+        now, key = heapq.heappop(ends)
         ended[key] = now
+        del running[key]
     return ended
 
 
@@ -96,11 +128,11 @@ def longest_chain(deps, table):
 
 def main(words):
     lanes = [int(words[words.index("--lanes") + 1])] if "--lanes" in words else [4, 2]
-    deps, lines = read_repository()
+    deps, lines, lemmas = read_repository()
     table = read_table()
     if "--twice" in words:
-        twice(deps, lines, table)
-    tasks = tasks_of(deps, lines, table)
+        twice(deps, lines, lemmas, table)
+    tasks = tasks_of(deps, lines, lemmas, table)
     print(f"work: {sum(it[2] for it in tasks.values()) / 60:.0f} processor minutes")
     seconds, names = longest_chain(deps, table)
     print(f"longest chain: {seconds / 60:.1f} processor minutes: {', '.join(names)}")
