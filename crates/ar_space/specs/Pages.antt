@@ -4,6 +4,7 @@ use Rattle.std.specs.Int.{bit_at}
 use Rattle.std.specs.FinMap as map
 use Rattle.std.specs.Ordering.{nat_cmp}
 use Rattle.ar_space.specs.declared.page.Page.{Page}
+use Rattle.ar_space.specs.declared.pages.Pages.{Pages}
 
 -- the byte of a page at a place in it, if one stands there
 abbrev pub cell : Page → ℕ → Option ℕ
@@ -23,3 +24,7 @@ with_cells m address page (suc n) = with_cell (with_cells m address page n) (add
 unfoldable pub map_of_pages : List (ℕ × Page) → map.FinMap nat_cmp ℕ
 map_of_pages [] = map.empty
 map_of_pages (entry ∷ entries) = with_cells (map_of_pages entries) (64 * entry.0) entry.1 64
+
+-- all pages: the newest, and those of the tree
+abbrev pub listed : Pages → List (ℕ × Page)
+listed pages = (pages.newest_number, pages.newest) ∷ pages.tree.entries

@@ -1,5 +1,6 @@
 //! Pages: the bytes at 64 addresses in a row.
 ghost use Rattle.std.specs.Prelude.{◌≡◌, ℕ, ◌+◌, ◌^◌, ◌<◌, ◌≤◌, ◌++◌, length, slice_index, Some, None, IfSome, OnOk, is_some, true, false};
+ghost use Rattle.std.specs.Int.{bit_at};
 ghost use Rattle.ar_space.specs.Pages.{cell};
 ghost use Rattle.ar_space.specs.Runs.{run_from, number_from};
 
@@ -38,14 +39,17 @@ impl Page {
         }
     }
 
-    /// Puts a byte at a place of the page, over an earlier one.
-    fn put(&mut self, at: usize, byte: u8)
-        requires { at < 64 }
-        ensures put { cell self.new at ≡ Some byte }
-        ensures beside { (i : ℕ) → (i ≡ at → ⊥) → cell self.new i ≡ cell self.old i }
+    /// Notes that bytes stand from a place of the page on.
+    fn mark(&mut self, at: usize, count: usize)
+        requires { at + count ≤ 64 }
+        ensures bytes { self.new.bytes ≡ self.old.bytes }
+        ensures put { (n : ℕ) → n < count → bit_at self.new.present (at + n) ≡ 1 }
+        ensures below { (i : ℕ) → i < at → bit_at self.new.present i ≡ bit_at self.old.present i }
+        ensures above { (i : ℕ) → at + count ≤ i → bit_at self.new.present i ≡ bit_at self.old.present i }
     {
-        self.bytes[at] = byte;
-        self.present |= 1 << at;
+        for n in 0..count {
+            self.present |= 1 << (at + n);
+        }
     }
 
     /// Puts bytes from a place of the page on, over earlier ones.
@@ -55,11 +59,8 @@ impl Page {
         ensures below { (i : ℕ) → i < at → cell self.new i ≡ cell self.old i }
         ensures above { (i : ℕ) → at + length bytes.now ≤ i → cell self.new i ≡ cell self.old i }
     {
-        let mut n = 0;
-        while n < bytes.len() {
-            self.put(at + n, bytes[n]);
-            n += 1;
-        }
+        self.bytes[at..at + bytes.len()].copy_from_slice(bytes);
+        self.mark(at, bytes.len());
     }
 
     /// Appends `count` bytes from a place of the page on, or those before the first that doesn't stand.

@@ -1,7 +1,0 @@
-use Rattle.std.proofs.Common.{ap}
-use Rattle.ar_space.specs.Pages.{map_of_pages}
-use Rattle.ar_space.proofs.byte_map.ByteMap.new.Goals as goal
-
-pub returns : goal.returns
-unfolding map_of_pages
-returns c = ap map_of_pages c.new.ensures.empty
