@@ -3,19 +3,14 @@ ghost use Rattle.std.specs.Prelude.{◌≡◌, ◌==◌, ◌≤◌, ◌<◌, IfS
 ghost use Rattle.std.specs.List.{before_first, position_or_len};
 ghost use Rattle.text_words.specs.Words.{tail_at, tail_of};
 
+use memchr::memchr;
+
 /// The first place of a byte, from 0, or the length where the byte isn't in the text: `place_of(b' ', b"give it")` is 4.
 pub fn place_of(byte: u8, text: &[u8]) -> usize
     ensures value { result ≡ position_or_len (λ b. b == byte) text.now }
     ensures within { result ≤ length text.now }
 {
-    let mut i = 0;
-    while i < text.len() {
-        if text[i] == byte {
-            return i;
-        }
-        i += 1;
-    }
-    i
+    memchr(byte, text).unwrap_or(text.len())
 }
 
 /// What stands before the first such byte, and what follows it: `cut_at(b'\n', b"one\ntwo")` is `(b"one", Some(b"two"))`.
