@@ -21,12 +21,3 @@ module _ (n : ℕ) (a w : List ℕ) (us ws : List (List ℕ)) (total : Outcome (
 pub bytes_done : (n : ℕ) (a : List ℕ) (us : List (List ℕ)) (total : Outcome (List ℕ)) → us ≡ [] → total ≡ bytes_after n a us → Answers (Ok a) total
 unfolding bytes_after
 bytes_done n a us total is so_far = record { is = λ _. so_far ∙ ap (bytes_after n a) is }
-
--- the first word, before which there is nothing
-pub first_word : (n : ℕ) (b w : List ℕ) → Answers (Ok b) (here n (word_bytes w)) → Answers (Ok b) (with_word n [] w)
-unfolding with_word ◌>>=◌
-first_word n b w h = record { is = λ t. ap (λ x. x >>= (λ bs. Ok ([] ++ bs))) (h.is t) }
-
-pub first_bad : (n : ℕ) (e : Refusal) (w : List ℕ) → Answers {A = List ℕ} (Err e) (here n (word_bytes w)) → Answers {A = List ℕ} (Err e) (with_word n [] w)
-unfolding with_word ◌>>=◌
-first_bad n e w h = record { is = λ t. ap (λ x. x >>= (λ bs. Ok ([] ++ bs))) (h.is t) }

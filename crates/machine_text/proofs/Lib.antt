@@ -1,7 +1,10 @@
 pub mod Bytes
+pub mod DigitTable
+pub mod Joined
 pub mod LastLines
 pub mod LineRuns
 pub mod Numbers
+pub mod Pairs
 pub mod Puts
 pub mod Reading
 pub mod Runs

@@ -20,21 +20,21 @@ const MAX_TEXTS: usize = 64;
 /// `A bytes..`
 #[tactic(auto, using(ar_space::specs::Outcome::answering), unfolding(crate::specs::MachineText::placed))]
 fn placed(
-    alloc: Global,
     n: usize,
     in_space: AddressSpace,
     space: &mut Sparse,
     words: &mut Words<'_>,
+    buffer: &mut Vec<u8>,
 ) -> Result<(), Refusal>
     ensures { Answers (seen (λ _. space.new) result) (placed n in_space space.old words.old) }
 {
     let last = in_space.last();
     let first = number(n, last, words)?;
-    let bytes = bytes(alloc, n, words)?;
-    if !fits(first, bytes.len(), last) {
+    bytes(n, words, buffer)?;
+    if !fits(first, buffer.len(), last) {
         return Err(bad_line(n));
     }
-    in_space.put_all(space, first, bytes.as_slice())?;
+    in_space.put_all(space, first, buffer.as_slice())?;
     Ok(())
 }
 
@@ -49,10 +49,10 @@ fn fits(first: u64, count: usize, last: u64) -> bool
 /// `S B D F R bytes..`
 #[tactic(auto, using(ar_space::specs::Outcome::answering), unfolding(crate::specs::MachineText::configured))]
 fn configured(
-    alloc: Global,
     n: usize,
     space: &mut Sparse,
     words: &mut Words<'_>,
+    buffer: &mut Vec<u8>,
 ) -> Result<(), Refusal>
     ensures { Answers (seen (λ _. space.new) result) (configured n space.old words.old) }
 {
@@ -66,7 +66,7 @@ fn configured(
         dev,
         func,
     };
-    placed(alloc, n, function, space, words)
+    placed(n, function, space, words, buffer)
 }
 
 /// `A`, once.
@@ -121,27 +121,28 @@ fn keyed(
     key: &[u8],
     tail: Option<&[u8]>,
     draft: &mut Draft,
+    buffer: &mut Vec<u8>,
 ) -> Result<(), Refusal>
     ensures { Answers (seen (λ _. draft.new) result) (keyed n key.now (option_map (λ s. s.now) tail.entry) draft.old) }
 {
     if key == b"mem".as_slice() {
         placed(
-            alloc,
             n,
             AddressSpace::Memory,
             &mut draft.space,
             &mut Words::new(tail),
+            buffer,
         )
     } else if key == b"io".as_slice() {
         placed(
-            alloc,
             n,
             AddressSpace::Io,
             &mut draft.space,
             &mut Words::new(tail),
+            buffer,
         )
     } else if key == b"pci".as_slice() {
-        configured(alloc, n, &mut draft.space, &mut Words::new(tail))
+        configured(n, &mut draft.space, &mut Words::new(tail), buffer)
     } else if key == b"osi".as_slice() {
         text(alloc, n, &mut draft.osi, tail)
     } else if key == b"rsdp".as_slice() {
@@ -152,14 +153,20 @@ fn keyed(
     }
 }
 
-/// The n-th line.
+/// The n-th line; its bytes stand in the buffer on their way.
 #[tactic(auto, using(ar_space::specs::Outcome::answering), unfolding(crate::specs::MachineText::line))]
-pub(crate) fn line(alloc: Global, n: usize, text: &[u8], draft: &mut Draft) -> Result<(), Refusal>
+pub(crate) fn line(
+    alloc: Global,
+    n: usize,
+    text: &[u8],
+    draft: &mut Draft,
+    buffer: &mut Vec<u8>,
+) -> Result<(), Refusal>
     ensures { Answers (seen (λ _. draft.new) result) (line n text.now draft.old) }
 {
     if text.is_empty() || text[0] == b'#' {
         return Ok(());
     }
     let (key, tail) = cut(text);
-    keyed(alloc, n, key, tail, draft)
+    keyed(alloc, n, key, tail, draft, buffer)
 }

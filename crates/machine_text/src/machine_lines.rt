@@ -51,11 +51,12 @@ fn without_return(line: &[u8]) -> &[u8]
 fn lines_read(alloc: Global, text: &[u8], draft: &mut Draft) -> Result<(), Refusal>
     ensures { Answers (seen (λ _. draft.new) result) (lines_read 1 (lines text.now) draft.old) }
 {
+    let mut buffer = Vec::new(alloc);
     let mut n = 1;
     let mut rest = text;
     while !rest.is_empty() {
         let (first, after) = first_line(rest);
-        line(alloc, n, first, draft)?;
+        line(alloc, n, first, draft, &mut buffer)?;
         rest = after;
         n += 1;
     }

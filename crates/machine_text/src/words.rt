@@ -1,14 +1,13 @@
 //! The words of a line as numbers and bytes.
-ghost use Rattle.std.specs.Prelude.{◌≡◌, ◌≤◌, [], ◌∷◌, IfOk};
+ghost use Rattle.std.specs.Prelude.{◌≡◌, ◌≤◌, ◌∷◌, IfOk};
 ghost use Rattle.ar_space.specs.Outcome.{Answers, seen};
-ghost use Rattle.machine_text.specs.Words.{number, word_bytes};
+ghost use Rattle.machine_text.specs.Words.{number};
 ghost use Rattle.machine_text.specs.MachineText.{here, word, ended, numbered, with_word, bytes_after, all_bytes};
 ghost use Rattle.ar_space.specs.declared.refusal.Refusal.TheVariants.{Input};
 ghost use Rattle.ar_space.specs.declared.refusal.InputFault.TheVariants.{MachineLine};
 
 use crate::digits;
 use ar_space::{InputFault, Refusal};
-use std::alloc::Global;
 use text_words::Words;
 
 /// The refusal of the line with this number.
@@ -51,13 +50,14 @@ pub(crate) fn number(n: usize, most: u64, words: &mut Words<'_>) -> Result<u64, 
     number_here(n, word, most)
 }
 
-/// The bytes of all words, of which there is one at least.
+/// The bytes of all words, of which there is one at least, in place of those in the buffer.
 #[tactic(auto, using(ar_space::specs::Outcome::answering), unfolding(crate::specs::MachineText::all_bytes))]
-pub(crate) fn bytes(alloc: Global, n: usize, words: &mut Words<'_>) -> Result<Vec<u8>, Refusal>
-    ensures { Answers (seen (λ v. v.items) result) (all_bytes n words.old) }
+pub(crate) fn bytes(n: usize, words: &mut Words<'_>, buffer: &mut Vec<u8>) -> Result<(), Refusal>
+    ensures { Answers (seen (λ _. buffer.new.items) result) (all_bytes n words.old) }
 {
     let first = word(n, words)?;
-    bytes_after(alloc, n, first, words)
+    buffer.clear();
+    bytes_after(n, first, words, buffer)
 }
 
 /// The number of a word.
@@ -72,46 +72,41 @@ fn number_here(n: usize, word: &[u8], most: u64) -> Result<u64, Refusal>
     }
 }
 
-/// The bytes of a word and of the words behind it.
+/// Adds the bytes of a word and of the words behind it.
 fn bytes_after(
-    alloc: Global,
     n: usize,
     first: &[u8],
     words: &mut Words<'_>,
-) -> Result<Vec<u8>, Refusal>
-    ensures { Answers (seen (λ v. v.items) result) (bytes_after n [] (first.now ∷ words.old)) }
+    all: &mut Vec<u8>,
+) -> Result<(), Refusal>
+    ensures { Answers (seen (λ _. all.new.items) result) (bytes_after n all.old.items (first.now ∷ words.old)) }
 {
-    let mut all = word_bytes(alloc, n, first)?;
+    add_word(n, all, first)?;
     while let Some(word) = words.take() {
-        add_word(alloc, n, &mut all, word)?;
+        add_word(n, all, word)?;
     }
-    Ok(all)
-}
-
-/// Adds the bytes of one word.
-#[tactic(auto, using(ar_space::specs::Outcome::answering), unfolding(crate::specs::MachineText::with_word))]
-fn add_word(alloc: Global, n: usize, all: &mut Vec<u8>, word: &[u8]) -> Result<(), Refusal>
-    ensures { Answers (seen (λ _. all.new.items) result) (with_word n all.old.items word.now) }
-{
-    let bytes = word_bytes(alloc, n, word)?;
-    all.extend_from_slice(bytes.as_slice())?;
     Ok(())
 }
 
-/// The bytes of one word.
-#[tactic(auto, using(ar_space::specs::Outcome::answering), unfolding(crate::specs::Words::word_bytes))]
-fn word_bytes(alloc: Global, n: usize, word: &[u8]) -> Result<Vec<u8>, Refusal>
-    ensures { Answers (seen (λ v. v.items) result) (here n (word_bytes word.now)) }
+/// Adds the bytes of one word, straight from its digits: a line takes no memory of its own.
+#[tactic(auto, using(ar_space::specs::Outcome::answering))]
+fn add_word(n: usize, all: &mut Vec<u8>, word: &[u8]) -> Result<(), Refusal>
+    ensures { Answers (seen (λ _. all.new.items) result) (with_word n all.old.items word.now) }
 {
-    match hex::decode(alloc, word) {
-        Ok(bytes) => {
-            if bytes.is_empty() {
-                Err(bad_line(n))
-            } else {
-                Ok(bytes)
-            }
+    if word.is_empty() {
+        return Err(bad_line(n));
+    }
+    let mut rest = word;
+    while rest.len() >= 2 {
+        match digits::pair(rest[0], rest[1]) {
+            Some(byte) => all.push(byte)?,
+            None => return Err(bad_line(n)),
         }
-        Err(hex::FromHexError::OutOfMemory) => Err(Refusal::OutOfMemory),
-        Err(_) => Err(bad_line(n)),
+        rest = &rest[2..];
+    }
+    if rest.is_empty() {
+        Ok(())
+    } else {
+        Err(bad_line(n))
     }
 }
