@@ -1,10 +1,9 @@
 -- The bytes of words, one word after the other.
-use Rattle.std.proofs.Common.{◌≡◌, ◌∙◌, ap, ℕ, List, [], ◌∷◌, ◌++◌, Ok, Err}
+use Rattle.std.proofs.Common.{◌≡◌, ◌∙◌, ap, ℕ, List, [], ◌∷◌, Ok, Err}
 use Rattle.std.specs.Prelude.{IsErr, IsErrAnd}
 use Rattle.ar_space.specs.declared.refusal.Refusal.{Refusal}
 use Rattle.ar_space.specs.Outcome.{Outcome, Answers, seen, ◌>>=◌}
-use Rattle.machine_text.specs.MachineText.{here, with_word, bytes_after}
-use Rattle.machine_text.specs.Words.{word_bytes}
+use Rattle.machine_text.specs.MachineText.{with_word, bytes_after}
 use Rattle.machine_text.proofs.Turns.{taken, stopped}
 
 module _ (n : ℕ) (a w : List ℕ) (us ws : List (List ℕ)) (total : Outcome (List ℕ)) (is : us ≡ w ∷ ws) (so_far : total ≡ bytes_after n a us) where

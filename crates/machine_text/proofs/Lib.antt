@@ -8,4 +8,5 @@ pub mod Pairs
 pub mod Puts
 pub mod Reading
 pub mod Runs
+pub mod Splices
 pub mod Turns

@@ -1,7 +1,7 @@
 //! Hexadecimal numbers.
-ghost use Rattle.std.specs.Prelude.{◌≡◌, ◌≤◌, ◌<◌, ◌+◌, ◌*◌, length, IfSome, option_and_then, option_map};
+ghost use Rattle.std.specs.Prelude.{◌≡◌, ◌≤◌, ◌<◌, ◌+◌, ◌*◌, length, Some, None, IfSome, option_and_then, option_map, if◌then◌else◌};
 ghost use Rattle.hex.specs.Hex.{hex_digit_value};
-ghost use Rattle.machine_text.specs.Words.{number, number_from};
+ghost use Rattle.machine_text.specs.Words.{number, number_from, word_bytes};
 
 /// How many digits a number may have.
 const MAX_DIGITS: usize = 16;
@@ -38,12 +38,26 @@ fn digit(c: u8) -> Option<u64>
 }
 
 /// The byte of two digits.
-pub(crate) fn pair(high: u8, low: u8) -> Option<u8>
+fn pair(high: u8, low: u8) -> Option<u8>
     ensures { result ≡ option_and_then (λ h. option_map (λ l. h * 16 + l) (hex_digit_value low)) (hex_digit_value high) }
 {
     let high = digit(high)?;
     let low = digit(low)?;
     Some((high * 16 + low) as u8)
+}
+
+/// Puts the bytes that pairs of digits are into `out`: `false` where one of them is no digit, and then `out` has some of them.
+pub(crate) fn decode(word: &[u8], out: &mut [u8]) -> bool
+    requires { (0 < length out.old) × (length word.now ≡ 2 * length out.old) }
+    ensures { word_bytes word.now ≡ (if result then Some out.new else None) }
+{
+    for i in 0..out.len() {
+        match pair(word[2 * i], word[2 * i + 1]) {
+            Some(byte) => out[i] = byte,
+            None => return false,
+        }
+    }
+    true
 }
 
 /// The number of 1 to 16 digits, where it is at most `most`.

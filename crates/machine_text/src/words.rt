@@ -96,15 +96,12 @@ fn add_word(n: usize, all: &mut Vec<u8>, word: &[u8]) -> Result<(), Refusal>
     if word.is_empty() {
         return Err(bad_line(n));
     }
-    let mut rest = word;
-    while rest.len() >= 2 {
-        match digits::pair(rest[0], rest[1]) {
-            Some(byte) => all.push(byte)?,
-            None => return Err(bad_line(n)),
-        }
-        rest = &rest[2..];
+    if word.len() % 2 != 0 {
+        return Err(bad_line(n));
     }
-    if rest.is_empty() {
+    let had = all.len();
+    all.resize(had + word.len() / 2, 0)?;
+    if digits::decode(word, &mut all.as_mut_slice()[had..]) {
         Ok(())
     } else {
         Err(bad_line(n))
