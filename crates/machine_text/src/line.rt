@@ -1,5 +1,5 @@
 //! One line of the machine text.
-ghost use Rattle.std.specs.Prelude.{◌≡◌, ◌≤◌, ◌+◌, IfOk, nat_le, nat_lt, option_map, length};
+ghost use Rattle.std.specs.Prelude.{◌≡◌, ◌≤◌, ◌+◌, ◌++◌, codes, Some, IfOk, IfSome, nat_le, nat_lt, option_map, length};
 ghost use Rattle.std.specs.List.{list_all};
 ghost use Rattle.ar_space.specs.Outcome.{Answers, seen};
 ghost use Rattle.machine_text.specs.MachineText.{last_of, placed, configured, root, text, is_text, keyed, line};
@@ -153,6 +153,31 @@ fn keyed(
     }
 }
 
+/// `mem A bytes..`, behind the first word.
+#[tactic(auto, using(ar_space::specs::Outcome::answering), unfolding(crate::specs::MachineText::keyed))]
+fn memory(n: usize, tail: &[u8], draft: &mut Draft, buffer: &mut Vec<u8>) -> Result<(), Refusal>
+    ensures { Answers (seen (λ _. draft.new) result) (keyed n (codes "mem") (Some tail.now) draft.old) }
+{
+    placed(
+        n,
+        AddressSpace::Memory,
+        &mut draft.space,
+        &mut Words::new(Some(tail)),
+        buffer,
+    )
+}
+
+/// What follows `mem` and a blank, where a line begins so.
+fn behind_mem(text: &[u8]) -> Option<&[u8]>
+    ensures { IfSome result (λ tail. text.now ≡ codes "mem " ++ tail.now) }
+{
+    if text.len() >= 4 && text[0] == b'm' && text[1] == b'e' && text[2] == b'm' && text[3] == b' ' {
+        Some(&text[4..])
+    } else {
+        None
+    }
+}
+
 /// The n-th line; its bytes stand in the buffer on their way.
 #[tactic(auto, using(ar_space::specs::Outcome::answering), unfolding(crate::specs::MachineText::line))]
 pub(crate) fn line(
@@ -164,6 +189,10 @@ pub(crate) fn line(
 ) -> Result<(), Refusal>
     ensures { Answers (seen (λ _. draft.new) result) (line n text.now draft.old) }
 {
+    // Most lines of a text are of memory.
+    if let Some(tail) = behind_mem(text) {
+        return memory(n, tail, draft, buffer);
+    }
     if text.is_empty() || text[0] == b'#' {
         return Ok(());
     }
