@@ -11,6 +11,7 @@ pub mod Imports
 pub mod Lifted
 pub mod Loops
 pub mod Meanings
+pub mod NearestFunctions
 pub mod Runs
 pub mod TargetKinds
 pub mod Uses

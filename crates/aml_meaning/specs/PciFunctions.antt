@@ -1,11 +1,10 @@
 -- The PCI function that an operation region of PCI_Config belongs to (ACPI 6.5, 5.5.2.4, 6.1.1, 6.5.5 and 6.5.6).
-use Rattle.std.specs.Prelude.{◌≡◌, ◌-◌, ◌<◌, ℕ, zero, suc, List, [], ◌∷◌, ◌++◌, length, take, codes, is_some, Bool, true, false, ◌&&◌, not, Option, Some, None, Ok, Err, refl, if◌then◌else◌}
+use Rattle.std.specs.Prelude.{ℕ, zero, suc, List, [], ◌∷◌, ◌++◌, length, take, codes, is_some, Bool, true, false, ◌&&◌, not, Option, Some, None, Ok, Err, refl, if◌then◌else◌}
 use Rattle.std.specs.FinMap.{get}
-use Rattle.std.proofs.Common.{arith, sub-one, ap, ◌∙◌}
 use Rattle.ar_space.specs.declared.refusal.Refusal.TheVariants as refusal
 use Rattle.ar_space.specs.declared.refusal.EvaluationFault.TheVariants.{DeepPci}
 use Rattle.ar_space.specs.Outcome.{Outcome}
-use Rattle.ar_space.specs.Change.{Change, Does, give, settle, ◌>>=◌}
+use Rattle.ar_space.specs.Change.{Change, give, settle, ◌>>=◌}
 use Rattle.aml_path.specs.declared.segment.Seg.{Seg}
 use Rattle.aml_objects.specs.declared.entry.Entry.{Entry}
 use Rattle.aml_objects.specs.declared.entry.NamedObject.{NamedObject}
@@ -77,46 +76,3 @@ pci_function scope = do
   bridge ← nearest sought.Bridge (above p)
   direct ← settle (or_behind bridge)
   give p
-
--- ---- one scope after another, from the nearest on
-
-here : (b : Bool) (p : List Seg) (o : Option (List Seg)) → b ≡ true → (if b then Some p else o) ≡ Some p
-here true p o e = refl
-here false p o e = absurd (cc e)
-
-not_here : (b : Bool) (p : List Seg) (o : Option (List Seg)) → b ≡ false → (if b then Some p else o) ≡ o
-not_here true p o e = absurd (cc e)
-not_here false p o e = refl
-
-pub nearest_here : (names : Map) (x : Sought) (p : List Seg) (n : ℕ) → fits names x (take n p) ≡ true → nearest_from names x p n ≡ Some (take n p)
-unfolding nearest_from
-nearest_here names x p zero e = here _ _ _ e
-nearest_here names x p (suc n) e = here _ _ _ e
-
-pub nearest_nowhere : (names : Map) (x : Sought) (p : List Seg) (n : ℕ) → n ≡ 0 → fits names x (take n p) ≡ false → nearest_from names x p n ≡ None
-unfolding nearest_from
-nearest_nowhere names x p zero z e = not_here _ _ _ e
-nearest_nowhere names x p (suc n) z e = absurd (omega (arith, z))
-
-pub nearest_above : (names : Map) (x : Sought) (p : List Seg) (n : ℕ) → 0 < n → fits names x (take n p) ≡ false → nearest_from names x p n ≡ nearest_from names x p (n - 1)
-unfolding nearest_from
-nearest_above names x p zero l e = absurd (omega (arith, l))
-nearest_above names x p (suc n) l e = rw sub-one (not_here _ _ _ e)
-
--- the same, as a search goes
-fits_by : (names : Map) (x : Sought) (p q : List Seg) (n : ℕ) (b t : Bool) → ◌≡◌ {A = Outcome (List Seg)} (Ok (take n p)) (Ok q) → ◌≡◌ {A = Outcome Bool} (Ok (fits names x q)) (Ok b) → b ≡ t → fits names x (take n p) ≡ t
-fits_by names x p q n b t e f is = let at : take n p ≡ q = cc e in let fit : fits names x q ≡ b = cc f in ap (fits names x) at ∙ fit ∙ is
-
-pub found_here : {S : Type 0} (w : State S) (x : Sought) (p q : List Seg) (n : ℕ) (b : Bool) → nearest_from w.names.map x p (length p) ≡ nearest_from w.names.map x p n
-    → ◌≡◌ {A = Outcome (List Seg)} (Ok (take n p)) (Ok q) → ◌≡◌ {A = Outcome Bool} (Ok (fits w.names.map x q)) (Ok b) → b ≡ true → Does (Ok (Some q)) w (nearest x p) w
-unfolding nearest
-found_here w x p q n b h e f is = let at : take n p ≡ q = cc e in record { is = λ _. ap (λ o. (Ok o, w)) (h ∙ nearest_here w.names.map x p n (fits_by w.names.map x p q n b true e f is) ∙ ap Some at) }
-
-pub found_nowhere : {S : Type 0} (w : State S) (x : Sought) (p q : List Seg) (n : ℕ) (b : Bool) → nearest_from w.names.map x p (length p) ≡ nearest_from w.names.map x p n → n ≡ 0
-    → ◌≡◌ {A = Outcome (List Seg)} (Ok (take n p)) (Ok q) → ◌≡◌ {A = Outcome Bool} (Ok (fits w.names.map x q)) (Ok b) → b ≡ false → Does (Ok None) w (nearest x p) w
-unfolding nearest
-found_nowhere w x p q n b h z e f is = record { is = λ _. ap (λ o. (Ok o, w)) (h ∙ nearest_nowhere w.names.map x p n z (fits_by w.names.map x p q n b false e f is)) }
-
-pub found_above : (names : Map) (x : Sought) (p q : List Seg) (n : ℕ) (b : Bool) → nearest_from names x p (length p) ≡ nearest_from names x p n → 0 < n
-    → ◌≡◌ {A = Outcome (List Seg)} (Ok (take n p)) (Ok q) → ◌≡◌ {A = Outcome Bool} (Ok (fits names x q)) (Ok b) → b ≡ false → nearest_from names x p (length p) ≡ nearest_from names x p (n - 1)
-found_above names x p q n b h l e f is = h ∙ nearest_above names x p n l (fits_by names x p q n b false e f is)

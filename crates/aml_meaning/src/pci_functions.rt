@@ -1,12 +1,15 @@
 //! The PCI function that an operation region of PCI_Config belongs to (ACPI 6.5, 5.5.2.4, 6.1.1, 6.5.5 and 6.5.6).
-ghost use Rattle.std.specs.Prelude.{◌≡◌, Ok, ◌++◌, ◌∷◌, []};
+ghost use Rattle.std.specs.Prelude.{◌≡◌, ◌≤◌, Some, IfSome, length, take, option_map, if◌then◌else◌};
 ghost use Rattle.ar_space.specs.Change.{Does};
 ghost use Rattle.ar_space.specs.Outcome.{Answers};
 ghost use Rattle.std.specs.FinMap.{get};
-ghost use Rattle.aml_meaning.specs.PciFunctions.{adr, hid, segment_group, base_bus, is_device_object, is_device, has, is_function, is_bridge, fits, nearest, or_deep, or_behind, pci_function};
+ghost use Rattle.aml_namespace.specs.Namespace.{numbered};
+ghost use Rattle.aml_namespace.specs.Search.{Found};
+ghost use Rattle.aml_meaning.specs.PciFunctions.{adr, hid, segment_group, base_bus, is_device_object, is_device, has, is_function, fits, nearest_from, nearest, or_deep, or_behind, pci_function};
 
 use crate::world_state::WorldState;
-use aml_objects::NamedObject;
+use aml_namespace::Names;
+use aml_objects::{NamedObject, NodeId};
 use aml_path::{Path, Seg};
 use ar_space::{EvaluationFault, Refusal};
 use std::alloc::Global;
@@ -56,7 +59,7 @@ pub fn base_bus() -> Seg
 
 impl<S> WorldState<S> {
     /// The nearest of a scope and those above it that is what is sought.
-    #[tactic(auto, unfolding(crate::specs::PciFunctions::nearest))]
+    #[tactic(auto, using(crate::proofs::NearestFunctions::nearest_none, crate::proofs::NearestFunctions::nearest_some))]
     pub fn nearest(
         &self,
         alloc: Global,
@@ -65,16 +68,9 @@ impl<S> WorldState<S> {
     ) -> Result<Option<Path>, Refusal>
         ensures { Does result self.now (nearest sought path.now) self.now }
     {
-        let mut depth = path.depth();
-        'scopes: loop {
-            let scope = path.prefix(alloc, depth)?;
-            if self.fits(alloc, sought, &scope)? {
-                return Ok(Some(scope));
-            }
-            if depth == 0 {
-                return Ok(None);
-            }
-            depth -= 1;
+        match nearest_depth(&self.names, sought, path) {
+            None => Ok(None),
+            Some(depth) => Ok(Some(path.prefix(alloc, depth)?)),
         }
     }
 
@@ -91,48 +87,66 @@ impl<S> WorldState<S> {
         or_behind(bridge)?;
         Ok(device)
     }
+}
 
-    fn fits(&self, alloc: Global, sought: Sought, path: &Path) -> Result<bool, Refusal>
-        ensures { Answers result (Ok (fits self.now.names.map sought path.now)) }
-    {
-        match sought {
-            Sought::Function => self.is_function(alloc, path),
-            Sought::Bridge => self.is_bridge(alloc, path),
-            Sought::Parent(segment) => self.has(alloc, path, segment),
+/// How many segments of a path lead to the nearest scope that is what is sought. It goes down the path once, as far as nodes stand.
+fn nearest_depth(names: &Names, sought: Sought, path: &Path) -> Option<usize>
+    ensures depth { option_map (λ n. take n path.now) result ≡ nearest_from names.now.map sought path.now (length path.now) }
+    ensures within { IfSome result (λ n. n ≤ length path.now) }
+{
+    let mut current = names.root();
+    let mut depth = 0;
+    let mut nearest = nearer(None, depth, fits(names, sought, current));
+    let steps = path.segments();
+    for step in steps {
+        match names.child_of(current, *step) {
+            None => return nearest,
+            Some(next) => current = next,
         }
+        depth += 1;
+        nearest = nearer(nearest, depth, fits(names, sought, current));
     }
+    nearest
+}
 
-    fn is_function(&self, alloc: Global, path: &Path) -> Result<bool, Refusal>
-        ensures { Answers result (Ok (is_function self.now.names.map path.now)) }
-    {
-        let has = self.has(alloc, path, adr())?;
-        Ok(self.is_device(path) && has)
+/// Whether a scope that stands is what is sought.
+fn fits(names: &Names, sought: Sought, scope: NodeId) -> bool
+    ensures { (f : Found) → numbered scope.number names.now.map ≡ Some f → result ≡ fits names.now.map sought f.0 }
+{
+    match sought {
+        Sought::Function => is_function(names, scope),
+        Sought::Bridge => is_function(names, scope) && !has(names, scope, hid()),
+        Sought::Parent(segment) => has(names, scope, segment),
     }
+}
 
-    fn is_bridge(&self, alloc: Global, path: &Path) -> Result<bool, Refusal>
-        ensures { Answers result (Ok (is_bridge self.now.names.map path.now)) }
-    {
-        let function = self.is_function(alloc, path)?;
-        let identified = self.has(alloc, path, hid())?;
-        Ok(function && !identified)
-    }
+fn is_function(names: &Names, scope: NodeId) -> bool
+    ensures { (f : Found) → numbered scope.number names.now.map ≡ Some f → result ≡ is_function names.now.map f.0 }
+{
+    is_device(names, scope) && has(names, scope, adr())
+}
 
-    /// Whether a name stands in a scope.
-    fn has(&self, alloc: Global, path: &Path, segment: Seg) -> Result<bool, Refusal>
-        ensures { Answers result (Ok (has self.now.names.map path.now segment)) }
-    {
-        let child = path.child(alloc, segment)?;
-        Ok(self.names.get(&child).is_some())
-    }
+/// Whether a name stands in a scope.
+fn has(names: &Names, scope: NodeId, segment: Seg) -> bool
+    ensures { (f : Found) → numbered scope.number names.now.map ≡ Some f → result ≡ has names.now.map f.0 segment }
+{
+    names.child_of(scope, segment).is_some()
+}
 
-    fn is_device(&self, path: &Path) -> bool
-        ensures { result ≡ is_device (get self.now.names.map path.now) }
-    {
-        match self.names.get(path) {
-            None => false,
-            Some(entry) => is_device_object(&entry.object),
-        }
+fn is_device(names: &Names, scope: NodeId) -> bool
+    ensures { (f : Found) → numbered scope.number names.now.map ≡ Some f → result ≡ is_device (get names.now.map f.0) }
+{
+    match names.standing_at(scope) {
+        None => false,
+        Some(entry) => is_device_object(&entry.object),
     }
+}
+
+/// A depth at which what is sought was found, or else the one that was found before.
+fn nearer(so_far: Option<usize>, depth: usize, fits: bool) -> Option<usize>
+    ensures { result ≡ (if fits then Some depth else so_far) }
+{
+    if fits { Some(depth) } else { so_far }
 }
 
 fn is_device_object(object: &NamedObject) -> bool

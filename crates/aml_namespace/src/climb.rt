@@ -1,5 +1,6 @@
 //! Ways through the tree by ids: up to the nodes above, and down to those below.
 ghost use Rattle.std.specs.Prelude.{◌≡◌, ◌<◌, ◌++◌, List, [], ◌∷◌, None, Some, Ok, IfSome, MatchOption, length, option_map};
+ghost use Rattle.std.specs.FinMap.{get};
 ghost use Rattle.ar_space.specs.Outcome.{Answers};
 ghost use Rattle.aml_path.specs.declared.segment.Seg.{Seg};
 ghost use Rattle.aml_objects.specs.declared.entry.Entry.{Entry};
@@ -8,14 +9,14 @@ ghost use Rattle.aml_namespace.specs.Search.{at_path, IsParent, IsAncestor};
 
 use crate::names::{Names, root_id};
 use crate::tree::{child, descend};
-use aml_objects::NodeId;
+use aml_objects::{Entry, NodeId};
 use aml_path::{Path, Seg};
 use ar_space::Refusal;
 use std::alloc::Global;
 
 impl Names {
-    /// The root, which always stands.
-    pub(crate) fn root(&self) -> NodeId
+    /// The root, which always stands. It takes no memory.
+    pub fn root(&self) -> NodeId
         ensures { (e : Entry) × (numbered result.number self.now.map ≡ Some ([], e)) }
     {
         // The names are read for their invariant.
@@ -54,6 +55,13 @@ impl Names {
         Some(current)
     }
 
+    /// What stands at the path of a node that stands. It takes no memory.
+    pub fn standing_at(&self, id: NodeId) -> Option<&Entry>
+        ensures { (f : List Seg × Entry) → numbered id.number self.now.map ≡ Some f → option_map (λ entry. entry.now) result ≡ get self.now.map f.0 }
+    {
+        self.node(id)
+    }
+
     /// The node that some segments lead to, from one that stands.
     pub(crate) fn below(&self, id: NodeId, segments: &[Seg]) -> Option<NodeId>
         ensures { (f : List Seg × Entry) → numbered id.number self.now.map ≡ Some f → option_map (λ id. numbered id.number self.now.map) result ≡ option_map Some (at_path self.now.map (f.0 ++ segments.now)) }
@@ -61,8 +69,8 @@ impl Names {
         descend(&self.index, id, segments)
     }
 
-    /// The node one segment below one that stands. Where there is none, nothing stands further below either.
-    pub(crate) fn child_of(&self, id: NodeId, segment: Seg) -> Option<NodeId>
+    /// The node one segment below one that stands. Where there is none, nothing stands further below either. It takes no memory.
+    pub fn child_of(&self, id: NodeId, segment: Seg) -> Option<NodeId>
         ensures here { (f : List Seg × Entry) → numbered id.number self.now.map ≡ Some f → option_map (λ id. numbered id.number self.now.map) result ≡ option_map Some (at_path self.now.map (f.0 ++ segment ∷ [])) }
         ensures deeper { (f : List Seg × Entry) → numbered id.number self.now.map ≡ Some f → result ≡ None → (rest : List Seg) → at_path self.now.map (f.0 ++ segment ∷ rest) ≡ None }
     {
