@@ -13,6 +13,7 @@ pub mod Putting
 pub mod Rearranged
 pub mod Renumbered
 pub mod Sections
+pub mod ShortNumbers
 pub mod Shuffles
 pub mod Steps
 pub mod Texts

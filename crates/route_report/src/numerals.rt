@@ -1,5 +1,5 @@
 //! Decimal numbers.
-ghost use Rattle.std.specs.Prelude.{◌≡◌, ◌≢◌, ◌<◌, ◌^◌, ℕ, MatchOption, decimal};
+ghost use Rattle.std.specs.Prelude.{◌≡◌, ◌≢◌, ◌+◌, ◌<◌, ◌^◌, ℕ, MatchOption, IfSome, decimal};
 ghost use Rattle.route_report.specs.Lines.{number};
 
 use itoa::Buffer;
@@ -13,6 +13,48 @@ pub(crate) fn number(word: &[u8]) -> Option<u32>
 }
 
 fn written(word: &[u8]) -> Option<u32>
+    ensures { MatchOption result ((n : ℕ) → n < 2 ^ 32 → word.now ≢ decimal n) (λ n. word.now ≡ decimal n) }
+{
+    match short(word) {
+        Some(n) => Some(n),
+        None => parsed(word),
+    }
+}
+
+/// The value of a digit.
+fn digit(c: u8) -> Option<u32>
+    ensures { IfSome result (λ d. (d < 10) × (c ≡ 48 + d)) }
+{
+    if b'0' <= c && c <= b'9' {
+        Some(u32::from(c - b'0'))
+    } else {
+        None
+    }
+}
+
+/// A number of one to three digits, as most are in a report: it is read digit by digit, with no text made to compare it with.
+fn short(word: &[u8]) -> Option<u32>
+    ensures { IfSome result (λ n. word.now ≡ decimal n) }
+{
+    if word.is_empty() || word.len() > 3 {
+        return None;
+    }
+    let first = digit(word[0])?;
+    if word.len() == 1 {
+        return Some(first);
+    }
+    let second = digit(word[1])?;
+    if first == 0 {
+        return None;
+    }
+    if word.len() == 2 {
+        return Some(first * 10 + second);
+    }
+    let third = digit(word[2])?;
+    Some((first * 10 + second) * 10 + third)
+}
+
+fn parsed(word: &[u8]) -> Option<u32>
     ensures { MatchOption result ((n : ℕ) → n < 2 ^ 32 → word.now ≢ decimal n) (λ n. word.now ≡ decimal n) }
 {
     let text = match std::str::from_utf8(word) {

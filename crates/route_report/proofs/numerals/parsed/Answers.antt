@@ -6,7 +6,7 @@ use Rattle.std.proofs.lemmas.Fmt.{parse-decimal, IsAscii-decimal}
 use Rattle.std.proofs.lemmas.Str.{IsUtf8-from_ascii}
 use Rattle.std.proofs.lemmas.Slice.Eq.{slice_eq-Decides}
 use Rattle.std.proofs.lemmas.Bool.Decides.{Decides-eqb}
-use Rattle.route_report.proofs.numerals.written.Goals as goal
+use Rattle.route_report.proofs.numerals.parsed.Goals as goal
 
 pub returns-in-Err : goal.returns-in-Err
 returns-in-Err c n small is = c.in-Err.ensures.cases.0 (subst IsUtf8 (sym is) (IsUtf8-from_ascii (decimal n) (IsAscii-decimal n (omega arith))))
