@@ -1,12 +1,63 @@
 //! Texts that are cut at the first byte of a kind.
-ghost use Rattle.std.specs.Prelude.{◌≡◌, ◌==◌, ◌≤◌, ◌<◌, IfSome, length, option_map};
+ghost use Rattle.std.specs.Prelude.{◌≡◌, ◌==◌, ◌≤◌, ◌<◌, IfSome, length, option_map, take};
 ghost use Rattle.std.specs.List.{before_first, position_or_len};
 ghost use Rattle.text_words.specs.Words.{tail_at, tail_of};
 
 use memchr::memchr;
+use std::simd::prelude::*;
+
+/// How many bytes are looked at in one step, before the search of a long text begins: most words and many lines are no longer.
+const NEAR: usize = 16;
 
 /// The first place of a byte, from 0, or the length where the byte isn't in the text: `place_of(b' ', b"give it")` is 4.
 pub fn place_of(byte: u8, text: &[u8]) -> usize
+    ensures value { result ≡ position_or_len (λ b. b == byte) text.now }
+    ensures within { result ≤ length text.now }
+{
+    if text.len() < NEAR {
+        return place_in_short(byte, text);
+    }
+    let near = place_near(byte, text);
+    if near < NEAR {
+        near
+    } else {
+        NEAR + place_in_long(byte, &text[NEAR..])
+    }
+}
+
+/// The same, byte by byte.
+fn place_in_short(byte: u8, text: &[u8]) -> usize
+    ensures value { result ≡ position_or_len (λ b. b == byte) text.now }
+    ensures within { result ≤ length text.now }
+{
+    for i in 0..text.len() {
+        if text[i] == byte {
+            return i;
+        }
+    }
+    text.len()
+}
+
+/// The first place of a byte among the first `NEAR` bytes, or `NEAR` where none of them is that byte.
+#[inline(always)]
+fn place_near(byte: u8, text: &[u8]) -> usize
+    requires { NEAR ≤ length text.now }
+    ensures { result ≡ position_or_len (λ b. b == byte) (take NEAR text.now) }
+{
+    let found = u8x16::from_slice(text)
+        .simd_eq(u8x16::splat(byte))
+        .to_bitmask();
+    if found == 0 {
+        NEAR
+    } else {
+        found.trailing_zeros() as usize
+    }
+}
+
+/// The same as `place_of`, for a text whose length is worth the start of a search by vectors; out of the way of short texts, so
+/// that these save and restore no registers for it.
+#[inline(never)]
+fn place_in_long(byte: u8, text: &[u8]) -> usize
     ensures value { result ≡ position_or_len (λ b. b == byte) text.now }
     ensures within { result ≤ length text.now }
 {

@@ -1,9 +1,8 @@
-use Rattle.std.proofs.Common.{◌∙◌}
-use Rattle.text_words.proofs.Firsts.{first_place, place_within}
+use Rattle.std.proofs.Common.{◌==◌}
+use Rattle.text_words.proofs.Blocks.{stands_far}
 use Rattle.text_words.proofs.cuts.place_of.Goals as goal
 
-pub returns-clause-value : goal.returns-clause-value
-returns-clause-value c = c.unwrap_or.ensures ∙ first_place c.args.byte c.args.text.now c.memchr.result c.memchr.ensures
-
-pub returns-clause-within : goal.returns-clause-within
-returns-clause-within c = place_within c.args.byte c.args.text.now c.memchr.result c.unwrap_or.result c.unwrap_or.ensures c.memchr.ensures
+pub returns-else-near-lt-NEAR-clause-value : goal.returns-else-near-lt-NEAR-clause-value
+returns-else-near-lt-NEAR-clause-value c =
+    stands_far (λ b. b == c.args.byte) c.args.text.now 16 c.if-text-lt-NEAR.false c.place_near-near.result c.place_in_long.result
+    c.place_near-near.ensures c.if-near-lt-NEAR.false c.place_in_long.ensures.value
