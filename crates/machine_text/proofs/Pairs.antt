@@ -110,3 +110,13 @@ module _ (w out : List ℕ) (i : ℕ) (even : length w ≡ 2 * length out) where
   pub pairs_done : length out ≤ i → behind (take i out) (pairs left) ≡ pairs w → pairs w ≡ Some out
   pairs_done le so_far = sym so_far ∙ ap (λ xs. behind (take i out) (pairs xs)) (drop_all (2 * i) w (omega (arith, even, le)))
       ∙ ap Some (append-nil (take i out) ∙ take_all i out le)
+
+by_two : (w : List ℕ) → length w ≡ 2 → pairs w ≡ option_map (λ b. b ∷ []) (pair_of (get_or w 0 0) (get_or w 1 0))
+by_two [] two = absurd (omega (arith, two))
+by_two (digit ∷ []) two = absurd (omega (arith, two))
+by_two (high ∷ low ∷ []) two = refl
+by_two (high ∷ low ∷ c ∷ rest) two = absurd (omega (arith, two))
+
+-- the byte of a word of two digits
+pub two_digits : (w : List ℕ) → length w ≡ 2 → word_bytes w ≡ option_map (λ b. b ∷ []) (pair_of (get_or w 0 0) (get_or w 1 0))
+two_digits w two = word_pairs w (ap (λ k. k == 0) two) ∙ by_two w two

@@ -28,3 +28,8 @@ decoded (Err e) = None
 
 unfoldable pub word_bytes : List ℕ → Option (List ℕ)
 word_bytes w = decoded (decode_of w)
+
+-- the only byte, if there is one, or else others
+abbrev pub only_or : Option ℕ → List ℕ → List ℕ
+only_or (Some byte) others = byte ∷ []
+only_or None others = others

@@ -38,7 +38,7 @@ fn digit(c: u8) -> Option<u64>
 }
 
 /// The byte of two digits.
-fn pair(high: u8, low: u8) -> Option<u8>
+pub(crate) fn pair(high: u8, low: u8) -> Option<u8>
     ensures { result ≡ option_and_then (λ h. option_map (λ l. h * 16 + l) (hex_digit_value low)) (hex_digit_value high) }
 {
     let high = digit(high)?;

@@ -1,8 +1,8 @@
 //! One line of the machine text.
-ghost use Rattle.std.specs.Prelude.{◌≡◌, ◌≤◌, ◌+◌, ◌++◌, codes, Some, IfOk, IfSome, nat_le, nat_lt, option_map, length};
+ghost use Rattle.std.specs.Prelude.{◌≡◌, ◌≤◌, ◌+◌, ◌++◌, codes, Some, Ok, IfOk, IfSome, if◌then◌else◌, nat_le, nat_lt, option_map, length};
 ghost use Rattle.std.specs.List.{list_all};
 ghost use Rattle.ar_space.specs.Outcome.{Answers, seen};
-ghost use Rattle.machine_text.specs.MachineText.{last_of, placed, configured, root, text, is_text, keyed, line};
+ghost use Rattle.machine_text.specs.MachineText.{last_of, put_all, bad_line, placed, configured, root, text, is_text, keyed, line};
 
 use crate::address_space::AddressSpace;
 use crate::draft::Draft;
@@ -30,12 +30,28 @@ fn placed(
 {
     let last = in_space.last();
     let first = number(n, last, words)?;
-    bytes(n, words, buffer)?;
-    if !fits(first, buffer.len(), last) {
+    match bytes(n, words, buffer)? {
+        Some(byte) => put(n, in_space, space, first, &[byte]),
+        None => put(n, in_space, space, first, buffer.as_slice()),
+    }
+}
+
+/// Puts bytes from a place on, none of them past the last place.
+fn put(
+    n: usize,
+    in_space: AddressSpace,
+    space: &mut Sparse,
+    first: u64,
+    bytes: &[u8],
+) -> Result<(), Refusal>
+    requires { first ≤ last_of in_space }
+    ensures { Answers (seen (λ _. space.new) result) (if nat_le (first + length bytes.now) (last_of in_space + 1)
+        then Ok (put_all in_space space.old first bytes.now) else bad_line n) }
+{
+    if !fits(first, bytes.len(), in_space.last()) {
         return Err(bad_line(n));
     }
-    in_space.put_all(space, first, buffer.as_slice())?;
-    Ok(())
+    in_space.put_all(space, first, bytes)
 }
 
 /// Whether none of `count` bytes from a place on stands past the last place.

@@ -1,7 +1,7 @@
 //! The words of a line as numbers and bytes.
-ghost use Rattle.std.specs.Prelude.{◌≡◌, ◌≤◌, ◌∷◌, IfOk};
+ghost use Rattle.std.specs.Prelude.{◌≡◌, ◌≤◌, [], ◌∷◌, length, IfOk};
 ghost use Rattle.ar_space.specs.Outcome.{Answers, seen};
-ghost use Rattle.machine_text.specs.Words.{number};
+ghost use Rattle.machine_text.specs.Words.{number, only_or};
 ghost use Rattle.machine_text.specs.MachineText.{here, word, ended, numbered, with_word, bytes_after, all_bytes};
 ghost use Rattle.ar_space.specs.declared.refusal.Refusal.TheVariants.{Input};
 ghost use Rattle.ar_space.specs.declared.refusal.InputFault.TheVariants.{MachineLine};
@@ -50,14 +50,35 @@ pub(crate) fn number(n: usize, most: u64, words: &mut Words<'_>) -> Result<u64, 
     number_here(n, word, most)
 }
 
-/// The bytes of all words, of which there is one at least, in place of those in the buffer.
+/// The bytes of all words, of which there is one at least: the only one, if it is that, or those in the buffer, in place of
+/// what it had. A text may have one byte a line, and such a line needs no buffer.
 #[tactic(auto, using(ar_space::specs::Outcome::answering), unfolding(crate::specs::MachineText::all_bytes))]
-pub(crate) fn bytes(n: usize, words: &mut Words<'_>, buffer: &mut Vec<u8>) -> Result<(), Refusal>
-    ensures { Answers (seen (λ _. buffer.new.items) result) (all_bytes n words.old) }
+pub(crate) fn bytes(
+    n: usize,
+    words: &mut Words<'_>,
+    buffer: &mut Vec<u8>,
+) -> Result<Option<u8>, Refusal>
+    ensures { Answers (seen (λ only. only_or only buffer.new.items) result) (all_bytes n words.old) }
 {
     let first = word(n, words)?;
+    if first.len() == 2 && words.is_ended() {
+        let only = only_byte(n, first)?;
+        return Ok(Some(only));
+    }
     buffer.clear();
-    bytes_after(n, first, words, buffer)
+    bytes_after(n, first, words, buffer)?;
+    Ok(None)
+}
+
+/// The byte of a word of two digits.
+fn only_byte(n: usize, word: &[u8]) -> Result<u8, Refusal>
+    requires { length word.now ≡ 2 }
+    ensures { Answers (seen (λ byte. byte ∷ []) result) (bytes_after n [] (word.now ∷ [])) }
+{
+    match digits::pair(word[0], word[1]) {
+        Some(byte) => Ok(byte),
+        None => Err(bad_line(n)),
+    }
 }
 
 /// The number of a word.
