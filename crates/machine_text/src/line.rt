@@ -2,6 +2,7 @@
 ghost use Rattle.std.specs.Prelude.{◌≡◌, ◌≤◌, ◌+◌, ◌++◌, codes, Some, Ok, IfOk, IfSome, if◌then◌else◌, nat_le, nat_lt, option_map, length};
 ghost use Rattle.std.specs.List.{list_all};
 ghost use Rattle.ar_space.specs.Outcome.{Answers, seen};
+ghost use Rattle.machine_text.specs.Words.{only_or};
 ghost use Rattle.machine_text.specs.MachineText.{last_of, put_all, bad_line, placed, configured, root, text, is_text, keyed, line};
 
 use crate::address_space::AddressSpace;
@@ -10,6 +11,7 @@ use crate::osi_texts::OsiTexts;
 use crate::words::{bad_line, bytes, ended, number};
 use ar_space::{Refusal, Sparse};
 use std::alloc::Global;
+use std::slice;
 use text_words::{Words, cut};
 
 /// How many bytes an `osi` text may have.
@@ -30,9 +32,17 @@ fn placed(
 {
     let last = in_space.last();
     let first = number(n, last, words)?;
-    match bytes(n, words, buffer)? {
-        Some(byte) => put(n, in_space, space, first, &[byte]),
-        None => put(n, in_space, space, first, buffer.as_slice()),
+    let only = bytes(n, words, buffer)?;
+    put(n, in_space, space, first, given(&only, buffer))
+}
+
+/// The bytes that a line gives: the only one, or those in the buffer.
+fn given<'b>(only: &'b Option<u8>, buffer: &'b Vec<u8>) -> &'b [u8]
+    ensures { result.now ≡ only_or only.now buffer.now.items }
+{
+    match only {
+        Some(byte) => slice::from_ref(byte),
+        None => buffer.as_slice(),
     }
 }
 
