@@ -8,6 +8,8 @@ use std::simd::prelude::*;
 
 /// How many bytes are looked at in one step, before the search of a long text begins: most words and many lines are no longer.
 const NEAR: usize = 16;
+/// The same for shorter texts, as what follows `mem` in a line of one byte.
+const HALF: usize = 8;
 
 /// The first place of a byte, from 0, or the length where the byte isn't in the text: `place_of(b' ', b"give it")` is 4.
 pub fn place_of(byte: u8, text: &[u8]) -> usize
@@ -25,8 +27,24 @@ pub fn place_of(byte: u8, text: &[u8]) -> usize
     }
 }
 
-/// The same, byte by byte.
+/// The same, for a text of fewer than `NEAR` bytes.
 fn place_in_short(byte: u8, text: &[u8]) -> usize
+    ensures value { result ≡ position_or_len (λ b. b == byte) text.now }
+    ensures within { result ≤ length text.now }
+{
+    if text.len() < HALF {
+        return place_one_by_one(byte, text);
+    }
+    let near = place_in_half(byte, text);
+    if near < HALF {
+        near
+    } else {
+        HALF + place_one_by_one(byte, &text[HALF..])
+    }
+}
+
+/// The same, byte by byte.
+fn place_one_by_one(byte: u8, text: &[u8]) -> usize
     ensures value { result ≡ position_or_len (λ b. b == byte) text.now }
     ensures within { result ≤ length text.now }
 {
@@ -49,6 +67,22 @@ fn place_near(byte: u8, text: &[u8]) -> usize
         .to_bitmask();
     if found == 0 {
         NEAR
+    } else {
+        found.trailing_zeros() as usize
+    }
+}
+
+/// The first place of a byte among the first `HALF` bytes, or `HALF` where none of them is that byte.
+#[inline(always)]
+fn place_in_half(byte: u8, text: &[u8]) -> usize
+    requires { HALF ≤ length text.now }
+    ensures { result ≡ position_or_len (λ b. b == byte) (take HALF text.now) }
+{
+    let found = u8x8::from_slice(text)
+        .simd_eq(u8x8::splat(byte))
+        .to_bitmask();
+    if found == 0 {
+        HALF
     } else {
         found.trailing_zeros() as usize
     }

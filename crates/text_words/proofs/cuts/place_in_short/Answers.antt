@@ -1,10 +1,8 @@
-use Rattle.std.proofs.Common.{arith, sym, ◌==◌}
-use Rattle.std.proofs.lemmas.Bool.{eq-eqb}
-use Rattle.std.proofs.lemmas.List.Sums.{position_or_len_is}
+use Rattle.std.proofs.Common.{◌==◌}
+use Rattle.text_words.proofs.Blocks.{stands_far}
 use Rattle.text_words.proofs.cuts.place_in_short.Goals as goal
 
-pub returns-then-text-i-clause-value : goal.returns-then-text-i-clause-value
-returns-then-text-i-clause-value c = sym (position_or_len_is (λ b. b == c.args.byte) c.args.text.now c.loop-i.i 0 (omega arith) c.loop-i.invariant (λ _. eq-eqb _ _ c.if-text-i.true))
-
-pub returns-clause-value : goal.returns-clause-value
-returns-clause-value c = sym (position_or_len_is (λ b. b == c.args.byte) c.args.text.now _ 0 (omega arith) (λ k lt. c.loop-i.invariant k (omega arith)) (λ lt. absurd (omega arith)))
+pub returns-else-near-lt-HALF-clause-value : goal.returns-else-near-lt-HALF-clause-value
+returns-else-near-lt-HALF-clause-value c =
+    stands_far (λ b. b == c.args.byte) c.args.text.now 8 c.if-text-lt-HALF.false c.place_in_half-near.result c.place_one_by_one-else-near-lt-HALF.result
+    c.place_in_half-near.ensures c.if-near-lt-HALF.false c.place_one_by_one-else-near-lt-HALF.ensures.value
