@@ -1,3 +1,4 @@
 pub mod Copied
 pub mod Parsed
 pub mod Scans
+pub mod ShortTerms
