@@ -1,4 +1,5 @@
 pub mod Copied
+pub mod InOrder
 pub mod Parsed
 pub mod Scans
 pub mod ShortTerms

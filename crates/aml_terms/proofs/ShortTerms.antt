@@ -1,20 +1,17 @@
 -- A term whose first byte says how long it is ends so many bytes on.
 use Rattle.std.specs.Prelude.{◌≡◌, ◌<◌, ◌+◌, ◌-◌, ◌==◌, ℕ, List, [], ◌∷◌, length, drop, min, Bool, true, false, Option, Some, None, if◌then◌else◌, refl}
-use Rattle.std.proofs.Common.{◌∙◌, sym, ap, add_assoc, length-drop, arith}
+use Rattle.std.proofs.Common.{◌∙◌, ap, add_assoc, length-drop, arith}
 use Rattle.std.proofs.lemmas.List.{drop-drop}
 use Rattle.aml_grammar.specs.declared.kinds.OperandKind.{OperandKind}
 use Rattle.aml_grammar.specs.declared.kinds.OperandKind.TheVariants as kinds
 use Rattle.aml_grammar.specs.declared.kinds.Row.{Row}
-use Rattle.aml_grammar.specs.declared.opcode.Opcode.{Opcode}
-use Rattle.aml_grammar.specs.declared.opcode.TermCode.TheVariants as codes
 use Rattle.aml_grammar.specs.Names.{starts_name}
-use Rattle.aml_grammar.specs.Tree.{Tree, Part, term}
-use Rattle.aml_grammar.specs.Shape.{parts_of}
+use Rattle.aml_grammar.specs.Tree.{Tree}
 use Rattle.aml_grammar.specs.Table.{row_of}
-use Rattle.aml_grammar.specs.Grammar.{is_if, is_nothing, kinds_of}
-use Rattle.aml_marked.specs.Marked.{Place, Walk, Below, past, over, first, after, gives, inside, an_operand, all_operands, of_row, with_else, with_row, an_opcode, a_coded, a_named, a_term_in, a_term}
+use Rattle.aml_grammar.specs.Grammar.{is_if, is_nothing}
+use Rattle.aml_marked.specs.Marked.{Place, Below, over, first, after, gives, inside, an_operand, all_operands, of_row, with_row, an_opcode, a_coded, a_term_in, a_term}
 use Rattle.aml_marked.specs.Walking.{some_levels}
-use Rattle.aml_terms.specs.ShortTerms.{with_only, row_length, maybe_length, short_length}
+use Rattle.aml_terms.specs.ShortTerms.{with_only, maybe_length, short_length}
 
 over_over : (m n : ℕ) (p : Place) → over m (over n p) ≡ over (n + m) p
 over_over m n p =
