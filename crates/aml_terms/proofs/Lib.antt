@@ -1,3 +1,4 @@
+pub mod CodedTerms
 pub mod Copied
 pub mod InOrder
 pub mod Parsed
