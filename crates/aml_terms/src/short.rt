@@ -14,7 +14,7 @@ static LENGTHS: [u8; 256] = [
     0, 0, 0, 0, 0, 0, 0, 0, 0, 0, 0, 0, 0, 0, 0, 0, 0, 0, 0, 0, 0, 0, 0, 0, 0, 0, 0, 0, 0, 0, 0, 1,
 ];
 
-/// How many bytes a term takes that begins with this byte, and 0 where what follows has to be read to say so.
+/// How many bytes a term takes that begins with this byte, where no other byte has to be read to say so; 0 for all other bytes.
 #[inline(always)]
 pub(crate) fn short_length(first: u8) -> u8
     ensures { result ≡ short_length first }

@@ -27,7 +27,7 @@ pub(crate) fn skip_term(cursor: &mut Cursor<'_>, marks: &Marks, levels: u8, elem
     }
 }
 
-/// Goes over a term whatever its first byte is, with at least one level.
+/// Goes over a term, whatever its first byte is.
 #[cycle(skip)]
 #[inline(never)]
 #[tactic(auto, using(aml_marked::specs::Walking::walking), unfolding(aml_marked::specs::Marked::a_name, aml_marked::specs::Marked::a_term_in, aml_marked::specs::Marked::after, aml_marked::specs::Marked::gives))]
