@@ -138,5 +138,5 @@ module _ (m : Map) (x : Sought) (p : List Seg) where
   near_end n s lt at none = sym (beyond n (length p) (omega (arith, lt)) (λ j more.
       let h = take_past p n j s lt at more in
       none_fits m x (take j p)
-        (λ rest. ap (λ (q : List Seg). at_path m (q ++ rest)) h.1 ∙ ap (at_path m) (append_assoc (take n p) (s ∷ h.0) rest) ∙ none (h.0 ++ rest))
-        (ap (at_path m) h.1 ∙ none h.0)))
+      (λ rest. ap (λ (q : List Seg). at_path m (q ++ rest)) h.1 ∙ ap (at_path m) (append_assoc (take n p) (s ∷ h.0) rest) ∙ none (h.0 ++ rest))
+      (ap (at_path m) h.1 ∙ none h.0)))

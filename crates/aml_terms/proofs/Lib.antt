@@ -1,3 +1,6 @@
+pub mod CodedTerms
 pub mod Copied
+pub mod InOrder
 pub mod Parsed
 pub mod Scans
+pub mod ShortTerms

@@ -14,6 +14,7 @@ mod operands;
 mod parse;
 mod places;
 mod scan;
+mod short;
 mod skip;
 mod spot;
 

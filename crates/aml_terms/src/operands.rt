@@ -1,7 +1,8 @@
 //! Goes from a term to one of its operands.
-ghost use Rattle.std.specs.Prelude.{◌≡◌, ◌≤◌, ◌∷◌, [], ℕ, length, option_map, Some};
+ghost use Rattle.std.specs.Prelude.{◌≡◌, ◌<◌, ◌≤◌, ◌∷◌, [], ℕ, length, option_map, Some, true, false};
 ghost use Rattle.aml_grammar.specs.Shape.{parts_of};
 ghost use Rattle.aml_grammar.specs.Apart.{part_at, operand_of};
+ghost use Rattle.aml_grammar.specs.Grammar.{is_if, is_nothing, kinds_of};
 ghost use Rattle.aml_marked.specs.Marked.{count_at, a_term, an_else, with_row, all_operands, of_row, over, a_field, an_access_field, an_extended_access_field, a_named_field};
 ghost use Rattle.aml_marked.specs.Parting.{kind_count};
 ghost use Rattle.aml_terms.specs.AtTree.{at_tree, place_at};
@@ -10,10 +11,10 @@ ghost use Rattle.aml_terms.specs.Spots.{spot_part};
 use crate::at::{At, Kind};
 use crate::cursor::Cursor;
 use crate::marks::Marks;
-use crate::skip::{opcode, skip_operand, skip_row};
+use crate::skip::{is_if, opcode, skip_operand, skip_row};
 use crate::spot::Spot;
-use aml_grammar::{OperandKind, Row};
-use aml_scan::{is_if, is_nothing, row_of, starts_name};
+use aml_grammar::{OperandKind, OperandKinds, Row};
+use aml_scan::{is_nothing, row_of, starts_name};
 
 /// Goes to an operand among kinds that stand one after another.
 #[tactic(auto, using(aml_marked::specs::Parting::parting), unfolding(aml_marked::specs::Marked::all_operands, aml_marked::specs::Marked::after, aml_marked::specs::Marked::gives))]
@@ -58,6 +59,7 @@ fn kind_count(kinds: &[OperandKind]) -> usize
 }
 
 /// Goes to an operand of a row.
+#[inline(always)]
 #[tactic(auto, using(aml_marked::specs::Parting::parting), unfolding(aml_marked::specs::Marked::of_row, aml_marked::specs::Marked::inside))]
 fn to_row_operand(
     cursor: &mut Cursor<'_>,
@@ -68,31 +70,53 @@ fn to_row_operand(
 ) -> Option<Spot>
     ensures { option_map (λ s. spot_part (count_at marks.now) s cursor.new) result ≡ part_at (parts_of (of_row (a_term (count_at marks.now) levels) row.now cursor.old).0) index }
 {
-    let kinds = [row.3.0, row.3.1, row.3.2, row.3.3, row.3.4, row.3.5];
     if row.2 {
         cursor.open();
     }
-    to_kind(cursor, marks, levels, &kinds, index)
+    to_operand_of_kinds(cursor, marks, levels, &row.3, index)
 }
 
-/// Goes to an operand of a term whose opcode was read. Most often that is its first, which stands right there.
-#[tactic(auto, using(aml_marked::specs::Parting::parting), unfolding(aml_marked::specs::Marked::with_row, aml_marked::specs::Marked::of_row, aml_marked::specs::Marked::inside, aml_marked::specs::Marked::all_operands, aml_marked::specs::Marked::after, aml_marked::specs::Marked::gives))]
-fn to_coded_operand(
+/// Goes to an operand among those of a row. Most often that is the first one, which stands right there.
+#[inline(always)]
+#[tactic(auto, using(crate::proofs::InOrder::in_order))]
+fn to_operand_of_kinds(
     cursor: &mut Cursor<'_>,
     marks: &Marks,
     levels: u8,
-    row: &Row,
+    kinds: &OperandKinds,
     index: usize,
 ) -> Option<Spot>
-    ensures { option_map (λ s. spot_part (count_at marks.now) s cursor.new) result ≡ operand_of (with_row (a_term (count_at marks.now) levels) (Some row.now) cursor.old).0 index }
+    ensures { option_map (λ s. spot_part (count_at marks.now) s cursor.new) result ≡ part_at (parts_of (all_operands (a_term (count_at marks.now) levels) (kinds_of kinds.now) cursor.old).0) index }
 {
-    if index == 0 && !row.2 && !is_if(row.0) && !is_nothing(row.3.0) {
-        return Some(Spot::Operand(row.3.0, levels));
+    if is_nothing(kinds.0) {
+        None
+    } else if index == 0 {
+        Some(Spot::Operand(kinds.0, levels))
+    } else {
+        to_later_operand(cursor, marks, levels, kinds, index)
     }
-    to_operand_of_row(cursor, marks, levels, row, index)
 }
 
-/// Goes to an operand of a term with an opcode: the Else of an If is its last one.
+/// Goes to an operand behind the first one.
+#[tactic(auto, using(crate::proofs::InOrder::in_order))]
+fn to_later_operand(
+    cursor: &mut Cursor<'_>,
+    marks: &Marks,
+    levels: u8,
+    kinds: &OperandKinds,
+    index: usize,
+) -> Option<Spot>
+    requires some { is_nothing kinds.now.0 ≡ false }
+    requires later { 0 < index }
+    ensures { option_map (λ s. spot_part (count_at marks.now) s cursor.new) result ≡ part_at (parts_of (all_operands (a_term (count_at marks.now) levels) (kinds_of kinds.now) cursor.old).0) index }
+{
+    skip_operand(cursor, marks, levels, kinds.0);
+    let others = [kinds.1, kinds.2, kinds.3, kinds.4, kinds.5];
+    to_kind(cursor, marks, levels, &others, index - 1)
+}
+
+/// Goes to an operand of a term with an opcode.
+#[inline(always)]
 #[tactic(auto, using(aml_marked::specs::Parting::parting), unfolding(aml_marked::specs::Marked::with_row, aml_marked::specs::Marked::after, aml_marked::specs::Marked::gives))]
 fn to_operand_of_row(
     cursor: &mut Cursor<'_>,
@@ -103,9 +127,25 @@ fn to_operand_of_row(
 ) -> Option<Spot>
     ensures { option_map (λ s. spot_part (count_at marks.now) s cursor.new) result ≡ operand_of (with_row (a_term (count_at marks.now) levels) (Some row.now) cursor.old).0 index }
 {
-    if !is_if(row.0) {
-        return to_row_operand(cursor, marks, levels, row, index);
+    if is_if(row.0) {
+        to_operand_of_if(cursor, marks, levels, row, index)
+    } else {
+        to_row_operand(cursor, marks, levels, row, index)
     }
+}
+
+/// Goes to an operand of an If: its Else is its last one.
+#[tactic(auto, using(aml_marked::specs::Parting::parting), unfolding(aml_marked::specs::Marked::with_row, aml_marked::specs::Marked::after, aml_marked::specs::Marked::gives))]
+fn to_operand_of_if(
+    cursor: &mut Cursor<'_>,
+    marks: &Marks,
+    levels: u8,
+    row: &Row,
+    index: usize,
+) -> Option<Spot>
+    requires { is_if row.now.0 ≡ true }
+    ensures { option_map (λ s. spot_part (count_at marks.now) s cursor.new) result ≡ operand_of (with_row (a_term (count_at marks.now) levels) (Some row.now) cursor.old).0 index }
+{
     let count = kind_count(&[row.3.0, row.3.1, row.3.2, row.3.3, row.3.4, row.3.5]);
     if index < count {
         return to_row_operand(cursor, marks, levels, row, index);
@@ -254,7 +294,7 @@ pub(crate) fn to_part<'a>(part: &At<'a>, cursor: &mut Cursor<'a>, index: usize) 
 {
     match part.kind {
         Kind::Coded(place) => {
-            to_coded_operand(cursor, part.marks, part.levels, place.row(), index)
+            to_operand_of_row(cursor, part.marks, part.levels, place.row(), index)
         }
         Kind::Term => to_operand(cursor, part.marks, part.levels, false, index),
         Kind::Element => to_operand(cursor, part.marks, part.levels, true, index),

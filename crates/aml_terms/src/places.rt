@@ -44,14 +44,32 @@ pub(crate) fn cursor_of<'a>(part: &At<'a>) -> Cursor<'a>
 }
 
 /// The term, or the element of a package, where a cursor stands. Its opcode is read at once, so that no reading of an operand looks for
-/// its row again.
-#[tactic(auto, using(aml_marked::specs::Walking::walking), unfolding(aml_marked::specs::Marked::a_coded, aml_marked::specs::Marked::a_term_in, aml_marked::specs::Marked::after, aml_marked::specs::Marked::gives))]
+/// its row again. Most opcodes take one byte, and no name begins with such a byte.
+#[tactic(auto, using(crate::proofs::CodedTerms::coded_term))]
 pub(crate) fn term_at<'a>(
     cursor: &Cursor<'a>,
     marks: &'a Marks,
     levels: u8,
     element: bool,
 ) -> At<'a>
+    ensures marks { result.marks.now ≡ marks.now }
+    ensures tree { at_tree result ≡ (a_term (count_at marks.now) levels element cursor.now).0 }
+    ensures behind { behind_of result.kind (count_at marks.now) result.levels (place_at result) ≡ (a_term (count_at marks.now) levels element cursor.now).1 }
+{
+    if levels > 0 {
+        if let Some(place) = row_place(u16::from(cursor.first())) {
+            let mut behind = Cursor::new(cursor.at(), cursor.rest());
+            behind.over(1);
+            return standing(&behind, marks, levels - 1, 0, Kind::Coded(place));
+        }
+    }
+    other_term_at(cursor, marks, levels, element)
+}
+
+/// The same, whatever stands there.
+#[inline(never)]
+#[tactic(auto, using(aml_marked::specs::Walking::walking), unfolding(aml_marked::specs::Marked::a_coded, aml_marked::specs::Marked::a_term_in, aml_marked::specs::Marked::after, aml_marked::specs::Marked::gives))]
+fn other_term_at<'a>(cursor: &Cursor<'a>, marks: &'a Marks, levels: u8, element: bool) -> At<'a>
     ensures marks { result.marks.now ≡ marks.now }
     ensures tree { at_tree result ≡ (a_term (count_at marks.now) levels element cursor.now).0 }
     ensures behind { behind_of result.kind (count_at marks.now) result.levels (place_at result) ≡ (a_term (count_at marks.now) levels element cursor.now).1 }

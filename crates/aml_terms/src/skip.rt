@@ -1,16 +1,37 @@
 //! Goes over terms by their marks. It takes no memory and refuses nothing.
 ghost use Rattle.std.specs.Prelude.{◌≡◌, Some, false};
+ghost use Rattle.aml_grammar.specs.Grammar.{is_if};
 ghost use Rattle.aml_marked.specs.Marked.{count_at, a_term, a_call, a_coded, an_opcode, with_row, of_row, all_operands, an_operand, name_or_term, turns_of, maybe_else, an_else, target_of, a_target, a_super_name, all_items, fields_left, a_field, to_end, first, Below};
 
 use crate::cursor::Cursor;
 use crate::marks::Marks;
-use aml_grammar::{OperandKind, Row};
-use aml_scan::{ELSE, EXT_OP_PREFIX, is_if, is_nothing, row_of, starts_name};
+use crate::short::short_length;
+use aml_grammar::{Opcode, OperandKind, Row};
+use aml_scan::{ELSE, EXT_OP_PREFIX, is_nothing, row_of, starts_name};
 
-/// Goes over a term, with at most this many levels.
+/// Goes over a term, with at most this many levels. Most terms are short ones, and take no call.
 #[cycle(skip)]
-#[tactic(auto, using(aml_marked::specs::Walking::walking), unfolding(aml_marked::specs::Marked::a_name, aml_marked::specs::Marked::a_term_in, aml_marked::specs::Marked::after, aml_marked::specs::Marked::gives))]
+#[inline(always)]
+#[tactic(auto, using(crate::proofs::ShortTerms::short_term, aml_marked::specs::Walking::no_levels), unfolding(aml_marked::specs::Marked::gives))]
 pub(crate) fn skip_term(cursor: &mut Cursor<'_>, marks: &Marks, levels: u8, element: bool)
+    ensures { cursor.new ≡ (a_term (count_at marks.now) levels element cursor.old).1 }
+{
+    if levels == 0 {
+        return;
+    }
+    let length = short_length(cursor.first());
+    if length > 0 {
+        cursor.over(usize::from(length));
+    } else {
+        skip_long_term(cursor, marks, levels, element);
+    }
+}
+
+/// Goes over a term, whatever its first byte is.
+#[cycle(skip)]
+#[inline(never)]
+#[tactic(auto, using(aml_marked::specs::Walking::walking), unfolding(aml_marked::specs::Marked::a_name, aml_marked::specs::Marked::a_term_in, aml_marked::specs::Marked::after, aml_marked::specs::Marked::gives))]
+fn skip_long_term(cursor: &mut Cursor<'_>, marks: &Marks, levels: u8, element: bool)
     ensures { cursor.new ≡ (a_term (count_at marks.now) levels element cursor.old).1 }
 {
     if levels == 0 {
@@ -76,6 +97,14 @@ fn skip_coded(cursor: &mut Cursor<'_>, marks: &Marks, levels: u8)
         None => (),
         Some(row) => skip_row_term(cursor, marks, levels, row),
     }
+}
+
+/// Whether an Else may follow a term with this opcode. Every reading of a term asks it, so it takes no call.
+#[inline(always)]
+pub(crate) fn is_if(opcode: Opcode) -> bool
+    ensures { result ≡ is_if opcode }
+{
+    matches!(opcode, Opcode::If)
 }
 
 /// Goes over the operands of a term, and over the Else that may follow an If.

@@ -12,6 +12,7 @@ pub(crate) fn number(word: &[u8]) -> Option<u32>
     written(word)
 }
 
+/// A number in decimal, without leading zeros.
 fn written(word: &[u8]) -> Option<u32>
     ensures { MatchOption result ((n : ℕ) → n < 2 ^ 32 → word.now ≢ decimal n) (λ n. word.now ≡ decimal n) }
 {
@@ -54,6 +55,7 @@ fn short(word: &[u8]) -> Option<u32>
     Some((first * 10 + second) * 10 + third)
 }
 
+/// The same of any length, by a text that is made to compare it with.
 fn parsed(word: &[u8]) -> Option<u32>
     ensures { MatchOption result ((n : ℕ) → n < 2 ^ 32 → word.now ≢ decimal n) (λ n. word.now ≡ decimal n) }
 {

@@ -3,44 +3,47 @@ use Rattle.std.specs.Prelude.{false}
 use Rattle.aml_marked.specs.Marked.{count_at, a_term, a_field, turns_of, to_end, all_operands}
 use Rattle.aml_terms.proofs.skip.+skip.Given as goal
 
+abbrev pub decreases-skip_long_term : goal.decreases-skip_long_term
+decreases-skip_long_term l = 16 * l.levels + 0
+
 abbrev pub decreases-skip_term : goal.decreases-skip_term
-decreases-skip_term l = 16 * l.levels + 0
+decreases-skip_term l = 16 * l.levels + 1
 
 abbrev pub decreases-skip_arguments : goal.decreases-skip_arguments
-decreases-skip_arguments l = 16 * l.levels + 1
+decreases-skip_arguments l = 16 * l.levels + 2
 
 abbrev pub decreases-skip_field : goal.decreases-skip_field
-decreases-skip_field l = 16 * l.levels + 2
+decreases-skip_field l = 16 * l.levels + 3
 
 abbrev pub decreases-skip_name_or_term : goal.decreases-skip_name_or_term
-decreases-skip_name_or_term l = 16 * l.levels + 1
+decreases-skip_name_or_term l = 16 * l.levels + 2
 
 abbrev pub decreases-skip_target : goal.decreases-skip_target
-decreases-skip_target l = 16 * l.levels + 2
+decreases-skip_target l = 16 * l.levels + 3
 
 abbrev pub decreases-skip_items : goal.decreases-skip_items
-decreases-skip_items l = 16 * l.levels + 1
+decreases-skip_items l = 16 * l.levels + 2
 
 abbrev pub decreases-skip_fields : goal.decreases-skip_fields
-decreases-skip_fields l = 16 * l.levels + 3
+decreases-skip_fields l = 16 * l.levels + 4
 
 abbrev pub decreases-skip_operand : goal.decreases-skip_operand
-decreases-skip_operand l = 16 * l.levels + 4
+decreases-skip_operand l = 16 * l.levels + 5
 
 abbrev pub decreases-skip_operands : goal.decreases-skip_operands
-decreases-skip_operands l = 16 * l.levels + 5
+decreases-skip_operands l = 16 * l.levels + 6
 
 abbrev pub decreases-skip_row : goal.decreases-skip_row
-decreases-skip_row l = 16 * l.levels + 6
+decreases-skip_row l = 16 * l.levels + 7
 
 abbrev pub decreases-skip_row_term : goal.decreases-skip_row_term
-decreases-skip_row_term l = 16 * l.levels + 7
+decreases-skip_row_term l = 16 * l.levels + 8
 
 abbrev pub decreases-skip_coded : goal.decreases-skip_coded
-decreases-skip_coded l = 16 * l.levels + 8
+decreases-skip_coded l = 16 * l.levels + 9
 
 abbrev pub decreases-skip_call : goal.decreases-skip_call
-decreases-skip_call l = 16 * l.levels + 8
+decreases-skip_call l = 16 * l.levels + 9
 
 abbrev pub invariant-skip_arguments-arguments : goal.invariant-skip_arguments-arguments
 invariant-skip_arguments-arguments l = (turns_of (a_term (count_at l.fn.marks) l.fn.levels false) l.left l.cursor).1 ≡ (turns_of (a_term (count_at l.fn.marks) l.fn.levels false) l.fn.count l.fn.cursor).1
