@@ -46,7 +46,8 @@ pub(crate) fn pair(high: u8, low: u8) -> Option<u8>
     Some((high * 16 + low) as u8)
 }
 
-/// Puts the bytes that pairs of digits are into `out`: `false` where one of them is no digit, and then `out` has some of them.
+/// Puts the bytes that pairs of digits stand for into `out`. `false` where a byte of the word is no digit; `out` then has only the bytes
+/// before it.
 pub(crate) fn decode(word: &[u8], out: &mut [u8]) -> bool
     requires { (0 < length out.old) × (length word.now ≡ 2 * length out.old) }
     ensures { word_bytes word.now ≡ (if result then Some out.new else None) }

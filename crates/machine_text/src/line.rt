@@ -204,7 +204,7 @@ fn behind_mem(text: &[u8]) -> Option<&[u8]>
     }
 }
 
-/// The n-th line; its bytes stand in the buffer on their way.
+/// The n-th line. The buffer is used for its bytes.
 #[tactic(auto, using(ar_space::specs::Outcome::answering), unfolding(crate::specs::MachineText::line))]
 pub(crate) fn line(
     alloc: Global,

@@ -109,7 +109,7 @@ fn bytes_after(
     Ok(())
 }
 
-/// Adds the bytes of one word, straight from its digits: a line takes no memory of its own.
+/// Adds the bytes of one word, straight from its digits. Memory is taken only where the buffer has no room left.
 #[tactic(auto, using(ar_space::specs::Outcome::answering))]
 fn add_word(n: usize, all: &mut Vec<u8>, word: &[u8]) -> Result<(), Refusal>
     ensures { Answers (seen (λ _. all.new.items) result) (with_word n all.old.items word.now) }
