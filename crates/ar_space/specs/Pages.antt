@@ -25,6 +25,6 @@ unfoldable pub map_of_pages : List (ℕ × Page) → map.FinMap nat_cmp ℕ
 map_of_pages [] = map.empty
 map_of_pages (entry ∷ entries) = with_cells (map_of_pages entries) (64 * entry.0) entry.1 64
 
--- all pages: the newest, and those of the tree
-abbrev pub listed : Pages → List (ℕ × Page)
-listed pages = (pages.newest_number, pages.newest) ∷ pages.tree.entries
+-- all pages, in the order in which they were made
+abbrev pub all_pages : Pages → List (ℕ × Page)
+all_pages pages = pages.made.items

@@ -1,12 +1,12 @@
 //! Pages by number.
-ghost use Rattle.std.specs.Prelude.{◌≡◌, ◌+◌, ◌*◌, ◌<◌, ◌≤◌, [], ◌∷◌, true, length, None, OnOk, OnErr, IsOkUnless, is_some, if◌then◌else◌};
+ghost use Rattle.std.specs.Prelude.{◌≡◌, ◌+◌, ◌*◌, ◌<◌, ◌≤◌, ℕ, length, Some, None, OnOk, OnErr, IfOk, IsOkUnless, is_some, true, if◌then◌else◌};
 ghost use Rattle.std.specs.Option.{option_copied};
 ghost use Rattle.std.specs.FinMap as map;
 ghost use Rattle.std.specs.Ordering.{nat_cmp};
 ghost use Rattle.std.specs.BTreeMap.{is_at};
 ghost use Rattle.std.specs.Map.{lookup};
 ghost use Rattle.ar_space.specs.declared.refusal.Refusal.TheVariants.{OutOfMemory};
-ghost use Rattle.ar_space.specs.Pages.{listed, map_of_pages};
+ghost use Rattle.ar_space.specs.PagePlaces.{place_of};
 ghost use Rattle.ar_space.specs.Runs.{with_bytes, number_from};
 
 use crate::page::Page;
@@ -14,102 +14,135 @@ use crate::refusal::Refusal;
 use std::alloc::Global;
 use std::collections::BTreeMap;
 
-/// Pages by number. The page that was made last stands beside the tree, so bytes that come one after the other take a
-/// search for each page rather than for each of them.
+/// Pages by number, in the order in which they were made. A page that is new takes one search of the tree, and bytes
+/// that come one after the other take one for each page rather than for each of them.
 #[derive(Drop)]
 pub(crate) struct Pages {
-    newest_number: u64,
-    newest: Page,
-    tree: BTreeMap<u64, Page>,
+    /// All pages, each with its number.
+    made: Vec<(u64, Page)>,
+    /// Where the page with a number stands among them.
+    places: BTreeMap<u64, usize>,
+    /// The number of the page that bytes were put into last, and where it stands.
+    last_number: u64,
+    last: usize,
+    ghost placed: { (k : ℕ) → lookup (is_at (nat_cmp k)) places.entries ≡ place_of made.items k },
+    ghost last_is: { last < length made.items → place_of made.items last_number ≡ Some last },
 }
 
 impl Pages {
-    /// One page without bytes. It takes no memory.
+    ghost use Rattle.ar_space.specs.Pages.{all_pages, map_of_pages};
+
+    /// No pages. It takes no memory.
     pub(crate) fn new(alloc: Global) -> Pages
-        ensures { map_of_pages (listed result) ≡ map.empty }
+        ensures { map_of_pages (all_pages result) ≡ map.empty }
     {
         Pages {
-            newest_number: 0,
-            newest: Page::new(),
-            tree: BTreeMap::new(alloc),
+            made: Vec::new(alloc),
+            places: BTreeMap::new(alloc),
+            last_number: 0,
+            last: 0,
         }
     }
 
     /// How many pages there are.
-    pub(crate) fn len(&self) -> usize {
-        self.tree.len().saturating_add(1)
+    pub(crate) fn len(&self) -> usize
+        ensures { result ≡ length (all_pages self.now) }
+    {
+        self.made.len()
     }
 
-    /// The page with a number.
-    pub(crate) fn get(&self, number: u64) -> Option<&Page>
-        ensures { option_copied result ≡ lookup (is_at (nat_cmp number)) (listed self.now) }
+    /// Whether a number is that of the page that bytes were put into last.
+    fn is_last(&self, number: u64) -> bool
+        ensures { result ≡ true → place_of (all_pages self.now) number ≡ Some self.now.last }
     {
-        if number == self.newest_number {
-            Some(&self.newest)
+        number == self.last_number && self.last < self.made.len()
+    }
+
+    /// Where the page with a number stands.
+    fn place(&self, number: u64) -> Option<usize>
+        ensures { result ≡ place_of (all_pages self.now) number }
+    {
+        if self.is_last(number) {
+            Some(self.last)
         } else {
-            self.tree.get(&number)
+            self.places.get(&number).copied()
         }
     }
 
+    #[tactic(auto, using(crate::proofs::PagePlaces::within))]
+    /// The page with a number.
+    pub(crate) fn get(&self, number: u64) -> Option<&Page>
+        ensures { option_copied result ≡ lookup (is_at (nat_cmp number)) (all_pages self.now) }
+    {
+        match self.place(number) {
+            Some(place) => Some(&self.made[place].1),
+            None => None,
+        }
+    }
+
+    /// Where the page with a number stands, which is made without bytes if there is none: from then on the last one. Only
+    /// want of memory refuses it, and then nothing changes.
+    fn find_or_make(&mut self, number: u64) -> Result<usize, Refusal>
+        ensures place { IfOk result (λ place. place_of (all_pages self.new) number ≡ Some place) }
+        ensures ok { OnOk result (map_of_pages (all_pages self.new) ≡ map_of_pages (all_pages self.old)) }
+        ensures err { OnErr result (all_pages self.new ≡ all_pages self.old) }
+        ensures memory { IsOkUnless result OutOfMemory }
+    {
+        self.made.reserve(1)?;
+        let next = self.made.len();
+        match self.places.insert(number, next)? {
+            None => {
+                self.made.push_reserved((number, Page::new()));
+                self.last_number = number;
+                self.last = next;
+                Ok(next)
+            }
+            Some(place) => {
+                self.places.insert(number, place)?;
+                self.last_number = number;
+                self.last = place;
+                Ok(place)
+            }
+        }
+    }
+
+    /// As `find_or_make`, with no search where it is the last one already.
+    fn place_to_put(&mut self, number: u64) -> Result<usize, Refusal>
+        ensures place { IfOk result (λ place. place_of (all_pages self.new) number ≡ Some place) }
+        ensures ok { OnOk result (map_of_pages (all_pages self.new) ≡ map_of_pages (all_pages self.old)) }
+        ensures err { OnErr result (all_pages self.new ≡ all_pages self.old) }
+        ensures memory { IsOkUnless result OutOfMemory }
+    {
+        if self.is_last(number) {
+            return Ok(self.last);
+        }
+        self.find_or_make(number)
+    }
+
+    #[tactic(auto, using(crate::proofs::PagePlaces::within))]
     /// Puts bytes from a place of a page on. Only want of memory refuses it, and then nothing changes.
     pub(crate) fn put_all(&mut self, number: u64, at: usize, bytes: &[u8]) -> Result<(), Refusal>
         requires { (at < 64) × (at + length bytes.now ≤ 64) }
-        ensures ok { OnOk result (map_of_pages (listed self.new) ≡ with_bytes (map_of_pages (listed self.old)) (64 * number + at) bytes.now) }
-        ensures err { OnErr result (listed self.new ≡ listed self.old) }
+        ensures ok { OnOk result (map_of_pages (all_pages self.new) ≡ with_bytes (map_of_pages (all_pages self.old)) (64 * number + at) bytes.now) }
+        ensures err { OnErr result (all_pages self.new ≡ all_pages self.old) }
         ensures memory { IsOkUnless result OutOfMemory }
     {
-        if number == self.newest_number {
-            self.newest.put_all(at, bytes);
-            return Ok(());
-        }
-        if self.is_past_all(number) {
-            return self.put_in_new(number, at, bytes);
-        }
-        if let Some(page) = self.tree.get_mut(&number) {
-            page.put_all(at, bytes);
-            return Ok(());
-        }
-        self.put_in_new(number, at, bytes)
-    }
-
-    /// Whether a number is above those of the tree, so that a search for it would be in vain.
-    fn is_past_all(&self, number: u64) -> bool
-        ensures { result ≡ true → lookup (is_at (nat_cmp number)) self.now.tree.entries ≡ None }
-    {
-        match self.tree.last_key_value() {
-            Some((last, _)) => *last < number,
-            None => true,
-        }
-    }
-
-    /// Puts bytes into a page that isn't there yet.
-    fn put_in_new(&mut self, number: u64, at: usize, bytes: &[u8]) -> Result<(), Refusal>
-        requires room { (at < 64) × (at + length bytes.now ≤ 64) }
-        requires absent { lookup (is_at (nat_cmp number)) (listed self.now) ≡ None }
-        ensures ok { OnOk result (map_of_pages (listed self.new) ≡ with_bytes (map_of_pages (listed self.old)) (64 * number + at) bytes.now) }
-        ensures err { OnErr result (listed self.new ≡ listed self.old) }
-        ensures memory { IsOkUnless result OutOfMemory }
-    {
-        self.tree.insert(self.newest_number, self.newest)?;
-        self.newest_number = number;
-        self.newest = Page::new();
-        self.newest.put_all(at, bytes);
+        let place = self.place_to_put(number)?;
+        self.made[place].1.put_all(at, bytes);
         Ok(())
     }
 
+    #[tactic(auto, using(crate::proofs::PagePlaces::within))]
     /// Puts bytes over those that stand from a place of a page on: `false`, and no change, where one of them doesn't stand.
     pub(crate) fn replace_all(&mut self, number: u64, at: usize, bytes: &[u8]) -> bool
         requires count { (0 < length bytes.now) × (length bytes.now ≤ 8) }
         requires room { (at < 64) × (at + length bytes.now ≤ 64) }
-        ensures stood { result ≡ is_some (number_from (map.get (map_of_pages (listed self.old))) (64 * number + at) (length bytes.now)) }
-        ensures new { map_of_pages (listed self.new) ≡ (if result then with_bytes (map_of_pages (listed self.old)) (64 * number + at) bytes.now else map_of_pages (listed self.old)) }
+        ensures stood { result ≡ is_some (number_from (map.get (map_of_pages (all_pages self.old))) (64 * number + at) (length bytes.now)) }
+        ensures new { map_of_pages (all_pages self.new) ≡ (if result then with_bytes (map_of_pages (all_pages self.old)) (64 * number + at) bytes.now else map_of_pages (all_pages self.old)) }
     {
-        if number == self.newest_number {
-            return self.newest.replace_all(at, bytes);
+        match self.place(number) {
+            Some(place) => self.made[place].1.replace_all(at, bytes),
+            None => false,
         }
-        if let Some(page) = self.tree.get_mut(&number) {
-            return page.replace_all(at, bytes);
-        }
-        false
     }
 }

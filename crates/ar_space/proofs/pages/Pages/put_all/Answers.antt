@@ -1,25 +1,29 @@
-use Rattle.std.proofs.Common.{◌∙◌, ap, sym, rules}
-use Rattle.std.specs.Option.{option_copied_mut}
-use Rattle.ar_space.specs.Pages.{listed}
+use Rattle.std.proofs.Common.{◌+◌, ◌*◌, ◌<◌, ◌∙◌, ap, sym, subst, refl, length-set}
+use Rattle.std.specs.Prelude.{slice_set}
+use Rattle.ar_space.specs.Runs.{with_bytes}
 use Rattle.ar_space.proofs.PageMaps.{put_in_old}
-use Rattle.ar_space.proofs.NewestPage.{found_first, found_behind, first_updated, behind_updated, put_page}
+use Rattle.ar_space.proofs.PagePlaces.{page_at, set_places, written_updated, put_page}
 use Rattle.ar_space.proofs.pages.Pages.put_all.Goals as goal
 
-pub returns-then-number-self-clause-ok : goal.returns-then-number-self-clause-ok
-returns-then-number-self-clause-ok c =
-    let old = c.args.self.now in
-    put_page (listed old) _ c.args.number c.args.at c.args.bytes.now c.put_all.new.self c.requires.0 c.requires.1
-    (first_updated c.args.number old.newest_number old.newest c.put_all.new.self old.tree.entries c.if-number-self.true)
-    (put_in_old (listed old) c.args.number c.args.at c.args.bytes.now old.newest c.put_all.new.self
-    (found_first c.args.number old.newest_number old.newest old.tree.entries c.if-number-self.true) c.put_all.ensures.put c.put_all.ensures.below c.put_all.ensures.above)
+pub invariant_of-self-clause-placed : goal.invariant_of-self-clause-placed
+invariant_of-self-clause-placed c k =
+    let mid = c.place_to_put.new.self in
+    let entry = c.index_mut.result.now in
+    mid.placed k ∙ sym (set_places mid.made.items c.in_ok-place.place entry (entry.0, c.put_all.new.self) k c.index_mut.ensures.value refl)
 
-pub returns-in-Some-clause-ok : goal.returns-in-Some-clause-ok
-returns-in-Some-clause-ok c =
-    let old = c.args.self.now in
-    let is = sym c.get_mut.ensures.value ∙ ap option_copied_mut c.in-Some.is in
-    put_page (listed old) _ c.args.number c.args.at c.args.bytes.now c.put_all-in-Some.new.self c.requires.0 c.requires.1
-    (behind_updated c.args.number old.newest_number old.newest c.put_all-in-Some.new.self old.tree.entries _ c.if-number-self.false
-    ((c.get_mut.follows.holds c.put_all-in-Some.new.self).3 (search rules)).0)
-    (put_in_old (listed old) c.args.number c.args.at c.args.bytes.now c.in-Some.page.now c.put_all-in-Some.new.self
-    (found_behind c.args.number old.newest_number old.newest old.tree.entries c.if-number-self.false ∙ is)
-    c.put_all-in-Some.ensures.put c.put_all-in-Some.ensures.below c.put_all-in-Some.ensures.above)
+pub invariant_of-self-clause-last_is : goal.invariant_of-self-clause-last_is
+invariant_of-self-clause-last_is c within =
+    let mid = c.place_to_put.new.self in
+    let entry = c.index_mut.result.now in
+    set_places mid.made.items c.in_ok-place.place entry (entry.0, c.put_all.new.self) mid.last_number c.index_mut.ensures.value refl ∙ mid.last_is (subst (λ n. mid.last < n) (length-set mid.made.items c.in_ok-place.place (entry.0, c.put_all.new.self)) within)
+
+pub returns-clause-ok : goal.returns-clause-ok
+returns-clause-ok c =
+    let mid = c.place_to_put.new.self in
+    let entry = c.index_mut.result.now in
+    put_page mid.made.items (slice_set mid.made.items c.in_ok-place.place (entry.0, c.put_all.new.self)) c.args.number c.args.at c.args.bytes.now c.put_all.new.self c.requires.0 c.requires.1
+    (written_updated mid.made.items c.args.number c.in_ok-place.place entry c.put_all.new.self c.in_ok-place.ensures.place c.index_mut.ensures.value)
+    (put_in_old mid.made.items c.args.number c.args.at c.args.bytes.now entry.1 c.put_all.new.self
+    (page_at mid.made.items c.args.number c.in_ok-place.place entry c.in_ok-place.ensures.place c.index_mut.ensures.value)
+    c.put_all.ensures.put c.put_all.ensures.below c.put_all.ensures.above)
+    ∙ ap (λ m. with_bytes m (64 * c.args.number + c.args.at) c.args.bytes.now) c.in_ok-place.ensures.ok
