@@ -1,5 +1,5 @@
 -- Where a call may stop that evaluates objects, and wants memory of its own in between.
-use Rattle.std.specs.Prelude.{◌≡◌, ◌≢◌, ◌⊎◌, ℕ, suc, ◌+◌, ◌<◌, List, [], ◌∷◌, length, drop, get_or, true, Ok, Err, IfErr}
+use Rattle.std.specs.Prelude.{◌≡◌, ◌≢◌, ◌⊎◌, ℕ, suc, ◌+◌, ◌<◌, List, [], ◌∷◌, length, drop, get_or, true, false, Ok, Err, IfErr}
 use Rattle.std.proofs.Common.{refl, sym, ◌∙◌, ap, subst, inl, inr, drop-cons, add-one}
 use Rattle.ar_space.specs.declared.refusal.Refusal.{Refusal}
 use Rattle.ar_space.specs.declared.refusal.Refusal.TheVariants as refusal
@@ -15,9 +15,9 @@ use Rattle.acpi_machine.specs.Calls.{evaluated_object}
 abbrev pub Stop : Type 0 → Type 1
 Stop S = MachineState S → MachineState S → Type 0
 
--- the machine is as a change leaves it, unless memory ran out in an evaluation: then it is spent
+-- the machine is as a change leaves it, unless memory ran out in an evaluation: then it is spent, and it wasn't before
 pub record Made {S A : Type 0} (m : Change (MachineState S) A) (before after : MachineState S) : Type 0 where
-  pub is : (after.spent ≡ true) ⊎ ((m before).1 ≡ after)
+  pub is : ((before.spent ≡ false) × (after.spent ≡ true)) ⊎ ((m before).1 ≡ after)
 
 -- the same, or it is as it was: for changes that evaluate one object at most
 pub record AllOrNone {S A : Type 0} (m : Change (MachineState S) A) (before after : MachineState S) : Type 0 where
@@ -51,14 +51,14 @@ memory_or_not (refusal.Routing f) = inr (λ q. cc q)
 memory_or_not (refusal.Report f) = inr (λ q. cc q)
 memory_or_not (refusal.Input f) = inr (λ q. cc q)
 
--- a change, however it ends, where want of memory in it leaves the machine spent
+-- a change, however it ends, where want of memory in it leaves a machine spent that wasn't
 pub made : {S A B : Type 0} {after : MachineState S} (m : Change (MachineState S) B) (before : MachineState S) (r : Outcome A) (view : A → B)
-    → Does (seen view r) after m before → IfErr r (λ e. e ≡ refusal.OutOfMemory → after.spent ≡ true) → Made m before after
-made m before (Ok a) view d h = record { is = inr (ap (λ x. x.1) (d.is tt)) }
-made {after = after} m before (Err e) view d h = by (memory_or_not e)
+    → Does (seen view r) after m before → IfErr r (λ e. e ≡ refusal.OutOfMemory → after.spent ≡ true) → before.spent ≡ false → Made m before after
+made m before (Ok a) view d h unspent = record { is = inr (ap (λ x. x.1) (d.is tt)) }
+made {after = after} m before (Err e) view d h unspent = by (memory_or_not e)
   where
     by : (e ≡ refusal.OutOfMemory) ⊎ (e ≢ refusal.OutOfMemory) → Made m before after
-    by (inl q) = record { is = inl (h q) }
+    by (inl q) = record { is = inl (unspent, h q) }
     by (inr ne) = record { is = inr (ap (λ x. x.1) (d.is ne)) }
 
 -- nothing is made
@@ -76,7 +76,7 @@ made_asked {s = s} {t = t} accesses p arguments h none = all_made (subst (λ gs.
 pub made_as : {S A B : Type 0} {s t : MachineState S} (m : Change (MachineState S) A) (n : Change (MachineState S) B) → (m s).1 ≡ (n s).1 → AllOrNone m s t → AllOrNone n s t
 made_as {s = s} {t = t} m n e h = record { is = by h.is }
   where
-    by_made : (t.spent ≡ true) ⊎ ((m s).1 ≡ t) → (t.spent ≡ true) ⊎ ((n s).1 ≡ t)
+    by_made : ((s.spent ≡ false) × (t.spent ≡ true)) ⊎ ((m s).1 ≡ t) → ((s.spent ≡ false) × (t.spent ≡ true)) ⊎ ((n s).1 ≡ t)
     by_made (inl spent) = inl spent
     by_made (inr x) = inr (sym e ∙ x)
 

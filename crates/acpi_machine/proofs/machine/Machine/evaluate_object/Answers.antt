@@ -1,4 +1,5 @@
 use Rattle.std.proofs.Common.{sym, ap, ◌∙◌}
+use Rattle.std.specs.Prelude.{◌≡◌, false}
 use Rattle.aml_meaning.specs.Given.{given_of}
 use Rattle.acpi_machine.specs.Calls.{evaluated_object}
 use Rattle.acpi_machine.specs.Stops.{made}
@@ -9,4 +10,5 @@ use Rattle.acpi_machine.proofs.machine.Machine.evaluate_object.Goals as goal
 pub returns-clause-evaluated : goal.returns-clause-evaluated
 unfolding evaluated_object
 returns-clause-evaluated g c =
-    made (evaluated_object g.S.Space.accesses c.args.path.now _) c.args.self.now c.answer_noticed.result given_of (does_unspent _ c.args.self.now (sym (ap (λ (s : MachineState g.row.S.Denot). s.spent) c.self.view_is) ∙ c.if-self.false) c.answer_noticed.ensures.answer) c.answer_noticed.ensures.memory
+    let unspent : c.args.self.now.spent ≡ false = sym (ap (λ (s : MachineState g.row.S.Denot). s.spent) c.self.view_is) ∙ c.if-self.false in
+    made (evaluated_object g.S.Space.accesses c.args.path.now _) c.args.self.now c.answer_noticed.result given_of (does_unspent _ c.args.self.now unspent c.answer_noticed.ensures.answer) c.answer_noticed.ensures.memory unspent
