@@ -1,3 +1,4 @@
+pub mod Caused
 pub mod Deliveries
 pub mod Evaluated
 pub mod Machines

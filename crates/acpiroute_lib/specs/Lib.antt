@@ -6,3 +6,4 @@ pub mod EvalCommand
 pub mod RouteCommand
 pub mod Commands
 pub mod Runs
+pub mod Causes

@@ -1,9 +1,12 @@
 //! What holds of all runs: each law is the contract of a function that does nothing.
-ghost use Rattle.std.specs.Prelude.{◌≡◌, ℕ, Bool, List};
+ghost use Rattle.std.specs.Prelude.{◌≡◌, ℕ, Bool, List, Option};
 ghost use Rattle.ar_space.specs.Outcome.{Outcome};
 ghost use Rattle.ar_tables.specs.declared.mode.Mode.{Mode};
+ghost use Rattle.acpiroute_words.specs.Held.{Held};
 ghost use Rattle.acpiroute_words.specs.Written.{Written};
+ghost use Rattle.acpiroute_lib.specs.Causes.{TellsCause};
 ghost use Rattle.acpiroute_lib.specs.RouteCommand.{IsRouteAnswer};
+ghost use Rattle.acpiroute_lib.specs.Runs.{Ran};
 
 use acpi_configure::laws::a_machine_has_one_report;
 use ar_space::Sparse;
@@ -14,3 +17,10 @@ pub fn route_has_one_answer()
 {
     a_machine_has_one_report::<Sparse>();
 }
+
+/// A run whose status is 1 tells a refusal by its line on the errors: `refused 142` where a write to the output failed; else
+/// `refused 141` where a read failed; else want of memory, or the refusal that the command answers over the whole input.
+pub fn a_refusal_of_a_run_has_its_cause()
+    ensures { (words : List (List ℕ)) (left : Option (List ℕ)) (read_failed : Bool) (status : ℕ) (output output2 errors errors2 : Held) →
+        Ran words left read_failed status output output2 errors errors2 → status ≡ 1 → TellsCause words left read_failed output2.has_failed errors errors2 }
+{}

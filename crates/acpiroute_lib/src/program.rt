@@ -3,6 +3,7 @@ ghost use Rattle.std.specs.Prelude.{◌≡◌, ◌≢◌, ◌<◌, [], length, m
 ghost use Rattle.clap.specs.Words.{kind_of};
 ghost use Rattle.acpiroute_words.specs.CommandLine.{faults_of};
 ghost use Rattle.acpiroute_words.specs.Deliveries.{Delivered};
+ghost use Rattle.acpiroute_words.specs.Reads.{ReadsWithin};
 ghost use Rattle.acpiroute_lib.specs.Runs.{Ran, Served, Shown, bad_avoid, no_memory};
 
 use crate::commands::answer_to;
@@ -23,8 +24,9 @@ fn serve<R: Source, W: Sink, E: Sink>(
     requires input { R.has_failed reader.old ≡ false }
     requires output { (W.held writer.old).has_failed ≡ false }
     requires errors { (E.held errors.old).has_failed ≡ false }
-    ensures { Served request (R.left reader.old) (R.has_failed reader.new) result
+    ensures served { Served request (R.left reader.old) (R.has_failed reader.new) result
         (W.held writer.old) (W.held writer.new) (E.held errors.old) (E.held errors.new) }
+    ensures reads { ReadsWithin R.one_read 16777217 reader.old reader.new }
 {
     match read_input(alloc, reader) {
         Ok(input) => {
@@ -121,7 +123,8 @@ fn decline<W: Sink, E: Sink>(writer: &mut W, errors: &mut E) -> u8
 /// offset, for a fault of AML's terms, ` op XXXX` for a term that isn't evaluated, ` tag N` for a descriptor that isn't taken,
 /// ` line N` for a line of a report or of a machine text, ` P` for the path of a link that offers nothing or whose whole offer is
 /// avoided. An input of more than 16,777,216 bytes is refused as 143, any error of the reader as 141, and any error of the output's
-/// writer as 142; what had gone out then stays. An error of the errors' writer changes nothing.
+/// writer as 142; what had gone out then stays. An error of the errors' writer changes nothing. The reader is asked for at most
+/// 16,777,217 reads.
 #[tactic(auto, using(crate::proofs::Deliveries::running))]
 pub fn run<R: Source, W: Sink, E: Sink>(
     alloc: Global,
@@ -135,6 +138,7 @@ pub fn run<R: Source, W: Sink, E: Sink>(
     requires errors { (E.held errors.old).has_failed ≡ false }
     ensures ran { Ran (map (λ s. s.now) words.entry.now) (R.left reader.old) (R.has_failed reader.new) result
         (W.held writer.old) (W.held writer.new) (E.held errors.old) (E.held errors.new) }
+    ensures reads { ReadsWithin R.one_read 16777217 reader.old reader.new }
     ensures first { result ≡ 2 → reader.new ≡ reader.old }
     ensures faulty { faults_of (map (λ s. s.now) words.entry.now) ≢ [] → reader.new ≡ reader.old }
 {

@@ -1,5 +1,6 @@
 pub mod Added
 pub mod Checks
+pub mod Counting
 pub mod Deliveries
 pub mod Digits
 pub mod ErrorLines

@@ -3,6 +3,7 @@ pub mod CommandLine
 pub mod ErrorLines
 pub mod Held
 pub mod Stops
+pub mod Reads
 pub mod Input
 pub mod Written
 pub mod CheckCommand

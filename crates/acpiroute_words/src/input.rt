@@ -2,6 +2,7 @@
 ghost use Rattle.std.specs.Prelude.{◌≡◌, ◌<◌, ◌+◌, ◌^◌, IfOk, length, false};
 ghost use Rattle.acpiroute_words.specs.ErrorLines.{error_line};
 ghost use Rattle.acpiroute_words.specs.Input.{IsRead, read_as};
+ghost use Rattle.acpiroute_words.specs.Reads.{ReadsWithin};
 ghost use Rattle.acpiroute_words.specs.Stops.{refusal_of};
 
 use crate::streams::Source;
@@ -59,7 +60,8 @@ fn read_within<R: Source>(
     requires some { 0 < length chunk.old }
     requires limit { limit + 1 < 2 ^ 64 }
     requires before { R.has_failed reader.old ≡ false }
-    ensures { IsRead limit (R.left reader.old) (R.has_failed reader.new) (read_as (λ v. v.items) result) }
+    ensures input { IsRead limit (R.left reader.old) (R.has_failed reader.new) (read_as (λ v. v.items) result) }
+    ensures reads { ReadsWithin R.one_read (limit + 1) reader.old reader.new }
 {
     let mut input = Vec::new(alloc);
     for _ in 0..limit + 1 {
@@ -78,10 +80,12 @@ fn read_within<R: Source>(
     Err(Stop::TooLong)
 }
 
-/// The whole input, of at most 16 MiB: `TooLong` where it is longer, `ReadFault` where a read failed.
+/// The whole input, of at most 16 MiB: `TooLong` where it is longer, `ReadFault` where a read failed. The reader is asked for at
+/// most 16,777,217 reads.
 pub fn read_input<R: Source>(alloc: Global, reader: &mut R) -> Result<Vec<u8>, Stop>
     requires { R.has_failed reader.old ≡ false }
-    ensures { IsRead 16777216 (R.left reader.old) (R.has_failed reader.new) (read_as (λ v. v.items) result) }
+    ensures input { IsRead 16777216 (R.left reader.old) (R.has_failed reader.new) (read_as (λ v. v.items) result) }
+    ensures reads { ReadsWithin R.one_read 16777217 reader.old reader.new }
 {
     let mut chunk = room(alloc, 65536)?;
     read_within(alloc, reader, 16_777_216, chunk.as_mut_slice())

@@ -13,6 +13,7 @@ mod help_texts;
 mod input;
 mod integers;
 mod interrupts;
+pub mod laws;
 mod put;
 mod request;
 mod streams;

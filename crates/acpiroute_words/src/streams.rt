@@ -3,6 +3,7 @@ ghost use Rattle.std.specs.Prelude.{◌≡◌, ℕ, ◌<◌, ◌≤◌, Bool, fa
 ghost use Rattle.std.specs.Io.KnownBytes.{ReadConsumes, WriteAppends};
 ghost use Rattle.std.specs.Io.{ReadsAtMost};
 ghost use Rattle.acpiroute_words.specs.Held.{Held};
+ghost use Rattle.acpiroute_words.specs.Reads.{TakesFront};
 
 use std::alloc::Global;
 use std::io::{Read, Write};
@@ -20,12 +21,16 @@ pub trait Source {
     // Whether a read failed.
     ghost has_failed: { Self → Bool };
 
+    // One read leads from the first state to the second. A source that counts its reads says here that the count is one more.
+    ghost one_read: { Self → Self → Type 0 };
+
     /// The next bytes. None are given only at the end, or where there is no room.
     fn fill(&mut self, chunk: &mut [u8]) -> Result<usize, Failed>
         requires { has_failed self.old ≡ false }
         ensures bound { ReadsAtMost result chunk.new }
         ensures bytes { ReadConsumes (left self.old) (left self.new) result chunk.new }
-        ensures fault { has_failed self.new ≡ is_err result };
+        ensures fault { has_failed self.new ≡ is_err result }
+        ensures read { one_read self.old self.new };
 }
 
 /// What is written to, until a write fails.
@@ -46,6 +51,8 @@ impl Source for &[u8] {
     ghost left = { λ s. Some s.now };
 
     ghost has_failed = { λ _. false };
+
+    ghost one_read = { λ before after. TakesFront (Some before.now) (Some after.now) };
 
     fn fill(&mut self, chunk: &mut [u8]) -> Result<usize, Failed> {
         match Read::read(self, chunk) {
@@ -82,6 +89,8 @@ impl<R: Read> Source for Outside<R> {
     ghost left = { λ s. R.remaining s.inner };
 
     ghost has_failed = { λ s. s.has_failed };
+
+    ghost one_read = { λ before after. TakesFront (R.remaining before.inner) (R.remaining after.inner) };
 
     fn fill(&mut self, chunk: &mut [u8]) -> Result<usize, Failed> {
         match self.inner.read(chunk) {

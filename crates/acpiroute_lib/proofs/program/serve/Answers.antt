@@ -1,10 +1,10 @@
 use Rattle.acpiroute_lib.proofs.Deliveries.{answered, stopped}
 use Rattle.acpiroute_lib.proofs.program.serve.Goals as goal
 
-pub returns-in-Ok : goal.returns-in-Ok
-returns-in-Ok g c =
-    answered c.args.request (g.R.Source.left c.args.reader.now) (g.R.Source.has_failed c.read_input.new.reader) _ _ _ _ _ c.in-Ok.input.items c.answer_to-outcome.result c.in-Ok.ensures
+pub returns-in-Ok-clause-served : goal.returns-in-Ok-clause-served
+returns-in-Ok-clause-served g c =
+    answered c.args.request (g.R.Source.left c.args.reader.now) (g.R.Source.has_failed c.read_input.new.reader) _ _ _ _ _ c.in-Ok.input.items c.answer_to-outcome.result c.in-Ok.ensures.input
     c.answer_to-outcome.ensures c.deliver_outcome.ensures
 
-pub returns-in-Err : goal.returns-in-Err
-returns-in-Err g c = stopped c.args.request (g.R.Source.left c.args.reader.now) (g.R.Source.has_failed c.read_input.new.reader) _ _ _ _ _ c.in-Err.stop c.line.result.now c.in-Err.ensures c.line.ensures c.deliver.ensures
+pub returns-in-Err-clause-served : goal.returns-in-Err-clause-served
+returns-in-Err-clause-served g c = stopped c.args.request (g.R.Source.left c.args.reader.now) (g.R.Source.has_failed c.read_input.new.reader) _ _ _ _ _ c.in-Err.stop c.line.result.now c.in-Err.ensures.input c.line.ensures c.deliver.ensures

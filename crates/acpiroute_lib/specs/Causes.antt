@@ -1,0 +1,32 @@
+-- Why a run ends with status 1.
+use Rattle.std.specs.Prelude.{◌≡◌, ◌⊎◌, ℕ, Bool, true, false, List, Option, Some, Err}
+use Rattle.ar_space.specs.declared.refusal.Refusal.{Refusal}
+use Rattle.ar_space.specs.declared.refusal.Refusal.TheVariants.{Input, OutOfMemory}
+use Rattle.ar_space.specs.declared.refusal.InputFault.TheVariants.{ReadFault, WriteFault}
+use Rattle.acpiroute_words.specs.declared.request.Request.{Request}
+use Rattle.acpiroute_words.specs.declared.request.Asked.TheVariants.{For}
+use Rattle.acpiroute_words.specs.CommandLine.{asked_of}
+use Rattle.acpiroute_words.specs.ErrorLines.{error_line}
+use Rattle.acpiroute_words.specs.Held.{Held, Takes}
+use Rattle.acpiroute_words.specs.Input.{input_of, IsInput}
+use Rattle.acpiroute_lib.specs.Runs.{IsAnswerOver}
+
+-- the refusal that the command of the words answers over the input; where that is too long, the refusal of its length
+pub record IsOwnRefusal (words : List (List ℕ)) (input : List ℕ) (r : Refusal) : Type 0 where
+  pub request : Request
+  pub asked : asked_of words ≡ Some (For request)
+  pub answers : IsAnswerOver request (input_of input) (Err r)
+
+-- the refusal that a run tells: of a write where one failed, else of a read where one failed, and else want of memory or its own
+abbrev pub IsCause : List (List ℕ) → Bool → Bool → List ℕ → Refusal → Type 0
+IsCause words read_failed true input r = r ≡ Input WriteFault
+IsCause words true false input r = r ≡ Input ReadFault
+IsCause words false false input r = (r ≡ OutOfMemory) ⊎ IsOwnRefusal words input r
+
+-- a run tells a refusal for such a cause, by its line on the errors
+pub record TellsCause (words : List (List ℕ)) (left : Option (List ℕ)) (read_failed write_failed : Bool) (errors errors2 : Held) : Type 0 where
+  pub input : List ℕ
+  pub is_input : IsInput left input
+  pub refusal : Refusal
+  pub is_cause : IsCause words read_failed write_failed input refusal
+  pub line : Takes errors errors2 (error_line refusal)
