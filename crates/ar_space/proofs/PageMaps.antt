@@ -64,22 +64,13 @@ module _ (entries after : List (ℕ × Page)) (address : ℕ) (bytes : List ℕ)
   pub page_put : map_of_pages after ≡ target
   page_put = same_map nat_cmp_total nat_cmp-IsAntisymmetric (map_of_pages after) target each_address
 
--- a page that is there, and one that is new
+-- a page that is there
 pub put_in_old : (entries : List (ℕ × Page)) (k at : ℕ) (bytes : List ℕ) (old page : Page) → lookup (is_at (nat_cmp k)) entries ≡ Some old
     → ((n : ℕ) → n < length bytes → cell page (at + n) ≡ Some (slice_index bytes n))
     → ((i : ℕ) → i < at → cell page i ≡ cell old i) → ((i : ℕ) → at + length bytes ≤ i → cell page i ≡ cell old i)
     → PutInPage (old_cell entries k) page at bytes
 put_in_old entries k at bytes old page is put below above =
     let was : (i : ℕ) → cell old i ≡ old_cell entries k i = λ i. sym (ap (option_and_then (λ page. cell page i)) is) in
-    record { put = put; below = λ i lt. below i lt ∙ was i; above = λ i le. above i le ∙ was i }
-
-pub put_in_new : (entries : List (ℕ × Page)) (k at : ℕ) (bytes : List ℕ) (empty page : Page) → lookup (is_at (nat_cmp k)) entries ≡ None
-    → ((i : ℕ) → cell empty i ≡ None)
-    → ((n : ℕ) → n < length bytes → cell page (at + n) ≡ Some (slice_index bytes n))
-    → ((i : ℕ) → i < at → cell page i ≡ cell empty i) → ((i : ℕ) → at + length bytes ≤ i → cell page i ≡ cell empty i)
-    → PutInPage (old_cell entries k) page at bytes
-put_in_new entries k at bytes empty page is none put below above =
-    let was : (i : ℕ) → cell empty i ≡ old_cell entries k i = λ i. none i ∙ sym (ap (option_and_then (λ page. cell page i)) is) in
     record { put = put; below = λ i lt. below i lt ∙ was i; above = λ i le. above i le ∙ was i }
 
 -- a number is made of its bytes alone
@@ -124,6 +115,12 @@ cell_there entries address page is = sym (get_page entries address ∙ ap (optio
 
 pub cell_nowhere : (entries : List (ℕ × Page)) (address : ℕ) → lookup (is_at (nat_cmp (address / 64))) entries ≡ None → get (map_of_pages entries) address ≡ None
 cell_nowhere entries address is = get_page entries address ∙ ap (option_and_then (λ page. cell page (address % 64))) is
+
+-- no bytes
+pub with_none : (m : FinMap nat_cmp ℕ) (a : ℕ) (bytes : List ℕ) → length bytes ≡ 0 → m ≡ with_bytes m a bytes
+unfolding with_bytes
+with_none m a [] e = refl
+with_none m a (b ∷ bs) e = absurd (cc e)
 
 -- bytes in two runs
 pub with_both : (m : FinMap nat_cmp ℕ) (a : ℕ) (xs ys : List ℕ) → with_bytes (with_bytes m a xs) (a + length xs) ys ≡ with_bytes m a (xs ++ ys)

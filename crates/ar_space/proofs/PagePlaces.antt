@@ -1,6 +1,6 @@
 -- Where pages stand among all of them, and what a change of one of them does.
-use Rattle.std.proofs.Common.{◌≡◌, ℕ, zero, suc, ◌+◌, ◌*◌, ◌/◌, ◌%◌, ◌<◌, ◌≤◌, Bool, true, false, cond, List, [], ◌∷◌, length, inl, inr, Option, Some, None, refl, ap, sym, ◌∙◌, subst, arith}
-use Rattle.std.specs.Prelude.{slice_index, slice_index_or, slice_set, option_and_then, ◌++◌}
+use Rattle.std.proofs.Common.{◌≡◌, ℕ, zero, suc, ◌+◌, ◌*◌, ◌/◌, ◌%◌, ◌<◌, ◌≤◌, Bool, true, false, cond, List, [], ◌∷◌, length, inl, inr, Option, Some, None, refl, ap, sym, ◌∙◌, subst, arith, length-append}
+use Rattle.std.specs.Prelude.{slice_index, slice_index_or, slice_set, option_and_then, is_some, ◌++◌, ◌⊎◌}
 use Rattle.std.specs.Option.{option_map}
 use Rattle.std.proofs.lemmas.Bool.{cases_eq}
 use Rattle.std.specs.FinMap.{get, same_map, nat_cmp-IsAntisymmetric}
@@ -9,7 +9,7 @@ use Rattle.std.specs.Cmp.{nat_cmp_total}
 use Rattle.std.specs.BTreeMap.{is_at}
 use Rattle.std.specs.Map.{lookup}
 use Rattle.ar_space.specs.declared.page.Page.{Page}
-use Rattle.ar_space.specs.Pages.{cell, map_of_pages}
+use Rattle.ar_space.specs.Pages.{cell, map_of_pages, StoodOrNew}
 use Rattle.ar_space.specs.PagePlaces.{place_of}
 use Rattle.ar_space.specs.Runs.{with_bytes, number_from}
 use Rattle.ar_space.proofs.Cells.{here, apart, get_page}
@@ -34,17 +34,17 @@ first_updated number first old page entries e k =
     over true rest = refl
     over false rest = refl
 
-pub behind_updated : (number first : ℕ) (newest page : Page) (entries after : List (ℕ × Page)) → (number ≡ first → ⊥) → Updated entries after number page
-    → Updated ((first, newest) ∷ entries) ((first, newest) ∷ after) number page
-behind_updated number first newest page entries after ne updated k =
-    ap (cond (is_at (nat_cmp k) first) (Some newest)) (updated k) ∙ elim (cases_eq number k) [
+pub behind_updated : (number first : ℕ) (front page : Page) (entries after : List (ℕ × Page)) → (number ≡ first → ⊥) → Updated entries after number page
+    → Updated ((first, front) ∷ entries) ((first, front) ∷ after) number page
+behind_updated number first front page entries after ne updated k =
+    ap (cond (is_at (nat_cmp k) first) (Some front)) (updated k) ∙ elim (cases_eq number k) [
       | inl e ↦
-          ap (λ b. cond b (Some newest) (cond (is_at (nat_cmp number) k) (Some page) (lookup (is_at (nat_cmp k)) entries))) (apart k first (λ f. ne (e ∙ f)))
+          ap (λ b. cond b (Some front) (cond (is_at (nat_cmp number) k) (Some page) (lookup (is_at (nat_cmp k)) entries))) (apart k first (λ f. ne (e ∙ f)))
           ∙ ap (λ b. cond b (Some page) (lookup (is_at (nat_cmp k)) entries)) (at_number e)
-          ∙ sym (ap (λ b. cond b (Some page) (lookup (is_at (nat_cmp k)) ((first, newest) ∷ entries))) (at_number e))
+          ∙ sym (ap (λ b. cond b (Some page) (lookup (is_at (nat_cmp k)) ((first, front) ∷ entries))) (at_number e))
       | inr other ↦
-          ap (λ b. cond (is_at (nat_cmp k) first) (Some newest) (cond b (Some page) (lookup (is_at (nat_cmp k)) entries))) (apart number k other)
-          ∙ sym (ap (λ b. cond b (Some page) (lookup (is_at (nat_cmp k)) ((first, newest) ∷ entries))) (apart number k other))
+          ap (λ b. cond (is_at (nat_cmp k) first) (Some front) (cond b (Some page) (lookup (is_at (nat_cmp k)) entries))) (apart number k other)
+          ∙ sym (ap (λ b. cond b (Some page) (lookup (is_at (nat_cmp k)) ((first, front) ∷ entries))) (apart number k other))
     ]
   where
     at_number : number ≡ k → is_at (nat_cmp number) k ≡ true
@@ -190,6 +190,24 @@ module _ (number : ℕ) (page : Page) (none : (i : ℕ) → cell page i ≡ None
   pub no_bytes_there : (entries : List (ℕ × Page)) → map_of_pages (entries ++ (number, page) ∷ []) ≡ map_of_pages entries
   no_bytes_there entries = same_map nat_cmp_total nat_cmp-IsAntisymmetric (map_of_pages (entries ++ (number, page) ∷ [])) (map_of_pages entries) (λ q.
       get_page (entries ++ (number, page) ∷ []) q ∙ same_cell entries (q / 64) (q % 64) ∙ sym (get_page entries q))
+
+pub same_map_made : (number : ℕ) (before after : List (ℕ × Page)) → StoodOrNew number before after → map_of_pages after ≡ map_of_pages before
+same_map_made number before after h = by h.is
+  where
+    by : (after ≡ before) ⊎ ((place_of before number ≡ None) × ((page : Page) × (((at : ℕ) → cell page at ≡ None) × (after ≡ before ++ (number, page) ∷ [])))) → map_of_pages after ≡ map_of_pages before
+    by (inl same) = ap map_of_pages same
+    by (inr (absent, (page, (none, is)))) = ap map_of_pages is ∙ no_bytes_there number page none before
+
+pub one_more : (number place : ℕ) (before after : List (ℕ × Page)) → StoodOrNew number before after → place_of after number ≡ Some place
+    → length after ≡ length before + (cond (is_some (place_of before number)) 0 1)
+one_more number place before after h stands = by h.is
+  where
+    by : (after ≡ before) ⊎ ((place_of before number ≡ None) × ((page : Page) × (((at : ℕ) → cell page at ≡ None) × (after ≡ before ++ (number, page) ∷ [])))) → length after ≡ length before + (cond (is_some (place_of before number)) 0 1)
+    by (inl same) =
+        let stood : place_of before number ≡ Some place = ap (λ l. place_of l number) (sym same) ∙ stands in
+        let long : length after ≡ length before = ap length same in
+        rw stood (omega (arith, long))
+    by (inr (absent, (page, (none, is)))) = rw absent (ap length is ∙ length-append before ((number, page) ∷ []))
 
 -- the same as for the page of an address
 module _ (entries after : List (ℕ × Page)) (number at : ℕ) (bytes : List ℕ) (page : Page) (small : at < 64) (room : at + length bytes ≤ 64) (updated : Updated entries after number page) where

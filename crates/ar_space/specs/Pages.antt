@@ -1,10 +1,11 @@
 -- Bytes in pages of 64 addresses: what a page has, and the map that a list of pages is.
-use Rattle.std.specs.Prelude.{ℕ, zero, suc, ◌+◌, ◌*◌, ◌==◌, List, [], ◌∷◌, Option, Some, None, slice_index, if◌then◌else◌}
+use Rattle.std.specs.Prelude.{◌≡◌, ◌⊎◌, ℕ, zero, suc, ◌+◌, ◌*◌, ◌==◌, List, [], ◌∷◌, ◌++◌, Option, Some, None, slice_index, if◌then◌else◌}
 use Rattle.std.specs.Int.{bit_at}
 use Rattle.std.specs.FinMap as map
 use Rattle.std.specs.Ordering.{nat_cmp}
 use Rattle.ar_space.specs.declared.page.Page.{Page}
 use Rattle.ar_space.specs.declared.pages.Pages.{Pages}
+use Rattle.ar_space.specs.PagePlaces.{place_of}
 
 -- the byte of a page at a place in it, if one stands there
 abbrev pub cell : Page → ℕ → Option ℕ
@@ -28,3 +29,7 @@ map_of_pages (entry ∷ entries) = with_cells (map_of_pages entries) (64 * entry
 -- all pages, in the order in which they were made
 abbrev pub all_pages : Pages → List (ℕ × Page)
 all_pages pages = pages.made.items
+
+-- the page with a number stood, and nothing changes; or it is new behind the others, without bytes
+pub record StoodOrNew (number : ℕ) (before after : List (ℕ × Page)) : Type 0 where
+  pub is : (after ≡ before) ⊎ ((place_of before number ≡ None) × ((page : Page) × (((at : ℕ) → cell page at ≡ None) × (after ≡ before ++ (number, page) ∷ []))))

@@ -1,5 +1,5 @@
 //! Pages by number.
-ghost use Rattle.std.specs.Prelude.{◌≡◌, ◌+◌, ◌*◌, ◌<◌, ◌≤◌, ℕ, length, Some, None, OnOk, OnErr, IfOk, IsOkUnless, is_some, true, if◌then◌else◌};
+ghost use Rattle.std.specs.Prelude.{◌≡◌, ◌+◌, ◌*◌, ◌<◌, ◌≤◌, ℕ, [], length, Some, None, OnOk, OnErr, IfOk, IsOkUnless, is_some, true, if◌then◌else◌};
 ghost use Rattle.std.specs.Option.{option_copied};
 ghost use Rattle.std.specs.FinMap as map;
 ghost use Rattle.std.specs.Ordering.{nat_cmp};
@@ -22,19 +22,21 @@ pub(crate) struct Pages {
     made: Vec<(u64, Page)>,
     /// Where the page with a number stands among them.
     places: BTreeMap<u64, usize>,
-    /// The number of the page that bytes were put into last, and where it stands.
+    /// The number of the page that was sought last to put bytes into it.
     last_number: u64,
+    /// Where that page stands.
     last: usize,
     ghost placed: { (k : ℕ) → lookup (is_at (nat_cmp k)) places.entries ≡ place_of made.items k },
     ghost last_is: { last < length made.items → place_of made.items last_number ≡ Some last },
 }
 
 impl Pages {
-    ghost use Rattle.ar_space.specs.Pages.{all_pages, map_of_pages};
+    ghost use Rattle.ar_space.specs.Pages.{all_pages, map_of_pages, StoodOrNew};
 
     /// No pages. It takes no memory.
     pub(crate) fn new(alloc: Global) -> Pages
-        ensures { map_of_pages (all_pages result) ≡ map.empty }
+        ensures pages { all_pages result ≡ [] }
+        ensures map { map_of_pages (all_pages result) ≡ map.empty }
     {
         Pages {
             made: Vec::new(alloc),
@@ -51,7 +53,7 @@ impl Pages {
         self.made.len()
     }
 
-    /// Whether a number is that of the page that bytes were put into last.
+    /// Whether a number is that of the page that was sought last. Only while there is no page does none stand there.
     fn is_last(&self, number: u64) -> bool
         ensures { result ≡ true → place_of (all_pages self.now) number ≡ Some self.now.last }
     {
@@ -69,8 +71,8 @@ impl Pages {
         }
     }
 
-    #[tactic(auto, using(crate::proofs::PagePlaces::within))]
     /// The page with a number.
+    #[tactic(auto, using(crate::proofs::PagePlaces::within))]
     pub(crate) fn get(&self, number: u64) -> Option<&Page>
         ensures { option_copied result ≡ lookup (is_at (nat_cmp number)) (all_pages self.now) }
     {
@@ -80,24 +82,29 @@ impl Pages {
         }
     }
 
-    /// Where the page with a number stands, which is made without bytes if there is none: from then on the last one. Only
-    /// want of memory refuses it, and then nothing changes.
+    /// Where the page with a number stands, which is made without bytes if there is none: the last one from then on. Only want
+    /// of memory for a new page refuses it, and then nothing changes.
     fn find_or_make(&mut self, number: u64) -> Result<usize, Refusal>
         ensures place { IfOk result (λ place. place_of (all_pages self.new) number ≡ Some place) }
-        ensures ok { OnOk result (map_of_pages (all_pages self.new) ≡ map_of_pages (all_pages self.old)) }
+        ensures made { OnOk result (StoodOrNew number (all_pages self.old) (all_pages self.new)) }
         ensures err { OnErr result (all_pages self.new ≡ all_pages self.old) }
         ensures memory { IsOkUnless result OutOfMemory }
     {
-        self.made.reserve(1)?;
+        // The number is inserted before it is known whether its page stands, so a new page takes one search.
         let next = self.made.len();
         match self.places.insert(number, next)? {
             None => {
+                if let Err(error) = self.made.reserve(1) {
+                    self.places.remove(&number);
+                    return Err(Refusal::from(error));
+                }
                 self.made.push_reserved((number, Page::new()));
                 self.last_number = number;
                 self.last = next;
                 Ok(next)
             }
             Some(place) => {
+                // It stands, so this takes no memory.
                 self.places.insert(number, place)?;
                 self.last_number = number;
                 self.last = place;
@@ -109,7 +116,7 @@ impl Pages {
     /// As `find_or_make`, with no search where it is the last one already.
     fn place_to_put(&mut self, number: u64) -> Result<usize, Refusal>
         ensures place { IfOk result (λ place. place_of (all_pages self.new) number ≡ Some place) }
-        ensures ok { OnOk result (map_of_pages (all_pages self.new) ≡ map_of_pages (all_pages self.old)) }
+        ensures made { OnOk result (StoodOrNew number (all_pages self.old) (all_pages self.new)) }
         ensures err { OnErr result (all_pages self.new ≡ all_pages self.old) }
         ensures memory { IsOkUnless result OutOfMemory }
     {
@@ -119,11 +126,12 @@ impl Pages {
         self.find_or_make(number)
     }
 
+    /// Puts bytes from a place of a page on. Only want of memory for a new page refuses it, and then nothing changes.
     #[tactic(auto, using(crate::proofs::PagePlaces::within))]
-    /// Puts bytes from a place of a page on. Only want of memory refuses it, and then nothing changes.
     pub(crate) fn put_all(&mut self, number: u64, at: usize, bytes: &[u8]) -> Result<(), Refusal>
         requires { (at < 64) × (at + length bytes.now ≤ 64) }
         ensures ok { OnOk result (map_of_pages (all_pages self.new) ≡ with_bytes (map_of_pages (all_pages self.old)) (64 * number + at) bytes.now) }
+        ensures pages { OnOk result (length (all_pages self.new) ≡ length (all_pages self.old) + (if is_some (place_of (all_pages self.old) number) then 0 else 1)) }
         ensures err { OnErr result (all_pages self.new ≡ all_pages self.old) }
         ensures memory { IsOkUnless result OutOfMemory }
     {
@@ -132,8 +140,8 @@ impl Pages {
         Ok(())
     }
 
-    #[tactic(auto, using(crate::proofs::PagePlaces::within))]
     /// Puts bytes over those that stand from a place of a page on: `false`, and no change, where one of them doesn't stand.
+    #[tactic(auto, using(crate::proofs::PagePlaces::within))]
     pub(crate) fn replace_all(&mut self, number: u64, at: usize, bytes: &[u8]) -> bool
         requires count { (0 < length bytes.now) × (length bytes.now ≤ 8) }
         requires room { (at < 64) × (at + length bytes.now ≤ 64) }

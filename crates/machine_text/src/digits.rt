@@ -46,8 +46,8 @@ pub(crate) fn pair(high: u8, low: u8) -> Option<u8>
     Some((high * 16 + low) as u8)
 }
 
-/// Puts the bytes that pairs of digits stand for into `out`. `false` where a byte of the word is no digit; `out` then has only the bytes
-/// before it.
+/// Puts the bytes that pairs of digits stand for into `out`. `false` where a byte of the word is no digit; `out` is then partly
+/// written.
 pub(crate) fn decode(word: &[u8], out: &mut [u8]) -> bool
     requires { (0 < length out.old) × (length word.now ≡ 2 * length out.old) }
     ensures { word_bytes word.now ≡ (if result then Some out.new else None) }
@@ -74,6 +74,7 @@ pub(crate) fn number(word: &[u8], most: u64) -> Option<u64>
     if n <= most { Some(n) } else { None }
 }
 
+/// The number of some digits.
 fn digits(word: &[u8]) -> Option<u64>
     requires { length word.now ≤ MAX_DIGITS }
     ensures { result ≡ number_from 0 word.now }

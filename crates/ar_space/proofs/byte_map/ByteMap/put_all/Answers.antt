@@ -1,6 +1,6 @@
-use Rattle.std.proofs.Common.{◌∙◌, ◌+◌, length, ap, sym, arith}
+use Rattle.std.proofs.Common.{◌∙◌, ◌+◌, length, ap, sym, arith, rules}
 use Rattle.ar_space.specs.Runs.{with_bytes}
-use Rattle.ar_space.proofs.PageMaps.{with_both}
+use Rattle.ar_space.proofs.PageMaps.{with_both, with_none}
 use Rattle.ar_space.proofs.byte_map.ByteMap.put_all.Goals as goal
 
 pub loop-rest-preserved : goal.loop-rest-preserved
@@ -10,3 +10,6 @@ loop-rest-preserved c = record {
       ∙ with_both c.loop-rest.self c.loop-rest.next c.split_at.result.0.now c.split_at.result.1.now
       ∙ ap (with_bytes c.loop-rest.self c.loop-rest.next) (sym c.split_at.ensures.by_index.0) ∙ c.loop-rest.invariant.same;
 }
+
+pub returns-then-is_empty-clause-ok : goal.returns-then-is_empty-clause-ok
+returns-then-is_empty-clause-ok c = with_none c.args.self.now c.args.address c.args.bytes.now (search rules)

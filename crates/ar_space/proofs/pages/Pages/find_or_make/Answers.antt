@@ -3,8 +3,7 @@ use Rattle.std.specs.Prelude.{◌≡◌, ◌++◌, ◌∷◌, [], Some, None}
 use Rattle.std.specs.Ordering.{nat_cmp}
 use Rattle.std.specs.BTreeMap.{is_at}
 use Rattle.ar_space.specs.PagePlaces.{place_of}
-use Rattle.ar_space.specs.Pages.{map_of_pages}
-use Rattle.ar_space.proofs.PagePlaces.{pushed_places, pushed_here, no_bytes_there}
+use Rattle.ar_space.proofs.PagePlaces.{pushed_places, pushed_here}
 use Rattle.ar_space.proofs.pages.Pages.find_or_make.Goals as goal
 
 pub invariant_of-self-in-None : goal.invariant_of-self-in-None
@@ -19,9 +18,3 @@ invariant_of-self-in-None c =
           ∙ sym (pushed_places old.made.items c.args.number c.new.result absent k) ∙ ap (λ items. place_of items k) (sym items);
       last_is = λ within. ap (λ items. place_of items c.args.number) items ∙ pushed_here old.made.items c.args.number c.new.result absent ∙ ap Some (sym next);
     }
-
-pub returns-in-None-clause-ok : goal.returns-in-None-clause-ok
-returns-in-None-clause-ok c =
-    let old = c.args.self.now in
-    ap map_of_pages (c.push_reserved.ensures.items ∙ ap (λ items. items ++ (c.args.number, c.new.result) ∷ []) c.reserve.ensures.items)
-    ∙ no_bytes_there c.args.number c.new.result c.new.ensures old.made.items

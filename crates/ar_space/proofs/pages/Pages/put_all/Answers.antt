@@ -2,7 +2,7 @@ use Rattle.std.proofs.Common.{◌+◌, ◌*◌, ◌<◌, ◌∙◌, ap, sym, sub
 use Rattle.std.specs.Prelude.{slice_set}
 use Rattle.ar_space.specs.Runs.{with_bytes}
 use Rattle.ar_space.proofs.PageMaps.{put_in_old}
-use Rattle.ar_space.proofs.PagePlaces.{page_at, set_places, written_updated, put_page}
+use Rattle.ar_space.proofs.PagePlaces.{page_at, set_places, written_updated, put_page, same_map_made, one_more}
 use Rattle.ar_space.proofs.pages.Pages.put_all.Goals as goal
 
 pub invariant_of-self-clause-placed : goal.invariant_of-self-clause-placed
@@ -26,4 +26,10 @@ returns-clause-ok c =
     (put_in_old mid.made.items c.args.number c.args.at c.args.bytes.now entry.1 c.put_all.new.self
     (page_at mid.made.items c.args.number c.in_ok-place.place entry c.in_ok-place.ensures.place c.index_mut.ensures.value)
     c.put_all.ensures.put c.put_all.ensures.below c.put_all.ensures.above)
-    ∙ ap (λ m. with_bytes m (64 * c.args.number + c.args.at) c.args.bytes.now) c.in_ok-place.ensures.ok
+    ∙ ap (λ m. with_bytes m (64 * c.args.number + c.args.at) c.args.bytes.now) (same_map_made c.args.number c.args.self.now.made.items mid.made.items c.in_ok-place.ensures.made)
+
+pub returns-clause-pages : goal.returns-clause-pages
+returns-clause-pages c =
+    let mid = c.place_to_put.new.self in
+    length-set mid.made.items c.in_ok-place.place (c.index_mut.result.now.0, c.put_all.new.self)
+    ∙ one_more c.args.number c.in_ok-place.place c.args.self.now.made.items mid.made.items c.in_ok-place.ensures.made c.in_ok-place.ensures.place
