@@ -30,7 +30,7 @@ const SPENT: Refusal = Refusal::Machine(MachineFault::Spent);
 impl<S: Space> Machine<S> {
     /// Tells the firmware the mode, and initializes it: calls `\_INI`, `\_SB_._INI` (ACPI 6.5, 6.5.1), and `\_PIC` (5.8.1)
     /// with 0 for `Pic` or 1 for `Apic`, each where its name stands, each within the machine's steps. What they answer is
-    /// dropped; the first that is refused ends it. The mode is kept, however that ends.
+    /// dropped; the first that is refused ends it. The mode is kept, however that ends, unless memory runs out.
     ///
     /// `Spent` where an earlier call ran out of memory; then nothing changes.
     ///
