@@ -1,4 +1,4 @@
-//! A row: what its lines are put to, which is a space of registers, and then a world or a machine over it.
+//! A row: what its lines are put to, which is registers, and then a world or a machine over them.
 use crate::questions::answer;
 use acpi_machine::Machine;
 use aml_meaning::World;
@@ -10,17 +10,6 @@ use std::alloc::{AllocError, Global};
 use std::io;
 use std::rt::Files;
 use test_rows::{Exchange, Question, Subject};
-
-/// What stands so far.
-#[derive(Drop)]
-pub enum Stage {
-    /// Registers alone.
-    Bare(Sparse),
-    /// A world over the registers, which notes each access to them.
-    World(World<Traced<Sparse>>),
-    /// A machine over the registers.
-    Machine(Machine<Sparse>),
-}
 
 /// What questions of a world use beside it.
 #[derive(Drop)]
@@ -38,8 +27,12 @@ pub struct Evaluation {
     pub width: IntegerWidth,
     /// The texts that `_OSI` of the next world or machine knows.
     pub osi: Vec<Octets>,
-    /// What stands so far.
-    pub stage: Stage,
+    /// The registers, while neither a world nor a machine stands over them; otherwise none.
+    pub space: Sparse,
+    /// A world over the registers, which notes each access to them.
+    pub world: Option<World<Traced<Sparse>>>,
+    /// A machine over the registers. It stands where no world does.
+    pub machine: Option<Machine<Sparse>>,
     /// What questions of a world use beside it.
     pub aside: Aside,
     /// The memory that tables are found in.
@@ -64,7 +57,9 @@ impl Subject for Evaluation {
         Ok(Evaluation {
             width: IntegerWidth::Bits64,
             osi: Vec::new(alloc),
-            stage: Stage::Bare(Sparse::new(alloc)),
+            space: Sparse::new(alloc),
+            world: None,
+            machine: None,
             aside: Aside {
                 aml: Vec::new(alloc),
                 left: 0,

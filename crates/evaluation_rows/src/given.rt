@@ -1,7 +1,7 @@
 //! Arguments that rows hand to control methods.
 use crate::answers::add;
 use crate::loading::valued;
-use crate::reading::{number_of, path_of, value};
+use crate::reading::{count, number, path_of, value};
 use aml_meaning::{Datum, World};
 use aml_objects::{Reference, Value};
 use ar_space::Sparse;
@@ -16,21 +16,20 @@ fn package_of(asked: &mut Exchange, datum: Datum) -> Datum {
 }
 
 /// The integer 1 within so many packages, one within another.
-fn packages(asked: &mut Exchange, count: &str) -> Datum {
+fn packages(asked: &mut Exchange, count: u64) -> Datum {
     let mut datum = Datum::Integer(1);
-    for _ in 0..number_of(asked, count) {
+    for _ in 0..count {
         datum = package_of(asked, datum);
     }
     datum
 }
 
 /// An argument: `integer N`, `name PATH`, or `packages N`.
-fn datum(asked: &mut Exchange, text: &str) -> Datum {
-    let (kind, behind) = text.split_once(' ').unwrap_or((text, ""));
-    match kind {
-        "integer" => Datum::Integer(number_of(asked, behind)),
-        "name" => Datum::Named(path_of(asked, behind)),
-        "packages" => packages(asked, behind),
+fn datum(asked: &mut Exchange, part: &mut Exchange) -> Datum {
+    match part.word() {
+        "integer" => Datum::Integer(number(part)),
+        "name" => Datum::Named(path_of(asked, part.word())),
+        "packages" => packages(asked, number(part)),
         _ => {
             asked.misunderstand();
             Datum::Nothing
@@ -38,26 +37,31 @@ fn datum(asked: &mut Exchange, text: &str) -> Datum {
     }
 }
 
+/// Ends the reading of a part, of which all has to be understood.
+fn end(asked: &mut Exchange, part: &mut Exchange) {
+    if !part.is_well() || !part.rest().is_empty() {
+        asked.misunderstand();
+    }
+}
+
+/// The argument that a text is.
+fn datum_in(asked: &mut Exchange, text: &str) -> Datum {
+    let mut part = Exchange::new(asked.alloc(), text);
+    let datum = datum(asked, &mut part);
+    end(asked, &mut part);
+    datum
+}
+
 /// The arguments of a text `with ARGUMENT, ARGUMENT`.
 pub fn data(asked: &mut Exchange) -> Vec<Datum> {
     let mut list = Vec::new(asked.alloc());
     if asked.takes("with ") {
         for text in asked.rest().split(", ") {
-            let datum = datum(asked, text);
+            let datum = datum_in(asked, text);
             add(asked, &mut list, datum);
         }
     }
     list
-}
-
-/// A reference to an element of the package that the name at a path holds: `INDEX of PATH`.
-fn element(asked: &mut Exchange, world: &mut World<Traced<Sparse>>, text: &str) -> Value {
-    let (index, path) = text.split_once(" of ").unwrap_or((text, ""));
-    let index = number_of(asked, index) as usize;
-    match package_at(asked, world, path) {
-        Some(object) => Value::Reference(Reference::Element(object, index)),
-        None => Value::Uninitialized,
-    }
 }
 
 /// The number of the package that the name at a path holds.
@@ -76,22 +80,28 @@ fn package_at(asked: &mut Exchange, world: &mut World<Traced<Sparse>>, path: &st
     }
 }
 
-/// The value that a text is.
-fn value_in(asked: &mut Exchange, text: &str) -> Value {
-    let mut part = Exchange::new(asked.alloc(), text);
-    let value = value(&mut part);
-    if !part.is_well() || !part.rest().is_empty() {
-        asked.misunderstand();
+/// A reference to an element of the package that the name at a path holds: `INDEX of PATH`.
+fn element(asked: &mut Exchange, world: &mut World<Traced<Sparse>>, part: &mut Exchange) -> Value {
+    let index = count(part);
+    if !part.takes("of ") {
+        part.misunderstand();
     }
-    value
+    match package_at(asked, world, part.word()) {
+        Some(object) => Value::Reference(Reference::Element(object, index)),
+        None => Value::Uninitialized,
+    }
 }
 
 /// An argument that is a value of the world: a value, or `element INDEX of PATH`.
 fn argument(asked: &mut Exchange, world: &mut World<Traced<Sparse>>, text: &str) -> Value {
-    match text.strip_prefix("element ") {
-        Some(behind) => element(asked, world, behind),
-        None => value_in(asked, text),
-    }
+    let mut part = Exchange::new(asked.alloc(), text);
+    let value = if part.takes("element ") {
+        element(asked, world, &mut part)
+    } else {
+        value(&mut part)
+    };
+    end(asked, &mut part);
+    value
 }
 
 /// The arguments of a text `with ARGUMENT, ARGUMENT` that are values of the world.

@@ -1,6 +1,5 @@
 //! Machines that are made from images of their tables.
 use crate::answers::{push_path, refuse, say_done, say_path, say_table};
-use crate::evaluation::Stage;
 use crate::given;
 use crate::loading::say_answered;
 use crate::reading::{count, path, texts};
@@ -211,9 +210,9 @@ fn answer_of_machine(asked: &mut Exchange, machine: &mut Machine<Sparse>, ask: A
 }
 
 /// Answers a question of this group.
-pub fn answer(asked: &mut Exchange, stage: &mut Stage, ask: Ask) {
-    match stage {
-        Stage::Machine(machine) => answer_of_machine(asked, machine, ask),
-        _ => asked.misunderstand(),
+pub fn answer(asked: &mut Exchange, machine: &mut Option<Machine<Sparse>>, ask: Ask) {
+    match machine {
+        Some(machine) => answer_of_machine(asked, machine, ask),
+        None => asked.misunderstand(),
     }
 }

@@ -1,6 +1,6 @@
 //! Worlds and machines that are made over the registers that stand.
 use crate::answers::{refuse, say_done};
-use crate::evaluation::{Evaluation, Stage};
+use crate::evaluation::Evaluation;
 use acpi_machine::{Machine, load_tables};
 use aml_meaning::World;
 use aml_objects::Octets;
@@ -14,17 +14,11 @@ use test_rows::Exchange;
 /// How many steps each table and each evaluation of a machine may take.
 const STEPS: u64 = 1_000_000;
 
-/// Puts something else on the stage, in place of what stands there.
-fn put(stage: &mut Stage, next: Stage) {
-    *stage = next;
-}
-
-/// Takes the registers out, with nothing left over them.
-fn taken_space(asked: &Exchange, stage: &mut Stage) -> Sparse {
-    match mem::replace(stage, Stage::Bare(Sparse::new(asked.alloc()))) {
-        Stage::Bare(space) => space,
-        Stage::World(world) => world.into_space().into_inner(),
-        Stage::Machine(_) => Sparse::new(asked.alloc()),
+/// Ends the world if one stands, and takes the registers out.
+fn taken_space(asked: &Exchange, row: &mut Evaluation) -> Sparse {
+    match row.world.take() {
+        Some(world) => world.into_space().into_inner(),
+        None => mem::replace(&mut row.space, Sparse::new(asked.alloc())),
     }
 }
 
@@ -43,34 +37,45 @@ fn new_world(
     World::new(alloc, width, texts, Traced::new(space))
 }
 
-/// A world on the stage, or the registers alone where it is refused.
-fn world_over(
-    asked: &mut Exchange,
-    width: IntegerWidth,
-    texts: Vec<Octets>,
-    space: Sparse,
-) -> Stage {
-    match new_world(asked.alloc(), width, texts, space) {
-        Ok(world) => Stage::World(world),
+/// Ends the machine if one stands.
+fn end_machine(machine: &mut Option<Machine<Sparse>>) {
+    *machine = None;
+}
+
+/// Puts a world where none stands.
+fn put_world(place: &mut Option<World<Traced<Sparse>>>, world: World<Traced<Sparse>>) {
+    *place = Some(world);
+}
+
+/// Puts registers where none are.
+fn put_space(place: &mut Sparse, space: Sparse) {
+    *place = space;
+}
+
+/// Makes a world over registers.
+fn world_over(asked: &mut Exchange, row: &mut Evaluation, space: Sparse) {
+    let texts = taken_texts(asked, &mut row.osi);
+    match new_world(asked.alloc(), row.width, texts, space) {
+        Ok(world) => put_world(&mut row.world, world),
         Err((refusal, space)) => {
             refuse(asked, refusal);
-            Stage::Bare(space.into_inner())
+            put_space(&mut row.space, space.into_inner());
         }
     }
 }
 
 /// `world`: a new world, over the registers as they are.
 pub fn make_world(asked: &mut Exchange, row: &mut Evaluation) {
-    let space = taken_space(asked, &mut row.stage);
-    let texts = taken_texts(asked, &mut row.osi);
-    let stage = world_over(asked, row.width, texts, space);
-    put(&mut row.stage, stage);
+    let space = taken_space(asked, row);
+    end_machine(&mut row.machine);
+    world_over(asked, row, space);
 }
 
 /// `space`: ends the world, which gives its registers back.
-pub fn give_back(asked: &mut Exchange, stage: &mut Stage) {
-    let space = taken_space(asked, stage);
-    put(stage, Stage::Bare(space));
+pub fn give_back(asked: &mut Exchange, row: &mut Evaluation) {
+    let space = taken_space(asked, row);
+    end_machine(&mut row.machine);
+    put_space(&mut row.space, space);
 }
 
 /// Puts bytes into an image from an address on.
@@ -118,23 +123,23 @@ fn loaded(
     load_tables(alloc, tables, space, STEPS, texts)
 }
 
-/// A machine on the stage, or the registers alone where it is refused.
-fn machine_over(asked: &mut Exchange, tables: Tables, space: Sparse, texts: Vec<Octets>) -> Stage {
-    match loaded(asked.alloc(), tables, space, texts) {
-        Ok(machine) => Stage::Machine(machine),
-        Err((refusal, space)) => {
-            refuse(asked, refusal);
-            Stage::Bare(space)
-        }
-    }
+/// Puts a machine where none stands.
+fn put_machine(place: &mut Option<Machine<Sparse>>, machine: Machine<Sparse>) {
+    *place = Some(machine);
 }
 
 /// Loads tables over the registers that stand.
 fn make_of(asked: &mut Exchange, row: &mut Evaluation, tables: Tables) {
-    let space = taken_space(asked, &mut row.stage);
+    let space = taken_space(asked, row);
     let texts = taken_texts(asked, &mut row.osi);
-    let stage = machine_over(asked, tables, space, texts);
-    put(&mut row.stage, stage);
+    match loaded(asked.alloc(), tables, space, texts) {
+        Ok(machine) => put_machine(&mut row.machine, machine),
+        Err((refusal, space)) => {
+            refuse(asked, refusal);
+            put_space(&mut row.space, space);
+            end_machine(&mut row.machine);
+        }
+    }
 }
 
 /// `machine`: loads the tables that were found. Where that is refused the registers are given back.

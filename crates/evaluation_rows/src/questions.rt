@@ -1,5 +1,5 @@
 //! Which function answers which question.
-use crate::evaluation::{Aside, Evaluation, Stage};
+use crate::evaluation::{Aside, Evaluation};
 use crate::reading::SpaceKind;
 use crate::{loading, machines, making, naming, objects, setting};
 use aml_meaning::World;
@@ -106,10 +106,10 @@ fn of_world(
 
 /// Answers a question of a world, which is made where none stands.
 fn of_any_world(asked: &mut Exchange, row: &mut Evaluation, ask: OfWorld) {
-    if !matches!(row.stage, Stage::World(_)) {
+    if row.world.is_none() {
         making::make_world(asked, row);
     }
-    if let Stage::World(world) = &mut row.stage {
+    if let Some(world) = &mut row.world {
         of_world(asked, world, &mut row.aside, ask);
     }
 }
@@ -122,10 +122,10 @@ pub fn answer(asked: &mut Exchange, row: &mut Evaluation) {
         Ask::MakeWorld => making::make_world(asked, row),
         Ask::World(ask) => of_any_world(asked, row, ask),
         Ask::Left => asked.say_number(row.aside.left),
-        Ask::GiveBack => making::give_back(asked, &mut row.stage),
+        Ask::GiveBack => making::give_back(asked, row),
         Ask::Image => making::put_image(asked, &mut row.image),
         Ask::Tables => making::find(asked, &mut row.tables, &row.image),
         Ask::MakeMachine => making::make_machine(asked, row),
-        Ask::Machine(ask) => machines::answer(asked, &mut row.stage, ask),
+        Ask::Machine(ask) => machines::answer(asked, &mut row.machine, ask),
     }
 }

@@ -5,18 +5,13 @@ use aml_path::Path;
 use ar_space::{Place, Refusal};
 use test_rows::Exchange;
 
-/// A number that a text writes in decimal digits, or behind `0x` in hexadecimal ones.
-pub fn number_of(asked: &mut Exchange, text: &str) -> u64 {
-    match text.strip_prefix("0x") {
-        Some(digits) => asked.digits(digits, 16, u64::MAX),
-        None => asked.digits(text, 10, u64::MAX),
-    }
-}
-
-/// The next word as such a number.
+/// A number in decimal digits, or behind `0x` in hexadecimal ones.
 pub fn number(asked: &mut Exchange) -> u64 {
-    let word = asked.word();
-    number_of(asked, word)
+    if asked.takes("0x") {
+        asked.hexadecimal(u64::MAX)
+    } else {
+        asked.number(u64::MAX)
+    }
 }
 
 /// A number that indexes or counts.

@@ -1,6 +1,6 @@
 //! What stands before a world or a machine is made, and single bytes of the registers.
 use crate::answers::{say_byte, say_done};
-use crate::evaluation::{Evaluation, Stage};
+use crate::evaluation::Evaluation;
 use crate::reading::{SpaceKind, place, space, texts};
 use aml_objects::Octets;
 use ar_space::{IntegerWidth, Place, Sparse};
@@ -43,29 +43,37 @@ fn put_all(asked: &mut Exchange, space: &mut Sparse, first: Place, bytes: &[u8])
 }
 
 /// `io PORT BYTES`, `memory ADDRESS BYTES` or `pci SEGMENT BUS DEVICE FUNCTION REGISTER BYTES`: bytes that stand in registers.
-fn put(asked: &mut Exchange, stage: &mut Stage, kind: SpaceKind) {
+fn put(asked: &mut Exchange, space: &mut Sparse, kind: SpaceKind) {
     let first = place(asked, kind);
     let bytes = asked.bytes();
-    match stage {
-        Stage::Bare(space) => put_all(asked, space, first, bytes.as_slice()),
-        _ => asked.misunderstand(),
+    put_all(asked, space, first, bytes.as_slice());
+}
+
+/// The same, before there is a world or a machine.
+fn put_alone(asked: &mut Exchange, row: &mut Evaluation, kind: SpaceKind) {
+    if row.world.is_none() && row.machine.is_none() {
+        put(asked, &mut row.space, kind);
+    } else {
+        asked.misunderstand();
     }
 }
 
-/// The byte that stands at a place.
-fn byte_at(stage: &Stage, at: Place) -> Option<u8> {
-    match stage {
-        Stage::Bare(space) => space.byte(at),
-        Stage::World(world) => world.space().inner().byte(at),
-        Stage::Machine(machine) => machine.space().byte(at),
+/// The registers, wherever they are.
+fn registers(row: &Evaluation) -> &Sparse {
+    if let Some(world) = &row.world {
+        return world.space().inner();
+    }
+    match &row.machine {
+        Some(machine) => machine.space(),
+        None => &row.space,
     }
 }
 
 /// `byte io PORT` and so on: the byte that stands there now.
-fn byte(asked: &mut Exchange, stage: &Stage) {
+fn byte(asked: &mut Exchange, registers: &Sparse) {
     let kind = space(asked);
     let at = place(asked, kind);
-    say_byte(asked, byte_at(stage, at));
+    say_byte(asked, registers.byte(at));
 }
 
 /// A question of what stands before a world or a machine.
@@ -84,7 +92,7 @@ pub fn answer(asked: &mut Exchange, row: &mut Evaluation, ask: Ask) {
         Ask::Width => row.width = width(asked),
         Ask::Osi => set_texts(asked, &mut row.osi),
         Ask::Aml => put_aside(asked, &mut row.aside.aml),
-        Ask::Put(kind) => put(asked, &mut row.stage, kind),
-        Ask::Byte => byte(asked, &row.stage),
+        Ask::Put(kind) => put_alone(asked, row, kind),
+        Ask::Byte => byte(asked, registers(row)),
     }
 }
