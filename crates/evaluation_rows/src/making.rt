@@ -39,12 +39,12 @@ fn new_world(
 
 /// Ends the machine if one stands.
 fn end_machine(machine: &mut Option<Machine<Sparse>>) {
-    *machine = None;
+    drop(machine.take());
 }
 
 /// Puts a world where none stands.
 fn put_world(place: &mut Option<World<Traced<Sparse>>>, world: World<Traced<Sparse>>) {
-    *place = Some(world);
+    drop(place.replace(world));
 }
 
 /// Puts registers where none are.
@@ -72,7 +72,7 @@ pub fn make_world(asked: &mut Exchange, row: &mut Evaluation) {
 }
 
 /// `space`: ends the world, which gives its registers back.
-pub fn give_back(asked: &mut Exchange, row: &mut Evaluation) {
+fn give_back(asked: &mut Exchange, row: &mut Evaluation) {
     let space = taken_space(asked, row);
     end_machine(&mut row.machine);
     put_space(&mut row.space, space);
@@ -93,7 +93,7 @@ fn put_all(asked: &mut Exchange, image: &mut Image, first: u64, bytes: &[u8]) {
 }
 
 /// `image ADDRESS BYTES`: bytes of the memory that tables are found in.
-pub fn put_image(asked: &mut Exchange, image: &mut Image) {
+fn put_image(asked: &mut Exchange, image: &mut Image) {
     let first = asked.hexadecimal(u64::MAX);
     let bytes = asked.bytes();
     put_all(asked, image, first, bytes.as_slice());
@@ -105,7 +105,7 @@ fn found(alloc: Global, image: &Image, rsdp: u64) -> Result<Tables, Refusal> {
 }
 
 /// `tables ADDRESS`: finds the tables from the address of the RSDP on.
-pub fn find(asked: &mut Exchange, tables: &mut Option<Tables>, image: &Image) {
+fn find(asked: &mut Exchange, tables: &mut Option<Tables>, image: &Image) {
     let rsdp = asked.hexadecimal(u64::MAX);
     match found(asked.alloc(), image, rsdp) {
         Ok(found) => *tables = Some(found),
@@ -125,7 +125,7 @@ fn loaded(
 
 /// Puts a machine where none stands.
 fn put_machine(place: &mut Option<Machine<Sparse>>, machine: Machine<Sparse>) {
-    *place = Some(machine);
+    drop(place.replace(machine));
 }
 
 /// Loads tables over the registers that stand.
@@ -143,9 +143,30 @@ fn make_of(asked: &mut Exchange, row: &mut Evaluation, tables: Tables) {
 }
 
 /// `machine`: loads the tables that were found. Where that is refused the registers are given back.
-pub fn make_machine(asked: &mut Exchange, row: &mut Evaluation) {
+fn make_machine(asked: &mut Exchange, row: &mut Evaluation) {
     match row.tables.take() {
         Some(tables) => make_of(asked, row, tables),
         None => asked.misunderstand(),
+    }
+}
+
+/// A question that makes a world or a machine, or what it is made of.
+#[derive(Clone, Copy)]
+pub enum Ask {
+    World,
+    Space,
+    Image,
+    Tables,
+    Machine,
+}
+
+/// Answers a question of this group.
+pub fn answer(asked: &mut Exchange, row: &mut Evaluation, ask: Ask) {
+    match ask {
+        Ask::World => make_world(asked, row),
+        Ask::Space => give_back(asked, row),
+        Ask::Image => put_image(asked, &mut row.image),
+        Ask::Tables => find(asked, &mut row.tables, &row.image),
+        Ask::Machine => make_machine(asked, row),
     }
 }

@@ -19,13 +19,9 @@ enum OfWorld {
 #[derive(Clone, Copy)]
 enum Ask {
     Setting(setting::Ask),
-    MakeWorld,
+    Making(making::Ask),
     World(OfWorld),
     Left,
-    GiveBack,
-    Image,
-    Tables,
-    MakeMachine,
     Machine(machines::Ask),
 }
 
@@ -38,9 +34,9 @@ const QUESTIONS: [(&str, Ask); 45] = [
     ("memory", Ask::Setting(setting::Ask::Put(SpaceKind::Memory))),
     ("pci", Ask::Setting(setting::Ask::Put(SpaceKind::Pci))),
     ("byte", Ask::Setting(setting::Ask::Byte)),
-    ("world", Ask::MakeWorld),
+    ("world", Ask::Making(making::Ask::World)),
     ("left", Ask::Left),
-    ("space", Ask::GiveBack),
+    ("space", Ask::Making(making::Ask::Space)),
     ("load", Ask::World(OfWorld::Loading(loading::Ask::Load))),
     ("method", Ask::World(OfWorld::Loading(loading::Ask::Method))),
     ("body", Ask::World(OfWorld::Loading(loading::Ask::Body))),
@@ -76,9 +72,9 @@ const QUESTIONS: [(&str, Ask); 45] = [
     ("frame", Ask::World(OfWorld::Objects(objects::Ask::Frame))),
     ("slot", Ask::World(OfWorld::Objects(objects::Ask::Slot))),
     ("close", Ask::World(OfWorld::Objects(objects::Ask::Close))),
-    ("image", Ask::Image),
-    ("tables", Ask::Tables),
-    ("machine", Ask::MakeMachine),
+    ("image", Ask::Making(making::Ask::Image)),
+    ("tables", Ask::Making(making::Ask::Tables)),
+    ("machine", Ask::Making(making::Ask::Machine)),
     ("nodes", Ask::Machine(machines::Ask::Nodes)),
     ("node", Ask::Machine(machines::Ask::Node)),
     ("table", Ask::Machine(machines::Ask::Table)),
@@ -119,13 +115,9 @@ pub fn answer(asked: &mut Exchange, row: &mut Evaluation) {
     let word = asked.word();
     match asked.one_of(&QUESTIONS, word, Ask::Left) {
         Ask::Setting(ask) => setting::answer(asked, row, ask),
-        Ask::MakeWorld => making::make_world(asked, row),
+        Ask::Making(ask) => making::answer(asked, row, ask),
         Ask::World(ask) => of_any_world(asked, row, ask),
         Ask::Left => asked.say_number(row.aside.left),
-        Ask::GiveBack => making::give_back(asked, row),
-        Ask::Image => making::put_image(asked, &mut row.image),
-        Ask::Tables => making::find(asked, &mut row.tables, &row.image),
-        Ask::MakeMachine => making::make_machine(asked, row),
         Ask::Machine(ask) => machines::answer(asked, &mut row.machine, ask),
     }
 }
