@@ -2,7 +2,7 @@
 use crate::answers::{extend, refuse, say_done};
 use crate::evaluation::Aside;
 use crate::reading::{number, path, path_of, steps};
-use crate::telling::{say_answered, say_value};
+use crate::telling::{push_datum, say_value};
 use crate::{given, shown};
 use aml_meaning::{Datum, World};
 use aml_objects::Value;
@@ -83,6 +83,14 @@ fn answered(
     steps: u64,
 ) -> Result<Datum, Refusal> {
     aml_interp::answer(alloc, world, path, arguments, steps)
+}
+
+/// Answers a datum, or the refusal.
+pub fn say_answered(asked: &mut Exchange, outcome: Result<Datum, Refusal>) {
+    match outcome {
+        Ok(datum) => push_datum(asked, &datum),
+        Err(refusal) => refuse(asked, refusal),
+    }
 }
 
 /// `body [in N steps] BYTES`: loads the control method `M000` that takes no arguments and has this body, and calls it.

@@ -1,9 +1,9 @@
 //! Machines that are made from images of their tables.
 use crate::answers::{push_path, refuse, say_done, say_path, say_table};
 use crate::given;
+use crate::loading::say_answered;
 use crate::reading::{count, path, texts};
 use crate::shown::say_kind;
-use crate::telling::say_answered;
 use acpi_machine::{Kind, Machine, Mode};
 use acpi_prt::{Pin, Route, get_irq_routing_table};
 use aml_meaning::Datum;

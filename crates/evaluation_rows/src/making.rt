@@ -108,7 +108,7 @@ fn found(alloc: Global, image: &Image, rsdp: u64) -> Result<Tables, Refusal> {
 fn find(asked: &mut Exchange, tables: &mut Option<Tables>, image: &Image) {
     let rsdp = asked.hexadecimal(u64::MAX);
     match found(asked.alloc(), image, rsdp) {
-        Ok(found) => drop(tables.replace(found)),
+        Ok(found) => *tables = Some(found),
         Err(refusal) => refuse(asked, refusal),
     }
 }

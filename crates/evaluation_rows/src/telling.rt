@@ -66,12 +66,9 @@ fn push_within(asked: &mut Exchange, depth: u8, datum: &Datum) {
     asked.push(")");
 }
 
-/// Answers what evaluation hands out, or the refusal.
-pub fn say_answered(asked: &mut Exchange, outcome: Result<Datum, Refusal>) {
-    match outcome {
-        Ok(datum) => push_within(asked, DEPTH, &datum),
-        Err(refusal) => refuse(asked, refusal),
-    }
+/// Answers what evaluation hands out.
+pub fn push_datum(asked: &mut Exchange, datum: &Datum) {
+    push_within(asked, DEPTH, datum);
 }
 
 /// Answers a slot of a frame.
@@ -102,7 +99,7 @@ fn say_reference(asked: &mut Exchange, reference: Reference) {
     }
 }
 
-/// Answers a value of a world. Nothing was answered before it.
+/// Answers a value of a world.
 pub fn say_value(asked: &mut Exchange, value: Value) {
     match value {
         Value::Uninitialized => asked.say("uninitialized"),
