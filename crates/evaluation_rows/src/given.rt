@@ -1,87 +1,117 @@
 //! Arguments that rows hand to control methods.
+use crate::answers::add;
 use crate::loading::valued;
-use crate::reading::{first_word, index, number, value};
-use crate::trouble::Trouble;
+use crate::reading::{count, number, path_of, value};
 use aml_meaning::{Datum, World};
 use aml_objects::{Reference, Value};
-use aml_path::Path;
 use ar_space::Sparse;
 use space_trace::Traced;
-use std::alloc::Global;
+use test_rows::Exchange;
+
+/// A package of one element.
+fn package_of(asked: &mut Exchange, datum: Datum) -> Datum {
+    let mut elements = Vec::new(asked.alloc());
+    add(asked, &mut elements, datum);
+    Datum::Package(elements)
+}
 
 /// The integer 1 within so many packages, one within another.
-fn packages(alloc: Global, count: usize) -> Result<Datum, Trouble> {
+fn packages(asked: &mut Exchange, count: u64) -> Datum {
     let mut datum = Datum::Integer(1);
     for _ in 0..count {
-        let mut elements = Vec::new(alloc);
-        elements.push(datum)?;
-        datum = Datum::Package(elements);
+        datum = package_of(asked, datum);
     }
-    Ok(datum)
+    datum
 }
 
 /// An argument: `integer N`, `name PATH`, or `packages N`.
-fn datum(alloc: Global, text: &str) -> Result<Datum, Trouble> {
-    let (kind, behind) = first_word(text);
-    match kind {
-        "integer" => Ok(Datum::Integer(number(behind)?)),
-        "name" => Ok(Datum::Named(Path::from_text(alloc, behind.as_bytes())?)),
-        "packages" => packages(alloc, index(behind)?),
-        _ => Err(Trouble::Unread),
+fn datum(asked: &mut Exchange, part: &mut Exchange) -> Datum {
+    match part.word() {
+        "integer" => Datum::Integer(number(part)),
+        "name" => Datum::Named(path_of(asked, part.word())),
+        "packages" => packages(asked, number(part)),
+        _ => {
+            asked.misunderstand();
+            Datum::Nothing
+        }
     }
+}
+
+/// Ends the reading of a part, of which all has to be understood.
+fn end(asked: &mut Exchange, part: &mut Exchange) {
+    if !part.is_well() || !part.rest().is_empty() {
+        asked.misunderstand();
+    }
+}
+
+/// The argument that a text is.
+fn datum_in(asked: &mut Exchange, text: &str) -> Datum {
+    let mut part = Exchange::new(asked.alloc(), text);
+    let datum = datum(asked, &mut part);
+    end(asked, &mut part);
+    datum
 }
 
 /// The arguments of a text `with ARGUMENT, ARGUMENT`.
-pub fn data(alloc: Global, text: &str) -> Result<Vec<Datum>, Trouble> {
-    let mut list = Vec::new(alloc);
-    if text.is_empty() {
-        return Ok(list);
+pub fn data(asked: &mut Exchange) -> Vec<Datum> {
+    let mut list = Vec::new(asked.alloc());
+    if asked.takes("with ") {
+        for text in asked.rest().split(", ") {
+            let datum = datum_in(asked, text);
+            add(asked, &mut list, datum);
+        }
     }
-    let given = text.strip_prefix("with ").ok_or(Trouble::Unread)?;
-    for item in given.split(',') {
-        list.push(datum(alloc, item.strip_prefix(" ").unwrap_or(item))?)?;
+    list
+}
+
+/// The number of the package that the name at a path holds.
+fn package_at(asked: &mut Exchange, world: &mut World<Traced<Sparse>>, path: &str) -> Option<u32> {
+    let path = path_of(asked, path);
+    match valued(asked.alloc(), world, &path, Vec::new(asked.alloc()), 1000) {
+        Ok((Value::Package(object), _)) => Some(object),
+        Ok(_) => {
+            asked.misunderstand();
+            None
+        }
+        Err(refusal) => {
+            asked.refuse(refusal.number());
+            None
+        }
     }
-    Ok(list)
 }
 
 /// A reference to an element of the package that the name at a path holds: `INDEX of PATH`.
-fn element(alloc: Global, world: &mut World<Traced<Sparse>>, text: &str) -> Result<Value, Trouble> {
-    let (place, behind) = first_word(text);
-    let (_of, path) = first_word(behind);
-    let path = Path::from_text(alloc, path.as_bytes())?;
-    match valued(alloc, world, &path, Vec::new(alloc), 1000)? {
-        (Value::Package(object), _) => {
-            Ok(Value::Reference(Reference::Element(object, index(place)?)))
-        }
-        _ => Err(Trouble::Unread),
+fn element(asked: &mut Exchange, world: &mut World<Traced<Sparse>>, part: &mut Exchange) -> Value {
+    let index = count(part);
+    if !part.takes("of ") {
+        part.misunderstand();
+    }
+    match package_at(asked, world, part.word()) {
+        Some(object) => Value::Reference(Reference::Element(object, index)),
+        None => Value::Uninitialized,
     }
 }
 
 /// An argument that is a value of the world: a value, or `element INDEX of PATH`.
-fn argument(
-    alloc: Global,
-    world: &mut World<Traced<Sparse>>,
-    text: &str,
-) -> Result<Value, Trouble> {
-    match text.strip_prefix("element ") {
-        Some(behind) => element(alloc, world, behind),
-        None => value(text),
-    }
+fn argument(asked: &mut Exchange, world: &mut World<Traced<Sparse>>, text: &str) -> Value {
+    let mut part = Exchange::new(asked.alloc(), text);
+    let value = if part.takes("element ") {
+        element(asked, world, &mut part)
+    } else {
+        value(&mut part)
+    };
+    end(asked, &mut part);
+    value
 }
 
 /// The arguments of a text `with ARGUMENT, ARGUMENT` that are values of the world.
-pub fn values(
-    alloc: Global,
-    world: &mut World<Traced<Sparse>>,
-    text: &str,
-) -> Result<Vec<Value>, Trouble> {
-    let mut list = Vec::new(alloc);
-    if text.is_empty() {
-        return Ok(list);
+pub fn values(asked: &mut Exchange, world: &mut World<Traced<Sparse>>) -> Vec<Value> {
+    let mut list = Vec::new(asked.alloc());
+    if asked.takes("with ") {
+        for text in asked.rest().split(", ") {
+            let value = argument(asked, world, text);
+            add(asked, &mut list, value);
+        }
     }
-    let given = text.strip_prefix("with ").ok_or(Trouble::Unread)?;
-    for item in given.split(',') {
-        list.push(argument(alloc, world, item.strip_prefix(" ").unwrap_or(item))?)?;
-    }
-    Ok(list)
+    list
 }

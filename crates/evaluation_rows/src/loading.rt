@@ -1,61 +1,19 @@
 //! Tables that are loaded into a world, and what its names answer.
-use crate::evaluation::{Evaluation, Stage};
-use crate::reading::{first_word, number, steps};
-use crate::telling::done;
-use crate::trouble::Trouble;
-use crate::{given, shown, telling};
-use aml_interp::{answer, eval, load};
+use crate::answers::{extend, refuse, say_done};
+use crate::evaluation::Aside;
+use crate::reading::{number, path, path_of, steps};
+use crate::telling::{push_datum, say_value};
+use crate::{given, shown};
 use aml_meaning::{Datum, World};
 use aml_objects::Value;
 use aml_path::Path;
 use ar_space::{Refusal, Sparse};
 use space_trace::Traced;
 use std::alloc::Global;
-use test_rows::bytes_of;
+use test_rows::Exchange;
 
 /// How many steps the table of a control method may take.
 const METHOD_STEPS: u64 = 1000;
-
-/// Puts a question of this group.
-pub fn ask(
-    alloc: Global,
-    subject: &mut Evaluation,
-    word: &str,
-    rest: &str,
-) -> Result<String, Trouble> {
-    match word {
-        "world" => new_world(alloc, subject),
-        "load" => load_bytes(alloc, subject, rest),
-        "method" => declare_method(alloc, subject, rest),
-        "body" => call_body(alloc, subject, rest),
-        "answer" => answer_path(alloc, subject, rest),
-        "value" => value_of_path(alloc, subject, rest),
-        "left" => steps_left(alloc, subject),
-        _ => accesses(alloc, subject),
-    }
-}
-
-/// Makes a world over the registers that stand.
-pub fn make_world(alloc: Global, subject: &mut Evaluation) -> Result<(), Trouble> {
-    let space = Traced::new(subject.taken_space(alloc));
-    let texts = subject.taken_texts(alloc);
-    match World::new(alloc, subject.width, texts, space) {
-        Ok(world) => {
-            subject.stage = Stage::World(world);
-            Ok(())
-        }
-        Err((refusal, space)) => {
-            subject.stage = Stage::Bare(space.into_inner());
-            Err(Trouble::Refused(refusal))
-        }
-    }
-}
-
-/// `world`: a new world, over the registers as they are.
-fn new_world(alloc: Global, subject: &mut Evaluation) -> Result<String, Trouble> {
-    make_world(alloc, subject)?;
-    done(alloc)
-}
 
 /// Loads a table in so many steps.
 fn loaded(
@@ -64,58 +22,56 @@ fn loaded(
     table: &[u8],
     steps: u64,
 ) -> Result<(), Refusal> {
-    load(alloc, world, table, steps)
+    aml_interp::load(alloc, world, table, steps)
 }
 
-/// The AML that a text names or writes.
-fn aml_of(alloc: Global, subject: &Evaluation, text: &str) -> Result<Vec<u8>, Trouble> {
-    if text == "aml" {
-        Ok(Vec::from_slice(alloc, subject.aml.as_slice())?)
+/// Answers what loading a table in so many steps gives.
+fn load(asked: &mut Exchange, world: &mut World<Traced<Sparse>>, table: &[u8], steps: u64) {
+    let outcome = loaded(asked.alloc(), world, table, steps);
+    say_done(asked, outcome);
+}
+
+/// `load [in N steps] BYTES`, or `aml` in place of the bytes: loads a table, which is given without its header.
+fn load_bytes(asked: &mut Exchange, world: &mut World<Traced<Sparse>>, aml: &[u8]) {
+    let steps = steps(asked);
+    if asked.takes("aml") {
+        load(asked, world, aml, steps);
     } else {
-        Ok(bytes_of(alloc, text)?)
+        let table = asked.bytes();
+        load(asked, world, table.as_slice(), steps);
     }
 }
 
-/// `load [in N steps] BYTES`: loads a table, which is given without its header.
-fn load_bytes(alloc: Global, subject: &mut Evaluation, rest: &str) -> Result<String, Trouble> {
-    let (count, text) = steps(rest)?;
-    let table = aml_of(alloc, subject, text)?;
-    loaded(alloc, subject.world(alloc)?, table.as_slice(), count)?;
-    done(alloc)
-}
-
 /// The table of a control method `M000` with these flags and this body.
-fn method_table(alloc: Global, flags: u64, body: &[u8]) -> Result<Vec<u8>, Trouble> {
+fn method_table(asked: &mut Exchange, flags: u8, body: &[u8]) -> Vec<u8> {
     let length = body.len().saturating_add(7);
-    let mut bytes = Vec::new(alloc);
-    bytes.push(0x14)?;
-    bytes.push(0x40 + (length % 16) as u8)?;
-    bytes.push((length / 16 % 256) as u8)?;
-    bytes.extend_from_slice(b"M000")?;
-    bytes.push((flags % 256) as u8)?;
-    bytes.extend_from_slice(body)?;
-    Ok(bytes)
+    let low = 0x40 + (length % 16) as u8;
+    let high = (length / 16 % 256) as u8;
+    let mut bytes = Vec::new(asked.alloc());
+    extend(asked, &mut bytes, &[0x14, low, high]);
+    extend(asked, &mut bytes, b"M000");
+    extend(asked, &mut bytes, &[flags]);
+    extend(asked, &mut bytes, body);
+    bytes
 }
 
-/// Loads the control method `M000` with these flags and this body.
-fn load_method(
-    alloc: Global,
-    subject: &mut Evaluation,
-    flags: u64,
-    text: &str,
-) -> Result<(), Trouble> {
-    let body = bytes_of(alloc, text)?;
-    let table = method_table(alloc, flags, body.as_slice())?;
-    let world = subject.world(alloc)?;
-    loaded(alloc, world, table.as_slice(), METHOD_STEPS)?;
-    Ok(())
+/// Loads the control method `M000` with these flags and the body that is left, and says whether it is loaded.
+fn load_method(asked: &mut Exchange, world: &mut World<Traced<Sparse>>, flags: u8) -> bool {
+    let body = asked.bytes();
+    let table = method_table(asked, flags, body.as_slice());
+    match loaded(asked.alloc(), world, table.as_slice(), METHOD_STEPS) {
+        Ok(()) => true,
+        Err(refusal) => {
+            refuse(asked, refusal);
+            false
+        }
+    }
 }
 
 /// `method FLAGS BYTES`: loads the control method `M000` with these flags and this body.
-fn declare_method(alloc: Global, subject: &mut Evaluation, rest: &str) -> Result<String, Trouble> {
-    let (flags, text) = first_word(rest);
-    load_method(alloc, subject, number(flags)?, text)?;
-    done(alloc)
+fn declare_method(asked: &mut Exchange, world: &mut World<Traced<Sparse>>) {
+    let flags = number(asked);
+    load_method(asked, world, (flags % 256) as u8);
 }
 
 /// What the name at a path answers.
@@ -126,27 +82,34 @@ fn answered(
     arguments: Vec<Datum>,
     steps: u64,
 ) -> Result<Datum, Refusal> {
-    answer(alloc, world, path, arguments, steps)
+    aml_interp::answer(alloc, world, path, arguments, steps)
+}
+
+/// Answers a datum, or the refusal.
+pub fn say_answered(asked: &mut Exchange, outcome: Result<Datum, Refusal>) {
+    match outcome {
+        Ok(datum) => push_datum(asked, &datum),
+        Err(refusal) => refuse(asked, refusal),
+    }
 }
 
 /// `body [in N steps] BYTES`: loads the control method `M000` that takes no arguments and has this body, and calls it.
-fn call_body(alloc: Global, subject: &mut Evaluation, rest: &str) -> Result<String, Trouble> {
-    let (count, text) = steps(rest)?;
-    load_method(alloc, subject, 0, text)?;
-    let path = Path::from_text(alloc, b"\\M000")?;
-    let world = subject.world(alloc)?;
-    let datum = answered(alloc, world, &path, Vec::new(alloc), count)?;
-    telling::datum(alloc, &datum)
+fn call_body(asked: &mut Exchange, world: &mut World<Traced<Sparse>>) {
+    let steps = steps(asked);
+    if load_method(asked, world, 0) {
+        let path = path_of(asked, "\\M000");
+        let outcome = answered(asked.alloc(), world, &path, Vec::new(asked.alloc()), steps);
+        say_answered(asked, outcome);
+    }
 }
 
 /// `answer PATH [in N steps] [with ARGUMENTS]`: what the name at a path answers.
-fn answer_path(alloc: Global, subject: &mut Evaluation, rest: &str) -> Result<String, Trouble> {
-    let (path, behind) = first_word(rest);
-    let path = Path::from_text(alloc, path.as_bytes())?;
-    let (count, behind) = steps(behind)?;
-    let arguments = given::data(alloc, behind)?;
-    let datum = answered(alloc, subject.world(alloc)?, &path, arguments, count)?;
-    telling::datum(alloc, &datum)
+fn answer_path(asked: &mut Exchange, world: &mut World<Traced<Sparse>>) {
+    let path = path(asked);
+    let steps = steps(asked);
+    let arguments = given::data(asked);
+    let outcome = answered(asked.alloc(), world, &path, arguments, steps);
+    say_answered(asked, outcome);
 }
 
 /// The value of the name at a path, and how many steps are left.
@@ -157,29 +120,47 @@ pub fn valued(
     arguments: Vec<Value>,
     steps: u64,
 ) -> Result<(Value, u64), Refusal> {
-    eval(alloc, world, path, arguments, steps)
+    aml_interp::eval(alloc, world, path, arguments, steps)
 }
 
 /// `value PATH [in N steps] [with VALUES]`: the value of the name at a path, within the world.
-fn value_of_path(alloc: Global, subject: &mut Evaluation, rest: &str) -> Result<String, Trouble> {
-    let (path, behind) = first_word(rest);
-    let path = Path::from_text(alloc, path.as_bytes())?;
-    let (count, behind) = steps(behind)?;
-    let world = subject.world(alloc)?;
-    let arguments = given::values(alloc, world, behind)?;
-    let (value, left) = valued(alloc, world, &path, arguments, count)?;
-    subject.left = left;
-    telling::value(alloc, value)
+fn value_of_path(asked: &mut Exchange, world: &mut World<Traced<Sparse>>, left: &mut u64) {
+    let path = path(asked);
+    let steps = steps(asked);
+    let arguments = given::values(asked, world);
+    match valued(asked.alloc(), world, &path, arguments, steps) {
+        Ok((value, rest)) => {
+            *left = rest;
+            say_value(asked, value);
+        }
+        Err(refusal) => refuse(asked, refusal),
+    }
 }
 
-/// `left`: how many steps the last value left.
-fn steps_left(alloc: Global, subject: &Evaluation) -> Result<String, Trouble> {
-    let left = subject.left;
-    Ok(format!(in alloc; "{left}")?)
+/// A question of what is loaded into a world and evaluated in it.
+#[derive(Clone, Copy)]
+pub enum Ask {
+    Load,
+    Method,
+    Body,
+    Answer,
+    Value,
+    Accesses,
 }
 
-/// `accesses`: the accesses to the registers since the world was made.
-fn accesses(alloc: Global, subject: &mut Evaluation) -> Result<String, Trouble> {
-    let world = subject.world(alloc)?;
-    shown::accesses(alloc, world.space().accesses())
+/// Answers a question of this group.
+pub fn answer(
+    asked: &mut Exchange,
+    world: &mut World<Traced<Sparse>>,
+    aside: &mut Aside,
+    ask: Ask,
+) {
+    match ask {
+        Ask::Load => load_bytes(asked, world, aside.aml.as_slice()),
+        Ask::Method => declare_method(asked, world),
+        Ask::Body => call_body(asked, world),
+        Ask::Answer => answer_path(asked, world),
+        Ask::Value => value_of_path(asked, world, &mut aside.left),
+        Ask::Accesses => shown::say_accesses(asked, world.space().accesses()),
+    }
 }

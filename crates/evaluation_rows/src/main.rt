@@ -4,17 +4,19 @@
 //! The folder `data/` holds the rows, and `data/README.md` says how they are written.
 #![tactic(auto)]
 
+mod answers;
 mod evaluation;
 mod given;
 mod loading;
 mod machines;
+mod making;
 mod naming;
 mod objects;
+mod questions;
 mod reading;
 mod setting;
 mod shown;
 mod telling;
-mod trouble;
 
 use crate::evaluation::Evaluation;
 use std::io;

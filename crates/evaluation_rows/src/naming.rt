@@ -1,56 +1,40 @@
 //! The names of a world.
-use crate::evaluation::{Evaluation, Stage};
-use crate::reading::{first_word, number};
-use crate::shown;
-use crate::telling::{done, word};
-use crate::trouble::Trouble;
+use crate::answers::{refuse, say_of};
+use crate::reading::{number, path};
+use crate::shown::{say_object, say_paths};
 use aml_meaning::World;
+use aml_namespace::Names;
 use aml_objects::NamedObject;
 use aml_path::{NameString, Path, Prefix};
 use ar_space::{IntegerWidth, Refusal, Sparse};
 use space_trace::Traced;
-use std::alloc::Global;
+use test_rows::Exchange;
 
-/// Puts a question of this group.
-pub fn ask(
-    alloc: Global,
-    subject: &mut Evaluation,
-    word: &str,
-    rest: &str,
-) -> Result<String, Trouble> {
-    match word {
-        "names" => names(alloc, subject.world(alloc)?),
-        "object" => object(alloc, subject.world(alloc)?, rest),
-        "lookup" => lookup(alloc, subject.world(alloc)?, rest),
-        "declare" => declare(alloc, subject.world(alloc)?, rest),
-        "remove" => remove(alloc, subject.world(alloc)?, rest),
-        "integers" => integers(alloc, subject.world(alloc)?),
-        _ => give_back(alloc, subject),
+/// `names`: all names but the root, in the order of their paths.
+fn names(asked: &mut Exchange, names: &Names) {
+    match names.walk(asked.alloc()) {
+        Ok(paths) => say_paths(asked, paths.as_slice()),
+        Err(refusal) => refuse(asked, refusal),
     }
 }
 
-/// `names`: all names but the root, in the order of their paths.
-fn names(alloc: Global, world: &World<Traced<Sparse>>) -> Result<String, Trouble> {
-    let found = world.names().walk(alloc)?;
-    shown::paths(alloc, found.as_slice())
-}
-
 /// `object PATH`: what stands at a path.
-fn object(alloc: Global, world: &World<Traced<Sparse>>, rest: &str) -> Result<String, Trouble> {
-    let path = Path::from_text(alloc, rest.as_bytes())?;
-    match world.names().get(&path) {
-        Some(entry) => shown::object(alloc, &entry.object),
-        None => word(alloc, "nothing"),
+fn object(asked: &mut Exchange, names: &Names) {
+    let path = path(asked);
+    match names.get(&path) {
+        Some(entry) => say_object(asked, &entry.object),
+        None => asked.say("nothing"),
     }
 }
 
 /// `lookup NAME`: what a name of one segment finds that is searched for from the root.
-fn lookup(alloc: Global, world: &World<Traced<Sparse>>, rest: &str) -> Result<String, Trouble> {
-    let segments = Path::from_text(alloc, rest.as_bytes())?.into_vec();
-    let name = NameString::new(Prefix::Parents(0), segments);
-    let root = Path::root(alloc);
-    let entry = world.names().lookup(&root, &name)?;
-    shown::object(alloc, &entry.object)
+fn lookup(asked: &mut Exchange, names: &Names) {
+    let name = NameString::new(Prefix::Parents(0), path(asked).into_vec());
+    let root = Path::root(asked.alloc());
+    match names.lookup(&root, &name) {
+        Ok(entry) => say_object(asked, &entry.object),
+        Err(refusal) => refuse(asked, refusal),
+    }
 }
 
 /// Declares a name.
@@ -62,45 +46,63 @@ fn declared(
     world.running.world.declare(path, object)
 }
 
+/// `device`, or `mutex COUNT`: what is declared.
+fn declaration(asked: &mut Exchange) -> NamedObject {
+    if asked.takes("device ") {
+        return NamedObject::Device;
+    }
+    if !asked.takes("mutex ") {
+        asked.misunderstand();
+    }
+    NamedObject::Mutex(number(asked))
+}
+
 /// `declare device PATH` or `declare mutex COUNT PATH`: declares a name, and gives the number of its declaration.
-fn declare(
-    alloc: Global,
-    world: &mut World<Traced<Sparse>>,
-    rest: &str,
-) -> Result<String, Trouble> {
-    let (kind, behind) = first_word(rest);
-    let (object, path) = match kind {
-        "device" => (NamedObject::Device, behind),
-        "mutex" => {
-            let (count, path) = first_word(behind);
-            (NamedObject::Mutex(number(count)?), path)
-        }
-        _ => return Err(Trouble::Unread),
-    };
-    let path = Path::from_text(alloc, path.as_bytes())?;
-    let number = declared(world, path, object)?;
-    Ok(format!(in alloc; "number {number}")?)
-}
-
-/// `remove below PATH`: removes the names below a path.
-fn remove(alloc: Global, world: &mut World<Traced<Sparse>>, rest: &str) -> Result<String, Trouble> {
-    let (_below, path) = first_word(rest);
-    let path = Path::from_text(alloc, path.as_bytes())?;
-    world.running.world.remove_below(&path);
-    done(alloc)
-}
-
-/// `integers`: how many bits integers have.
-fn integers(alloc: Global, world: &World<Traced<Sparse>>) -> Result<String, Trouble> {
-    match world.width() {
-        IntegerWidth::Bits32 => word(alloc, "32"),
-        IntegerWidth::Bits64 => word(alloc, "64"),
+fn declare(asked: &mut Exchange, world: &mut World<Traced<Sparse>>) {
+    let object = declaration(asked);
+    let path = path(asked);
+    match declared(world, path, object) {
+        Ok(number) => say_of(asked, "number", number),
+        Err(refusal) => refuse(asked, refusal),
     }
 }
 
-/// `space`: ends the world, which gives its registers back.
-fn give_back(alloc: Global, subject: &mut Evaluation) -> Result<String, Trouble> {
-    let space = subject.taken_space(alloc);
-    subject.stage = Stage::Bare(space);
-    done(alloc)
+/// `remove below PATH`: removes the names below a path.
+fn remove(asked: &mut Exchange, world: &mut World<Traced<Sparse>>) {
+    if !asked.takes("below ") {
+        asked.misunderstand();
+    }
+    let path = path(asked);
+    world.running.world.remove_below(&path);
+}
+
+/// `integers`: how many bits integers have.
+fn integers(width: IntegerWidth) -> &'static str {
+    match width {
+        IntegerWidth::Bits32 => "32",
+        IntegerWidth::Bits64 => "64",
+    }
+}
+
+/// A question of the names of a world.
+#[derive(Clone, Copy)]
+pub enum Ask {
+    Names,
+    Object,
+    Lookup,
+    Declare,
+    Remove,
+    Integers,
+}
+
+/// Answers a question of this group.
+pub fn answer(asked: &mut Exchange, world: &mut World<Traced<Sparse>>, ask: Ask) {
+    match ask {
+        Ask::Names => names(asked, world.names()),
+        Ask::Object => object(asked, world.names()),
+        Ask::Lookup => lookup(asked, world.names()),
+        Ask::Declare => declare(asked, world),
+        Ask::Remove => remove(asked, world),
+        Ask::Integers => asked.say(integers(world.width())),
+    }
 }

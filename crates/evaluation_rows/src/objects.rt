@@ -1,151 +1,148 @@
 //! The objects and the frames of a world.
-use crate::evaluation::Evaluation;
-use crate::reading::{first_word, number, object_number, slot, value};
-use crate::telling;
-use crate::telling::{done, truth};
-use crate::trouble::Trouble;
+use crate::answers::{refuse, say_done, say_of};
+use crate::reading::{number, object_number, octets, slot, value};
+use crate::telling::{say_content, say_outcome};
 use aml_meaning::World;
-use aml_objects::{Element, Elements, Octets, Value};
+use aml_objects::{Element, Elements, Value};
 use ar_space::{Refusal, Sparse};
 use space_trace::Traced;
 use std::alloc::Global;
-use test_rows::bytes_of;
-
-/// Puts a question of this group.
-pub fn ask(
-    alloc: Global,
-    subject: &mut Evaluation,
-    word: &str,
-    rest: &str,
-) -> Result<String, Trouble> {
-    let world = subject.world(alloc)?;
-    match word {
-        "string" => new_string(alloc, world, rest),
-        "buffer" => new_buffer(alloc, world, rest),
-        "package" => new_package(alloc, world, rest),
-        "copy" => copy(alloc, world, rest),
-        "contents" => contents(alloc, world, rest),
-        "count" => count(alloc, world, rest),
-        "write" => write(alloc, world, rest),
-        "holds" => holds(alloc, world, rest),
-        "frame" => open_frame(alloc, world, rest),
-        "slot" => slot_value(alloc, world, rest),
-        _ => close_frame(alloc, world),
-    }
-}
-
-/// Bytes as the library takes them.
-fn octets(alloc: Global, text: &str) -> Result<Octets, Trouble> {
-    Ok(Octets::from_vec(bytes_of(alloc, text)?))
-}
+use test_rows::Exchange;
 
 /// `string BYTES`: a new string.
-fn new_string(
-    alloc: Global,
-    world: &mut World<Traced<Sparse>>,
-    rest: &str,
-) -> Result<String, Trouble> {
-    let made = world.running.world.make_string(octets(alloc, rest)?)?;
-    telling::value(alloc, made)
+fn new_string(asked: &mut Exchange, world: &mut World<Traced<Sparse>>) {
+    let bytes = octets(asked);
+    say_outcome(asked, world.running.world.make_string(bytes));
 }
 
 /// `buffer BYTES`: a new buffer.
-fn new_buffer(
-    alloc: Global,
-    world: &mut World<Traced<Sparse>>,
-    rest: &str,
-) -> Result<String, Trouble> {
-    let made = world.running.world.make_buffer(octets(alloc, rest)?)?;
-    telling::value(alloc, made)
+fn new_buffer(asked: &mut Exchange, world: &mut World<Traced<Sparse>>) {
+    let bytes = octets(asked);
+    say_outcome(asked, world.running.world.make_buffer(bytes));
+}
+
+/// Elements of which there is one.
+fn one_element(asked: &mut Exchange, value: Value) -> Elements {
+    let mut elements = Elements::new(asked.alloc());
+    say_done(asked, elements.push(Element::Value(value)));
+    elements
 }
 
 /// `package VALUE`: a new package of one element.
-fn new_package(
-    alloc: Global,
-    world: &mut World<Traced<Sparse>>,
-    rest: &str,
-) -> Result<String, Trouble> {
-    let mut elements = Elements::new(alloc);
-    elements.push(Element::Value(value(rest)?))?;
-    let made = world.running.world.make_package(elements)?;
-    telling::value(alloc, made)
+fn new_package(asked: &mut Exchange, world: &mut World<Traced<Sparse>>) {
+    let value = value(asked);
+    let elements = one_element(asked, value);
+    say_outcome(asked, world.running.world.make_package(elements));
 }
 
 /// `copy VALUE`: a deep copy of a value.
-fn copy(alloc: Global, world: &mut World<Traced<Sparse>>, rest: &str) -> Result<String, Trouble> {
-    let made = world.running.world.copy(alloc, value(rest)?)?;
-    telling::value(alloc, made)
+fn copy(asked: &mut Exchange, world: &mut World<Traced<Sparse>>) {
+    let value = value(asked);
+    let outcome = world.running.world.copy(asked.alloc(), value);
+    say_outcome(asked, outcome);
 }
 
 /// `contents VALUE`: what a value holds.
-fn contents(alloc: Global, world: &World<Traced<Sparse>>, rest: &str) -> Result<String, Trouble> {
-    telling::content(alloc, world.running.world.content(value(rest)?))
+fn contents(asked: &mut Exchange, world: &World<Traced<Sparse>>) {
+    let value = value(asked);
+    say_content(asked, world.running.world.content(value));
+}
+
+/// The elements of the package with a number.
+fn elements(
+    alloc: Global,
+    world: &World<Traced<Sparse>>,
+    object: u32,
+) -> Result<Elements, Refusal> {
+    world.running.world.elements(alloc, object)
 }
 
 /// `count OBJECT`: how many elements the package with this number has.
-fn count(alloc: Global, world: &World<Traced<Sparse>>, rest: &str) -> Result<String, Trouble> {
-    let elements = world.running.world.elements(alloc, object_number(rest)?)?;
-    let count = elements.as_slice().len();
-    Ok(format!(in alloc; "{count}")?)
+fn count(asked: &mut Exchange, world: &World<Traced<Sparse>>) {
+    let object = object_number(asked);
+    match elements(asked.alloc(), world, object) {
+        Ok(elements) => asked.say_number(elements.as_slice().len() as u64),
+        Err(refusal) => refuse(asked, refusal),
+    }
 }
 
-/// Stores bytes into a string.
-fn write_string(
-    world: &mut World<Traced<Sparse>>,
-    object: u32,
-    bytes: Octets,
-) -> Result<(), Refusal> {
-    world.running.world.write_string(object, bytes)
+/// Stores the bytes that are left into the string whose number comes next.
+fn write_string(asked: &mut Exchange, world: &mut World<Traced<Sparse>>) {
+    let object = object_number(asked);
+    let bytes = octets(asked);
+    say_done(asked, world.running.world.write_string(object, bytes));
 }
 
-/// Stores bytes into a buffer.
-fn write_buffer(
-    world: &mut World<Traced<Sparse>>,
-    object: u32,
-    bytes: Octets,
-) -> Result<(), Refusal> {
-    world.running.world.write_buffer(object, bytes)
+/// Stores the bytes that are left into the buffer whose number comes next.
+fn write_buffer(asked: &mut Exchange, world: &mut World<Traced<Sparse>>) {
+    let object = object_number(asked);
+    let bytes = octets(asked);
+    say_done(asked, world.running.world.write_buffer(object, bytes));
 }
 
 /// `write string OBJECT BYTES` or `write buffer OBJECT BYTES`: stores bytes into an object.
-fn write(alloc: Global, world: &mut World<Traced<Sparse>>, rest: &str) -> Result<String, Trouble> {
-    let (kind, behind) = first_word(rest);
-    let (object, text) = first_word(behind);
-    let bytes = octets(alloc, text)?;
-    match kind {
-        "string" => write_string(world, object_number(object)?, bytes)?,
-        "buffer" => write_buffer(world, object_number(object)?, bytes)?,
-        _ => return Err(Trouble::Unread),
+fn write(asked: &mut Exchange, world: &mut World<Traced<Sparse>>) {
+    if asked.takes("string ") {
+        write_string(asked, world);
+    } else if asked.takes("buffer ") {
+        write_buffer(asked, world);
+    } else {
+        asked.misunderstand();
     }
-    done(alloc)
 }
 
 /// `holds VALUE`: whether all that a value names was given by the world.
-fn holds(alloc: Global, world: &World<Traced<Sparse>>, rest: &str) -> Result<String, Trouble> {
-    truth(alloc, world.is_valid(&value(rest)?))
+fn holds(asked: &mut Exchange, world: &World<Traced<Sparse>>) {
+    let value = value(asked);
+    asked.say_whether(world.is_valid(&value));
 }
 
 /// `frame VALUE`: opens the frame of a call in which Arg1 has this value, and gives its number.
-fn open_frame(
-    alloc: Global,
-    world: &mut World<Traced<Sparse>>,
-    rest: &str,
-) -> Result<String, Trouble> {
+fn open_frame(asked: &mut Exchange, world: &mut World<Traced<Sparse>>) {
     let mut arguments = [Value::Uninitialized; 7];
-    arguments[1] = value(rest)?;
-    let number = world.running.world.open_frame(arguments)?;
-    Ok(format!(in alloc; "frame {number}")?)
+    arguments[1] = value(asked);
+    match world.running.world.open_frame(arguments) {
+        Ok(number) => say_of(asked, "frame", number),
+        Err(refusal) => refuse(asked, refusal),
+    }
 }
 
 /// `slot FRAME local N` or `slot FRAME argument N`: what a slot of a frame holds.
-fn slot_value(alloc: Global, world: &World<Traced<Sparse>>, rest: &str) -> Result<String, Trouble> {
-    let (frame, behind) = first_word(rest);
-    let held = world.running.world.slot(number(frame)?, slot(behind)?)?;
-    telling::value(alloc, held)
+fn slot_value(asked: &mut Exchange, world: &World<Traced<Sparse>>) {
+    let frame = number(asked);
+    let slot = slot(asked);
+    say_outcome(asked, world.running.world.slot(frame, slot));
 }
 
-/// `close`: ends the last frame that was opened.
-fn close_frame(alloc: Global, world: &mut World<Traced<Sparse>>) -> Result<String, Trouble> {
-    world.running.world.close_frame();
-    done(alloc)
+/// A question of the objects and the frames of a world.
+#[derive(Clone, Copy)]
+pub enum Ask {
+    String,
+    Buffer,
+    Package,
+    Copy,
+    Contents,
+    Count,
+    Write,
+    Holds,
+    Frame,
+    Slot,
+    Close,
+}
+
+/// Answers a question of this group.
+pub fn answer(asked: &mut Exchange, world: &mut World<Traced<Sparse>>, ask: Ask) {
+    match ask {
+        Ask::String => new_string(asked, world),
+        Ask::Buffer => new_buffer(asked, world),
+        Ask::Package => new_package(asked, world),
+        Ask::Copy => copy(asked, world),
+        Ask::Contents => contents(asked, world),
+        Ask::Count => count(asked, world),
+        Ask::Write => write(asked, world),
+        Ask::Holds => holds(asked, world),
+        Ask::Frame => open_frame(asked, world),
+        Ask::Slot => slot_value(asked, world),
+        Ask::Close => world.running.world.close_frame(),
+    }
 }

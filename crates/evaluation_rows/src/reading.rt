@@ -1,135 +1,203 @@
-//! How rows write numbers, steps, places and values.
-use crate::trouble::Trouble;
-use aml_objects::{Reference, Slot, Value};
-use ar_space::Place;
+//! How rows write numbers, paths, places and values.
+use crate::answers::{add, extend, refuse};
+use aml_objects::{Octets, Reference, Slot, Value};
+use aml_path::Path;
+use ar_space::{Place, Refusal};
+use test_rows::Exchange;
 
-/// The value of a hexadecimal digit, if it is one.
-fn digit(character: u8) -> Option<u64> {
-    match character {
-        b'0'..=b'9' => Some(u64::from(character - b'0')),
-        b'A'..=b'F' => Some(u64::from(character - b'A') + 10),
-        _ => None,
-    }
-}
-
-/// A number that is written in hexadecimal digits, as addresses are.
-pub fn address(text: &str) -> Result<u64, Trouble> {
-    let mut number: u64 = 0;
-    for character in text.bytes() {
-        let value = digit(character).ok_or(Trouble::Unread)?;
-        let shifted = number.checked_mul(16).ok_or(Trouble::Unread)?;
-        number = shifted.checked_add(value).ok_or(Trouble::Unread)?;
-    }
-    Ok(number)
-}
-
-/// A number that is written in decimal digits, or behind `0x` in hexadecimal ones.
-pub fn number(text: &str) -> Result<u64, Trouble> {
-    match text.strip_prefix("0x") {
-        Some(digits) => address(digits),
-        None => text.parse::<u64>().map_err(|_| Trouble::Unread),
+/// A number in decimal digits, or behind `0x` in hexadecimal ones.
+pub fn number(asked: &mut Exchange) -> u64 {
+    if asked.takes("0x") {
+        asked.hexadecimal(u64::MAX)
+    } else {
+        asked.number(u64::MAX)
     }
 }
 
 /// A number that indexes or counts.
-pub fn index(text: &str) -> Result<usize, Trouble> {
-    text.parse::<usize>().map_err(|_| Trouble::Unread)
+pub fn count(asked: &mut Exchange) -> usize {
+    asked.number(u64::MAX) as usize
 }
 
 /// The number of an object.
-pub fn object_number(text: &str) -> Result<u32, Trouble> {
-    text.parse::<u32>().map_err(|_| Trouble::Unread)
+pub fn object_number(asked: &mut Exchange) -> u32 {
+    asked.number(0xFFFF_FFFF) as u32
 }
 
-/// The first word of a text, and what is behind it.
-pub fn first_word(text: &str) -> (&str, &str) {
-    text.split_once(' ').unwrap_or((text, ""))
+/// The steps of `in N steps`; there are 1000 where it is left out.
+pub fn steps(asked: &mut Exchange) -> u64 {
+    if !asked.takes("in ") {
+        return 1000;
+    }
+    let count = number(asked);
+    if asked.word() != "steps" {
+        asked.misunderstand();
+    }
+    count
 }
 
-/// The steps of a text `in N steps ..`, and what is behind them; there are 1000 where it says none.
-pub fn steps(text: &str) -> Result<(u64, &str), Trouble> {
-    match text.strip_prefix("in ") {
-        None => Ok((1000, text)),
-        Some(behind) => {
-            let (count, behind) = first_word(behind);
-            let (_steps, behind) = first_word(behind);
-            Ok((number(count)?, behind))
+/// What a path that was read comes to: the root where it is none.
+fn path_or_root(asked: &mut Exchange, read: Result<Path, Refusal>) -> Path {
+    match read {
+        Ok(path) => path,
+        Err(refusal) => {
+            refuse(asked, refusal);
+            Path::root(asked.alloc())
         }
     }
 }
 
-/// A byte that is written as a number in hexadecimal digits.
-fn small(text: &str) -> Result<u8, Trouble> {
-    u8::try_from(address(text)?).map_err(|_| Trouble::Unread)
+/// The path that a text is.
+pub fn path_of(asked: &mut Exchange, text: &str) -> Path {
+    let read = Path::from_text(asked.alloc(), text.as_bytes());
+    path_or_root(asked, read)
 }
 
-/// A number of 16 bits that is written in hexadecimal digits.
-fn port(text: &str) -> Result<u16, Trouble> {
-    u16::try_from(address(text)?).map_err(|_| Trouble::Unread)
+/// The path that the next word is.
+pub fn path(asked: &mut Exchange) -> Path {
+    let word = asked.word();
+    path_of(asked, word)
 }
 
-/// The register of a function: segment group, bus, device, function and register; and what is behind it.
-fn register(text: &str) -> Result<(Place, &str), Trouble> {
-    let (seg, behind) = first_word(text);
-    let (bus, behind) = first_word(behind);
-    let (dev, behind) = first_word(behind);
-    let (func, behind) = first_word(behind);
-    let (reg, behind) = first_word(behind);
-    let place = Place::Pci {
-        seg: port(seg)?,
-        bus: small(bus)?,
-        dev: small(dev)?,
-        func: small(func)?,
-        reg: port(reg)?,
-    };
-    Ok((place, behind))
+/// All that is left, as the bytes of an object.
+pub fn octets(asked: &mut Exchange) -> Octets {
+    Octets::from_vec(asked.bytes())
 }
 
-/// The place in an address space that a text begins with, and what is behind it.
-pub fn place<'a>(space: &str, text: &'a str) -> Result<(Place, &'a str), Trouble> {
-    let (first, behind) = first_word(text);
+/// Bytes that are those of a text.
+fn text_bytes(asked: &mut Exchange, text: &str) -> Octets {
+    let mut bytes = Vec::new(asked.alloc());
+    extend(asked, &mut bytes, text.as_bytes());
+    Octets::from_vec(bytes)
+}
+
+/// `N TEXT`: a text, so often.
+pub fn texts(asked: &mut Exchange) -> Vec<Octets> {
+    let count = count(asked);
+    let text = asked.rest();
+    let mut list = Vec::new(asked.alloc());
+    for _ in 0..count {
+        let bytes = text_bytes(asked, text);
+        add(asked, &mut list, bytes);
+    }
+    list
+}
+
+/// An address space.
+#[derive(Clone, Copy)]
+pub enum SpaceKind {
+    Io,
+    Memory,
+    Pci,
+}
+
+/// The address spaces, by their words.
+const SPACES: [(&str, SpaceKind); 3] = [
+    ("io", SpaceKind::Io),
+    ("memory", SpaceKind::Memory),
+    ("pci", SpaceKind::Pci),
+];
+
+/// The address space that the next word is.
+pub fn space(asked: &mut Exchange) -> SpaceKind {
+    let word = asked.word();
+    asked.one_of(&SPACES, word, SpaceKind::Io)
+}
+
+/// A number of 16 bits in hexadecimal digits.
+fn short(asked: &mut Exchange) -> u16 {
+    asked.hexadecimal(0xFFFF) as u16
+}
+
+/// A number of 8 bits in hexadecimal digits.
+fn tiny(asked: &mut Exchange) -> u8 {
+    asked.hexadecimal(0xFF) as u8
+}
+
+/// A place in an address space: `PORT`, `ADDRESS`, or `SEGMENT BUS DEVICE FUNCTION REGISTER`.
+pub fn place(asked: &mut Exchange, space: SpaceKind) -> Place {
     match space {
-        "io" => Ok((Place::Io(port(first)?), behind)),
-        "memory" => Ok((Place::Memory(address(first)?), behind)),
-        "pci" => register(text),
-        _ => Err(Trouble::Unread),
+        SpaceKind::Io => Place::Io(short(asked)),
+        SpaceKind::Memory => Place::Memory(asked.hexadecimal(u64::MAX)),
+        SpaceKind::Pci => Place::Pci {
+            seg: short(asked),
+            bus: tiny(asked),
+            dev: tiny(asked),
+            func: tiny(asked),
+            reg: short(asked),
+        },
     }
 }
 
 /// A slot of a frame: `local N` or `argument N`.
-pub fn slot(text: &str) -> Result<Slot, Trouble> {
-    let (kind, digits) = first_word(text);
-    match kind {
-        "local" => Ok(Slot::Local(small(digits)?)),
-        "argument" => Ok(Slot::Argument(small(digits)?)),
-        _ => Err(Trouble::Unread),
+pub fn slot(asked: &mut Exchange) -> Slot {
+    if asked.takes("local ") {
+        return Slot::Local(tiny(asked));
     }
+    if !asked.takes("argument ") {
+        asked.misunderstand();
+    }
+    Slot::Argument(tiny(asked))
+}
+
+/// A slot behind the number of its frame, as a reference.
+fn slot_reference(asked: &mut Exchange) -> Reference {
+    let frame = number(asked);
+    Reference::Slot(slot(asked), frame)
 }
 
 /// A reference: `name N`, `slot N local N`, `element N N` or `byte N N`.
-fn reference(text: &str) -> Result<Reference, Trouble> {
-    let (kind, behind) = first_word(text);
-    let (first, second) = first_word(behind);
-    match kind {
-        "name" => Ok(Reference::Name(number(first)?)),
-        "slot" => Ok(Reference::Slot(slot(second)?, number(first)?)),
-        "element" => Ok(Reference::Element(object_number(first)?, index(second)?)),
-        "byte" => Ok(Reference::Byte(object_number(first)?, index(second)?)),
-        _ => Err(Trouble::Unread),
+fn reference(asked: &mut Exchange) -> Reference {
+    match asked.word() {
+        "name" => Reference::Name(number(asked)),
+        "slot" => slot_reference(asked),
+        "element" => Reference::Element(object_number(asked), count(asked)),
+        "byte" => Reference::Byte(object_number(asked), count(asked)),
+        _ => {
+            asked.misunderstand();
+            Reference::Name(0)
+        }
     }
 }
 
+/// What a value is.
+#[derive(Clone, Copy)]
+enum ValueKind {
+    Uninitialized,
+    Integer,
+    String,
+    Buffer,
+    Package,
+    Reference,
+}
+
+/// What values are, by their words.
+const VALUES: [(&str, ValueKind); 6] = [
+    ("uninitialized", ValueKind::Uninitialized),
+    ("integer", ValueKind::Integer),
+    ("string", ValueKind::String),
+    ("buffer", ValueKind::Buffer),
+    ("package", ValueKind::Package),
+    ("reference", ValueKind::Reference),
+];
+
+/// `object N`: the number of an object.
+fn object(asked: &mut Exchange) -> u32 {
+    if !asked.takes("object ") {
+        asked.misunderstand();
+    }
+    object_number(asked)
+}
+
 /// A value of a world: `integer N`, `string object N`, `buffer object N`, `package object N`, a reference, `uninitialized`.
-pub fn value(text: &str) -> Result<Value, Trouble> {
-    let (kind, behind) = first_word(text);
-    let (_object, digits) = first_word(behind);
-    match kind {
-        "uninitialized" => Ok(Value::Uninitialized),
-        "integer" => Ok(Value::Integer(number(behind)?)),
-        "string" => Ok(Value::String(object_number(digits)?)),
-        "buffer" => Ok(Value::Buffer(object_number(digits)?)),
-        "package" => Ok(Value::Package(object_number(digits)?)),
-        "reference" => Ok(Value::Reference(reference(behind)?)),
-        _ => Err(Trouble::Unread),
+pub fn value(asked: &mut Exchange) -> Value {
+    let word = asked.word();
+    match asked.one_of(&VALUES, word, ValueKind::Uninitialized) {
+        ValueKind::Uninitialized => Value::Uninitialized,
+        ValueKind::Integer => Value::Integer(number(asked)),
+        ValueKind::String => Value::String(object(asked)),
+        ValueKind::Buffer => Value::Buffer(object(asked)),
+        ValueKind::Package => Value::Package(object(asked)),
+        ValueKind::Reference => Value::Reference(reference(asked)),
     }
 }

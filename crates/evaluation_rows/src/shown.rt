@@ -1,122 +1,117 @@
 //! Answers in words: accesses, and what stands at a path.
-use crate::telling::{list, listed, value, word};
-use crate::trouble::Trouble;
+use crate::answers::{push_path, say_of, say_path};
+use crate::telling::say_value;
 use acpi_machine::Kind;
 use aml_objects::{Method, MethodBody, NamedObject};
 use aml_path::Path;
 use ar_space::{Place, Width};
 use space_trace::Access;
-use std::alloc::Global;
+use test_rows::Exchange;
 
-/// A place of an address space.
-fn place(alloc: Global, place: Place) -> Result<String, Trouble> {
+/// Answers a place of an address space.
+fn say_place(asked: &mut Exchange, place: Place) {
     match place {
-        Place::Memory(address) => Ok(format!(in alloc; "memory {address:X}")?),
-        Place::Io(port) => Ok(format!(in alloc; "io {port:X}")?),
+        Place::Memory(address) => {
+            asked.say("memory");
+            asked.say_hexadecimal(address);
+        }
+        Place::Io(port) => {
+            asked.say("io");
+            asked.say_hexadecimal(u64::from(port));
+        }
         Place::Pci {
             seg,
             bus,
             dev,
             func,
             reg,
-        } => Ok(format!(in alloc; "pci {seg:X} {bus:X} {dev:X} {func:X} {reg:X}")?),
+        } => {
+            asked.say("pci");
+            asked.say_hexadecimal(u64::from(seg));
+            asked.say_hexadecimal(u64::from(bus));
+            asked.say_hexadecimal(u64::from(dev));
+            asked.say_hexadecimal(u64::from(func));
+            asked.say_hexadecimal(u64::from(reg));
+        }
     }
 }
 
-/// How many bits an access has.
-fn bits(width: Width) -> u8 {
-    match width {
-        Width::W8 => 8,
-        Width::W16 => 16,
-        Width::W32 => 32,
-        Width::W64 => 64,
-    }
+/// Answers where an access is, and how many bits it has.
+fn say_register(asked: &mut Exchange, place: Place, width: Width) {
+    say_place(asked, place);
+    asked.say_number(u64::from(width.bits()));
 }
 
-/// An access.
-fn access(alloc: Global, access: Access) -> Result<String, Trouble> {
+/// Answers an access.
+fn say_access(asked: &mut Exchange, access: Access) {
     match access {
         Access::Read(at, width) => {
-            let at = place(alloc, at)?;
-            let bits = bits(width);
-            Ok(format!(in alloc; "read {at} {bits}")?)
+            asked.push("read");
+            say_register(asked, at, width);
         }
         Access::Write(at, width, number) => {
-            let at = place(alloc, at)?;
-            let bits = bits(width);
-            Ok(format!(in alloc; "write {at} {bits} {number:X}")?)
+            asked.push("write");
+            say_register(asked, at, width);
+            asked.say_hexadecimal(number);
         }
     }
 }
 
-/// Accesses in their order.
-pub fn accesses(alloc: Global, made: &[Access]) -> Result<String, Trouble> {
-    let mut text = String::new(alloc);
-    for one in made {
-        let item = access(alloc, *one)?;
-        list(&mut text, item.as_str())?;
+/// Answers accesses in their order, or `none`.
+pub fn say_accesses(asked: &mut Exchange, made: &[Access]) {
+    if made.is_empty() {
+        asked.say("none");
     }
-    listed(alloc, text)
+    for access in made {
+        asked.separate(", ");
+        say_access(asked, *access);
+    }
 }
 
-/// Paths in their order.
-pub fn paths(alloc: Global, found: &[Path]) -> Result<String, Trouble> {
-    let mut text = String::new(alloc);
+/// Answers paths in their order, or `none`.
+pub fn say_paths(asked: &mut Exchange, found: &[Path]) {
+    if found.is_empty() {
+        asked.say("none");
+    }
     for path in found {
-        let item = path.text(alloc)?;
-        list(&mut text, item.as_str())?;
-    }
-    listed(alloc, text)
-}
-
-/// A byte, if one stands there.
-pub fn byte(alloc: Global, byte: Option<u8>) -> Result<String, Trouble> {
-    match byte {
-        Some(byte) => Ok(format!(in alloc; "{byte:02X}")?),
-        None => word(alloc, "none"),
+        asked.separate(", ");
+        push_path(asked, path);
     }
 }
 
-/// A control method: how many arguments it takes, and whether it is the predefined one.
-fn method(alloc: Global, method: &Method) -> Result<String, Trouble> {
-    let count = method.flags.arguments();
-    match &method.body {
-        MethodBody::Osi => Ok(format!(in alloc; "predefined method {count}")?),
-        MethodBody::Aml(_) => Ok(format!(in alloc; "method {count}")?),
-    }
+/// Answers a control method: how many arguments it takes, and whether it is the predefined one.
+fn say_method(asked: &mut Exchange, method: &Method) {
+    let word = match &method.body {
+        MethodBody::Osi => "predefined method",
+        MethodBody::Aml(_) => "method",
+    };
+    say_of(asked, word, u64::from(method.flags.arguments()));
 }
 
-/// What a name was declared as.
-pub fn object(alloc: Global, object: &NamedObject) -> Result<String, Trouble> {
+/// The word of what a name was declared as, where that says nothing more.
+fn object_word(object: &NamedObject) -> &'static str {
     match object {
-        NamedObject::Scope => word(alloc, "scope"),
-        NamedObject::Device => word(alloc, "device"),
-        NamedObject::Processor => word(alloc, "processor"),
-        NamedObject::PowerResource => word(alloc, "power resource"),
-        NamedObject::ThermalZone => word(alloc, "thermal zone"),
-        NamedObject::Method(one) => method(alloc, one),
-        NamedObject::Data(held) => value(alloc, *held),
-        NamedObject::OperationRegion(_) => word(alloc, "region"),
-        NamedObject::FieldUnit(_) => word(alloc, "field"),
-        NamedObject::BufferField(_) => word(alloc, "buffer field"),
-        NamedObject::Mutex(count) => Ok(format!(in alloc; "mutex {count}")?),
-        NamedObject::Event => word(alloc, "event"),
-        NamedObject::Alias(path) => alias(alloc, path),
+        NamedObject::Scope => "scope",
+        NamedObject::Device => "device",
+        NamedObject::Processor => "processor",
+        NamedObject::PowerResource => "power resource",
+        NamedObject::ThermalZone => "thermal zone",
+        NamedObject::OperationRegion(_) => "region",
+        NamedObject::FieldUnit(_) => "field",
+        NamedObject::BufferField(_) => "buffer field",
+        NamedObject::Event => "event",
+        _ => "other",
     }
 }
 
-/// Another name for what stands at a path.
-fn alias(alloc: Global, path: &Path) -> Result<String, Trouble> {
-    let text = path.text(alloc)?;
-    Ok(format!(in alloc; "alias {text}")?)
-}
-
-/// What a machine shows of a name.
-pub fn kind(alloc: Global, kind: Kind<'_>) -> Result<String, Trouble> {
-    match kind {
-        Kind::Method(count) => Ok(format!(in alloc; "method {count}")?),
-        Kind::Alias(path) => alias(alloc, path),
-        _ => word(alloc, kind_word(kind)),
+/// Answers what a name was declared as.
+pub fn say_object(asked: &mut Exchange, object: &NamedObject) {
+    match object {
+        NamedObject::Method(method) => say_method(asked, method),
+        NamedObject::Data(held) => say_value(asked, *held),
+        NamedObject::Mutex(count) => say_of(asked, "mutex", *count),
+        NamedObject::Alias(path) => say_path(asked, "alias", path),
+        _ => asked.say(object_word(object)),
     }
 }
 
@@ -140,5 +135,14 @@ fn kind_word(kind: Kind<'_>) -> &'static str {
         Kind::Mutex => "mutex",
         Kind::Event => "event",
         _ => "other",
+    }
+}
+
+/// Answers what a machine shows of a name.
+pub fn say_kind(asked: &mut Exchange, kind: Kind<'_>) {
+    match kind {
+        Kind::Method(count) => say_of(asked, "method", u64::from(count)),
+        Kind::Alias(path) => say_path(asked, "alias", path),
+        _ => asked.say(kind_word(kind)),
     }
 }

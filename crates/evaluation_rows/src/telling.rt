@@ -1,10 +1,9 @@
 //! Answers in words: what evaluation hands out, and values of a world.
-use crate::trouble::Trouble;
+use crate::answers::{push_path, refuse, say_of};
 use aml_meaning::Datum;
 use aml_objects::{Content, Reference, Slot, Value};
-use aml_path::Path;
-use std::alloc::Global;
-use test_rows::hexadecimal;
+use ar_space::Refusal;
+use test_rows::Exchange;
 
 /// How many bytes an answer shows at most.
 const MOST_BYTES: usize = 256;
@@ -12,146 +11,120 @@ const MOST_BYTES: usize = 256;
 /// How deep packages are shown within packages.
 const DEPTH: u8 = 4;
 
-/// A word as an answer.
-pub fn word(alloc: Global, text: &str) -> Result<String, Trouble> {
-    Ok(text.to_string(alloc)?)
+/// Answers an integer.
+fn push_integer(asked: &mut Exchange, number: u64) {
+    let text = format!(in asked.alloc(); "integer 0x{number:X}");
+    asked.push_text(text);
 }
 
-/// What a question answers that only has to go well.
-pub fn done(alloc: Global) -> Result<String, Trouble> {
-    word(alloc, "done")
-}
-
-/// Whether something is so.
-pub fn truth(alloc: Global, so: bool) -> Result<String, Trouble> {
-    word(alloc, if so { "yes" } else { "no" })
-}
-
-/// An integer.
-pub fn integer(alloc: Global, number: u64) -> Result<String, Trouble> {
-    Ok(format!(in alloc; "integer 0x{number:X}")?)
-}
-
-/// Puts an item behind a list, with a comma where it is not the first.
-pub fn list(text: &mut String, item: &str) -> Result<(), Trouble> {
-    if !text.is_empty() {
-        text.push_str(", ")?;
-    }
-    text.push_str(item)?;
-    Ok(())
-}
-
-/// A list as an answer: `none` where it is empty.
-pub fn listed(alloc: Global, text: String) -> Result<String, Trouble> {
-    if text.is_empty() {
-        word(alloc, "none")
+/// Answers bytes behind a word; of many only how many they are.
+fn push_bytes(asked: &mut Exchange, kind: &str, bytes: &[u8]) {
+    asked.push(kind);
+    if bytes.len() > MOST_BYTES {
+        say_of(asked, "of", bytes.len() as u64);
+        asked.say("bytes");
     } else {
-        Ok(text)
+        asked.say_bytes(bytes);
     }
 }
 
-/// Bytes behind a word; of many only how many they are.
-pub fn bytes(alloc: Global, kind: &str, bytes: &[u8]) -> Result<String, Trouble> {
-    let count = bytes.len();
-    if count > MOST_BYTES {
-        return Ok(format!(in alloc; "{kind} of {count} bytes")?);
-    }
-    let digits = hexadecimal(alloc, bytes)?;
-    Ok(format!(in alloc; "{kind} {digits}")?)
-}
-
-/// A package that is handed out: how many elements it has, and the elements where they are shown.
-fn package(alloc: Global, count: usize, elements: &str) -> Result<String, Trouble> {
-    if elements.is_empty() {
-        Ok(format!(in alloc; "package {count}")?)
-    } else {
-        Ok(format!(in alloc; "package {count} ({elements})")?)
-    }
-}
-
-/// A name that is handed out.
-fn name(alloc: Global, path: &Path) -> Result<String, Trouble> {
-    let text = path.text(alloc)?;
-    Ok(format!(in alloc; "name {text}")?)
-}
-
-/// What is handed out, but for the elements of a package.
-fn single(alloc: Global, datum: &Datum) -> Result<String, Trouble> {
+/// Answers what is handed out, but for the elements of a package.
+fn push_single(asked: &mut Exchange, datum: &Datum) {
     match datum {
-        Datum::Nothing => word(alloc, "nothing"),
-        Datum::Integer(number) => integer(alloc, *number),
-        Datum::Text(text) => bytes(alloc, "string", text.as_slice()),
-        Datum::Bytes(octets) => bytes(alloc, "buffer", octets.as_slice()),
-        Datum::Package(elements) => package(alloc, elements.len(), ""),
-        Datum::Named(path) => name(alloc, path),
-        Datum::Reference => word(alloc, "reference"),
+        Datum::Nothing => asked.push("nothing"),
+        Datum::Integer(number) => push_integer(asked, *number),
+        Datum::Text(text) => push_bytes(asked, "string", text.as_slice()),
+        Datum::Bytes(octets) => push_bytes(asked, "buffer", octets.as_slice()),
+        Datum::Package(elements) => push_count(asked, elements.as_slice()),
+        Datum::Named(path) => {
+            asked.push("name ");
+            push_path(asked, path);
+        }
+        Datum::Reference => asked.push("reference"),
     }
 }
 
-/// What is handed out, with packages shown so deep.
-fn datum_within(alloc: Global, depth: u8, datum: &Datum) -> Result<String, Trouble> {
+/// Answers how many elements a package has.
+fn push_count(asked: &mut Exchange, elements: &[Datum]) {
+    asked.push("package");
+    asked.say_number(elements.len() as u64);
+}
+
+/// Answers what is handed out, with packages shown so deep.
+fn push_within(asked: &mut Exchange, depth: u8, datum: &Datum) {
+    push_single(asked, datum);
     let Datum::Package(elements) = datum else {
-        return single(alloc, datum);
+        return;
     };
-    if depth == 0 {
-        return single(alloc, datum);
+    if depth == 0 || elements.is_empty() {
+        return;
     }
-    let mut text = String::new(alloc);
-    for element in elements.iter() {
-        let item = datum_within(alloc, depth - 1, element)?;
-        list(&mut text, item.as_str())?;
+    for (index, element) in elements.iter().enumerate() {
+        asked.push(if index == 0 { " (" } else { ", " });
+        push_within(asked, depth - 1, element);
     }
-    package(alloc, elements.len(), text.as_str())
+    asked.push(")");
 }
 
-/// What evaluation hands out.
-pub fn datum(alloc: Global, datum: &Datum) -> Result<String, Trouble> {
-    datum_within(alloc, DEPTH, datum)
+/// Answers what evaluation hands out.
+pub fn push_datum(asked: &mut Exchange, datum: &Datum) {
+    push_within(asked, DEPTH, datum);
 }
 
-/// A slot of a frame.
-fn slot(alloc: Global, slot: Slot) -> Result<String, Trouble> {
+/// Answers a slot of a frame.
+fn say_slot(asked: &mut Exchange, slot: Slot) {
     match slot {
-        Slot::Local(number) => Ok(format!(in alloc; "local {number}")?),
-        Slot::Argument(number) => Ok(format!(in alloc; "argument {number}")?),
+        Slot::Local(number) => say_of(asked, "local", u64::from(number)),
+        Slot::Argument(number) => say_of(asked, "argument", u64::from(number)),
     }
 }
 
-/// A reference within a world.
-fn reference(alloc: Global, reference: Reference) -> Result<String, Trouble> {
+/// Answers a reference within a world.
+fn say_reference(asked: &mut Exchange, reference: Reference) {
+    asked.say("reference");
     match reference {
-        Reference::Name(number) => Ok(format!(in alloc; "reference name {number}")?),
+        Reference::Name(number) => say_of(asked, "name", number),
         Reference::Slot(place, frame) => {
-            let place = slot(alloc, place)?;
-            Ok(format!(in alloc; "reference slot {frame} {place}")?)
+            say_of(asked, "slot", frame);
+            say_slot(asked, place);
         }
         Reference::Element(object, index) => {
-            Ok(format!(in alloc; "reference element {object} {index}")?)
+            say_of(asked, "element", u64::from(object));
+            asked.say_number(index as u64);
         }
         Reference::Byte(object, index) => {
-            Ok(format!(in alloc; "reference byte {object} {index}")?)
+            say_of(asked, "byte", u64::from(object));
+            asked.say_number(index as u64);
         }
     }
 }
 
-/// A value of a world.
-pub fn value(alloc: Global, value: Value) -> Result<String, Trouble> {
+/// Answers a value of a world.
+pub fn say_value(asked: &mut Exchange, value: Value) {
     match value {
-        Value::Uninitialized => word(alloc, "uninitialized"),
-        Value::Integer(number) => integer(alloc, number),
-        Value::String(object) => Ok(format!(in alloc; "string object {object}")?),
-        Value::Buffer(object) => Ok(format!(in alloc; "buffer object {object}")?),
-        Value::Package(object) => Ok(format!(in alloc; "package object {object}")?),
-        Value::Reference(other) => reference(alloc, other),
+        Value::Uninitialized => asked.say("uninitialized"),
+        Value::Integer(number) => push_integer(asked, number),
+        Value::String(object) => say_of(asked, "string object", u64::from(object)),
+        Value::Buffer(object) => say_of(asked, "buffer object", u64::from(object)),
+        Value::Package(object) => say_of(asked, "package object", u64::from(object)),
+        Value::Reference(other) => say_reference(asked, other),
     }
 }
 
-/// What a value holds.
-pub fn content(alloc: Global, content: Content) -> Result<String, Trouble> {
+/// Answers a value of a world, or the refusal.
+pub fn say_outcome(asked: &mut Exchange, outcome: Result<Value, Refusal>) {
+    match outcome {
+        Ok(value) => say_value(asked, value),
+        Err(refusal) => refuse(asked, refusal),
+    }
+}
+
+/// Answers what a value holds.
+pub fn say_content(asked: &mut Exchange, content: Content<'_>) {
     match content {
-        Content::Integer(number) => integer(alloc, number),
-        Content::String(text) => bytes(alloc, "string", text),
-        Content::Buffer(octets) => bytes(alloc, "buffer", octets),
-        Content::Other => word(alloc, "other"),
+        Content::Integer(number) => push_integer(asked, number),
+        Content::String(text) => push_bytes(asked, "string", text),
+        Content::Buffer(octets) => push_bytes(asked, "buffer", octets),
+        Content::Other => asked.say("other"),
     }
 }

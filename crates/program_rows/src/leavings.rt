@@ -3,7 +3,7 @@ use std::alloc::{AllocError, Global};
 use test_rows::hexadecimal;
 
 /// What a run leaves, or is to leave.
-#[derive(Debug, Drop)]
+#[derive(Drop)]
 pub struct Leavings {
     pub status: u8,
     pub is_told: bool,

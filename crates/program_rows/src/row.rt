@@ -12,7 +12,7 @@ use std::rt::Files;
 use test_rows::{Question, Subject, difference};
 
 /// Bytes that a run is to leave: just these, or any but none.
-#[derive(Debug, Drop)]
+#[derive(Drop)]
 pub struct Wanted {
     pub bytes: Vec<u8>,
     pub is_any: bool,
@@ -42,7 +42,7 @@ impl Wanted {
 }
 
 /// What a row says.
-#[derive(Debug, Drop)]
+#[derive(Drop)]
 pub struct Row {
     pub words: Vec<String>,
     pub input: Vec<u8>,

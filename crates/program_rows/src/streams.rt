@@ -4,7 +4,7 @@ use std::io;
 use std::io::{Read, Write};
 
 /// After how many calls a stream fails, and with what.
-#[derive(Clone, Copy, Debug)]
+#[derive(Clone, Copy)]
 pub struct Fault {
     pub calls: u64,
     pub kind: io::ErrorKind,
@@ -51,7 +51,7 @@ fn kind_named(name: &str) -> Option<io::ErrorKind> {
 }
 
 /// The faults of the input, the output and the errors.
-#[derive(Clone, Copy, Debug)]
+#[derive(Clone, Copy)]
 pub struct Faults {
     pub reader: Fault,
     pub output: Fault,
