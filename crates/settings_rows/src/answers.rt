@@ -74,7 +74,7 @@ fn configured(asked: &mut Exchange, row: &mut Row) {
     match initialized(asked.alloc(), row.text.as_slice(), pass) {
         Ok(mut machine) => {
             route(asked, &mut machine, dry);
-            row.machine = Some(machine);
+            drop(row.machine.replace(machine));
         }
         Err(refusal) => refuse(asked, refusal),
     }
