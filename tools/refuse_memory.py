@@ -130,7 +130,7 @@ def main(words):
     plan = [(["route"], it) for it in machines]
     if not machines:
         two, report = f"{at}/two-links.txt", f"{at}/two-links.report"
-        plan = [(["route"], two), (["names"], two), (["check"], report), (["route", "--dry"], f"{at}/i440fx.txt"), (["eval", "\\_SB_.PCI0._PRT"], f"{at}/i440fx.txt")]
+        plan = [(["route"], two), (["names"], two), (["check"], report), (["route"], f"{at}/index.txt"), (["route", "--dry"], f"{at}/i440fx.txt"), (["eval", "\\_SB_.PCI0._PRT"], f"{at}/i440fx.txt")]
     with tempfile.TemporaryDirectory(prefix="refuse-memory-") as folder:
         runs = Runs(program, folder)
         for arguments, file in plan:
