@@ -3,7 +3,7 @@ use Rattle.std.specs.Prelude.{Bool, true, false, Ok, Err, if◌then◌else◌}
 use Rattle.ar_space.specs.declared.refusal.Refusal.{Refusal}
 use Rattle.ar_space.specs.Outcome.{Outcome}
 use Rattle.ar_space.specs.Change.{Change, give, stop, settle, go_on, ◌>>=◌}
-use Rattle.aml_laws.proofs.CleanOutcomes.{OfNoSpace, Clean}
+use Rattle.aml_laws.proofs.CleanOutcomes.{CleanRefusal, Clean}
 
 pub record AllClean {H A : Type 0} (m : Change H A) : Type 0 where
   pub clean : (h : H) → Clean (m h).0
@@ -13,7 +13,7 @@ module _ {H : Type 0} where
   unfolding give
   give_clean a = record { clean = λ h. tt }
 
-  pub stop_clean : {A : Type 0} (e : Refusal) → OfNoSpace e → AllClean {H = H} {A = A} (stop e)
+  pub stop_clean : {A : Type 0} (e : Refusal) → CleanRefusal e → AllClean {H = H} {A = A} (stop e)
   unfolding stop
   stop_clean e apart = record { clean = λ h. apart }
 

@@ -1,16 +1,25 @@
--- Outcomes that are no fault of the register space. A lemma `x_clean` says so of each outcome of x, whatever the state is.
+-- Outcomes that are no fault of the register space, and none of the reader or the writer of a run. A lemma `x_clean` says so of each
+-- outcome of x, whatever the state is.
 use Rattle.std.specs.Prelude.{Bool, true, false, Ok, Err, if◌then◌else◌}
+use Rattle.ar_space.specs.declared.refusal.InputFault.{InputFault}
+use Rattle.ar_space.specs.declared.refusal.InputFault.TheVariants.{MachineLine}
 use Rattle.ar_space.specs.declared.refusal.Refusal.{Refusal}
 use Rattle.ar_space.specs.declared.refusal.Refusal.TheVariants as refusals
 use Rattle.ar_space.specs.Outcome.{Outcome, seen, ◌>>=◌}
 
-abbrev pub OfNoSpace : Refusal → Type 0
-OfNoSpace (refusals.Space fault) = ⊥
-OfNoSpace _ = Unit {0}
+-- a bad line, and no fault of a read, of a write or of the length
+abbrev pub IsOfLine : InputFault → Type 0
+IsOfLine (MachineLine n) = Unit {0}
+IsOfLine _ = ⊥
+
+abbrev pub CleanRefusal : Refusal → Type 0
+CleanRefusal (refusals.Space fault) = ⊥
+CleanRefusal (refusals.Input fault) = IsOfLine fault
+CleanRefusal _ = Unit {0}
 
 abbrev pub Clean : {A : Type 0} → Outcome A → Type 0
 Clean (Ok a) = Unit {0}
-Clean (Err e) = OfNoSpace e
+Clean (Err e) = CleanRefusal e
 
 pub if_clean : {A : Type 0} (b : Bool) (x y : Outcome A) → Clean x → Clean y → Clean (if b then x else y)
 if_clean true x y h i = h

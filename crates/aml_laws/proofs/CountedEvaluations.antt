@@ -1,4 +1,5 @@
--- A table that is loaded, and a caller that is answered, begin no more terms than there are steps; counting changes nothing else.
+-- A table that is loaded, an object that is evaluated, and a caller that is answered, begin no more terms than there are steps; counting
+-- changes nothing else.
 use Rattle.std.specs.Prelude.{◌≡◌, ℕ, zero, suc, ◌==◌, ◌+◌, ◌-◌, ◌^◌, ◌≤◌, List, [], ◌∷◌, length, Ok, Err, refl}
 use Rattle.std.proofs.Common.{arith, ap, ◌∙◌}
 use Rattle.ar_space.specs.Accesses.{Accesses}
@@ -24,10 +25,10 @@ use Rattle.aml_meaning.specs.Run.{Run}
 use Rattle.aml_meaning.specs.Slots.{opened, closed}
 use Rattle.aml_meaning.specs.Importing.{reference_to, imported_by, each_imported, elements_imported, package_imported, taken_back, imported, all_imported}
 use Rattle.aml_meaning.specs.Exporting.{text_exported, bytes_exported, path_of, reference_exported, name_use, value_exported, use_exported, name_exported, held_exported, element_exported, each_exported, elements_exported, package_exported, exported}
-use Rattle.aml_meaning.specs.Calling.{released, ending, with_steps, framed, in_frame, terms_kept, table_terms, at_root, table_run, loaded, value_of, answer_exported, answered}
+use Rattle.aml_meaning.specs.Calling.{released, ending, with_steps, framed, in_frame, terms_kept, table_terms, at_root, table_run, loaded, value_of, called, with_rest, counted, evaluated, answer_exported, answered}
 use Rattle.aml_meaning.specs.Meaning.{meaning}
 use Rattle.aml_laws.specs.Counted.{beside_counter, terms_begun, without_counter, counted_meaning}
-use Rattle.aml_laws.specs.CountedEvaluations.{counted_at_root, counted_table_run, counted_loaded, counted_value_of, counted_use_exported, counted_held_exported, counted_element_exported, counted_each_exported, counted_elements_exported, counted_package_exported, counted_answer_exported, counted_answered}
+use Rattle.aml_laws.specs.CountedEvaluations.{counted_at_root, counted_table_run, counted_loaded, counted_value_of, counted_called, counted_evaluated, counted_use_exported, counted_held_exported, counted_element_exported, counted_each_exported, counted_elements_exported, counted_package_exported, counted_answer_exported, counted_answered}
 use Rattle.aml_laws.proofs.CountedChanges.{Counts, RunCounts, give_counts, stop_counts, then_counts, direct_counts, either_branch_counts, on_objects_counts, lift_counts, charge_counts}
 use Rattle.aml_laws.proofs.CountedOperations.{integer_kept_counts, entry_found_counts, osi_answered_counts, invocation_found_counts}
 use Rattle.aml_laws.proofs.CountedFields.{field_given_counts}
@@ -73,6 +74,10 @@ module _ {S A : Type 0} (steps : ℕ) where
     }
 
 module _ {S : Type 0} where
+  counted_begins : (steps : ℕ) (m : Run (S × ℕ) Value) (k : Run S Value) → RunCounts m k → BeginsWithin steps (counted steps m) (counted steps k)
+  unfolding counted
+  counted_begins steps m k h = record { same = λ w. ap (λ r. (with_rest r.0 r.1.1, r.1.0)) (h.same (w, steps)); most = λ w. let l = h.leads (w, steps) in omega (arith, l) }
+
   opened_counts : (vs : List Value) → Counts {S = S} (opened vs) (opened vs)
   unfolding opened
   opened_counts vs = either_branch_counts (λ w. w.started == 2 ^ 64 - 1) _ _ _ _ (direct_counts _ _ (λ w. refl) (λ w. refl)) (direct_counts _ _ (λ w. refl) (λ w. refl))
@@ -209,6 +214,10 @@ module _ {S : Type 0} (accesses : Accesses S) where
   value_of_counts (invocation.Method p body) vs = method_value_counts accesses (counted_meaning accesses) (meaning accesses) (meaning_counts accesses) 0 p body vs
   value_of_counts invocation.Osi vs = lift_counts _ _ (osi_answered_counts vs)
 
+  called_counts : (p : List Seg) (arguments : List Value) → RunCounts (counted_called accesses p arguments) (called accesses p arguments)
+  unfolding counted_called called
+  called_counts p arguments = then_counts _ _ _ _ (lift_counts _ _ (invocation_found_counts _ _ _)) (λ i. value_of_counts i arguments)
+
   answer_exported_counts : (p : List Seg) (count : ℕ) (arguments : List given.Given) → RunCounts (counted_answer_exported accesses p count arguments) (answer_exported accesses p count arguments)
   unfolding counted_answer_exported answer_exported exported
   answer_exported_counts p count arguments =
@@ -227,6 +236,10 @@ module _ {S : Type 0} (accesses : Accesses S) where
   loaded_begins bytes steps =
       ending_begins steps _ _ (then_begins steps _ _ (λ ts. then_begins steps _ _ (λ n. framed_begins steps _ _ (run_begins steps _ _ (at_root_counts ts))) _ _ (opened_counts _)) _ _ (table_terms_counts bytes))
 
+  evaluated_begins : (p : List Seg) (arguments : List Value) (steps : ℕ) → BeginsWithin steps (counted_evaluated accesses p arguments steps) (evaluated accesses p arguments steps)
+  unfolding counted_evaluated evaluated
+  evaluated_begins p arguments steps = counted_begins steps _ _ (called_counts p arguments)
+
   answered_begins : (p : List Seg) (arguments : List given.Given) (steps : ℕ) → BeginsWithin steps (counted_answered accesses p arguments steps) (answered accesses p arguments steps)
   unfolding counted_answered answered
   answered_begins p arguments steps = ending_begins steps _ _ (run_begins steps _ _ (answer_exported_counts p (length arguments) arguments))
@@ -236,6 +249,12 @@ module _ {S : Type 0} (accesses : Accesses S) where
 
   pub table_is_the_same : (bytes : List ℕ) (steps : ℕ) (w : State (S × ℕ)) → loaded accesses bytes steps (without_counter w) ≡ ((counted_loaded accesses bytes steps w).0, without_counter (counted_loaded accesses bytes steps w).1)
   table_is_the_same bytes steps w = (loaded_begins bytes steps).same w
+
+  pub value_is_bounded : (p : List Seg) (arguments : List Value) (steps : ℕ) (w : State (S × ℕ)) → terms_begun (counted_evaluated accesses p arguments steps w).1 ≤ terms_begun w + steps
+  value_is_bounded p arguments steps w = (evaluated_begins p arguments steps).most w
+
+  pub value_is_the_same : (p : List Seg) (arguments : List Value) (steps : ℕ) (w : State (S × ℕ)) → evaluated accesses p arguments steps (without_counter w) ≡ ((counted_evaluated accesses p arguments steps w).0, without_counter (counted_evaluated accesses p arguments steps w).1)
+  value_is_the_same p arguments steps w = (evaluated_begins p arguments steps).same w
 
   pub answer_is_bounded : (p : List Seg) (arguments : List given.Given) (steps : ℕ) (w : State (S × ℕ)) → terms_begun (counted_answered accesses p arguments steps w).1 ≤ terms_begun w + steps
   answer_is_bounded p arguments steps w = (answered_begins p arguments steps).most w

@@ -1,4 +1,5 @@
--- Changes whose refusals by a fault of the register space come from their last access. A lemma `x_explains` says so of x.
+-- Changes whose refusals by a fault of the register space come from their last access, and that no fault of a reader or a writer
+-- refuses. A lemma `x_explains` says so of x.
 use Rattle.std.specs.Prelude.{◌≡◌, ℕ, ◌==◌, ◌-◌, List, [], ◌∷◌, Bool, true, false, Result, Ok, Err, refl, if◌then◌else◌}
 use Rattle.std.proofs.Common.{ap, subst, sym}
 use Rattle.ar_space.specs.declared.refusal.SpaceFault.{SpaceFault}
@@ -26,13 +27,14 @@ use Rattle.aml_laws.specs.Answered.{Answered}
 use Rattle.aml_laws.specs.Answered as by
 use Rattle.aml_laws.specs.SpaceFaults.{LastFaults}
 use Rattle.aml_laws.specs.SpaceFaults as space_faults
-use Rattle.aml_laws.proofs.CleanOutcomes.{Clean, OfNoSpace}
+use Rattle.aml_laws.proofs.CleanOutcomes.{Clean, CleanRefusal, IsOfLine}
 use Rattle.aml_laws.proofs.CleanChanges.{AllClean}
 use Rattle.aml_laws.proofs.CleanValues.{unit_place_clean}
 
 module _ {S : Type 0} (accesses : Accesses S) where
   abbrev pub RefusalExplained : Refusal → S → S → Type 0
   RefusalExplained (refusals.Space fault) s t = LastFaults accesses fault s t
+  RefusalExplained (refusals.Input fault) s t = IsOfLine fault × Answered accesses s t
   RefusalExplained _ s t = Answered accesses s t
 
   -- a fault of the register space is the answer of the last access, and no other access answers with a fault
@@ -53,14 +55,16 @@ module _ {S : Type 0} {accesses : Accesses S} where
 module _ {S : Type 0} (accesses : Accesses S) where
   further_refusal : (e : Refusal) (s t u : S) → Answered accesses s t → RefusalExplained accesses e t u → RefusalExplained accesses e s u
   further_refusal (refusals.Space fault) s t u r h = record { last = h.last; reached = answered_transitive s t h.last r h.reached; faults = h.faults }
+  further_refusal (refusals.Input fault) s t u r h = (h.0, answered_transitive s t u r h.1)
   further_refusal _ s t u r h = answered_transitive s t u r h
 
   further : {A : Type 0} (x : Outcome A) (s t u : S) → Answered accesses s t → Explained accesses x t u → Explained accesses x s u
   further (Ok a) s t u r h = answered_transitive s t u r h
   further (Err e) s t u r h = further_refusal e s t u r h
 
-  clean_refusal : (e : Refusal) (s t : S) → OfNoSpace e → t ≡ s → RefusalExplained accesses e s t
+  clean_refusal : (e : Refusal) (s t : S) → CleanRefusal e → t ≡ s → RefusalExplained accesses e s t
   clean_refusal (refusals.Space fault) s t apart e = absurd apart
+  clean_refusal (refusals.Input fault) s t apart e = (apart, subst (λ u. Answered accesses s u) (sym e) by.none)
   clean_refusal _ s t apart e = subst (λ u. Answered accesses s u) (sym e) by.none
 
   clean_explained : {A : Type 0} (x : Outcome A) (s t : S) → Clean x → t ≡ s → Explained accesses x s t
@@ -86,7 +90,7 @@ module _ {S : Type 0} {accesses : Accesses S} {H : Type 0} {space : H → S} whe
   unfolding give
   give_explains a = direct_explains _ (λ h. tt) (λ h. refl)
 
-  pub stop_explains : {A : Type 0} (e : Refusal) → OfNoSpace e → Explains accesses {A = A} space (stop e)
+  pub stop_explains : {A : Type 0} (e : Refusal) → CleanRefusal e → Explains accesses {A = A} space (stop e)
   unfolding stop
   stop_explains e apart = direct_explains _ (λ h. apart) (λ h. refl)
 

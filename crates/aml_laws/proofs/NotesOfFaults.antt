@@ -45,6 +45,7 @@ module _ {S : Type 0} (accesses : Accesses S) where
 
   refusal_told : {A : Type 0} (e : Refusal) (s t : WithNotes S) → RefusalExplained (noted accesses) e s t → TellsNotes {A = A} (Err e) s t
   refusal_told (refusal.Space fault) s t h = ending_told fault s h.last t (answered_notes s h.last h.reached) (fault_noted fault h.last t h.faults)
+  refusal_told (refusal.Input fault) s t h = let notes = answered_notes s t h.1 in record { made = notes.0; are = notes.1; told = notes.2 }
   refusal_told _ s t h = let notes = answered_notes s t h in record { made = notes.0; are = notes.1; told = notes.2 }
 
   pub explained_told : {A : Type 0} (x : Outcome A) (s t : WithNotes S) → Explained (noted accesses) x s t → TellsNotes x s t

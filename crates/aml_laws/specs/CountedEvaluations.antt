@@ -1,4 +1,5 @@
--- Loading a table and answering a caller, with the terms that begin counted: `loaded` and `answered`, over `counted_meaning`.
+-- Loading a table, evaluating an object and answering a caller, with the terms that begin counted: `loaded`, `evaluated` and
+-- `answered`, over `counted_meaning`.
 use Rattle.std.specs.Prelude.{ℕ, zero, suc, List, [], ◌∷◌, ◌++◌, length, replicate}
 use Rattle.ar_space.specs.declared.refusal.Refusal.TheVariants as refusal
 use Rattle.ar_space.specs.declared.refusal.EvaluationFault.TheVariants.{ObjectLimit}
@@ -26,7 +27,7 @@ use Rattle.aml_meaning.specs.Fields.{field_given}
 use Rattle.aml_meaning.specs.FieldCalls.{called_at, field_read}
 use Rattle.aml_meaning.specs.Importing.{all_imported}
 use Rattle.aml_meaning.specs.Exporting.{name_use, value_exported}
-use Rattle.aml_meaning.specs.Calling.{ending, with_steps, in_frame, table_terms}
+use Rattle.aml_meaning.specs.Calling.{ending, with_steps, in_frame, table_terms, counted}
 use Rattle.aml_laws.specs.Counted.{beside_counter, counted_meaning}
 
 -- the terms of a table, evaluated at the root
@@ -50,6 +51,16 @@ counted_value_of accesses (invocation.Value v) arguments = give v
 counted_value_of accesses (invocation.Field f) arguments = field_read (beside_counter accesses) (counted_meaning accesses) 1 f
 counted_value_of accesses (invocation.Method p body) arguments = method_value (counted_meaning accesses) 0 p body arguments
 counted_value_of accesses invocation.Osi arguments = lift (osi_answered arguments)
+
+-- the value of the object at a path, with these arguments
+unfoldable pub counted_called : {S : Type 0} → Accesses S → List Seg → List Value → Run (S × ℕ) Value
+counted_called accesses p arguments = do
+  i ← lift (invocation_found [] (absolute p) (length arguments))
+  counted_value_of accesses i arguments
+
+-- that value, and the steps that are left
+unfoldable pub counted_evaluated : {S : Type 0} → Accesses S → List Seg → List Value → ℕ → Change (State (S × ℕ)) (Value × ℕ)
+counted_evaluated accesses p arguments steps = counted steps (counted_called accesses p arguments)
 
 -- how the elements of a package are handed out; each costs a step, and begins no term
 module _ {S : Type 0} (accesses : Accesses S) (package_exported : ℕ → Run (S × ℕ) given.Given) where

@@ -10,11 +10,11 @@ ghost use Rattle.aml_meaning.specs.Run.{Run};
 ghost use Rattle.aml_meaning.specs.Tasks.{Task, in_turn};
 ghost use Rattle.aml_meaning.specs.Given.{Given};
 ghost use Rattle.aml_meaning.specs.Invocations.{invoked};
-ghost use Rattle.aml_meaning.specs.Calling.{loaded, answered};
+ghost use Rattle.aml_meaning.specs.Calling.{loaded, evaluated, answered};
 ghost use Rattle.aml_meaning.specs.Evaluation.{rule};
 ghost use Rattle.aml_meaning.specs.Meaning.{meaning, step_and_rule};
 ghost use Rattle.aml_laws.specs.Counted.{terms_begun, without_counter, with_counter, outcome_without_counter, counted_meaning, begin_and_rule};
-ghost use Rattle.aml_laws.specs.CountedEvaluations.{counted_loaded, counted_answered};
+ghost use Rattle.aml_laws.specs.CountedEvaluations.{counted_loaded, counted_evaluated, counted_answered};
 ghost use Rattle.aml_laws.specs.Parts.{SameUpTo};
 
 /// Each term costs a step when it begins, and is then evaluated by its rule over what its parts mean; no evaluation leaves
@@ -55,13 +55,17 @@ pub fn terms_that_begin_are_counted<S>()
         invoked (meaning accesses) depth p body arguments (without_counter s.0, s.1) ≡ outcome_without_counter (invoked (counted_meaning accesses) depth p body arguments s) }
 {}
 
-/// A table that is loaded and an object that answers a caller begin at most as many terms as they have steps, however they end.
-/// Counting changes nothing else: the answer or the refusal, and the world, are those without it.
-#[tactic(auto, using(crate::proofs::CountedEvaluations::table_is_bounded, crate::proofs::CountedEvaluations::table_is_the_same, crate::proofs::CountedEvaluations::answer_is_bounded, crate::proofs::CountedEvaluations::answer_is_the_same))]
+/// A table that is loaded, an object that is evaluated and one that answers a caller begin at most as many terms as they have steps,
+/// however they end. Counting changes nothing else: the value, the answer or the refusal, the steps that are left of a value, and the
+/// world are those without it.
+#[tactic(auto, using(crate::proofs::CountedEvaluations::table_is_bounded, crate::proofs::CountedEvaluations::table_is_the_same, crate::proofs::CountedEvaluations::value_is_bounded, crate::proofs::CountedEvaluations::value_is_the_same, crate::proofs::CountedEvaluations::answer_is_bounded, crate::proofs::CountedEvaluations::answer_is_the_same))]
 pub fn terms_of_tables_and_answers_are_counted<S>()
     ensures table_bounded { (accesses : Accesses S) (bytes : List ℕ) (steps : ℕ) (w : State (S × ℕ)) → terms_begun (counted_loaded accesses bytes steps w).1 ≤ terms_begun w + steps }
     ensures table_same { (accesses : Accesses S) (bytes : List ℕ) (steps : ℕ) (w : State (S × ℕ)) →
         loaded accesses bytes steps (without_counter w) ≡ ((counted_loaded accesses bytes steps w).0, without_counter (counted_loaded accesses bytes steps w).1) }
+    ensures value_bounded { (accesses : Accesses S) (p : List Seg) (arguments : List Value) (steps : ℕ) (w : State (S × ℕ)) → terms_begun (counted_evaluated accesses p arguments steps w).1 ≤ terms_begun w + steps }
+    ensures value_same { (accesses : Accesses S) (p : List Seg) (arguments : List Value) (steps : ℕ) (w : State (S × ℕ)) →
+        evaluated accesses p arguments steps (without_counter w) ≡ ((counted_evaluated accesses p arguments steps w).0, without_counter (counted_evaluated accesses p arguments steps w).1) }
     ensures answer_bounded { (accesses : Accesses S) (p : List Seg) (arguments : List Given) (steps : ℕ) (w : State (S × ℕ)) → terms_begun (counted_answered accesses p arguments steps w).1 ≤ terms_begun w + steps }
     ensures answer_same { (accesses : Accesses S) (p : List Seg) (arguments : List Given) (steps : ℕ) (w : State (S × ℕ)) →
         answered accesses p arguments steps (without_counter w) ≡ ((counted_answered accesses p arguments steps w).0, without_counter (counted_answered accesses p arguments steps w).1) }

@@ -24,7 +24,7 @@ use Rattle.aml_path.specs.declared.segment.Seg.{Seg}
 use Rattle.aml_namespace.specs.Namespace.{Map}
 use Rattle.aml_meaning.specs.Given as given
 use Rattle.aml_meaning.specs.Given.{Given}
-use Rattle.aml_laws.proofs.CleanOutcomes.{Clean, OfNoSpace, followed_clean, if_clean}
+use Rattle.aml_laws.proofs.CleanOutcomes.{Clean, CleanRefusal, followed_clean, if_clean}
 use Rattle.aml_laws.proofs.CleanValues.{seg_of_clean}
 
 -- ---- resource descriptors
@@ -38,7 +38,7 @@ unfolding the_offer
 the_offer_clean (Some found) d = tt
 the_offer_clean None d = offer_of_clean d
 
-pub ok_or_clean : {A : Type 0} (o : Option A) (e : Refusal) → OfNoSpace e → Clean (ok_or o e)
+pub ok_or_clean : {A : Type 0} (o : Option A) (e : Refusal) → CleanRefusal e → Clean (ok_or o e)
 ok_or_clean None e apart = apart
 ok_or_clean (Some a) e apart = tt
 

@@ -17,7 +17,7 @@ use Rattle.ar_tables.specs.Structures.{are_structures, structures_of, well_struc
 use Rattle.aml_laws.proofs.CleanOutcomes.{Clean, followed_clean, if_clean}
 use Rattle.machine_laws.proofs.CleanLinks.{ok_or_clean}
 
-each_clean : {A B : Type 0} (f : A → Outcome B) → ((x : A) → Clean (f x)) → (xs : List A) → Clean (each f xs)
+pub each_clean : {A B : Type 0} (f : A → Outcome B) → ((x : A) → Clean (f x)) → (xs : List A) → Clean (each f xs)
 unfolding each
 each_clean f clean [] = tt
 each_clean f clean (x ∷ xs) = followed_clean _ _ (clean x) (λ y. followed_clean _ _ (each_clean f clean xs) (λ ys. tt))

@@ -79,7 +79,7 @@ finished_with_clean : (rsdp : Option ℕ) (space : Bytes) (osi : List (List ℕ)
 finished_with_clean None space osi = tt
 finished_with_clean (Some address) space osi = tt
 
-machine_text_clean : (bytes : List ℕ) → Clean (machine_text bytes)
+pub machine_text_clean : (bytes : List ℕ) → Clean (machine_text bytes)
 unfolding machine_text
 machine_text_clean bytes = followed_clean _ _ (lines_read_clean 1 (lines bytes) _) (λ d. finished_with_clean d.rsdp d.space d.osi)
 

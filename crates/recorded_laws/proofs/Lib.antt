@@ -7,3 +7,8 @@ mod Growing
 mod CleanTables
 mod CleanTexts
 mod RunsTold
+mod CleanReports
+mod Streamless
+mod StreamlessAnswers
+pub mod StreamsTold
+pub mod StreamLines

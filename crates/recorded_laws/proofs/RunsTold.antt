@@ -11,7 +11,7 @@ use Rattle.recorded_space.specs.declared.exchange.Exchange.{Exchange}
 use Rattle.aml_meaning.specs.State.{State}
 use Rattle.aml_meaning.specs.Predefined.{fresh}
 use Rattle.aml_laws.specs.Noted.{WithNotes, noted, fault_of, AllAnswered, RefusalTells, TellsNotes}
-use Rattle.aml_laws.proofs.CleanOutcomes.{Clean, OfNoSpace}
+use Rattle.aml_laws.proofs.CleanOutcomes.{Clean, CleanRefusal}
 use Rattle.aml_laws.proofs.Noting.{noting}
 use Rattle.acpi_machine.specs.Calls.{initialized}
 use Rattle.acpi_machine.specs.MachineStates.{MachineState, machine_of}
@@ -41,8 +41,9 @@ refusal_behind (refusal.Space fault) earlier notes all told = record {
 }
 refusal_behind _ earlier notes all told = all_behind earlier notes all told
 
-none_told : (e : Refusal) → OfNoSpace e → RefusalTells e []
+none_told : (e : Refusal) → CleanRefusal e → RefusalTells e []
 none_told (refusal.Space fault) apart = absurd apart
+none_told (refusal.Input fault) apart = All-nil _
 none_told _ apart = All-nil _
 
 module _ {S : Type 0} where
@@ -59,7 +60,7 @@ module _ {S : Type 0} where
   ended e s t notes = record { made = notes.made; are = notes.are; told = notes.told }
 
 -- a refusal that comes before any access
-nothing_made : {S A : Type 0} (e : Refusal) (s : WithNotes S) → OfNoSpace e → TellsNotes {A = A} (Err e) s s
+nothing_made : {S A : Type 0} (e : Refusal) (s : WithNotes S) → CleanRefusal e → TellsNotes {A = A} (Err e) s s
 nothing_made e s apart = record { made = []; are = sym (append-nil s.1); told = none_told e apart }
 
 module _ {S : Type 0} (accesses : Accesses S) (settings : Settings) (avoid text : List ℕ) where

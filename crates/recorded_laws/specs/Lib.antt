@@ -1,3 +1,4 @@
 pub mod Listed
 pub mod Grown
 pub mod RunNotes
+pub mod StreamsTold

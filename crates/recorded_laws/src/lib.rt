@@ -1,5 +1,8 @@
-//! What holds of all runs over a record of accesses: each law is the contract of a function that does nothing.
+//! What holds of all runs over a record of accesses, and of what the program tells of its streams: each law is the contract of a function
+//! that does nothing.
 #![tactic(auto)]
+
+pub mod answers;
 
 ghost use Rattle.std.specs.Prelude.{◌≡◌, ◌≢◌, ◌++◌, ℕ, List, [], None, Some, Err, slice_get};
 ghost use Rattle.ar_space.specs.declared.refusal.SpaceFault.{SpaceFault};
