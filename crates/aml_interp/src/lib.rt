@@ -17,6 +17,7 @@ mod readings;
 mod references;
 mod regions;
 mod statements;
+mod swift;
 mod targets;
 mod task;
 mod terms;

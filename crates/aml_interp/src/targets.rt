@@ -63,7 +63,7 @@ fn named_target<S: Space>(
 /// The target that a term is: Debug, a local or an argument, or what it refers to.
 #[cycle(evaluation)]
 #[tactic(auto, using(crate::proofs::Steps::evaluating))]
-fn eval_inner_target<S: Space>(
+pub(crate) fn eval_inner_target<S: Space>(
     alloc: Global,
     run: &mut Running<S>,
     job: &Task<'_>,

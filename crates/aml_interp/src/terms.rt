@@ -14,7 +14,9 @@ ghost use Rattle.aml_meaning.specs.Terms.{kind_of};
 use crate::data::eval_data;
 use crate::declarations::eval_declaration;
 use crate::invocations::eval_name_value;
-use crate::operands::{Reader, code, inner, take_first};
+use crate::operands::{Reader, code, inner};
+use crate::swift::{Code, eval_items, told};
+use aml_terms::head_of;
 use crate::operators::eval_operator;
 use crate::regions::eval_region_term;
 use crate::statements::eval_statement;
@@ -196,17 +198,13 @@ pub(crate) fn eval_list<S: Space>(
     ensures spent { run.new.1 ≤ run.old.1 }
     ensures means { Does result run.new (in_turn (meaning S.accesses) job.now.site.now.scope.path.now job.now.site.now.depth (at_list job.now.term.now)) run.old }
 {
-    let mut rest = *job.term;
-    'items: loop {
-        let taken = take_first(&mut rest);
-        match taken {
-            None => return Ok(Flow::Next),
-            Some(ref item) => {
-                let flow = eval_term(alloc, run, &Task { term: item, ..*job })?;
-                if !flow.goes_on() {
-                    return Ok(flow);
-                }
-            }
-        }
-    }
+    let (head, base, marks, levels) = head_of(job.term);
+    let mut head = head;
+    let code = Code {
+        site: job.site,
+        marks,
+        base,
+    };
+    let left = eval_items(alloc, run, &code, &mut head, levels);
+    told(run, left)
 }

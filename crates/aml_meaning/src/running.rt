@@ -5,6 +5,7 @@ ghost use Rattle.ar_space.specs.Outcome.{NotMemory};
 ghost use Rattle.aml_meaning.specs.Run.{charge};
 
 use crate::world_state::WorldState;
+use aml_objects::Value;
 use ar_space::{EvaluationFault, Refusal};
 use std::marker::Model;
 
@@ -17,6 +18,10 @@ pub struct Running<S> {
     pub world: WorldState<S>,
     /// The steps that are left.
     pub steps: u64,
+    /// The value that a term left which was evaluated last, where that is no integer.
+    pub kept: Value,
+    /// What refused the term that was refused last.
+    pub fault: Refusal,
 }
 
 impl<S> Model for Running<S> {

@@ -94,6 +94,58 @@ impl<S> WorldState<S> {
         Ok(number)
     }
 
+    /// The integer that a local of the latest frame holds, if it holds one.
+    #[inline(always)]
+    pub fn local_integer(&self, index: u8) -> Option<u64> {
+        let count = self.frames.len();
+        if count == 0 || index >= 8 {
+            return None;
+        }
+        match self.frames[count - 1].locals[usize::from(index)] {
+            Value::Integer(number) => Some(number),
+            _ => None,
+        }
+    }
+
+    /// The integer that an argument of the latest frame holds, if it holds one.
+    #[inline(always)]
+    pub fn argument_integer(&self, index: u8) -> Option<u64> {
+        let count = self.frames.len();
+        if count == 0 || index >= 7 {
+            return None;
+        }
+        match self.frames[count - 1].arguments[usize::from(index)] {
+            Value::Integer(number) => Some(number),
+            _ => None,
+        }
+    }
+
+    /// A local of the latest frame holds an integer from now on, if there is a frame.
+    #[inline(always)]
+    pub fn put_local_integer(&mut self, index: u8, number: u64) -> bool {
+        let count = self.frames.len();
+        if count == 0 || index >= 8 {
+            return false;
+        }
+        self.frames[count - 1].locals[usize::from(index)] = Value::Integer(number);
+        true
+    }
+
+    /// An argument of the latest frame holds an integer from now on, unless it holds a reference.
+    #[inline(always)]
+    pub fn put_argument_integer(&mut self, index: u8, number: u64) -> bool {
+        let count = self.frames.len();
+        if count == 0 || index >= 7 {
+            return false;
+        }
+        match self.frames[count - 1].arguments[usize::from(index)] {
+            Value::Reference(_) => return false,
+            _ => {}
+        }
+        self.frames[count - 1].arguments[usize::from(index)] = Value::Integer(number);
+        true
+    }
+
     /// Ends the latest frame.
     pub fn close_frame(&mut self)
         ensures { self.new ≡ closed self.old }

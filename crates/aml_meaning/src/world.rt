@@ -47,7 +47,7 @@ impl<S> World<S> {
     {
         match WorldState::new(alloc, width, osi, space) {
             Ok(world) => Ok(World {
-                running: Running { world, steps: 0 },
+                running: Running { world, steps: 0, kept: Value::Uninitialized, fault: Refusal::OutOfMemory },
             }),
             Err(refused) => Err(refused),
         }

@@ -8,6 +8,7 @@ mod at;
 mod at_reader;
 mod copying;
 mod cursor;
+mod head;
 mod lent;
 mod marks;
 mod operands;
@@ -25,6 +26,7 @@ pub use aml_grammar::{
 pub use aml_scan::{read_as_spelled, read_name};
 pub use at::At;
 pub use at_reader::lent_bytes;
+pub use head::{Head, head_of};
 pub use marks::Marks;
 pub use parse::{parse_list, parse_table};
 pub use places::{first_term, list_at};
