@@ -277,7 +277,7 @@ fn of_call(outcome: Result<Flow, Refusal>) -> Result<Flow, Refusal>
     }
 }
 
-fn shallow(depth: usize) -> Result<(), Refusal>
+pub(crate) fn shallow(depth: usize) -> Result<(), Refusal>
     ensures answer { Answers result (shallow depth) }
     ensures few { OnOk result (depth < 32) }
     ensures memory { NotMemory result }

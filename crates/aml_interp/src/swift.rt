@@ -1,16 +1,28 @@
 //! Terms evaluated by a head that moves over them, without results in memory. What isn't here is evaluated by the rules of `terms`.
 
-use crate::field_calls::{eval_stored_to};
+use crate::field_calls::{eval_field_read, eval_stored_to};
+use crate::invocations::{MAX_DEPTH, shallow};
+use crate::readings::read_body;
 use crate::targets::eval_inner_target;
 use crate::task::{Site, Task};
 use crate::terms::eval_term;
 use aml_convert::{truncate_integer, truth, operate, BinaryOperator};
-use aml_meaning::{Flow, Running, StoreTarget};
-use aml_objects::Value;
+use aml_meaning::{Called, Flow, Known, Running, StoreTarget, TwoOperands};
+use aml_namespace::Scope;
+use aml_objects::{Field, FieldUnit, MethodBody, NamedObject, NodeId, Octets, Slot, Value};
 use aml_terms::{Head, Marks, read_name};
 use ar_space::{EvaluationFault, IntegerWidth, NameFault, Refusal, Space};
 use std::alloc::Global;
 use std::mem;
+use std::rc::Rc;
+
+const NAMES: u64 = 1;
+const MUTEXES: u64 = 2;
+const FIELDS: u64 = 4;
+const STRINGS: u64 = 8;
+const CALLS: u64 = 16;
+const KNOWN: u64 = 32;
+
 
 /// What a term left, in registers. A value that is no integer is `run.kept`, and a refusal `run.fault`.
 #[derive(Clone, Copy)]
@@ -245,6 +257,9 @@ pub(crate) fn eval_head<S: Space>(
                 },
             }
         }
+        0x41..=0x5A | 0x5F => eval_name_here(alloc, run, code, head, levels),
+        0x5B => eval_mutex_here(alloc, run, code, head, levels),
+        0x0D | 0x11 | 0x73 => eval_bytes_here(alloc, run, code, head, levels, first),
         _ => eval_other(alloc, run, code, head, levels),
     }
 }
@@ -390,7 +405,385 @@ fn eval_integer_put<S: Space>(
                 eval_put(alloc, run, code, head, levels, Value::Integer(number))
             }
         }
+        0x41..=0x5A | 0x5F => eval_integer_put_named(alloc, run, code, head, levels, number),
         _ => eval_put(alloc, run, code, head, levels, Value::Integer(number)),
+    }
+}
+
+/// An integer is stored to a name.
+#[inline(never)]
+#[cycle(evaluation)]
+fn eval_integer_put_named<S: Space>(
+    alloc: Global,
+    run: &mut Running<S>,
+    code: &Code<'_>,
+    head: &mut Head<'_>,
+    levels: u8,
+    number: u64,
+) -> Left {
+    if run.forms & NAMES > 0 {
+        if let Some(segment) = head.segment(0) {
+            if let Some(id) = run.world.node_named(code.site.scope, segment) {
+                if run.world.put_integer_at(id, number) {
+                    head.over(4);
+                    return Left::Integer(number);
+                }
+                if run.forms & FIELDS > 0 {
+                    if let Some(unit) = unit_at(run, id) {
+                        match run.world.put_unit_integer(unit, number) {
+                            Ok(true) => {
+                                head.over(4);
+                                return Left::Integer(number);
+                            }
+                            Ok(false) => {}
+                            Err(refusal) => return refused(run, refusal),
+                        }
+                    }
+                }
+            }
+        }
+    }
+    eval_put(alloc, run, code, head, levels, Value::Integer(number))
+}
+
+#[inline(always)]
+fn unit_at<S>(run: &Running<S>, id: NodeId) -> Option<FieldUnit> {
+    match run.world.names().node(id) {
+        Some(entry) => match &entry.object {
+            NamedObject::FieldUnit(unit) => Some(*unit),
+            _ => None,
+        },
+        None => None,
+    }
+}
+
+/// What stands at a node, where a value is wanted.
+#[derive(Clone, Copy)]
+enum Seen {
+    Data(Value),
+    Unit(FieldUnit),
+    Method(u8),
+    Other,
+}
+
+#[inline(always)]
+fn seen<S>(run: &Running<S>, id: NodeId) -> Seen {
+    match run.world.names().node(id) {
+        Some(entry) => match &entry.object {
+            NamedObject::Data(value) => Seen::Data(*value),
+            NamedObject::FieldUnit(unit) => Seen::Unit(*unit),
+            NamedObject::Method(method) => Seen::Method(method.flags.arguments()),
+            _ => Seen::Other,
+        },
+        None => Seen::Other,
+    }
+}
+
+/// A name of one segment, where a value is wanted.
+#[inline(never)]
+#[cycle(evaluation)]
+fn eval_name_here<S: Space>(
+    alloc: Global,
+    run: &mut Running<S>,
+    code: &Code<'_>,
+    head: &mut Head<'_>,
+    levels: u8,
+) -> Left {
+    if run.forms & NAMES == 0 {
+        return eval_other(alloc, run, code, head, levels);
+    }
+    let Some(segment) = head.segment(0) else {
+        return eval_other(alloc, run, code, head, levels);
+    };
+    let Some(id) = run.world.node_named(code.site.scope, segment) else {
+        return eval_other(alloc, run, code, head, levels);
+    };
+    let count = code.marks.count_at(code.base + head.at);
+    match seen(run, id) {
+        Seen::Data(Value::Integer(number)) if count == 0 => {
+            run.steps -= 1;
+            head.over(4);
+            Left::Integer(number)
+        }
+        Seen::Data(value) if count == 0 && !matches!(value, Value::Reference(_)) => {
+            run.steps -= 1;
+            head.over(4);
+            run.kept = value;
+            Left::Value
+        }
+        Seen::Unit(unit) if count == 0 && run.forms & FIELDS > 0 => {
+            run.steps -= 1;
+            head.over(4);
+            match run.world.unit_integer(unit) {
+                Ok(Some(number)) => Left::Integer(number),
+                Ok(None) => eval_unit_here(alloc, run, code, unit),
+                Err(refusal) => refused(run, refusal),
+            }
+        }
+        Seen::Method(arguments) if count == arguments && run.forms & CALLS > 0 => {
+            eval_call_here(alloc, run, code, head, levels, id, count)
+        }
+        _ => eval_other(alloc, run, code, head, levels),
+    }
+}
+
+#[inline(never)]
+#[cycle(evaluation)]
+fn eval_unit_here<S: Space>(alloc: Global, run: &mut Running<S>, code: &Code<'_>, unit: FieldUnit) -> Left {
+    match eval_field_read(alloc, run, code.site.depth, Field::Unit(unit)) {
+        Ok(value) => left_of(run, Ok(Flow::Value(value))),
+        Err(refusal) => refused(run, refusal),
+    }
+}
+
+/// Acquire and Release of a mutex that one segment names.
+#[inline(never)]
+#[cycle(evaluation)]
+fn eval_mutex_here<S: Space>(
+    alloc: Global,
+    run: &mut Running<S>,
+    code: &Code<'_>,
+    head: &mut Head<'_>,
+    levels: u8,
+) -> Left {
+    let second = head.byte(1);
+    if run.forms & MUTEXES == 0 || !(second == 0x23 || second == 0x27) {
+        return eval_other(alloc, run, code, head, levels);
+    }
+    let Some(segment) = head.segment(2) else {
+        return eval_other(alloc, run, code, head, levels);
+    };
+    let Some(id) = run.world.node_named(code.site.scope, segment) else {
+        return eval_other(alloc, run, code, head, levels);
+    };
+    if second == 0x23 {
+        if run.world.acquire_node(id) {
+            run.steps -= 1;
+            head.over(8);
+            Left::Integer(0)
+        } else {
+            eval_other(alloc, run, code, head, levels)
+        }
+    } else if run.world.release_node(id) {
+        run.steps -= 1;
+        head.over(6);
+        Left::Next
+    } else {
+        eval_other(alloc, run, code, head, levels)
+    }
+}
+
+/// Strings, buffers, and what joins them.
+#[inline(never)]
+#[cycle(evaluation)]
+fn eval_bytes_here<S: Space>(
+    alloc: Global,
+    run: &mut Running<S>,
+    code: &Code<'_>,
+    head: &mut Head<'_>,
+    levels: u8,
+    op: u8,
+) -> Left {
+    if run.forms & STRINGS == 0 {
+        return eval_other(alloc, run, code, head, levels);
+    }
+    run.steps -= 1;
+    head.over(1);
+    match op {
+        0x0D => {
+            let text = head.text();
+            head.over(text.len());
+            head.over(1);
+            let made = made_string(alloc, run, text);
+            left_of(run, made)
+        }
+        0x11 => {
+            let mut inside = head.open();
+            let Some(length) = eval_integer_here(alloc, run, code, &mut inside, levels - 1) else {
+                return Left::Refused;
+            };
+            let made = made_buffer(alloc, run, length, &inside.bytes[inside.at..]);
+            left_of(run, made)
+        }
+        _ => eval_joined_here(alloc, run, code, head, levels - 1),
+    }
+}
+
+fn made_string<S>(alloc: Global, run: &mut Running<S>, text: &[u8]) -> Result<Flow, Refusal> {
+    let bytes = Octets::from_vec(Vec::from_slice(alloc, text)?);
+    let value = run.world.make_string(bytes)?;
+    Ok(Flow::Value(value))
+}
+
+fn made_buffer<S>(alloc: Global, run: &mut Running<S>, length: u64, bytes: &[u8]) -> Result<Flow, Refusal> {
+    let bytes = Octets::from_vec(Vec::from_slice(alloc, bytes)?);
+    let value = run.world.new_buffer(length, bytes)?;
+    Ok(Flow::Value(value))
+}
+
+#[inline(never)]
+#[cycle(evaluation)]
+fn eval_joined_here<S: Space>(
+    alloc: Global,
+    run: &mut Running<S>,
+    code: &Code<'_>,
+    head: &mut Head<'_>,
+    levels: u8,
+) -> Left {
+    let first = eval_head(alloc, run, code, head, levels);
+    let Some(first) = value_left(run, first) else {
+        return Left::Refused;
+    };
+    let second = eval_head(alloc, run, code, head, levels);
+    let Some(second) = value_left(run, second) else {
+        return Left::Refused;
+    };
+    let joined = run.world.operate_on_two(alloc, TwoOperands::Concatenate, first, second);
+    match joined {
+        Ok(value) => eval_put(alloc, run, code, head, levels, value),
+        Err(refusal) => refused(run, refusal),
+    }
+}
+
+/// A call of the control method that a node is, with as many arguments as it takes.
+#[inline(never)]
+#[cycle(evaluation)]
+fn eval_call_here<S: Space>(
+    alloc: Global,
+    run: &mut Running<S>,
+    code: &Code<'_>,
+    head: &mut Head<'_>,
+    levels: u8,
+    id: NodeId,
+    count: u8,
+) -> Left {
+    let mut known = None;
+    if run.forms & KNOWN > 0 {
+        known = known_call(run, id.number);
+    }
+    let fresh = known.is_none();
+    if fresh {
+        known = match new_call(alloc, run, id) {
+            Ok(call) => call,
+            Err(_) => None,
+        };
+    }
+    let read = run.world.changes();
+    let Some(call) = known else {
+        return eval_other(alloc, run, code, head, levels);
+    };
+    run.steps -= 1;
+    head.over(4);
+    let mut arguments = [Value::Uninitialized; 7];
+    let mut at: usize = 0;
+    'arguments: while at < usize::from(count) && at < 7 {
+        let left = eval_head(alloc, run, code, head, levels - 1);
+        match left {
+            Left::Integer(number) => arguments[at] = Value::Integer(number),
+            Left::Value => arguments[at] = run.kept,
+            left => match value_left(run, left) {
+                None => return Left::Refused,
+                Some(value) => arguments[at] = value,
+            },
+        }
+        at += 1;
+    }
+    if code.site.depth >= MAX_DEPTH {
+        return refused(run, Refusal::Evaluation(EvaluationFault::CallDepth));
+    }
+    let mut newer = None;
+    if run.world.changes() != read {
+        newer = match read_body(alloc, &run.world, &call.path, &call.body) {
+            Ok(marks) => Some(marks),
+            Err(refusal) => return refused(run, refusal),
+        };
+    }
+    match run.world.open_frame(arguments) {
+        Ok(_) => {}
+        Err(refusal) => return refused(run, refusal),
+    }
+    let scope = Scope {
+        path: &call.path,
+        node: id,
+    };
+    let site = Site {
+        scope,
+        depth: code.site.depth + 1,
+    };
+    let inner = Code {
+        site: &site,
+        marks: newer.as_ref().unwrap_or(&call.marks),
+        base: 0,
+    };
+    let mut inside = Head {
+        bytes: call.body.as_slice(),
+        at: 0,
+    };
+    let left = eval_items(alloc, run, &inner, &mut inside, 65);
+    if run.world.changes() == read && !fresh {
+        run.world.close_frame();
+    } else {
+        run.world.leave(&call.path);
+        if run.world.changes() == read {
+            keep_call(run, id.number, read, call);
+        }
+    }
+    match left {
+        Left::Refused => Left::Refused,
+        Left::Return => match run.kept {
+            Value::Integer(number) => Left::Integer(number),
+            _ => Left::Value,
+        },
+        _ => Left::Next,
+    }
+}
+
+/// A call that was made lately, of the control method with the number of a declaration.
+fn known_call<S>(run: &Running<S>, number: u64) -> Option<Rc<Called>> {
+    let stamp = run.world.changes();
+    for known in &run.calls {
+        if known.number == number && known.stamp == stamp {
+            return match Rc::clone(&known.call) {
+                Ok(call) => Some(call),
+                Err(_) => None,
+            };
+        }
+    }
+    None
+}
+
+#[inline(never)]
+fn keep_call<S>(run: &mut Running<S>, number: u64, stamp: u64, call: Rc<Called>) {
+    if run.calls.len() >= 8 {
+        run.calls.clear();
+    }
+    let _kept = run.calls.push(Known {
+        number,
+        stamp,
+        call,
+    });
+}
+
+/// The control method that a node is, with the marks of its body; what stands below it is removed first.
+#[inline(never)]
+fn new_call<S>(alloc: Global, run: &mut Running<S>, id: NodeId) -> Result<Option<Rc<Called>>, Refusal> {
+    let body = match run.world.names().node(id) {
+        Some(entry) => match &entry.object {
+            NamedObject::Method(method) => match &method.body {
+                MethodBody::Aml(body) => body.share()?,
+                MethodBody::Osi => return Ok(None),
+            },
+            _ => return Ok(None),
+        },
+        None => return Ok(None),
+    };
+    let Some(path) = run.world.path_at(alloc, id)? else {
+        return Ok(None);
+    };
+    let marks = read_body(alloc, &run.world, &path, &body)?;
+    match Rc::new(alloc, Called { path, body, marks }) {
+        Ok(call) => Ok(Some(call)),
+        Err(_) => Err(Refusal::OutOfMemory),
     }
 }
 
@@ -443,9 +836,18 @@ fn eval_put<S: Space>(
     levels: u8,
     value: Value,
 ) -> Left {
-    let target = match eval_target_here(alloc, run, code, head, levels) {
-        Ok(target) => target,
-        Err(refusal) => return refused(run, refusal),
+    let first = head.first();
+    let target = if first == 0 {
+        head.over(1);
+        return left_of(run, Ok(Flow::Value(value)));
+    } else if 0x60 <= first && first <= 0x67 && run.forms & STRINGS > 0 {
+        head.over(1);
+        StoreTarget::Slot(Slot::Local(first - 0x60))
+    } else {
+        match eval_target_here(alloc, run, code, head, levels) {
+            Ok(target) => target,
+            Err(refusal) => return refused(run, refusal),
+        }
     };
     match eval_stored_to(alloc, run, code.site.depth, &target, value) {
         Ok(()) => left_of(run, Ok(Flow::Value(value))),

@@ -2,6 +2,7 @@
 #![tactic(auto)]
 
 mod buffer_fields;
+mod called;
 mod datum;
 mod declarations;
 mod dereferences;
@@ -37,6 +38,7 @@ mod world;
 mod world_state;
 
 pub use buffer_fields::buffer_of;
+pub use called::{Called, Known};
 pub use datum::Datum;
 pub use dereferences::reference_in;
 pub use field_layout::{FieldGroup, FieldLayout, access_width, field_size, update_rule};

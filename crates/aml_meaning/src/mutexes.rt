@@ -9,12 +9,68 @@ ghost use Rattle.aml_meaning.specs.Mutexes.{count_of_object, mutex_count, once_m
 
 use crate::store_target::StoreTarget;
 use crate::world_state::WorldState;
-use aml_namespace::Located;
-use aml_objects::{NamedObject, Reference};
+use aml_namespace::{Located, Scope};
+use aml_objects::{NamedObject, NodeId, Reference};
+use aml_path::{Path, Seg};
 use ar_space::{EvaluationFault, NamespaceFault, Refusal, ValueFault};
 use std::alloc::Global;
 
 impl<S> WorldState<S> {
+    /// Acquires the mutex that a node is, if it is one that can be acquired.
+    pub fn acquire_node(&mut self, id: NodeId) -> bool {
+        let count = match self.names.node(id) {
+            Some(entry) => match &entry.object {
+                NamedObject::Mutex(count) => *count,
+                _ => return false,
+            },
+            None => return false,
+        };
+        if count == u64::MAX {
+            return false;
+        }
+        self.names.replace_node(id, NamedObject::Mutex(count + 1));
+        true
+    }
+
+    /// Releases the mutex that a node is, if it is one that is acquired.
+    pub fn release_node(&mut self, id: NodeId) -> bool {
+        let count = match self.names.node(id) {
+            Some(entry) => match &entry.object {
+                NamedObject::Mutex(count) => *count,
+                _ => return false,
+            },
+            None => return false,
+        };
+        if count == 0 {
+            return false;
+        }
+        self.names.replace_node(id, NamedObject::Mutex(count - 1));
+        true
+    }
+
+    /// The node that a segment finds from a scope, aliases not followed.
+    #[inline(always)]
+    pub fn node_named(&self, scope: Scope<'_>, segment: Seg) -> Option<NodeId> {
+        self.names.first_in(scope, segment)
+    }
+
+    /// How often a name was declared or removed.
+    #[inline(always)]
+    pub fn changes(&self) -> u64 {
+        self.names.changes()
+    }
+
+    /// Puts an integer into a node that holds an integer.
+    #[inline(always)]
+    pub fn put_integer_at(&mut self, id: NodeId, number: u64) -> bool {
+        self.names.put_integer(id, number)
+    }
+
+    /// The path of a node.
+    pub fn path_at(&self, alloc: Global, id: NodeId) -> Result<Option<Path>, Refusal> {
+        self.names.path_of(alloc, id)
+    }
+
     /// Acquires the mutex that is named. Anything else is refused as `WrongType`, and as `ObjectLimit` a mutex that is
     /// acquired 2^64 - 1 times.
     #[tactic(auto, using(ar_space::specs::Change::changing))]

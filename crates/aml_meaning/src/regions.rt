@@ -14,9 +14,9 @@ use crate::object_type::Referent;
 use crate::world_state::WorldState;
 use aml_convert::to_integer;
 use aml_fields::{AddressSpace, Region, read_field, write_field};
-use aml_objects::{Content, FieldSource, FieldUnit, NamedObject, Octets, OperationRegion, Value};
+use aml_objects::{Content, FieldSource, FieldUnit, NamedObject, Octets, OperationRegion, UpdateRule, Value};
 use aml_path::Path;
-use ar_space::{EvaluationFault, FieldFault, IntegerWidth, Refusal, Space, ValueFault};
+use ar_space::{EvaluationFault, FieldFault, IntegerWidth, Place, Refusal, Space, ValueFault};
 use std::alloc::Global;
 
 /// The address space of an operation region.
@@ -191,6 +191,113 @@ impl<S> WorldState<S> {
 }
 
 impl<S: Space> WorldState<S> {
+    /// Where the units of a field unit are, if it lies in memory or ports, wholly within its region, and has no more bits than an integer.
+    #[inline(always)]
+    fn plain_unit(&self, unit: FieldUnit) -> Option<(u8, u64)> {
+        let FieldSource::Region(number) = unit.source else {
+            return None;
+        };
+        let most = match self.width {
+            IntegerWidth::Bits32 => 32,
+            IntegerWidth::Bits64 => 64,
+        };
+        if unit.bits == 0 || unit.bits > most {
+            return None;
+        }
+        let id = self.names.id_of(number);
+        let Some(entry) = self.names.node(id) else {
+            return None;
+        };
+        let NamedObject::OperationRegion(region) = &entry.object else {
+            return None;
+        };
+        let Some(end) = unit.bit_offset.checked_add(u64::from(unit.bits)) else {
+            return None;
+        };
+        // The last byte of the last unit, counted from the region.
+        let size = u64::from(unit.access.bytes());
+        let behind = ((end - 1) / 8 / size) * size;
+        let Some(behind) = behind.checked_add(size) else {
+            return None;
+        };
+        if behind > region.length {
+            return None;
+        }
+        let Some(last) = region.offset.checked_add(behind) else {
+            return None;
+        };
+        if region.space == 0 {
+            Some((0, region.offset))
+        } else if region.space == 1 && last <= 0x1_0000 {
+            Some((1, region.offset))
+        } else {
+            None
+        }
+    }
+
+    /// The integer that a plain field unit holds; none where it is not plain.
+    #[inline(never)]
+    pub fn unit_integer(&mut self, unit: FieldUnit) -> Result<Option<u64>, Refusal> {
+        let Some((space, from)) = self.plain_unit(unit) else {
+            return Ok(None);
+        };
+        let size = u64::from(unit.access.bits());
+        let end = unit.bit_offset.wrapping_add(u64::from(unit.bits));
+        let mut start = unit.bit_offset / size * size;
+        let mut number = 0;
+        'units: while start < end {
+            let place = plain_place(space, from.wrapping_add(start / 8));
+            let held = match self.space.read(place, unit.access) {
+                Ok(held) => held,
+                Err(fault) => return Err(Refusal::Space(fault)),
+            };
+            let first = unit.bit_offset.max(start);
+            let behind = end.min(start.wrapping_add(size));
+            let part = (held >> (first.wrapping_sub(start) & 63)) & low_bits(behind.wrapping_sub(first));
+            number |= part << (first.wrapping_sub(unit.bit_offset) & 63);
+            start = start.wrapping_add(size);
+        }
+        Ok(Some(number))
+    }
+
+    /// Writes an integer to a plain field unit; false where it is not plain.
+    #[inline(never)]
+    pub fn put_unit_integer(&mut self, unit: FieldUnit, number: u64) -> Result<bool, Refusal> {
+        let Some((space, from)) = self.plain_unit(unit) else {
+            return Ok(false);
+        };
+        let size = u64::from(unit.access.bits());
+        let end = unit.bit_offset.wrapping_add(u64::from(unit.bits));
+        let mut start = unit.bit_offset / size * size;
+        'units: while start < end {
+            let place = plain_place(space, from.wrapping_add(start / 8));
+            let first = unit.bit_offset.max(start);
+            let behind = end.min(start.wrapping_add(size));
+            let count = behind.wrapping_sub(first);
+            let mask = low_bits(count) << (first.wrapping_sub(start) & 63);
+            let old = if count == size {
+                0
+            } else {
+                match unit.update {
+                    UpdateRule::Preserve => match self.space.read(place, unit.access) {
+                        Ok(held) => held,
+                        Err(fault) => return Err(Refusal::Space(fault)),
+                    },
+                    UpdateRule::WriteAsOnes => low_bits(size),
+                    UpdateRule::WriteAsZeros => 0,
+                }
+            };
+            let part = (number >> (first.wrapping_sub(unit.bit_offset) & 63)) << (first.wrapping_sub(start) & 63);
+            let value = (old & (mask ^ u64::MAX)) | (part & mask);
+            match self.space.write(place, unit.access, value) {
+                Ok(()) => {}
+                Err(fault) => return Err(Refusal::Space(fault)),
+            }
+            start = start.wrapping_add(size);
+        }
+        Ok(true)
+    }
+
     /// A read of a field of a region that is located: its bits, lowest first, as bytes. Refused as `aml_fields::read_field`
     /// refuses it.
     #[tactic(auto, using(crate::proofs::Lifted::parts))]
@@ -274,4 +381,18 @@ fn region_field(source: FieldSource, unit: FieldUnit) -> Result<RegionField, Ref
         FieldSource::Region(region) => Ok(RegionField { region, unit }),
         FieldSource::Index(_, _) => Err(Refusal::Evaluation(EvaluationFault::DeadReference)),
     }
+}
+
+#[inline(always)]
+fn plain_place(space: u8, address: u64) -> Place {
+    if space == 0 {
+        Place::Memory(address)
+    } else {
+        Place::Io((address & 0xFFFF) as u16)
+    }
+}
+
+#[inline(always)]
+fn low_bits(count: u64) -> u64 {
+    if count >= 64 { u64::MAX } else { (1 << count) - 1 }
 }

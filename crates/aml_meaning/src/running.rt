@@ -4,6 +4,7 @@ ghost use Rattle.ar_space.specs.Change.{Does};
 ghost use Rattle.ar_space.specs.Outcome.{NotMemory};
 ghost use Rattle.aml_meaning.specs.Run.{charge};
 
+use crate::called::Known;
 use crate::world_state::WorldState;
 use aml_objects::Value;
 use ar_space::{EvaluationFault, Refusal};
@@ -22,6 +23,10 @@ pub struct Running<S> {
     pub kept: Value,
     /// What refused the term that was refused last.
     pub fault: Refusal,
+    /// Calls that were made lately.
+    pub calls: Vec<Known>,
+    /// Which forms are used, for measuring.
+    pub forms: u64,
 }
 
 impl<S> Model for Running<S> {

@@ -20,6 +20,7 @@ impl<S> WorldState<S> {
         ensures arities { result ≡ self.old.arities }
         ensures none { self.new ≡ record self.old { arities = [] } }
     {
+        self.names.touch();
         mem::replace(&mut self.arities, Arities::new(alloc))
     }
 
@@ -27,6 +28,7 @@ impl<S> WorldState<S> {
     pub fn set_arities(&mut self, arities: Arities)
         ensures { self.new ≡ record self.old { arities = arities } }
     {
+        self.names.touch();
         self.arities = arities;
     }
 

@@ -47,7 +47,7 @@ impl<S> World<S> {
     {
         match WorldState::new(alloc, width, osi, space) {
             Ok(world) => Ok(World {
-                running: Running { world, steps: 0, kept: Value::Uninitialized, fault: Refusal::OutOfMemory },
+                running: Running { world, steps: 0, kept: Value::Uninitialized, fault: Refusal::OutOfMemory, calls: Vec::new(alloc), forms: u64::MAX },
             }),
             Err(refused) => Err(refused),
         }

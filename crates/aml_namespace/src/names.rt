@@ -29,6 +29,8 @@ pub struct Names {
     pub(crate) nodes: Nodes,
     pub(crate) index: Index,
     pub(crate) next: u64,
+    /// How often a name was declared or removed.
+    pub(crate) changes: u64,
 }
 
 impl Model for Names {
@@ -62,6 +64,7 @@ impl Names {
             nodes,
             index: BTreeMap::new(alloc),
             next: 1,
+            changes: 0,
         })
     }
 
@@ -146,6 +149,7 @@ impl Names {
         };
         put(&mut self.nodes, &mut self.index, node)?;
         self.next += 1;
+        self.changes = self.changes.wrapping_add(1);
         Ok(number)
     }
 

@@ -8,7 +8,7 @@ ghost use Rattle.aml_namespace.specs.Nodes.{Keyed, key_of, object_put, with_node
 
 use crate::mutexes::{acquired, release};
 use crate::node::Node;
-use aml_objects::{NamedObject, NodeId};
+use aml_objects::{NamedObject, NodeId, Value};
 use ar_space::Refusal;
 use slab::Slab;
 use std::alloc::Global;
@@ -129,6 +129,21 @@ impl Nodes {
         let after = acquired(&object);
         put_object(node, object);
         self.acquired = self.acquired - before + after;
+    }
+
+    /// Puts an integer into a node that holds an integer, if it stands under its key.
+    #[inline(always)]
+    pub(crate) fn put_integer(&mut self, id: NodeId, value: u64) -> bool {
+        match self.slab.get_mut(id.key) {
+            Some(node) if node.entry.number == id.number => match &mut node.entry.object {
+                NamedObject::Data(Value::Integer(held)) => {
+                    *held = value;
+                    true
+                }
+                _ => false,
+            },
+            _ => false,
+        }
     }
 
     /// Releases the mutexes. Where none is acquired, the nodes aren't read.

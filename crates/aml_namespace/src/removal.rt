@@ -18,6 +18,9 @@ impl Names {
         ensures { self.new ≡ without_below path.now self.old }
     {
         if let Some(start) = descend(&self.index, root_id(), path.segments()) {
+            if first_child(&self.index, start.number).is_some() {
+                self.changes = self.changes.wrapping_add(1);
+            }
             cut_below(&mut self.nodes, &mut self.index, self.next, start);
         }
     }

@@ -9,7 +9,7 @@ ghost use Rattle.aml_namespace.specs.Search.{found};
 use crate::located::Located;
 use crate::names::{Names, root_id};
 use crate::search::found_or_not;
-use aml_objects::{Entry, NodeId};
+use aml_objects::{Entry, NamedObject, NodeId};
 use aml_path::{NameString, Path, Seg};
 use ar_space::{NamespaceFault, Refusal};
 use std::alloc::Global;
@@ -49,6 +49,36 @@ impl Names {
         } else {
             self.search_at(scope.path, name)
         }
+    }
+
+    /// The node that a segment finds from a scope, aliases not followed. It takes no memory.
+    pub fn first_in(&self, scope: Scope<'_>, segment: Seg) -> Option<NodeId> {
+        let segments = [segment];
+        if self.is_at(scope.node, scope.path.segments()) {
+            self.search_above(scope.node, &segments)
+        } else {
+            self.search_from(scope.path, &segments)
+        }
+    }
+
+    /// How often a name was declared or removed.
+    pub fn changes(&self) -> u64 {
+        self.changes
+    }
+
+    /// Notes a change of what names are read as.
+    pub fn touch(&mut self) {
+        self.changes = self.changes.wrapping_add(1);
+    }
+
+    /// Puts another object into a node, if it stands.
+    pub fn replace_node(&mut self, id: NodeId, object: NamedObject) {
+        self.nodes.replace(id, object);
+    }
+
+    /// Puts an integer into a node that holds data, if it stands.
+    pub fn put_integer(&mut self, id: NodeId, number: u64) -> bool {
+        self.nodes.put_integer(id, number)
     }
 
     /// What a name finds from a scope, refused as `lookup` is. It takes no memory.

@@ -99,7 +99,7 @@ impl Names {
     }
 
     /// What stands at some segments in a scope's path, or in the nearest scope above it; the scope need not stand.
-    fn search_from(&self, scope: &Path, segments: &[Seg]) -> Option<NodeId>
+    pub(crate) fn search_from(&self, scope: &Path, segments: &[Seg]) -> Option<NodeId>
         ensures { option_map (λ id. numbered id.number self.now.map) result ≡ option_map Some (search_up self.now.map scope.now segments.now (length scope.now)) }
     {
         match self.nearest(scope, segments) {
@@ -109,7 +109,7 @@ impl Names {
     }
 
     /// What stands at some segments in a scope that stands, or in the nearest scope above it.
-    fn search_above(&self, scope: NodeId, segments: &[Seg]) -> Option<NodeId>
+    pub(crate) fn search_above(&self, scope: NodeId, segments: &[Seg]) -> Option<NodeId>
         ensures { (f : List Seg × Entry) → numbered scope.number self.now.map ≡ Some f → option_map (λ id. numbered id.number self.now.map) result ≡ option_map Some (search_up self.now.map f.0 segments.now (length f.0)) }
     {
         let mut current = scope;

@@ -5,6 +5,8 @@ use crate::cursor::Cursor;
 use crate::marks::Marks;
 use crate::places::term_at;
 use crate::skip::skip_term;
+use aml_path::Seg;
+use aml_scan::text_length;
 use std::marker::Model;
 
 /// Where the next byte stands in the bytes of a list or a package.
@@ -94,6 +96,26 @@ impl<'a> Head<'a> {
         let mut cursor = Cursor::new(base + self.at, &self.bytes[self.at..]);
         skip_term(&mut cursor, marks, levels, false);
         self.at = cursor.at() - base;
+    }
+
+    /// The segment that stands there.
+    #[inline(always)]
+    pub fn segment(&self, on: usize) -> Option<Seg> {
+        let left = self.bytes.len() - self.at;
+        if left < 4 + on {
+            return None;
+        }
+        let at = self.at + on;
+        match Seg::new([self.bytes[at], self.bytes[at + 1], self.bytes[at + 2], self.bytes[at + 3]]) {
+            Ok(segment) => Some(segment),
+            Err(_) => None,
+        }
+    }
+
+    /// The bytes up to the next zero.
+    pub fn text(&self) -> &'a [u8] {
+        let rest = &self.bytes[self.at..];
+        &rest[..text_length(rest)]
     }
 
     /// How many bytes the name takes that stands next.

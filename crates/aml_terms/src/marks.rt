@@ -37,6 +37,9 @@ impl Marks {
     pub fn count_at(&self, offset: usize) -> u8
         ensures { result ≡ count_at self.now offset }
     {
+        if self.list.is_empty() {
+            return 0;
+        }
         marked_count(&self.list, offset)
     }
 }
