@@ -24,18 +24,6 @@ const CALLS: u64 = 16;
 const KNOWN: u64 = 32;
 
 
-/// What a term left, in registers. A value that is no integer is `run.kept`, and a refusal `run.fault`.
-#[derive(Clone, Copy)]
-pub(crate) enum Left {
-    Integer(u64),
-    Value,
-    Next,
-    Break,
-    Continue,
-    Return,
-    Refused,
-}
-
 /// What the terms of a list are evaluated in: the scope and depth of calls, and the marks of the bytes, whose first one is at this offset.
 #[derive(Clone, Copy)]
 pub(crate) struct Code<'t> {
@@ -44,47 +32,10 @@ pub(crate) struct Code<'t> {
     pub(crate) base: usize,
 }
 
-/// Keeps what a rule answered.
-#[inline(never)]
-pub(crate) fn left_of<S>(run: &mut Running<S>, outcome: Result<Flow, Refusal>) -> Left {
-    match outcome {
-        Ok(Flow::Value(Value::Integer(number))) => Left::Integer(number),
-        Ok(Flow::Value(value)) => {
-            run.kept = value;
-            Left::Value
-        }
-        Ok(Flow::Next) => Left::Next,
-        Ok(Flow::Break) => Left::Break,
-        Ok(Flow::Continue) => Left::Continue,
-        Ok(Flow::Return(value)) => {
-            run.kept = value;
-            Left::Return
-        }
-        Err(refusal) => {
-            run.fault = refusal;
-            Left::Refused
-        }
-    }
-}
-
-/// What was kept, as a rule answers it.
-#[inline(never)]
-pub(crate) fn told<S>(run: &mut Running<S>, left: Left) -> Result<Flow, Refusal> {
-    match left {
-        Left::Integer(number) => Ok(Flow::Value(Value::Integer(number))),
-        Left::Value => Ok(Flow::Value(run.kept)),
-        Left::Next => Ok(Flow::Next),
-        Left::Break => Ok(Flow::Break),
-        Left::Continue => Ok(Flow::Continue),
-        Left::Return => Ok(Flow::Return(run.kept)),
-        Left::Refused => Err(mem::replace(&mut run.fault, Refusal::OutOfMemory)),
-    }
-}
-
-#[inline(never)]
-fn refused<S>(run: &mut Running<S>, refusal: Refusal) -> Left {
-    run.fault = refusal;
-    Left::Refused
+/// An integer, as a term leaves it.
+#[inline(always)]
+fn integer(number: u64) -> Result<Flow, Refusal> {
+    Ok(Flow::Value(Value::Integer(number)))
 }
 
 /// A term by its rule in `terms`.
@@ -96,7 +47,7 @@ fn eval_other<S: Space>(
     code: &Code<'_>,
     head: &mut Head<'_>,
     levels: u8,
-) -> Left {
+) -> Result<Flow, Refusal> {
     let term = head.term(code.base, code.marks, levels);
     let outcome = eval_term(
         alloc,
@@ -107,45 +58,14 @@ fn eval_other<S: Space>(
         },
     );
     head.skip(code.base, code.marks, levels);
-    left_of(run, outcome)
-}
-
-/// The value that is wanted of what a term left; where there is none, that is kept as the refusal.
-#[inline(never)]
-fn value_left<S>(run: &mut Running<S>, left: Left) -> Option<Value> {
-    match left {
-        Left::Integer(number) => Some(Value::Integer(number)),
-        Left::Value => Some(run.kept),
-        Left::Refused => None,
-        _ => {
-            run.fault = Refusal::Evaluation(EvaluationFault::NoValue);
-            None
-        }
-    }
+    outcome
 }
 
 /// The integer that is wanted of what a term left, which is no integer.
 #[inline(never)]
-fn integer_left<S>(run: &mut Running<S>, left: Left) -> Option<u64> {
-    match value_left(run, left) {
-        None => None,
-        Some(value) => match run.world.integer_in(value) {
-            Ok(number) => Some(number),
-            Err(refusal) => {
-                run.fault = refusal;
-                None
-            }
-        },
-    }
-}
-
-#[inline(always)]
-fn paid<S>(run: &mut Running<S>) -> bool {
-    if run.steps == 0 {
-        return false;
-    }
-    run.steps -= 1;
-    true
+fn integer_of<S>(run: &Running<S>, flow: Flow) -> Result<u64, Refusal> {
+    let value = flow.value()?;
+    run.world.integer_in(value)
 }
 
 /// A term where a head stands, which goes over it.
@@ -156,7 +76,7 @@ pub(crate) fn eval_head<S: Space>(
     code: &Code<'_>,
     head: &mut Head<'_>,
     levels: u8,
-) -> Left {
+) -> Result<Flow, Refusal> {
     if levels < 2 || run.steps == 0 {
         return eval_other(alloc, run, code, head, levels);
     }
@@ -166,7 +86,7 @@ pub(crate) fn eval_head<S: Space>(
             Some(number) => {
                 run.steps -= 1;
                 head.over(1);
-                Left::Integer(number)
+                integer(number)
             }
             None => eval_other(alloc, run, code, head, levels),
         },
@@ -174,38 +94,38 @@ pub(crate) fn eval_head<S: Space>(
             Some(number) => {
                 run.steps -= 1;
                 head.over(1);
-                Left::Integer(number)
+                integer(number)
             }
             None => eval_other(alloc, run, code, head, levels),
         },
         0x00 | 0x01 => {
             run.steps -= 1;
             head.over(1);
-            Left::Integer(u64::from(first))
+            integer(u64::from(first))
         }
         0xFF => {
             run.steps -= 1;
             head.over(1);
-            Left::Integer(truncate_integer(run.world.width(), u64::MAX))
+            integer(truncate_integer(run.world.width(), u64::MAX))
         }
         0x0A => {
             run.steps -= 1;
             let number = u64::from(head.byte(1));
             head.over(2);
-            Left::Integer(number)
+            integer(number)
         }
         0x0B => {
             run.steps -= 1;
             let number = u64::from(head.byte(1)) + 256 * u64::from(head.byte(2));
             head.over(3);
-            Left::Integer(number)
+            integer(number)
         }
         0x0C => {
             run.steps -= 1;
             let low = u64::from(head.byte(1)) + 256 * u64::from(head.byte(2));
             let high = u64::from(head.byte(3)) + 256 * u64::from(head.byte(4));
             head.over(5);
-            Left::Integer(low + 0x1_0000 * high)
+            integer(low + 0x1_0000 * high)
         }
         0x70 => {
             run.steps -= 1;
@@ -226,10 +146,8 @@ pub(crate) fn eval_head<S: Space>(
         0x92 => {
             run.steps -= 1;
             head.over(1);
-            match eval_integer_here(alloc, run, code, head, levels - 1) {
-                None => Left::Refused,
-                Some(number) => Left::Integer(truth(run.world.width(), number == 0)),
-            }
+            let number = eval_integer_here(alloc, run, code, head, levels - 1)?;
+            integer(truth(run.world.width(), number == 0))
         }
         0xA0 => {
             run.steps -= 1;
@@ -244,18 +162,8 @@ pub(crate) fn eval_head<S: Space>(
         0xA4 => {
             run.steps -= 1;
             head.over(1);
-            let left = eval_head(alloc, run, code, head, levels - 1);
-            match left {
-                Left::Integer(number) => {
-                    run.kept = Value::Integer(number);
-                    Left::Return
-                }
-                Left::Value => Left::Return,
-                _ => match value_left(run, left) {
-                    None => Left::Refused,
-                    Some(value) => Left::Refused,
-                },
-            }
+            let value = eval_head(alloc, run, code, head, levels - 1)?.value()?;
+            Ok(Flow::Return(value))
         }
         0x41..=0x5A | 0x5F => eval_name_here(alloc, run, code, head, levels),
         0x5B => eval_mutex_here(alloc, run, code, head, levels),
@@ -273,35 +181,20 @@ fn eval_integer_here<S: Space>(
     code: &Code<'_>,
     head: &mut Head<'_>,
     levels: u8,
-) -> Option<u64> {
-    match eval_head(alloc, run, code, head, levels) {
-        Left::Integer(number) => Some(number),
-        left => integer_left(run, left),
+) -> Result<u64, Refusal> {
+    match eval_head(alloc, run, code, head, levels)? {
+        Flow::Value(Value::Integer(number)) => Ok(number),
+        flow => integer_of(run, flow),
     }
 }
 
-/// What two operands give, where one of them is no integer.
+/// What two operands give, of which one is no integer.
 #[inline(never)]
-fn two_values<S>(run: &mut Running<S>, first: Option<Value>, second: Left) -> Option<(u64, u64)> {
-    let Some(first) = first else {
-        return None;
-    };
-    let Some(second) = value_left(run, second) else {
-        return None;
-    };
-    match run.world.integer_in(first) {
-        Err(refusal) => {
-            run.fault = refusal;
-            None
-        }
-        Ok(x) => match run.world.integer_in(second) {
-            Err(refusal) => {
-                run.fault = refusal;
-                None
-            }
-            Ok(y) => Some((x, y)),
-        },
-    }
+fn two_integers<S>(run: &Running<S>, first: Value, second: Flow) -> Result<(u64, u64), Refusal> {
+    let second = second.value()?;
+    let x = run.world.integer_in(first)?;
+    let y = run.world.integer_in(second)?;
+    Ok((x, y))
 }
 
 #[inline(always)]
@@ -321,15 +214,22 @@ fn binary(op: u8) -> BinaryOperator {
     }
 }
 
-#[inline(never)]
-fn operated<S>(run: &mut Running<S>, op: u8, x: u64, y: u64) -> Option<u64> {
-    match operate(binary(op), run.world.width(), x, y) {
-        Ok(number) => Some(number),
-        Err(refusal) => {
-            run.fault = refusal;
-            None
-        }
+/// What an operator gives of two integers.
+#[inline(always)]
+fn operated<S>(run: &Running<S>, op: u8, x: u64, y: u64) -> Result<u64, Refusal> {
+    match op {
+        0x72 => Ok(truncate_integer(run.world.width(), x.wrapping_add(y))),
+        0x74 => Ok(truncate_integer(run.world.width(), x.wrapping_sub(y))),
+        0x7B => Ok(x & y),
+        0x7D => Ok(x | y),
+        0x7F => Ok(x ^ y),
+        _ => operated_by(run, op, x, y),
     }
+}
+
+#[inline(never)]
+fn operated_by<S>(run: &Running<S>, op: u8, x: u64, y: u64) -> Result<u64, Refusal> {
+    operate(binary(op), run.world.width(), x, y)
 }
 
 #[cycle(evaluation)]
@@ -340,36 +240,38 @@ fn eval_two_here<S: Space>(
     head: &mut Head<'_>,
     levels: u8,
     op: u8,
-) -> Left {
-    let first = eval_head(alloc, run, code, head, levels);
-    let numbers = match first {
-        Left::Integer(x) => match eval_head(alloc, run, code, head, levels) {
-            Left::Integer(y) => Some((x, y)),
-            second => two_values(run, Some(Value::Integer(x)), second),
-        },
-        first => match value_left(run, first) {
-            None => None,
-            Some(value) => {
-                let second = eval_head(alloc, run, code, head, levels);
-                two_values(run, Some(value), second)
-            }
-        },
-    };
-    let Some((x, y)) = numbers else {
-        return Left::Refused;
-    };
-    let result = match op {
-        0x72 => truncate_integer(run.world.width(), x.wrapping_add(y)),
-        0x74 => truncate_integer(run.world.width(), x.wrapping_sub(y)),
-        0x7B => x & y,
-        0x7D => x | y,
-        0x7F => x ^ y,
-        _ => match operated(run, op, x, y) {
-            None => return Left::Refused,
-            Some(number) => number,
-        },
-    };
-    eval_integer_put(alloc, run, code, head, levels, result)
+) -> Result<Flow, Refusal> {
+    let first = eval_head(alloc, run, code, head, levels)?;
+    if let Flow::Value(Value::Integer(x)) = first {
+        let second = eval_head(alloc, run, code, head, levels)?;
+        if let Flow::Value(Value::Integer(y)) = second {
+            let number = operated(run, op, x, y)?;
+            return eval_integer_put(alloc, run, code, head, levels, number);
+        }
+        let both = two_integers(run, Value::Integer(x), second)?;
+        let number = operated_by(run, op, both.0, both.1)?;
+        return eval_integer_put(alloc, run, code, head, levels, number);
+    }
+    eval_second(alloc, run, code, head, levels, op, first)
+}
+
+/// The rest of an operator whose first operand is no integer.
+#[inline(never)]
+#[cycle(evaluation)]
+fn eval_second<S: Space>(
+    alloc: Global,
+    run: &mut Running<S>,
+    code: &Code<'_>,
+    head: &mut Head<'_>,
+    levels: u8,
+    op: u8,
+    first: Flow,
+) -> Result<Flow, Refusal> {
+    let first = first.value()?;
+    let second = eval_head(alloc, run, code, head, levels)?;
+    let both = two_integers(run, first, second)?;
+    let number = operated_by(run, op, both.0, both.1)?;
+    eval_integer_put(alloc, run, code, head, levels, number)
 }
 
 /// An integer is stored to the target where a head stands, and is the value of the term.
@@ -382,31 +284,31 @@ fn eval_integer_put<S: Space>(
     head: &mut Head<'_>,
     levels: u8,
     number: u64,
-) -> Left {
+) -> Result<Flow, Refusal> {
     let first = head.first();
     match first {
         0 => {
             head.over(1);
-            Left::Integer(number)
+            integer(number)
         }
         0x60..=0x67 => {
             if run.world.put_local_integer(first - 0x60, number) {
                 head.over(1);
-                Left::Integer(number)
+                integer(number)
             } else {
-                eval_put(alloc, run, code, head, levels, Value::Integer(number))
+                eval_put(alloc, run, code, head, levels, Value::Integer(number), false)
             }
         }
         0x68..=0x6E => {
             if run.world.put_argument_integer(first - 0x68, number) {
                 head.over(1);
-                Left::Integer(number)
+                integer(number)
             } else {
-                eval_put(alloc, run, code, head, levels, Value::Integer(number))
+                eval_put(alloc, run, code, head, levels, Value::Integer(number), false)
             }
         }
         0x41..=0x5A | 0x5F => eval_integer_put_named(alloc, run, code, head, levels, number),
-        _ => eval_put(alloc, run, code, head, levels, Value::Integer(number)),
+        _ => eval_put(alloc, run, code, head, levels, Value::Integer(number), false),
     }
 }
 
@@ -420,30 +322,26 @@ fn eval_integer_put_named<S: Space>(
     head: &mut Head<'_>,
     levels: u8,
     number: u64,
-) -> Left {
+) -> Result<Flow, Refusal> {
     if run.forms & NAMES > 0 {
         if let Some(segment) = head.segment(0) {
             if let Some(id) = run.world.node_named(code.site.scope, segment) {
                 if run.world.put_integer_at(id, number) {
                     head.over(4);
-                    return Left::Integer(number);
+                    return integer(number);
                 }
                 if run.forms & FIELDS > 0 {
                     if let Some(unit) = unit_at(run, id) {
-                        match run.world.put_unit_integer(unit, number) {
-                            Ok(true) => {
-                                head.over(4);
-                                return Left::Integer(number);
-                            }
-                            Ok(false) => {}
-                            Err(refusal) => return refused(run, refusal),
+                        if run.world.put_unit_integer(unit, number)? {
+                            head.over(4);
+                            return integer(number);
                         }
                     }
                 }
             }
         }
     }
-    eval_put(alloc, run, code, head, levels, Value::Integer(number))
+    eval_put(alloc, run, code, head, levels, Value::Integer(number), false)
 }
 
 #[inline(always)]
@@ -488,7 +386,7 @@ fn eval_name_here<S: Space>(
     code: &Code<'_>,
     head: &mut Head<'_>,
     levels: u8,
-) -> Left {
+) -> Result<Flow, Refusal> {
     if run.forms & NAMES == 0 {
         return eval_other(alloc, run, code, head, levels);
     }
@@ -503,21 +401,19 @@ fn eval_name_here<S: Space>(
         Seen::Data(Value::Integer(number)) if count == 0 => {
             run.steps -= 1;
             head.over(4);
-            Left::Integer(number)
+            integer(number)
         }
         Seen::Data(value) if count == 0 && !matches!(value, Value::Reference(_)) => {
             run.steps -= 1;
             head.over(4);
-            run.kept = value;
-            Left::Value
+            Ok(Flow::Value(value))
         }
         Seen::Unit(unit) if count == 0 && run.forms & FIELDS > 0 => {
             run.steps -= 1;
             head.over(4);
-            match run.world.unit_integer(unit) {
-                Ok(Some(number)) => Left::Integer(number),
-                Ok(None) => eval_unit_here(alloc, run, code, unit),
-                Err(refusal) => refused(run, refusal),
+            match run.world.unit_integer(unit)? {
+                Some(number) => integer(number),
+                None => eval_unit_here(alloc, run, code, unit),
             }
         }
         Seen::Method(arguments) if count == arguments && run.forms & CALLS > 0 => {
@@ -529,11 +425,9 @@ fn eval_name_here<S: Space>(
 
 #[inline(never)]
 #[cycle(evaluation)]
-fn eval_unit_here<S: Space>(alloc: Global, run: &mut Running<S>, code: &Code<'_>, unit: FieldUnit) -> Left {
-    match eval_field_read(alloc, run, code.site.depth, Field::Unit(unit)) {
-        Ok(value) => left_of(run, Ok(Flow::Value(value))),
-        Err(refusal) => refused(run, refusal),
-    }
+fn eval_unit_here<S: Space>(alloc: Global, run: &mut Running<S>, code: &Code<'_>, unit: FieldUnit) -> Result<Flow, Refusal> {
+    let value = eval_field_read(alloc, run, code.site.depth, Field::Unit(unit))?;
+    Ok(Flow::Value(value))
 }
 
 /// Acquire and Release of a mutex that one segment names.
@@ -545,7 +439,7 @@ fn eval_mutex_here<S: Space>(
     code: &Code<'_>,
     head: &mut Head<'_>,
     levels: u8,
-) -> Left {
+) -> Result<Flow, Refusal> {
     let second = head.byte(1);
     if run.forms & MUTEXES == 0 || !(second == 0x23 || second == 0x27) {
         return eval_other(alloc, run, code, head, levels);
@@ -560,14 +454,14 @@ fn eval_mutex_here<S: Space>(
         if run.world.acquire_node(id) {
             run.steps -= 1;
             head.over(8);
-            Left::Integer(0)
+            integer(0)
         } else {
             eval_other(alloc, run, code, head, levels)
         }
     } else if run.world.release_node(id) {
         run.steps -= 1;
         head.over(6);
-        Left::Next
+        Ok(Flow::Next)
     } else {
         eval_other(alloc, run, code, head, levels)
     }
@@ -583,7 +477,7 @@ fn eval_bytes_here<S: Space>(
     head: &mut Head<'_>,
     levels: u8,
     op: u8,
-) -> Left {
+) -> Result<Flow, Refusal> {
     if run.forms & STRINGS == 0 {
         return eval_other(alloc, run, code, head, levels);
     }
@@ -594,16 +488,12 @@ fn eval_bytes_here<S: Space>(
             let text = head.text();
             head.over(text.len());
             head.over(1);
-            let made = made_string(alloc, run, text);
-            left_of(run, made)
+            made_string(alloc, run, text)
         }
         0x11 => {
             let mut inside = head.open();
-            let Some(length) = eval_integer_here(alloc, run, code, &mut inside, levels - 1) else {
-                return Left::Refused;
-            };
-            let made = made_buffer(alloc, run, length, &inside.bytes[inside.at..]);
-            left_of(run, made)
+            let length = eval_integer_here(alloc, run, code, &mut inside, levels - 1)?;
+            made_buffer(alloc, run, length, &inside.bytes[inside.at..])
         }
         _ => eval_joined_here(alloc, run, code, head, levels - 1),
     }
@@ -629,20 +519,11 @@ fn eval_joined_here<S: Space>(
     code: &Code<'_>,
     head: &mut Head<'_>,
     levels: u8,
-) -> Left {
-    let first = eval_head(alloc, run, code, head, levels);
-    let Some(first) = value_left(run, first) else {
-        return Left::Refused;
-    };
-    let second = eval_head(alloc, run, code, head, levels);
-    let Some(second) = value_left(run, second) else {
-        return Left::Refused;
-    };
-    let joined = run.world.operate_on_two(alloc, TwoOperands::Concatenate, first, second);
-    match joined {
-        Ok(value) => eval_put(alloc, run, code, head, levels, value),
-        Err(refusal) => refused(run, refusal),
-    }
+) -> Result<Flow, Refusal> {
+    let first = eval_head(alloc, run, code, head, levels)?.value()?;
+    let second = eval_head(alloc, run, code, head, levels)?.value()?;
+    let value = run.world.operate_on_two(alloc, TwoOperands::Concatenate, first, second)?;
+    eval_put(alloc, run, code, head, levels, value, false)
 }
 
 /// A call of the control method that a node is, with as many arguments as it takes.
@@ -656,7 +537,7 @@ fn eval_call_here<S: Space>(
     levels: u8,
     id: NodeId,
     count: u8,
-) -> Left {
+) -> Result<Flow, Refusal> {
     let mut known = None;
     if run.forms & KNOWN > 0 {
         known = known_call(run, id.number);
@@ -677,31 +558,15 @@ fn eval_call_here<S: Space>(
     let mut arguments = [Value::Uninitialized; 7];
     let mut at: usize = 0;
     'arguments: while at < usize::from(count) && at < 7 {
-        let left = eval_head(alloc, run, code, head, levels - 1);
-        match left {
-            Left::Integer(number) => arguments[at] = Value::Integer(number),
-            Left::Value => arguments[at] = run.kept,
-            left => match value_left(run, left) {
-                None => return Left::Refused,
-                Some(value) => arguments[at] = value,
-            },
-        }
+        arguments[at] = eval_head(alloc, run, code, head, levels - 1)?.value()?;
         at += 1;
     }
-    if code.site.depth >= MAX_DEPTH {
-        return refused(run, Refusal::Evaluation(EvaluationFault::CallDepth));
-    }
+    shallow(code.site.depth)?;
     let mut newer = None;
     if run.world.changes() != read {
-        newer = match read_body(alloc, &run.world, &call.path, &call.body) {
-            Ok(marks) => Some(marks),
-            Err(refusal) => return refused(run, refusal),
-        };
+        newer = Some(read_body(alloc, &run.world, &call.path, &call.body)?);
     }
-    match run.world.open_frame(arguments) {
-        Ok(_) => {}
-        Err(refusal) => return refused(run, refusal),
-    }
+    run.world.open_frame(arguments)?;
     let scope = Scope {
         path: &call.path,
         node: id,
@@ -729,12 +594,8 @@ fn eval_call_here<S: Space>(
         }
     }
     match left {
-        Left::Refused => Left::Refused,
-        Left::Return => match run.kept {
-            Value::Integer(number) => Left::Integer(number),
-            _ => Left::Value,
-        },
-        _ => Left::Next,
+        Ok(flow) => Ok(flow.of_call()),
+        Err(refusal) => Err(refusal),
     }
 }
 
@@ -796,9 +657,10 @@ fn eval_target_here<S: Space>(
     code: &Code<'_>,
     head: &mut Head<'_>,
     levels: u8,
+    is_store: bool,
 ) -> Result<StoreTarget, Refusal> {
     let first = head.first();
-    if first == 0 {
+    if first == 0 && !is_store {
         head.over(1);
         return Ok(StoreTarget::Nowhere);
     }
@@ -835,24 +697,21 @@ fn eval_put<S: Space>(
     head: &mut Head<'_>,
     levels: u8,
     value: Value,
-) -> Left {
+    is_store: bool,
+) -> Result<Flow, Refusal> {
     let first = head.first();
-    let target = if first == 0 {
+    if first == 0 && !is_store {
         head.over(1);
-        return left_of(run, Ok(Flow::Value(value)));
-    } else if 0x60 <= first && first <= 0x67 && run.forms & STRINGS > 0 {
+        return Ok(Flow::Value(value));
+    }
+    let target = if 0x60 <= first && first <= 0x67 && run.forms & STRINGS > 0 {
         head.over(1);
         StoreTarget::Slot(Slot::Local(first - 0x60))
     } else {
-        match eval_target_here(alloc, run, code, head, levels) {
-            Ok(target) => target,
-            Err(refusal) => return refused(run, refusal),
-        }
+        eval_target_here(alloc, run, code, head, levels, is_store)?
     };
-    match eval_stored_to(alloc, run, code.site.depth, &target, value) {
-        Ok(()) => left_of(run, Ok(Flow::Value(value))),
-        Err(refusal) => refused(run, refusal),
-    }
+    eval_stored_to(alloc, run, code.site.depth, &target, value)?;
+    Ok(Flow::Value(value))
 }
 
 #[inline(always)]
@@ -863,13 +722,15 @@ fn eval_store_here<S: Space>(
     code: &Code<'_>,
     head: &mut Head<'_>,
     levels: u8,
-) -> Left {
-    match eval_head(alloc, run, code, head, levels) {
-        Left::Integer(number) => eval_integer_put(alloc, run, code, head, levels, number),
-        left => match value_left(run, left) {
-            None => Left::Refused,
-            Some(value) => eval_put(alloc, run, code, head, levels, value),
-        },
+) -> Result<Flow, Refusal> {
+    match eval_head(alloc, run, code, head, levels)? {
+        Flow::Value(Value::Integer(number)) if head.first() > 0 => {
+            eval_integer_put(alloc, run, code, head, levels, number)
+        }
+        flow => {
+            let value = flow.value()?;
+            eval_put(alloc, run, code, head, levels, value, true)
+        }
     }
 }
 
@@ -882,7 +743,7 @@ fn eval_count_here<S: Space>(
     head: &mut Head<'_>,
     levels: u8,
     up: bool,
-) -> Left {
+) -> Result<Flow, Refusal> {
     let place = head.byte(1);
     let held = match place {
         0x60..=0x67 => run.world.local_integer(place - 0x60),
@@ -901,7 +762,7 @@ fn eval_count_here<S: Space>(
     } else {
         run.world.put_argument_integer(place - 0x68, next)
     };
-    Left::Integer(next)
+    integer(next)
 }
 
 #[cycle(evaluation)]
@@ -912,38 +773,45 @@ fn eval_test_here<S: Space>(
     head: &mut Head<'_>,
     levels: u8,
     op: u8,
-) -> Left {
-    let first = eval_head(alloc, run, code, head, levels);
-    match first {
-        Left::Integer(x) => match eval_head(alloc, run, code, head, levels) {
-            Left::Integer(y) => {
-                let holds = match op {
-                    0x90 => x != 0 && y != 0,
-                    0x91 => x != 0 || y != 0,
-                    0x93 => x == y,
-                    0x94 => x > y,
-                    _ => x < y,
-                };
-                Left::Integer(truth(run.world.width(), holds))
-            }
-            second => tested(alloc, run, op, Value::Integer(x), second),
-        },
-        first => match value_left(run, first) {
-            None => Left::Refused,
-            Some(value) => {
-                let second = eval_head(alloc, run, code, head, levels);
-                tested(alloc, run, op, value, second)
-            }
-        },
+) -> Result<Flow, Refusal> {
+    let first = eval_head(alloc, run, code, head, levels)?;
+    if let Flow::Value(Value::Integer(x)) = first {
+        let second = eval_head(alloc, run, code, head, levels)?;
+        if let Flow::Value(Value::Integer(y)) = second {
+            let holds = match op {
+                0x90 => x != 0 && y != 0,
+                0x91 => x != 0 || y != 0,
+                0x93 => x == y,
+                0x94 => x > y,
+                _ => x < y,
+            };
+            return integer(truth(run.world.width(), holds));
+        }
+        return tested(alloc, run, op, Value::Integer(x), second);
     }
+    eval_second_tested(alloc, run, code, head, levels, op, first)
+}
+
+#[inline(never)]
+#[cycle(evaluation)]
+fn eval_second_tested<S: Space>(
+    alloc: Global,
+    run: &mut Running<S>,
+    code: &Code<'_>,
+    head: &mut Head<'_>,
+    levels: u8,
+    op: u8,
+    first: Flow,
+) -> Result<Flow, Refusal> {
+    let first = first.value()?;
+    let second = eval_head(alloc, run, code, head, levels)?;
+    tested(alloc, run, op, first, second)
 }
 
 /// A test of two values that are not both integers.
 #[inline(never)]
-fn tested<S>(alloc: Global, run: &mut Running<S>, op: u8, first: Value, second: Left) -> Left {
-    let Some(second) = value_left(run, second) else {
-        return Left::Refused;
-    };
+fn tested<S>(alloc: Global, run: &mut Running<S>, op: u8, first: Value, second: Flow) -> Result<Flow, Refusal> {
+    let second = second.value()?;
     let test = match op {
         0x90 => aml_meaning::Test::Logical(aml_convert::LogicalOperator::And),
         0x91 => aml_meaning::Test::Logical(aml_convert::LogicalOperator::Or),
@@ -951,11 +819,8 @@ fn tested<S>(alloc: Global, run: &mut Running<S>, op: u8, first: Value, second: 
         0x94 => aml_meaning::Test::Compare(aml_convert::Comparison::Greater),
         _ => aml_meaning::Test::Compare(aml_convert::Comparison::Less),
     };
-    let outcome = run.world.test(alloc, test, first, second);
-    match outcome {
-        Ok(value) => left_of(run, Ok(Flow::Value(value))),
-        Err(refusal) => refused(run, refusal),
-    }
+    let value = run.world.test(alloc, test, first, second)?;
+    Ok(Flow::Value(value))
 }
 
 #[inline(never)]
@@ -966,12 +831,9 @@ fn eval_if_here<S: Space>(
     code: &Code<'_>,
     head: &mut Head<'_>,
     levels: u8,
-) -> Left {
+) -> Result<Flow, Refusal> {
     let mut inside = head.open();
-    let number = match eval_integer_here(alloc, run, code, &mut inside, levels) {
-        None => return Left::Refused,
-        Some(number) => number,
-    };
+    let number = eval_integer_here(alloc, run, code, &mut inside, levels)?;
     if number != 0 {
         if head.first() == 0xA1 {
             head.over(1);
@@ -980,10 +842,10 @@ fn eval_if_here<S: Space>(
         return eval_items(alloc, run, code, &mut inside, levels);
     }
     if head.first() != 0xA1 {
-        return Left::Next;
+        return Ok(Flow::Next);
     }
     if run.steps == 0 {
-        return refused(run, Refusal::Evaluation(EvaluationFault::OutOfSteps));
+        return Err(Refusal::Evaluation(EvaluationFault::OutOfSteps));
     }
     run.steps -= 1;
     head.over(1);
@@ -999,22 +861,17 @@ fn eval_while_here<S: Space>(
     code: &Code<'_>,
     head: &mut Head<'_>,
     levels: u8,
-) -> Left {
+) -> Result<Flow, Refusal> {
     let start = head.open();
     'turns: loop {
         let mut inside = start;
-        let number = match eval_integer_here(alloc, run, code, &mut inside, levels) {
-            None => return Left::Refused,
-            Some(number) => number,
-        };
+        let number = eval_integer_here(alloc, run, code, &mut inside, levels)?;
         if number == 0 {
-            return Left::Next;
+            return Ok(Flow::Next);
         }
-        match eval_items(alloc, run, code, &mut inside, levels) {
-            Left::Break => return Left::Next,
-            Left::Return => return Left::Return,
-            Left::Refused => return Left::Refused,
-            _ => {}
+        match eval_items(alloc, run, code, &mut inside, levels)?.loop_end() {
+            None => {}
+            Some(last) => return Ok(last),
         }
     }
 }
@@ -1027,14 +884,14 @@ pub(crate) fn eval_items<S: Space>(
     code: &Code<'_>,
     head: &mut Head<'_>,
     levels: u8,
-) -> Left {
+) -> Result<Flow, Refusal> {
     let mut turns = head.left();
     'items: while turns > 0 && !head.is_over() {
-        match eval_head(alloc, run, code, head, levels) {
-            Left::Integer(_) | Left::Value | Left::Next => {}
-            left => return left,
+        let flow = eval_head(alloc, run, code, head, levels)?;
+        if !flow.goes_on() {
+            return Ok(flow);
         }
         turns -= 1;
     }
-    Left::Next
+    Ok(Flow::Next)
 }

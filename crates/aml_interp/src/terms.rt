@@ -15,7 +15,7 @@ use crate::data::eval_data;
 use crate::declarations::eval_declaration;
 use crate::invocations::eval_name_value;
 use crate::operands::{Reader, code, inner};
-use crate::swift::{Code, eval_items, told};
+use crate::swift::{Code, eval_items};
 use aml_terms::head_of;
 use crate::operators::eval_operator;
 use crate::regions::eval_region_term;
@@ -205,6 +205,5 @@ pub(crate) fn eval_list<S: Space>(
         marks,
         base,
     };
-    let left = eval_items(alloc, run, &code, &mut head, levels);
-    told(run, left)
+    eval_items(alloc, run, &code, &mut head, levels)
 }
