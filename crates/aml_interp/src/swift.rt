@@ -13,7 +13,6 @@ use aml_objects::{Field, FieldUnit, MethodBody, NamedObject, NodeId, Octets, Slo
 use aml_terms::{Head, Marks, read_name};
 use ar_space::{EvaluationFault, IntegerWidth, NameFault, Refusal, Space};
 use std::alloc::Global;
-use std::mem;
 use std::rc::Rc;
 
 const NAMES: u64 = 1;
@@ -22,6 +21,7 @@ const FIELDS: u64 = 4;
 const STRINGS: u64 = 8;
 const CALLS: u64 = 16;
 const KNOWN: u64 = 32;
+const SHORT: u64 = 64;
 
 
 /// What the terms of a list are evaluated in: the scope and depth of calls, and the marks of the bytes, whose first one is at this offset.
@@ -66,6 +66,52 @@ fn eval_other<S: Space>(
 fn integer_of<S>(run: &Running<S>, flow: Flow) -> Result<u64, Refusal> {
     let value = flow.value()?;
     run.world.integer_in(value)
+}
+
+/// The integer that a short term gives: a local or an argument that holds one, or a constant. It takes a step. Where anything else
+/// stands, or no step is left, nothing changes.
+#[inline(always)]
+fn short_integer<S>(run: &mut Running<S>, head: &mut Head<'_>, levels: u8) -> Option<u64> {
+    if levels < 2 || run.steps == 0 || run.forms & SHORT == 0 {
+        return None;
+    }
+    let first = head.first();
+    match first {
+        0x60..=0x67 => match run.world.local_integer(first - 0x60) {
+            Some(number) => {
+                run.steps -= 1;
+                head.over(1);
+                Some(number)
+            }
+            None => None,
+        },
+        0x68..=0x6E => match run.world.argument_integer(first - 0x68) {
+            Some(number) => {
+                run.steps -= 1;
+                head.over(1);
+                Some(number)
+            }
+            None => None,
+        },
+        0x00 | 0x01 => {
+            run.steps -= 1;
+            head.over(1);
+            Some(u64::from(first))
+        }
+        0x0A => {
+            run.steps -= 1;
+            let number = u64::from(head.byte(1));
+            head.over(2);
+            Some(number)
+        }
+        0x0B => {
+            run.steps -= 1;
+            let number = u64::from(head.byte(1)) + 256 * u64::from(head.byte(2));
+            head.over(3);
+            Some(number)
+        }
+        _ => None,
+    }
 }
 
 /// A term where a head stands, which goes over it.
@@ -146,8 +192,7 @@ pub(crate) fn eval_head<S: Space>(
         0x92 => {
             run.steps -= 1;
             head.over(1);
-            let number = eval_integer_here(alloc, run, code, head, levels - 1)?;
-            integer(truth(run.world.width(), number == 0))
+            eval_not_here(alloc, run, code, head, levels - 1)
         }
         0xA0 => {
             run.steps -= 1;
@@ -162,14 +207,42 @@ pub(crate) fn eval_head<S: Space>(
         0xA4 => {
             run.steps -= 1;
             head.over(1);
-            let value = eval_head(alloc, run, code, head, levels - 1)?.value()?;
-            Ok(Flow::Return(value))
+            eval_return_here(alloc, run, code, head, levels - 1)
         }
         0x41..=0x5A | 0x5F => eval_name_here(alloc, run, code, head, levels),
         0x5B => eval_mutex_here(alloc, run, code, head, levels),
         0x0D | 0x11 | 0x73 => eval_bytes_here(alloc, run, code, head, levels, first),
         _ => eval_other(alloc, run, code, head, levels),
     }
+}
+
+#[inline(never)]
+#[cycle(evaluation)]
+fn eval_not_here<S: Space>(
+    alloc: Global,
+    run: &mut Running<S>,
+    code: &Code<'_>,
+    head: &mut Head<'_>,
+    levels: u8,
+) -> Result<Flow, Refusal> {
+    let number = eval_integer_here(alloc, run, code, head, levels)?;
+    integer(truth(run.world.width(), number == 0))
+}
+
+#[inline(never)]
+#[cycle(evaluation)]
+fn eval_return_here<S: Space>(
+    alloc: Global,
+    run: &mut Running<S>,
+    code: &Code<'_>,
+    head: &mut Head<'_>,
+    levels: u8,
+) -> Result<Flow, Refusal> {
+    if let Some(number) = short_integer(run, head, levels) {
+        return Ok(Flow::Return(Value::Integer(number)));
+    }
+    let value = eval_head(alloc, run, code, head, levels)?.value()?;
+    Ok(Flow::Return(value))
 }
 
 /// An integer that the operand gives where a head stands.
@@ -182,6 +255,9 @@ fn eval_integer_here<S: Space>(
     head: &mut Head<'_>,
     levels: u8,
 ) -> Result<u64, Refusal> {
+    if let Some(number) = short_integer(run, head, levels) {
+        return Ok(number);
+    }
     match eval_head(alloc, run, code, head, levels)? {
         Flow::Value(Value::Integer(number)) => Ok(number),
         flow => integer_of(run, flow),
@@ -232,6 +308,7 @@ fn operated_by<S>(run: &Running<S>, op: u8, x: u64, y: u64) -> Result<u64, Refus
     operate(binary(op), run.world.width(), x, y)
 }
 
+#[inline(never)]
 #[cycle(evaluation)]
 fn eval_two_here<S: Space>(
     alloc: Global,
@@ -241,18 +318,40 @@ fn eval_two_here<S: Space>(
     levels: u8,
     op: u8,
 ) -> Result<Flow, Refusal> {
-    let first = eval_head(alloc, run, code, head, levels)?;
-    if let Flow::Value(Value::Integer(x)) = first {
-        let second = eval_head(alloc, run, code, head, levels)?;
-        if let Flow::Value(Value::Integer(y)) = second {
-            let number = operated(run, op, x, y)?;
-            return eval_integer_put(alloc, run, code, head, levels, number);
-        }
-        let both = two_integers(run, Value::Integer(x), second)?;
-        let number = operated_by(run, op, both.0, both.1)?;
-        return eval_integer_put(alloc, run, code, head, levels, number);
-    }
-    eval_second(alloc, run, code, head, levels, op, first)
+    let x = match short_integer(run, head, levels) {
+        Some(x) => x,
+        None => match eval_head(alloc, run, code, head, levels)? {
+            Flow::Value(Value::Integer(x)) => x,
+            first => return eval_second(alloc, run, code, head, levels, op, first),
+        },
+    };
+    let y = match short_integer(run, head, levels) {
+        Some(y) => y,
+        None => match eval_head(alloc, run, code, head, levels)? {
+            Flow::Value(Value::Integer(y)) => y,
+            second => return eval_operated(alloc, run, code, head, levels, op, Value::Integer(x), second),
+        },
+    };
+    let number = operated(run, op, x, y)?;
+    eval_integer_put(alloc, run, code, head, levels, number)
+}
+
+/// The rest of an operator of whose operands one is no integer.
+#[inline(never)]
+#[cycle(evaluation)]
+fn eval_operated<S: Space>(
+    alloc: Global,
+    run: &mut Running<S>,
+    code: &Code<'_>,
+    head: &mut Head<'_>,
+    levels: u8,
+    op: u8,
+    first: Value,
+    second: Flow,
+) -> Result<Flow, Refusal> {
+    let both = two_integers(run, first, second)?;
+    let number = operated_by(run, op, both.0, both.1)?;
+    eval_integer_put(alloc, run, code, head, levels, number)
 }
 
 /// The rest of an operator whose first operand is no integer.
@@ -269,13 +368,11 @@ fn eval_second<S: Space>(
 ) -> Result<Flow, Refusal> {
     let first = first.value()?;
     let second = eval_head(alloc, run, code, head, levels)?;
-    let both = two_integers(run, first, second)?;
-    let number = operated_by(run, op, both.0, both.1)?;
-    eval_integer_put(alloc, run, code, head, levels, number)
+    eval_operated(alloc, run, code, head, levels, op, first, second)
 }
 
 /// An integer is stored to the target where a head stands, and is the value of the term.
-#[inline(always)]
+#[inline(never)]
 #[cycle(evaluation)]
 fn eval_integer_put<S: Space>(
     alloc: Global,
@@ -558,22 +655,41 @@ fn eval_call_here<S: Space>(
     let mut arguments = [Value::Uninitialized; 7];
     let mut at: usize = 0;
     'arguments: while at < usize::from(count) && at < 7 {
-        arguments[at] = eval_head(alloc, run, code, head, levels - 1)?.value()?;
+        arguments[at] = match short_integer(run, head, levels - 1) {
+            Some(number) => Value::Integer(number),
+            None => eval_head(alloc, run, code, head, levels - 1)?.value()?,
+        };
         at += 1;
     }
     shallow(code.site.depth)?;
+    eval_called(alloc, run, code.site.depth, id, call, &arguments, read, fresh)
+}
+
+/// The body of a control method, in a frame of its own, with these arguments.
+#[inline(never)]
+#[cycle(evaluation)]
+fn eval_called<S: Space>(
+    alloc: Global,
+    run: &mut Running<S>,
+    depth: usize,
+    id: NodeId,
+    call: Rc<Called>,
+    arguments: &[Value; 7],
+    read: u64,
+    fresh: bool,
+) -> Result<Flow, Refusal> {
     let mut newer = None;
     if run.world.changes() != read {
         newer = Some(read_body(alloc, &run.world, &call.path, &call.body)?);
     }
-    run.world.open_frame(arguments)?;
+    run.world.open_frame(*arguments)?;
     let scope = Scope {
         path: &call.path,
         node: id,
     };
     let site = Site {
         scope,
-        depth: code.site.depth + 1,
+        depth: depth + 1,
     };
     let inner = Code {
         site: &site,
@@ -714,7 +830,7 @@ fn eval_put<S: Space>(
     Ok(Flow::Value(value))
 }
 
-#[inline(always)]
+#[inline(never)]
 #[cycle(evaluation)]
 fn eval_store_here<S: Space>(
     alloc: Global,
@@ -723,6 +839,13 @@ fn eval_store_here<S: Space>(
     head: &mut Head<'_>,
     levels: u8,
 ) -> Result<Flow, Refusal> {
+    if let Some(number) = short_integer(run, head, levels) {
+        return if head.first() > 0 {
+            eval_integer_put(alloc, run, code, head, levels, number)
+        } else {
+            eval_put(alloc, run, code, head, levels, Value::Integer(number), true)
+        };
+    }
     match eval_head(alloc, run, code, head, levels)? {
         Flow::Value(Value::Integer(number)) if head.first() > 0 => {
             eval_integer_put(alloc, run, code, head, levels, number)
@@ -734,7 +857,7 @@ fn eval_store_here<S: Space>(
     }
 }
 
-#[inline(always)]
+#[inline(never)]
 #[cycle(evaluation)]
 fn eval_count_here<S: Space>(
     alloc: Global,
@@ -765,6 +888,7 @@ fn eval_count_here<S: Space>(
     integer(next)
 }
 
+#[inline(never)]
 #[cycle(evaluation)]
 fn eval_test_here<S: Space>(
     alloc: Global,
@@ -774,22 +898,28 @@ fn eval_test_here<S: Space>(
     levels: u8,
     op: u8,
 ) -> Result<Flow, Refusal> {
-    let first = eval_head(alloc, run, code, head, levels)?;
-    if let Flow::Value(Value::Integer(x)) = first {
-        let second = eval_head(alloc, run, code, head, levels)?;
-        if let Flow::Value(Value::Integer(y)) = second {
-            let holds = match op {
-                0x90 => x != 0 && y != 0,
-                0x91 => x != 0 || y != 0,
-                0x93 => x == y,
-                0x94 => x > y,
-                _ => x < y,
-            };
-            return integer(truth(run.world.width(), holds));
-        }
-        return tested(alloc, run, op, Value::Integer(x), second);
-    }
-    eval_second_tested(alloc, run, code, head, levels, op, first)
+    let x = match short_integer(run, head, levels) {
+        Some(x) => x,
+        None => match eval_head(alloc, run, code, head, levels)? {
+            Flow::Value(Value::Integer(x)) => x,
+            first => return eval_second_tested(alloc, run, code, head, levels, op, first),
+        },
+    };
+    let y = match short_integer(run, head, levels) {
+        Some(y) => y,
+        None => match eval_head(alloc, run, code, head, levels)? {
+            Flow::Value(Value::Integer(y)) => y,
+            second => return tested(alloc, run, op, Value::Integer(x), second),
+        },
+    };
+    let holds = match op {
+        0x90 => x != 0 && y != 0,
+        0x91 => x != 0 || y != 0,
+        0x93 => x == y,
+        0x94 => x > y,
+        _ => x < y,
+    };
+    integer(truth(run.world.width(), holds))
 }
 
 #[inline(never)]
