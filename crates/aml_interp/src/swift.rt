@@ -455,8 +455,9 @@ fn unit_at<S>(run: &Running<S>, id: NodeId) -> Option<FieldUnit> {
 /// What stands at a node, where a value is wanted.
 #[derive(Clone, Copy)]
 enum Seen {
-    Data(Value),
-    Unit(FieldUnit),
+    Integer(u64),
+    Data,
+    Unit,
     Method(u8),
     Other,
 }
@@ -465,12 +466,35 @@ enum Seen {
 fn seen<S>(run: &Running<S>, id: NodeId) -> Seen {
     match run.world.names().node(id) {
         Some(entry) => match &entry.object {
-            NamedObject::Data(value) => Seen::Data(*value),
-            NamedObject::FieldUnit(unit) => Seen::Unit(*unit),
+            NamedObject::Data(Value::Integer(number)) => Seen::Integer(*number),
+            NamedObject::Data(Value::Reference(_)) => Seen::Other,
+            NamedObject::Data(_) => Seen::Data,
+            NamedObject::FieldUnit(_) => Seen::Unit,
             NamedObject::Method(method) => Seen::Method(method.flags.arguments()),
             _ => Seen::Other,
         },
         None => Seen::Other,
+    }
+}
+
+/// The value that a node holds, which is data.
+#[inline(never)]
+fn data_at<S>(run: &Running<S>, id: NodeId) -> Result<Flow, Refusal> {
+    match run.world.names().node(id) {
+        Some(entry) => match &entry.object {
+            NamedObject::Data(value) => Ok(Flow::Value(*value)),
+            _ => Ok(Flow::Value(Value::Uninitialized)),
+        },
+        None => Ok(Flow::Value(Value::Uninitialized)),
+    }
+}
+
+/// The node that the segment finds where a head stands.
+#[inline(never)]
+fn node_here<S>(run: &Running<S>, code: &Code<'_>, head: &Head<'_>, on: usize) -> Option<NodeId> {
+    match head.segment(on) {
+        None => None,
+        Some(segment) => run.world.node_named(code.site.scope, segment),
     }
 }
 
@@ -487,31 +511,25 @@ fn eval_name_here<S: Space>(
     if run.forms & NAMES == 0 {
         return eval_other(alloc, run, code, head, levels);
     }
-    let Some(segment) = head.segment(0) else {
-        return eval_other(alloc, run, code, head, levels);
-    };
-    let Some(id) = run.world.node_named(code.site.scope, segment) else {
+    let Some(id) = node_here(run, code, head, 0) else {
         return eval_other(alloc, run, code, head, levels);
     };
     let count = code.marks.count_at(code.base + head.at);
     match seen(run, id) {
-        Seen::Data(Value::Integer(number)) if count == 0 => {
+        Seen::Integer(number) if count == 0 => {
             run.steps -= 1;
             head.over(4);
             integer(number)
         }
-        Seen::Data(value) if count == 0 && !matches!(value, Value::Reference(_)) => {
+        Seen::Data if count == 0 => {
             run.steps -= 1;
             head.over(4);
-            Ok(Flow::Value(value))
+            data_at(run, id)
         }
-        Seen::Unit(unit) if count == 0 && run.forms & FIELDS > 0 => {
+        Seen::Unit if count == 0 && run.forms & FIELDS > 0 => {
             run.steps -= 1;
             head.over(4);
-            match run.world.unit_integer(unit)? {
-                Some(number) => integer(number),
-                None => eval_unit_here(alloc, run, code, unit),
-            }
+            eval_unit_here(alloc, run, code, id)
         }
         Seen::Method(arguments) if count == arguments && run.forms & CALLS > 0 => {
             eval_call_here(alloc, run, code, head, levels, id, count)
@@ -520,9 +538,27 @@ fn eval_name_here<S: Space>(
     }
 }
 
+/// The bits of a field unit that a node is.
 #[inline(never)]
 #[cycle(evaluation)]
-fn eval_unit_here<S: Space>(alloc: Global, run: &mut Running<S>, code: &Code<'_>, unit: FieldUnit) -> Result<Flow, Refusal> {
+fn eval_unit_here<S: Space>(
+    alloc: Global,
+    run: &mut Running<S>,
+    code: &Code<'_>,
+    id: NodeId,
+) -> Result<Flow, Refusal> {
+    let Some(unit) = unit_at(run, id) else {
+        return Ok(Flow::Next);
+    };
+    match run.world.unit_integer(unit)? {
+        Some(number) => integer(number),
+        None => eval_unit_in(alloc, run, code, unit),
+    }
+}
+
+#[inline(never)]
+#[cycle(evaluation)]
+fn eval_unit_in<S: Space>(alloc: Global, run: &mut Running<S>, code: &Code<'_>, unit: FieldUnit) -> Result<Flow, Refusal> {
     let value = eval_field_read(alloc, run, code.site.depth, Field::Unit(unit))?;
     Ok(Flow::Value(value))
 }
@@ -623,6 +659,20 @@ fn eval_joined_here<S: Space>(
     eval_put(alloc, run, code, head, levels, value, false)
 }
 
+/// The control method that a node is, as a call needs it, and whether it was read for this call.
+#[inline(never)]
+fn call_found<S>(alloc: Global, run: &mut Running<S>, id: NodeId) -> Option<(Rc<Called>, bool)> {
+    if run.forms & KNOWN > 0 {
+        if let Some(call) = known_call(run, id.number) {
+            return Some((call, false));
+        }
+    }
+    match new_call(alloc, run, id) {
+        Ok(Some(call)) => Some((call, true)),
+        _ => None,
+    }
+}
+
 /// A call of the control method that a node is, with as many arguments as it takes.
 #[inline(never)]
 #[cycle(evaluation)]
@@ -635,19 +685,9 @@ fn eval_call_here<S: Space>(
     id: NodeId,
     count: u8,
 ) -> Result<Flow, Refusal> {
-    let mut known = None;
-    if run.forms & KNOWN > 0 {
-        known = known_call(run, id.number);
-    }
-    let fresh = known.is_none();
-    if fresh {
-        known = match new_call(alloc, run, id) {
-            Ok(call) => call,
-            Err(_) => None,
-        };
-    }
+    let found = call_found(alloc, run, id);
     let read = run.world.changes();
-    let Some(call) = known else {
+    let Some((call, fresh)) = found else {
         return eval_other(alloc, run, code, head, levels);
     };
     run.steps -= 1;
