@@ -9,21 +9,24 @@ ghost use Rattle.ar_space.specs.Outcome.{Answers, NotMemory, seen};
 ghost use Rattle.aml_terms.specs.AtTree.{at_tree, at_list};
 ghost use Rattle.aml_objects.specs.declared.value.Value.TheVariants.{Uninitialized};
 ghost use Rattle.aml_meaning.specs.Meaning.{meaning};
+ghost use Rattle.aml_grammar.specs.Shape.{trees_of};
+ghost use Rattle.aml_marked.specs.Marked.{trees_by};
 ghost use Rattle.aml_meaning.specs.Tasks.{in_turn};
 ghost use Rattle.aml_meaning.specs.Invocations.{shallow, invocation_found, use_found, frame_arguments, returned_by, leaving, invoked, value_of_call, method_value};
 ghost use Rattle.aml_meaning.specs.InvocationTerms.{osi_rule, arguments_in_turn, call_rule, field_rule, invocation_rule, name_value};
 
 use crate::field_calls::eval_field_read;
+use crate::here::eval_items_here;
 use crate::operands::{Reader, as_many, list, name, take_first};
 use crate::readings::read_body;
-use crate::task::{Site, Task};
-use crate::terms::{eval_list, eval_value};
+use crate::task::{Code, Site, Task};
+use crate::terms::eval_value;
 use aml_grammar::TermReader;
 use aml_meaning::{Flow, Invocation, Running, WorldState};
 use aml_namespace::Scope;
 use aml_objects::{Body, Field, NodeId, Value};
 use aml_path::{NameString, Path};
-use aml_terms::list_at;
+use aml_terms::{Cursor, LEVELS, Marks};
 use ar_space::{EvaluationFault, Refusal, Space};
 use std::alloc::Global;
 
@@ -208,8 +211,7 @@ fn eval_invoked<S: Space>(
     shallow(depth)?;
     let marks = read_body(alloc, &run.world, path, body)?;
     run.world.open_frame(frame_arguments(arguments))?;
-    let items = list_at(body.as_slice(), &marks);
-    eval_body(alloc, run, depth + 1, path, items)
+    eval_body(alloc, run, depth + 1, path, body.as_slice(), &marks)
 }
 
 /// The value of a call of the control method at a path.
@@ -250,20 +252,20 @@ fn eval_body<S: Space>(
     run: &mut Running<S>,
     depth: usize,
     path: &Path,
-    items: Reader<'_>,
+    bytes: &[u8],
+    marks: &Marks,
 ) -> Result<Flow, Refusal>
     ensures spent { run.new.1 ≤ run.old.1 }
-    ensures means { Does result run.new (leaving path.now (in_turn (meaning S.accesses) path.now depth (at_list items.entry))) run.old }
+    ensures means { Does result run.new (leaving path.now (in_turn (meaning S.accesses) path.now depth (trees_of (trees_by marks.now bytes.now)))) run.old }
 {
-    let scope = run.world.scope(path);
-    let outcome = eval_list(
-        alloc,
-        run,
-        &Task {
-            site: &Site { scope, depth },
-            term: &items,
+    let code = Code {
+        site: &Site {
+            scope: run.world.scope(path),
+            depth,
         },
-    );
+        marks,
+    };
+    let outcome = eval_items_here(alloc, run, &code, &mut Cursor::new(0, bytes), LEVELS);
     run.world.leave(path);
     of_call(outcome)
 }

@@ -8,6 +8,7 @@ mod declarations;
 mod export;
 mod field_calls;
 mod fields;
+mod here;
 mod index_fields;
 mod invocations;
 mod loading;

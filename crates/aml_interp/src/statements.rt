@@ -1,169 +1,198 @@
 //! Statements (ACPI 6.5, 19.6 and 20.2.5.3).
-ghost use Rattle.std.specs.Prelude.{◌≡◌, ◌≤◌, ◌<◌, OnOk, option_map};
+ghost use Rattle.std.specs.Prelude.{◌≡◌, ◌≤◌, ◌<◌, OnOk, Some, false};
 ghost use Rattle.ar_space.specs.Change.{Does};
-ghost use Rattle.aml_terms.specs.AtTree.{at_tree, at_list};
-ghost use Rattle.aml_grammar.specs.Apart.{operand_of};
+ghost use Rattle.aml_marked.specs.Marked.{Place, count_at, a_term, with_row, over, a_super_name, an_else, maybe_else};
+ghost use Rattle.aml_scan.specs.RowsAt.{row_at};
 ghost use Rattle.aml_convert.specs.Operators.{is_true};
+ghost use Rattle.aml_meaning.specs.declared.term_kind.TermKind.TheVariants as kinds;
 ghost use Rattle.aml_meaning.specs.Meaning.{meaning};
+ghost use Rattle.aml_meaning.specs.Tasks.{task};
 ghost use Rattle.aml_meaning.specs.Terms.{else_of};
-ghost use Rattle.aml_meaning.specs.StatementTerms.{otherwise, branch, if_rule, else_rule, turn_of, turn, loop, while_rule, return_rule, release_rule, notify_rule, pause_rule, fatal_rule, statement_rule};
+ghost use Rattle.aml_meaning.specs.StatementTerms.{otherwise, branch, turn, turn_of, loop, statement_rule};
+ghost use Rattle.aml_interp.specs.Here.{behind_one, inside_at, outside_at, items_at, row_kind, if_at, else_at, while_at, return_at, release_at, notify_at, pause_at, fatal_at};
 
-use crate::operands::{Reader, else_of, inner, list};
-use crate::targets::eval_target;
-use crate::task::Task;
-use crate::terms::{eval_integer_of, eval_list, eval_operand_integer, eval_term, eval_value_at};
+use crate::here::{eval_integer_here, eval_items_here, eval_value_here};
+use crate::targets::eval_super_name;
+use crate::task::Code;
 use aml_convert::is_true;
 use aml_meaning::{Flow, Running, StatementKind};
+use aml_terms::{Cursor, ELSE, RowPlace};
 use ar_space::{EvaluationFault, Refusal, Space};
 use std::alloc::Global;
 
-/// A statement, by its kind.
+/// A statement, by its kind: its operands begin at the cursor.
 #[cycle(evaluation)]
-#[tactic(auto, using(crate::proofs::Steps::evaluating))]
+#[tactic(auto, using(crate::proofs::Steps::evaluating, crate::proofs::HereRules::here))]
 pub(crate) fn eval_statement<S: Space>(
     alloc: Global,
     run: &mut Running<S>,
-    job: &Task<'_>,
+    code: &Code<'_>,
+    cursor: &mut Cursor<'_>,
+    levels: u8,
+    place: RowPlace,
     kind: StatementKind,
 ) -> Result<Flow, Refusal>
+    requires { row_kind (row_at place) ≡ kinds.Statement kind }
     ensures spent { run.new.1 ≤ run.old.1 }
-    ensures means { Does result run.new (statement_rule (meaning S.accesses) kind job.now.site.now.scope.path.now job.now.site.now.depth (at_tree job.now.term.now)) run.old }
+    ensures means { Does result run.new (statement_rule (meaning S.accesses) kind code.now.site.now.scope.path.now code.now.site.now.depth (with_row (a_term (count_at code.now.marks.now) levels) (row_at place) cursor.old).0) run.old }
+    ensures behind { OnOk result (cursor.new ≡ (with_row (a_term (count_at code.now.marks.now) levels) (row_at place) cursor.old).1) }
 {
     match kind {
-        StatementKind::If => eval_if(alloc, run, job),
-        StatementKind::Else => eval_else(alloc, run, job),
-        StatementKind::While => eval_while(alloc, run, job),
+        StatementKind::If => eval_if(alloc, run, code, cursor, levels),
+        StatementKind::Else => eval_else(alloc, run, code, cursor, levels),
+        StatementKind::While => eval_while(alloc, run, code, cursor, levels),
         StatementKind::Break => Ok(Flow::Break),
         StatementKind::Continue => Ok(Flow::Continue),
         StatementKind::Noop => Ok(Flow::Next),
-        StatementKind::Return => eval_return(alloc, run, job),
-        StatementKind::Release => eval_release(alloc, run, job),
-        StatementKind::Notify => eval_notify(alloc, run, job),
-        StatementKind::Pause => eval_pause(alloc, run, job),
-        StatementKind::Fatal => eval_fatal(alloc, run, job),
+        StatementKind::Return => eval_return(alloc, run, code, cursor, levels),
+        StatementKind::Release => eval_release(alloc, run, code, cursor, levels),
+        StatementKind::Notify => eval_notify(alloc, run, code, cursor, levels),
+        StatementKind::Pause => eval_pause(alloc, run, code, cursor, levels),
+        StatementKind::Fatal => eval_fatal(alloc, run, code, cursor, levels),
     }
 }
 
 #[inline(never)]
 #[cycle(evaluation)]
-#[tactic(auto, using(crate::proofs::Steps::evaluating), unfolding(aml_meaning::specs::StatementTerms::if_rule))]
-fn eval_if<S: Space>(alloc: Global, run: &mut Running<S>, job: &Task<'_>) -> Result<Flow, Refusal>
+#[tactic(auto, using(crate::proofs::Steps::evaluating), unfolding(crate::specs::Here::if_at))]
+fn eval_if<S: Space>(
+    alloc: Global,
+    run: &mut Running<S>,
+    code: &Code<'_>,
+    cursor: &mut Cursor<'_>,
+    levels: u8,
+) -> Result<Flow, Refusal>
     ensures spent { run.new.1 ≤ run.old.1 }
-    ensures means { Does result run.new (if_rule (meaning S.accesses) job.now.site.now.scope.path.now job.now.site.now.depth (at_tree job.now.term.now)) run.old }
+    ensures means { Does result run.new (if_at S.accesses (meaning S.accesses) code.now.site.now.scope.path.now code.now.site.now.depth (a_term (count_at code.now.marks.now) levels) cursor.old) run.old }
+    ensures behind { OnOk result (cursor.new ≡ (maybe_else (a_term (count_at code.now.marks.now) levels) (outside_at cursor.old)).1) }
 {
-    let condition = inner(job.term, 0)?;
-    let items = list(job.term, 1)?;
-    let number = eval_integer_of(alloc, run, job, &condition)?;
-    eval_branch(alloc, run, job, &items, is_true(number))
+    let outer = cursor.open();
+    let number = eval_integer_here(alloc, run, code, cursor, levels)?;
+    eval_branch(alloc, run, code, cursor, levels, outer, is_true(number))
 }
 
 /// The list of an If, or what follows it.
 #[cycle(evaluation)]
 #[tactic(auto, using(crate::proofs::Steps::evaluating))]
-fn eval_branch<S: Space>(
+fn eval_branch<'t, S: Space>(
     alloc: Global,
     run: &mut Running<S>,
-    job: &Task<'_>,
-    items: &Reader<'_>,
+    code: &Code<'_>,
+    cursor: &mut Cursor<'t>,
+    levels: u8,
+    outer: Cursor<'t>,
     holds: bool,
 ) -> Result<Flow, Refusal>
     ensures spent { run.new.1 ≤ run.old.1 }
-    ensures means { Does result run.new (branch (meaning S.accesses) job.now.site.now.scope.path.now job.now.site.now.depth (at_list items.now) (else_of (operand_of (at_tree job.now.term.now) 2)) holds) run.old }
+    ensures means { Does result run.new (branch (meaning S.accesses) code.now.site.now.scope.path.now code.now.site.now.depth (items_at (a_term (count_at code.now.marks.now) levels) cursor.old) (else_of (Some (maybe_else (a_term (count_at code.now.marks.now) levels) outer.entry).0)) holds) run.old }
+    ensures behind { OnOk result (cursor.new ≡ (maybe_else (a_term (count_at code.now.marks.now) levels) outer.entry).1) }
 {
     if holds {
-        eval_list(
-            alloc,
-            run,
-            &Task {
-                term: &*items,
-                ..*job
-            },
-        )
+        let flow = eval_items_here(alloc, run, code, cursor, levels)?;
+        *cursor = outer;
+        cursor.over_else();
+        Ok(flow)
     } else {
-        eval_otherwise(alloc, run, job)
+        *cursor = outer;
+        eval_otherwise(alloc, run, code, cursor, levels)
     }
 }
 
 /// The Else of an If, where it has one.
 #[cycle(evaluation)]
-#[tactic(auto, using(crate::proofs::Steps::evaluating))]
+#[tactic(auto, using(crate::proofs::Steps::evaluating), unfolding(aml_marked::specs::Marked::maybe_else, aml_marked::specs::Marked::gives))]
 fn eval_otherwise<S: Space>(
     alloc: Global,
     run: &mut Running<S>,
-    job: &Task<'_>,
+    code: &Code<'_>,
+    cursor: &mut Cursor<'_>,
+    levels: u8,
 ) -> Result<Flow, Refusal>
     ensures spent { run.new.1 ≤ run.old.1 }
-    ensures means { Does result run.new (otherwise (meaning S.accesses) job.now.site.now.scope.path.now job.now.site.now.depth (else_of (operand_of (at_tree job.now.term.now) 2))) run.old }
+    ensures means { Does result run.new (otherwise (meaning S.accesses) code.now.site.now.scope.path.now code.now.site.now.depth (else_of (Some (maybe_else (a_term (count_at code.now.marks.now) levels) cursor.old).0))) run.old }
+    ensures behind { OnOk result (cursor.new ≡ (maybe_else (a_term (count_at code.now.marks.now) levels) cursor.old).1) }
 {
-    match else_of(job.term) {
-        None => Ok(Flow::Next),
-        Some(term) => eval_term(
-            alloc,
-            run,
-            &Task {
-                term: &term,
-                ..*job
-            },
-        ),
+    if cursor.is_next(ELSE) {
+        eval_else_term(alloc, run, code, cursor, levels)
+    } else {
+        Ok(Flow::Next)
     }
 }
 
-#[inline(never)]
+/// An Else that is evaluated: it costs a step.
 #[cycle(evaluation)]
-#[tactic(auto, using(crate::proofs::Steps::evaluating), unfolding(aml_meaning::specs::StatementTerms::else_rule))]
-fn eval_else<S: Space>(alloc: Global, run: &mut Running<S>, job: &Task<'_>) -> Result<Flow, Refusal>
+#[tactic(auto, using(crate::proofs::HereSteps::elses))]
+fn eval_else_term<S: Space>(
+    alloc: Global,
+    run: &mut Running<S>,
+    code: &Code<'_>,
+    cursor: &mut Cursor<'_>,
+    levels: u8,
+) -> Result<Flow, Refusal>
     ensures spent { run.new.1 ≤ run.old.1 }
-    ensures means { Does result run.new (else_rule (meaning S.accesses) job.now.site.now.scope.path.now job.now.site.now.depth (at_tree job.now.term.now)) run.old }
+    ensures means { Does result run.new (meaning S.accesses (task code.now.site.now.scope.path.now code.now.site.now.depth (an_else (a_term (count_at code.now.marks.now) levels) cursor.old).0)) run.old }
+    ensures behind { OnOk result (cursor.new ≡ (an_else (a_term (count_at code.now.marks.now) levels) cursor.old).1) }
 {
-    let items = list(job.term, 0)?;
-    eval_list(
-        alloc,
-        run,
-        &Task {
-            term: &items,
-            ..*job
-        },
-    )
+    run.charge()?;
+    cursor.over(1);
+    eval_else(alloc, run, code, cursor, levels)
 }
 
 #[inline(never)]
 #[cycle(evaluation)]
-#[tactic(auto, using(crate::proofs::Steps::evaluating), unfolding(aml_meaning::specs::StatementTerms::while_rule))]
+#[tactic(auto, using(crate::proofs::Steps::evaluating))]
+fn eval_else<S: Space>(
+    alloc: Global,
+    run: &mut Running<S>,
+    code: &Code<'_>,
+    cursor: &mut Cursor<'_>,
+    levels: u8,
+) -> Result<Flow, Refusal>
+    ensures spent { run.new.1 ≤ run.old.1 }
+    ensures means { Does result run.new (else_at S.accesses (meaning S.accesses) code.now.site.now.scope.path.now code.now.site.now.depth (a_term (count_at code.now.marks.now) levels) cursor.old) run.old }
+    ensures behind { OnOk result (cursor.new ≡ outside_at cursor.old) }
+{
+    let outer = cursor.open();
+    let flow = eval_items_here(alloc, run, code, cursor, levels)?;
+    *cursor = outer;
+    Ok(flow)
+}
+
+#[inline(never)]
+#[cycle(evaluation)]
+#[tactic(auto, using(crate::proofs::Steps::evaluating))]
 fn eval_while<S: Space>(
     alloc: Global,
     run: &mut Running<S>,
-    job: &Task<'_>,
+    code: &Code<'_>,
+    cursor: &mut Cursor<'_>,
+    levels: u8,
 ) -> Result<Flow, Refusal>
     ensures spent { run.new.1 ≤ run.old.1 }
-    ensures means { Does result run.new (while_rule (meaning S.accesses) job.now.site.now.scope.path.now job.now.site.now.depth (at_tree job.now.term.now)) run.old }
+    ensures means { Does result run.new (while_at S.accesses (meaning S.accesses) code.now.site.now.scope.path.now code.now.site.now.depth (a_term (count_at code.now.marks.now) levels) cursor.old) run.old }
+    ensures behind { OnOk result (cursor.new ≡ outside_at cursor.old) }
 {
-    let condition = inner(job.term, 0)?;
-    let items = list(job.term, 1)?;
-    eval_loop(
-        alloc,
-        run,
-        &Task {
-            term: &condition,
-            ..*job
-        },
-        &items,
-    )
+    let outer = cursor.open();
+    let flow = eval_loop(alloc, run, code, &*cursor, levels)?;
+    *cursor = outer;
+    Ok(flow)
 }
 
-/// Turns of a While, until one ends it.
+/// Turns of a While, until one ends it: each begins where its condition stands.
 #[cycle(evaluation)]
 #[tactic(auto, using(crate::proofs::Steps::evaluating))]
 fn eval_loop<S: Space>(
     alloc: Global,
     run: &mut Running<S>,
-    job: &Task<'_>,
-    items: &Reader<'_>,
+    code: &Code<'_>,
+    start: &Cursor<'_>,
+    levels: u8,
 ) -> Result<Flow, Refusal>
     ensures spent { run.new.1 ≤ run.old.1 }
-    ensures means { Does result run.new (loop (meaning S.accesses) job.now.site.now.scope.path.now job.now.site.now.depth (at_tree job.now.term.now) (at_list items.now)) run.old }
+    ensures means { Does result run.new (loop (meaning S.accesses) code.now.site.now.scope.path.now code.now.site.now.depth (a_term (count_at code.now.marks.now) levels false start.now).0 (items_at (a_term (count_at code.now.marks.now) levels) (behind_one (a_term (count_at code.now.marks.now) levels) start.now))) run.old }
 {
     'turns: loop {
-        let flow = eval_turn(alloc, run, job, items)?;
+        let flow = eval_turn(alloc, run, code, start, levels)?;
         match flow.loop_end() {
             None => {}
             Some(last) => return Ok(last),
@@ -177,23 +206,17 @@ fn eval_loop<S: Space>(
 fn eval_turn<S: Space>(
     alloc: Global,
     run: &mut Running<S>,
-    job: &Task<'_>,
-    items: &Reader<'_>,
+    code: &Code<'_>,
+    start: &Cursor<'_>,
+    levels: u8,
 ) -> Result<Flow, Refusal>
     ensures spent { run.new.1 ≤ run.old.1 }
     ensures paid { OnOk result (run.new.1 < run.old.1) }
-    ensures means { Does result run.new (turn (meaning S.accesses) job.now.site.now.scope.path.now job.now.site.now.depth (at_tree job.now.term.now) (at_list items.now)) run.old }
+    ensures means { Does result run.new (turn (meaning S.accesses) code.now.site.now.scope.path.now code.now.site.now.depth (a_term (count_at code.now.marks.now) levels false start.now).0 (items_at (a_term (count_at code.now.marks.now) levels) (behind_one (a_term (count_at code.now.marks.now) levels) start.now))) run.old }
 {
-    let number = eval_operand_integer(alloc, run, job)?;
-    eval_turn_of(
-        alloc,
-        run,
-        &Task {
-            term: &*items,
-            ..*job
-        },
-        is_true(number),
-    )
+    let mut cursor = Cursor::new(start.at(), start.rest());
+    let number = eval_integer_here(alloc, run, code, &mut cursor, levels)?;
+    eval_turn_of(alloc, run, code, &mut cursor, levels, is_true(number))
 }
 
 #[cycle(evaluation)]
@@ -201,14 +224,16 @@ fn eval_turn<S: Space>(
 fn eval_turn_of<S: Space>(
     alloc: Global,
     run: &mut Running<S>,
-    job: &Task<'_>,
+    code: &Code<'_>,
+    cursor: &mut Cursor<'_>,
+    levels: u8,
     holds: bool,
 ) -> Result<Flow, Refusal>
     ensures spent { run.new.1 ≤ run.old.1 }
-    ensures means { Does result run.new (turn_of (meaning S.accesses) job.now.site.now.scope.path.now job.now.site.now.depth (at_list job.now.term.now) holds) run.old }
+    ensures means { Does result run.new (turn_of (meaning S.accesses) code.now.site.now.scope.path.now code.now.site.now.depth (items_at (a_term (count_at code.now.marks.now) levels) cursor.old) holds) run.old }
 {
     if holds {
-        eval_list(alloc, run, job)
+        eval_items_here(alloc, run, code, cursor, levels)
     } else {
         Ok(Flow::Break)
     }
@@ -216,31 +241,37 @@ fn eval_turn_of<S: Space>(
 
 #[inline(never)]
 #[cycle(evaluation)]
-#[tactic(auto, using(crate::proofs::Steps::evaluating), unfolding(aml_meaning::specs::StatementTerms::return_rule))]
+#[tactic(auto, using(crate::proofs::Steps::evaluating), unfolding(crate::specs::Here::return_at))]
 fn eval_return<S: Space>(
     alloc: Global,
     run: &mut Running<S>,
-    job: &Task<'_>,
+    code: &Code<'_>,
+    cursor: &mut Cursor<'_>,
+    levels: u8,
 ) -> Result<Flow, Refusal>
     ensures spent { run.new.1 ≤ run.old.1 }
-    ensures means { Does result run.new (return_rule (meaning S.accesses) job.now.site.now.scope.path.now job.now.site.now.depth (at_tree job.now.term.now)) run.old }
+    ensures means { Does result run.new (return_at S.accesses (meaning S.accesses) code.now.site.now.scope.path.now code.now.site.now.depth (a_term (count_at code.now.marks.now) levels) cursor.old) run.old }
+    ensures behind { OnOk result (cursor.new ≡ behind_one (a_term (count_at code.now.marks.now) levels) cursor.old) }
 {
-    let value = eval_value_at(alloc, run, job, 0)?;
+    let value = eval_value_here(alloc, run, code, cursor, levels)?;
     Ok(Flow::Return(value))
 }
 
 #[inline(never)]
 #[cycle(evaluation)]
-#[tactic(auto, using(crate::proofs::Steps::evaluating), unfolding(aml_meaning::specs::StatementTerms::release_rule))]
+#[tactic(auto, using(crate::proofs::Steps::evaluating), unfolding(crate::specs::Here::release_at))]
 fn eval_release<S: Space>(
     alloc: Global,
     run: &mut Running<S>,
-    job: &Task<'_>,
+    code: &Code<'_>,
+    cursor: &mut Cursor<'_>,
+    levels: u8,
 ) -> Result<Flow, Refusal>
     ensures spent { run.new.1 ≤ run.old.1 }
-    ensures means { Does result run.new (release_rule (meaning S.accesses) job.now.site.now.scope.path.now job.now.site.now.depth (at_tree job.now.term.now)) run.old }
+    ensures means { Does result run.new (release_at S.accesses (meaning S.accesses) code.now.site.now.scope.path.now code.now.site.now.depth (a_term (count_at code.now.marks.now) levels) cursor.old) run.old }
+    ensures behind { OnOk result (cursor.new ≡ (a_super_name (a_term (count_at code.now.marks.now) levels) cursor.old).1) }
 {
-    let target = eval_target(alloc, run, job, 0)?;
+    let target = eval_super_name(alloc, run, code, cursor, levels)?;
     run.world.release(alloc, &target)?;
     Ok(Flow::Next)
 }
@@ -248,47 +279,58 @@ fn eval_release<S: Space>(
 /// Nobody is told: the operands are evaluated, and nothing else.
 #[inline(never)]
 #[cycle(evaluation)]
-#[tactic(auto, using(crate::proofs::Steps::evaluating), unfolding(aml_meaning::specs::StatementTerms::notify_rule))]
+#[tactic(auto, using(crate::proofs::Steps::evaluating), unfolding(crate::specs::Here::notify_at))]
 fn eval_notify<S: Space>(
     alloc: Global,
     run: &mut Running<S>,
-    job: &Task<'_>,
+    code: &Code<'_>,
+    cursor: &mut Cursor<'_>,
+    levels: u8,
 ) -> Result<Flow, Refusal>
     ensures spent { run.new.1 ≤ run.old.1 }
-    ensures means { Does result run.new (notify_rule (meaning S.accesses) job.now.site.now.scope.path.now job.now.site.now.depth (at_tree job.now.term.now)) run.old }
+    ensures means { Does result run.new (notify_at S.accesses (meaning S.accesses) code.now.site.now.scope.path.now code.now.site.now.depth (a_term (count_at code.now.marks.now) levels) cursor.old) run.old }
+    ensures behind { OnOk result (cursor.new ≡ behind_one (a_term (count_at code.now.marks.now) levels) (a_super_name (a_term (count_at code.now.marks.now) levels) cursor.old).1) }
 {
-    eval_target(alloc, run, job, 0)?;
-    eval_value_at(alloc, run, job, 1)?;
+    eval_super_name(alloc, run, code, cursor, levels)?;
+    eval_value_here(alloc, run, code, cursor, levels)?;
     Ok(Flow::Next)
 }
 
 /// Stall and Sleep: no time passes.
 #[inline(never)]
 #[cycle(evaluation)]
-#[tactic(auto, using(crate::proofs::Steps::evaluating), unfolding(aml_meaning::specs::StatementTerms::pause_rule))]
+#[tactic(auto, using(crate::proofs::Steps::evaluating), unfolding(crate::specs::Here::pause_at))]
 fn eval_pause<S: Space>(
     alloc: Global,
     run: &mut Running<S>,
-    job: &Task<'_>,
+    code: &Code<'_>,
+    cursor: &mut Cursor<'_>,
+    levels: u8,
 ) -> Result<Flow, Refusal>
     ensures spent { run.new.1 ≤ run.old.1 }
-    ensures means { Does result run.new (pause_rule (meaning S.accesses) job.now.site.now.scope.path.now job.now.site.now.depth (at_tree job.now.term.now)) run.old }
+    ensures means { Does result run.new (pause_at S.accesses (meaning S.accesses) code.now.site.now.scope.path.now code.now.site.now.depth (a_term (count_at code.now.marks.now) levels) cursor.old) run.old }
+    ensures behind { OnOk result (cursor.new ≡ behind_one (a_term (count_at code.now.marks.now) levels) cursor.old) }
 {
-    eval_value_at(alloc, run, job, 0)?;
+    eval_value_here(alloc, run, code, cursor, levels)?;
     Ok(Flow::Next)
 }
 
 #[inline(never)]
 #[cycle(evaluation)]
-#[tactic(auto, using(crate::proofs::Steps::evaluating), unfolding(aml_meaning::specs::StatementTerms::fatal_rule))]
+#[tactic(auto, using(crate::proofs::Steps::evaluating), unfolding(crate::specs::Here::fatal_at))]
 fn eval_fatal<S: Space>(
     alloc: Global,
     run: &mut Running<S>,
-    job: &Task<'_>,
+    code: &Code<'_>,
+    cursor: &mut Cursor<'_>,
+    levels: u8,
 ) -> Result<Flow, Refusal>
     ensures spent { run.new.1 ≤ run.old.1 }
-    ensures means { Does result run.new (fatal_rule (meaning S.accesses) job.now.site.now.scope.path.now job.now.site.now.depth (at_tree job.now.term.now)) run.old }
+    ensures means { Does result run.new (fatal_at S.accesses (meaning S.accesses) code.now.site.now.scope.path.now code.now.site.now.depth (a_term (count_at code.now.marks.now) levels) cursor.old) run.old }
+    ensures behind { OnOk result (cursor.new ≡ behind_one (a_term (count_at code.now.marks.now) levels) (over 4 (over 1 cursor.old))) }
 {
-    eval_value_at(alloc, run, job, 2)?;
+    cursor.over(1);
+    cursor.over(4);
+    eval_value_here(alloc, run, code, cursor, levels)?;
     Err(Refusal::Evaluation(EvaluationFault::Fatal))
 }

@@ -1,31 +1,31 @@
 //! Terms and lists of them, each evaluated by its rule.
-ghost use Rattle.std.specs.Prelude.{◌≡◌, ◌≤◌, ◌<◌, OnOk};
+ghost use Rattle.std.specs.Prelude.{◌≡◌, ◌≢◌, ◌≤◌, ◌<◌, OnOk};
 ghost use Rattle.ar_space.specs.Change.{Does};
 ghost use Rattle.aml_terms.specs.AtTree.{at_tree, at_list};
 ghost use Rattle.aml_grammar.specs.Apart.{code_of};
+ghost use Rattle.aml_grammar.specs.declared.opcode.Opcode.{Opcode};
+ghost use Rattle.aml_grammar.specs.declared.opcode.TermCode.TheVariants as codes;
+ghost use Rattle.aml_marked.specs.Marked.{count_at, a_term, with_row};
+ghost use Rattle.aml_scan.specs.RowsAt.{row_at};
 ghost use Rattle.ar_space.specs.declared.refusal.Refusal.TheVariants.{Evaluation};
 ghost use Rattle.ar_space.specs.declared.refusal.EvaluationFault.TheVariants.{Unsupported};
 ghost use Rattle.aml_grammar.specs.Opcodes.{number_of};
 ghost use Rattle.aml_meaning.specs.Meaning.{meaning};
 ghost use Rattle.aml_meaning.specs.Tasks.{task, operand_value, value_at, two_values, operand_integer, in_turn};
-ghost use Rattle.aml_meaning.specs.Evaluation.{rule, code_rule, kind_rule};
-ghost use Rattle.aml_meaning.specs.Terms.{kind_of};
+ghost use Rattle.aml_meaning.specs.Evaluation.{rule, code_rule};
 
-use crate::data::eval_data;
-use crate::declarations::eval_declaration;
+use crate::here::eval_coded;
 use crate::invocations::eval_name_value;
 use crate::operands::{Reader, code, inner, take_first};
-use crate::operators::eval_operator;
-use crate::regions::eval_region_term;
-use crate::statements::eval_statement;
-use crate::task::Task;
+use crate::task::{Code, Task};
 use aml_grammar::{Opcode, TermCode};
-use aml_meaning::{Flow, Running, TermKind, kind_of};
+use aml_meaning::{Flow, Running};
 use aml_objects::Value;
+use aml_terms::Coded;
 use ar_space::{EvaluationFault, NameFault, Refusal, Space};
 use std::alloc::Global;
 
-/// A term: it costs a step, and is then evaluated by its rule.
+/// A term that a reader stands at: it costs a step, and is then evaluated by its rule.
 ///
 /// The frame of this function stands on the stack once for each nested term. Rules with many locals are therefore kept out of it, by
 /// `inline(never)`.
@@ -41,46 +41,54 @@ pub(crate) fn eval_term<S: Space>(
     ensures means { Does result run.new (meaning S.accesses (task job.now.site.now.scope.path.now job.now.site.now.depth (at_tree job.now.term.now))) run.old }
 {
     run.charge()?;
-    eval_code(alloc, run, job)
+    match job.term.coded() {
+        Some(coded) => eval_coded_term(alloc, run, job, coded),
+        None => eval_uncoded(alloc, run, job),
+    }
 }
 
+/// A term whose opcode was read.
 #[cycle(evaluation)]
 #[tactic(auto, using(crate::proofs::Steps::evaluating))]
-fn eval_code<S: Space>(alloc: Global, run: &mut Running<S>, job: &Task<'_>) -> Result<Flow, Refusal>
+fn eval_coded_term<S: Space>(
+    alloc: Global,
+    run: &mut Running<S>,
+    job: &Task<'_>,
+    coded: Coded<'_>,
+) -> Result<Flow, Refusal>
+    requires { at_tree job.now.term.now ≡ (with_row (a_term (count_at job.now.term.now.marks.now) coded.levels) (row_at coded.place) coded.cursor).0 }
+    ensures spent { run.new.1 ≤ run.old.1 }
+    ensures means { Does result run.new (code_rule S.accesses (meaning S.accesses) (code_of (at_tree job.now.term.now)) job.now.site.now.scope.path.now job.now.site.now.depth (at_tree job.now.term.now)) run.old }
+{
+    let mut cursor = coded.cursor;
+    let code = Code {
+        site: job.site,
+        marks: job.term.marks(),
+    };
+    eval_coded(alloc, run, &code, &mut cursor, coded.levels, coded.place)
+}
+
+/// A term without an opcode: a name, or nothing.
+#[cycle(evaluation)]
+#[tactic(auto, using(crate::proofs::Steps::evaluating))]
+pub(crate) fn eval_uncoded<S: Space>(
+    alloc: Global,
+    run: &mut Running<S>,
+    job: &Task<'_>,
+) -> Result<Flow, Refusal>
+    requires { (opcode : Opcode) → code_of (at_tree job.now.term.now) ≢ codes.Opcode opcode }
     ensures spent { run.new.1 ≤ run.old.1 }
     ensures means { Does result run.new (code_rule S.accesses (meaning S.accesses) (code_of (at_tree job.now.term.now)) job.now.site.now.scope.path.now job.now.site.now.depth (at_tree job.now.term.now)) run.old }
 {
     match code(job.term) {
-        TermCode::Opcode(opcode) => eval_kind(alloc, run, job, opcode, kind_of(opcode)),
         TermCode::MethodInvocation => eval_name_value(alloc, run, job),
+        TermCode::Opcode(_) => Err(Refusal::Name(NameFault::BadName)),
         TermCode::Name => Err(Refusal::Name(NameFault::BadName)),
         TermCode::NamedField => Err(Refusal::Name(NameFault::BadName)),
         TermCode::ReservedField => Err(Refusal::Name(NameFault::BadName)),
         TermCode::AccessField => Err(Refusal::Name(NameFault::BadName)),
         TermCode::ExtendedAccessField => Err(Refusal::Name(NameFault::BadName)),
         TermCode::ConnectField => Err(Refusal::Name(NameFault::BadName)),
-    }
-}
-
-#[cycle(evaluation)]
-#[tactic(auto, using(crate::proofs::Steps::evaluating))]
-fn eval_kind<S: Space>(
-    alloc: Global,
-    run: &mut Running<S>,
-    job: &Task<'_>,
-    opcode: Opcode,
-    kind: TermKind,
-) -> Result<Flow, Refusal>
-    ensures spent { run.new.1 ≤ run.old.1 }
-    ensures means { Does result run.new (kind_rule S.accesses (meaning S.accesses) kind opcode job.now.site.now.scope.path.now job.now.site.now.depth (at_tree job.now.term.now)) run.old }
-{
-    match kind {
-        TermKind::Data(kind) => eval_data(alloc, run, job, kind),
-        TermKind::Declaration(kind) => eval_declaration(alloc, run, job, kind),
-        TermKind::Region(kind) => eval_region_term(alloc, run, job, kind),
-        TermKind::Operator(kind) => eval_operator(alloc, run, job, kind),
-        TermKind::Statement(kind) => eval_statement(alloc, run, job, kind),
-        TermKind::Unsupported => Err(unsupported(opcode)),
     }
 }
 

@@ -10,6 +10,7 @@ mod copying;
 mod cursor;
 mod lent;
 mod marks;
+mod moving;
 mod operands;
 mod parse;
 mod places;
@@ -22,10 +23,12 @@ pub use aml_grammar::{
     ArgumentCounts, Arities, Arity, Item, Mark, Opcode, Operand, OperandView, Term, TermCode,
     TermPart, TermReader,
 };
-pub use aml_scan::{read_as_spelled, read_name};
+pub use aml_scan::{ELSE, RowPlace, read_as_spelled, read_name};
 pub use at::At;
 pub use at_reader::lent_bytes;
+pub use cursor::Cursor;
 pub use marks::Marks;
+pub use moving::Coded;
 pub use parse::{parse_list, parse_table};
-pub use places::{first_term, list_at};
+pub use places::{LEVELS, first_term, list_at};
 pub use scan::{scan_list, scan_table};

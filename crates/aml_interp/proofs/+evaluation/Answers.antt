@@ -1,4 +1,4 @@
-use Rattle.std.proofs.Common.{◌≡◌, length, drop, replicate, ap, sym, ◌∙◌, arith, rules, subst}
+use Rattle.std.proofs.Common.{◌≡◌, refl, false, length, drop, replicate, ap, sym, ◌∙◌, arith, rules, subst}
 use Rattle.aml_fields.specs.Bits.{bits_of, bits_from, extended, bytes_within, put}
 use Rattle.aml_fields.proofs.Numbers.{take_whole}
 use Rattle.aml_fields.specs.Units.{units_of}
@@ -9,8 +9,11 @@ use Rattle.ar_space.specs.Change.{does_same, does_err, does_seen_err, does_give,
 use Rattle.aml_grammar.specs.Apart.{first_of}
 use Rattle.aml_terms.specs.AtTree.{at_tree, at_list}
 use Rattle.aml_meaning.specs.Meaning.{meaning}
+use Rattle.aml_marked.specs.Marked.{count_at}
+use Rattle.aml_interp.proofs.HereSteps.{does_begun, items_more, items_none, items_over, some_left, none_left}
 use Rattle.aml_interp.proofs.Steps.{same_argument, arguments_end, same_turn, same_after, same_ended, same_item, items_end, same_element, elements_end, elements_full, coded, same_true, same_false}
 use Rattle.aml_interp.proofs.+evaluation.Goals as goal
+use Rattle.aml_interp.proofs.+evaluation.Goals.{then-items-test+else-not-is_empty, else-items-test}
 
 pub terms::eval_list-returns-in-None-clause-means : goal.terms::eval_list-returns-in-None-clause-means
 terms::eval_list-returns-in-None-clause-means g t c = items_end (meaning g.S.Space.accesses) c.args.job.now.site.now.scope.path.now c.args.job.now.site.now.depth _ c.items.invariant.1 (c.take_first-taken.ensures.none c.in-None.is)
@@ -62,16 +65,16 @@ invocations::eval_arguments-items-preserved g t c = (
 
 pub statements::eval_loop-returns-in_err-flow-clause-means : goal.statements::eval_loop-returns-in_err-flow-clause-means
 statements::eval_loop-returns-in_err-flow-clause-means g t c =
-    does_same (same_turn g.S.Space.accesses c.args.job.now.site.now.scope.path.now c.args.job.now.site.now.depth _ _ c.turns.invariant.1) (does_err _ _ c.in_err-flow.ensures.means c.from_residual.ensures)
+    does_same (same_turn g.S.Space.accesses c.args.code.now.site.now.scope.path.now c.args.code.now.site.now.depth _ _ c.turns.invariant.1) (does_err _ _ c.in_err-flow.ensures.means c.from_residual.ensures)
 
 pub statements::eval_loop-returns-in-Some-clause-means : goal.statements::eval_loop-returns-in-Some-clause-means
 statements::eval_loop-returns-in-Some-clause-means g t c =
-    does_same (same_ended g.S.Space.accesses _ _ _ (same_ok _ _ (same_turn g.S.Space.accesses c.args.job.now.site.now.scope.path.now c.args.job.now.site.now.depth _ _ c.turns.invariant.1) c.in_ok-flow.ensures.means) (sym c.loop_end.ensures ∙ c.in-Some.is)) does_give
+    does_same (same_ended g.S.Space.accesses _ _ _ (same_ok _ _ (same_turn g.S.Space.accesses c.args.code.now.site.now.scope.path.now c.args.code.now.site.now.depth _ _ c.turns.invariant.1) c.in_ok-flow.ensures.means) (sym c.loop_end.ensures ∙ c.in-Some.is)) does_give
 
 pub statements::eval_loop-turns-preserved : goal.statements::eval_loop-turns-preserved
 statements::eval_loop-turns-preserved g t c = (
   let d = c.turns.invariant.0 in let e = c.eval_turn.ensures.spent in omega arith,
-  same_after g.S.Space.accesses _ _ (same_ok _ _ (same_turn g.S.Space.accesses c.args.job.now.site.now.scope.path.now c.args.job.now.site.now.depth _ _ c.turns.invariant.1) c.in_ok-flow.ensures.means) (sym c.loop_end.ensures ∙ c.in-None.is),
+  same_after g.S.Space.accesses _ _ (same_ok _ _ (same_turn g.S.Space.accesses c.args.code.now.site.now.scope.path.now c.args.code.now.site.now.depth _ _ c.turns.invariant.1) c.in_ok-flow.ensures.means) (sym c.loop_end.ensures ∙ c.in-None.is),
 )
 
 pub index_fields::eval_index_reads-loop-unit-init : goal.index_fields::eval_index_reads-loop-unit-init
@@ -119,3 +122,27 @@ index_fields::eval_index_writes-returns-in_err-eval_index_unit_written-clause-me
 
 pub index_fields::eval_index_writes-returns-clause-means : goal.index_fields::eval_index_writes-returns-clause-means
 index_fields::eval_index_writes-returns-clause-means g t c = writing_ends (index_unit_written g.S.Space.accesses (asked (answer_within g.S.Space.accesses (meaning g.S.Space.accesses) c.args.calls)) c.args.index c.args.behind c.args.field c.args.source.now) c.args.field _ _ c.loop-unit.unit-iterator (search rules) c.loop-unit.invariant.1
+
+pub here::eval_begun-returns-in-Some-clause-means : goal.here::eval_begun-returns-in-Some-clause-means
+here::eval_begun-returns-in-Some-clause-means g t c = does_begun g.S.Space.accesses (meaning g.S.Space.accesses) c.args.code.now.site.now.scope.path.now c.args.code.now.site.now.depth (count_at c.args.code.now.marks.now) c.args.levels c.in-Some.place c.args.cursor.now c.take_opcode.new.self (c.in-Some.ensures.term c.in-Some.place (count_at c.args.code.now.marks.now) false refl) c.eval_coded.ensures.means
+
+pub here::eval_items_here-returns-in_err-flow-clause-means : goal.here::eval_items_here-returns-in_err-flow-clause-means
+here::eval_items_here-returns-in_err-flow-clause-means g t c =
+    does_same (same_item (meaning g.S.Space.accesses) c.args.code.now.site.now.scope.path.now c.args.code.now.site.now.depth _ c.items.invariant.1 (items_more _ _ _ c.items-test.true (some_left _ _ c.is_empty.ensures c.if-not-is_empty.true))) (does_err _ _ c.in_err-flow.ensures.means c.from_residual.ensures)
+
+pub here::eval_items_here-returns-then-not-goes_on-clause-means : goal.here::eval_items_here-returns-then-not-goes_on-clause-means
+here::eval_items_here-returns-then-not-goes_on-clause-means g t c =
+    does_same (same_false _ _ _ (same_ok _ _ (same_item (meaning g.S.Space.accesses) c.args.code.now.site.now.scope.path.now c.args.code.now.site.now.depth _ c.items.invariant.1 (items_more _ _ _ c.items-test.true (some_left _ _ c.is_empty.ensures c.if-not-is_empty.true))) c.in_ok-flow.ensures.means) (sym c.goes_on.ensures ∙ c.if-not-goes_on.true)) does_give
+
+pub here::eval_items_here-items-preserved : goal.here::eval_items_here-items-preserved
+here::eval_items_here-items-preserved g t c = (
+  let d = c.items.invariant.0 in let e = c.eval_here.ensures.spent in omega arith,
+  let b = c.in_ok-flow.ensures.behind in
+  rw b (same_true _ _ _ (same_ok _ _ (same_item (meaning g.S.Space.accesses) c.args.code.now.site.now.scope.path.now c.args.code.now.site.now.depth _ c.items.invariant.1 (items_more _ _ _ c.items-test.true (some_left _ _ c.is_empty.ensures c.if-not-is_empty.true))) c.in_ok-flow.ensures.means) (sym c.goes_on.ensures ∙ c.if-not-goes_on.false)),
+)
+
+pub here::eval_items_here-returns-clause-means : goal.here::eval_items_here-returns-clause-means
+here::eval_items_here-returns-clause-means g t c = elim c.items-test.branch [
+  | then-items-test+else-not-is_empty w ↦ items_end (meaning g.S.Space.accesses) c.args.code.now.site.now.scope.path.now c.args.code.now.site.now.depth _ c.items.invariant.1 (items_none _ _ _ (none_left _ _ w.is_empty.ensures w.if-not-is_empty.false))
+  | else-items-test w ↦ items_end (meaning g.S.Space.accesses) c.args.code.now.site.now.scope.path.now c.args.code.now.site.now.depth _ c.items.invariant.1 (items_over _ _ _ (omega (arith, w.items-test.false)))
+]
