@@ -172,7 +172,6 @@ module _ {S : Type 0} (accesses : Accesses S) (ev : Task → Run S Flow) (scope 
     pub does_store : {r : Outcome Flow} {s s1 : State S × ℕ} (o : RowPlace) (p : Place) → row_kind (row_at o) ≡ kinds.Operator operator.Store → Does r s1 (store_at accesses ev scope depth b p) s → Does r s1 (store_rule accesses ev scope depth (with_row b (row_at o) p).0) s
     does_store o p e h = rw (store_is o p e) h
 
-
     copy_is : (o : RowPlace) (p : Place) → row_kind (row_at o) ≡ kinds.Operator operator.CopyObject → copy_rule accesses ev scope depth (with_row b (row_at o) p).0 ≡ copy_at accesses ev scope depth b p
     unfolding copy_rule value_at copy_at settle ◌>>=◌ go_on
     copy_is o p e =
@@ -182,7 +181,6 @@ module _ {S : Type 0} (accesses : Accesses S) (ev : Task → Run S Flow) (scope 
 
     pub does_copy : {r : Outcome Flow} {s s1 : State S × ℕ} (o : RowPlace) (p : Place) → row_kind (row_at o) ≡ kinds.Operator operator.CopyObject → Does r s1 (copy_at accesses ev scope depth b p) s → Does r s1 (copy_rule accesses ev scope depth (with_row b (row_at o) p).0) s
     does_copy o p e h = rw (copy_is o p e) h
-
 
     two_is : (k : TwoOperands) (o : RowPlace) (p : Place) → row_kind (row_at o) ≡ kinds.Operator (operator.Two k) → two_rule accesses ev k scope depth (with_row b (row_at o) p).0 ≡ two_at accesses ev scope depth b k p
     unfolding two_rule two_values value_at targeted two_at two_values_at put_to settle ◌>>=◌ go_on
@@ -194,7 +192,6 @@ module _ {S : Type 0} (accesses : Accesses S) (ev : Task → Run S Flow) (scope 
     pub does_two : {r : Outcome Flow} {s s1 : State S × ℕ} (k : TwoOperands) (o : RowPlace) (p : Place) → row_kind (row_at o) ≡ kinds.Operator (operator.Two k) → Does r s1 (two_at accesses ev scope depth b k p) s → Does r s1 (two_rule accesses ev k scope depth (with_row b (row_at o) p).0) s
     does_two k o p e h = rw (two_is k o p e) h
 
-
     divide_is : (o : RowPlace) (p : Place) → row_kind (row_at o) ≡ kinds.Operator operator.Divide → divide_rule accesses ev scope depth (with_row b (row_at o) p).0 ≡ divide_at accesses ev scope depth b p
     unfolding divide_rule two_values value_at targeted divide_at two_values_at put_to settle ◌>>=◌ go_on
     divide_is o p e =
@@ -204,7 +201,6 @@ module _ {S : Type 0} (accesses : Accesses S) (ev : Task → Run S Flow) (scope 
 
     pub does_divide : {r : Outcome Flow} {s s1 : State S × ℕ} (o : RowPlace) (p : Place) → row_kind (row_at o) ≡ kinds.Operator operator.Divide → Does r s1 (divide_at accesses ev scope depth b p) s → Does r s1 (divide_rule accesses ev scope depth (with_row b (row_at o) p).0) s
     does_divide o p e h = rw (divide_is o p e) h
-
 
     one_is : (k : OneOperand) (o : RowPlace) (p : Place) → row_kind (row_at o) ≡ kinds.Operator (operator.One k) → one_rule accesses ev k scope depth (with_row b (row_at o) p).0 ≡ one_at accesses ev scope depth b k p
     unfolding one_rule value_at targeted one_at put_to settle ◌>>=◌ go_on
@@ -216,7 +212,6 @@ module _ {S : Type 0} (accesses : Accesses S) (ev : Task → Run S Flow) (scope 
     pub does_one : {r : Outcome Flow} {s s1 : State S × ℕ} (k : OneOperand) (o : RowPlace) (p : Place) → row_kind (row_at o) ≡ kinds.Operator (operator.One k) → Does r s1 (one_at accesses ev scope depth b k p) s → Does r s1 (one_rule accesses ev k scope depth (with_row b (row_at o) p).0) s
     does_one k o p e h = rw (one_is k o p e) h
 
-
     test_is : (k : Test) (o : RowPlace) (p : Place) → row_kind (row_at o) ≡ kinds.Operator (operator.Test k) → test_rule accesses ev k scope depth (with_row b (row_at o) p).0 ≡ test_at accesses ev scope depth b k p
     unfolding test_rule two_values value_at test_at two_values_at settle ◌>>=◌ go_on
     test_is k o p e =
@@ -226,7 +221,6 @@ module _ {S : Type 0} (accesses : Accesses S) (ev : Task → Run S Flow) (scope 
 
     pub does_test : {r : Outcome Flow} {s s1 : State S × ℕ} (k : Test) (o : RowPlace) (p : Place) → row_kind (row_at o) ≡ kinds.Operator (operator.Test k) → Does r s1 (test_at accesses ev scope depth b k p) s → Does r s1 (test_rule accesses ev k scope depth (with_row b (row_at o) p).0) s
     does_test k o p e h = rw (test_is k o p e) h
-
 
     not_is : (o : RowPlace) (p : Place) → row_kind (row_at o) ≡ kinds.Operator operator.LogicalNot → not_rule accesses ev scope depth (with_row b (row_at o) p).0 ≡ not_at accesses ev scope depth b p
     unfolding not_rule value_at not_at settle ◌>>=◌ go_on
@@ -238,7 +232,6 @@ module _ {S : Type 0} (accesses : Accesses S) (ev : Task → Run S Flow) (scope 
     pub does_not : {r : Outcome Flow} {s s1 : State S × ℕ} (o : RowPlace) (p : Place) → row_kind (row_at o) ≡ kinds.Operator operator.LogicalNot → Does r s1 (not_at accesses ev scope depth b p) s → Does r s1 (not_rule accesses ev scope depth (with_row b (row_at o) p).0) s
     does_not o p e h = rw (not_is o p e) h
 
-
     count_is : (k : Count) (o : RowPlace) (p : Place) → row_kind (row_at o) ≡ kinds.Operator (operator.Count k) → count_rule accesses ev k scope depth (with_row b (row_at o) p).0 ≡ counted_at accesses ev scope depth b k p
     unfolding count_rule counted_at settle ◌>>=◌ go_on
     count_is k o p e =
@@ -248,7 +241,6 @@ module _ {S : Type 0} (accesses : Accesses S) (ev : Task → Run S Flow) (scope 
 
     pub does_count : {r : Outcome Flow} {s s1 : State S × ℕ} (k : Count) (o : RowPlace) (p : Place) → row_kind (row_at o) ≡ kinds.Operator (operator.Count k) → Does r s1 (counted_at accesses ev scope depth b k p) s → Does r s1 (count_rule accesses ev k scope depth (with_row b (row_at o) p).0) s
     does_count k o p e h = rw (count_is k o p e) h
-
 
     acquire_is : (o : RowPlace) (p : Place) → row_kind (row_at o) ≡ kinds.Operator operator.Acquire → acquire_rule accesses ev scope depth (with_row b (row_at o) p).0 ≡ acquire_at accesses ev scope depth b p
     unfolding acquire_rule acquire_at settle ◌>>=◌ go_on
@@ -260,7 +252,6 @@ module _ {S : Type 0} (accesses : Accesses S) (ev : Task → Run S Flow) (scope 
     pub does_acquire : {r : Outcome Flow} {s s1 : State S × ℕ} (o : RowPlace) (p : Place) → row_kind (row_at o) ≡ kinds.Operator operator.Acquire → Does r s1 (acquire_at accesses ev scope depth b p) s → Does r s1 (acquire_rule accesses ev scope depth (with_row b (row_at o) p).0) s
     does_acquire o p e h = rw (acquire_is o p e) h
 
-
     reference_is : (o : RowPlace) (p : Place) → row_kind (row_at o) ≡ kinds.Operator operator.RefOf → reference_rule accesses ev scope depth (with_row b (row_at o) p).0 ≡ reference_at accesses ev scope depth b p
     unfolding reference_rule reference_at settle ◌>>=◌ go_on
     reference_is o p e =
@@ -270,7 +261,6 @@ module _ {S : Type 0} (accesses : Accesses S) (ev : Task → Run S Flow) (scope 
 
     pub does_reference : {r : Outcome Flow} {s s1 : State S × ℕ} (o : RowPlace) (p : Place) → row_kind (row_at o) ≡ kinds.Operator operator.RefOf → Does r s1 (reference_at accesses ev scope depth b p) s → Does r s1 (reference_rule accesses ev scope depth (with_row b (row_at o) p).0) s
     does_reference o p e h = rw (reference_is o p e) h
-
 
     dereference_is : (o : RowPlace) (p : Place) → row_kind (row_at o) ≡ kinds.Operator operator.DerefOf → dereference_rule accesses ev scope depth (with_row b (row_at o) p).0 ≡ dereference_at accesses ev scope depth b p
     unfolding dereference_rule value_at dereference_at settle ◌>>=◌ go_on
@@ -282,7 +272,6 @@ module _ {S : Type 0} (accesses : Accesses S) (ev : Task → Run S Flow) (scope 
     pub does_dereference : {r : Outcome Flow} {s s1 : State S × ℕ} (o : RowPlace) (p : Place) → row_kind (row_at o) ≡ kinds.Operator operator.DerefOf → Does r s1 (dereference_at accesses ev scope depth b p) s → Does r s1 (dereference_rule accesses ev scope depth (with_row b (row_at o) p).0) s
     does_dereference o p e h = rw (dereference_is o p e) h
 
-
     if_is : (o : RowPlace) (p : Place) → row_kind (row_at o) ≡ kinds.Statement statement.If → if_rule ev scope depth (with_row b (row_at o) p).0 ≡ if_at accesses ev scope depth b p
     unfolding if_rule if_at settle ◌>>=◌ go_on
     if_is o p e =
@@ -292,9 +281,6 @@ module _ {S : Type 0} (accesses : Accesses S) (ev : Task → Run S Flow) (scope 
 
     pub does_if : {r : Outcome Flow} {s s1 : State S × ℕ} (o : RowPlace) (p : Place) → row_kind (row_at o) ≡ kinds.Statement statement.If → Does r s1 (if_at accesses ev scope depth b p) s → Does r s1 (if_rule ev scope depth (with_row b (row_at o) p).0) s
     does_if o p e h = rw (if_is o p e) h
-
-
-
 
     return_is : (o : RowPlace) (p : Place) → row_kind (row_at o) ≡ kinds.Statement statement.Return → return_rule ev scope depth (with_row b (row_at o) p).0 ≡ return_at accesses ev scope depth b p
     unfolding return_rule value_at return_at settle ◌>>=◌ go_on
@@ -306,7 +292,6 @@ module _ {S : Type 0} (accesses : Accesses S) (ev : Task → Run S Flow) (scope 
     pub does_return : {r : Outcome Flow} {s s1 : State S × ℕ} (o : RowPlace) (p : Place) → row_kind (row_at o) ≡ kinds.Statement statement.Return → Does r s1 (return_at accesses ev scope depth b p) s → Does r s1 (return_rule ev scope depth (with_row b (row_at o) p).0) s
     does_return o p e h = rw (return_is o p e) h
 
-
     release_is : (o : RowPlace) (p : Place) → row_kind (row_at o) ≡ kinds.Statement statement.Release → release_rule ev scope depth (with_row b (row_at o) p).0 ≡ release_at accesses ev scope depth b p
     unfolding release_rule release_at settle ◌>>=◌ go_on
     release_is o p e =
@@ -316,7 +301,6 @@ module _ {S : Type 0} (accesses : Accesses S) (ev : Task → Run S Flow) (scope 
 
     pub does_release : {r : Outcome Flow} {s s1 : State S × ℕ} (o : RowPlace) (p : Place) → row_kind (row_at o) ≡ kinds.Statement statement.Release → Does r s1 (release_at accesses ev scope depth b p) s → Does r s1 (release_rule ev scope depth (with_row b (row_at o) p).0) s
     does_release o p e h = rw (release_is o p e) h
-
 
     notify_is : (o : RowPlace) (p : Place) → row_kind (row_at o) ≡ kinds.Statement statement.Notify → notify_rule ev scope depth (with_row b (row_at o) p).0 ≡ notify_at accesses ev scope depth b p
     unfolding notify_rule value_at notify_at settle ◌>>=◌ go_on
@@ -328,7 +312,6 @@ module _ {S : Type 0} (accesses : Accesses S) (ev : Task → Run S Flow) (scope 
     pub does_notify : {r : Outcome Flow} {s s1 : State S × ℕ} (o : RowPlace) (p : Place) → row_kind (row_at o) ≡ kinds.Statement statement.Notify → Does r s1 (notify_at accesses ev scope depth b p) s → Does r s1 (notify_rule ev scope depth (with_row b (row_at o) p).0) s
     does_notify o p e h = rw (notify_is o p e) h
 
-
     pause_is : (o : RowPlace) (p : Place) → row_kind (row_at o) ≡ kinds.Statement statement.Pause → pause_rule ev scope depth (with_row b (row_at o) p).0 ≡ pause_at accesses ev scope depth b p
     unfolding pause_rule value_at pause_at settle ◌>>=◌ go_on
     pause_is o p e =
@@ -339,7 +322,6 @@ module _ {S : Type 0} (accesses : Accesses S) (ev : Task → Run S Flow) (scope 
     pub does_pause : {r : Outcome Flow} {s s1 : State S × ℕ} (o : RowPlace) (p : Place) → row_kind (row_at o) ≡ kinds.Statement statement.Pause → Does r s1 (pause_at accesses ev scope depth b p) s → Does r s1 (pause_rule ev scope depth (with_row b (row_at o) p).0) s
     does_pause o p e h = rw (pause_is o p e) h
 
-
     fatal_is : (o : RowPlace) (p : Place) → row_kind (row_at o) ≡ kinds.Statement statement.Fatal → fatal_rule ev scope depth (with_row b (row_at o) p).0 ≡ fatal_at accesses ev scope depth b p
     unfolding fatal_rule value_at fatal_at settle ◌>>=◌ go_on
     fatal_is o p e =
@@ -349,12 +331,6 @@ module _ {S : Type 0} (accesses : Accesses S) (ev : Task → Run S Flow) (scope 
 
     pub does_fatal : {r : Outcome Flow} {s s1 : State S × ℕ} (o : RowPlace) (p : Place) → row_kind (row_at o) ≡ kinds.Statement statement.Fatal → Does r s1 (fatal_at accesses ev scope depth b p) s → Does r s1 (fatal_rule ev scope depth (with_row b (row_at o) p).0) s
     does_fatal o p e h = rw (fatal_is o p e) h
-
-
-
-
-
-
 
     referent_kind : (c : TermCode) (u : Tree) (k : TargetKind) → referent_by_kind accesses ev scope depth (term c (part (inner u) no_parts)) u k ≡ referent_of_kind accesses ev scope depth (inner u) u k
     unfolding referent_of_target referent_named
@@ -384,7 +360,6 @@ module _ {S : Type 0} (accesses : Accesses S) (ev : Task → Run S Flow) (scope 
     pub does_size : {r : Outcome Flow} {s s1 : State S × ℕ} (o : RowPlace) (p : Place) → row_kind (row_at o) ≡ kinds.Operator operator.SizeOf → Does r s1 (size_at accesses ev scope depth b p) s → Does r s1 (size_rule accesses ev scope depth (with_row b (row_at o) p).0) s
     does_size o p e h = rw (size_is o p e) h
 
-
     type_is : (o : RowPlace) (p : Place) → row_kind (row_at o) ≡ kinds.Operator operator.ObjectType → type_rule accesses ev scope depth (with_row b (row_at o) p).0 ≡ type_at accesses ev scope depth b p
     unfolding type_rule type_at
     type_is o p e =
@@ -394,7 +369,6 @@ module _ {S : Type 0} (accesses : Accesses S) (ev : Task → Run S Flow) (scope 
 
     pub does_type : {r : Outcome Flow} {s s1 : State S × ℕ} (o : RowPlace) (p : Place) → row_kind (row_at o) ≡ kinds.Operator operator.ObjectType → Does r s1 (type_at accesses ev scope depth b p) s → Does r s1 (type_rule accesses ev scope depth (with_row b (row_at o) p).0) s
     does_type o p e h = rw (type_is o p e) h
-
 
     sought_part : (c : TermCode) (z y : Part) → sought accesses ev scope depth (term c (part z (part y no_parts))) (Some z) ≡ sought_to accesses ev scope depth z
     unfolding sought_name sought_target sought_named settle ◌>>=◌ go_on
@@ -419,6 +393,5 @@ module _ {S : Type 0} (accesses : Accesses S) (ev : Task → Run S Flow) (scope 
         let x = stands (kinds.Operator operator.CondRefOf) o e (λ h. absurd (cc h)) in
         let t = super_target b x.0 p x.1.1 in
         record { is = λ ne. rw (x.1.0, t) (conditional_tree _ p s ∙ h.is ne) }
-
 
 pub ruleset here = (does_else, does_while, does_store, does_copy, does_two, does_divide, does_one, does_test, does_not, does_count, does_acquire, does_reference, does_dereference, does_if, does_return, does_release, does_notify, does_pause, does_fatal, does_size, does_type, does_conditional, past_store, past_copy, past_two, past_divide, past_one, past_test, past_not, past_count, past_acquire, past_reference, past_dereference, past_if, past_else, past_while, past_return, past_release, past_notify, past_pause, past_fatal, past_size, past_type, past_constant, past_slot, past_break, past_continue, past_noop, past_conditional)

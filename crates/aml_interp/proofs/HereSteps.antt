@@ -102,7 +102,6 @@ pub does_begun : {S : Type 0} {r : Outcome Flow} {s s1 : State S × ℕ} (access
     → Does r s1 (code_rule accesses ev (code_of (a_term count levels false p).0) scope depth (a_term count levels false p).0) s
 does_begun accesses ev scope depth count levels o p q e h = same_tree accesses ev scope depth _ _ (ap (λ (x : Tree × Place). x.0) e) h
 
-
 -- ---- items of a list, where a cursor stands
 
 pub items_more : (w : Walk Tree) (n : ℕ) (p : Place) → 0 < n → 0 < length p.rest → trees_of (to_end w n p).0 ≡ tree (w p).0 (trees_of (to_end w (n - 1) (w p).1).0)

@@ -6,8 +6,6 @@ ghost use Rattle.aml_grammar.specs.declared.opcode.TermCode.TheVariants as codes
 ghost use Rattle.aml_grammar.specs.Apart.{code_of};
 ghost use Rattle.aml_marked.specs.Marked.{count_at, a_term, with_row};
 ghost use Rattle.aml_scan.specs.RowsAt.{row_at};
-ghost use Rattle.aml_terms.specs.AtTree.{at_tree};
-ghost use Rattle.aml_meaning.specs.declared.term_kind.TermKind.TheVariants as kinds;
 ghost use Rattle.aml_meaning.specs.Meaning.{meaning};
 ghost use Rattle.aml_meaning.specs.Tasks.{task, operand_value, operand_integer, in_turn};
 ghost use Rattle.aml_meaning.specs.Evaluation.{code_rule};
@@ -112,7 +110,15 @@ pub(crate) fn eval_coded<S: Space>(
     ensures means { Does result run.new (code_rule S.accesses (meaning S.accesses) (code_of (with_row (a_term (count_at code.now.marks.now) levels) (row_at place) cursor.old).0) code.now.site.now.scope.path.now code.now.site.now.depth (with_row (a_term (count_at code.now.marks.now) levels) (row_at place) cursor.old).0) run.old }
     ensures behind { OnOk result (cursor.new ≡ (with_row (a_term (count_at code.now.marks.now) levels) (row_at place) cursor.old).1) }
 {
-    eval_kind(alloc, run, code, cursor, levels, place, kind_of(place.row().0))
+    eval_kind(
+        alloc,
+        run,
+        code,
+        cursor,
+        levels,
+        place,
+        kind_of(place.row().0),
+    )
 }
 
 /// The same, by the kind of its opcode.

@@ -1,12 +1,12 @@
 //! Operands of terms, by the kind that the grammar gives them.
-ghost use Rattle.std.specs.Prelude.{◌≡◌, ◌==◌, option_map, Some, None};
+ghost use Rattle.std.specs.Prelude.{◌≡◌, ◌==◌, Some, None};
 ghost use Rattle.ar_space.specs.Outcome.{Answers, NotMemory, seen};
 ghost use Rattle.aml_terms.specs.AtTree.{at_tree, at_list};
 ghost use Rattle.aml_terms.specs.declared.at.At.{At as Reader};
 ghost use Rattle.aml_grammar.specs.Tree.{tree, no_trees};
 ghost use Rattle.aml_grammar.specs.Apart.{code_of, operand_of, name_of, bytes_of, Shows};
 ghost use Rattle.aml_meaning.specs.Readings.{as_many};
-ghost use Rattle.aml_meaning.specs.Terms.{number_of, inner_of, list_of, else_of, count_of};
+ghost use Rattle.aml_meaning.specs.Terms.{number_of, inner_of, list_of, count_of};
 
 use aml_grammar::{OperandView, TermCode, TermReader};
 use aml_objects::Octets;
@@ -87,17 +87,6 @@ pub(crate) fn list<'t>(term: &Reader<'t>, index: usize) -> Result<Reader<'t>, Re
     match operand(term, index) {
         OperandView::List(part) => Ok(part),
         _ => Err(Refusal::Name(NameFault::BadName)),
-    }
-}
-
-/// The Else of an If, where it has one.
-#[inline(always)]
-pub(crate) fn else_of<'t>(term: &Reader<'t>) -> Option<Reader<'t>>
-    ensures { option_map at_tree result ≡ else_of (operand_of (at_tree term.now) 2) }
-{
-    match operand(term, 2) {
-        OperandView::Term(part) => Some(part),
-        _ => None,
     }
 }
 

@@ -142,8 +142,22 @@ fn eval_divide<S: Space>(
 {
     let values = eval_two_values_here(alloc, run, code, cursor, levels)?;
     let division = run.world.divide(values.0, values.1)?;
-    eval_put(alloc, run, code, cursor, levels, Value::Integer(division.remainder))?;
-    eval_put(alloc, run, code, cursor, levels, Value::Integer(division.quotient))
+    eval_put(
+        alloc,
+        run,
+        code,
+        cursor,
+        levels,
+        Value::Integer(division.remainder),
+    )?;
+    eval_put(
+        alloc,
+        run,
+        code,
+        cursor,
+        levels,
+        Value::Integer(division.quotient),
+    )
 }
 
 /// An operator with an operand and a target.

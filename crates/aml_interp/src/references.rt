@@ -240,7 +240,14 @@ fn eval_reference_put<S: Space>(
     ensures means { Does result run.new (reference_put S.accesses (meaning S.accesses) code.now.site.now.scope.path.now code.now.site.now.depth (a_target (a_term (count_at code.now.marks.now) levels) cursor.old).0 reference) run.old }
     ensures behind { OnOk result (cursor.new ≡ (a_target (a_term (count_at code.now.marks.now) levels) cursor.old).1) }
 {
-    eval_put(alloc, run, code, cursor, levels, Value::Reference(reference))?;
+    eval_put(
+        alloc,
+        run,
+        code,
+        cursor,
+        levels,
+        Value::Reference(reference),
+    )?;
     let value = run.world.integer_kept(u64::MAX)?;
     Ok(Flow::Value(value))
 }

@@ -1,7 +1,7 @@
 //! Statements (ACPI 6.5, 19.6 and 20.2.5.3).
 ghost use Rattle.std.specs.Prelude.{◌≡◌, ◌≤◌, ◌<◌, OnOk, Some, false};
 ghost use Rattle.ar_space.specs.Change.{Does};
-ghost use Rattle.aml_marked.specs.Marked.{Place, count_at, a_term, with_row, over, a_super_name, an_else, maybe_else};
+ghost use Rattle.aml_marked.specs.Marked.{count_at, a_term, with_row, over, a_super_name, an_else, maybe_else};
 ghost use Rattle.aml_scan.specs.RowsAt.{row_at};
 ghost use Rattle.aml_convert.specs.Operators.{is_true};
 ghost use Rattle.aml_meaning.specs.declared.term_kind.TermKind.TheVariants as kinds;
@@ -9,7 +9,7 @@ ghost use Rattle.aml_meaning.specs.Meaning.{meaning};
 ghost use Rattle.aml_meaning.specs.Tasks.{task};
 ghost use Rattle.aml_meaning.specs.Terms.{else_of};
 ghost use Rattle.aml_meaning.specs.StatementTerms.{otherwise, branch, turn, turn_of, loop, statement_rule};
-ghost use Rattle.aml_interp.specs.Here.{behind_one, inside_at, outside_at, items_at, row_kind, if_at, else_at, while_at, return_at, release_at, notify_at, pause_at, fatal_at};
+ghost use Rattle.aml_interp.specs.Here.{behind_one, outside_at, items_at, row_kind, if_at, else_at, while_at, return_at, release_at, notify_at, pause_at, fatal_at};
 
 use crate::here::{eval_integer_here, eval_items_here, eval_value_here};
 use crate::targets::eval_super_name;

@@ -138,7 +138,7 @@ pub here::eval_items_here-items-preserved : goal.here::eval_items_here-items-pre
 here::eval_items_here-items-preserved g t c = (
   let d = c.items.invariant.0 in let e = c.eval_here.ensures.spent in omega arith,
   let b = c.in_ok-flow.ensures.behind in
-  rw b (same_true _ _ _ (same_ok _ _ (same_item (meaning g.S.Space.accesses) c.args.code.now.site.now.scope.path.now c.args.code.now.site.now.depth _ c.items.invariant.1 (items_more _ _ _ c.items-test.true (some_left _ _ c.is_empty.ensures c.if-not-is_empty.true))) c.in_ok-flow.ensures.means) (sym c.goes_on.ensures ∙ c.if-not-goes_on.false)),
+      rw b (same_true _ _ _ (same_ok _ _ (same_item (meaning g.S.Space.accesses) c.args.code.now.site.now.scope.path.now c.args.code.now.site.now.depth _ c.items.invariant.1 (items_more _ _ _ c.items-test.true (some_left _ _ c.is_empty.ensures c.if-not-is_empty.true))) c.in_ok-flow.ensures.means) (sym c.goes_on.ensures ∙ c.if-not-goes_on.false)),
 )
 
 pub here::eval_items_here-returns-clause-means : goal.here::eval_items_here-returns-clause-means
