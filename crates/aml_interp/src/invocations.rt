@@ -15,11 +15,11 @@ ghost use Rattle.aml_meaning.specs.Tasks.{in_turn};
 ghost use Rattle.aml_meaning.specs.Invocations.{shallow, invocation_found, use_found, frame_arguments, returned_by, leaving, invoked, value_of_call, method_value};
 ghost use Rattle.aml_meaning.specs.InvocationTerms.{osi_rule, arguments_in_turn, call_rule, field_rule, invocation_rule, name_value};
 
+use crate::at_cursor::eval_items_at_cursor;
 use crate::field_calls::eval_field_read;
-use crate::here::eval_items_here;
 use crate::operands::{Reader, as_many, list, name, take_first};
 use crate::readings::read_body;
-use crate::task::{Code, Site, Task};
+use crate::task::{Context, Site, Task};
 use crate::terms::eval_value;
 use aml_grammar::TermReader;
 use aml_meaning::{Flow, Invocation, Running, WorldState};
@@ -258,14 +258,14 @@ fn eval_body<S: Space>(
     ensures spent { run.new.1 ≤ run.old.1 }
     ensures means { Does result run.new (leaving path.now (in_turn (meaning S.accesses) path.now depth (trees_of (trees_by marks.now bytes.now)))) run.old }
 {
-    let code = Code {
+    let context = Context {
         site: &Site {
             scope: run.world.scope(path),
             depth,
         },
         marks,
     };
-    let outcome = eval_items_here(alloc, run, &code, &mut Cursor::new(0, bytes), LEVELS);
+    let outcome = eval_items_at_cursor(alloc, run, &context, &mut Cursor::new(0, bytes), LEVELS);
     run.world.leave(path);
     of_call(outcome)
 }

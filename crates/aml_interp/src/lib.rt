@@ -2,13 +2,13 @@
 #![tactic(auto)]
 
 mod answers;
+mod at_cursor;
 mod buffer_fields;
 mod data;
 mod declarations;
 mod export;
 mod field_calls;
 mod fields;
-mod here;
 mod index_fields;
 mod invocations;
 mod loading;

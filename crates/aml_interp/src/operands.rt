@@ -15,7 +15,7 @@ use aml_terms::At;
 use ar_space::{EvaluationFault, NameFault, Refusal};
 use std::alloc::Global;
 
-/// How evaluation reads terms. It is used through `TermReader` alone.
+/// How evaluation reads terms that no cursor goes over.
 pub(crate) type Reader<'t> = At<'t>;
 
 /// The code of a term.

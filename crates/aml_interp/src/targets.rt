@@ -1,15 +1,16 @@
 //! Operands that name a target, which is read or stored to (ACPI 6.5, 20.2.2).
 ghost use Rattle.std.specs.Prelude.{◌≡◌, ◌≤◌, ◌<◌, OnOk};
 ghost use Rattle.ar_space.specs.Change.{Does};
-ghost use Rattle.aml_marked.specs.Marked.{count_at, a_term, a_target, a_super_name};
+ghost use Rattle.aml_marked.specs.Marked.{count_at, a_term, a_name, a_target, a_super_name};
+ghost use Rattle.aml_meaning.specs.Run.{lift};
 ghost use Rattle.aml_terms.specs.AtTree.{at_tree};
 ghost use Rattle.aml_meaning.specs.Meaning.{meaning};
-ghost use Rattle.aml_meaning.specs.TargetTerms.{operand_target, indexed_target, dereferenced_target, target_by_kind, target_of, name_target, target_at, part_target};
-ghost use Rattle.aml_interp.specs.Here.{put_to};
+ghost use Rattle.aml_meaning.specs.TargetTerms.{target_named, operand_target, indexed_target, dereferenced_target, target_by_kind, target_of, name_target, target_at, part_target};
+ghost use Rattle.aml_interp.specs.AtCursor.{put_to};
 
 use crate::field_calls::eval_stored_to;
 use crate::operands::{code, operand};
-use crate::task::{Code, Task};
+use crate::task::{Context, Task};
 use crate::terms::{eval_value, eval_value_at};
 use aml_grammar::{OperandView, TermReader};
 use aml_meaning::{Flow, Running, StoreTarget, TargetKind, reference_in, target_kind};
@@ -150,22 +151,22 @@ fn eval_indexed_target<S: Space>(
 /// The target where a cursor stands: a zero for none, a name or a term.
 #[cycle(evaluation)]
 #[tactic(auto, using(crate::proofs::Steps::evaluating), unfolding(aml_marked::specs::Marked::a_target, aml_marked::specs::Marked::a_super_name, aml_meaning::specs::TargetTerms::part_target))]
-fn eval_target_here<S: Space>(
+fn eval_target_at_cursor<S: Space>(
     alloc: Global,
     run: &mut Running<S>,
-    code: &Code<'_>,
+    context: &Context<'_>,
     cursor: &mut Cursor<'_>,
     levels: u8,
 ) -> Result<StoreTarget, Refusal>
     ensures spent { run.new.1 ≤ run.old.1 }
-    ensures means { Does result run.new (part_target (meaning S.accesses) code.now.site.now.scope.path.now code.now.site.now.depth (a_target (a_term (count_at code.now.marks.now) levels) cursor.old).0) run.old }
-    ensures behind { OnOk result (cursor.new ≡ (a_target (a_term (count_at code.now.marks.now) levels) cursor.old).1) }
+    ensures means { Does result run.new (part_target (meaning S.accesses) context.now.site.now.scope.path.now context.now.site.now.depth (a_target (a_term (count_at context.now.marks.now) levels) cursor.old).0) run.old }
+    ensures behind { OnOk result (cursor.new ≡ (a_target (a_term (count_at context.now.marks.now) levels) cursor.old).1) }
 {
     if cursor.first() == 0 {
         cursor.over(1);
         return Ok(StoreTarget::Nowhere);
     }
-    eval_super_name(alloc, run, code, cursor, levels)
+    eval_super_name(alloc, run, context, cursor, levels)
 }
 
 /// What a name or a term names, where a cursor stands.
@@ -175,69 +176,84 @@ fn eval_target_here<S: Space>(
 pub(crate) fn eval_super_name<S: Space>(
     alloc: Global,
     run: &mut Running<S>,
-    code: &Code<'_>,
+    context: &Context<'_>,
     cursor: &mut Cursor<'_>,
     levels: u8,
 ) -> Result<StoreTarget, Refusal>
     ensures spent { run.new.1 ≤ run.old.1 }
-    ensures means { Does result run.new (part_target (meaning S.accesses) code.now.site.now.scope.path.now code.now.site.now.depth (a_super_name (a_term (count_at code.now.marks.now) levels) cursor.old).0) run.old }
-    ensures behind { OnOk result (cursor.new ≡ (a_super_name (a_term (count_at code.now.marks.now) levels) cursor.old).1) }
+    ensures means { Does result run.new (part_target (meaning S.accesses) context.now.site.now.scope.path.now context.now.site.now.depth (a_super_name (a_term (count_at context.now.marks.now) levels) cursor.old).0) run.old }
+    ensures behind { OnOk result (cursor.new ≡ (a_super_name (a_term (count_at context.now.marks.now) levels) cursor.old).1) }
 {
     if cursor.is_at_name() {
-        let name = cursor.name(alloc)?;
+        let target = target_at_name(alloc, run, context, cursor)?;
         cursor.over_name();
-        run.world.target_named(alloc, code.site.scope, &name)
+        Ok(target)
     } else {
-        let term = cursor.term(code.marks, levels);
+        let term = cursor.term(context.marks, levels);
         let target = eval_inner_target(
             alloc,
             run,
             &Task {
-                site: code.site,
+                site: context.site,
                 term: &term,
             },
         )?;
-        cursor.over_term(code.marks, levels);
+        cursor.over_term(context.marks, levels);
         Ok(target)
     }
 }
 
+/// The target that the name names where a cursor stands. The name stays out of the frames of terms.
+#[inline(never)]
+#[tactic(auto, using(crate::proofs::Steps::evaluating))]
+fn target_at_name<S: Space>(
+    alloc: Global,
+    run: &Running<S>,
+    context: &Context<'_>,
+    cursor: &Cursor<'_>,
+) -> Result<StoreTarget, Refusal>
+    ensures { Does result run.now (lift (target_named context.now.site.now.scope.path.now (a_name cursor.now).0)) run.now }
+{
+    let name = cursor.name(alloc)?;
+    run.world.target_named(alloc, context.site.scope, &name)
+}
+
 /// Stores a value to the target where a cursor stands; it is the value of the term.
 #[cycle(evaluation)]
-#[tactic(auto, using(crate::proofs::Steps::evaluating), unfolding(crate::specs::Here::put_to))]
-pub(crate) fn eval_put<S: Space>(
+#[tactic(auto, using(crate::proofs::Steps::evaluating), unfolding(crate::specs::AtCursor::put_to))]
+pub(crate) fn eval_store_to_target<S: Space>(
     alloc: Global,
     run: &mut Running<S>,
-    code: &Code<'_>,
+    context: &Context<'_>,
     cursor: &mut Cursor<'_>,
     levels: u8,
     value: Value,
 ) -> Result<Flow, Refusal>
     ensures spent { run.new.1 ≤ run.old.1 }
-    ensures means { Does result run.new (put_to S.accesses (meaning S.accesses) code.now.site.now.scope.path.now code.now.site.now.depth (a_target (a_term (count_at code.now.marks.now) levels) cursor.old).0 value) run.old }
-    ensures behind { OnOk result (cursor.new ≡ (a_target (a_term (count_at code.now.marks.now) levels) cursor.old).1) }
+    ensures means { Does result run.new (put_to S.accesses (meaning S.accesses) context.now.site.now.scope.path.now context.now.site.now.depth (a_target (a_term (count_at context.now.marks.now) levels) cursor.old).0 value) run.old }
+    ensures behind { OnOk result (cursor.new ≡ (a_target (a_term (count_at context.now.marks.now) levels) cursor.old).1) }
 {
-    let target = eval_target_here(alloc, run, code, cursor, levels)?;
-    eval_stored_to(alloc, run, code.site.depth, &target, value)?;
+    let target = eval_target_at_cursor(alloc, run, context, cursor, levels)?;
+    eval_stored_to(alloc, run, context.site.depth, &target, value)?;
     Ok(Flow::Value(value))
 }
 
 /// Stores a value to what a name or a term names; it is the value of the term.
 #[cycle(evaluation)]
-#[tactic(auto, using(crate::proofs::Steps::evaluating), unfolding(crate::specs::Here::put_to))]
-pub(crate) fn eval_stored<S: Space>(
+#[tactic(auto, using(crate::proofs::Steps::evaluating), unfolding(crate::specs::AtCursor::put_to))]
+pub(crate) fn eval_store_to_super_name<S: Space>(
     alloc: Global,
     run: &mut Running<S>,
-    code: &Code<'_>,
+    context: &Context<'_>,
     cursor: &mut Cursor<'_>,
     levels: u8,
     value: Value,
 ) -> Result<Flow, Refusal>
     ensures spent { run.new.1 ≤ run.old.1 }
-    ensures means { Does result run.new (put_to S.accesses (meaning S.accesses) code.now.site.now.scope.path.now code.now.site.now.depth (a_super_name (a_term (count_at code.now.marks.now) levels) cursor.old).0 value) run.old }
-    ensures behind { OnOk result (cursor.new ≡ (a_super_name (a_term (count_at code.now.marks.now) levels) cursor.old).1) }
+    ensures means { Does result run.new (put_to S.accesses (meaning S.accesses) context.now.site.now.scope.path.now context.now.site.now.depth (a_super_name (a_term (count_at context.now.marks.now) levels) cursor.old).0 value) run.old }
+    ensures behind { OnOk result (cursor.new ≡ (a_super_name (a_term (count_at context.now.marks.now) levels) cursor.old).1) }
 {
-    let target = eval_super_name(alloc, run, code, cursor, levels)?;
-    eval_stored_to(alloc, run, code.site.depth, &target, value)?;
+    let target = eval_super_name(alloc, run, context, cursor, levels)?;
+    eval_stored_to(alloc, run, context.site.depth, &target, value)?;
     Ok(Flow::Value(value))
 }

@@ -20,7 +20,7 @@ pub(crate) struct Task<'t> {
 
 /// What a cursor moves over: where its terms are evaluated, and the marks of its bytes.
 #[derive(Clone, Copy)]
-pub(crate) struct Code<'t> {
+pub(crate) struct Context<'t> {
     pub(crate) site: &'t Site<'t>,
     pub(crate) marks: &'t Marks,
 }

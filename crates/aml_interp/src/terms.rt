@@ -14,21 +14,21 @@ ghost use Rattle.aml_meaning.specs.Meaning.{meaning};
 ghost use Rattle.aml_meaning.specs.Tasks.{task, operand_value, value_at, two_values, operand_integer, in_turn};
 ghost use Rattle.aml_meaning.specs.Evaluation.{rule, code_rule};
 
-use crate::here::eval_coded;
+use crate::at_cursor::eval_coded;
+use crate::data::eval_data;
+use crate::declarations::eval_declaration;
 use crate::invocations::eval_name_value;
 use crate::operands::{Reader, code, inner, take_first};
-use crate::task::{Code, Task};
+use crate::regions::eval_region_term;
+use crate::task::{Context, Task};
 use aml_grammar::{Opcode, TermCode};
-use aml_meaning::{Flow, Running};
+use aml_meaning::{Flow, Running, TermKind, kind_of};
 use aml_objects::Value;
 use aml_terms::Coded;
 use ar_space::{EvaluationFault, NameFault, Refusal, Space};
 use std::alloc::Global;
 
 /// A term that a reader stands at: it costs a step, and is then evaluated by its rule.
-///
-/// The frame of this function stands on the stack once for each nested term. Rules with many locals are therefore kept out of it, by
-/// `inline(never)`.
 #[cycle(evaluation)]
 #[tactic(auto, using(crate::proofs::Steps::evaluating), unfolding(aml_meaning::specs::Evaluation::rule))]
 pub(crate) fn eval_term<S: Space>(
@@ -47,9 +47,9 @@ pub(crate) fn eval_term<S: Space>(
     }
 }
 
-/// A term whose opcode was read.
+/// A term whose opcode was read. What is read through a reader is read through the one at hand.
 #[cycle(evaluation)]
-#[tactic(auto, using(crate::proofs::Steps::evaluating))]
+#[tactic(auto, using(crate::proofs::Steps::evaluating, crate::proofs::CursorSteps::coding))]
 fn eval_coded_term<S: Space>(
     alloc: Global,
     run: &mut Running<S>,
@@ -60,15 +60,38 @@ fn eval_coded_term<S: Space>(
     ensures spent { run.new.1 ≤ run.old.1 }
     ensures means { Does result run.new (code_rule S.accesses (meaning S.accesses) (code_of (at_tree job.now.term.now)) job.now.site.now.scope.path.now job.now.site.now.depth (at_tree job.now.term.now)) run.old }
 {
+    match kind_of(coded.place.row().0) {
+        TermKind::Data(kind) => eval_data(alloc, run, job, kind),
+        TermKind::Declaration(kind) => eval_declaration(alloc, run, job, kind),
+        TermKind::Region(kind) => eval_region_term(alloc, run, job, kind),
+        TermKind::Operator(_) => eval_operands(alloc, run, job, coded),
+        TermKind::Statement(_) => eval_operands(alloc, run, job, coded),
+        TermKind::Unsupported => Err(unsupported(coded.place.row().0)),
+    }
+}
+
+/// A term whose operands a cursor goes over.
+#[cycle(evaluation)]
+#[tactic(auto, using(crate::proofs::Steps::evaluating))]
+fn eval_operands<S: Space>(
+    alloc: Global,
+    run: &mut Running<S>,
+    job: &Task<'_>,
+    coded: Coded<'_>,
+) -> Result<Flow, Refusal>
+    requires { at_tree job.now.term.now ≡ (with_row (a_term (count_at job.now.term.now.marks.now) coded.levels) (row_at coded.place) coded.cursor).0 }
+    ensures spent { run.new.1 ≤ run.old.1 }
+    ensures means { Does result run.new (code_rule S.accesses (meaning S.accesses) (code_of (at_tree job.now.term.now)) job.now.site.now.scope.path.now job.now.site.now.depth (at_tree job.now.term.now)) run.old }
+{
     let mut cursor = coded.cursor;
-    let code = Code {
+    let context = Context {
         site: job.site,
         marks: job.term.marks(),
     };
-    eval_coded(alloc, run, &code, &mut cursor, coded.levels, coded.place)
+    eval_coded(alloc, run, &context, &mut cursor, coded.levels, coded.place)
 }
 
-/// A term without an opcode: a name, or nothing.
+/// A term without an opcode: a name with its arguments. Nothing else is evaluated.
 #[cycle(evaluation)]
 #[tactic(auto, using(crate::proofs::Steps::evaluating))]
 pub(crate) fn eval_uncoded<S: Space>(
@@ -82,6 +105,7 @@ pub(crate) fn eval_uncoded<S: Space>(
 {
     match code(job.term) {
         TermCode::MethodInvocation => eval_name_value(alloc, run, job),
+        // no term here has an opcode
         TermCode::Opcode(_) => Err(Refusal::Name(NameFault::BadName)),
         TermCode::Name => Err(Refusal::Name(NameFault::BadName)),
         TermCode::NamedField => Err(Refusal::Name(NameFault::BadName)),

@@ -27,7 +27,8 @@ impl<'a> Model for Cursor<'a> {
 }
 
 impl<'a> Cursor<'a> {
-    /// A cursor at the first of these bytes, which stands at an offset of those that were scanned.
+    /// A cursor at the first of these bytes, which stands at an offset of those that were scanned. The offset behind the last byte is less
+    /// than 2^64.
     pub fn new(at: usize, rest: &'a [u8]) -> Cursor<'a>
         requires { at + length rest.now < 2 ^ 64 }
         ensures { result ≡ record { at = at; rest = rest.now } }
@@ -93,7 +94,7 @@ impl<'a> Cursor<'a> {
     }
 
     /// The integer of the next bytes, the lowest first; missing ones are zero.
-    pub fn integer(&self, count: usize) -> u64
+    pub(crate) fn integer(&self, count: usize) -> u64
         requires { count ≤ 8 }
         ensures value { result ≡ (an_integer count self.now).0 }
         ensures bound { result < 256 ^ count }

@@ -10,7 +10,11 @@ use Rattle.aml_grammar.specs.Apart.{first_of}
 use Rattle.aml_terms.specs.AtTree.{at_tree, at_list}
 use Rattle.aml_meaning.specs.Meaning.{meaning}
 use Rattle.aml_marked.specs.Marked.{count_at}
-use Rattle.aml_interp.proofs.HereSteps.{does_begun, items_more, items_none, items_over, some_left, none_left}
+use Rattle.aml_grammar.specs.declared.kinds.Row.{Row}
+use Rattle.aml_marked.specs.Marked.{a_term}
+use Rattle.aml_meaning.specs.Terms.{kind_of}
+use Rattle.aml_meaning.specs.declared.term_kind.TermKind.TheVariants as kinds
+use Rattle.aml_interp.proofs.CursorSteps.{code_read, kind_read, stopped, row_same, does_begun, items_more, items_none, items_over, some_left, none_left}
 use Rattle.aml_interp.proofs.Steps.{same_argument, arguments_end, same_turn, same_after, same_ended, same_item, items_end, same_element, elements_end, elements_full, coded, same_true, same_false}
 use Rattle.aml_interp.proofs.+evaluation.Goals as goal
 use Rattle.aml_interp.proofs.+evaluation.Goals.{then-items-test+else-not-is_empty, else-items-test}
@@ -65,16 +69,16 @@ invocations::eval_arguments-items-preserved g t c = (
 
 pub statements::eval_loop-returns-in_err-flow-clause-means : goal.statements::eval_loop-returns-in_err-flow-clause-means
 statements::eval_loop-returns-in_err-flow-clause-means g t c =
-    does_same (same_turn g.S.Space.accesses c.args.code.now.site.now.scope.path.now c.args.code.now.site.now.depth _ _ c.turns.invariant.1) (does_err _ _ c.in_err-flow.ensures.means c.from_residual.ensures)
+    does_same (same_turn g.S.Space.accesses c.args.context.now.site.now.scope.path.now c.args.context.now.site.now.depth _ _ c.turns.invariant.1) (does_err _ _ c.in_err-flow.ensures.means c.from_residual.ensures)
 
 pub statements::eval_loop-returns-in-Some-clause-means : goal.statements::eval_loop-returns-in-Some-clause-means
 statements::eval_loop-returns-in-Some-clause-means g t c =
-    does_same (same_ended g.S.Space.accesses _ _ _ (same_ok _ _ (same_turn g.S.Space.accesses c.args.code.now.site.now.scope.path.now c.args.code.now.site.now.depth _ _ c.turns.invariant.1) c.in_ok-flow.ensures.means) (sym c.loop_end.ensures ∙ c.in-Some.is)) does_give
+    does_same (same_ended g.S.Space.accesses _ _ _ (same_ok _ _ (same_turn g.S.Space.accesses c.args.context.now.site.now.scope.path.now c.args.context.now.site.now.depth _ _ c.turns.invariant.1) c.in_ok-flow.ensures.means) (sym c.loop_end.ensures ∙ c.in-Some.is)) does_give
 
 pub statements::eval_loop-turns-preserved : goal.statements::eval_loop-turns-preserved
 statements::eval_loop-turns-preserved g t c = (
   let d = c.turns.invariant.0 in let e = c.eval_turn.ensures.spent in omega arith,
-  same_after g.S.Space.accesses _ _ (same_ok _ _ (same_turn g.S.Space.accesses c.args.code.now.site.now.scope.path.now c.args.code.now.site.now.depth _ _ c.turns.invariant.1) c.in_ok-flow.ensures.means) (sym c.loop_end.ensures ∙ c.in-None.is),
+  same_after g.S.Space.accesses _ _ (same_ok _ _ (same_turn g.S.Space.accesses c.args.context.now.site.now.scope.path.now c.args.context.now.site.now.depth _ _ c.turns.invariant.1) c.in_ok-flow.ensures.means) (sym c.loop_end.ensures ∙ c.in-None.is),
 )
 
 pub index_fields::eval_index_reads-loop-unit-init : goal.index_fields::eval_index_reads-loop-unit-init
@@ -123,26 +127,38 @@ index_fields::eval_index_writes-returns-in_err-eval_index_unit_written-clause-me
 pub index_fields::eval_index_writes-returns-clause-means : goal.index_fields::eval_index_writes-returns-clause-means
 index_fields::eval_index_writes-returns-clause-means g t c = writing_ends (index_unit_written g.S.Space.accesses (asked (answer_within g.S.Space.accesses (meaning g.S.Space.accesses) c.args.calls)) c.args.index c.args.behind c.args.field c.args.source.now) c.args.field _ _ c.loop-unit.unit-iterator (search rules) c.loop-unit.invariant.1
 
-pub here::eval_begun-returns-in-Some-clause-means : goal.here::eval_begun-returns-in-Some-clause-means
-here::eval_begun-returns-in-Some-clause-means g t c = does_begun g.S.Space.accesses (meaning g.S.Space.accesses) c.args.code.now.site.now.scope.path.now c.args.code.now.site.now.depth (count_at c.args.code.now.marks.now) c.args.levels c.in-Some.place c.args.cursor.now c.take_opcode.new.self (c.in-Some.ensures.term c.in-Some.place (count_at c.args.code.now.marks.now) false refl) c.eval_coded.ensures.means
+pub at_cursor::eval_begun-returns-in-Some-clause-means : goal.at_cursor::eval_begun-returns-in-Some-clause-means
+at_cursor::eval_begun-returns-in-Some-clause-means g t c = does_begun g.S.Space.accesses (meaning g.S.Space.accesses) c.args.context.now.site.now.scope.path.now c.args.context.now.site.now.depth (count_at c.args.context.now.marks.now) c.args.levels c.in-Some.place c.args.cursor.now c.take_opcode.new.self (c.in-Some.ensures.term c.in-Some.place (count_at c.args.context.now.marks.now) false refl) c.eval_coded.ensures.means
 
-pub here::eval_items_here-returns-in_err-flow-clause-means : goal.here::eval_items_here-returns-in_err-flow-clause-means
-here::eval_items_here-returns-in_err-flow-clause-means g t c =
-    does_same (same_item (meaning g.S.Space.accesses) c.args.code.now.site.now.scope.path.now c.args.code.now.site.now.depth _ c.items.invariant.1 (items_more _ _ _ c.items-test.true (some_left _ _ c.is_empty.ensures c.if-not-is_empty.true))) (does_err _ _ c.in_err-flow.ensures.means c.from_residual.ensures)
+pub at_cursor::eval_items_at_cursor-returns-in_err-flow-clause-means : goal.at_cursor::eval_items_at_cursor-returns-in_err-flow-clause-means
+at_cursor::eval_items_at_cursor-returns-in_err-flow-clause-means g t c =
+    does_same (same_item (meaning g.S.Space.accesses) c.args.context.now.site.now.scope.path.now c.args.context.now.site.now.depth _ c.items.invariant.1 (items_more _ _ _ c.items-test.true (some_left _ _ c.is_empty.ensures c.if-not-is_empty.true))) (does_err _ _ c.in_err-flow.ensures.means c.from_residual.ensures)
 
-pub here::eval_items_here-returns-then-not-goes_on-clause-means : goal.here::eval_items_here-returns-then-not-goes_on-clause-means
-here::eval_items_here-returns-then-not-goes_on-clause-means g t c =
-    does_same (same_false _ _ _ (same_ok _ _ (same_item (meaning g.S.Space.accesses) c.args.code.now.site.now.scope.path.now c.args.code.now.site.now.depth _ c.items.invariant.1 (items_more _ _ _ c.items-test.true (some_left _ _ c.is_empty.ensures c.if-not-is_empty.true))) c.in_ok-flow.ensures.means) (sym c.goes_on.ensures ∙ c.if-not-goes_on.true)) does_give
+pub at_cursor::eval_items_at_cursor-returns-then-not-goes_on-clause-means : goal.at_cursor::eval_items_at_cursor-returns-then-not-goes_on-clause-means
+at_cursor::eval_items_at_cursor-returns-then-not-goes_on-clause-means g t c =
+    does_same (same_false _ _ _ (same_ok _ _ (same_item (meaning g.S.Space.accesses) c.args.context.now.site.now.scope.path.now c.args.context.now.site.now.depth _ c.items.invariant.1 (items_more _ _ _ c.items-test.true (some_left _ _ c.is_empty.ensures c.if-not-is_empty.true))) c.in_ok-flow.ensures.means) (sym c.goes_on.ensures ∙ c.if-not-goes_on.true)) does_give
 
-pub here::eval_items_here-items-preserved : goal.here::eval_items_here-items-preserved
-here::eval_items_here-items-preserved g t c = (
-  let d = c.items.invariant.0 in let e = c.eval_here.ensures.spent in omega arith,
+pub at_cursor::eval_items_at_cursor-items-preserved : goal.at_cursor::eval_items_at_cursor-items-preserved
+at_cursor::eval_items_at_cursor-items-preserved g t c = (
+  let d = c.items.invariant.0 in let e = c.eval_at_cursor.ensures.spent in omega arith,
   let b = c.in_ok-flow.ensures.behind in
-      rw b (same_true _ _ _ (same_ok _ _ (same_item (meaning g.S.Space.accesses) c.args.code.now.site.now.scope.path.now c.args.code.now.site.now.depth _ c.items.invariant.1 (items_more _ _ _ c.items-test.true (some_left _ _ c.is_empty.ensures c.if-not-is_empty.true))) c.in_ok-flow.ensures.means) (sym c.goes_on.ensures ∙ c.if-not-goes_on.false)),
+      rw b (same_true _ _ _ (same_ok _ _ (same_item (meaning g.S.Space.accesses) c.args.context.now.site.now.scope.path.now c.args.context.now.site.now.depth _ c.items.invariant.1 (items_more _ _ _ c.items-test.true (some_left _ _ c.is_empty.ensures c.if-not-is_empty.true))) c.in_ok-flow.ensures.means) (sym c.goes_on.ensures ∙ c.if-not-goes_on.false)),
 )
 
-pub here::eval_items_here-returns-clause-means : goal.here::eval_items_here-returns-clause-means
-here::eval_items_here-returns-clause-means g t c = elim c.items-test.branch [
-  | then-items-test+else-not-is_empty w ↦ items_end (meaning g.S.Space.accesses) c.args.code.now.site.now.scope.path.now c.args.code.now.site.now.depth _ c.items.invariant.1 (items_none _ _ _ (none_left _ _ w.is_empty.ensures w.if-not-is_empty.false))
-  | else-items-test w ↦ items_end (meaning g.S.Space.accesses) c.args.code.now.site.now.scope.path.now c.args.code.now.site.now.depth _ c.items.invariant.1 (items_over _ _ _ (omega (arith, w.items-test.false)))
+pub at_cursor::eval_items_at_cursor-returns-clause-means : goal.at_cursor::eval_items_at_cursor-returns-clause-means
+at_cursor::eval_items_at_cursor-returns-clause-means g t c = elim c.items-test.branch [
+  | then-items-test+else-not-is_empty w ↦ items_end (meaning g.S.Space.accesses) c.args.context.now.site.now.scope.path.now c.args.context.now.site.now.depth _ c.items.invariant.1 (items_none _ _ _ (none_left _ _ w.is_empty.ensures w.if-not-is_empty.false))
+  | else-items-test w ↦ items_end (meaning g.S.Space.accesses) c.args.context.now.site.now.scope.path.now c.args.context.now.site.now.depth _ c.items.invariant.1 (items_over _ _ _ (omega (arith, w.items-test.false)))
 ]
+
+pub terms::eval_coded_term-returns-in-Data-clause-means : goal.terms::eval_coded_term-returns-in-Data-clause-means
+terms::eval_coded_term-returns-in-Data-clause-means g t c = kind_read g.S.Space.accesses (meaning g.S.Space.accesses) c.args.job.now.site.now.scope.path.now c.args.job.now.site.now.depth (kinds.Data c.in-Data.kind) (at_tree c.args.job.now.term.now) c.row.result.now (code_read (a_term (count_at c.args.job.now.term.now.marks.now) c.args.coded.levels) c.args.coded.place c.row.result.now c.args.coded.cursor (at_tree c.args.job.now.term.now) c.requires c.row.ensures) (sym c.kind_of.ensures ∙ c.in-Data.is) c.eval_data.ensures.means
+
+pub terms::eval_coded_term-returns-in-Declaration-clause-means : goal.terms::eval_coded_term-returns-in-Declaration-clause-means
+terms::eval_coded_term-returns-in-Declaration-clause-means g t c = kind_read g.S.Space.accesses (meaning g.S.Space.accesses) c.args.job.now.site.now.scope.path.now c.args.job.now.site.now.depth (kinds.Declaration c.in-Declaration.kind) (at_tree c.args.job.now.term.now) c.row.result.now (code_read (a_term (count_at c.args.job.now.term.now.marks.now) c.args.coded.levels) c.args.coded.place c.row.result.now c.args.coded.cursor (at_tree c.args.job.now.term.now) c.requires c.row.ensures) (sym c.kind_of.ensures ∙ c.in-Declaration.is) c.eval_declaration.ensures.means
+
+pub terms::eval_coded_term-returns-in-Region-clause-means : goal.terms::eval_coded_term-returns-in-Region-clause-means
+terms::eval_coded_term-returns-in-Region-clause-means g t c = kind_read g.S.Space.accesses (meaning g.S.Space.accesses) c.args.job.now.site.now.scope.path.now c.args.job.now.site.now.depth (kinds.Region c.in-Region.kind) (at_tree c.args.job.now.term.now) c.row.result.now (code_read (a_term (count_at c.args.job.now.term.now.marks.now) c.args.coded.levels) c.args.coded.place c.row.result.now c.args.coded.cursor (at_tree c.args.job.now.term.now) c.requires c.row.ensures) (sym c.kind_of.ensures ∙ c.in-Region.is) c.eval_region_term.ensures.means
+
+pub terms::eval_coded_term-returns-in-Unsupported-clause-means : goal.terms::eval_coded_term-returns-in-Unsupported-clause-means
+terms::eval_coded_term-returns-in-Unsupported-clause-means g t c = kind_read g.S.Space.accesses (meaning g.S.Space.accesses) c.args.job.now.site.now.scope.path.now c.args.job.now.site.now.depth kinds.Unsupported (at_tree c.args.job.now.term.now) c.row-in-Unsupported.result.now (code_read (a_term (count_at c.args.job.now.term.now.marks.now) c.args.coded.levels) c.args.coded.place c.row-in-Unsupported.result.now c.args.coded.cursor (at_tree c.args.job.now.term.now) c.requires c.row-in-Unsupported.ensures) (sym (ap (λ (r : Row). kind_of r.0) (row_same _ _ _ c.row.ensures c.row-in-Unsupported.ensures)) ∙ (sym c.kind_of.ensures ∙ c.in-Unsupported.is)) (stopped _ _ c.unsupported.ensures)

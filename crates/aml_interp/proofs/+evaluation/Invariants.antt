@@ -3,7 +3,7 @@ use Rattle.ar_space.specs.Change.{Same}
 use Rattle.aml_grammar.specs.Shape.{trees_of}
 use Rattle.aml_marked.specs.Marked.{count_at, a_term, to_end}
 use Rattle.aml_terms.specs.AtTree.{at_tree, at_list}
-use Rattle.aml_interp.specs.Here.{behind_one, items_at}
+use Rattle.aml_interp.specs.AtCursor.{behind_one, items_at}
 use Rattle.aml_meaning.specs.Meaning.{meaning}
 use Rattle.aml_meaning.specs.Tasks.{in_turn}
 use Rattle.aml_meaning.specs.DataTerms.{elements_in_turn}
@@ -272,179 +272,182 @@ invariant-index_fields::eval_index_reads-loop-unit g l = (l.run.1 ≤ l.fn.run.1
 abbrev pub invariant-index_fields::eval_index_writes-loop-unit : goal.invariant-index_fields::eval_index_writes-loop-unit
 invariant-index_fields::eval_index_writes-loop-unit g l = (l.run.1 ≤ l.fn.run.1) × Writing (index_unit_written g.S.Space.accesses (asked (answer_within g.S.Space.accesses (meaning g.S.Space.accesses) l.calls)) l.index l.behind l.field l.source) l.field l.fn.run l.unit-iterator l.run
 
-abbrev pub decreases-here::eval_begun : goal.decreases-here::eval_begun
-decreases-here::eval_begun g l = 40 * (l.run.now.1 + (32 - l.code.now.site.now.depth)) + 36
+abbrev pub decreases-at_cursor::eval_begun : goal.decreases-at_cursor::eval_begun
+decreases-at_cursor::eval_begun g l = 40 * (l.run.now.1 + (32 - l.context.now.site.now.depth)) + 36
 
-abbrev pub decreases-here::eval_coded : goal.decreases-here::eval_coded
-decreases-here::eval_coded g l = 40 * (l.run.now.1 + (32 - l.code.now.site.now.depth)) + 35
+abbrev pub decreases-at_cursor::eval_coded : goal.decreases-at_cursor::eval_coded
+decreases-at_cursor::eval_coded g l = 40 * (l.run.now.1 + (32 - l.context.now.site.now.depth)) + 35
 
-abbrev pub decreases-here::eval_data_here : goal.decreases-here::eval_data_here
-decreases-here::eval_data_here g l = 40 * (l.run.now.1 + (32 - l.code.now.site.now.depth)) + 33
+abbrev pub decreases-at_cursor::eval_data_at_cursor : goal.decreases-at_cursor::eval_data_at_cursor
+decreases-at_cursor::eval_data_at_cursor g l = 40 * (l.run.now.1 + (32 - l.context.now.site.now.depth)) + 33
 
-abbrev pub decreases-here::eval_declaration_here : goal.decreases-here::eval_declaration_here
-decreases-here::eval_declaration_here g l = 40 * (l.run.now.1 + (32 - l.code.now.site.now.depth)) + 33
+abbrev pub decreases-at_cursor::eval_declaration_at_cursor : goal.decreases-at_cursor::eval_declaration_at_cursor
+decreases-at_cursor::eval_declaration_at_cursor g l = 40 * (l.run.now.1 + (32 - l.context.now.site.now.depth)) + 33
 
-abbrev pub decreases-here::eval_here : goal.decreases-here::eval_here
-decreases-here::eval_here g l = 40 * (l.run.now.1 + (32 - l.code.now.site.now.depth)) + 0
+abbrev pub decreases-at_cursor::eval_at_cursor : goal.decreases-at_cursor::eval_at_cursor
+decreases-at_cursor::eval_at_cursor g l = 40 * (l.run.now.1 + (32 - l.context.now.site.now.depth)) + 0
 
-abbrev pub decreases-here::eval_integer_here : goal.decreases-here::eval_integer_here
-decreases-here::eval_integer_here g l = 40 * (l.run.now.1 + (32 - l.code.now.site.now.depth)) + 2
+abbrev pub decreases-at_cursor::eval_integer_at_cursor : goal.decreases-at_cursor::eval_integer_at_cursor
+decreases-at_cursor::eval_integer_at_cursor g l = 40 * (l.run.now.1 + (32 - l.context.now.site.now.depth)) + 2
 
-abbrev pub decreases-here::eval_items_here : goal.decreases-here::eval_items_here
-decreases-here::eval_items_here g l = 40 * (l.run.now.1 + (32 - l.code.now.site.now.depth)) + 1
+abbrev pub decreases-at_cursor::eval_items_at_cursor : goal.decreases-at_cursor::eval_items_at_cursor
+decreases-at_cursor::eval_items_at_cursor g l = 40 * (l.run.now.1 + (32 - l.context.now.site.now.depth)) + 1
 
-abbrev pub decreases-here::eval_kind : goal.decreases-here::eval_kind
-decreases-here::eval_kind g l = 40 * (l.run.now.1 + (32 - l.code.now.site.now.depth)) + 34
+abbrev pub decreases-at_cursor::eval_kind : goal.decreases-at_cursor::eval_kind
+decreases-at_cursor::eval_kind g l = 40 * (l.run.now.1 + (32 - l.context.now.site.now.depth)) + 34
 
-abbrev pub decreases-here::eval_region_here : goal.decreases-here::eval_region_here
-decreases-here::eval_region_here g l = 40 * (l.run.now.1 + (32 - l.code.now.site.now.depth)) + 33
+abbrev pub decreases-at_cursor::eval_region_at_cursor : goal.decreases-at_cursor::eval_region_at_cursor
+decreases-at_cursor::eval_region_at_cursor g l = 40 * (l.run.now.1 + (32 - l.context.now.site.now.depth)) + 33
 
-abbrev pub decreases-here::eval_two_values_here : goal.decreases-here::eval_two_values_here
-decreases-here::eval_two_values_here g l = 40 * (l.run.now.1 + (32 - l.code.now.site.now.depth)) + 2
+abbrev pub decreases-at_cursor::eval_two_values_at_cursor : goal.decreases-at_cursor::eval_two_values_at_cursor
+decreases-at_cursor::eval_two_values_at_cursor g l = 40 * (l.run.now.1 + (32 - l.context.now.site.now.depth)) + 2
 
-abbrev pub decreases-here::eval_uncoded_here : goal.decreases-here::eval_uncoded_here
-decreases-here::eval_uncoded_here g l = 40 * (l.run.now.1 + (32 - l.code.now.site.now.depth)) + 30
+abbrev pub decreases-at_cursor::eval_uncoded_at_cursor : goal.decreases-at_cursor::eval_uncoded_at_cursor
+decreases-at_cursor::eval_uncoded_at_cursor g l = 40 * (l.run.now.1 + (32 - l.context.now.site.now.depth)) + 30
 
-abbrev pub decreases-here::eval_value_here : goal.decreases-here::eval_value_here
-decreases-here::eval_value_here g l = 40 * (l.run.now.1 + (32 - l.code.now.site.now.depth)) + 1
+abbrev pub decreases-at_cursor::eval_value_at_cursor : goal.decreases-at_cursor::eval_value_at_cursor
+decreases-at_cursor::eval_value_at_cursor g l = 40 * (l.run.now.1 + (32 - l.context.now.site.now.depth)) + 1
 
 abbrev pub decreases-operators::eval_acquire : goal.decreases-operators::eval_acquire
-decreases-operators::eval_acquire g l = 40 * (l.run.now.1 + (32 - l.code.now.site.now.depth)) + 6
+decreases-operators::eval_acquire g l = 40 * (l.run.now.1 + (32 - l.context.now.site.now.depth)) + 6
 
 abbrev pub decreases-operators::eval_copy : goal.decreases-operators::eval_copy
-decreases-operators::eval_copy g l = 40 * (l.run.now.1 + (32 - l.code.now.site.now.depth)) + 27
+decreases-operators::eval_copy g l = 40 * (l.run.now.1 + (32 - l.context.now.site.now.depth)) + 27
 
 abbrev pub decreases-operators::eval_count : goal.decreases-operators::eval_count
-decreases-operators::eval_count g l = 40 * (l.run.now.1 + (32 - l.code.now.site.now.depth)) + 28
+decreases-operators::eval_count g l = 40 * (l.run.now.1 + (32 - l.context.now.site.now.depth)) + 28
 
 abbrev pub decreases-operators::eval_divide : goal.decreases-operators::eval_divide
-decreases-operators::eval_divide g l = 40 * (l.run.now.1 + (32 - l.code.now.site.now.depth)) + 27
+decreases-operators::eval_divide g l = 40 * (l.run.now.1 + (32 - l.context.now.site.now.depth)) + 27
 
 abbrev pub decreases-operators::eval_not : goal.decreases-operators::eval_not
-decreases-operators::eval_not g l = 40 * (l.run.now.1 + (32 - l.code.now.site.now.depth)) + 5
+decreases-operators::eval_not g l = 40 * (l.run.now.1 + (32 - l.context.now.site.now.depth)) + 5
 
 abbrev pub decreases-operators::eval_one : goal.decreases-operators::eval_one
-decreases-operators::eval_one g l = 40 * (l.run.now.1 + (32 - l.code.now.site.now.depth)) + 27
+decreases-operators::eval_one g l = 40 * (l.run.now.1 + (32 - l.context.now.site.now.depth)) + 27
 
 abbrev pub decreases-operators::eval_operator : goal.decreases-operators::eval_operator
-decreases-operators::eval_operator g l = 40 * (l.run.now.1 + (32 - l.code.now.site.now.depth)) + 32
+decreases-operators::eval_operator g l = 40 * (l.run.now.1 + (32 - l.context.now.site.now.depth)) + 32
 
 abbrev pub decreases-operators::eval_size : goal.decreases-operators::eval_size
-decreases-operators::eval_size g l = 40 * (l.run.now.1 + (32 - l.code.now.site.now.depth)) + 26
+decreases-operators::eval_size g l = 40 * (l.run.now.1 + (32 - l.context.now.site.now.depth)) + 26
 
 abbrev pub decreases-operators::eval_store : goal.decreases-operators::eval_store
-decreases-operators::eval_store g l = 40 * (l.run.now.1 + (32 - l.code.now.site.now.depth)) + 27
+decreases-operators::eval_store g l = 40 * (l.run.now.1 + (32 - l.context.now.site.now.depth)) + 27
 
 abbrev pub decreases-operators::eval_test : goal.decreases-operators::eval_test
-decreases-operators::eval_test g l = 40 * (l.run.now.1 + (32 - l.code.now.site.now.depth)) + 5
+decreases-operators::eval_test g l = 40 * (l.run.now.1 + (32 - l.context.now.site.now.depth)) + 5
 
 abbrev pub decreases-operators::eval_two : goal.decreases-operators::eval_two
-decreases-operators::eval_two g l = 40 * (l.run.now.1 + (32 - l.code.now.site.now.depth)) + 27
+decreases-operators::eval_two g l = 40 * (l.run.now.1 + (32 - l.context.now.site.now.depth)) + 27
 
 abbrev pub decreases-operators::eval_type : goal.decreases-operators::eval_type
-decreases-operators::eval_type g l = 40 * (l.run.now.1 + (32 - l.code.now.site.now.depth)) + 26
+decreases-operators::eval_type g l = 40 * (l.run.now.1 + (32 - l.context.now.site.now.depth)) + 26
 
 abbrev pub decreases-references::eval_conditional_reference : goal.decreases-references::eval_conditional_reference
-decreases-references::eval_conditional_reference g l = 40 * (l.run.now.1 + (32 - l.code.now.site.now.depth)) + 29
+decreases-references::eval_conditional_reference g l = 40 * (l.run.now.1 + (32 - l.context.now.site.now.depth)) + 29
 
 abbrev pub decreases-references::eval_dereference : goal.decreases-references::eval_dereference
-decreases-references::eval_dereference g l = 40 * (l.run.now.1 + (32 - l.code.now.site.now.depth)) + 27
+decreases-references::eval_dereference g l = 40 * (l.run.now.1 + (32 - l.context.now.site.now.depth)) + 27
 
 abbrev pub decreases-references::eval_found : goal.decreases-references::eval_found
-decreases-references::eval_found g l = 40 * (l.run.now.1 + (32 - l.code.now.site.now.depth)) + 28
+decreases-references::eval_found g l = 40 * (l.run.now.1 + (32 - l.context.now.site.now.depth)) + 28
 
 abbrev pub decreases-references::eval_named_referent : goal.decreases-references::eval_named_referent
-decreases-references::eval_named_referent g l = 40 * (l.run.now.1 + (32 - l.code.now.site.now.depth)) + 6
+decreases-references::eval_named_referent g l = 40 * (l.run.now.1 + (32 - l.context.now.site.now.depth)) + 6
 
 abbrev pub decreases-references::eval_reference : goal.decreases-references::eval_reference
-decreases-references::eval_reference g l = 40 * (l.run.now.1 + (32 - l.code.now.site.now.depth)) + 6
+decreases-references::eval_reference g l = 40 * (l.run.now.1 + (32 - l.context.now.site.now.depth)) + 6
 
 abbrev pub decreases-references::eval_reference_put : goal.decreases-references::eval_reference_put
-decreases-references::eval_reference_put g l = 40 * (l.run.now.1 + (32 - l.code.now.site.now.depth)) + 27
+decreases-references::eval_reference_put g l = 40 * (l.run.now.1 + (32 - l.context.now.site.now.depth)) + 27
 
 abbrev pub decreases-references::eval_referent_by_kind : goal.decreases-references::eval_referent_by_kind
-decreases-references::eval_referent_by_kind g l = 40 * (l.run.now.1 + (32 - l.code.now.site.now.depth)) + 7
+decreases-references::eval_referent_by_kind g l = 40 * (l.run.now.1 + (32 - l.context.now.site.now.depth)) + 7
 
 abbrev pub decreases-references::eval_sought : goal.decreases-references::eval_sought
-decreases-references::eval_sought g l = 40 * (l.run.now.1 + (32 - l.code.now.site.now.depth)) + 7
+decreases-references::eval_sought g l = 40 * (l.run.now.1 + (32 - l.context.now.site.now.depth)) + 7
 
 abbrev pub decreases-references::eval_sought_target : goal.decreases-references::eval_sought_target
-decreases-references::eval_sought_target g l = 40 * (l.run.now.1 + (32 - l.code.now.site.now.depth)) + 6
+decreases-references::eval_sought_target g l = 40 * (l.run.now.1 + (32 - l.context.now.site.now.depth)) + 6
 
 abbrev pub decreases-references::eval_value_referent : goal.decreases-references::eval_value_referent
-decreases-references::eval_value_referent g l = 40 * (l.run.now.1 + (32 - l.code.now.site.now.depth)) + 2
+decreases-references::eval_value_referent g l = 40 * (l.run.now.1 + (32 - l.context.now.site.now.depth)) + 2
 
 abbrev pub decreases-statements::eval_branch : goal.decreases-statements::eval_branch
-decreases-statements::eval_branch g l = 40 * (l.run.now.1 + (32 - l.code.now.site.now.depth)) + 3
+decreases-statements::eval_branch g l = 40 * (l.run.now.1 + (32 - l.context.now.site.now.depth)) + 3
 
 abbrev pub decreases-statements::eval_else : goal.decreases-statements::eval_else
-decreases-statements::eval_else g l = 40 * (l.run.now.1 + (32 - l.code.now.site.now.depth)) + 2
+decreases-statements::eval_else g l = 40 * (l.run.now.1 + (32 - l.context.now.site.now.depth)) + 2
 
 abbrev pub decreases-statements::eval_else_term : goal.decreases-statements::eval_else_term
-decreases-statements::eval_else_term g l = 40 * (l.run.now.1 + (32 - l.code.now.site.now.depth)) + 0
+decreases-statements::eval_else_term g l = 40 * (l.run.now.1 + (32 - l.context.now.site.now.depth)) + 0
 
 abbrev pub decreases-statements::eval_fatal : goal.decreases-statements::eval_fatal
-decreases-statements::eval_fatal g l = 40 * (l.run.now.1 + (32 - l.code.now.site.now.depth)) + 3
+decreases-statements::eval_fatal g l = 40 * (l.run.now.1 + (32 - l.context.now.site.now.depth)) + 3
 
 abbrev pub decreases-statements::eval_if : goal.decreases-statements::eval_if
-decreases-statements::eval_if g l = 40 * (l.run.now.1 + (32 - l.code.now.site.now.depth)) + 4
+decreases-statements::eval_if g l = 40 * (l.run.now.1 + (32 - l.context.now.site.now.depth)) + 4
 
 abbrev pub decreases-statements::eval_loop : goal.decreases-statements::eval_loop
-decreases-statements::eval_loop g l = 40 * (l.run.now.1 + (32 - l.code.now.site.now.depth)) + 4
+decreases-statements::eval_loop g l = 40 * (l.run.now.1 + (32 - l.context.now.site.now.depth)) + 4
 
 abbrev pub decreases-statements::eval_notify : goal.decreases-statements::eval_notify
-decreases-statements::eval_notify g l = 40 * (l.run.now.1 + (32 - l.code.now.site.now.depth)) + 6
+decreases-statements::eval_notify g l = 40 * (l.run.now.1 + (32 - l.context.now.site.now.depth)) + 6
 
 abbrev pub decreases-statements::eval_otherwise : goal.decreases-statements::eval_otherwise
-decreases-statements::eval_otherwise g l = 40 * (l.run.now.1 + (32 - l.code.now.site.now.depth)) + 1
+decreases-statements::eval_otherwise g l = 40 * (l.run.now.1 + (32 - l.context.now.site.now.depth)) + 1
 
 abbrev pub decreases-statements::eval_pause : goal.decreases-statements::eval_pause
-decreases-statements::eval_pause g l = 40 * (l.run.now.1 + (32 - l.code.now.site.now.depth)) + 3
+decreases-statements::eval_pause g l = 40 * (l.run.now.1 + (32 - l.context.now.site.now.depth)) + 3
 
 abbrev pub decreases-statements::eval_release : goal.decreases-statements::eval_release
-decreases-statements::eval_release g l = 40 * (l.run.now.1 + (32 - l.code.now.site.now.depth)) + 6
+decreases-statements::eval_release g l = 40 * (l.run.now.1 + (32 - l.context.now.site.now.depth)) + 6
 
 abbrev pub decreases-statements::eval_return : goal.decreases-statements::eval_return
-decreases-statements::eval_return g l = 40 * (l.run.now.1 + (32 - l.code.now.site.now.depth)) + 3
+decreases-statements::eval_return g l = 40 * (l.run.now.1 + (32 - l.context.now.site.now.depth)) + 3
 
 abbrev pub decreases-statements::eval_statement : goal.decreases-statements::eval_statement
-decreases-statements::eval_statement g l = 40 * (l.run.now.1 + (32 - l.code.now.site.now.depth)) + 32
+decreases-statements::eval_statement g l = 40 * (l.run.now.1 + (32 - l.context.now.site.now.depth)) + 32
 
 abbrev pub decreases-statements::eval_turn : goal.decreases-statements::eval_turn
-decreases-statements::eval_turn g l = 40 * (l.run.now.1 + (32 - l.code.now.site.now.depth)) + 3
+decreases-statements::eval_turn g l = 40 * (l.run.now.1 + (32 - l.context.now.site.now.depth)) + 3
 
 abbrev pub decreases-statements::eval_turn_of : goal.decreases-statements::eval_turn_of
-decreases-statements::eval_turn_of g l = 40 * (l.run.now.1 + (32 - l.code.now.site.now.depth)) + 2
+decreases-statements::eval_turn_of g l = 40 * (l.run.now.1 + (32 - l.context.now.site.now.depth)) + 2
 
 abbrev pub decreases-statements::eval_while : goal.decreases-statements::eval_while
-decreases-statements::eval_while g l = 40 * (l.run.now.1 + (32 - l.code.now.site.now.depth)) + 5
+decreases-statements::eval_while g l = 40 * (l.run.now.1 + (32 - l.context.now.site.now.depth)) + 5
 
-abbrev pub decreases-targets::eval_put : goal.decreases-targets::eval_put
-decreases-targets::eval_put g l = 40 * (l.run.now.1 + (32 - l.code.now.site.now.depth)) + 26
+abbrev pub decreases-targets::eval_store_to_target : goal.decreases-targets::eval_store_to_target
+decreases-targets::eval_store_to_target g l = 40 * (l.run.now.1 + (32 - l.context.now.site.now.depth)) + 26
 
-abbrev pub decreases-targets::eval_stored : goal.decreases-targets::eval_stored
-decreases-targets::eval_stored g l = 40 * (l.run.now.1 + (32 - l.code.now.site.now.depth)) + 26
+abbrev pub decreases-targets::eval_store_to_super_name : goal.decreases-targets::eval_store_to_super_name
+decreases-targets::eval_store_to_super_name g l = 40 * (l.run.now.1 + (32 - l.context.now.site.now.depth)) + 26
 
 abbrev pub decreases-targets::eval_super_name : goal.decreases-targets::eval_super_name
-decreases-targets::eval_super_name g l = 40 * (l.run.now.1 + (32 - l.code.now.site.now.depth)) + 5
+decreases-targets::eval_super_name g l = 40 * (l.run.now.1 + (32 - l.context.now.site.now.depth)) + 5
 
-abbrev pub decreases-targets::eval_target_here : goal.decreases-targets::eval_target_here
-decreases-targets::eval_target_here g l = 40 * (l.run.now.1 + (32 - l.code.now.site.now.depth)) + 6
+abbrev pub decreases-targets::eval_target_at_cursor : goal.decreases-targets::eval_target_at_cursor
+decreases-targets::eval_target_at_cursor g l = 40 * (l.run.now.1 + (32 - l.context.now.site.now.depth)) + 6
 
 abbrev pub decreases-terms::eval_coded_term : goal.decreases-terms::eval_coded_term
-decreases-terms::eval_coded_term g l = 40 * (l.run.now.1 + (32 - l.job.now.site.now.depth)) + 36
+decreases-terms::eval_coded_term g l = 40 * (l.run.now.1 + (32 - l.job.now.site.now.depth)) + 37
 
 abbrev pub decreases-terms::eval_uncoded : goal.decreases-terms::eval_uncoded
 decreases-terms::eval_uncoded g l = 40 * (l.run.now.1 + (32 - l.job.now.site.now.depth)) + 29
 
-abbrev pub invariant-here::eval_items_here-items : goal.invariant-here::eval_items_here-items
-invariant-here::eval_items_here-items g l = (l.run.1 ≤ l.fn.run.1) × Same (in_turn (meaning g.S.Space.accesses) l.fn.code.site.now.scope.path.now l.fn.code.site.now.depth (items_at (a_term (count_at l.fn.code.marks.now) l.fn.levels) l.fn.cursor)) l.fn.run (in_turn (meaning g.S.Space.accesses) l.fn.code.site.now.scope.path.now l.fn.code.site.now.depth (trees_of (to_end (a_term (count_at l.fn.code.marks.now) l.fn.levels false) l.left l.cursor).0)) l.run
+abbrev pub invariant-at_cursor::eval_items_at_cursor-items : goal.invariant-at_cursor::eval_items_at_cursor-items
+invariant-at_cursor::eval_items_at_cursor-items g l = (l.run.1 ≤ l.fn.run.1) × Same (in_turn (meaning g.S.Space.accesses) l.fn.context.site.now.scope.path.now l.fn.context.site.now.depth (items_at (a_term (count_at l.fn.context.marks.now) l.fn.levels) l.fn.cursor)) l.fn.run (in_turn (meaning g.S.Space.accesses) l.fn.context.site.now.scope.path.now l.fn.context.site.now.depth (trees_of (to_end (a_term (count_at l.fn.context.marks.now) l.fn.levels false) l.left l.cursor).0)) l.run
 
-abbrev pub decreases-here::eval_items_here-items : goal.decreases-here::eval_items_here-items
-decreases-here::eval_items_here-items g l = l.left
+abbrev pub decreases-at_cursor::eval_items_at_cursor-items : goal.decreases-at_cursor::eval_items_at_cursor-items
+decreases-at_cursor::eval_items_at_cursor-items g l = l.left
 
 abbrev pub invariant-statements::eval_loop-turns : goal.invariant-statements::eval_loop-turns
-invariant-statements::eval_loop-turns g l = (l.run.1 ≤ l.fn.run.1) × Same (loop (meaning g.S.Space.accesses) l.fn.code.site.now.scope.path.now l.fn.code.site.now.depth (a_term (count_at l.fn.code.marks.now) l.fn.levels false l.fn.start).0 (items_at (a_term (count_at l.fn.code.marks.now) l.fn.levels) (behind_one (a_term (count_at l.fn.code.marks.now) l.fn.levels) l.fn.start))) l.fn.run (loop (meaning g.S.Space.accesses) l.fn.code.site.now.scope.path.now l.fn.code.site.now.depth (a_term (count_at l.fn.code.marks.now) l.fn.levels false l.fn.start).0 (items_at (a_term (count_at l.fn.code.marks.now) l.fn.levels) (behind_one (a_term (count_at l.fn.code.marks.now) l.fn.levels) l.fn.start))) l.run
+invariant-statements::eval_loop-turns g l = (l.run.1 ≤ l.fn.run.1) × Same (loop (meaning g.S.Space.accesses) l.fn.context.site.now.scope.path.now l.fn.context.site.now.depth (a_term (count_at l.fn.context.marks.now) l.fn.levels false l.fn.start).0 (items_at (a_term (count_at l.fn.context.marks.now) l.fn.levels) (behind_one (a_term (count_at l.fn.context.marks.now) l.fn.levels) l.fn.start))) l.fn.run (loop (meaning g.S.Space.accesses) l.fn.context.site.now.scope.path.now l.fn.context.site.now.depth (a_term (count_at l.fn.context.marks.now) l.fn.levels false l.fn.start).0 (items_at (a_term (count_at l.fn.context.marks.now) l.fn.levels) (behind_one (a_term (count_at l.fn.context.marks.now) l.fn.levels) l.fn.start))) l.run
 
 abbrev pub decreases-statements::eval_loop-turns : goal.decreases-statements::eval_loop-turns
 decreases-statements::eval_loop-turns g l = l.run.1
+
+abbrev pub decreases-terms::eval_operands : goal.decreases-terms::eval_operands
+decreases-terms::eval_operands g l = 40 * (l.run.now.1 + (32 - l.job.now.site.now.depth)) + 36

@@ -18,7 +18,7 @@ use Rattle.aml_meaning.specs.declared.term_kind.DataKind.TheVariants as datas
 use Rattle.aml_meaning.specs.declared.term_kind.OperatorKind.TheVariants as operator
 use Rattle.aml_meaning.specs.declared.term_kind.StatementKind.TheVariants as statement
 use Rattle.aml_meaning.specs.Terms.{kind_of}
-use Rattle.aml_interp.specs.Here.{behind_one, behind_two, inside_at, outside_at, items_at, row_kind}
+use Rattle.aml_interp.specs.AtCursor.{behind_one, behind_two, inside_at, outside_at, items_at, row_kind}
 
 -- ---- operands that a row may have
 

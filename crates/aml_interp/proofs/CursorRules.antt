@@ -34,8 +34,8 @@ use Rattle.aml_meaning.specs.Tasks.{Task, value_at, two_values, in_turn}
 use Rattle.aml_meaning.specs.TargetTerms.{target_named, name_target, part_target, target_at, targeted}
 use Rattle.aml_meaning.specs.OperatorTerms.{store_rule, copy_rule, two_rule, divide_rule, one_rule, test_rule, not_rule, count_rule, size_rule, type_rule, acquire_rule, reference_rule, dereference_rule, conditional_rule, referent_of_target, referent_by_kind, referent_at, sought_name, sought_target, sought, reference_stored, reference_found}
 use Rattle.aml_meaning.specs.StatementTerms.{loop, if_rule, else_rule, while_rule, return_rule, release_rule, notify_rule, pause_rule, fatal_rule}
-use Rattle.aml_interp.specs.Here.{behind_one, behind_two, inside_at, outside_at, items_at, row_kind, put_to, two_values_at, store_at, copy_at, two_at, divide_at, one_at, test_at, not_at, counted_at, size_at, type_at, acquire_at, reference_at, dereference_at, conditional_at, referent_named, referent_of_kind, referent_to, sought_named, sought_to, reference_put, found_to, if_at, else_at, while_at, return_at, release_at, notify_at, pause_at, fatal_at}
-use Rattle.aml_interp.proofs.Shapes.{stands, no_operand, an_argument, a_super, argument_super, argument_target, two_arguments, arguments_target, arguments_targets, super_word, super_target, super_argument, numbers_argument, an_if, an_else_row, a_while}
+use Rattle.aml_interp.specs.AtCursor.{behind_one, behind_two, inside_at, outside_at, items_at, row_kind, put_to, two_values_at, store_at, copy_at, two_at, divide_at, one_at, test_at, not_at, counted_at, size_at, type_at, acquire_at, reference_at, dereference_at, conditional_at, referent_named, referent_of_kind, referent_to, sought_named, sought_to, reference_put, found_to, if_at, else_at, while_at, return_at, release_at, notify_at, pause_at, fatal_at}
+use Rattle.aml_interp.proofs.OperandShapes.{stands, no_operand, an_argument, a_super, argument_super, argument_target, two_arguments, arguments_target, arguments_targets, super_word, super_target, super_argument, numbers_argument, an_if, an_else_row, a_while}
 
 -- the target that an operand names
 name_part : {S : Type 0} (ev : Task → Run S Flow) (scope : List Seg) (c : TermCode) (ps : Parts) (i : ℕ) (n : Name) → part_at ps i ≡ Some (name n) → name_target ev scope (term c ps) i ≡ lift (target_named scope n)
@@ -394,4 +394,4 @@ module _ {S : Type 0} (accesses : Accesses S) (ev : Task → Run S Flow) (scope 
         let t = super_target b x.0 p x.1.1 in
         record { is = λ ne. rw (x.1.0, t) (conditional_tree _ p s ∙ h.is ne) }
 
-pub ruleset here = (does_else, does_while, does_store, does_copy, does_two, does_divide, does_one, does_test, does_not, does_count, does_acquire, does_reference, does_dereference, does_if, does_return, does_release, does_notify, does_pause, does_fatal, does_size, does_type, does_conditional, past_store, past_copy, past_two, past_divide, past_one, past_test, past_not, past_count, past_acquire, past_reference, past_dereference, past_if, past_else, past_while, past_return, past_release, past_notify, past_pause, past_fatal, past_size, past_type, past_constant, past_slot, past_break, past_continue, past_noop, past_conditional)
+pub ruleset operand_rules = (does_else, does_while, does_store, does_copy, does_two, does_divide, does_one, does_test, does_not, does_count, does_acquire, does_reference, does_dereference, does_if, does_return, does_release, does_notify, does_pause, does_fatal, does_size, does_type, does_conditional, past_store, past_copy, past_two, past_divide, past_one, past_test, past_not, past_count, past_acquire, past_reference, past_dereference, past_if, past_else, past_while, past_return, past_release, past_notify, past_pause, past_fatal, past_size, past_type, past_constant, past_slot, past_break, past_continue, past_noop, past_conditional)

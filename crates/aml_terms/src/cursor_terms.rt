@@ -9,7 +9,7 @@ ghost use Rattle.aml_marked.specs.Marked.{Below, count_at, first, a_name, a_term
 ghost use Rattle.aml_scan.specs.RowsAt.{row_at};
 ghost use Rattle.aml_scan.specs.declared.row_places.RowPlace.{RowPlace};
 ghost use Rattle.aml_terms.specs.AtTree.{at_tree, place_at};
-ghost use Rattle.aml_terms.specs.declared.moving.Coded.{Coded};
+ghost use Rattle.aml_terms.specs.declared.cursor_terms.Coded.{Coded};
 
 use crate::at::{At, Kind};
 use crate::cursor::Cursor;

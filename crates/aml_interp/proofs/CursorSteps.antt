@@ -41,7 +41,7 @@ use Rattle.aml_meaning.specs.StatementTerms.{else_rule, statement_rule}
 use Rattle.aml_meaning.proofs.Agree.{not_zero}
 use Rattle.aml_meaning.proofs.Meanings.{does_meaning}
 use Rattle.aml_meaning.proofs.Runs.{running}
-use Rattle.aml_interp.specs.Here.{outside_at, row_kind, else_at}
+use Rattle.aml_interp.specs.AtCursor.{outside_at, row_kind, else_at}
 
 code_by : (b : Below) (row : Row) (p : Place) (other : Bool) → is_if row.0 ≡ other → code_of (with_row b (Some row) p).0 ≡ codes.Opcode row.0
 unfolding with_row after gives
@@ -74,6 +74,20 @@ module _ {S : Type 0} (accesses : Accesses S) (ev : Task → Run S Flow) (scope 
 
   pub does_unsupported : {s : State S × ℕ} (o : RowPlace) (p : Place) (row : Row) (x : Refusal) → row_kind (row_at o) ≡ kinds.Unsupported → Some row ≡ row_at o → x ≡ refusal.Evaluation (Unsupported (number_of row.0)) → Does (Err x) s (code_rule accesses ev (code_of (with_row b (row_at o) p).0) scope depth (with_row b (row_at o) p).0) s
   does_unsupported o p row x e i f = by_kind (row_at o) p kinds.Unsupported e (λ y j. let same : y ≡ row = cc (i, j) in rw (same, f) does_stop) (λ n. absurd (cc (i, n)))
+
+-- ---- the same of any tree that is read where a row's operands stand
+
+pub code_read : (b : Below) (o : RowPlace) (row : Row) (p : Place) (t : Tree) → t ≡ (with_row b (row_at o) p).0 → Some row ≡ row_at o → code_of t ≡ codes.Opcode row.0
+code_read b o row p t e i = ap code_of e ∙ (rw (← i) (code_by b row p (is_if row.0) refl))
+
+pub row_same : (x y : Row) (o : Option Row) → Some x ≡ o → Some y ≡ o → x ≡ y
+row_same x y o e f = cc (e, f)
+
+pub kind_read : {S : Type 0} {r : Outcome Flow} {s s1 : State S × ℕ} (accesses : Accesses S) (ev : Task → Run S Flow) (scope : List Seg) (depth : ℕ) (k : TermKind) (t : Tree) (row : Row) → code_of t ≡ codes.Opcode row.0 → kind_of row.0 ≡ k → Does r s1 (kind_rule accesses ev k row.0 scope depth t) s → Does r s1 (code_rule accesses ev (code_of t) scope depth t) s
+kind_read accesses ev scope depth k t row e f h = rw (e, f) h
+
+pub stopped : {S A : Type 0} {s : S} (x y : Refusal) → x ≡ y → Does {A = A} (Err x) s (stop y) s
+stopped x y e = rw e does_stop
 
 pub ruleset coding = (kind_there, does_data, does_declaration, does_region, does_operator, does_statement, does_unsupported)
 
