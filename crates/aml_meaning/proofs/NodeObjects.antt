@@ -1,6 +1,6 @@
 -- What nodes hold that are given by their ids, and what a change there does to the world.
 use Rattle.std.proofs.Common.{◌≡◌, ◌≢◌, ◌∙◌, ◌+◌, ◌-◌, ◌^◌, ap, sym, refl, ℕ, List, Option, Some, None, Ok, Err, Bool, true, false, arith}
-use Rattle.std.specs.Prelude.{◌==◌}
+use Rattle.std.specs.Prelude.{◌==◌, IfSome}
 use Rattle.std.proofs.lemmas.Bool.Decides.{nat_tests}
 use Rattle.std.specs.Option.{option_map}
 use Rattle.std.specs.FinMap.{get}
@@ -8,12 +8,13 @@ use Rattle.ar_space.specs.Outcome.{Outcome, seen}
 use Rattle.ar_space.specs.Change.{Change, Does, give, settle, go_on, ◌>>=◌}
 use Rattle.aml_path.specs.declared.segment.Seg.{Seg}
 use Rattle.aml_path.specs.Paths.{Name}
+use Rattle.aml_objects.specs.declared.node.NodeId.{NodeId}
 use Rattle.aml_objects.specs.declared.entry.Entry.{Entry}
 use Rattle.aml_objects.specs.declared.entry.NamedObject.{NamedObject}
 use Rattle.aml_objects.specs.declared.entry.NamedObject.TheVariants as object
 use Rattle.aml_objects.specs.declared.value.Value.TheVariants as value
 use Rattle.aml_namespace.specs.Namespace.{Namespace, numbered, replaced}
-use Rattle.aml_namespace.specs.Search.{found}
+use Rattle.aml_namespace.specs.Search.{found, found_or_not}
 use Rattle.aml_namespace.proofs.Numbering.{numbered_stands}
 use Rattle.aml_meaning.specs.declared.invocation.Invocation.TheVariants as invocation
 use Rattle.aml_meaning.specs.declared.store_target.StoreTarget.TheVariants as targets
@@ -39,6 +40,11 @@ module _ {S : Type 0} (w : State S) where
       let g = found_is v (found w.names.map scope n) is in
       let same : ◌≡◌ {A = List Seg × Entry} g.0 f = cc (g.2, at) in
       record { is = λ _. rw (g.1, same) refl }
+
+  pub target_if : (o : Option NodeId) (scope : List Seg) (n : Name) → seen (λ (id : NodeId). numbered id.number w.names.map) (found_or_not o) ≡ seen Some (found w.names.map scope n)
+      → IfSome o (λ (id : NodeId). (f : List Seg × Entry) → numbered id.number w.names.map ≡ Some f → Does (Ok (targets.Name f.0)) w (target_named scope n) w)
+  target_if None scope n is = tt
+  target_if (Some id) scope n is = λ f at. target_is (numbered id.number w.names.map) f scope n is at
 
   pub integer_used : (f : List Seg × Entry) (n : ℕ) → f.1.object ≡ object.Data (value.Integer n) → Does (Ok (invocation.Value (value.Integer n))) w (use_found f 0) w
   unfolding use_found settle ◌>>=◌ go_on

@@ -1,6 +1,6 @@
 -- Integers in slots: what they are read as, and what a store of one leaves.
 use Rattle.std.proofs.Common.{◌≡◌, ◌∙◌, ◌-◌, ◌<◌, ap, sym, refl, ℕ, zero, suc, List, Option, Some, None, Ok, Bool, true, false, length, arith, sub-one}
-use Rattle.std.specs.Prelude.{slice_get, slice_set}
+use Rattle.std.specs.Prelude.{slice_get, slice_set, IfSome}
 use Rattle.std.proofs.lemmas.List.{set-get_or}
 use Rattle.std.proofs.lemmas.Option.{get_or_from_slice_get}
 use Rattle.ar_space.specs.Change.{Change, Does, give, settle, go_on, ◌>>=◌}
@@ -23,6 +23,11 @@ use Rattle.aml_meaning.specs.Stores.{slot_put, copy_into_slot, store_over_slot, 
 pub last_is : (n : ℕ) → 0 < n → last_index n ≡ Some (n - 1)
 last_is zero some = absurd (omega arith)
 last_is (suc n) some = ap Some (sym (sub-one (suc n)))
+
+-- what follows of a value, where there is one
+pub if_some : {A : Type 0} (o : Option A) (P Q : A → Type 0) → ((a : A) → P a → Q a) → IfSome o P → IfSome o Q
+if_some None P Q h p = tt
+if_some (Some a) P Q h p = h a p
 
 -- a value written over itself
 pub same_set : {A : Type 0} (xs : List A) (k : ℕ) (x : A) → slice_get xs k ≡ Some x → slice_set xs k x ≡ xs

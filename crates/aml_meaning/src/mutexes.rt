@@ -174,10 +174,10 @@ impl<S> WorldState<S> {
 }
 
 /// How often a mutex is acquired, if an object is one.
-fn count_held(object: &NamedObject) -> Option<u64>
-    ensures { IfSome result (λ count. object.now ≡ object.Mutex count) }
+fn count_held(held: &NamedObject) -> Option<u64>
+    ensures { IfSome result (λ count. held.now ≡ object.Mutex count) }
 {
-    match object {
+    match held {
         NamedObject::Mutex(count) => Some(*count),
         _ => None,
     }

@@ -43,13 +43,13 @@ impl<S: Space> WorldState<S> {
         if is_wide(self.width, unit.bits) {
             return Ok(None);
         }
-        match self.plain_region(unit) {
-            None => Ok(None),
-            Some(region) => match read_number(&mut self.space, region, unit) {
-                Ok(None) => Ok(None),
-                Ok(Some(number)) => Ok(Some(number)),
-                Err(refusal) => Err(refusal),
-            },
+        let Some(region) = self.plain_region(unit) else {
+            return Ok(None);
+        };
+        match read_number(&mut self.space, region, unit) {
+            Ok(None) => Ok(None),
+            Ok(Some(number)) => Ok(Some(number)),
+            Err(refusal) => Err(refusal),
         }
     }
 
@@ -63,13 +63,13 @@ impl<S: Space> WorldState<S> {
         if is_wide(self.width, unit.bits) {
             return Ok(false);
         }
-        match self.plain_region(unit) {
-            None => Ok(false),
-            Some(region) => match write_number(&mut self.space, region, unit, number) {
-                Ok(true) => Ok(true),
-                Ok(false) => Ok(false),
-                Err(refusal) => Err(refusal),
-            },
+        let Some(region) = self.plain_region(unit) else {
+            return Ok(false);
+        };
+        match write_number(&mut self.space, region, unit, number) {
+            Ok(true) => Ok(true),
+            Ok(false) => Ok(false),
+            Err(refusal) => Err(refusal),
         }
     }
 }
