@@ -1,6 +1,6 @@
 -- Field units of SystemMemory and SystemIO, as integers.
 use Rattle.std.proofs.Common.{◌≡◌, ◌<◌, ◌≤◌, ◌∙◌, ◌*◌, ◌%◌, ◌^◌, ap, sym, refl, ℕ, zero, suc, List, [], ◌∷◌, Option, Some, None, Ok, Err, Bool, true, false, arith}
-use Rattle.std.specs.Prelude.{◌==◌, nat_lt, if◌then◌else◌}
+use Rattle.std.specs.Prelude.{◌==◌, nat_lt, if◌then◌else◌, IfOk, IfErr, IfSome, MatchOption, MatchBool}
 use Rattle.std.specs.Option.{option_map}
 use Rattle.std.proofs.lemmas.Bool.Decides.{nat_tests}
 use Rattle.ar_space.specs.declared.integer_width.IntegerWidth.{IntegerWidth}
@@ -20,7 +20,6 @@ use Rattle.aml_objects.specs.declared.entry.NamedObject.{NamedObject}
 use Rattle.aml_objects.specs.declared.entry.NamedObject.TheVariants as object
 use Rattle.aml_objects.specs.declared.entry.OperationRegion.{OperationRegion}
 use Rattle.aml_objects.specs.declared.value.Value.TheVariants as value
-use Rattle.byteorder.specs.Endian.{little_number}
 use Rattle.aml_convert.specs.Conversions.{to_integer_of, integer_in_buffer, integer_bytes}
 use Rattle.aml_convert.specs.Integers.{bits_of, bytes_of}
 use Rattle.aml_fields.specs.declared.region.AddressSpace.{AddressSpace}
@@ -49,11 +48,15 @@ base : (w : IntegerWidth) → 256 ^ bytes_of w ≡ 2 ^ (8 * bytes_of w)
 base Bits32 = refl
 base Bits64 = refl
 
+abbrev an_integer : ℕ → Outcome ℕ
+an_integer n = Ok n
+
 packed_integer : (w : IntegerWidth) (count number : ℕ) → 0 < count → count ≤ bits_of w → number < 2 ^ count → to_integer_of w (Buffer (packed (bits_from number 0 count))) ≡ Ok number
 packed_integer w count number some few fits =
     let e = some_bytes count number some in
     let room : count ≤ 8 * bytes_of w = let b = eight w in omega (arith, b, few) in
-    ap (integer_in_buffer w) e ∙ ap (λ (l : List ℕ). Ok (little_number (bytes_of w) l)) (sym e) ∙ ap Ok (little_packed count number (bytes_of w) fits room)
+    let value = rw e at (ap an_integer (little_packed count number (bytes_of w) fits room)) in
+    ap (integer_in_buffer w) e ∙ value
 
 -- the first bits of an integer's bytes
 integer_bits : (w : IntegerWidth) (count number : ℕ) → count ≤ bits_of w → field_bits (integer_bytes w number) 0 count ≡ bits_from number 0 count
@@ -139,3 +142,20 @@ module _ {S : Type 0} (accesses : Accesses S) (call : List Seg → Run S ℕ) wh
               written_is w steps u u.source q (integer_bytes w.width number) is
               ∙ ap (λ (x : Outcome (Unit {0}) × S). (x.0, (record w { space = x.1 }, steps))) (d.is ne);
         }
+
+-- ---- what follows of an answer, case by case
+
+pub read_by : (r : Outcome (Option ℕ)) (P P' : Type 0) (Q Q' F : ℕ → Type 0) → (P → P') → ((n : ℕ) → F n → Q n → Q' n)
+    → IfOk r (λ x. IfSome x F) → IfOk r (λ x. MatchOption x P Q) → IfOk r (λ x. MatchOption x P' Q')
+read_by (Ok None) P P' Q Q' F h k f p = h p
+read_by (Ok (Some n)) P P' Q Q' F h k f p = k n f p
+read_by (Err e) P P' Q Q' F h k f p = tt
+
+pub written_by : (r : Outcome Bool) (P P' Q Q' : Type 0) → (P → P') → (Q → Q') → IfOk r (λ b. MatchBool b P Q) → IfOk r (λ b. MatchBool b P' Q')
+written_by (Ok true) P P' Q Q' h k p = h p
+written_by (Ok false) P P' Q Q' h k p = k p
+written_by (Err e) P P' Q Q' h k p = tt
+
+pub refused_by : {A : Type 0} (r : Outcome A) (P Q : Refusal → Type 0) → ((e : Refusal) → P e → Q e) → IfErr r P → IfErr r Q
+refused_by (Ok a) P Q h p = tt
+refused_by (Err e) P Q h p = h e p

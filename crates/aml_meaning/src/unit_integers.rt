@@ -46,11 +46,7 @@ impl<S: Space> WorldState<S> {
         let Some(region) = self.plain_region(unit) else {
             return Ok(None);
         };
-        match read_number(&mut self.space, region, unit) {
-            Ok(None) => Ok(None),
-            Ok(Some(number)) => Ok(Some(number)),
-            Err(refusal) => Err(refusal),
-        }
+        read_number(&mut self.space, region, unit)
     }
 
     /// Stores an integer to a field unit that lies within one access unit of SystemMemory or SystemIO and has no more bits than an integer. It
@@ -66,11 +62,7 @@ impl<S: Space> WorldState<S> {
         let Some(region) = self.plain_region(unit) else {
             return Ok(false);
         };
-        match write_number(&mut self.space, region, unit, number) {
-            Ok(true) => Ok(true),
-            Ok(false) => Ok(false),
-            Err(refusal) => Err(refusal),
-        }
+        write_number(&mut self.space, region, unit, number)
     }
 }
 
