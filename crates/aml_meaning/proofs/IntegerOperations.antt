@@ -3,7 +3,7 @@ use Rattle.std.proofs.Common.{◌≡◌, ℕ, ◌+◌, Ok, refl, ap, sym}
 use Rattle.std.specs.Ordering.{nat_cmp}
 use Rattle.ar_space.specs.Outcome.{Outcome, seen}
 use Rattle.ar_space.specs.Outcome as outcome
-use Rattle.ar_space.specs.Change.{Change, Does, go_on, settle, ◌>>=◌}
+use Rattle.ar_space.specs.Change.{Does, go_on, settle, ◌>>=◌}
 use Rattle.aml_objects.specs.declared.value.Value.TheVariants.{Integer}
 use Rattle.aml_convert.specs.Conversions.{compared}
 use Rattle.aml_convert.specs.Integers.{truncated, truth}
@@ -19,6 +19,11 @@ use Rattle.aml_meaning.specs.Readings.{integer_in}
 use Rattle.aml_meaning.specs.Operations.{operated, integers_operated, divided_in, operated_on_one, integer_operated, operated_logically, integers_tested, turned, integer_turned, next_integer, integer_before, compared_in}
 
 module _ {S : Type 0} {w : State S} where
+  -- an integer is wanted where one is
+  pub does_integer : (n : ℕ) → Does (Ok n) w (integer_in (Integer n)) w
+  unfolding integer_in
+  does_integer n = record { is = λ _. refl }
+
   pub does_operated : (op : BinaryOperator) (x y : ℕ) (r : Outcome ℕ) → r ≡ result_of op w.width x y → Does (seen Integer r) w (operated op (Integer x) (Integer y)) w
   unfolding operated integer_in integers_operated ◌>>=◌ go_on
   does_operated op x y r is = record { is = λ _. ap (λ (o : Outcome ℕ). (seen Integer o, w)) (sym is) }
@@ -51,4 +56,4 @@ module _ {S : Type 0} {w : State S} where
   unfolding integer_before
   does_before x n is = record { is = λ _. ap (λ (o : Outcome ℕ). (seen Integer o, w)) is }
 
-pub ruleset integers = (does_operated, does_operated_on_one, does_divided, does_tested, does_compared, does_turned, does_next, does_before)
+pub ruleset integers = (does_integer, does_operated, does_operated_on_one, does_divided, does_tested, does_compared, does_turned, does_next, does_before)

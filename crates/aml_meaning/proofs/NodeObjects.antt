@@ -1,17 +1,19 @@
 -- What nodes hold that are given by their ids, and what a change there does to the world.
-use Rattle.std.proofs.Common.{◌≡◌, ◌≢◌, ◌∙◌, ◌+◌, ◌-◌, ◌^◌, ap, sym, refl, ℕ, List, Option, Some, None, Ok, Err, Bool, true, false, arith}
+use Rattle.std.proofs.Common.{◌≡◌, ◌≢◌, ◌∙◌, ◌+◌, ◌-◌, ◌^◌, ap, refl, ℕ, List, Option, Some, None, Ok, false, arith}
 use Rattle.std.specs.Prelude.{◌==◌, IfSome}
 use Rattle.std.proofs.lemmas.Bool.Decides.{nat_tests}
 use Rattle.std.specs.Option.{option_map}
 use Rattle.std.specs.FinMap.{get}
-use Rattle.ar_space.specs.Outcome.{Outcome, seen}
-use Rattle.ar_space.specs.Change.{Change, Does, give, settle, go_on, ◌>>=◌}
+use Rattle.ar_space.specs.Outcome.{seen}
+use Rattle.ar_space.specs.Change.{Does, give, settle, go_on, ◌>>=◌}
 use Rattle.aml_path.specs.declared.segment.Seg.{Seg}
 use Rattle.aml_path.specs.Paths.{Name}
 use Rattle.aml_objects.specs.declared.node.NodeId.{NodeId}
 use Rattle.aml_objects.specs.declared.entry.Entry.{Entry}
-use Rattle.aml_objects.specs.declared.entry.NamedObject.{NamedObject}
+use Rattle.aml_objects.specs.declared.entry.Field.TheVariants as field
+use Rattle.aml_objects.specs.declared.entry.FieldUnit.{FieldUnit}
 use Rattle.aml_objects.specs.declared.entry.NamedObject.TheVariants as object
+use Rattle.aml_objects.specs.declared.value.Value.{Value}
 use Rattle.aml_objects.specs.declared.value.Value.TheVariants as value
 use Rattle.aml_namespace.specs.Namespace.{Namespace, numbered, replaced}
 use Rattle.aml_namespace.specs.Search.{found, found_or_not}
@@ -50,6 +52,10 @@ module _ {S : Type 0} (w : State S) where
   unfolding use_found settle ◌>>=◌ go_on
   integer_used f n is = record { is = λ _. rw is refl }
 
+  pub unit_used : (f : List Seg × Entry) (u : FieldUnit) → f.1.object ≡ object.FieldUnit u → Does (Ok (invocation.Field (field.Unit u))) w (use_found f 0) w
+  unfolding use_found settle ◌>>=◌ go_on
+  unit_used f u is = record { is = λ _. rw is refl }
+
   module _ (id : ℕ) (f : List Seg × Entry) (at : numbered id w.names.map ≡ Some f) (names : Namespace) where
     stands : get w.names.map f.0 ≡ Some f.1
     stands = numbered_stands w.names.map id f at
@@ -58,6 +64,10 @@ module _ {S : Type 0} (w : State S) where
         → Does (Ok store.Done) (record w { names = names }) (stored (targets.Name f.0) (value.Integer n)) w
     unfolding store_in_name held_at store_integer integer_in on_names give ◌>>=◌ go_on
     integer_put n old is new = record { is = λ _. rw (stands, is, new) refl }
+
+    pub unit_led_to : (u : FieldUnit) (v : Value) → f.1.object ≡ object.FieldUnit u → Does (Ok (store.Field (field.Unit u))) w (stored (targets.Name f.0) v) w
+    unfolding store_in_name held_at give ◌>>=◌ go_on
+    unit_led_to u v is = record { is = λ _. rw (stands, is) refl }
 
     pub mutex_acquired : (c : ℕ) → f.1.object ≡ object.Mutex c → c ≢ 2 ^ 64 - 1 → replaced f.0 (object.Mutex (c + 1)) w.names ≡ (Ok tt, names)
         → Does (Ok tt) (record w { names = names }) (acquired_at (targets.Name f.0)) w

@@ -1,5 +1,5 @@
 -- Integers in slots: what they are read as, and what a store of one leaves.
-use Rattle.std.proofs.Common.{◌≡◌, ◌∙◌, ◌-◌, ◌<◌, ap, sym, refl, ℕ, zero, suc, List, Option, Some, None, Ok, Bool, true, false, length, arith, sub-one}
+use Rattle.std.proofs.Common.{◌≡◌, ◌∙◌, ◌-◌, ◌<◌, ap, sym, refl, ℕ, zero, suc, List, Option, Some, None, Ok, true, length, arith, sub-one}
 use Rattle.std.specs.Prelude.{slice_get, slice_set, IfSome}
 use Rattle.std.proofs.lemmas.List.{set-get_or}
 use Rattle.std.proofs.lemmas.Option.{get_or_from_slice_get}

@@ -1,5 +1,5 @@
 -- Field units of SystemMemory and SystemIO, as integers.
-use Rattle.std.proofs.Common.{◌≡◌, ◌<◌, ◌≤◌, ◌∙◌, ◌*◌, ◌%◌, ◌^◌, ap, sym, refl, ℕ, zero, suc, List, [], ◌∷◌, Option, Some, None, Ok, Err, Bool, true, false, arith}
+use Rattle.std.proofs.Common.{◌≡◌, ◌<◌, ◌≤◌, ◌∙◌, ◌*◌, ◌%◌, ◌^◌, ap, refl, ℕ, List, Option, Some, None, Ok, Err, Bool, true, false, arith}
 use Rattle.std.specs.Prelude.{◌==◌, nat_lt, if◌then◌else◌, IfOk, IfErr, IfSome, MatchOption, MatchBool}
 use Rattle.std.specs.Option.{option_map}
 use Rattle.std.proofs.lemmas.Bool.Decides.{nat_tests}
@@ -7,8 +7,8 @@ use Rattle.ar_space.specs.declared.integer_width.IntegerWidth.{IntegerWidth}
 use Rattle.ar_space.specs.declared.integer_width.IntegerWidth.TheVariants.{Bits32, Bits64}
 use Rattle.ar_space.specs.declared.refusal.Refusal.{Refusal}
 use Rattle.ar_space.specs.Accesses.{Accesses}
-use Rattle.ar_space.specs.Outcome.{Outcome, NotMemory}
-use Rattle.ar_space.specs.Change.{Change, Does, give, stop, settle, go_on, ◌>>=◌}
+use Rattle.ar_space.specs.Outcome.{Outcome}
+use Rattle.ar_space.specs.Change.{Does, give, settle, go_on, ◌>>=◌}
 use Rattle.aml_path.specs.declared.segment.Seg.{Seg}
 use Rattle.aml_objects.specs.Contents.{Buffer}
 use Rattle.aml_objects.specs.declared.entry.Entry.{Entry}
@@ -29,14 +29,14 @@ use Rattle.aml_fields.specs.Bits.{bits_from, field_bits, packed}
 use Rattle.aml_fields.specs.Regions.{read_field, write_field}
 use Rattle.aml_fields.proofs.OneUnit.{little_packed, some_bytes, bits_of_bytes, low_bits}
 use Rattle.aml_namespace.specs.Namespace.{numbered, above}
-use Rattle.aml_meaning.specs.PlainRegions.{plain_space, region_at, plain_region, IsPlainRegion}
+use Rattle.aml_meaning.specs.PlainRegions.{plain_space, plain_region, IsPlainRegion}
 use Rattle.aml_meaning.specs.State.{State, on_space}
 use Rattle.aml_meaning.specs.Run.{Run, lift}
-use Rattle.aml_meaning.specs.Regions.{space_numbered, region_of_object, region_declared, integer_of_bits, integer_value, value_of_bits}
-use Rattle.aml_meaning.specs.StoreTargets.{or_gone, declaration}
+use Rattle.aml_meaning.specs.Regions.{space_numbered, region_declared, integer_of_bits, integer_value, value_of_bits}
+use Rattle.aml_meaning.specs.StoreTargets.{declaration}
 use Rattle.aml_meaning.specs.Stores.{bytes_in}
 use Rattle.aml_meaning.specs.declared.regions.RegionSpace.TheVariants as kinds
-use Rattle.aml_meaning.specs.Fields.{space_at, located, region_bits, region_written, field_unit_bits, field_unit_written, field_value, field_stored}
+use Rattle.aml_meaning.specs.Fields.{space_at, located, region_bits, region_written, field_unit_bits, field_unit_written, field_value, field_integer, field_stored}
 
 -- ---- integers
 
@@ -121,6 +121,24 @@ module _ {S : Type 0} (accesses : Accesses S) (call : List Seg → Run S ℕ) wh
         let few : u.bits ≤ bits_of w.width = grind (arith, nat_tests) in
         record { is = λ _. rw (bits, narrow, packed_integer w.width u.bits number some few fits) refl }
 
+    pub unit_counted : (number : ℕ) → nat_lt (bits_of w.width) u.bits ≡ false → 0 < u.bits → number < 2 ^ u.bits → Does (Ok (packed (bits_from number 0 u.bits))) after (read_field accesses q u) w.space
+        → Does (Ok number) (record w { space = after }, steps) (field_integer accesses call (field.Unit u)) (w, steps)
+    unfolding field_integer integer_of_bits lift ◌>>=◌ go_on
+    unit_counted number narrow some fits d =
+        let bits : field_unit_bits accesses call u.source u (w, steps) ≡ (Ok (packed (bits_from number 0 u.bits)), (record w { space = after }, steps)) =
+        bits_are w steps u u.source q is ∙ ap (λ (x : Outcome (List ℕ) × S). (x.0, (record w { space = x.1 }, steps))) (d.is tt) in
+        let few : u.bits ≤ bits_of w.width = grind (arith, nat_tests) in
+        record { is = λ _. rw (bits, packed_integer w.width u.bits number some few fits) refl }
+
+    pub unit_not_counted : (e : Refusal) → Does (Err e) after (read_field accesses q u) w.space → Does (Err e) (record w { space = after }, steps) (field_integer accesses call (field.Unit u)) (w, steps)
+    unfolding field_integer ◌>>=◌ go_on
+    unit_not_counted e d = record {
+      is = λ ne.
+          let bits : field_unit_bits accesses call u.source u (w, steps) ≡ (Err e, (record w { space = after }, steps)) =
+          bits_are w steps u u.source q is ∙ ap (λ (x : Outcome (List ℕ) × S). (x.0, (record w { space = x.1 }, steps))) (d.is ne) in
+          rw bits refl;
+    }
+
     pub unit_refused : (e : Refusal) → Does (Err e) after (read_field accesses q u) w.space → Does (Err e) (record w { space = after }, steps) (field_value accesses call (field.Unit u)) (w, steps)
     unfolding field_value ◌>>=◌ go_on
     unit_refused e d = record {
@@ -150,6 +168,12 @@ pub read_by : (r : Outcome (Option ℕ)) (P P' : Type 0) (Q Q' F : ℕ → Type 
 read_by (Ok None) P P' Q Q' F h k f p = h p
 read_by (Ok (Some n)) P P' Q Q' F h k f p = k n f p
 read_by (Err e) P P' Q Q' F h k f p = tt
+
+pub number_by : (r : Outcome (Option ℕ)) (P : Type 0) (Q Q' F : ℕ → Type 0) → ((n : ℕ) → F n → Q n → Q' n)
+    → IfOk r (λ x. IfSome x F) → IfOk r (λ x. MatchOption x P Q) → IfOk r (λ x. IfSome x Q')
+number_by (Ok None) P Q Q' F k f p = tt
+number_by (Ok (Some n)) P Q Q' F k f p = k n f p
+number_by (Err e) P Q Q' F k f p = tt
 
 pub written_by : (r : Outcome Bool) (P P' Q Q' : Type 0) → (P → P') → (Q → Q') → IfOk r (λ b. MatchBool b P Q) → IfOk r (λ b. MatchBool b P' Q')
 written_by (Ok true) P P' Q Q' h k p = h p

@@ -120,8 +120,7 @@ impl<S> WorldState<S> {
         if count == u64::MAX {
             return false;
         }
-        self.names
-            .replace_node(id, NamedObject::Mutex(count + 1));
+        self.names.replace_node(id, NamedObject::Mutex(count + 1));
         true
     }
 
@@ -137,8 +136,7 @@ impl<S> WorldState<S> {
         if count == 0 {
             return false;
         }
-        self.names
-            .replace_node(id, NamedObject::Mutex(count - 1));
+        self.names.replace_node(id, NamedObject::Mutex(count - 1));
         true
     }
 

@@ -1,24 +1,28 @@
-//! Names of one segment that hold integers, by the nodes that they find, so that no name and no value is made (ACPI 6.5, 5.3 and 19.3.5.8).
+//! Names of one segment that hold integers or are field units, by the nodes that they find, so that no name and no value is made (ACPI 6.5,
+//! 5.3 and 19.3.5.8).
 ghost use Rattle.std.specs.Prelude.{◌≡◌, List, Some, Ok, true, false, IfSome};
 ghost use Rattle.ar_space.specs.Change.{Does};
 ghost use Rattle.ar_space.specs.Outcome.{seen};
 ghost use Rattle.aml_path.specs.declared.segment.Seg.{Seg as Segment};
 ghost use Rattle.aml_objects.specs.declared.entry.Entry.{Entry};
+ghost use Rattle.aml_objects.specs.declared.entry.Field.TheVariants as field;
 ghost use Rattle.aml_objects.specs.declared.entry.NamedObject.TheVariants.{Data};
+ghost use Rattle.aml_objects.specs.declared.entry.NamedObject.TheVariants as objects;
+ghost use Rattle.aml_objects.specs.declared.value.Value.{Value as AnyValue};
 ghost use Rattle.aml_objects.specs.declared.value.Value.TheVariants.{Integer};
 ghost use Rattle.aml_namespace.specs.Namespace.{numbered};
 ghost use Rattle.aml_namespace.specs.OneSegment.{segment_name};
 ghost use Rattle.aml_namespace.specs.Search.{found, found_or_not};
 ghost use Rattle.aml_meaning.specs.declared.invocation.Invocation.TheVariants as invocation;
 ghost use Rattle.aml_meaning.specs.declared.store_target.StoreTarget.TheVariants as targets;
-ghost use Rattle.aml_meaning.specs.declared.store_target.Stored.TheVariants.{Done};
+ghost use Rattle.aml_meaning.specs.declared.store_target.Stored.TheVariants.{Done, Field};
 ghost use Rattle.aml_meaning.specs.Invocations.{invocation_found, use_found};
 ghost use Rattle.aml_meaning.specs.Stores.{stored};
 ghost use Rattle.aml_meaning.specs.TargetTerms.{target_named};
 
 use crate::world_state::WorldState;
 use aml_namespace::Scope;
-use aml_objects::{NamedObject, NodeId, Value};
+use aml_objects::{FieldUnit, NamedObject, NodeId, Value};
 use aml_path::Seg;
 
 impl<S> WorldState<S> {
@@ -41,6 +45,18 @@ impl<S> WorldState<S> {
         match self.names.node(id) {
             None => None,
             Some(entry) => integer_of(&entry.object),
+        }
+    }
+
+    /// The field unit that the node with an id is, if it is one: what the name is where a value stands, and what a store to it leads to.
+    #[inline]
+    pub fn node_unit(&self, id: NodeId) -> Option<FieldUnit>
+        ensures used { IfSome result (λ unit. (f : List Segment × Entry) → numbered id.number self.now.names.map ≡ Some f → Does (Ok (invocation.Field (field.Unit unit))) self.now (use_found f 0) self.now) }
+        ensures written { IfSome result (λ unit. (f : List Segment × Entry) → numbered id.number self.now.names.map ≡ Some f → (value : AnyValue) → Does (Ok (Field (field.Unit unit))) self.now (stored (targets.Name f.0) value) self.now) }
+    {
+        match self.names.node(id) {
+            None => None,
+            Some(entry) => unit_of(&entry.object),
         }
     }
 
@@ -72,6 +88,16 @@ fn integer_of(object: &NamedObject) -> Option<u64>
 {
     match object {
         NamedObject::Data(Value::Integer(number)) => Some(*number),
+        _ => None,
+    }
+}
+
+/// The field unit that an object is, if it is one.
+fn unit_of(object: &NamedObject) -> Option<FieldUnit>
+    ensures { IfSome result (λ unit. object.now ≡ objects.FieldUnit unit) }
+{
+    match object {
+        NamedObject::FieldUnit(unit) => Some(*unit),
         _ => None,
     }
 }

@@ -33,11 +33,13 @@ impl<S> WorldState<S> {
 }
 
 impl<S: Space> WorldState<S> {
-    /// The bits of a field unit as an integer, where it lies within one access unit of SystemMemory or SystemIO and has no more bits than an
+    /// The bits of a field unit as an integer, which is its value, where it lies within one access unit of SystemMemory or SystemIO and has no more bits than an
     /// integer; none where it doesn't, and then nothing changes. Refused as `read_field` refuses it.
     pub fn unit_integer(&mut self, unit: FieldUnit) -> Result<Option<u64>, Refusal>
         ensures read { IfOk result (λ read. MatchOption read (self.new ≡ self.old) (λ number. (call : List Segment → Run S ℕ) (steps : ℕ) → Does (Ok (Integer number)) (self.new, steps) (field_value S.accesses call (field.Unit unit)) (self.old, steps))) }
+        ensures integer { IfOk result (λ read. IfSome read (λ number. (call : List Segment → Run S ℕ) (steps : ℕ) → Does (Ok number) (self.new, steps) (field_integer S.accesses call (field.Unit unit)) (self.old, steps))) }
         ensures refused { IfErr result (λ refusal. (call : List Segment → Run S ℕ) (steps : ℕ) → Does (Err refusal) (self.new, steps) (field_value S.accesses call (field.Unit unit)) (self.old, steps)) }
+        ensures refused_integer { IfErr result (λ refusal. (call : List Segment → Run S ℕ) (steps : ℕ) → Does (Err refusal) (self.new, steps) (field_integer S.accesses call (field.Unit unit)) (self.old, steps)) }
         ensures memory { NotMemory result }
     {
         if is_wide(self.width, unit.bits) {

@@ -1,24 +1,15 @@
-use Rattle.std.proofs.Common.{◌≡◌, ◌≢◌, ◌+◌, ◌-◌, ◌^◌, ◌∙◌, List, ap, sym, subst, Some, Ok, arith}
+use Rattle.std.proofs.Common.{◌≡◌, ◌∙◌, List, ap, sym, Some, Ok}
 use Rattle.ar_space.specs.Change.{Does}
-use Rattle.ar_space.specs.Outcome.{seen}
 use Rattle.aml_path.specs.declared.segment.Seg.{Seg}
-use Rattle.aml_objects.specs.declared.node.NodeId.{NodeId}
 use Rattle.aml_objects.specs.declared.entry.Entry.{Entry}
 use Rattle.aml_objects.specs.declared.entry.NamedObject.TheVariants.{Data}
 use Rattle.aml_objects.specs.declared.value.Value.TheVariants.{Integer}
 use Rattle.aml_namespace.specs.Namespace.{numbered}
-use Rattle.aml_namespace.specs.OneSegment.{segment_name}
-use Rattle.aml_namespace.specs.Search.{found, found_or_not}
 use Rattle.aml_meaning.specs.declared.invocation.Invocation.TheVariants as invocation
-use Rattle.aml_meaning.specs.declared.store_target.StoreTarget.TheVariants as targets
-use Rattle.aml_meaning.specs.declared.store_target.Stored.TheVariants.{Done}
 use Rattle.aml_meaning.specs.State.{State}
-use Rattle.aml_meaning.specs.Invocations.{invocation_found, use_found}
-use Rattle.aml_meaning.specs.Mutexes.{acquired_at, given_back_at}
-use Rattle.aml_meaning.specs.Stores.{stored}
+use Rattle.aml_meaning.specs.Invocations.{use_found}
 use Rattle.aml_meaning.proofs.SlotIntegers.{if_some}
-use Rattle.aml_meaning.proofs.Uses.{found_is, does_use}
-use Rattle.aml_meaning.proofs.NodeObjects.{entry_is, target_if, integer_used, integer_put, mutex_acquired, mutex_given_back}
+use Rattle.aml_meaning.proofs.NodeObjects.{entry_is, integer_used}
 use Rattle.aml_meaning.proofs.world_state.WorldState.node_integer.Goals as goal
 
 pub returns-in-Some-clause-used : goal.returns-in-Some-clause-used
@@ -28,6 +19,6 @@ returns-in-Some-clause-used g c =
     let e = c.in-Some.entry.now in
     if_some c.integer_of.result (λ number. e.object ≡ Data (Integer number)) (λ number. (f : List Seg × Entry) → numbered id w.names.map ≡ Some f → Does (Ok (invocation.Value (Integer number))) w (use_found f 0) w)
     (λ number held f at.
-        let same : e ≡ f.1 = entry_is (numbered id c.self.inside.names.map) e f c.in-Some.ensures (ap (λ (s : State g.row.S.Denot). numbered id s.names.map) c.self.view_is ∙ at) in
-        integer_used w f number (ap (λ (x : Entry). x.object) (sym same) ∙ held))
+    let same : e ≡ f.1 = entry_is (numbered id c.self.inside.names.map) e f c.in-Some.ensures (ap (λ (s : State g.row.S.Denot). numbered id s.names.map) c.self.view_is ∙ at) in
+    integer_used w f number (ap (λ (x : Entry). x.object) (sym same) ∙ held))
     c.integer_of.ensures

@@ -26,4 +26,4 @@ returns-clause-change g c = λ yes.
     let last : last_index (length xs) ≡ Some k = ap last_index (sym count) ∙ last_is n some in
     subst (λ (s : State g.row.S.Denot). Does (Ok Done) (record w { frames = slice_set xs k c.put_integer.new.self }) (stored (targets.Slot c.args.slot) (Integer c.args.number)) s) c.self.view_is
     (subst (λ (x : Frame). Does (Ok Done) (record w { frames = slice_set xs k x }) (stored (targets.Slot c.args.slot) (Integer c.args.number)) w) (sym (c.put_integer.ensures.put yes))
-        (integer_stored w c.args.slot k f last at c.args.number (c.put_integer.ensures.taken yes)))
+    (integer_stored w c.args.slot k f last at c.args.number (c.put_integer.ensures.taken yes)))

@@ -1,18 +1,17 @@
-use Rattle.std.proofs.Common.{◌≡◌, ◌<◌, ◌^◌, ◌∙◌, ℕ, List, ap, sym, subst, Ok, Err, Bool, false}
+use Rattle.std.proofs.Common.{◌≡◌, ◌∙◌, ℕ, List, ap, sym, subst, Ok, Err, false}
 use Rattle.std.specs.Prelude.{nat_lt}
-use Rattle.ar_space.specs.declared.refusal.Refusal.{Refusal}
 use Rattle.ar_space.specs.Change.{Does}
 use Rattle.aml_path.specs.declared.segment.Seg.{Seg}
 use Rattle.aml_objects.specs.declared.entry.Field.TheVariants as field
 use Rattle.aml_objects.specs.declared.value.Value.TheVariants.{Integer}
 use Rattle.aml_convert.specs.Integers.{bits_of}
-use Rattle.aml_fields.specs.Bits.{bits_from, field_bits, packed}
-use Rattle.aml_fields.specs.Regions.{read_field, write_field}
+use Rattle.aml_fields.specs.Bits.{bits_from, field_bits}
+use Rattle.aml_fields.specs.Regions.{write_field}
 use Rattle.aml_meaning.specs.State.{State}
 use Rattle.aml_meaning.specs.Run.{Run}
-use Rattle.aml_meaning.specs.Fields.{field_value, field_stored}
+use Rattle.aml_meaning.specs.Fields.{field_stored}
 use Rattle.aml_meaning.specs.PlainRegions.{IsPlainRegion}
-use Rattle.aml_meaning.proofs.UnitIntegers.{unit_read, unit_refused, unit_written, read_by, written_by, refused_by}
+use Rattle.aml_meaning.proofs.UnitIntegers.{unit_written, written_by, refused_by}
 use Rattle.aml_meaning.proofs.world_state.WorldState.put_unit_integer.Goals as goal
 
 pub returns-clause-written : goal.returns-clause-written
@@ -30,7 +29,7 @@ returns-clause-written g c =
     ((call : List Seg → Run g.row.S.Denot ℕ) (steps : ℕ) → Does (Ok tt) (record w { space = after }, steps) (field_stored g.S.Space.accesses call (field.Unit u) (Integer n)) (c.args.self.now, steps))
     (after ≡ i.space) (record w { space = after } ≡ c.args.self.now)
     (λ h call steps. subst (λ (s : State g.row.S.Denot). Does (Ok tt) (record w { space = after }, steps) (field_stored g.S.Space.accesses call (field.Unit u) (Integer n)) (s, steps)) c.self.view_is
-        (unit_written g.S.Space.accesses call w steps u q plain after n (Ok tt) narrow h))
+    (unit_written g.S.Space.accesses call w steps u q plain after n (Ok tt) narrow h))
     (λ same. ap (λ (s : g.row.S.Denot). record w { space = s }) same ∙ c.self.view_is)
     c.write_number.ensures.written
 
@@ -48,5 +47,5 @@ returns-clause-refused g c =
     (λ e. (source : List ℕ) → field_bits source 0 u.bits ≡ bits_from n 0 u.bits → Does {A = Unit {0}} (Err e) after (write_field g.S.Space.accesses q u source) i.space)
     (λ e. (call : List Seg → Run g.row.S.Denot ℕ) (steps : ℕ) → Does (Err e) (record w { space = after }, steps) (field_stored g.S.Space.accesses call (field.Unit u) (Integer n)) (c.args.self.now, steps))
     (λ e h call steps. subst (λ (s : State g.row.S.Denot). Does (Err e) (record w { space = after }, steps) (field_stored g.S.Space.accesses call (field.Unit u) (Integer n)) (s, steps)) c.self.view_is
-        (unit_written g.S.Space.accesses call w steps u q plain after n (Err e) narrow h))
+    (unit_written g.S.Space.accesses call w steps u q plain after n (Err e) narrow h))
     c.write_number.ensures.refused
