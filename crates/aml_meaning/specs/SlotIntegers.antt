@@ -1,9 +1,18 @@
--- Which slots an integer is put into as it is (ACPI 6.5, 19.3.5.8).
-use Rattle.std.specs.Prelude.{Bool, true, false, not}
+-- Integers in slots, and which slots an integer is put into as it is (ACPI 6.5, 19.3.5.8).
+use Rattle.std.specs.Prelude.{ℕ, Bool, true, false, not, Option, Some, None}
 use Rattle.aml_objects.specs.declared.value.Value.{Value}
 use Rattle.aml_objects.specs.declared.value.Value.TheVariants as value
 use Rattle.aml_objects.specs.declared.value.Slot.{Slot}
 use Rattle.aml_objects.specs.declared.value.Slot.TheVariants.{Local, Argument}
+
+-- the integer that a value is, if it is one
+abbrev pub integer_held : Value → Option ℕ
+integer_held value.Uninitialized = None
+integer_held (value.Integer n) = Some n
+integer_held (value.String o) = None
+integer_held (value.Buffer o) = None
+integer_held (value.Package o) = None
+integer_held (value.Reference r) = None
 
 abbrev pub is_reference : Value → Bool
 is_reference value.Uninitialized = false

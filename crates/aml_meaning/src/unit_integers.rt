@@ -33,8 +33,8 @@ impl<S> WorldState<S> {
 }
 
 impl<S: Space> WorldState<S> {
-    /// The bits of a field unit as an integer, which is its value, where it lies within one access unit of SystemMemory or SystemIO and has no more bits than an
-    /// integer; none where it doesn't, and then nothing changes. Refused as `read_field` refuses it.
+    /// The bits of a field unit as an integer, which is its value, where it lies within one access unit of SystemMemory or SystemIO and has
+    /// no more bits than an integer; none where it doesn't, and then nothing changes. Refused as `read_field` refuses it.
     pub fn unit_integer(&mut self, unit: FieldUnit) -> Result<Option<u64>, Refusal>
         ensures read { IfOk result (λ read. MatchOption read (self.new ≡ self.old) (λ number. (call : List Segment → Run S ℕ) (steps : ℕ) → Does (Ok (Integer number)) (self.new, steps) (field_value S.accesses call (field.Unit unit)) (self.old, steps))) }
         ensures integer { IfOk result (λ read. IfSome read (λ number. (call : List Segment → Run S ℕ) (steps : ℕ) → Does (Ok number) (self.new, steps) (field_integer S.accesses call (field.Unit unit)) (self.old, steps))) }
@@ -51,8 +51,8 @@ impl<S: Space> WorldState<S> {
         read_number(&mut self.space, region, unit)
     }
 
-    /// Stores an integer to a field unit that lies within one access unit of SystemMemory or SystemIO and has no more bits than an integer. It
-    /// answers no where the unit is another, and then nothing changes. Refused as `write_field` refuses it.
+    /// Stores an integer to a field unit that lies within one access unit of SystemMemory or SystemIO and has no more bits than an integer.
+    /// It answers no where the unit is another, and then nothing changes. Refused as `write_field` refuses it.
     pub fn put_unit_integer(&mut self, unit: FieldUnit, number: u64) -> Result<bool, Refusal>
         ensures written { IfOk result (λ done. MatchBool done ((call : List Segment → Run S ℕ) (steps : ℕ) → Does (Ok tt) (self.new, steps) (field_stored S.accesses call (field.Unit unit) (Integer number)) (self.old, steps)) (self.new ≡ self.old)) }
         ensures refused { IfErr result (λ refusal. (call : List Segment → Run S ℕ) (steps : ℕ) → Does (Err refusal) (self.new, steps) (field_stored S.accesses call (field.Unit unit) (Integer number)) (self.old, steps)) }

@@ -134,7 +134,8 @@ impl Nodes {
         self.acquired = self.acquired - before + after;
     }
 
-    /// Puts an integer into the node with an id, if an integer is held there and the id has the node's key; else nothing changes. It takes no memory.
+    /// Puts an integer into the node with an id, if an integer is held there and the id has the node's key; else nothing changes. It takes
+    /// no memory.
     pub(crate) fn put_integer(&mut self, id: NodeId, number: u64) -> bool
         ensures put { result ≡ true → self.new ≡ object_put self.old id.number (Data (Integer number)) }
         ensures held { result ≡ true → (x : Seen) → map.get self.old id.number ≡ Some x → (n : ℕ) × (x.entry.object ≡ Data (Integer n)) }
