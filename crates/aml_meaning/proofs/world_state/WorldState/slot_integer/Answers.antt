@@ -1,12 +1,9 @@
-use Rattle.std.proofs.Common.{◌≡◌, ◌<◌, ◌-◌, ◌∙◌, ap, sym, Some, Ok, List, length, arith}
+use Rattle.std.proofs.Common.{◌≡◌, ◌<◌, ◌-◌, ◌∙◌, ap, sym, Some, List, length, arith}
 use Rattle.std.specs.Prelude.{slice_get}
 use Rattle.std.proofs.lemmas.Option.{slice_get_read}
-use Rattle.ar_space.specs.Change.{Does}
-use Rattle.aml_objects.specs.declared.value.Value.TheVariants.{Integer}
 use Rattle.aml_meaning.specs.declared.frame.Frame.{Frame}
 use Rattle.aml_meaning.specs.State.{State}
-use Rattle.aml_meaning.specs.Slots.{slot_in}
-use Rattle.aml_meaning.specs.StoreTargets.{last_index, slot_read}
+use Rattle.aml_meaning.specs.StoreTargets.{last_index}
 use Rattle.aml_meaning.proofs.SlotIntegers.{last_is, integer_given, integer_missed, nothing_read}
 use Rattle.aml_meaning.proofs.world_state.WorldState.slot_integer.Goals as goal
 
