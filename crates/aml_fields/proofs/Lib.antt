@@ -4,6 +4,7 @@ pub mod Cells
 pub mod Covers
 pub mod FieldWrites
 pub mod Numbers
+pub mod OneUnit
 pub mod Plain
 pub mod Putting
 pub mod ReadBack

@@ -12,7 +12,7 @@ use Rattle.aml_fields.proofs.Numbers.{number_from, same_number, one_number, litt
 use Rattle.aml_fields.proofs.Cells.{Cells, Stand, little, digits}
 
 -- a list of bits is known by its number
-number_below : (zs : List Bool) → number_of zs < 2 ^ length zs
+pub number_below : (zs : List Bool) → number_of zs < 2 ^ length zs
 unfolding number_of
 number_below [] = omega arith
 number_below (z ∷ zs) =
@@ -29,7 +29,7 @@ pub bits_again : (zs : List Bool) → bits_from (number_of zs) 0 (length zs) ≡
 bits_again zs = same_number (bits_from (number_of zs) 0 (length zs)) zs (length_from (number_of zs) 0 (length zs))
     (number_from (number_of zs) 0 (length zs) ∙ ap (λ x. x % 2 ^ length zs) (div-one (number_of zs)) ∙ mod-eq_of_lt (number_below zs))
 
-from_append : (n i j k : ℕ) → bits_from n i (j + k) ≡ bits_from n i j ++ bits_from n (i + j) k
+pub from_append : (n i j k : ℕ) → bits_from n i (j + k) ≡ bits_from n i j ++ bits_from n (i + j) k
 unfolding bits_from
 from_append n i zero k = let e : 0 + k ≡ k = omega arith in let f : i + 0 ≡ i = omega arith in rw (e, f) refl
 from_append n i (suc j) k =

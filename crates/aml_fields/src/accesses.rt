@@ -27,7 +27,7 @@ fn read_access<S: Space>(space: &mut S, place: Place, width: Width) -> Result<u6
 
 /// One access that writes.
 #[tactic(auto, unfolding(crate::specs::Regions::write_access))]
-fn write_access<S: Space>(
+pub(crate) fn write_access<S: Space>(
     space: &mut S,
     place: Place,
     width: Width,
@@ -44,7 +44,7 @@ fn write_access<S: Space>(
 
 /// Reads a unit.
 #[tactic(auto, using(ar_space::specs::Change::changing), unfolding(crate::specs::Regions::read_unit))]
-fn read_unit<S: Space>(
+pub(crate) fn read_unit<S: Space>(
     space: &mut S,
     region: Region,
     width: Width,
@@ -59,7 +59,12 @@ fn read_unit<S: Space>(
 
 /// What a unit holds that a write keeps: it is read where the field isn't all of it and the update rule is Preserve.
 #[tactic(auto, unfolding(crate::specs::UnitByUnit::kept))]
-fn kept<S: Space>(space: &mut S, field: FieldUnit, unit: Unit, place: Place) -> Result<u64, Refusal>
+pub(crate) fn kept<S: Space>(
+    space: &mut S,
+    field: FieldUnit,
+    unit: Unit,
+    place: Place,
+) -> Result<u64, Refusal>
     ensures change { Does result space.new (kept field unit (read_access S.accesses place field.access)) space.old }
     ensures memory { NotMemory result }
 {

@@ -6,6 +6,7 @@ mod bits;
 mod buffer_fields;
 mod field_units;
 pub mod laws;
+mod one_unit;
 mod region;
 mod unit;
 
@@ -13,5 +14,6 @@ pub use accesses::{read_field, write_field};
 pub use bits::{bytes_for, copy_bits, get_bits};
 pub use buffer_fields::{new_buffer_field, read_buffer_field, write_buffer_field};
 pub use field_units::{FieldUnits, Unit, units};
+pub use one_unit::{read_number, write_number};
 pub use region::{AddressSpace, Region};
 pub use unit::{bytes_of, copy_from_unit, merge};

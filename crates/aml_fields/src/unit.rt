@@ -9,7 +9,7 @@ use ar_space::Width;
 use byteorder::{ByteOrder, LittleEndian};
 
 /// What a unit is written with where the field isn't: what was read from it, ones, or zeros.
-fn rest_of_unit(update: UpdateRule, width: Width, old: u64) -> u64
+pub(crate) fn rest_of_unit(update: UpdateRule, width: Width, old: u64) -> u64
     ensures { result ≡ rest_of_unit update width old }
 {
     match update {

@@ -1,6 +1,6 @@
 //! Data that terms form: integers, strings, buffers and packages (ACPI 6.5, 19.6 and 20.2.3).
 ghost use Rattle.std.specs.Prelude.{◌≡◌, ◌≤◌, ◌<◌, [], OnOk, Ok};
-ghost use Rattle.ar_space.specs.Outcome.{Answers};
+ghost use Rattle.ar_space.specs.Outcome.{Answers, NotMemory};
 ghost use Rattle.ar_space.specs.Change.{Does};
 ghost use Rattle.aml_terms.specs.AtTree.{at_tree, at_list};
 ghost use Rattle.aml_grammar.specs.Apart.{code_of};
@@ -43,7 +43,8 @@ pub(crate) fn eval_data<S: Space>(
 /// An integer that an opcode says.
 #[tactic(auto, using(crate::proofs::Steps::evaluating), unfolding(aml_meaning::specs::DataTerms::constant_rule))]
 fn eval_constant<S: Space>(run: &Running<S>, number: u64) -> Result<Flow, Refusal>
-    ensures { Does result run.now (constant_rule (meaning S.accesses) number) run.now }
+    ensures answer { Does result run.now (constant_rule (meaning S.accesses) number) run.now }
+    ensures memory { NotMemory result }
 {
     let value = run.world.integer_kept(number)?;
     Ok(Flow::Value(value))
@@ -53,7 +54,8 @@ fn eval_constant<S: Space>(run: &Running<S>, number: u64) -> Result<Flow, Refusa
 #[inline(never)]
 #[tactic(auto, using(crate::proofs::Steps::evaluating), unfolding(aml_meaning::specs::DataTerms::integer_rule))]
 fn eval_integer<S: Space>(run: &Running<S>, term: &Reader<'_>) -> Result<Flow, Refusal>
-    ensures { Does result run.now (integer_rule (meaning S.accesses) (at_tree term.now)) run.now }
+    ensures answer { Does result run.now (integer_rule (meaning S.accesses) (at_tree term.now)) run.now }
+    ensures memory { NotMemory result }
 {
     let number = number(term, 0)?;
     eval_constant(run, number)

@@ -17,26 +17,11 @@ use aml_path::Path;
 use ar_space::{Refusal, Space};
 use std::alloc::Global;
 
-/// A declaration or a Scope. Its rules have a frame of their own, which is no part of that of `eval_term`.
-#[cycle(evaluation)]
-#[tactic(auto, using(crate::proofs::Steps::evaluating))]
-pub(crate) fn eval_declaration<S: Space>(
-    alloc: Global,
-    run: &mut Running<S>,
-    job: &Task<'_>,
-    kind: DeclarationKind,
-) -> Result<Flow, Refusal>
-    ensures spent { run.new.1 ≤ run.old.1 }
-    ensures means { Does result run.new (declaration_rule (meaning S.accesses) kind job.now.site.now.scope.path.now job.now.site.now.depth (at_tree job.now.term.now)) run.old }
-{
-    eval_declaration_kind(alloc, run, job, kind)
-}
-
 /// A declaration or a Scope, by its kind.
 #[inline(never)]
 #[cycle(evaluation)]
 #[tactic(auto, using(crate::proofs::Steps::evaluating))]
-fn eval_declaration_kind<S: Space>(
+pub(crate) fn eval_declaration<S: Space>(
     alloc: Global,
     run: &mut Running<S>,
     job: &Task<'_>,

@@ -1,194 +1,165 @@
 //! Names where values stand, and calls of control methods (ACPI 6.5, 5.5.2 and 20.2.5).
-ghost use Rattle.std.specs.Prelude.{◌≡◌, ◌≤◌, ◌<◌, List, Some, OnOk, [], slice_index_or};
-ghost use Rattle.aml_path.specs.declared.segment.Seg.{Seg};
-ghost use Rattle.aml_objects.specs.declared.entry.Entry.{Entry};
-ghost use Rattle.aml_namespace.specs.Namespace.{numbered};
-ghost use Rattle.aml_meaning.specs.Terms.{count_of};
+ghost use Rattle.std.specs.Prelude.{◌≡◌, ◌≤◌, ◌<◌, OnOk, [], false, slice_index_or};
 ghost use Rattle.ar_space.specs.Change.{Does};
 ghost use Rattle.ar_space.specs.Outcome.{Answers, NotMemory, seen};
-ghost use Rattle.aml_terms.specs.AtTree.{at_tree, at_list};
 ghost use Rattle.aml_objects.specs.declared.value.Value.TheVariants.{Uninitialized};
 ghost use Rattle.aml_meaning.specs.Meaning.{meaning};
+ghost use Rattle.aml_grammar.specs.Shape.{trees_of};
+ghost use Rattle.aml_marked.specs.Marked.{trees_by, count_at, a_term, a_call, a_name, turns_of};
 ghost use Rattle.aml_meaning.specs.Tasks.{in_turn};
-ghost use Rattle.aml_meaning.specs.Invocations.{shallow, invocation_found, use_found, frame_arguments, returned_by, leaving, invoked, value_of_call, method_value};
-ghost use Rattle.aml_meaning.specs.InvocationTerms.{osi_rule, arguments_in_turn, call_rule, field_rule, invocation_rule, name_value};
+ghost use Rattle.aml_meaning.specs.Invocations.{shallow, invocation_found, frame_arguments, returned_by, leaving, invoked, value_of_call, method_value};
+ghost use Rattle.aml_meaning.specs.InvocationTerms.{osi_rule, arguments_in_turn, invocation_rule};
+ghost use Rattle.aml_interp.specs.AtCursor.{call_at};
 
+use crate::at_cursor::{eval_items_at_cursor, eval_value_at_cursor};
 use crate::field_calls::eval_field_read;
-use crate::operands::{Reader, as_many, list, name, take_first};
 use crate::readings::read_body;
-use crate::task::{Site, Task};
-use crate::terms::{eval_list, eval_value};
-use aml_grammar::TermReader;
+use crate::short_names::node_at;
+use crate::task::{Context, Site};
 use aml_meaning::{Flow, Invocation, Running, WorldState};
-use aml_namespace::Scope;
-use aml_objects::{Body, Field, NodeId, Value};
-use aml_path::{NameString, Path};
-use aml_terms::list_at;
+use aml_objects::{Body, Value};
+use aml_path::Path;
+use aml_terms::{Cursor, LEVELS, Marks};
 use ar_space::{EvaluationFault, Refusal, Space};
 use std::alloc::Global;
 
 /// How many control methods may be called one inside another.
 pub(crate) const MAX_DEPTH: usize = 32;
 
-/// A name where a value stands. Its rule has a frame of its own, which is no part of that of `eval_term`.
-#[cycle(evaluation)]
-#[tactic(auto, using(crate::proofs::Steps::evaluating))]
-pub(crate) fn eval_name_value<S: Space>(
-    alloc: Global,
-    run: &mut Running<S>,
-    job: &Task<'_>,
-) -> Result<Flow, Refusal>
-    ensures spent { run.new.1 ≤ run.old.1 }
-    ensures means { Does result run.new (name_value S.accesses (meaning S.accesses) job.now.site.now.scope.path.now job.now.site.now.depth (at_tree job.now.term.now)) run.old }
-{
-    eval_used_name(alloc, run, job)
-}
-
 /// A name where a value stands, and its arguments.
 #[inline(never)]
 #[cycle(evaluation)]
-#[tactic(auto, using(crate::proofs::Steps::evaluating), unfolding(aml_meaning::specs::InvocationTerms::name_value))]
-fn eval_used_name<S: Space>(
+#[tactic(auto, using(crate::proofs::Steps::evaluating), unfolding(crate::specs::AtCursor::call_at, aml_marked::specs::Marked::a_call, aml_marked::specs::Marked::a_name, aml_marked::specs::Marked::after, aml_marked::specs::Marked::gives))]
+pub(crate) fn eval_name_at_cursor<S: Space>(
     alloc: Global,
     run: &mut Running<S>,
-    job: &Task<'_>,
+    context: &Context<'_>,
+    cursor: &mut Cursor<'_>,
+    levels: u8,
 ) -> Result<Flow, Refusal>
     ensures spent { run.new.1 ≤ run.old.1 }
-    ensures means { Does result run.new (name_value S.accesses (meaning S.accesses) job.now.site.now.scope.path.now job.now.site.now.depth (at_tree job.now.term.now)) run.old }
+    ensures means { Does result run.new (call_at S.accesses (meaning S.accesses) context.now.site.now.scope.path.now context.now.site.now.depth (a_term (count_at context.now.marks.now) levels) (count_at context.now.marks.now cursor.old.at) cursor.old) run.old }
+    ensures behind { OnOk result (cursor.new ≡ (a_call (a_term (count_at context.now.marks.now) levels) (count_at context.now.marks.now) cursor.old).1) }
 {
-    let name = name(alloc, job.term, 0)?;
-    let arguments = list(job.term, 1)?;
-    let invocation = name_used(alloc, &run.world, job.site.scope, &name, &arguments)?;
-    eval_invocation(
-        alloc,
-        run,
-        &Task {
-            term: &arguments,
-            ..*job
-        },
-        invocation,
-    )
+    let count = context.marks.count_at(cursor.at());
+    let invocation = name_used(alloc, &run.world, context, &*cursor, count)?;
+    cursor.over_name();
+    eval_invocation(alloc, run, context, cursor, levels, count, invocation)
 }
 
-/// What a name is where a value stands, with the arguments that stand behind it; refused as `WorldState::invocation` is.
+/// What the name is that stands where a cursor does, used with so many arguments.
 #[inline(never)]
 fn name_used<S: Space>(
     alloc: Global,
     world: &WorldState<S>,
-    scope: Scope<'_>,
-    name: &NameString,
-    arguments: &Reader<'_>,
+    context: &Context<'_>,
+    cursor: &Cursor<'_>,
+    count: u8,
 ) -> Result<Invocation, Refusal>
-    ensures { Does result world.now (invocation_found scope.entry.path.now name.now (count_of (at_list arguments.now))) world.now }
+    ensures { Does result world.now (invocation_found context.now.site.now.scope.path.now (a_name cursor.now).0 count) world.now }
 {
-    match world.search(scope, name) {
-        Ok(id) => used_with(alloc, world, id, arguments),
+    match node_at(world, context, cursor) {
+        Some(id) => world.use_with(alloc, id, usize::from(count)),
+        None => long_name_used(alloc, world, context, cursor, count),
+    }
+}
+
+/// The same of a name of several segments, or one with a prefix, or one that finds nothing.
+#[inline(never)]
+fn long_name_used<S: Space>(
+    alloc: Global,
+    world: &WorldState<S>,
+    context: &Context<'_>,
+    cursor: &Cursor<'_>,
+    count: u8,
+) -> Result<Invocation, Refusal>
+    ensures { Does result world.now (invocation_found context.now.site.now.scope.path.now (a_name cursor.now).0 count) world.now }
+{
+    match cursor.name(alloc) {
+        Ok(name) => world.invocation(alloc, context.site.scope, &name, usize::from(count)),
         Err(refusal) => Err(refusal),
     }
 }
 
-/// What the node is that a name finds, with the arguments that stand behind the name.
-#[tactic(auto, using(ar_space::specs::Change::changing), unfolding(aml_meaning::specs::Invocations::use_found))]
-fn used_with<S: Space>(
-    alloc: Global,
-    world: &WorldState<S>,
-    id: NodeId,
-    arguments: &Reader<'_>,
-) -> Result<Invocation, Refusal>
-    ensures { (f : List Seg × Entry) → numbered id.number world.now.names.map ≡ Some f → Does result world.now (use_found f (count_of (at_list arguments.now))) world.now }
-{
-    as_many(arguments, world.arguments_at(id))?;
-    world.use_of(alloc, id)
-}
-
+/// What a name was found to be, with the arguments that stand at the cursor.
 #[cycle(evaluation)]
-#[tactic(auto, using(crate::proofs::Steps::evaluating))]
+#[tactic(auto, using(crate::proofs::Steps::evaluating), unfolding(aml_meaning::specs::InvocationTerms::call_rule, aml_meaning::specs::InvocationTerms::field_rule))]
 fn eval_invocation<S: Space>(
     alloc: Global,
     run: &mut Running<S>,
-    job: &Task<'_>,
+    context: &Context<'_>,
+    cursor: &mut Cursor<'_>,
+    levels: u8,
+    count: u8,
     invocation: Invocation,
 ) -> Result<Flow, Refusal>
     ensures spent { run.new.1 ≤ run.old.1 }
-    ensures means { Does result run.new (invocation_rule S.accesses (meaning S.accesses) job.now.site.now.scope.path.now job.now.site.now.depth (at_list job.now.term.now) invocation) run.old }
+    ensures means { Does result run.new (invocation_rule S.accesses (meaning S.accesses) context.now.site.now.scope.path.now context.now.site.now.depth (trees_of (turns_of ((a_term (count_at context.now.marks.now) levels) false) count cursor.old).0) invocation) run.old }
+    ensures behind { OnOk result (cursor.new ≡ (turns_of ((a_term (count_at context.now.marks.now) levels) false) count cursor.old).1) }
 {
     match invocation {
-        Invocation::Value(value) => Ok(Flow::Value(value)),
-        Invocation::Field(field) => eval_field(alloc, run, job.site.depth, field),
-        Invocation::Method(path, body) => eval_call(alloc, run, job, &path, &body),
-        Invocation::Osi => eval_osi(alloc, run, job),
+        Invocation::Value(value) => {
+            cursor.over_arguments(context.marks, levels, count);
+            Ok(Flow::Value(value))
+        }
+        Invocation::Field(field) => {
+            cursor.over_arguments(context.marks, levels, count);
+            let value = eval_field_read(alloc, run, context.site.depth, field)?;
+            Ok(Flow::Value(value))
+        }
+        Invocation::Method(path, body) => {
+            let values = eval_arguments(alloc, run, context, cursor, levels, count)?;
+            eval_invoked(alloc, run, context.site.depth, &path, &body, &values)
+        }
+        Invocation::Osi => eval_osi(alloc, run, context, cursor, levels, count),
     }
-}
-
-/// The bits of a field, as a value.
-#[cycle(evaluation)]
-#[tactic(auto, using(crate::proofs::Steps::evaluating), unfolding(aml_meaning::specs::InvocationTerms::field_rule))]
-fn eval_field<S: Space>(
-    alloc: Global,
-    run: &mut Running<S>,
-    depth: usize,
-    field: Field,
-) -> Result<Flow, Refusal>
-    ensures spent { run.new.1 ≤ run.old.1 }
-    ensures means { Does result run.new (field_rule S.accesses (meaning S.accesses) depth field) run.old }
-{
-    let value = eval_field_read(alloc, run, depth, field)?;
-    Ok(Flow::Value(value))
-}
-
-#[inline(always)]
-#[cycle(evaluation)]
-#[tactic(auto, using(crate::proofs::Steps::evaluating), unfolding(aml_meaning::specs::InvocationTerms::call_rule))]
-fn eval_call<S: Space>(
-    alloc: Global,
-    run: &mut Running<S>,
-    job: &Task<'_>,
-    path: &Path,
-    body: &Body,
-) -> Result<Flow, Refusal>
-    ensures spent { run.new.1 ≤ run.old.1 }
-    ensures means { Does result run.new (call_rule (meaning S.accesses) job.now.site.now.scope.path.now job.now.site.now.depth (at_list job.now.term.now) path.now body.now) run.old }
-{
-    let values = eval_arguments(alloc, run, job)?;
-    eval_invoked(alloc, run, job.site.depth, path, body, &values)
 }
 
 /// A call of `\_OSI`, which has no frame.
 #[cycle(evaluation)]
 #[tactic(auto, using(crate::proofs::Steps::evaluating), unfolding(aml_meaning::specs::InvocationTerms::osi_rule))]
-fn eval_osi<S: Space>(alloc: Global, run: &mut Running<S>, job: &Task<'_>) -> Result<Flow, Refusal>
+fn eval_osi<S: Space>(
+    alloc: Global,
+    run: &mut Running<S>,
+    context: &Context<'_>,
+    cursor: &mut Cursor<'_>,
+    levels: u8,
+    count: u8,
+) -> Result<Flow, Refusal>
     ensures spent { run.new.1 ≤ run.old.1 }
-    ensures means { Does result run.new (osi_rule (meaning S.accesses) job.now.site.now.scope.path.now job.now.site.now.depth (at_list job.now.term.now)) run.old }
+    ensures means { Does result run.new (osi_rule (meaning S.accesses) context.now.site.now.scope.path.now context.now.site.now.depth (trees_of (turns_of ((a_term (count_at context.now.marks.now) levels) false) count cursor.old).0)) run.old }
+    ensures behind { OnOk result (cursor.new ≡ (turns_of ((a_term (count_at context.now.marks.now) levels) false) count cursor.old).1) }
 {
-    let values = eval_arguments(alloc, run, job)?;
-    shallow(job.site.depth)?;
+    let values = eval_arguments(alloc, run, context, cursor, levels, count)?;
+    shallow(context.site.depth)?;
     let answer = run.world.osi(&values)?;
     Ok(Flow::Value(answer))
 }
 
-/// Arguments one after another.
+/// So many arguments one after another.
+#[inline(never)]
 #[cycle(evaluation)]
 #[tactic(auto, using(crate::proofs::Steps::evaluating))]
 fn eval_arguments<S: Space>(
     alloc: Global,
     run: &mut Running<S>,
-    job: &Task<'_>,
+    context: &Context<'_>,
+    cursor: &mut Cursor<'_>,
+    levels: u8,
+    count: u8,
 ) -> Result<Vec<Value>, Refusal>
     ensures spent { run.new.1 ≤ run.old.1 }
-    ensures means { Does (seen (λ list. list.items) result) run.new (arguments_in_turn (meaning S.accesses) job.now.site.now.scope.path.now job.now.site.now.depth (at_list job.now.term.now) []) run.old }
+    ensures means { Does (seen (λ list. list.items) result) run.new (arguments_in_turn (meaning S.accesses) context.now.site.now.scope.path.now context.now.site.now.depth (trees_of (turns_of ((a_term (count_at context.now.marks.now) levels) false) count cursor.old).0) []) run.old }
+    ensures behind { OnOk result (cursor.new ≡ (turns_of ((a_term (count_at context.now.marks.now) levels) false) count cursor.old).1) }
 {
-    let mut values = Vec::new(alloc);
-    let mut rest = *job.term;
-    'items: loop {
-        let taken = take_first(&mut rest);
-        match taken {
-            None => return Ok(values),
-            Some(ref item) => {
-                let value = eval_value(alloc, run, &Task { term: item, ..*job })?;
-                values.push(value)?;
-            }
-        }
+    let mut values = Vec::with_capacity(alloc, usize::from(count))?;
+    let mut left = count;
+    'items: while left > 0 {
+        let value = eval_value_at_cursor(alloc, run, context, cursor, levels)?;
+        values.push(value)?;
+        left -= 1;
     }
+    Ok(values)
 }
 
 /// The body of the control method at a path, in a frame of its own.
@@ -208,8 +179,7 @@ fn eval_invoked<S: Space>(
     shallow(depth)?;
     let marks = read_body(alloc, &run.world, path, body)?;
     run.world.open_frame(frame_arguments(arguments))?;
-    let items = list_at(body.as_slice(), &marks);
-    eval_body(alloc, run, depth + 1, path, items)
+    eval_body(alloc, run, depth + 1, path, body.as_slice(), &marks)
 }
 
 /// The value of a call of the control method at a path.
@@ -250,20 +220,20 @@ fn eval_body<S: Space>(
     run: &mut Running<S>,
     depth: usize,
     path: &Path,
-    items: Reader<'_>,
+    bytes: &[u8],
+    marks: &Marks,
 ) -> Result<Flow, Refusal>
     ensures spent { run.new.1 ≤ run.old.1 }
-    ensures means { Does result run.new (leaving path.now (in_turn (meaning S.accesses) path.now depth (at_list items.entry))) run.old }
+    ensures means { Does result run.new (leaving path.now (in_turn (meaning S.accesses) path.now depth (trees_of (trees_by marks.now bytes.now)))) run.old }
 {
-    let scope = run.world.scope(path);
-    let outcome = eval_list(
-        alloc,
-        run,
-        &Task {
-            site: &Site { scope, depth },
-            term: &items,
+    let context = Context {
+        site: &Site {
+            scope: run.world.scope(path),
+            depth,
         },
-    );
+        marks,
+    };
+    let outcome = eval_items_at_cursor(alloc, run, &context, &mut Cursor::new(0, bytes), LEVELS);
     run.world.leave(path);
     of_call(outcome)
 }

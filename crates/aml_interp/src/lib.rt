@@ -2,6 +2,7 @@
 #![tactic(auto)]
 
 mod answers;
+mod at_cursor;
 mod buffer_fields;
 mod data;
 mod declarations;
@@ -16,6 +17,8 @@ mod operators;
 mod readings;
 mod references;
 mod regions;
+mod short_names;
+mod short_terms;
 mod statements;
 mod targets;
 mod task;

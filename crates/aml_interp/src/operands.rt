@@ -1,21 +1,20 @@
 //! Operands of terms, by the kind that the grammar gives them.
-ghost use Rattle.std.specs.Prelude.{◌≡◌, ◌==◌, option_map, Some, None};
+ghost use Rattle.std.specs.Prelude.{◌≡◌, Some, None};
 ghost use Rattle.ar_space.specs.Outcome.{Answers, NotMemory, seen};
 ghost use Rattle.aml_terms.specs.AtTree.{at_tree, at_list};
 ghost use Rattle.aml_terms.specs.declared.at.At.{At as Reader};
 ghost use Rattle.aml_grammar.specs.Tree.{tree, no_trees};
 ghost use Rattle.aml_grammar.specs.Apart.{code_of, operand_of, name_of, bytes_of, Shows};
-ghost use Rattle.aml_meaning.specs.Readings.{as_many};
-ghost use Rattle.aml_meaning.specs.Terms.{number_of, inner_of, list_of, else_of, count_of};
+ghost use Rattle.aml_meaning.specs.Terms.{number_of, inner_of, list_of};
 
 use aml_grammar::{OperandView, TermCode, TermReader};
 use aml_objects::Octets;
 use aml_path::NameString;
 use aml_terms::At;
-use ar_space::{EvaluationFault, NameFault, Refusal};
+use ar_space::{NameFault, Refusal};
 use std::alloc::Global;
 
-/// How evaluation reads terms. It is used through `TermReader` alone.
+/// How evaluation reads terms that no cursor goes over.
 pub(crate) type Reader<'t> = At<'t>;
 
 /// The code of a term.
@@ -90,17 +89,6 @@ pub(crate) fn list<'t>(term: &Reader<'t>, index: usize) -> Result<Reader<'t>, Re
     }
 }
 
-/// The Else of an If, where it has one.
-#[inline(always)]
-pub(crate) fn else_of<'t>(term: &Reader<'t>) -> Option<Reader<'t>>
-    ensures { option_map at_tree result ≡ else_of (operand_of (at_tree term.now) 2) }
-{
-    match operand(term, 2) {
-        OperandView::Term(part) => Some(part),
-        _ => None,
-    }
-}
-
 /// An operand that is bytes.
 pub(crate) fn bytes(alloc: Global, term: &Reader<'_>, index: usize) -> Result<Octets, Refusal>
     ensures { Answers result (bytes_of (operand_of (at_tree term.now) index)) }
@@ -108,37 +96,5 @@ pub(crate) fn bytes(alloc: Global, term: &Reader<'_>, index: usize) -> Result<Oc
     match term.bytes(alloc, index) {
         Ok(bytes) => Ok(Octets::from_vec(bytes)),
         Err(refusal) => Err(refusal),
-    }
-}
-
-/// A list has as many terms as are wanted, or is refused as `ArityChanged`.
-pub(crate) fn as_many(list: &Reader<'_>, wanted: u8) -> Result<(), Refusal>
-    ensures answer { Answers result (as_many wanted (count_of (at_list list.now))) }
-    ensures memory { NotMemory result }
-{
-    if has_count(list, wanted) {
-        Ok(())
-    } else {
-        Err(Refusal::Evaluation(EvaluationFault::ArityChanged))
-    }
-}
-
-/// Whether a list has so many terms.
-fn has_count(list: &Reader<'_>, count: u8) -> bool
-    ensures { result ≡ (count == count_of (at_list list.now)) }
-{
-    let mut left = count;
-    let mut rest = *list;
-    'items: loop {
-        match rest.next() {
-            None => return left == 0,
-            Some(item) => {
-                if left == 0 {
-                    return false;
-                }
-                left -= 1;
-                rest = item.rest;
-            }
-        }
     }
 }

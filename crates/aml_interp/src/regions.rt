@@ -20,26 +20,11 @@ use aml_objects::{FieldSource, NamedObject, OperationRegion};
 use ar_space::{NameFault, Refusal, Space};
 use std::alloc::Global;
 
-/// An operation region, a list of fields or a buffer field. Its rules have a frame of their own, which is no part of that of `eval_term`.
-#[cycle(evaluation)]
-#[tactic(auto, using(crate::proofs::Steps::evaluating))]
-pub(crate) fn eval_region_term<S: Space>(
-    alloc: Global,
-    run: &mut Running<S>,
-    job: &Task<'_>,
-    kind: RegionKind,
-) -> Result<Flow, Refusal>
-    ensures spent { run.new.1 ≤ run.old.1 }
-    ensures means { Does result run.new (region_term_rule (meaning S.accesses) kind job.now.site.now.scope.path.now job.now.site.now.depth (at_tree job.now.term.now)) run.old }
-{
-    eval_region_kind(alloc, run, job, kind)
-}
-
 /// An operation region, a list of fields or a buffer field, by its kind.
 #[inline(never)]
 #[cycle(evaluation)]
 #[tactic(auto, using(crate::proofs::Steps::evaluating))]
-fn eval_region_kind<S: Space>(
+pub(crate) fn eval_region_term<S: Space>(
     alloc: Global,
     run: &mut Running<S>,
     job: &Task<'_>,

@@ -1,169 +1,183 @@
 //! Statements (ACPI 6.5, 19.6 and 20.2.5.3).
-ghost use Rattle.std.specs.Prelude.{◌≡◌, ◌≤◌, ◌<◌, OnOk, option_map};
+ghost use Rattle.std.specs.Prelude.{◌≡◌, ◌≤◌, ◌<◌, OnOk, Some, false};
 ghost use Rattle.ar_space.specs.Change.{Does};
-ghost use Rattle.aml_terms.specs.AtTree.{at_tree, at_list};
-ghost use Rattle.aml_grammar.specs.Apart.{operand_of};
+ghost use Rattle.aml_marked.specs.Marked.{count_at, a_term, with_row, over, a_super_name, an_else, maybe_else};
+ghost use Rattle.aml_scan.specs.RowsAt.{row_at};
 ghost use Rattle.aml_convert.specs.Operators.{is_true};
+ghost use Rattle.aml_meaning.specs.declared.term_kind.TermKind.TheVariants as kinds;
 ghost use Rattle.aml_meaning.specs.Meaning.{meaning};
+ghost use Rattle.aml_meaning.specs.Tasks.{task};
 ghost use Rattle.aml_meaning.specs.Terms.{else_of};
-ghost use Rattle.aml_meaning.specs.StatementTerms.{otherwise, branch, if_rule, else_rule, turn_of, turn, loop, while_rule, return_rule, release_rule, notify_rule, pause_rule, fatal_rule, statement_rule};
+ghost use Rattle.aml_meaning.specs.StatementTerms.{otherwise, branch, turn, loop, statement_rule};
+ghost use Rattle.aml_interp.specs.AtCursor.{behind_one, outside_at, items_at, row_kind, if_at, else_at, while_at, return_at, release_at, notify_at, pause_at, fatal_at};
 
-use crate::operands::{Reader, else_of, inner, list};
-use crate::targets::eval_target;
-use crate::task::Task;
-use crate::terms::{eval_integer_of, eval_list, eval_operand_integer, eval_term, eval_value_at};
+use crate::at_cursor::{eval_integer_at_cursor, eval_items_at_cursor, eval_value_at_cursor};
+use crate::short_names::release_at_name;
+use crate::targets::eval_super_name;
+use crate::task::Context;
 use aml_convert::is_true;
 use aml_meaning::{Flow, Running, StatementKind};
+use aml_terms::{Cursor, ELSE, RowPlace};
 use ar_space::{EvaluationFault, Refusal, Space};
 use std::alloc::Global;
 
-/// A statement, by its kind.
+/// A statement, by its kind: its operands begin at the cursor.
+#[inline(always)]
 #[cycle(evaluation)]
-#[tactic(auto, using(crate::proofs::Steps::evaluating))]
+#[tactic(auto, using(crate::proofs::Steps::evaluating, crate::proofs::CursorRules::operand_rules))]
 pub(crate) fn eval_statement<S: Space>(
     alloc: Global,
     run: &mut Running<S>,
-    job: &Task<'_>,
+    context: &Context<'_>,
+    cursor: &mut Cursor<'_>,
+    levels: u8,
+    place: RowPlace,
     kind: StatementKind,
 ) -> Result<Flow, Refusal>
+    requires { row_kind (row_at place) ≡ kinds.Statement kind }
     ensures spent { run.new.1 ≤ run.old.1 }
-    ensures means { Does result run.new (statement_rule (meaning S.accesses) kind job.now.site.now.scope.path.now job.now.site.now.depth (at_tree job.now.term.now)) run.old }
+    ensures means { Does result run.new (statement_rule (meaning S.accesses) kind context.now.site.now.scope.path.now context.now.site.now.depth (with_row (a_term (count_at context.now.marks.now) levels) (row_at place) cursor.old).0) run.old }
+    ensures behind { OnOk result (cursor.new ≡ (with_row (a_term (count_at context.now.marks.now) levels) (row_at place) cursor.old).1) }
 {
     match kind {
-        StatementKind::If => eval_if(alloc, run, job),
-        StatementKind::Else => eval_else(alloc, run, job),
-        StatementKind::While => eval_while(alloc, run, job),
+        StatementKind::If => eval_if(alloc, run, context, cursor, levels),
+        StatementKind::Else => eval_else(alloc, run, context, cursor, levels),
+        StatementKind::While => eval_while(alloc, run, context, cursor, levels),
         StatementKind::Break => Ok(Flow::Break),
         StatementKind::Continue => Ok(Flow::Continue),
         StatementKind::Noop => Ok(Flow::Next),
-        StatementKind::Return => eval_return(alloc, run, job),
-        StatementKind::Release => eval_release(alloc, run, job),
-        StatementKind::Notify => eval_notify(alloc, run, job),
-        StatementKind::Pause => eval_pause(alloc, run, job),
-        StatementKind::Fatal => eval_fatal(alloc, run, job),
+        StatementKind::Return => eval_return(alloc, run, context, cursor, levels),
+        StatementKind::Release => eval_release(alloc, run, context, cursor, levels),
+        StatementKind::Notify => eval_notify(alloc, run, context, cursor, levels),
+        StatementKind::Pause => eval_pause(alloc, run, context, cursor, levels),
+        StatementKind::Fatal => eval_fatal(alloc, run, context, cursor, levels),
     }
 }
 
 #[inline(never)]
 #[cycle(evaluation)]
-#[tactic(auto, using(crate::proofs::Steps::evaluating), unfolding(aml_meaning::specs::StatementTerms::if_rule))]
-fn eval_if<S: Space>(alloc: Global, run: &mut Running<S>, job: &Task<'_>) -> Result<Flow, Refusal>
+#[tactic(auto, using(crate::proofs::Steps::evaluating), unfolding(crate::specs::AtCursor::if_at))]
+fn eval_if<S: Space>(
+    alloc: Global,
+    run: &mut Running<S>,
+    context: &Context<'_>,
+    cursor: &mut Cursor<'_>,
+    levels: u8,
+) -> Result<Flow, Refusal>
     ensures spent { run.new.1 ≤ run.old.1 }
-    ensures means { Does result run.new (if_rule (meaning S.accesses) job.now.site.now.scope.path.now job.now.site.now.depth (at_tree job.now.term.now)) run.old }
+    ensures means { Does result run.new (if_at S.accesses (meaning S.accesses) context.now.site.now.scope.path.now context.now.site.now.depth (a_term (count_at context.now.marks.now) levels) cursor.old) run.old }
+    ensures behind { OnOk result (cursor.new ≡ (maybe_else (a_term (count_at context.now.marks.now) levels) (outside_at cursor.old)).1) }
 {
-    let condition = inner(job.term, 0)?;
-    let items = list(job.term, 1)?;
-    let number = eval_integer_of(alloc, run, job, &condition)?;
-    eval_branch(alloc, run, job, &items, is_true(number))
+    let outer = cursor.open();
+    let number = eval_integer_at_cursor(alloc, run, context, cursor, levels)?;
+    eval_branch(alloc, run, context, cursor, levels, outer, is_true(number))
 }
 
 /// The list of an If, or what follows it.
 #[cycle(evaluation)]
 #[tactic(auto, using(crate::proofs::Steps::evaluating))]
-fn eval_branch<S: Space>(
+fn eval_branch<'t, S: Space>(
     alloc: Global,
     run: &mut Running<S>,
-    job: &Task<'_>,
-    items: &Reader<'_>,
+    context: &Context<'_>,
+    cursor: &mut Cursor<'t>,
+    levels: u8,
+    outer: Cursor<'t>,
     holds: bool,
 ) -> Result<Flow, Refusal>
     ensures spent { run.new.1 ≤ run.old.1 }
-    ensures means { Does result run.new (branch (meaning S.accesses) job.now.site.now.scope.path.now job.now.site.now.depth (at_list items.now) (else_of (operand_of (at_tree job.now.term.now) 2)) holds) run.old }
+    ensures means { Does result run.new (branch (meaning S.accesses) context.now.site.now.scope.path.now context.now.site.now.depth (items_at (a_term (count_at context.now.marks.now) levels) cursor.old) (else_of (Some (maybe_else (a_term (count_at context.now.marks.now) levels) outer.entry).0)) holds) run.old }
+    ensures behind { OnOk result (cursor.new ≡ (maybe_else (a_term (count_at context.now.marks.now) levels) outer.entry).1) }
 {
     if holds {
-        eval_list(
-            alloc,
-            run,
-            &Task {
-                term: &*items,
-                ..*job
-            },
-        )
+        let flow = eval_items_at_cursor(alloc, run, context, cursor, levels)?;
+        *cursor = outer;
+        cursor.over_else();
+        Ok(flow)
     } else {
-        eval_otherwise(alloc, run, job)
+        *cursor = outer;
+        eval_otherwise(alloc, run, context, cursor, levels)
     }
 }
 
 /// The Else of an If, where it has one.
 #[cycle(evaluation)]
-#[tactic(auto, using(crate::proofs::Steps::evaluating))]
+#[tactic(auto, using(crate::proofs::Steps::evaluating, crate::proofs::CursorSteps::elses), unfolding(aml_marked::specs::Marked::maybe_else, aml_marked::specs::Marked::gives))]
 fn eval_otherwise<S: Space>(
     alloc: Global,
     run: &mut Running<S>,
-    job: &Task<'_>,
+    context: &Context<'_>,
+    cursor: &mut Cursor<'_>,
+    levels: u8,
 ) -> Result<Flow, Refusal>
     ensures spent { run.new.1 ≤ run.old.1 }
-    ensures means { Does result run.new (otherwise (meaning S.accesses) job.now.site.now.scope.path.now job.now.site.now.depth (else_of (operand_of (at_tree job.now.term.now) 2))) run.old }
+    ensures means { Does result run.new (otherwise (meaning S.accesses) context.now.site.now.scope.path.now context.now.site.now.depth (else_of (Some (maybe_else (a_term (count_at context.now.marks.now) levels) cursor.old).0))) run.old }
+    ensures behind { OnOk result (cursor.new ≡ (maybe_else (a_term (count_at context.now.marks.now) levels) cursor.old).1) }
 {
-    match else_of(job.term) {
-        None => Ok(Flow::Next),
-        Some(term) => eval_term(
-            alloc,
-            run,
-            &Task {
-                term: &term,
-                ..*job
-            },
-        ),
+    if cursor.is_next(ELSE) {
+        run.charge()?;
+        cursor.over(1);
+        eval_else(alloc, run, context, cursor, levels)
+    } else {
+        Ok(Flow::Next)
     }
 }
 
 #[inline(never)]
 #[cycle(evaluation)]
-#[tactic(auto, using(crate::proofs::Steps::evaluating), unfolding(aml_meaning::specs::StatementTerms::else_rule))]
-fn eval_else<S: Space>(alloc: Global, run: &mut Running<S>, job: &Task<'_>) -> Result<Flow, Refusal>
+#[tactic(auto, using(crate::proofs::Steps::evaluating))]
+fn eval_else<S: Space>(
+    alloc: Global,
+    run: &mut Running<S>,
+    context: &Context<'_>,
+    cursor: &mut Cursor<'_>,
+    levels: u8,
+) -> Result<Flow, Refusal>
     ensures spent { run.new.1 ≤ run.old.1 }
-    ensures means { Does result run.new (else_rule (meaning S.accesses) job.now.site.now.scope.path.now job.now.site.now.depth (at_tree job.now.term.now)) run.old }
+    ensures means { Does result run.new (else_at S.accesses (meaning S.accesses) context.now.site.now.scope.path.now context.now.site.now.depth (a_term (count_at context.now.marks.now) levels) cursor.old) run.old }
+    ensures behind { OnOk result (cursor.new ≡ outside_at cursor.old) }
 {
-    let items = list(job.term, 0)?;
-    eval_list(
-        alloc,
-        run,
-        &Task {
-            term: &items,
-            ..*job
-        },
-    )
+    let outer = cursor.open();
+    let flow = eval_items_at_cursor(alloc, run, context, cursor, levels)?;
+    *cursor = outer;
+    Ok(flow)
 }
 
 #[inline(never)]
 #[cycle(evaluation)]
-#[tactic(auto, using(crate::proofs::Steps::evaluating), unfolding(aml_meaning::specs::StatementTerms::while_rule))]
+#[tactic(auto, using(crate::proofs::Steps::evaluating))]
 fn eval_while<S: Space>(
     alloc: Global,
     run: &mut Running<S>,
-    job: &Task<'_>,
+    context: &Context<'_>,
+    cursor: &mut Cursor<'_>,
+    levels: u8,
 ) -> Result<Flow, Refusal>
     ensures spent { run.new.1 ≤ run.old.1 }
-    ensures means { Does result run.new (while_rule (meaning S.accesses) job.now.site.now.scope.path.now job.now.site.now.depth (at_tree job.now.term.now)) run.old }
+    ensures means { Does result run.new (while_at S.accesses (meaning S.accesses) context.now.site.now.scope.path.now context.now.site.now.depth (a_term (count_at context.now.marks.now) levels) cursor.old) run.old }
+    ensures behind { OnOk result (cursor.new ≡ outside_at cursor.old) }
 {
-    let condition = inner(job.term, 0)?;
-    let items = list(job.term, 1)?;
-    eval_loop(
-        alloc,
-        run,
-        &Task {
-            term: &condition,
-            ..*job
-        },
-        &items,
-    )
+    let outer = cursor.open();
+    let flow = eval_loop(alloc, run, context, &*cursor, levels)?;
+    *cursor = outer;
+    Ok(flow)
 }
 
-/// Turns of a While, until one ends it.
+/// Turns of a While, until one ends it: each begins where its condition stands.
 #[cycle(evaluation)]
 #[tactic(auto, using(crate::proofs::Steps::evaluating))]
 fn eval_loop<S: Space>(
     alloc: Global,
     run: &mut Running<S>,
-    job: &Task<'_>,
-    items: &Reader<'_>,
+    context: &Context<'_>,
+    start: &Cursor<'_>,
+    levels: u8,
 ) -> Result<Flow, Refusal>
     ensures spent { run.new.1 ≤ run.old.1 }
-    ensures means { Does result run.new (loop (meaning S.accesses) job.now.site.now.scope.path.now job.now.site.now.depth (at_tree job.now.term.now) (at_list items.now)) run.old }
+    ensures means { Does result run.new (loop (meaning S.accesses) context.now.site.now.scope.path.now context.now.site.now.depth (a_term (count_at context.now.marks.now) levels false start.now).0 (items_at (a_term (count_at context.now.marks.now) levels) (behind_one (a_term (count_at context.now.marks.now) levels) start.now))) run.old }
 {
     'turns: loop {
-        let flow = eval_turn(alloc, run, job, items)?;
+        let flow = eval_turn(alloc, run, context, start, levels)?;
         match flow.loop_end() {
             None => {}
             Some(last) => return Ok(last),
@@ -177,38 +191,18 @@ fn eval_loop<S: Space>(
 fn eval_turn<S: Space>(
     alloc: Global,
     run: &mut Running<S>,
-    job: &Task<'_>,
-    items: &Reader<'_>,
+    context: &Context<'_>,
+    start: &Cursor<'_>,
+    levels: u8,
 ) -> Result<Flow, Refusal>
     ensures spent { run.new.1 ≤ run.old.1 }
     ensures paid { OnOk result (run.new.1 < run.old.1) }
-    ensures means { Does result run.new (turn (meaning S.accesses) job.now.site.now.scope.path.now job.now.site.now.depth (at_tree job.now.term.now) (at_list items.now)) run.old }
+    ensures means { Does result run.new (turn (meaning S.accesses) context.now.site.now.scope.path.now context.now.site.now.depth (a_term (count_at context.now.marks.now) levels false start.now).0 (items_at (a_term (count_at context.now.marks.now) levels) (behind_one (a_term (count_at context.now.marks.now) levels) start.now))) run.old }
 {
-    let number = eval_operand_integer(alloc, run, job)?;
-    eval_turn_of(
-        alloc,
-        run,
-        &Task {
-            term: &*items,
-            ..*job
-        },
-        is_true(number),
-    )
-}
-
-#[cycle(evaluation)]
-#[tactic(auto, using(crate::proofs::Steps::evaluating))]
-fn eval_turn_of<S: Space>(
-    alloc: Global,
-    run: &mut Running<S>,
-    job: &Task<'_>,
-    holds: bool,
-) -> Result<Flow, Refusal>
-    ensures spent { run.new.1 ≤ run.old.1 }
-    ensures means { Does result run.new (turn_of (meaning S.accesses) job.now.site.now.scope.path.now job.now.site.now.depth (at_list job.now.term.now) holds) run.old }
-{
-    if holds {
-        eval_list(alloc, run, job)
+    let mut cursor = Cursor::new(start.at(), start.rest());
+    let number = eval_integer_at_cursor(alloc, run, context, &mut cursor, levels)?;
+    if is_true(number) {
+        eval_items_at_cursor(alloc, run, context, &mut cursor, levels)
     } else {
         Ok(Flow::Break)
     }
@@ -216,31 +210,40 @@ fn eval_turn_of<S: Space>(
 
 #[inline(never)]
 #[cycle(evaluation)]
-#[tactic(auto, using(crate::proofs::Steps::evaluating), unfolding(aml_meaning::specs::StatementTerms::return_rule))]
+#[tactic(auto, using(crate::proofs::Steps::evaluating), unfolding(crate::specs::AtCursor::return_at))]
 fn eval_return<S: Space>(
     alloc: Global,
     run: &mut Running<S>,
-    job: &Task<'_>,
+    context: &Context<'_>,
+    cursor: &mut Cursor<'_>,
+    levels: u8,
 ) -> Result<Flow, Refusal>
     ensures spent { run.new.1 ≤ run.old.1 }
-    ensures means { Does result run.new (return_rule (meaning S.accesses) job.now.site.now.scope.path.now job.now.site.now.depth (at_tree job.now.term.now)) run.old }
+    ensures means { Does result run.new (return_at S.accesses (meaning S.accesses) context.now.site.now.scope.path.now context.now.site.now.depth (a_term (count_at context.now.marks.now) levels) cursor.old) run.old }
+    ensures behind { OnOk result (cursor.new ≡ behind_one (a_term (count_at context.now.marks.now) levels) cursor.old) }
 {
-    let value = eval_value_at(alloc, run, job, 0)?;
+    let value = eval_value_at_cursor(alloc, run, context, cursor, levels)?;
     Ok(Flow::Return(value))
 }
 
 #[inline(never)]
 #[cycle(evaluation)]
-#[tactic(auto, using(crate::proofs::Steps::evaluating), unfolding(aml_meaning::specs::StatementTerms::release_rule))]
+#[tactic(auto, using(crate::proofs::Steps::evaluating), unfolding(crate::specs::AtCursor::release_at))]
 fn eval_release<S: Space>(
     alloc: Global,
     run: &mut Running<S>,
-    job: &Task<'_>,
+    context: &Context<'_>,
+    cursor: &mut Cursor<'_>,
+    levels: u8,
 ) -> Result<Flow, Refusal>
     ensures spent { run.new.1 ≤ run.old.1 }
-    ensures means { Does result run.new (release_rule (meaning S.accesses) job.now.site.now.scope.path.now job.now.site.now.depth (at_tree job.now.term.now)) run.old }
+    ensures means { Does result run.new (release_at S.accesses (meaning S.accesses) context.now.site.now.scope.path.now context.now.site.now.depth (a_term (count_at context.now.marks.now) levels) cursor.old) run.old }
+    ensures behind { OnOk result (cursor.new ≡ (a_super_name (a_term (count_at context.now.marks.now) levels) cursor.old).1) }
 {
-    let target = eval_target(alloc, run, job, 0)?;
+    if release_at_name(run, context, cursor, levels) {
+        return Ok(Flow::Next);
+    }
+    let target = eval_super_name(alloc, run, context, cursor, levels)?;
     run.world.release(alloc, &target)?;
     Ok(Flow::Next)
 }
@@ -248,47 +251,58 @@ fn eval_release<S: Space>(
 /// Nobody is told: the operands are evaluated, and nothing else.
 #[inline(never)]
 #[cycle(evaluation)]
-#[tactic(auto, using(crate::proofs::Steps::evaluating), unfolding(aml_meaning::specs::StatementTerms::notify_rule))]
+#[tactic(auto, using(crate::proofs::Steps::evaluating), unfolding(crate::specs::AtCursor::notify_at))]
 fn eval_notify<S: Space>(
     alloc: Global,
     run: &mut Running<S>,
-    job: &Task<'_>,
+    context: &Context<'_>,
+    cursor: &mut Cursor<'_>,
+    levels: u8,
 ) -> Result<Flow, Refusal>
     ensures spent { run.new.1 ≤ run.old.1 }
-    ensures means { Does result run.new (notify_rule (meaning S.accesses) job.now.site.now.scope.path.now job.now.site.now.depth (at_tree job.now.term.now)) run.old }
+    ensures means { Does result run.new (notify_at S.accesses (meaning S.accesses) context.now.site.now.scope.path.now context.now.site.now.depth (a_term (count_at context.now.marks.now) levels) cursor.old) run.old }
+    ensures behind { OnOk result (cursor.new ≡ behind_one (a_term (count_at context.now.marks.now) levels) (a_super_name (a_term (count_at context.now.marks.now) levels) cursor.old).1) }
 {
-    eval_target(alloc, run, job, 0)?;
-    eval_value_at(alloc, run, job, 1)?;
+    eval_super_name(alloc, run, context, cursor, levels)?;
+    eval_value_at_cursor(alloc, run, context, cursor, levels)?;
     Ok(Flow::Next)
 }
 
 /// Stall and Sleep: no time passes.
 #[inline(never)]
 #[cycle(evaluation)]
-#[tactic(auto, using(crate::proofs::Steps::evaluating), unfolding(aml_meaning::specs::StatementTerms::pause_rule))]
+#[tactic(auto, using(crate::proofs::Steps::evaluating), unfolding(crate::specs::AtCursor::pause_at))]
 fn eval_pause<S: Space>(
     alloc: Global,
     run: &mut Running<S>,
-    job: &Task<'_>,
+    context: &Context<'_>,
+    cursor: &mut Cursor<'_>,
+    levels: u8,
 ) -> Result<Flow, Refusal>
     ensures spent { run.new.1 ≤ run.old.1 }
-    ensures means { Does result run.new (pause_rule (meaning S.accesses) job.now.site.now.scope.path.now job.now.site.now.depth (at_tree job.now.term.now)) run.old }
+    ensures means { Does result run.new (pause_at S.accesses (meaning S.accesses) context.now.site.now.scope.path.now context.now.site.now.depth (a_term (count_at context.now.marks.now) levels) cursor.old) run.old }
+    ensures behind { OnOk result (cursor.new ≡ behind_one (a_term (count_at context.now.marks.now) levels) cursor.old) }
 {
-    eval_value_at(alloc, run, job, 0)?;
+    eval_value_at_cursor(alloc, run, context, cursor, levels)?;
     Ok(Flow::Next)
 }
 
 #[inline(never)]
 #[cycle(evaluation)]
-#[tactic(auto, using(crate::proofs::Steps::evaluating), unfolding(aml_meaning::specs::StatementTerms::fatal_rule))]
+#[tactic(auto, using(crate::proofs::Steps::evaluating), unfolding(crate::specs::AtCursor::fatal_at))]
 fn eval_fatal<S: Space>(
     alloc: Global,
     run: &mut Running<S>,
-    job: &Task<'_>,
+    context: &Context<'_>,
+    cursor: &mut Cursor<'_>,
+    levels: u8,
 ) -> Result<Flow, Refusal>
     ensures spent { run.new.1 ≤ run.old.1 }
-    ensures means { Does result run.new (fatal_rule (meaning S.accesses) job.now.site.now.scope.path.now job.now.site.now.depth (at_tree job.now.term.now)) run.old }
+    ensures means { Does result run.new (fatal_at S.accesses (meaning S.accesses) context.now.site.now.scope.path.now context.now.site.now.depth (a_term (count_at context.now.marks.now) levels) cursor.old) run.old }
+    ensures behind { OnOk result (cursor.new ≡ behind_one (a_term (count_at context.now.marks.now) levels) (over 4 (over 1 cursor.old))) }
 {
-    eval_value_at(alloc, run, job, 2)?;
+    cursor.over(1);
+    cursor.over(4);
+    eval_value_at_cursor(alloc, run, context, cursor, levels)?;
     Err(Refusal::Evaluation(EvaluationFault::Fatal))
 }

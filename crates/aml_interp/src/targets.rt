@@ -1,96 +1,65 @@
 //! Operands that name a target, which is read or stored to (ACPI 6.5, 20.2.2).
-ghost use Rattle.std.specs.Prelude.{◌≡◌, ◌≤◌, ◌<◌};
+ghost use Rattle.std.specs.Prelude.{◌≡◌, ◌≤◌, ◌<◌, OnOk, false};
 ghost use Rattle.ar_space.specs.Change.{Does};
-ghost use Rattle.aml_terms.specs.AtTree.{at_tree};
+ghost use Rattle.aml_grammar.specs.Apart.{code_of};
+ghost use Rattle.aml_marked.specs.Marked.{count_at, a_term, a_name, a_target, a_super_name};
+ghost use Rattle.aml_meaning.specs.declared.store_target.TargetKind.TheVariants as kinds;
+ghost use Rattle.aml_meaning.specs.Run.{lift};
 ghost use Rattle.aml_meaning.specs.Meaning.{meaning};
-ghost use Rattle.aml_meaning.specs.TargetTerms.{operand_target, indexed_target, dereferenced_target, target_by_kind, target_of, name_target, target_at, targeted};
+ghost use Rattle.aml_meaning.specs.Tasks.{value_at};
+ghost use Rattle.aml_meaning.specs.Terms.{target_kind};
+ghost use Rattle.aml_meaning.specs.TargetTerms.{target_named, operand_target, indexed_target, dereferenced_target, target_by_kind, target_at, part_target};
+ghost use Rattle.aml_interp.specs.AtCursor.{behind_one, put_to};
 
+use crate::at_cursor::eval_value_at_cursor;
 use crate::field_calls::eval_stored_to;
-use crate::operands::{code, operand};
-use crate::task::Task;
-use crate::terms::{eval_value, eval_value_at};
-use aml_grammar::{OperandView, TermReader};
+use crate::operands::code;
+use crate::short_names::put_integer_at_name;
+use crate::short_terms::put_integer_to_slot;
+use crate::task::Context;
 use aml_meaning::{Flow, Running, StoreTarget, TargetKind, reference_in, target_kind};
 use aml_objects::Value;
+use aml_terms::Cursor;
 use ar_space::{NameFault, Refusal, Space};
 use std::alloc::Global;
 
-/// The target that the operand at a position names.
-#[cycle(evaluation)]
-#[tactic(auto, using(crate::proofs::Steps::evaluating))]
-pub(crate) fn eval_target<S: Space>(
-    alloc: Global,
-    run: &mut Running<S>,
-    job: &Task<'_>,
-    index: usize,
-) -> Result<StoreTarget, Refusal>
-    ensures spent { run.new.1 ≤ run.old.1 }
-    ensures means { Does result run.new (target_at (meaning S.accesses) job.now.site.now.scope.path.now job.now.site.now.depth (at_tree job.now.term.now) index) run.old }
-{
-    let operand = operand(job.term, index);
-    match operand {
-        OperandView::Absent => Err(Refusal::Name(NameFault::BadName)),
-        OperandView::Null => Ok(StoreTarget::Nowhere),
-        OperandView::Name => named_target(alloc, run, job, index),
-        OperandView::Number(_) => Err(Refusal::Name(NameFault::BadName)),
-        OperandView::Bytes => Err(Refusal::Name(NameFault::BadName)),
-        OperandView::Term(ref inner) => eval_inner_target(
-            alloc,
-            run,
-            &Task {
-                term: inner,
-                ..*job
-            },
-        ),
-        OperandView::List(_) => Err(Refusal::Name(NameFault::BadName)),
-    }
-}
-
+/// How the term names a target that stands where a cursor does.
 #[inline(never)]
-#[tactic(auto, using(crate::proofs::Steps::evaluating), unfolding(aml_meaning::specs::TargetTerms::name_target))]
-fn named_target<S: Space>(
-    alloc: Global,
-    run: &Running<S>,
-    job: &Task<'_>,
-    index: usize,
-) -> Result<StoreTarget, Refusal>
-    ensures { Does result run.now (name_target (meaning S.accesses) job.now.site.now.scope.path.now (at_tree job.now.term.now) index) run.now }
+pub(crate) fn kind_of_target(context: &Context<'_>, cursor: &Cursor<'_>, levels: u8) -> TargetKind
+    ensures { result ≡ target_kind (code_of (a_term (count_at context.now.marks.now) levels false cursor.now).0) }
 {
-    let name = job.term.name(alloc, index)?;
-    run.world.target_named(alloc, job.site.scope, &name)
+    target_kind(code(&cursor.term(context.marks, levels)))
 }
 
-/// The target that a term is: Debug, a local or an argument, or what it refers to.
-#[cycle(evaluation)]
-#[tactic(auto, using(crate::proofs::Steps::evaluating))]
-fn eval_inner_target<S: Space>(
-    alloc: Global,
-    run: &mut Running<S>,
-    job: &Task<'_>,
-) -> Result<StoreTarget, Refusal>
-    ensures spent { run.new.1 ≤ run.old.1 }
-    ensures means { Does result run.new (target_of (meaning S.accesses) job.now.site.now.scope.path.now job.now.site.now.depth (at_tree job.now.term.now)) run.old }
-{
-    eval_target_by_kind(alloc, run, job, target_kind(code(job.term)))
-}
-
+/// The target that a term is where a cursor stands, by its kind: Debug, a local or an argument, or what it refers to.
+#[inline(never)]
 #[cycle(evaluation)]
 #[tactic(auto, using(crate::proofs::Steps::evaluating))]
 fn eval_target_by_kind<S: Space>(
     alloc: Global,
     run: &mut Running<S>,
-    job: &Task<'_>,
+    context: &Context<'_>,
+    cursor: &mut Cursor<'_>,
+    levels: u8,
     kind: TargetKind,
 ) -> Result<StoreTarget, Refusal>
+    requires { target_kind (code_of (a_term (count_at context.now.marks.now) levels false cursor.old).0) ≡ kind }
     ensures spent { run.new.1 ≤ run.old.1 }
-    ensures means { Does result run.new (target_by_kind (meaning S.accesses) job.now.site.now.scope.path.now job.now.site.now.depth (at_tree job.now.term.now) (target_at (meaning S.accesses) job.now.site.now.scope.path.now job.now.site.now.depth (at_tree job.now.term.now) 0) kind) run.old }
+    ensures means { Does result run.new (target_by_kind (meaning S.accesses) context.now.site.now.scope.path.now context.now.site.now.depth (a_term (count_at context.now.marks.now) levels false cursor.old).0 (target_at (meaning S.accesses) context.now.site.now.scope.path.now context.now.site.now.depth (a_term (count_at context.now.marks.now) levels false cursor.old).0 0) kind) run.old }
+    ensures behind { OnOk result (cursor.new ≡ behind_one (a_term (count_at context.now.marks.now) levels) cursor.old) }
 {
     match kind {
-        TargetKind::Nowhere => Ok(StoreTarget::Nowhere),
-        TargetKind::Slot(slot) => Ok(StoreTarget::Slot(slot)),
-        TargetKind::RefOf => eval_operand_target(alloc, run, job),
-        TargetKind::DerefOf => eval_dereferenced_target(alloc, run, job),
-        TargetKind::Index => eval_indexed_target(alloc, run, job),
+        TargetKind::Nowhere => {
+            cursor.over_term(context.marks, levels);
+            Ok(StoreTarget::Nowhere)
+        }
+        TargetKind::Slot(slot) => {
+            cursor.over_term(context.marks, levels);
+            Ok(StoreTarget::Slot(slot))
+        }
+        TargetKind::RefOf => eval_operand_target(alloc, run, context, cursor, levels),
+        TargetKind::DerefOf => eval_dereferenced_target(alloc, run, context, cursor, levels),
+        TargetKind::Index => eval_indexed_target(alloc, run, context, cursor, levels),
         TargetKind::Other => Err(Refusal::Name(NameFault::BadName)),
     }
 }
@@ -101,13 +70,39 @@ fn eval_target_by_kind<S: Space>(
 fn eval_operand_target<S: Space>(
     alloc: Global,
     run: &mut Running<S>,
-    job: &Task<'_>,
+    context: &Context<'_>,
+    cursor: &mut Cursor<'_>,
+    levels: u8,
 ) -> Result<StoreTarget, Refusal>
+    requires { target_kind (code_of (a_term (count_at context.now.marks.now) levels false cursor.old).0) ≡ kinds.RefOf }
     ensures spent { run.new.1 ≤ run.old.1 }
-    ensures means { Does result run.new (operand_target (meaning S.accesses) job.now.site.now.scope.path.now job.now.site.now.depth (at_tree job.now.term.now)) run.old }
+    ensures means { Does result run.new (operand_target (meaning S.accesses) context.now.site.now.scope.path.now context.now.site.now.depth (a_term (count_at context.now.marks.now) levels false cursor.old).0) run.old }
+    ensures behind { OnOk result (cursor.new ≡ behind_one (a_term (count_at context.now.marks.now) levels) cursor.old) }
 {
     run.charge()?;
-    eval_target(alloc, run, job, 0)
+    eval_named_operand(alloc, run, context, cursor, levels)
+}
+
+/// The target that the operand of a RefOf names.
+#[cycle(evaluation)]
+#[tactic(auto, using(crate::proofs::Steps::evaluating))]
+fn eval_named_operand<S: Space>(
+    alloc: Global,
+    run: &mut Running<S>,
+    context: &Context<'_>,
+    cursor: &mut Cursor<'_>,
+    levels: u8,
+) -> Result<StoreTarget, Refusal>
+    requires { target_kind (code_of (a_term (count_at context.now.marks.now) levels false cursor.old).0) ≡ kinds.RefOf }
+    ensures spent { run.new.1 ≤ run.old.1 }
+    ensures means { Does result run.new (target_at (meaning S.accesses) context.now.site.now.scope.path.now context.now.site.now.depth (a_term (count_at context.now.marks.now) levels false cursor.old).0 0) run.old }
+    ensures behind { OnOk result (cursor.new ≡ behind_one (a_term (count_at context.now.marks.now) levels) cursor.old) }
+{
+    match cursor.take_opcode(levels) {
+        // RefOf is an opcode
+        None => Err(Refusal::Name(NameFault::BadName)),
+        Some(_) => eval_super_name(alloc, run, context, cursor, levels - 1),
+    }
 }
 
 /// DerefOf is what its operand refers to, which has to stand there and isn't read.
@@ -116,16 +111,42 @@ fn eval_operand_target<S: Space>(
 fn eval_dereferenced_target<S: Space>(
     alloc: Global,
     run: &mut Running<S>,
-    job: &Task<'_>,
+    context: &Context<'_>,
+    cursor: &mut Cursor<'_>,
+    levels: u8,
 ) -> Result<StoreTarget, Refusal>
+    requires { target_kind (code_of (a_term (count_at context.now.marks.now) levels false cursor.old).0) ≡ kinds.DerefOf }
     ensures spent { run.new.1 ≤ run.old.1 }
-    ensures means { Does result run.new (dereferenced_target (meaning S.accesses) job.now.site.now.scope.path.now job.now.site.now.depth (at_tree job.now.term.now)) run.old }
+    ensures means { Does result run.new (dereferenced_target (meaning S.accesses) context.now.site.now.scope.path.now context.now.site.now.depth (a_term (count_at context.now.marks.now) levels false cursor.old).0) run.old }
+    ensures behind { OnOk result (cursor.new ≡ behind_one (a_term (count_at context.now.marks.now) levels) cursor.old) }
 {
     run.charge()?;
-    let value = eval_value_at(alloc, run, job, 0)?;
+    let value = eval_dereferenced_operand(alloc, run, context, cursor, levels)?;
     let reference = reference_in(value)?;
     run.world.test_reference(reference)?;
     Ok(StoreTarget::Refers(reference))
+}
+
+/// The value of the operand of a DerefOf.
+#[cycle(evaluation)]
+#[tactic(auto, using(crate::proofs::Steps::evaluating))]
+fn eval_dereferenced_operand<S: Space>(
+    alloc: Global,
+    run: &mut Running<S>,
+    context: &Context<'_>,
+    cursor: &mut Cursor<'_>,
+    levels: u8,
+) -> Result<Value, Refusal>
+    requires { target_kind (code_of (a_term (count_at context.now.marks.now) levels false cursor.old).0) ≡ kinds.DerefOf }
+    ensures spent { run.new.1 ≤ run.old.1 }
+    ensures means { Does result run.new (value_at (meaning S.accesses) context.now.site.now.scope.path.now context.now.site.now.depth (a_term (count_at context.now.marks.now) levels false cursor.old).0 0) run.old }
+    ensures behind { OnOk result (cursor.new ≡ behind_one (a_term (count_at context.now.marks.now) levels) cursor.old) }
+{
+    match cursor.take_opcode(levels) {
+        // DerefOf is an opcode
+        None => Err(Refusal::Name(NameFault::BadName)),
+        Some(_) => eval_value_at_cursor(alloc, run, context, cursor, levels - 1),
+    }
 }
 
 /// Index is what its value refers to.
@@ -134,30 +155,128 @@ fn eval_dereferenced_target<S: Space>(
 fn eval_indexed_target<S: Space>(
     alloc: Global,
     run: &mut Running<S>,
-    job: &Task<'_>,
+    context: &Context<'_>,
+    cursor: &mut Cursor<'_>,
+    levels: u8,
 ) -> Result<StoreTarget, Refusal>
     ensures spent { run.new.1 ≤ run.old.1 }
-    ensures means { Does result run.new (indexed_target (meaning S.accesses) job.now.site.now.scope.path.now job.now.site.now.depth (at_tree job.now.term.now)) run.old }
+    ensures means { Does result run.new (indexed_target (meaning S.accesses) context.now.site.now.scope.path.now context.now.site.now.depth (a_term (count_at context.now.marks.now) levels false cursor.old).0) run.old }
+    ensures behind { OnOk result (cursor.new ≡ behind_one (a_term (count_at context.now.marks.now) levels) cursor.old) }
 {
-    let value = eval_value(alloc, run, job)?;
+    let value = eval_value_at_cursor(alloc, run, context, cursor, levels)?;
     let reference = reference_in(value)?;
     Ok(StoreTarget::Refers(reference))
 }
 
-/// Stores a value to a target; it is the value of the term.
+/// What a name or a term names, where a cursor stands.
+#[inline(never)]
 #[cycle(evaluation)]
-#[tactic(auto, using(crate::proofs::Steps::evaluating), unfolding(aml_meaning::specs::TargetTerms::targeted))]
-pub(crate) fn eval_targeted<S: Space>(
+#[tactic(auto, using(crate::proofs::Steps::evaluating), unfolding(aml_marked::specs::Marked::a_super_name, aml_marked::specs::Marked::a_name, aml_meaning::specs::TargetTerms::part_target))]
+pub(crate) fn eval_super_name<S: Space>(
     alloc: Global,
     run: &mut Running<S>,
-    job: &Task<'_>,
-    index: usize,
+    context: &Context<'_>,
+    cursor: &mut Cursor<'_>,
+    levels: u8,
+) -> Result<StoreTarget, Refusal>
+    ensures spent { run.new.1 ≤ run.old.1 }
+    ensures means { Does result run.new (part_target (meaning S.accesses) context.now.site.now.scope.path.now context.now.site.now.depth (a_super_name (a_term (count_at context.now.marks.now) levels) cursor.old).0) run.old }
+    ensures behind { OnOk result (cursor.new ≡ (a_super_name (a_term (count_at context.now.marks.now) levels) cursor.old).1) }
+{
+    if cursor.is_at_name() {
+        let target = target_at_name(alloc, run, context, cursor)?;
+        cursor.over_name();
+        Ok(target)
+    } else {
+        let kind = kind_of_target(context, &*cursor, levels);
+        eval_target_by_kind(alloc, run, context, cursor, levels, kind)
+    }
+}
+
+/// The target that the name names where a cursor stands. The name stays out of the frames of terms.
+#[inline(never)]
+#[tactic(auto, using(crate::proofs::Steps::evaluating))]
+fn target_at_name<S: Space>(
+    alloc: Global,
+    run: &Running<S>,
+    context: &Context<'_>,
+    cursor: &Cursor<'_>,
+) -> Result<StoreTarget, Refusal>
+    ensures { Does result run.now (lift (target_named context.now.site.now.scope.path.now (a_name cursor.now).0)) run.now }
+{
+    let name = cursor.name(alloc)?;
+    run.world.target_named(alloc, context.site.scope, &name)
+}
+
+/// Stores a value to the target where a cursor stands, which may be none; it is the value of the term.
+#[inline(always)]
+#[cycle(evaluation)]
+#[tactic(auto, using(crate::proofs::Steps::evaluating))]
+pub(crate) fn eval_store_to_target<S: Space>(
+    alloc: Global,
+    run: &mut Running<S>,
+    context: &Context<'_>,
+    cursor: &mut Cursor<'_>,
+    levels: u8,
     value: Value,
 ) -> Result<Flow, Refusal>
     ensures spent { run.new.1 ≤ run.old.1 }
-    ensures means { Does result run.new (targeted S.accesses (meaning S.accesses) job.now.site.now.scope.path.now job.now.site.now.depth (at_tree job.now.term.now) index value) run.old }
+    ensures means { Does result run.new (put_to S.accesses (meaning S.accesses) context.now.site.now.scope.path.now context.now.site.now.depth (a_target (a_term (count_at context.now.marks.now) levels) cursor.old).0 value) run.old }
+    ensures behind { OnOk result (cursor.new ≡ (a_target (a_term (count_at context.now.marks.now) levels) cursor.old).1) }
 {
-    let target = eval_target(alloc, run, job, index)?;
-    eval_stored_to(alloc, run, job.site.depth, &target, value)?;
+    if cursor.first() == 0 {
+        cursor.over(1);
+        return Ok(Flow::Value(value));
+    }
+    eval_store_to_super_name(alloc, run, context, cursor, levels, value)
+}
+
+/// Stores a value to what a name or a term names; it is the value of the term.
+#[inline(always)]
+#[cycle(evaluation)]
+#[tactic(auto, using(crate::proofs::Steps::evaluating))]
+pub(crate) fn eval_store_to_super_name<S: Space>(
+    alloc: Global,
+    run: &mut Running<S>,
+    context: &Context<'_>,
+    cursor: &mut Cursor<'_>,
+    levels: u8,
+    value: Value,
+) -> Result<Flow, Refusal>
+    ensures spent { run.new.1 ≤ run.old.1 }
+    ensures means { Does result run.new (put_to S.accesses (meaning S.accesses) context.now.site.now.scope.path.now context.now.site.now.depth (a_super_name (a_term (count_at context.now.marks.now) levels) cursor.old).0 value) run.old }
+    ensures behind { OnOk result (cursor.new ≡ (a_super_name (a_term (count_at context.now.marks.now) levels) cursor.old).1) }
+{
+    if let Value::Integer(number) = value {
+        if put_integer_to_slot(run, context, cursor, levels, number) {
+            return Ok(Flow::Value(value));
+        }
+    }
+    eval_store_to_any(alloc, run, context, cursor, levels, value)
+}
+
+/// The same where no local and no argument takes an integer at once.
+#[inline(never)]
+#[cycle(evaluation)]
+#[tactic(auto, using(crate::proofs::Steps::evaluating), unfolding(crate::specs::AtCursor::put_to))]
+fn eval_store_to_any<S: Space>(
+    alloc: Global,
+    run: &mut Running<S>,
+    context: &Context<'_>,
+    cursor: &mut Cursor<'_>,
+    levels: u8,
+    value: Value,
+) -> Result<Flow, Refusal>
+    ensures spent { run.new.1 ≤ run.old.1 }
+    ensures means { Does result run.new (put_to S.accesses (meaning S.accesses) context.now.site.now.scope.path.now context.now.site.now.depth (a_super_name (a_term (count_at context.now.marks.now) levels) cursor.old).0 value) run.old }
+    ensures behind { OnOk result (cursor.new ≡ (a_super_name (a_term (count_at context.now.marks.now) levels) cursor.old).1) }
+{
+    if let Value::Integer(number) = value {
+        if put_integer_at_name(run, context, cursor, levels, number)? {
+            return Ok(Flow::Value(value));
+        }
+    }
+    let target = eval_super_name(alloc, run, context, cursor, levels)?;
+    eval_stored_to(alloc, run, context.site.depth, &target, value)?;
     Ok(Flow::Value(value))
 }

@@ -2,6 +2,7 @@
 
 use crate::operands::Reader;
 use aml_namespace::Scope;
+use aml_terms::Marks;
 
 /// Where a term is evaluated: the scope that its names stand in, and how many control methods are being called.
 #[derive(Clone, Copy)]
@@ -15,4 +16,11 @@ pub(crate) struct Site<'t> {
 pub(crate) struct Task<'t> {
     pub(crate) site: &'t Site<'t>,
     pub(crate) term: &'t Reader<'t>,
+}
+
+/// What a cursor moves over: where its terms are evaluated, and the marks of its bytes.
+#[derive(Clone, Copy)]
+pub(crate) struct Context<'t> {
+    pub(crate) site: &'t Site<'t>,
+    pub(crate) marks: &'t Marks,
 }

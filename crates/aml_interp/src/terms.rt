@@ -3,32 +3,31 @@ ghost use Rattle.std.specs.Prelude.{◌≡◌, ◌≤◌, ◌<◌, OnOk};
 ghost use Rattle.ar_space.specs.Change.{Does};
 ghost use Rattle.aml_terms.specs.AtTree.{at_tree, at_list};
 ghost use Rattle.aml_grammar.specs.Apart.{code_of};
+ghost use Rattle.aml_grammar.specs.declared.opcode.Opcode.{Opcode};
+ghost use Rattle.aml_grammar.specs.declared.opcode.TermCode.TheVariants as codes;
 ghost use Rattle.ar_space.specs.declared.refusal.Refusal.TheVariants.{Evaluation};
 ghost use Rattle.ar_space.specs.declared.refusal.EvaluationFault.TheVariants.{Unsupported};
 ghost use Rattle.aml_grammar.specs.Opcodes.{number_of};
 ghost use Rattle.aml_meaning.specs.Meaning.{meaning};
 ghost use Rattle.aml_meaning.specs.Tasks.{task, operand_value, value_at, two_values, operand_integer, in_turn};
-ghost use Rattle.aml_meaning.specs.Evaluation.{rule, code_rule, kind_rule};
+ghost use Rattle.aml_meaning.specs.Evaluation.{rule, kind_rule, code_rule};
+ghost use Rattle.aml_meaning.specs.InvocationTerms.{name_value};
 ghost use Rattle.aml_meaning.specs.Terms.{kind_of};
 
+use crate::at_cursor::eval_coded;
 use crate::data::eval_data;
 use crate::declarations::eval_declaration;
-use crate::invocations::eval_name_value;
+use crate::invocations::eval_name_at_cursor;
 use crate::operands::{Reader, code, inner, take_first};
-use crate::operators::eval_operator;
 use crate::regions::eval_region_term;
-use crate::statements::eval_statement;
-use crate::task::Task;
+use crate::task::{Context, Task};
 use aml_grammar::{Opcode, TermCode};
 use aml_meaning::{Flow, Running, TermKind, kind_of};
 use aml_objects::Value;
 use ar_space::{EvaluationFault, NameFault, Refusal, Space};
 use std::alloc::Global;
 
-/// A term: it costs a step, and is then evaluated by its rule.
-///
-/// The frame of this function stands on the stack once for each nested term. Rules with many locals are therefore kept out of it, by
-/// `inline(never)`.
+/// A term that a reader stands at: it costs a step, and is then evaluated by its rule.
 #[cycle(evaluation)]
 #[tactic(auto, using(crate::proofs::Steps::evaluating), unfolding(aml_meaning::specs::Evaluation::rule))]
 pub(crate) fn eval_term<S: Space>(
@@ -41,18 +40,9 @@ pub(crate) fn eval_term<S: Space>(
     ensures means { Does result run.new (meaning S.accesses (task job.now.site.now.scope.path.now job.now.site.now.depth (at_tree job.now.term.now))) run.old }
 {
     run.charge()?;
-    eval_code(alloc, run, job)
-}
-
-#[cycle(evaluation)]
-#[tactic(auto, using(crate::proofs::Steps::evaluating))]
-fn eval_code<S: Space>(alloc: Global, run: &mut Running<S>, job: &Task<'_>) -> Result<Flow, Refusal>
-    ensures spent { run.new.1 ≤ run.old.1 }
-    ensures means { Does result run.new (code_rule S.accesses (meaning S.accesses) (code_of (at_tree job.now.term.now)) job.now.site.now.scope.path.now job.now.site.now.depth (at_tree job.now.term.now)) run.old }
-{
     match code(job.term) {
-        TermCode::Opcode(opcode) => eval_kind(alloc, run, job, opcode, kind_of(opcode)),
-        TermCode::MethodInvocation => eval_name_value(alloc, run, job),
+        TermCode::Opcode(opcode) => eval_opcode(alloc, run, job, opcode, kind_of(opcode)),
+        TermCode::MethodInvocation => eval_call_read(alloc, run, job),
         TermCode::Name => Err(Refusal::Name(NameFault::BadName)),
         TermCode::NamedField => Err(Refusal::Name(NameFault::BadName)),
         TermCode::ReservedField => Err(Refusal::Name(NameFault::BadName)),
@@ -62,15 +52,18 @@ fn eval_code<S: Space>(alloc: Global, run: &mut Running<S>, job: &Task<'_>) -> R
     }
 }
 
+/// A term that a reader stands at, by its opcode. What a reader reads is read through the one at hand.
 #[cycle(evaluation)]
 #[tactic(auto, using(crate::proofs::Steps::evaluating))]
-fn eval_kind<S: Space>(
+fn eval_opcode<S: Space>(
     alloc: Global,
     run: &mut Running<S>,
     job: &Task<'_>,
     opcode: Opcode,
     kind: TermKind,
 ) -> Result<Flow, Refusal>
+    requires code { code_of (at_tree job.now.term.now) ≡ codes.Opcode opcode }
+    requires kind { kind_of opcode ≡ kind }
     ensures spent { run.new.1 ≤ run.old.1 }
     ensures means { Does result run.new (kind_rule S.accesses (meaning S.accesses) kind opcode job.now.site.now.scope.path.now job.now.site.now.depth (at_tree job.now.term.now)) run.old }
 {
@@ -78,9 +71,66 @@ fn eval_kind<S: Space>(
         TermKind::Data(kind) => eval_data(alloc, run, job, kind),
         TermKind::Declaration(kind) => eval_declaration(alloc, run, job, kind),
         TermKind::Region(kind) => eval_region_term(alloc, run, job, kind),
-        TermKind::Operator(kind) => eval_operator(alloc, run, job, kind),
-        TermKind::Statement(kind) => eval_statement(alloc, run, job, kind),
+        TermKind::Operator(_) => eval_operands(alloc, run, job, opcode, kind),
+        TermKind::Statement(_) => eval_operands(alloc, run, job, opcode, kind),
         TermKind::Unsupported => Err(unsupported(opcode)),
+    }
+}
+
+/// A term whose operands a cursor goes over.
+#[inline(never)]
+#[cycle(evaluation)]
+#[tactic(auto, using(crate::proofs::Steps::evaluating))]
+fn eval_operands<S: Space>(
+    alloc: Global,
+    run: &mut Running<S>,
+    job: &Task<'_>,
+    opcode: Opcode,
+    kind: TermKind,
+) -> Result<Flow, Refusal>
+    requires code { code_of (at_tree job.now.term.now) ≡ codes.Opcode opcode }
+    requires kind { kind_of opcode ≡ kind }
+    ensures spent { run.new.1 ≤ run.old.1 }
+    ensures means { Does result run.new (kind_rule S.accesses (meaning S.accesses) kind opcode job.now.site.now.scope.path.now job.now.site.now.depth (at_tree job.now.term.now)) run.old }
+{
+    match job.term.coded() {
+        // the term has an opcode
+        None => Err(Refusal::Name(NameFault::BadName)),
+        Some(coded) => {
+            let mut cursor = coded.cursor;
+            let context = Context {
+                site: job.site,
+                marks: job.term.marks(),
+            };
+            eval_coded(alloc, run, &context, &mut cursor, coded.levels, coded.place)
+        }
+    }
+}
+
+/// A call: a name with its arguments.
+#[inline(never)]
+#[cycle(evaluation)]
+#[tactic(auto, using(crate::proofs::Steps::evaluating))]
+fn eval_call_read<S: Space>(
+    alloc: Global,
+    run: &mut Running<S>,
+    job: &Task<'_>,
+) -> Result<Flow, Refusal>
+    requires { code_of (at_tree job.now.term.now) ≡ codes.MethodInvocation }
+    ensures spent { run.new.1 ≤ run.old.1 }
+    ensures means { Does result run.new (name_value S.accesses (meaning S.accesses) job.now.site.now.scope.path.now job.now.site.now.depth (at_tree job.now.term.now)) run.old }
+{
+    match job.term.call() {
+        // the term is a call
+        None => Err(Refusal::Name(NameFault::BadName)),
+        Some(call) => {
+            let mut cursor = call.cursor;
+            let context = Context {
+                site: job.site,
+                marks: job.term.marks(),
+            };
+            eval_name_at_cursor(alloc, run, &context, &mut cursor, call.levels)
+        }
     }
 }
 
@@ -147,25 +197,9 @@ pub(crate) fn eval_two_values<S: Space>(
     Ok((first, second))
 }
 
-/// An integer that an operand gives.
-#[cycle(evaluation)]
-#[tactic(auto, using(crate::proofs::Steps::evaluating), unfolding(aml_meaning::specs::Tasks::operand_integer))]
-pub(crate) fn eval_operand_integer<S: Space>(
-    alloc: Global,
-    run: &mut Running<S>,
-    job: &Task<'_>,
-) -> Result<u64, Refusal>
-    ensures spent { run.new.1 ≤ run.old.1 }
-    ensures paid { OnOk result (run.new.1 < run.old.1) }
-    ensures means { Does result run.new (operand_integer (meaning S.accesses) job.now.site.now.scope.path.now job.now.site.now.depth (at_tree job.now.term.now)) run.old }
-{
-    let value = eval_value(alloc, run, job)?;
-    run.world.integer_in(value)
-}
-
 /// An integer that another term gives, evaluated where this one is.
 #[cycle(evaluation)]
-#[tactic(auto, using(crate::proofs::Steps::evaluating))]
+#[tactic(auto, using(crate::proofs::Steps::evaluating), unfolding(aml_meaning::specs::Tasks::operand_integer))]
 pub(crate) fn eval_integer_of<S: Space>(
     alloc: Global,
     run: &mut Running<S>,
@@ -175,14 +209,15 @@ pub(crate) fn eval_integer_of<S: Space>(
     ensures spent { run.new.1 ≤ run.old.1 }
     ensures means { Does result run.new (operand_integer (meaning S.accesses) job.now.site.now.scope.path.now job.now.site.now.depth (at_tree term.now)) run.old }
 {
-    eval_operand_integer(
+    let value = eval_value(
         alloc,
         run,
         &Task {
             term: &*term,
             ..*job
         },
-    )
+    )?;
+    run.world.integer_in(value)
 }
 
 /// Items one after another, until one ends the list.

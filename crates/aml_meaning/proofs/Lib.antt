@@ -8,10 +8,14 @@ pub mod Exports
 pub mod Filling
 pub mod Following
 pub mod Imports
+pub mod IntegerOperations
 pub mod Lifted
 pub mod Loops
 pub mod Meanings
 pub mod NearestFunctions
+pub mod NodeObjects
 pub mod Runs
+pub mod SlotIntegers
 pub mod TargetKinds
+pub mod UnitIntegers
 pub mod Uses

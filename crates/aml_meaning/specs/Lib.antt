@@ -20,10 +20,12 @@ pub mod Operations
 pub mod OperatorTerms
 pub mod Osi
 pub mod PciFunctions
+pub mod PlainRegions
 pub mod Predefined
 pub mod Readings
 pub mod Regions
 pub mod Run
+pub mod SlotIntegers
 pub mod Slots
 pub mod State
 pub mod StatementTerms

@@ -51,7 +51,7 @@ impl<S> WorldState<S> {
     }
 
     /// How many arguments it takes to evaluate the node with an id: those of a control method, none of anything else.
-    pub fn arguments_at(&self, id: NodeId) -> u8
+    fn arguments_at(&self, id: NodeId) -> u8
         ensures { (f : List Segment × Entry) → numbered id.number self.now.names.map ≡ Some f → result ≡ arguments_of f.1.object }
     {
         match self.names.node(id) {
@@ -60,9 +60,10 @@ impl<S> WorldState<S> {
         }
     }
 
-    /// What the node is that a name finds, where a value stands with so many arguments.
+    /// What the node is that a name finds, where a value stands with so many arguments; refused as `ArityChanged` where it takes
+    /// another count.
     #[tactic(auto, using(ar_space::specs::Change::changing), unfolding(crate::specs::Invocations::use_found))]
-    fn use_with(&self, alloc: Global, id: NodeId, count: usize) -> Result<Invocation, Refusal>
+    pub fn use_with(&self, alloc: Global, id: NodeId, count: usize) -> Result<Invocation, Refusal>
         ensures { (f : List Segment × Entry) → numbered id.number self.now.names.map ≡ Some f → Does result self.now (use_found f count) self.now }
     {
         as_many(self.arguments_at(id), count)?;
@@ -86,7 +87,7 @@ impl<S> WorldState<S> {
     }
 
     /// What the node is that a name finds, where a value stands.
-    pub fn use_of(&self, alloc: Global, id: NodeId) -> Result<Invocation, Refusal>
+    fn use_of(&self, alloc: Global, id: NodeId) -> Result<Invocation, Refusal>
         ensures { (f : List Segment × Entry) → numbered id.number self.now.names.map ≡ Some f → Answers result (invocation_of_object f.0 f.1.number f.1.object) }
     {
         let Some(entry) = self.names.node(id) else {

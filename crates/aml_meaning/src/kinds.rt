@@ -12,6 +12,7 @@ use aml_grammar::{Opcode, TermCode};
 use aml_objects::Slot;
 
 /// Data.
+#[inline(always)]
 fn data_kind(opcode: Opcode) -> Option<DataKind>
     ensures { result ≡ data_kind opcode }
 {
@@ -32,6 +33,7 @@ fn data_kind(opcode: Opcode) -> Option<DataKind>
 }
 
 /// Declarations, and Scope.
+#[inline(always)]
 fn declaration_kind(opcode: Opcode) -> Option<DeclarationKind>
     ensures { result ≡ declaration_kind opcode }
 {
@@ -52,6 +54,7 @@ fn declaration_kind(opcode: Opcode) -> Option<DeclarationKind>
 }
 
 /// Operation regions, fields in them, and buffer fields.
+#[inline(always)]
 fn region_kind(opcode: Opcode) -> Option<RegionKind>
     ensures { result ≡ region_kind opcode }
 {
@@ -70,6 +73,7 @@ fn region_kind(opcode: Opcode) -> Option<RegionKind>
 }
 
 /// Statements.
+#[inline(always)]
 fn statement_kind(opcode: Opcode) -> Option<StatementKind>
     ensures { result ≡ statement_kind opcode }
 {
@@ -90,6 +94,7 @@ fn statement_kind(opcode: Opcode) -> Option<StatementKind>
 }
 
 /// Locals and arguments.
+#[inline(always)]
 fn slot_kind(opcode: Opcode) -> Option<Slot>
     ensures { result ≡ slot_kind opcode }
 {
@@ -114,6 +119,7 @@ fn slot_kind(opcode: Opcode) -> Option<Slot>
 }
 
 /// Operators on two integers.
+#[inline(always)]
 fn integer_operator(opcode: Opcode) -> Option<BinaryOperator>
     ensures { result ≡ integer_operator opcode }
 {
@@ -134,6 +140,7 @@ fn integer_operator(opcode: Opcode) -> Option<BinaryOperator>
 }
 
 /// Other operators with two operands and a target.
+#[inline(always)]
 fn two_operands(opcode: Opcode) -> Option<TwoOperands>
     ensures { result ≡ two_operands opcode }
 {
@@ -146,6 +153,7 @@ fn two_operands(opcode: Opcode) -> Option<TwoOperands>
 }
 
 /// Operators with an operand and a target.
+#[inline(always)]
 fn one_operand(opcode: Opcode) -> Option<OneOperand>
     ensures { result ≡ one_operand opcode }
 {
@@ -160,6 +168,7 @@ fn one_operand(opcode: Opcode) -> Option<OneOperand>
 }
 
 /// Comparisons, and logical operators with two operands.
+#[inline(always)]
 fn test_kind(opcode: Opcode) -> Option<Test>
     ensures { result ≡ test_kind opcode }
 {
@@ -174,6 +183,7 @@ fn test_kind(opcode: Opcode) -> Option<Test>
 }
 
 /// The other terms that have a value.
+#[inline(always)]
 fn other_operator(opcode: Opcode) -> Option<OperatorKind>
     ensures { result ≡ other_operator opcode }
 {
@@ -193,7 +203,10 @@ fn other_operator(opcode: Opcode) -> Option<OperatorKind>
         _ => None,
     }
 }
-/// The rule by which a term with an opcode is evaluated.
+
+/// The rule by which a term with an opcode is evaluated. Every term asks it, so all of its parts are compiled as one: there each opcode is
+/// looked at once.
+#[inline(always)]
 pub fn kind_of(opcode: Opcode) -> TermKind
     ensures { result ≡ kind_of opcode }
 {
@@ -203,6 +216,7 @@ pub fn kind_of(opcode: Opcode) -> TermKind
     }
 }
 
+#[inline(always)]
 fn declaration_or_other(opcode: Opcode) -> TermKind
     ensures { result ≡ declaration_or opcode (declaration_kind opcode) }
 {
@@ -212,6 +226,7 @@ fn declaration_or_other(opcode: Opcode) -> TermKind
     }
 }
 
+#[inline(always)]
 fn region_or_other(opcode: Opcode) -> TermKind
     ensures { result ≡ region_or opcode (region_kind opcode) }
 {
@@ -221,6 +236,7 @@ fn region_or_other(opcode: Opcode) -> TermKind
     }
 }
 
+#[inline(always)]
 fn statement_or_other(opcode: Opcode) -> TermKind
     ensures { result ≡ statement_or opcode (statement_kind opcode) }
 {
@@ -230,6 +246,7 @@ fn statement_or_other(opcode: Opcode) -> TermKind
     }
 }
 
+#[inline(always)]
 fn slot_or_other(opcode: Opcode) -> TermKind
     ensures { result ≡ slot_or opcode (slot_kind opcode) }
 {
@@ -239,6 +256,7 @@ fn slot_or_other(opcode: Opcode) -> TermKind
     }
 }
 
+#[inline(always)]
 fn integers_or_other(opcode: Opcode) -> TermKind
     ensures { result ≡ integers_or opcode (integer_operator opcode) }
 {
@@ -248,6 +266,7 @@ fn integers_or_other(opcode: Opcode) -> TermKind
     }
 }
 
+#[inline(always)]
 fn two_or_other(opcode: Opcode) -> TermKind
     ensures { result ≡ two_or opcode (two_operands opcode) }
 {
@@ -257,6 +276,7 @@ fn two_or_other(opcode: Opcode) -> TermKind
     }
 }
 
+#[inline(always)]
 fn one_or_other(opcode: Opcode) -> TermKind
     ensures { result ≡ one_or opcode (one_operand opcode) }
 {
@@ -266,6 +286,7 @@ fn one_or_other(opcode: Opcode) -> TermKind
     }
 }
 
+#[inline(always)]
 fn test_or_other(opcode: Opcode) -> TermKind
     ensures { result ≡ test_or opcode (test_kind opcode) }
 {
@@ -275,6 +296,7 @@ fn test_or_other(opcode: Opcode) -> TermKind
     }
 }
 
+#[inline(always)]
 fn other_kind(opcode: Opcode) -> TermKind
     ensures { result ≡ other_or (other_operator opcode) }
 {

@@ -1,22 +1,26 @@
 //! Mutexes (ACPI 6.5, 19.6: Acquire, Release). How often each is acquired is counted; nothing else holds one.
-ghost use Rattle.std.specs.Prelude.{◌≡◌};
+ghost use Rattle.std.specs.Prelude.{◌≡◌, List, Some, None, Ok, true, false, IfSome};
 ghost use Rattle.ar_space.specs.Change.{Does};
 ghost use Rattle.ar_space.specs.Outcome.{Answers, NotMemory};
+ghost use Rattle.aml_path.specs.declared.segment.Seg.{Seg as Segment};
+ghost use Rattle.aml_objects.specs.declared.entry.Entry.{Entry};
 ghost use Rattle.aml_objects.specs.declared.entry.NamedObject.TheVariants as object;
-ghost use Rattle.aml_namespace.specs.Namespace.{replaced};
+ghost use Rattle.aml_namespace.specs.Namespace.{numbered, replaced};
+ghost use Rattle.aml_meaning.specs.declared.store_target.StoreTarget.TheVariants as targets;
 ghost use Rattle.aml_meaning.specs.State.{on_names};
 ghost use Rattle.aml_meaning.specs.Mutexes.{count_of_object, mutex_count, once_more, once_less, acquired, given_back, acquired_by_number, given_back_by_number, acquired_by, given_back_by, acquired_at, given_back_at};
 
 use crate::store_target::StoreTarget;
 use crate::world_state::WorldState;
 use aml_namespace::Located;
-use aml_objects::{NamedObject, Reference};
+use aml_objects::{NamedObject, NodeId, Reference};
 use ar_space::{EvaluationFault, NamespaceFault, Refusal, ValueFault};
 use std::alloc::Global;
 
 impl<S> WorldState<S> {
-    /// Acquires the mutex that is named. Anything else is refused as `WrongType`, and as `ObjectLimit` a mutex that is
-    /// acquired 2^64 - 1 times.
+    /// Acquires the mutex that is named, by a path or by a reference. Refused: a path where nothing stands as `NotFound`, a reference
+    /// to a name that is gone as `DeadReference`, anything else that is no mutex as `WrongType`, and a mutex that is acquired
+    /// 2^64 - 1 times as `ObjectLimit`.
     #[tactic(auto, using(ar_space::specs::Change::changing))]
     pub fn acquire(&mut self, alloc: Global, target: &StoreTarget) -> Result<(), Refusal>
         ensures { Does result self.new (acquired_at target.now) self.old }
@@ -29,8 +33,9 @@ impl<S> WorldState<S> {
         }
     }
 
-    /// Releases the mutex that is named. Anything else is refused as `WrongType`, and as `NotAcquired` a mutex that nobody
-    /// has acquired.
+    /// Releases the mutex that is named, by a path or by a reference. Refused: a path where nothing stands as `NotFound`, a reference
+    /// to a name that is gone as `DeadReference`, anything else that is no mutex as `WrongType`, and a mutex that nobody has
+    /// acquired as `NotAcquired`.
     #[tactic(auto, using(ar_space::specs::Change::changing))]
     pub fn release(&mut self, alloc: Global, target: &StoreTarget) -> Result<(), Refusal>
         ensures { Does result self.new (given_back_at target.now) self.old }
@@ -105,6 +110,51 @@ impl<S> WorldState<S> {
         self.put_count(path, less)
     }
 
+    /// Acquires the mutex that the node with an id is. Where it is none, or is acquired 2^64 - 1 times, it answers no, and nothing changes:
+    /// `acquire` says why. It takes no memory.
+    pub fn acquire_node(&mut self, id: NodeId) -> bool
+        ensures change { result ≡ true → (f : List Segment × Entry) → numbered id.number self.old.names.map ≡ Some f → Does (Ok tt) self.new (acquired_at (targets.Name f.0)) self.old }
+        ensures unchanged { result ≡ false → self.new ≡ self.old }
+        ensures gone { numbered id.number self.old.names.map ≡ None → result ≡ false }
+    {
+        let Some(count) = self.count_at(id) else {
+            return false;
+        };
+        if count == u64::MAX {
+            return false;
+        }
+        self.names.replace_node(id, NamedObject::Mutex(count + 1));
+        true
+    }
+
+    /// Releases the mutex that the node with an id is. Where it is none, or nobody has acquired it, it answers no, and nothing changes:
+    /// `release` says why. It takes no memory.
+    pub fn release_node(&mut self, id: NodeId) -> bool
+        ensures change { result ≡ true → (f : List Segment × Entry) → numbered id.number self.old.names.map ≡ Some f → Does (Ok tt) self.new (given_back_at (targets.Name f.0)) self.old }
+        ensures unchanged { result ≡ false → self.new ≡ self.old }
+        ensures gone { numbered id.number self.old.names.map ≡ None → result ≡ false }
+    {
+        let Some(count) = self.count_at(id) else {
+            return false;
+        };
+        if count == 0 {
+            return false;
+        }
+        self.names.replace_node(id, NamedObject::Mutex(count - 1));
+        true
+    }
+
+    /// How often the mutex is acquired that the node with an id is, if it is one.
+    fn count_at(&self, id: NodeId) -> Option<u64>
+        ensures held { IfSome result (λ count. (f : List Segment × Entry) → numbered id.number self.now.names.map ≡ Some f → f.1.object ≡ object.Mutex count) }
+        ensures gone { numbered id.number self.now.names.map ≡ None → result ≡ None }
+    {
+        match self.names.node(id) {
+            None => None,
+            Some(entry) => count_held(&entry.object),
+        }
+    }
+
     #[tactic(auto, using(crate::proofs::Lifted::parts))]
     fn put_count(&mut self, path: &Located, count: u64) -> Result<(), Refusal>
         ensures change { Does result self.new (on_names (replaced path.now (object.Mutex count))) self.old }
@@ -123,6 +173,16 @@ impl<S> WorldState<S> {
             None => Err(Refusal::Namespace(NamespaceFault::NotFound)),
             Some(entry) => count_of(&entry.object),
         }
+    }
+}
+
+/// How often a mutex is acquired, if an object is one.
+fn count_held(held: &NamedObject) -> Option<u64>
+    ensures { IfSome result (λ count. held.now ≡ object.Mutex count) }
+{
+    match held {
+        NamedObject::Mutex(count) => Some(*count),
+        _ => None,
     }
 }
 

@@ -1,7 +1,8 @@
 //! What names find, and what values are, in a world (ACPI 6.5, 5.3 and 19.3.5).
-ghost use Rattle.std.specs.Prelude.{◌≡◌};
+ghost use Rattle.std.specs.Prelude.{◌≡◌, Ok};
 ghost use Rattle.ar_space.specs.Change.{Does};
 ghost use Rattle.ar_space.specs.Outcome.{Answers, NotMemory, seen};
+ghost use Rattle.aml_objects.specs.declared.value.Value.TheVariants.{Integer};
 ghost use Rattle.aml_meaning.specs.Readings.{integer_kept, integer_in, entry_found, path_found, is_scope, scope_or_not, scope_found, arguments_of, arguments_found, as_many, read_as};
 
 use crate::world_state::WorldState;
@@ -20,6 +21,15 @@ impl<S> WorldState<S> {
         ensures memory { NotMemory result }
     {
         Ok(Value::Integer(truncate_integer(self.width, number)))
+    }
+
+    /// A number as an integer keeps it, as `integer_kept` has it.
+    #[inline]
+    #[tactic(auto, unfolding(crate::specs::Readings::integer_kept))]
+    pub fn number_kept(&self, number: u64) -> u64
+        ensures { Does (Ok (Integer result)) self.now (integer_kept number) self.now }
+    {
+        truncate_integer(self.width, number)
     }
 
     /// A value where an integer is wanted, converted to one; it is refused as conversions are.

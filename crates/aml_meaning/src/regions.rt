@@ -230,7 +230,7 @@ fn above(path: Path) -> Path
 }
 
 /// Whether so many bits are more than an integer has.
-fn is_wide(width: IntegerWidth, count: u32) -> bool
+pub(crate) fn is_wide(width: IntegerWidth, count: u32) -> bool
     ensures { result ≡ nat_lt (bits_of width) count }
 {
     u32::from(integer_bits(width)) < count

@@ -1,9 +1,15 @@
 //! Frames, and the slots in them (ACPI 6.5, 5.5.2.3 and 19.6: ArgX, LocalX).
-ghost use Rattle.std.specs.Prelude.{◌≡◌, ◌==◌, ◌<◌, length, position, slice_index_or, slice_set, IfSome};
+ghost use Rattle.std.specs.Prelude.{◌≡◌, ◌≢◌, ◌==◌, ◌<◌, ℕ, Ok, true, false, not, length, position, slice_index_or, slice_set, IfSome, IfNone};
 ghost use Rattle.ar_space.specs.Change.{Does};
 ghost use Rattle.ar_space.specs.Outcome.{NotMemory};
 ghost use Rattle.aml_meaning.specs.Slots.{slot_in, with_slot, slot_of, opened, closed};
-ghost use Rattle.aml_objects.specs.declared.value.Value.TheVariants.{Uninitialized};
+ghost use Rattle.aml_meaning.specs.SlotIntegers.{integer_held, is_reference, takes_copy};
+ghost use Rattle.aml_meaning.specs.StoreTargets.{own_slot, slot_read};
+ghost use Rattle.aml_meaning.specs.Stores.{stored};
+ghost use Rattle.aml_meaning.specs.declared.store_target.StoreTarget.TheVariants as targets;
+ghost use Rattle.aml_meaning.specs.declared.store_target.Stored.TheVariants.{Done};
+ghost use Rattle.aml_objects.specs.declared.value.Value.{Value as AnyValue};
+ghost use Rattle.aml_objects.specs.declared.value.Value.TheVariants.{Uninitialized, Integer};
 
 use crate::frame::Frame;
 use crate::world_state::WorldState;
@@ -42,6 +48,71 @@ impl Frame {
     }
 }
 
+impl Frame {
+    /// The integer that a slot holds, if it holds one.
+    #[inline(always)]
+    fn integer(&self, slot: Slot) -> Option<u64>
+        ensures { result ≡ integer_held (slot_in self.now slot) }
+    {
+        match slot {
+            Slot::Local(index) => integer_at(&self.locals, index),
+            Slot::Argument(index) => integer_at(&self.arguments, index),
+        }
+    }
+
+    /// Puts an integer into a slot, unless the slot is an argument that holds a reference.
+    #[inline(always)]
+    fn put_integer(&mut self, slot: Slot, number: u64) -> bool
+        ensures put { result ≡ true → self.new ≡ with_slot self.old slot (Integer number) }
+        ensures taken { result ≡ takes_copy slot (slot_in self.old slot) }
+        ensures unchanged { result ≡ false → self.new ≡ self.old }
+    {
+        match slot {
+            Slot::Local(index) => {
+                put(&mut self.locals, index, Value::Integer(number));
+                true
+            }
+            Slot::Argument(index) => put_unless_reference(&mut self.arguments, index, number),
+        }
+    }
+}
+
+/// Puts an integer at an index, unless a reference is there.
+#[inline(always)]
+fn put_unless_reference(values: &mut [Value], index: u8, number: u64) -> bool
+    ensures put { result ≡ true → values.new ≡ slice_set values.old index (Integer number) }
+    ensures taken { result ≡ not (is_reference (slice_index_or values.old index Uninitialized)) }
+    ensures unchanged { result ≡ false → values.new ≡ values.old }
+{
+    if is_reference_at(values, index) {
+        return false;
+    }
+    put(values, index, Value::Integer(number));
+    true
+}
+
+/// Whether a reference is at an index.
+#[inline(always)]
+fn is_reference_at(values: &[Value], index: u8) -> bool
+    ensures { result ≡ is_reference (slice_index_or values.now index Uninitialized) }
+{
+    match values.get(usize::from(index)) {
+        Some(Value::Reference(_)) => true,
+        _ => false,
+    }
+}
+
+/// The integer at an index, if one is there.
+#[inline(always)]
+fn integer_at(values: &[Value], index: u8) -> Option<u64>
+    ensures { result ≡ integer_held (slice_index_or values.now index Uninitialized) }
+{
+    match values.get(usize::from(index)) {
+        Some(Value::Integer(number)) => Some(*number),
+        _ => None,
+    }
+}
+
 /// The value at an index, and no value past the end.
 pub(crate) fn value_at(values: &[Value], index: u8) -> Value
     ensures { result ≡ slice_index_or values.now index Uninitialized }
@@ -73,6 +144,34 @@ impl<S> WorldState<S> {
             None => Err(Refusal::Evaluation(EvaluationFault::DeadReference)),
             Some(index) => Ok(self.frames[index].slot(slot)),
         }
+    }
+
+    /// The integer that a local or an argument of the latest frame holds, if it holds one; none where no frame stands. It takes no memory.
+    #[inline(always)]
+    pub fn slot_integer(&self, slot: Slot) -> Option<u64>
+        ensures held { IfSome result (λ number. Does (Ok (Integer number)) self.now (slot_read slot) self.now) }
+        ensures other { IfNone result ((number : ℕ) → (slot_read slot self.now).0 ≢ Ok (Integer number)) }
+    {
+        let count = self.frames.len();
+        if count == 0 {
+            return None;
+        }
+        self.frames[count - 1].integer(slot)
+    }
+
+    /// Stores an integer to a local or an argument of the latest frame. Where an argument holds a reference, or no frame stands, it
+    /// answers no, and nothing changes: `store` says what comes of it. It takes no memory.
+    #[inline(always)]
+    pub fn put_slot_integer(&mut self, slot: Slot, number: u64) -> bool
+        ensures change { result ≡ true → Does (Ok Done) self.new (stored (targets.Slot slot) (Integer number)) self.old }
+        ensures reference { result ≡ false → (held : AnyValue) → (own_slot slot self.old).0 ≡ Ok held → takes_copy slot held ≡ false }
+        ensures unchanged { result ≡ false → self.new ≡ self.old }
+    {
+        let count = self.frames.len();
+        if count == 0 {
+            return false;
+        }
+        self.frames[count - 1].put_integer(slot, number)
     }
 
     /// Opens a frame with these arguments, and gives its number, which is never given again; refused as `ObjectLimit` where

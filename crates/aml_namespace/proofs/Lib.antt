@@ -13,6 +13,7 @@ pub mod Searching
 pub mod NearestScopes
 pub mod Cutting
 pub mod Changes
+pub mod Placing
 pub mod Ascent
 pub mod Children
 pub mod Walking

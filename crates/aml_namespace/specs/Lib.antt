@@ -3,6 +3,7 @@ pub mod Mutexes
 pub mod Namespace
 pub mod Nodes
 pub mod Numbering
+pub mod OneSegment
 pub mod Search
 pub mod Walks
 pub mod Tree

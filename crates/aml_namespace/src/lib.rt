@@ -9,6 +9,7 @@ mod mutexes;
 mod names;
 mod nearest;
 mod node;
+mod node_objects;
 mod nodes;
 mod removal;
 mod scope;

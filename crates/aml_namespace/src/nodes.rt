@@ -1,14 +1,17 @@
 //! Nodes by id: each under the key that the slab picks, and found by its number where the key isn't known.
-ghost use Rattle.std.specs.Prelude.{◌≡◌, ◌≢◌, ℕ, None, OnOk, OnErr, IfOk, IsOkUnless, option_map};
+ghost use Rattle.std.specs.Prelude.{◌≡◌, ◌≢◌, ℕ, Some, None, true, false, OnOk, OnErr, IfOk, IsOkUnless, option_map};
 ghost use Rattle.std.specs.FinMap as map;
 ghost use Rattle.slab.specs.Slab as slots;
 ghost use Rattle.ar_space.specs.declared.refusal.Refusal.TheVariants.{OutOfMemory};
+ghost use Rattle.aml_objects.specs.declared.entry.NamedObject.TheVariants.{Data};
+ghost use Rattle.aml_objects.specs.declared.value.Value.TheVariants.{Integer};
+ghost use Rattle.aml_namespace.specs.declared.node.Node.{Node as Seen};
 ghost use Rattle.aml_namespace.specs.Mutexes.{acquired};
 ghost use Rattle.aml_namespace.specs.Nodes.{Keyed, key_of, object_put, with_node_object, node_released};
 
 use crate::mutexes::{acquired, release};
 use crate::node::Node;
-use aml_objects::{NamedObject, NodeId};
+use aml_objects::{NamedObject, NodeId, Value};
 use ar_space::Refusal;
 use slab::Slab;
 use std::alloc::Global;
@@ -131,6 +134,22 @@ impl Nodes {
         self.acquired = self.acquired - before + after;
     }
 
+    /// Puts an integer into the node with an id, if an integer is held there and the id has the node's key; else nothing changes. It takes
+    /// no memory.
+    pub(crate) fn put_integer(&mut self, id: NodeId, number: u64) -> bool
+        ensures put { result ≡ true → self.new ≡ object_put self.old id.number (Data (Integer number)) }
+        ensures held { result ≡ true → (x : Seen) → map.get self.old id.number ≡ Some x → (n : ℕ) × (x.entry.object ≡ Data (Integer n)) }
+        ensures gone { map.get self.old id.number ≡ None → result ≡ false }
+        ensures unchanged { result ≡ false → self.new ≡ self.old }
+    {
+        if is_integer_at(&self.slab, id) {
+            let node = &mut self.slab[id.key];
+            put_integer(&mut node.entry.object, number);
+            return true;
+        }
+        false
+    }
+
     /// Releases the mutexes. Where none is acquired, the nodes aren't read.
     pub(crate) fn release(&mut self)
         ensures { (number : ℕ) → map.get self.new number ≡ option_map node_released (map.get self.old number) }
@@ -167,6 +186,35 @@ fn put_object(node: &mut Node, object: NamedObject)
     ensures { node.new ≡ with_node_object object node.old }
 {
     node.entry.object = object;
+}
+
+/// Whether the node with an id is in the slot with the id's key, and holds an integer.
+fn is_integer_at(slab: &Slab<Node>, id: NodeId) -> bool
+    ensures { result ≡ true → (x : Seen) × (slots.get slab.now id.key ≡ Some x) × (x.entry.number ≡ id.number) × ((n : ℕ) × (x.entry.object ≡ Data (Integer n))) }
+{
+    match slab.get(id.key) {
+        None => false,
+        Some(node) => node.entry.number == id.number && is_integer(&node.entry.object),
+    }
+}
+
+/// Whether an object is a name that holds an integer.
+fn is_integer(object: &NamedObject) -> bool
+    ensures { result ≡ true → (n : ℕ) × (object.now ≡ Data (Integer n)) }
+{
+    match object {
+        NamedObject::Data(Value::Integer(_)) => true,
+        _ => false,
+    }
+}
+
+/// Puts an integer in place of the one that an object holds.
+fn put_integer(object: &mut NamedObject, number: u64)
+    ensures { (n : ℕ) → object.old ≡ Data (Integer n) → object.new ≡ Data (Integer number) }
+{
+    if let NamedObject::Data(Value::Integer(held)) = object {
+        *held = number;
+    }
 }
 
 /// Releases the mutexes in slots.

@@ -1,10 +1,11 @@
 //! Scopes that names are searched from: a path, and the node that is expected there.
-ghost use Rattle.std.specs.Prelude.{◌≡◌, Some, true, option_map, IsErr};
+ghost use Rattle.std.specs.Prelude.{◌≡◌, Some, true, option_map, IsErr, [], ◌∷◌, length};
 ghost use Rattle.std.specs.FinMap.{get};
 ghost use Rattle.aml_objects.specs.declared.entry.Entry.{Entry};
 ghost use Rattle.ar_space.specs.Outcome.{Answers, NotMemory, seen};
 ghost use Rattle.aml_namespace.specs.Namespace.{numbered};
-ghost use Rattle.aml_namespace.specs.Search.{found};
+ghost use Rattle.aml_namespace.specs.OneSegment.{segment_name};
+ghost use Rattle.aml_namespace.specs.Search.{found, found_or_not, search_up};
 
 use crate::located::Located;
 use crate::names::{Names, root_id};
@@ -48,6 +49,29 @@ impl Names {
             self.search(scope.node, name)
         } else {
             self.search_at(scope.path, name)
+        }
+    }
+
+    /// The node that a name of one segment, without a prefix, finds from a scope; none where `lookup` refuses that name, which it does
+    /// as `NotFound` alone. No name is made, and it takes no memory.
+    pub fn search_segment(&self, scope: Scope<'_>, segment: Seg) -> Option<NodeId>
+        ensures { seen (λ id. numbered id.number self.now.map) (found_or_not result) ≡ seen Some (found self.now.map scope.entry.path.now (segment_name segment)) }
+    {
+        match self.nearest_in(scope, segment) {
+            None => None,
+            Some(first) => self.end_of(first),
+        }
+    }
+
+    /// The node with a segment in a scope, or in the nearest scope above it, aliases not followed.
+    fn nearest_in(&self, scope: Scope<'_>, segment: Seg) -> Option<NodeId>
+        ensures { option_map (λ id. numbered id.number self.now.map) result ≡ option_map Some (search_up self.now.map scope.entry.path.now (segment ∷ []) (length scope.entry.path.now)) }
+    {
+        let segments = [segment];
+        if self.is_at(scope.node, scope.path.segments()) {
+            self.search_above(scope.node, &segments)
+        } else {
+            self.search_from(scope.path, &segments)
         }
     }
 

@@ -99,7 +99,7 @@ impl Names {
     }
 
     /// What stands at some segments in a scope's path, or in the nearest scope above it; the scope need not stand.
-    fn search_from(&self, scope: &Path, segments: &[Seg]) -> Option<NodeId>
+    pub(crate) fn search_from(&self, scope: &Path, segments: &[Seg]) -> Option<NodeId>
         ensures { option_map (λ id. numbered id.number self.now.map) result ≡ option_map Some (search_up self.now.map scope.now segments.now (length scope.now)) }
     {
         match self.nearest(scope, segments) {
@@ -109,7 +109,7 @@ impl Names {
     }
 
     /// What stands at some segments in a scope that stands, or in the nearest scope above it.
-    fn search_above(&self, scope: NodeId, segments: &[Seg]) -> Option<NodeId>
+    pub(crate) fn search_above(&self, scope: NodeId, segments: &[Seg]) -> Option<NodeId>
         ensures { (f : List Seg × Entry) → numbered scope.number self.now.map ≡ Some f → option_map (λ id. numbered id.number self.now.map) result ≡ option_map Some (search_up self.now.map f.0 segments.now (length f.0)) }
     {
         let mut current = scope;
@@ -146,22 +146,28 @@ impl Names {
         ensures answer { (f : List Seg × Entry) → numbered id.number self.now.map ≡ Some f → seen (λ id. numbered id.number self.now.map) result ≡ seen Some (through self.now.map f) }
         ensures memory { NotMemory result }
     {
+        found_or_not(self.end_of(id))
+    }
+
+    /// The same; none where an alias leads to nothing or to another alias.
+    pub(crate) fn end_of(&self, id: NodeId) -> Option<NodeId>
+        ensures { (f : List Seg × Entry) → numbered id.number self.now.map ≡ Some f → seen (λ id. numbered id.number self.now.map) (found_or_not result) ≡ seen Some (through self.now.map f) }
+    {
         match self.alias_at(id) {
-            None => Ok(id),
+            None => Some(id),
             Some(path) => self.target(path),
         }
     }
 
     /// The target of an alias, which is no alias.
-    fn target(&self, path: &Path) -> Result<NodeId, Refusal>
-        ensures answer { seen (λ id. numbered id.number self.now.map) result ≡ seen Some (target_of (at_path self.now.map path.now)) }
-        ensures memory { NotMemory result }
+    fn target(&self, path: &Path) -> Option<NodeId>
+        ensures { seen (λ id. numbered id.number self.now.map) (found_or_not result) ≡ seen Some (target_of (at_path self.now.map path.now)) }
     {
         match self.at(&[], path.segments()) {
-            None => Err(Refusal::Namespace(NamespaceFault::NotFound)),
+            None => None,
             Some(id) => match self.alias_at(id) {
-                None => Ok(id),
-                Some(_) => Err(Refusal::Namespace(NamespaceFault::NotFound)),
+                None => Some(id),
+                Some(_) => None,
             },
         }
     }

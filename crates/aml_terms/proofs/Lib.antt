@@ -1,5 +1,7 @@
+pub mod Calls
 pub mod CodedTerms
 pub mod Copied
+pub mod Elses
 pub mod InOrder
 pub mod Parsed
 pub mod Scans

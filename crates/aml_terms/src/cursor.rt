@@ -6,9 +6,11 @@ ghost use Rattle.aml_marked.specs.Marked.{Place, past, over, first, an_integer, 
 use aml_scan::{carets, length_of, little_endian, text_length};
 use std::marker::Model;
 
-/// Where the next byte stands, and what is left of the list or package.
+/// Where the next byte stands, and what is left of the list or package. It moves over the terms of lent bytes (ACPI 6.5, 20.2).
+///
+/// No step refuses anything: what is missing is read as zero, and no step goes past the end.
 #[derive(Drop)]
-pub(crate) struct Cursor<'a> {
+pub struct Cursor<'a> {
     at: usize,
     rest: &'a [u8],
 }
@@ -25,34 +27,39 @@ impl<'a> Model for Cursor<'a> {
 }
 
 impl<'a> Cursor<'a> {
-    pub(crate) fn new(at: usize, rest: &'a [u8]) -> Cursor<'a>
+    /// A cursor at the first of these bytes, which stands at an offset of those that were scanned. The offset behind the last byte is less
+    /// than 2^64.
+    pub fn new(at: usize, rest: &'a [u8]) -> Cursor<'a>
         requires { at + length rest.now < 2 ^ 64 }
         ensures { result ≡ record { at = at; rest = rest.now } }
     {
         Cursor { at, rest }
     }
 
-    pub(crate) fn at(&self) -> usize
+    /// The offset of the next byte.
+    pub fn at(&self) -> usize
         ensures value { result ≡ self.now.at }
         ensures bound { result + length self.now.rest < 2 ^ 64 }
     {
         self.at
     }
 
-    pub(crate) fn rest(&self) -> &'a [u8]
+    /// What is left of the list or package.
+    pub fn rest(&self) -> &'a [u8]
         ensures { result.now ≡ self.now.rest }
     {
         self.rest
     }
 
-    pub(crate) fn is_empty(&self) -> bool
+    /// Whether nothing is left.
+    pub fn is_empty(&self) -> bool
         ensures { result ≡ (length self.now.rest == 0) }
     {
         self.rest.is_empty()
     }
 
     /// The next byte, which stays, or zero.
-    pub(crate) fn first(&self) -> u8
+    pub fn first(&self) -> u8
         ensures { result ≡ first self.now.rest }
     {
         match self.rest {
@@ -62,7 +69,7 @@ impl<'a> Cursor<'a> {
     }
 
     /// Whether this byte stands next.
-    pub(crate) fn is_next(&self, byte: u8) -> bool
+    pub fn is_next(&self, byte: u8) -> bool
         ensures { result ≡ is_next byte self.now.rest }
     {
         match self.rest {
@@ -80,7 +87,7 @@ impl<'a> Cursor<'a> {
     }
 
     /// So many bytes on, or to the end.
-    pub(crate) fn over(&mut self, count: usize)
+    pub fn over(&mut self, count: usize)
         ensures { self.new ≡ over count self.old }
     {
         self.skip(count.min(self.rest.len()));
@@ -124,7 +131,7 @@ impl<'a> Cursor<'a> {
     }
 
     /// Leaves the bytes of a package alone, and gives what stands behind it.
-    pub(crate) fn open(&mut self) -> Cursor<'a>
+    pub fn open(&mut self) -> Cursor<'a>
         ensures inside { self.new ≡ record (a_size self.old).1 { rest = take (a_size self.old).0 (a_size self.old).1.rest } }
         ensures outer { result ≡ over (a_size self.old).0 (a_size self.old).1 }
     {
@@ -139,7 +146,7 @@ impl<'a> Cursor<'a> {
     }
 
     /// Goes over the name that stands next.
-    pub(crate) fn over_name(&mut self)
+    pub fn over_name(&mut self)
         ensures { self.new ≡ over (name_length self.old.rest) self.old }
     {
         self.over(name_length(self.rest));

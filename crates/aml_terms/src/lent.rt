@@ -131,7 +131,7 @@ fn view_target<'a>(cursor: &Cursor<'a>, marks: &'a Marks, levels: u8) -> Operand
 
 /// The name that begins there; the root where none does.
 #[tactic(auto, using(crate::specs::Named::naming), unfolding(aml_marked::specs::Marked::a_name))]
-fn name_at(alloc: Global, cursor: &Cursor<'_>) -> Result<NameString, Refusal>
+pub(crate) fn name_at(alloc: Global, cursor: &Cursor<'_>) -> Result<NameString, Refusal>
     ensures { Answers result (Ok (a_name cursor.now).0) }
 {
     match read_name(alloc, cursor.at(), cursor.rest()) {

@@ -10,8 +10,9 @@ use crate::marks::Marks;
 use crate::skip::{opcode, over_else, skip_field, skip_row_term, skip_term};
 use aml_scan::{row_place, starts_name};
 
-/// One level more than the grammar counts: there, a local, an argument or Debug as a place costs none.
-const LEVELS: u8 = 65;
+/// How many levels of terms are read below a list: one level more than the grammar counts, where a local, an argument or Debug as a place
+/// costs none.
+pub const LEVELS: u8 = 65;
 
 /// What stands where a cursor stands.
 pub(crate) fn standing<'a>(

@@ -59,7 +59,7 @@ fn skip_call(cursor: &mut Cursor<'_>, marks: &Marks, levels: u8)
 
 #[cycle(skip)]
 #[tactic(auto, using(aml_marked::specs::Walking::walking))]
-fn skip_arguments(cursor: &mut Cursor<'_>, marks: &Marks, levels: u8, count: usize)
+pub(crate) fn skip_arguments(cursor: &mut Cursor<'_>, marks: &Marks, levels: u8, count: usize)
     ensures { cursor.new ≡ (turns_of (a_term (count_at marks.now) levels false) count cursor.old).1 }
 {
     let mut left = count;
@@ -199,7 +199,7 @@ pub(crate) fn skip_name_or_term(cursor: &mut Cursor<'_>, marks: &Marks, levels: 
 /// Goes over a target: a zero, a name or a term.
 #[cycle(skip)]
 #[tactic(auto, using(aml_marked::specs::Walking::walking))]
-fn skip_target(cursor: &mut Cursor<'_>, marks: &Marks, levels: u8)
+pub(crate) fn skip_target(cursor: &mut Cursor<'_>, marks: &Marks, levels: u8)
     ensures { cursor.new ≡ (target_of (a_term (count_at marks.now) levels) (first cursor.old.rest) cursor.old).1 }
 {
     if cursor.first() == 0 {
@@ -265,7 +265,7 @@ pub(crate) fn skip_field(cursor: &mut Cursor<'_>, marks: &Marks, levels: u8)
 
 /// Goes over an Else, where one follows.
 #[tactic(auto, using(aml_marked::specs::Walking::walking), unfolding(aml_marked::specs::Marked::maybe_else, aml_marked::specs::Marked::gives))]
-fn skip_else(cursor: &mut Cursor<'_>)
+pub(crate) fn skip_else(cursor: &mut Cursor<'_>)
     ensures { (below : Below) → cursor.new ≡ (maybe_else below cursor.old).1 }
 {
     if cursor.is_next(ELSE) {

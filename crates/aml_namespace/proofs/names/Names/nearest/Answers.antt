@@ -1,4 +1,4 @@
-use Rattle.std.proofs.Common.{◌≡◌, ◌≢◌, ◌∙◌, ◌+◌, ◌-◌, ◌<◌, ◌++◌, ◌∷◌, [], ℕ, ap, sym, subst, length, take, List, Option, Some, None, arith, refl}
+use Rattle.std.proofs.Common.{◌≡◌, ◌∙◌, ◌+◌, ◌-◌, ◌++◌, ◌∷◌, [], ℕ, ap, sym, length, take, List, Some, None, arith, refl}
 use Rattle.std.specs.Option.{option_map}
 use Rattle.aml_path.specs.declared.segment.Seg.{Seg}
 use Rattle.aml_objects.specs.declared.node.NodeId.{NodeId}

@@ -1,10 +1,8 @@
-use Rattle.std.proofs.Common.{◌∙◌, ap, sym, Some, Ok}
+use Rattle.std.proofs.Common.{◌∙◌, ap}
 use Rattle.ar_space.specs.Outcome.{seen}
-use Rattle.aml_namespace.proofs.Searching.{through_itself, through_alias}
+use Rattle.aml_objects.specs.declared.node.NodeId.{NodeId}
+use Rattle.aml_namespace.specs.Namespace.{numbered}
 use Rattle.aml_namespace.proofs.names.Names.through.Goals as goal
 
-pub returns-in-None-clause-answer : goal.returns-in-None-clause-answer
-returns-in-None-clause-answer c = λ f is. ap Ok is ∙ sym (ap (seen Some) (through_itself c.args.self.now.map f (c.in-None.ensures f is)))
-
-pub returns-in-Some-clause-answer : goal.returns-in-Some-clause-answer
-returns-in-Some-clause-answer c = λ f is. c.target.ensures.answer ∙ sym (ap (seen Some) (through_alias c.args.self.now.map f c.in-Some.path.now (c.in-Some.ensures f is)))
+pub returns-clause-answer : goal.returns-clause-answer
+returns-clause-answer c = λ f is. ap (seen (λ (id : NodeId). numbered id.number c.args.self.now.map)) c.found_or_not.ensures.answer ∙ c.end_of.ensures f is

@@ -1,0 +1,10 @@
+use Rattle.std.proofs.Common.{◌∙◌, refl}
+use Rattle.aml_marked.specs.Marked.{count_at}
+use Rattle.aml_interp.proofs.ShortTerms.{does_short_constant, behind_bare}
+use Rattle.aml_interp.proofs.short_terms.short_constant.Goals as goal
+
+pub returns-clause-integer : goal.returns-clause-integer
+returns-clause-integer g c = does_short_constant g.S.Space.accesses c.args.context.now.site.now.scope.path.now c.args.context.now.site.now.depth (count_at c.args.context.now.marks.now) c.args.levels c.args.cursor.now c.args.number _ c.requires.deep c.requires.short (c.if-not-step.ensures.taken refl) (rw (← c.run.view_is) c.number_kept.ensures)
+
+pub returns-clause-behind : goal.returns-clause-behind
+returns-clause-behind g c = c.over.ensures ∙ behind_bare (count_at c.args.context.now.marks.now) c.args.levels c.args.cursor.now c.requires.deep c.requires.short.1

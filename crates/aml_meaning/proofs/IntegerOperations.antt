@@ -1,0 +1,49 @@
+-- Operators whose operands are integers.
+use Rattle.std.proofs.Common.{◌≡◌, ℕ, ◌+◌, Ok, refl, ap, sym}
+use Rattle.std.specs.Ordering.{nat_cmp}
+use Rattle.ar_space.specs.Outcome.{Outcome, seen}
+use Rattle.ar_space.specs.Outcome as outcome
+use Rattle.ar_space.specs.Change.{Does, go_on, ◌>>=◌}
+use Rattle.aml_objects.specs.declared.value.Value.TheVariants.{Integer}
+use Rattle.aml_convert.specs.Conversions.{compared}
+use Rattle.aml_convert.specs.Integers.{truncated, truth}
+use Rattle.aml_convert.specs.Operators.{result_of, logical_result_of, negated, holds}
+use Rattle.aml_convert.specs.declared.operators.BinaryOperator.{BinaryOperator}
+use Rattle.aml_convert.specs.declared.operators.BinaryOperator.TheVariants.{Subtract}
+use Rattle.aml_convert.specs.declared.logic.LogicalOperator.{LogicalOperator}
+use Rattle.aml_convert.specs.declared.logic.Comparison.{Comparison}
+use Rattle.aml_meaning.specs.State.{State}
+use Rattle.aml_meaning.specs.Readings.{integer_in}
+use Rattle.aml_meaning.specs.Operations.{operated, integers_operated, operated_logically, integers_tested, turned, integer_turned, next_integer, integer_before, compared_in}
+
+module _ {S : Type 0} {w : State S} where
+  -- an integer is wanted where one is
+  pub does_integer : (n : ℕ) → Does (Ok n) w (integer_in (Integer n)) w
+  unfolding integer_in
+  does_integer n = record { is = λ _. refl }
+
+  pub does_operated : (op : BinaryOperator) (x y : ℕ) (r : Outcome ℕ) → r ≡ result_of op w.width x y → Does (seen Integer r) w (operated op (Integer x) (Integer y)) w
+  unfolding operated integer_in integers_operated ◌>>=◌ go_on
+  does_operated op x y r is = record { is = λ _. ap (λ (o : Outcome ℕ). (seen Integer o, w)) (sym is) }
+
+  pub does_tested : (op : LogicalOperator) (x y n : ℕ) → n ≡ logical_result_of op w.width x y → Does (Ok (Integer n)) w (operated_logically op (Integer x) (Integer y)) w
+  unfolding operated_logically integer_in integers_tested ◌>>=◌ go_on
+  does_tested op x y n is = record { is = λ _. rw (← is) refl }
+
+  pub does_compared : (c : Comparison) (x y n : ℕ) → n ≡ truth w.width (holds c (nat_cmp x y)) → Does (Ok (Integer n)) w (compared_in c (Integer x) (Integer y)) w
+  unfolding compared_in compared outcome.◌>>=◌
+  does_compared c x y n is = record { is = λ _. rw (← is) refl }
+
+  pub does_turned : (x n : ℕ) → n ≡ negated w.width x → Does (Ok (Integer n)) w (turned (Integer x)) w
+  unfolding turned integer_in integer_turned ◌>>=◌ go_on
+  does_turned x n is = record { is = λ _. rw (← is) refl }
+
+  pub does_next : (x n : ℕ) → n ≡ truncated w.width (x + 1) → Does (Ok (Integer n)) w (next_integer x) w
+  unfolding next_integer
+  does_next x n is = record { is = λ _. rw (← is) refl }
+
+  pub does_before : (x n : ℕ) → result_of Subtract w.width x 1 ≡ Ok n → Does (Ok (Integer n)) w (integer_before x) w
+  unfolding integer_before
+  does_before x n is = record { is = λ _. ap (λ (o : Outcome ℕ). (seen Integer o, w)) is }
+
+pub ruleset integers = (does_integer, does_operated, does_tested, does_compared, does_turned, does_next, does_before)

@@ -1,0 +1,18 @@
+use Rattle.std.proofs.Common.{◌≡◌, ◌≢◌, ◌∙◌, ap, subst, Some, Ok, arith}
+use Rattle.ar_space.specs.Change.{Does}
+use Rattle.aml_namespace.specs.Namespace.{numbered}
+use Rattle.aml_meaning.specs.declared.store_target.StoreTarget.TheVariants as targets
+use Rattle.aml_meaning.specs.State.{State}
+use Rattle.aml_meaning.specs.Mutexes.{given_back_at}
+use Rattle.aml_meaning.proofs.NodeObjects.{mutex_given_back}
+use Rattle.aml_meaning.proofs.world_state.WorldState.release_node.Goals as goal
+
+pub returns-clause-change : goal.returns-clause-change
+returns-clause-change g c = λ yes f at.
+    let i = c.self.inside in
+    let w : State g.row.S.Denot = record { names = i.names; arities = i.arities; objects = i.heap; frames = i.frames.items; started = i.started; space = i.space; osi = i.osi.items; width = i.width } in
+    let id = c.args.id.number in
+    let here : numbered id i.names.map ≡ Some f = ap (λ (s : State g.row.S.Denot). numbered id s.names.map) c.self.view_is ∙ at in
+    let some : c.in-Some.count ≢ 0 = omega arith in
+    subst (λ (s : State g.row.S.Denot). Does (Ok tt) (record w { names = c.replace_node.new.self }) (given_back_at (targets.Name f.0)) s) c.self.view_is
+    (mutex_given_back w id f here c.replace_node.new.self c.in-Some.count (c.in-Some.ensures.held f at) some (c.replace_node.ensures.change f here))
