@@ -310,7 +310,7 @@ abbrev pub decreases-statements::eval_if : goal.decreases-statements::eval_if
 decreases-statements::eval_if g l = 40 * (l.run.now.1 + (32 - l.context.now.site.now.depth)) + 4
 
 abbrev pub decreases-statements::eval_loop : goal.decreases-statements::eval_loop
-decreases-statements::eval_loop g l = 40 * (l.run.now.1 + (32 - l.context.now.site.now.depth)) + 4
+decreases-statements::eval_loop g l = 40 * (l.run.now.1 + (32 - l.context.now.site.now.depth)) + 5
 
 abbrev pub decreases-statements::eval_notify : goal.decreases-statements::eval_notify
 decreases-statements::eval_notify g l = 40 * (l.run.now.1 + (32 - l.context.now.site.now.depth)) + 7
@@ -331,10 +331,10 @@ abbrev pub decreases-statements::eval_statement : goal.decreases-statements::eva
 decreases-statements::eval_statement g l = 40 * (l.run.now.1 + (32 - l.context.now.site.now.depth)) + 33
 
 abbrev pub decreases-statements::eval_turn : goal.decreases-statements::eval_turn
-decreases-statements::eval_turn g l = 40 * (l.run.now.1 + (32 - l.context.now.site.now.depth)) + 3
+decreases-statements::eval_turn g l = 40 * (l.run.now.1 + (32 - l.context.now.site.now.depth)) + 4
 
 abbrev pub decreases-statements::eval_while : goal.decreases-statements::eval_while
-decreases-statements::eval_while g l = 40 * (l.run.now.1 + (32 - l.context.now.site.now.depth)) + 5
+decreases-statements::eval_while g l = 40 * (l.run.now.1 + (32 - l.context.now.site.now.depth)) + 6
 
 abbrev pub decreases-targets::eval_store_to_target : goal.decreases-targets::eval_store_to_target
 decreases-targets::eval_store_to_target g l = 40 * (l.run.now.1 + (32 - l.context.now.site.now.depth)) + 29
