@@ -1,5 +1,5 @@
 -- The nodes above and below one, in the map of paths.
-use Rattle.std.proofs.Common.{◌≡◌, ℕ, ◌+◌, ◌-◌, ◌<◌, ◌≤◌, List, [], ◌∷◌, ◌++◌, length, take, Option, Some, None, is_some, refl, ap, sym, ◌∙◌, arith, length-append, length-take-le, take-take}
+use Rattle.std.proofs.Common.{◌≡◌, ℕ, ◌+◌, ◌-◌, ◌<◌, ◌≤◌, List, [], ◌∷◌, ◌++◌, length, take, Option, Some, None, is_some, true, refl, ap, sym, ◌∙◌, arith, length-append, length-take-le, take-take}
 use Rattle.std.specs.Option.{option_map}
 use Rattle.std.proofs.lemmas.List.{take_all, take-append-le}
 use Rattle.std.specs.FinMap.{get}
@@ -26,6 +26,17 @@ module _ (m : NodeMap) (child : Children) (next : ℕ) (linked : Linked m child 
           let one : ◌≡◌ {A = Option Found} (Some f) (Some (path_to m n, x.entry)) = sym is ∙ numbered_get m child next linked n ∙ ap (option_map (λ (x : Node). (path_to m n, x.entry))) at in
           let same : ◌≡◌ {A = Found} f (path_to m n, x.entry) = cc one in
           (x, at, same)
+
+  -- a declaration that stands at a path is that of the node there
+  pub node_at : (n : ℕ) (p : List Seg) → option_map (λ (f : Found). f.0) (numbered n (map_of m)) ≡ Some p → (is_some (get m n) ≡ true) × (path_to m n ≡ p)
+  node_at n p is = by (numbered n (map_of m)) refl is
+    where
+      by : (o : Option Found) → numbered n (map_of m) ≡ o → option_map (λ (f : Found). f.0) o ≡ Some p → (is_some (get m n) ≡ true) × (path_to m n ≡ p)
+      by None at is = absurd (cc is)
+      by (Some f) at is =
+          let x = node_of n f at in
+          let same : f.0 ≡ p = cc is in
+          (ap is_some x.1, sym (ap (λ (g : Found). g.0) x.2) ∙ same)
 
   pub root_is : (n : ℕ) → n ≡ 0 → (e : Entry) × (numbered n (map_of m) ≡ Some ([], e))
   root_is n is =

@@ -11,6 +11,7 @@ use Rattle.std.specs.FinMap.{get, remove, retain_keys, get-retain_keys, get-remo
 use Rattle.aml_path.specs.declared.segment.Seg.{Seg}
 use Rattle.aml_path.specs.Paths.{path_cmp, path_eq, is_below}
 use Rattle.aml_namespace.specs.declared.node.Node.{Node}
+use Rattle.aml_namespace.specs.Namespace.{HasBelow}
 use Rattle.aml_namespace.specs.Nodes.{NodeMap}
 use Rattle.aml_namespace.specs.Tree.{Children, down, path_to, map_of, Linked, Cut}
 use Rattle.aml_namespace.proofs.Numbers.{remove_apart}
@@ -47,6 +48,10 @@ take_past : (p r : List Seg) (n : ℕ) → length p ≤ n → take n (p ++ r) �
 take_past [] r n le = ap (λ k. take k r) (omega arith)
 take_past (s ∷ ss) r zero le = absurd (omega (arith, le))
 take_past (s ∷ ss) r (suc n) le = ap (λ (l : List Seg). s ∷ l) (take_past ss r n (omega (arith, le)) ∙ ap (λ k. ss ++ take k r) (omega arith))
+
+some_rest : (l : List Seg) → (l ≡ [] → ⊥) → 0 < length l
+some_rest [] some = absurd (some refl)
+some_rest (s ∷ r) some = omega arith
 
 -- the path above one that is below
 shorter : (l p r : List Seg) (s : Seg) → l ++ s ∷ [] ≡ p ++ r → (r ≡ [] → ⊥) → (q : List Seg) × (l ≡ p ++ q)
@@ -150,10 +155,22 @@ module _ (old m : NodeMap) (child : Children) (next start current : ℕ) (u : Un
         ∙ ap (λ b. cond b None (get (map_of m) q)) (other_path (eq_by_cmp path_cmp q (path_to m current)) q (path_to m current) refl (λ same.
         let parts = split u.rest (some_rest u.rest not_path) in
         absurd (cc (sym is ∙ ap (is_below (path_to old start)) (same ∙ u.path ∙ ap (λ (l : List Seg). path_to old start ++ l) parts.2) ∙ is_below_is (path_to old start) parts.0 parts.1))))
-      where
-        some_rest : (l : List Seg) → (l ≡ [] → ⊥) → 0 < length l
-        some_rest [] some = absurd (some refl)
-        some_rest (s ∷ r) some = omega arith
+
+    -- the leaf's path is below the start's, and stood at the beginning unless something was removed before it
+    below_start : is_below (path_to old start) (path_to m current) ≡ true
+    below_start =
+        let parts = split u.rest (some_rest u.rest not_path) in
+        ap (is_below (path_to old start)) (u.path ∙ ap (λ (l : List Seg). path_to old start ++ l) parts.2) ∙ is_below_is (path_to old start) parts.0 parts.1
+
+    leaf_stands : is_some (get (map_of m) (path_to m current)) ≡ true
+    leaf_stands =
+        ap is_some (get_map m child next u.linked (path_to m current)
+        ∙ ap (λ (o : Option ℕ). option_map (λ (x : Node). x.entry) (option_and_then (get m) o)) (stands_of m child next u.linked current u.here)
+        ∙ ap (option_map (λ (x : Node). x.entry)) at_leaf.1)
+
+    pub some_below : (removed : Bool) → (removed ≡ false → m ≡ old) → (removed ≡ true → HasBelow (path_to old start) (map_of old)) → HasBelow (path_to old start) (map_of old)
+    some_below true kept some = some refl
+    some_below false kept some = (path_to m current, below_start, ap (λ (n : NodeMap). is_some (get (map_of n) (path_to m current))) (sym (kept refl)) ∙ leaf_stands)
 
     cut_underway : Underway old (remove m current) child_after next start parent
     cut_underway = record {

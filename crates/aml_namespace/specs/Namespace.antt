@@ -1,5 +1,5 @@
 -- The namespace (ACPI 6.5, 5.3): a finite map of paths, and the number of the next declaration.
-use Rattle.std.specs.Prelude.{ℕ, ◌+◌, ◌-◌, ◌^◌, ◌==◌, List, [], ◌∷◌, length, take, not, Option, Some, None, Ok, Err, refl, if◌then◌else◌}
+use Rattle.std.specs.Prelude.{◌≡◌, true, is_some, ℕ, ◌+◌, ◌-◌, ◌^◌, ◌==◌, List, [], ◌∷◌, length, take, not, Option, Some, None, Ok, Err, refl, if◌then◌else◌}
 use Rattle.std.specs.Prelude as list
 use Rattle.std.specs.FinMap.{FinMap, get, contains_key, insert, retain_keys, entries, empty, from_sorted, code}
 use Rattle.std.specs.Coded.{Coded, code_by, coded×, coded_list, coded_ℕ}
@@ -49,6 +49,10 @@ declared p o s =
 -- without the names below a path
 unfoldable pub without_below : List Seg → Namespace → Namespace
 without_below p s = record s { map = retain_keys s.map (λ q. not (is_below p q)) }
+
+-- some name stands below a path
+abbrev pub HasBelow : List Seg → Map → Type 0
+HasBelow p m = (q : List Seg) × (is_below p q ≡ true) × (is_some (get m q) ≡ true)
 
 -- another object under the same number
 abbrev pub with_object : NamedObject → Entry → Entry

@@ -1,4 +1,4 @@
-use Rattle.std.proofs.Common.{◌≡◌, ◌∙◌, ap, sym}
+use Rattle.std.proofs.Common.{◌∙◌, ap, sym}
 use Rattle.std.specs.Option.{option_map}
 use Rattle.aml_namespace.specs.Search.{Found}
 use Rattle.aml_namespace.proofs.Numbering.{numbered_stands}
