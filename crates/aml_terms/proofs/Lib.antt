@@ -4,5 +4,4 @@ pub mod Copied
 pub mod Elses
 pub mod InOrder
 pub mod Parsed
-pub mod Scans
 pub mod ShortTerms

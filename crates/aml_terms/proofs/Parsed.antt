@@ -12,7 +12,7 @@ use Rattle.aml_grammar.specs.Grammar.{term_list, by_arities, reading, table_read
 use Rattle.aml_marked.specs.Marked.{trees_by}
 use Rattle.aml_scan.specs.Scanned.{noted}
 use Rattle.aml_terms.specs.Copying.{trees_list}
-use Rattle.aml_terms.proofs.Scans.{table_ok, scanning}
+use Rattle.aml_marks.proofs.Scans.{table_ok, scanning}
 
 listed : (ts : List Tree) → trees_list (trees_of ts) ≡ ts
 listed [] = refl

@@ -1,7 +1,7 @@
 //! Places in lent bytes.
 ghost use Rattle.std.specs.Prelude.{◌+◌, ◌<◌, ◌^◌, length};
 
-use crate::marks::Marks;
+use aml_marks::Marks;
 use aml_scan::RowPlace;
 
 /// What stands at a place of the bytes.

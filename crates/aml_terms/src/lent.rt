@@ -9,10 +9,10 @@ ghost use Rattle.aml_terms.specs.Spots.{spot_part};
 
 use crate::at::{At, Kind};
 use crate::cursor::Cursor;
-use crate::marks::Marks;
 use crate::places::{standing, term_at};
 use crate::spot::Spot;
 use aml_grammar::{OperandKind, OperandView};
+use aml_marks::Marks;
 use aml_path::{NameString, Prefix};
 use aml_scan::{ELSE, read_name, starts_name, text_length};
 use ar_space::{NameFault, Refusal};

@@ -11,11 +11,9 @@ mod copying;
 mod cursor;
 mod cursor_terms;
 mod lent;
-mod marks;
 mod operands;
 mod parse;
 mod places;
-mod scan;
 mod short;
 mod skip;
 mod spot;
@@ -24,12 +22,11 @@ pub use aml_grammar::{
     ArgumentCounts, Arities, Arity, Item, Mark, Opcode, Operand, OperandView, Term, TermCode,
     TermPart, TermReader,
 };
+pub use aml_marks::{Marks, scan_list, scan_table};
 pub use aml_scan::{ELSE, RowPlace, read_as_spelled, read_name};
 pub use at::At;
 pub use at_reader::lent_bytes;
 pub use cursor::Cursor;
 pub use cursor_terms::{Call, Coded};
-pub use marks::Marks;
 pub use parse::{parse_list, parse_table};
 pub use places::{LEVELS, first_term, list_at};
-pub use scan::{scan_list, scan_table};

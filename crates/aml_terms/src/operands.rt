@@ -10,10 +10,10 @@ ghost use Rattle.aml_terms.specs.Spots.{spot_part};
 
 use crate::at::{At, Kind};
 use crate::cursor::Cursor;
-use crate::marks::Marks;
 use crate::skip::{is_if, opcode, skip_operand, skip_row};
 use crate::spot::Spot;
 use aml_grammar::{OperandKind, OperandKinds, Row};
+use aml_marks::Marks;
 use aml_scan::{is_nothing, row_of, starts_name};
 
 /// Goes to an operand among kinds that stand one after another.

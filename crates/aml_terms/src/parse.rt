@@ -5,12 +5,10 @@ ghost use Rattle.aml_grammar.specs.View.{tree_view};
 ghost use Rattle.aml_grammar.specs.Grammar.{reading, table_reading};
 
 use crate::copying::copied_list;
-use crate::marks::Marks;
 use crate::places::list_at;
-use crate::scan::scan_list;
 use aml_grammar::{ArgumentCounts, Arities, Term};
+use aml_marks::{scan_list, scan_table_apart};
 use aml_path::Path;
-use aml_scan::scan;
 use ar_space::Refusal;
 use std::alloc::Global;
 
@@ -18,11 +16,7 @@ use std::alloc::Global;
 /// (TermList of ACPI 6.5, 20.2.5).
 ///
 /// Names stand in `scope`, and `counts` says how many arguments a name takes; outside a body, names that the list
-/// declares itself count too, from where they stand on. The first fault from left to right is refused:
-///
-/// - `BadName`: bytes that are no name where one must stand, or a declaration of a name without a segment;
-/// - `AboveRoot`: a name with more `^` than its scope has parents, where reading resolves it;
-/// - `BadOpcode`, `BadPkgLength`, `Truncated`, `TooDeep` or `NotInBody`, with the offset of the fault in `bytes`.
+/// declares itself count too, from where they stand on. It is refused as `scan_list` refuses it.
 #[tactic(auto, using(crate::proofs::Parsed::parsing))]
 pub fn parse_list<C: ArgumentCounts>(
     alloc: Global,
@@ -44,10 +38,8 @@ pub fn parse_table(alloc: Global, bytes: &[u8], arities: &mut Arities) -> Result
     ensures table { Answers (seen (λ v. (map tree_view v.items, arities.new)) result) (table_reading bytes.now arities.old) }
     ensures refused { OnErr result (arities.new ≡ arities.old) }
 {
-    let root = Path::root(alloc);
-    let noted = scan(alloc, bytes, &root, false, arities)?;
-    let marks = Marks::new(noted.marks);
-    let terms = copied_list(alloc, list_at(bytes, &marks))?;
-    arities.append(noted.added)?;
+    let scanned = scan_table_apart(alloc, bytes, arities)?;
+    let terms = copied_list(alloc, list_at(bytes, &scanned.marks))?;
+    arities.append(scanned.added)?;
     Ok(terms)
 }

@@ -6,8 +6,8 @@ ghost use Rattle.aml_terms.specs.AtTree.{at_tree, at_list, place_at, behind_of};
 
 use crate::at::{At, Kind};
 use crate::cursor::Cursor;
-use crate::marks::Marks;
 use crate::skip::{opcode, over_else, skip_field, skip_row_term, skip_term};
+use aml_marks::Marks;
 use aml_scan::{row_place, starts_name};
 
 /// How many levels of terms are read below a list: one level more than the grammar counts, where a local, an argument or Debug as a place

@@ -4,9 +4,9 @@ ghost use Rattle.aml_grammar.specs.Grammar.{is_if};
 ghost use Rattle.aml_marked.specs.Marked.{count_at, a_term, a_call, a_coded, an_opcode, with_row, of_row, all_operands, an_operand, name_or_term, turns_of, maybe_else, an_else, target_of, a_target, a_super_name, all_items, fields_left, a_field, to_end, first, Below};
 
 use crate::cursor::Cursor;
-use crate::marks::Marks;
 use crate::short::short_length;
 use aml_grammar::{Opcode, OperandKind, Row};
+use aml_marks::Marks;
 use aml_scan::{ELSE, EXT_OP_PREFIX, is_nothing, row_of, starts_name};
 
 /// Goes over a term, with at most this many levels. Most terms are short ones, and take no call.
