@@ -9,8 +9,8 @@ use Rattle.aml_grammar.specs.Apart.{code_of}
 use Rattle.aml_grammar.specs.Grammar.{is_if, is_nothing, kinds_of}
 use Rattle.aml_grammar.specs.Shape.{parts_of}
 use Rattle.aml_grammar.specs.Table.{table}
-use Rattle.aml_grammar.specs.Tree.{Tree, term, Part, name, number, inner, list, Parts, no_parts, part}
-use Rattle.aml_marked.specs.Marked.{Place, Below, Walk, to_part, list_part, over, after, gives, inside, an_operand, all_operands, of_row, with_row, a_target, a_super_name, all_items, an_integer, maybe_else}
+use Rattle.aml_grammar.specs.Tree.{Tree, term, Part, name, number, bytes, inner, list, Parts, no_parts, part}
+use Rattle.aml_marked.specs.Marked.{Place, Below, Walk, to_part, list_part, over, after, gives, inside, an_operand, all_operands, of_row, with_row, a_target, a_super_name, all_items, all_left, an_integer, maybe_else}
 use Rattle.aml_scan.specs.RowsAt.{row_at}
 use Rattle.aml_scan.specs.declared.row_places.RowPlace.{RowPlace}
 use Rattle.aml_meaning.specs.declared.term_kind.TermKind.{TermKind}
@@ -21,6 +21,7 @@ use Rattle.aml_meaning.specs.declared.term_kind.StatementKind.TheVariants as sta
 use Rattle.aml_meaning.specs.declared.store_target.TargetKind.{TargetKind}
 use Rattle.aml_meaning.specs.declared.store_target.TargetKind.TheVariants as target
 use Rattle.aml_meaning.specs.Terms.{kind_of, target_kind}
+use Rattle.aml_interp.specs.DataAtCursor.{elements_at}
 use Rattle.aml_interp.specs.AtCursor.{behind_one, behind_two, inside_at, outside_at, items_at, row_kind}
 
 -- ---- operands that a row may have
@@ -62,12 +63,23 @@ abbrev ◌and◌ : Bool → Bool → Bool
 abbrev opposite : Bool → Bool
 opposite x = if x then false else true
 
+abbrev is_byte_list : OperandKind → Bool
+is_byte_list kinds.ByteList = true
+is_byte_list _ = false
+
+abbrev is_element_list : OperandKind → Bool
+is_element_list kinds.PackageElementList = true
+is_element_list _ = false
+
 -- operands behind the opcode, without an Else behind them
 abbrev is_plain : Row → Bool
 is_plain row = opposite row.2 and opposite (is_if row.0)
 
 abbrev fits : TermKind → Row → Bool
 fits (term.Data (datas.Constant n)) row = is_plain row and is_nothing row.3.0
+fits (term.Data datas.Buffer) row = row.2 and opposite (is_if row.0) and is_argument row.3.0 and is_byte_list row.3.1 and is_nothing row.3.2
+fits (term.Data datas.Package) row = row.2 and opposite (is_if row.0) and is_byte row.3.0 and is_element_list row.3.1 and is_nothing row.3.2
+fits (term.Data datas.VarPackage) row = row.2 and opposite (is_if row.0) and is_argument row.3.0 and is_element_list row.3.1 and is_nothing row.3.2
 fits (term.Operator (operator.Slot slot)) row = is_plain row and is_nothing row.3.0
 fits (term.Operator operator.Store) row = is_plain row and is_argument row.3.0 and is_super row.3.1 and is_nothing row.3.2
 fits (term.Operator operator.CopyObject) row = is_plain row and is_argument row.3.0 and is_super row.3.1 and is_nothing row.3.2
@@ -150,6 +162,16 @@ module _ (b : Below) where
   list_reads kinds.TermList e = record { some = refl; is = refl }
   list_reads kinds.LoopTermList e = record { some = refl; is = refl }
   list_reads _ e = absurd (cc e)
+
+  byte_list_reads : (k : OperandKind) → is_byte_list k ≡ true → Reads k (to_part bytes all_left)
+  unfolding an_operand
+  byte_list_reads kinds.ByteList e = record { some = refl; is = refl }
+  byte_list_reads _ e = absurd (cc e)
+
+  element_list_reads : (k : OperandKind) → is_element_list k ≡ true → Reads k (to_part list_part (all_items b true))
+  unfolding an_operand
+  element_list_reads kinds.PackageElementList e = record { some = refl; is = refl }
+  element_list_reads _ e = absurd (cc e)
 
   byte_reads : (k : OperandKind) → is_byte k ≡ true → Reads k (to_part number (an_integer 1))
   unfolding an_operand
@@ -273,6 +295,21 @@ module _ (b : Below) where
       → with_row b (Some row) p ≡ (term (codes.Opcode row.0) (part (inner (b false (inside_at p)).0) (part (list (items_at b (behind_one b (inside_at p)))) no_parts)), outside_at p)
   a_while row p f = let x = both _ _ f in let u = both _ _ x.1 in let y = both _ _ u.1 in let z = both _ _ y.1 in
       packed_row row p x.0 (not_true _ u.0) ∙ rw (then_two _ _ (inside_at p) (argument_reads row.3.0 y.0) (list_reads row.3.1 z.0) z.1) refl
+
+  pub a_buffer : (row : Row) (p : Place) → (row.2 and opposite (is_if row.0) and is_argument row.3.0 and is_byte_list row.3.1 and is_nothing row.3.2) ≡ true
+      → with_row b (Some row) p ≡ (term (codes.Opcode row.0) (part (inner (b false (inside_at p)).0) (part (bytes (behind_one b (inside_at p)).rest) no_parts)), outside_at p)
+  a_buffer row p f = let x = both _ _ f in let u = both _ _ x.1 in let y = both _ _ u.1 in let z = both _ _ y.1 in
+      packed_row row p x.0 (not_true _ u.0) ∙ rw (then_two _ _ (inside_at p) (argument_reads row.3.0 y.0) (byte_list_reads row.3.1 z.0) z.1) refl
+
+  pub a_package : (row : Row) (p : Place) → (row.2 and opposite (is_if row.0) and is_byte row.3.0 and is_element_list row.3.1 and is_nothing row.3.2) ≡ true
+      → with_row b (Some row) p ≡ (term (codes.Opcode row.0) (part (number (an_integer 1 (inside_at p)).0) (part (list (elements_at b (over 1 (inside_at p)))) no_parts)), outside_at p)
+  a_package row p f = let x = both _ _ f in let u = both _ _ x.1 in let y = both _ _ u.1 in let z = both _ _ y.1 in
+      packed_row row p x.0 (not_true _ u.0) ∙ rw (then_two _ _ (inside_at p) (byte_reads row.3.0 y.0) (element_list_reads row.3.1 z.0) z.1) refl
+
+  pub a_var_package : (row : Row) (p : Place) → (row.2 and opposite (is_if row.0) and is_argument row.3.0 and is_element_list row.3.1 and is_nothing row.3.2) ≡ true
+      → with_row b (Some row) p ≡ (term (codes.Opcode row.0) (part (inner (b false (inside_at p)).0) (part (list (elements_at b (behind_one b (inside_at p)))) no_parts)), outside_at p)
+  a_var_package row p f = let x = both _ _ f in let u = both _ _ x.1 in let y = both _ _ u.1 in let z = both _ _ y.1 in
+      packed_row row p x.0 (not_true _ u.0) ∙ rw (then_two _ _ (inside_at p) (argument_reads row.3.0 y.0) (element_list_reads row.3.1 z.0) z.1) refl
 
 -- a row of a kind that is evaluated stands in the table, and has the operands of its kind
 pub stands : (k : TermKind) (o : RowPlace) → row_kind (row_at o) ≡ k → row_kind None ≢ k → (row : Row) × ((row_at o ≡ Some row) × (fits k row ≡ true))

@@ -11,7 +11,6 @@ ghost use Rattle.aml_meaning.specs.Meaning.{meaning};
 ghost use Rattle.aml_meaning.specs.Readings.{integer_in};
 ghost use Rattle.aml_meaning.specs.Tasks.{task, operand_value, operand_integer, in_turn};
 ghost use Rattle.aml_meaning.specs.Evaluation.{code_rule};
-ghost use Rattle.aml_meaning.specs.DataTerms.{data_rule};
 ghost use Rattle.aml_meaning.specs.DeclarationTerms.{declaration_rule};
 ghost use Rattle.aml_meaning.specs.FieldTerms.{region_term_rule};
 ghost use Rattle.aml_interp.specs.AtCursor.{behind_one, behind_two, items_at, row_kind, two_values_at};
@@ -27,7 +26,7 @@ use crate::statements::eval_statement;
 use crate::task::{Context, Task};
 use crate::terms::unsupported;
 use aml_meaning::{
-    DataKind, DeclarationKind, Flow, RegionKind, Running, TermKind, WorldState, kind_of,
+    DeclarationKind, Flow, RegionKind, Running, TermKind, WorldState, kind_of,
 };
 use aml_objects::Value;
 use aml_terms::{Cursor, RowPlace};
@@ -115,9 +114,7 @@ pub(crate) fn eval_coded<S: Space>(
     ensures behind { OnOk result (cursor.new ≡ (with_row (a_term (count_at context.now.marks.now) levels) (row_at place) cursor.old).1) }
 {
     match kind_of(place.row().0) {
-        TermKind::Data(kind) => eval_data_at_cursor(
-            alloc, run, context, cursor, levels, place, kind,
-        ),
+        TermKind::Data(kind) => eval_data(alloc, run, context, cursor, levels, place, kind),
         TermKind::Declaration(kind) => {
             eval_declaration_at_cursor(alloc, run, context, cursor, levels, place, kind)
         }
@@ -182,37 +179,6 @@ fn eval_region_at_cursor<S: Space>(
 {
     let term = cursor.coded_term(context.marks, levels, place);
     let flow = eval_region_term(
-        alloc,
-        run,
-        &Task {
-            site: context.site,
-            term: &term,
-        },
-        kind,
-    )?;
-    cursor.over_operands(context.marks, levels, place);
-    Ok(flow)
-}
-
-/// Data.
-#[inline(never)]
-#[cycle(evaluation)]
-#[tactic(auto, using(crate::proofs::Steps::evaluating))]
-fn eval_data_at_cursor<S: Space>(
-    alloc: Global,
-    run: &mut Running<S>,
-    context: &Context<'_>,
-    cursor: &mut Cursor<'_>,
-    levels: u8,
-    place: RowPlace,
-    kind: DataKind,
-) -> Result<Flow, Refusal>
-    ensures spent { run.new.1 ≤ run.old.1 }
-    ensures means { Does result run.new (data_rule (meaning S.accesses) kind context.now.site.now.scope.path.now context.now.site.now.depth (with_row (a_term (count_at context.now.marks.now) levels) (row_at place) cursor.old).0) run.old }
-    ensures behind { OnOk result (cursor.new ≡ (with_row (a_term (count_at context.now.marks.now) levels) (row_at place) cursor.old).1) }
-{
-    let term = cursor.coded_term(context.marks, levels, place);
-    let flow = eval_data(
         alloc,
         run,
         &Task {

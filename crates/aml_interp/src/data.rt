@@ -1,42 +1,53 @@
 //! Data that terms form: integers, strings, buffers and packages (ACPI 6.5, 19.6 and 20.2.3).
-ghost use Rattle.std.specs.Prelude.{◌≡◌, ◌≤◌, ◌<◌, [], OnOk, Ok};
+ghost use Rattle.std.specs.Prelude.{◌≡◌, ◌≤◌, ◌<◌, [], OnOk, Ok, true, false, length};
 ghost use Rattle.ar_space.specs.Outcome.{Answers, NotMemory};
 ghost use Rattle.ar_space.specs.Change.{Does};
-ghost use Rattle.aml_terms.specs.AtTree.{at_tree, at_list};
-ghost use Rattle.aml_grammar.specs.Apart.{code_of};
+ghost use Rattle.aml_grammar.specs.Tree.{Tree, no_trees};
+ghost use Rattle.aml_grammar.specs.Shape.{trees_of};
+ghost use Rattle.aml_marked.specs.Marked.{Walk, count_at, a_term, a_name, an_integer, over, with_row, to_end};
+ghost use Rattle.aml_scan.specs.RowsAt.{row_at};
 ghost use Rattle.aml_objects.specs.declared.object.Element.TheVariants as elements;
+ghost use Rattle.aml_meaning.specs.declared.term_kind.TermKind.TheVariants as kinds;
 ghost use Rattle.aml_meaning.specs.Meaning.{meaning};
-ghost use Rattle.aml_meaning.specs.DataTerms.{data_rule, constant_rule, integer_rule, string_rule, buffer_rule, named_element, valued_element, element_by, elements_in_turn, package_of, package_rule, var_package_rule};
+ghost use Rattle.aml_meaning.specs.DataTerms.{data_rule, constant_rule, integer_rule, string_rule, valued_element, elements_in_turn, package_of};
+ghost use Rattle.aml_interp.specs.AtCursor.{behind_one, outside_at, row_kind};
+ghost use Rattle.aml_interp.specs.DataAtCursor.{elements_at, element_at, named_at, buffer_at, package_at, var_package_at};
 
-use crate::operands::{Reader, bytes, code, inner, list, number, take_first};
-use crate::task::Task;
-use crate::terms::{eval_integer_of, eval_value};
-use aml_grammar::{TermCode, TermReader};
+use crate::at_cursor::{eval_integer_at_cursor, eval_value_at_cursor};
+use crate::operands::{bytes, number};
+use crate::task::Context;
 use aml_meaning::{DataKind, Flow, Running};
-use aml_objects::{Element, Elements};
+use aml_objects::{Element, Elements, Octets};
 use aml_path::{NameString, Path};
+use aml_terms::{Cursor, RowPlace};
 use ar_space::{Refusal, Space};
 use std::alloc::Global;
 
-/// Data, by its kind.
+/// Data, by its kind: its operands begin at the cursor.
+#[inline(never)]
 #[cycle(evaluation)]
-#[tactic(auto, using(crate::proofs::Steps::evaluating))]
+#[tactic(auto, using(crate::proofs::Steps::evaluating, crate::proofs::DataAtCursor::data_rules, crate::proofs::CursorRules::operand_rules))]
 pub(crate) fn eval_data<S: Space>(
     alloc: Global,
     run: &mut Running<S>,
-    job: &Task<'_>,
+    context: &Context<'_>,
+    cursor: &mut Cursor<'_>,
+    levels: u8,
+    place: RowPlace,
     kind: DataKind,
 ) -> Result<Flow, Refusal>
+    requires { row_kind (row_at place) ≡ kinds.Data kind }
     ensures spent { run.new.1 ≤ run.old.1 }
-    ensures means { Does result run.new (data_rule (meaning S.accesses) kind job.now.site.now.scope.path.now job.now.site.now.depth (at_tree job.now.term.now)) run.old }
+    ensures means { Does result run.new (data_rule (meaning S.accesses) kind context.now.site.now.scope.path.now context.now.site.now.depth (with_row (a_term (count_at context.now.marks.now) levels) (row_at place) cursor.old).0) run.old }
+    ensures behind { OnOk result (cursor.new ≡ (with_row (a_term (count_at context.now.marks.now) levels) (row_at place) cursor.old).1) }
 {
     match kind {
         DataKind::Constant(number) => eval_constant(run, number),
-        DataKind::Integer => eval_integer(run, job.term),
-        DataKind::String => eval_string(alloc, run, job.term),
-        DataKind::Buffer => eval_buffer(alloc, run, job),
-        DataKind::Package => eval_package(alloc, run, job),
-        DataKind::VarPackage => eval_var_package(alloc, run, job),
+        DataKind::Integer => eval_integer(run, context, cursor, levels, place),
+        DataKind::String => eval_string(alloc, run, context, cursor, levels, place),
+        DataKind::Buffer => eval_buffer(alloc, run, context, cursor, levels),
+        DataKind::Package => eval_package(alloc, run, context, cursor, levels),
+        DataKind::VarPackage => eval_var_package(alloc, run, context, cursor, levels),
     }
 }
 
@@ -53,11 +64,20 @@ fn eval_constant<S: Space>(run: &Running<S>, number: u64) -> Result<Flow, Refusa
 /// An integer that follows its opcode.
 #[inline(never)]
 #[tactic(auto, using(crate::proofs::Steps::evaluating), unfolding(aml_meaning::specs::DataTerms::integer_rule))]
-fn eval_integer<S: Space>(run: &Running<S>, term: &Reader<'_>) -> Result<Flow, Refusal>
-    ensures answer { Does result run.now (integer_rule (meaning S.accesses) (at_tree term.now)) run.now }
+fn eval_integer<S: Space>(
+    run: &Running<S>,
+    context: &Context<'_>,
+    cursor: &mut Cursor<'_>,
+    levels: u8,
+    place: RowPlace,
+) -> Result<Flow, Refusal>
+    ensures answer { Does result run.now (integer_rule (meaning S.accesses) (with_row (a_term (count_at context.now.marks.now) levels) (row_at place) cursor.old).0) run.now }
     ensures memory { NotMemory result }
+    ensures behind { OnOk result (cursor.new ≡ (with_row (a_term (count_at context.now.marks.now) levels) (row_at place) cursor.old).1) }
 {
-    let number = number(term, 0)?;
+    let term = cursor.coded_term(context.marks, levels, place);
+    cursor.over_operands(context.marks, levels, place);
+    let number = number(&term, 0)?;
     eval_constant(run, number)
 }
 
@@ -66,129 +86,166 @@ fn eval_integer<S: Space>(run: &Running<S>, term: &Reader<'_>) -> Result<Flow, R
 fn eval_string<S: Space>(
     alloc: Global,
     run: &mut Running<S>,
-    term: &Reader<'_>,
+    context: &Context<'_>,
+    cursor: &mut Cursor<'_>,
+    levels: u8,
+    place: RowPlace,
 ) -> Result<Flow, Refusal>
     ensures spent { run.new.1 ≤ run.old.1 }
-    ensures means { Does result run.new (string_rule (meaning S.accesses) (at_tree term.now)) run.old }
+    ensures means { Does result run.new (string_rule (meaning S.accesses) (with_row (a_term (count_at context.now.marks.now) levels) (row_at place) cursor.old).0) run.old }
+    ensures behind { OnOk result (cursor.new ≡ (with_row (a_term (count_at context.now.marks.now) levels) (row_at place) cursor.old).1) }
 {
-    let text = bytes(alloc, term, 0)?;
+    let term = cursor.coded_term(context.marks, levels, place);
+    cursor.over_operands(context.marks, levels, place);
+    let text = bytes(alloc, &term, 0)?;
     let value = run.world.make_string(text)?;
     Ok(Flow::Value(value))
 }
 
+/// A buffer: its size is a term, and the bytes behind it are its first ones.
 #[inline(never)]
 #[cycle(evaluation)]
-#[tactic(auto, using(crate::proofs::Steps::evaluating), unfolding(aml_meaning::specs::DataTerms::buffer_rule))]
+#[tactic(auto, using(crate::proofs::Steps::evaluating), unfolding(crate::specs::DataAtCursor::buffer_at))]
 fn eval_buffer<S: Space>(
     alloc: Global,
     run: &mut Running<S>,
-    job: &Task<'_>,
+    context: &Context<'_>,
+    cursor: &mut Cursor<'_>,
+    levels: u8,
 ) -> Result<Flow, Refusal>
     ensures spent { run.new.1 ≤ run.old.1 }
-    ensures means { Does result run.new (buffer_rule (meaning S.accesses) job.now.site.now.scope.path.now job.now.site.now.depth (at_tree job.now.term.now)) run.old }
+    ensures means { Does result run.new (buffer_at (meaning S.accesses) context.now.site.now.scope.path.now context.now.site.now.depth (a_term (count_at context.now.marks.now) levels) cursor.old) run.old }
+    ensures behind { OnOk result (cursor.new ≡ outside_at cursor.old) }
 {
-    let size = inner(job.term, 0)?;
-    let length = eval_integer_of(alloc, run, job, &size)?;
-    let bytes = bytes(alloc, job.term, 1)?;
+    let outer = cursor.open();
+    let length = eval_integer_at_cursor(alloc, run, context, cursor, levels)?;
+    let bytes = copied(alloc, cursor.rest())?;
     let value = run.world.new_buffer(length, bytes)?;
+    *cursor = outer;
     Ok(Flow::Value(value))
 }
 
+fn copied(alloc: Global, bytes: &[u8]) -> Result<Octets, Refusal>
+    ensures { Answers result (Ok bytes.now) }
+{
+    Ok(Octets::from_vec(Vec::from_slice(alloc, bytes)?))
+}
+
+/// A package: a byte says how many elements it has.
 #[inline(never)]
 #[cycle(evaluation)]
-#[tactic(auto, using(crate::proofs::Steps::evaluating), unfolding(aml_meaning::specs::DataTerms::package_rule))]
+#[tactic(auto, using(crate::proofs::Steps::evaluating, crate::proofs::DataAtCursor::counting))]
 fn eval_package<S: Space>(
     alloc: Global,
     run: &mut Running<S>,
-    job: &Task<'_>,
+    context: &Context<'_>,
+    cursor: &mut Cursor<'_>,
+    levels: u8,
 ) -> Result<Flow, Refusal>
     ensures spent { run.new.1 ≤ run.old.1 }
-    ensures means { Does result run.new (package_rule (meaning S.accesses) job.now.site.now.scope.path.now job.now.site.now.depth (at_tree job.now.term.now)) run.old }
+    ensures means { Does result run.new (package_at (meaning S.accesses) context.now.site.now.scope.path.now context.now.site.now.depth (a_term (count_at context.now.marks.now) levels) cursor.old) run.old }
+    ensures behind { OnOk result (cursor.new ≡ outside_at cursor.old) }
 {
-    let count = number(job.term, 0)?;
-    let elements = list(job.term, 1)?;
-    package_of(
-        alloc,
-        run,
-        &Task {
-            term: &elements,
-            ..*job
-        },
-        count as usize,
-    )
+    let outer = cursor.open();
+    let count = element_count(cursor);
+    let flow = eval_package_of(alloc, run, context, cursor, levels, usize::from(count))?;
+    *cursor = outer;
+    Ok(flow)
 }
 
+/// How many elements a package has, and the elements are next.
+#[tactic(auto, using(crate::proofs::DataAtCursor::counting))]
+fn element_count(cursor: &mut Cursor<'_>) -> u8
+    ensures count { result ≡ (an_integer 1 cursor.old).0 }
+    ensures behind { cursor.new ≡ over 1 cursor.old }
+{
+    let count = cursor.first();
+    cursor.over(1);
+    count
+}
+
+/// A package: a term says how many elements it has.
 #[inline(never)]
 #[cycle(evaluation)]
-#[tactic(auto, using(crate::proofs::Steps::evaluating), unfolding(aml_meaning::specs::DataTerms::var_package_rule))]
+#[tactic(auto, using(crate::proofs::Steps::evaluating), unfolding(crate::specs::DataAtCursor::var_package_at))]
 fn eval_var_package<S: Space>(
     alloc: Global,
     run: &mut Running<S>,
-    job: &Task<'_>,
+    context: &Context<'_>,
+    cursor: &mut Cursor<'_>,
+    levels: u8,
 ) -> Result<Flow, Refusal>
     ensures spent { run.new.1 ≤ run.old.1 }
-    ensures means { Does result run.new (var_package_rule (meaning S.accesses) job.now.site.now.scope.path.now job.now.site.now.depth (at_tree job.now.term.now)) run.old }
+    ensures means { Does result run.new (var_package_at (meaning S.accesses) context.now.site.now.scope.path.now context.now.site.now.depth (a_term (count_at context.now.marks.now) levels) cursor.old) run.old }
+    ensures behind { OnOk result (cursor.new ≡ outside_at cursor.old) }
 {
-    let size = inner(job.term, 0)?;
-    let count = eval_integer_of(alloc, run, job, &size)?;
+    let outer = cursor.open();
+    let count = eval_integer_at_cursor(alloc, run, context, cursor, levels)?;
     run.world.few_elements(count)?;
-    let elements = list(job.term, 1)?;
-    package_of(
-        alloc,
-        run,
-        &Task {
-            term: &elements,
-            ..*job
-        },
-        count as usize,
-    )
+    let flow = eval_package_of(alloc, run, context, cursor, levels, count as usize)?;
+    *cursor = outer;
+    Ok(flow)
 }
 
-/// A package of so many elements, the first of which are given.
+/// A package of so many elements, the first of which are given. Where the cursor is left is not said.
 #[cycle(evaluation)]
 #[tactic(auto, using(crate::proofs::Steps::evaluating), unfolding(aml_meaning::specs::DataTerms::package_of))]
-fn package_of<S: Space>(
+fn eval_package_of<S: Space>(
     alloc: Global,
     run: &mut Running<S>,
-    job: &Task<'_>,
+    context: &Context<'_>,
+    cursor: &mut Cursor<'_>,
+    levels: u8,
     count: usize,
 ) -> Result<Flow, Refusal>
     ensures spent { run.new.1 ≤ run.old.1 }
-    ensures means { Does result run.new (package_of (meaning S.accesses) job.now.site.now.scope.path.now job.now.site.now.depth count (at_list job.now.term.now)) run.old }
+    ensures means { Does result run.new (package_of (meaning S.accesses) context.now.site.now.scope.path.now context.now.site.now.depth count (elements_at (a_term (count_at context.now.marks.now) levels) cursor.old)) run.old }
 {
-    let elements = eval_elements(alloc, run, job, count)?;
+    let elements = eval_elements(alloc, run, context, cursor, levels, count)?;
     let value = run.world.new_package(count, elements)?;
     Ok(Flow::Value(value))
 }
 
 /// Elements one after another, so many at most.
 #[cycle(evaluation)]
-#[tactic(auto, using(crate::proofs::Steps::evaluating))]
+#[tactic(auto, using(crate::proofs::Steps::evaluating), unfolding(aml_marked::specs::Marked::all_items))]
 fn eval_elements<S: Space>(
     alloc: Global,
     run: &mut Running<S>,
-    job: &Task<'_>,
+    context: &Context<'_>,
+    cursor: &mut Cursor<'_>,
+    levels: u8,
     count: usize,
 ) -> Result<Elements, Refusal>
     ensures spent { run.new.1 ≤ run.old.1 }
-    ensures means { Does result run.new (elements_in_turn (meaning S.accesses) job.now.site.now.scope.path.now job.now.site.now.depth count (at_list job.now.term.now) []) run.old }
+    ensures means { Does result run.new (elements_in_turn (meaning S.accesses) context.now.site.now.scope.path.now context.now.site.now.depth count (elements_at (a_term (count_at context.now.marks.now) levels) cursor.old) []) run.old }
 {
     let mut elements = Elements::new(alloc);
     let mut left = count;
-    let mut rest = *job.term;
+    let mut turns = cursor.rest().len();
     'items: while left > 0 {
-        let taken = take_first(&mut rest);
-        match taken {
-            None => return Ok(elements),
-            Some(ref item) => {
-                let code = code(item);
-                let element = eval_element(alloc, run, &Task { term: item, ..*job }, code)?;
-                elements.push(element)?;
-                left -= 1;
-            }
+        if !has_element(cursor, turns) {
+            return Ok(elements);
         }
+        let element = eval_element(alloc, run, context, cursor, levels)?;
+        elements.push(element)?;
+        left -= 1;
+        turns -= 1;
     }
     Ok(elements)
+}
+
+/// Whether an element stands next, where there are so many turns at most.
+#[tactic(auto, using(crate::proofs::DataAtCursor::counting))]
+fn has_element(cursor: &Cursor<'_>, turns: usize) -> bool
+    ensures turns { result ≡ true → 0 < turns }
+    ensures bytes { result ≡ true → 0 < length cursor.now.rest }
+    ensures none { (walk : Walk Tree) → result ≡ false → trees_of (to_end walk turns cursor.now).0 ≡ no_trees }
+{
+    if turns == 0 {
+        return false;
+    }
+    !cursor.is_empty()
 }
 
 #[cycle(evaluation)]
@@ -196,54 +253,57 @@ fn eval_elements<S: Space>(
 fn eval_element<S: Space>(
     alloc: Global,
     run: &mut Running<S>,
-    job: &Task<'_>,
-    code: TermCode,
+    context: &Context<'_>,
+    cursor: &mut Cursor<'_>,
+    levels: u8,
 ) -> Result<Element, Refusal>
     ensures spent { run.new.1 ≤ run.old.1 }
     ensures paid { OnOk result (run.new.1 < run.old.1) }
-    ensures means { Does result run.new (element_by (meaning S.accesses) code job.now.site.now.scope.path.now job.now.site.now.depth (at_tree job.now.term.now)) run.old }
+    ensures means { Does result run.new (element_at (meaning S.accesses) context.now.site.now.scope.path.now context.now.site.now.depth (a_term (count_at context.now.marks.now) levels) cursor.old) run.old }
+    ensures behind { OnOk result (cursor.new ≡ ((a_term (count_at context.now.marks.now) levels) true cursor.old).1) }
 {
-    match code {
-        TermCode::Name => named_element(alloc, run, job),
-        TermCode::Opcode(_) => valued_element(alloc, run, job),
-        TermCode::MethodInvocation => valued_element(alloc, run, job),
-        TermCode::NamedField => valued_element(alloc, run, job),
-        TermCode::ReservedField => valued_element(alloc, run, job),
-        TermCode::AccessField => valued_element(alloc, run, job),
-        TermCode::ExtendedAccessField => valued_element(alloc, run, job),
-        TermCode::ConnectField => valued_element(alloc, run, job),
+    if cursor.is_at_call(levels) {
+        return named_element(alloc, run, context, cursor);
     }
+    eval_valued_element(alloc, run, context, cursor, levels)
 }
 
 /// A name in a package, which is searched for at each use.
-#[tactic(auto, using(crate::proofs::Steps::evaluating), unfolding(aml_meaning::specs::DataTerms::named_element))]
+#[inline(never)]
+#[tactic(auto, using(crate::proofs::Steps::evaluating), unfolding(crate::specs::DataAtCursor::named_at, aml_marked::specs::Marked::a_name))]
 fn named_element<S: Space>(
     alloc: Global,
     run: &mut Running<S>,
-    job: &Task<'_>,
+    context: &Context<'_>,
+    cursor: &mut Cursor<'_>,
 ) -> Result<Element, Refusal>
     ensures spent { run.new.1 ≤ run.old.1 }
     ensures paid { OnOk result (run.new.1 < run.old.1) }
-    ensures means { Does result run.new (named_element (meaning S.accesses) job.now.site.now.scope.path.now (at_tree job.now.term.now)) run.old }
+    ensures means { Does result run.new (named_at (meaning S.accesses) context.now.site.now.scope.path.now context.now.site.now.depth cursor.old) run.old }
+    ensures behind { OnOk result (cursor.new ≡ (a_name cursor.old).1) }
 {
     run.charge()?;
-    let name = job.term.name(alloc, 0)?;
-    let scope = job.site.scope;
+    let name = cursor.name(alloc)?;
+    cursor.over_name();
+    let scope = context.site.scope;
     element_of(alloc, name, scope.path)
 }
 
 #[cycle(evaluation)]
 #[tactic(auto, using(crate::proofs::Steps::evaluating), unfolding(aml_meaning::specs::DataTerms::valued_element))]
-fn valued_element<S: Space>(
+fn eval_valued_element<S: Space>(
     alloc: Global,
     run: &mut Running<S>,
-    job: &Task<'_>,
+    context: &Context<'_>,
+    cursor: &mut Cursor<'_>,
+    levels: u8,
 ) -> Result<Element, Refusal>
     ensures spent { run.new.1 ≤ run.old.1 }
     ensures paid { OnOk result (run.new.1 < run.old.1) }
-    ensures means { Does result run.new (valued_element (meaning S.accesses) job.now.site.now.scope.path.now job.now.site.now.depth (at_tree job.now.term.now)) run.old }
+    ensures means { Does result run.new (valued_element (meaning S.accesses) context.now.site.now.scope.path.now context.now.site.now.depth ((a_term (count_at context.now.marks.now) levels) false cursor.old).0) run.old }
+    ensures behind { OnOk result (cursor.new ≡ behind_one (a_term (count_at context.now.marks.now) levels) cursor.old) }
 {
-    let value = eval_value(alloc, run, job)?;
+    let value = eval_value_at_cursor(alloc, run, context, cursor, levels)?;
     Ok(Element::Value(value))
 }
 

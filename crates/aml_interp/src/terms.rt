@@ -15,7 +15,6 @@ ghost use Rattle.aml_meaning.specs.InvocationTerms.{name_value};
 ghost use Rattle.aml_meaning.specs.Terms.{kind_of};
 
 use crate::at_cursor::eval_coded;
-use crate::data::eval_data;
 use crate::declarations::eval_declaration;
 use crate::invocations::eval_name_at_cursor;
 use crate::operands::{Reader, code, inner, take_first};
@@ -68,7 +67,7 @@ fn eval_opcode<S: Space>(
     ensures means { Does result run.new (kind_rule S.accesses (meaning S.accesses) kind opcode job.now.site.now.scope.path.now job.now.site.now.depth (at_tree job.now.term.now)) run.old }
 {
     match kind {
-        TermKind::Data(kind) => eval_data(alloc, run, job, kind),
+        TermKind::Data(_) => eval_operands(alloc, run, job, opcode, kind),
         TermKind::Declaration(kind) => eval_declaration(alloc, run, job, kind),
         TermKind::Region(kind) => eval_region_term(alloc, run, job, kind),
         TermKind::Operator(_) => eval_operands(alloc, run, job, opcode, kind),
@@ -195,29 +194,6 @@ pub(crate) fn eval_two_values<S: Space>(
     let first = eval_value_at(alloc, run, job, 0)?;
     let second = eval_value_at(alloc, run, job, 1)?;
     Ok((first, second))
-}
-
-/// An integer that another term gives, evaluated where this one is.
-#[cycle(evaluation)]
-#[tactic(auto, using(crate::proofs::Steps::evaluating), unfolding(aml_meaning::specs::Tasks::operand_integer))]
-pub(crate) fn eval_integer_of<S: Space>(
-    alloc: Global,
-    run: &mut Running<S>,
-    job: &Task<'_>,
-    term: &Reader<'_>,
-) -> Result<u64, Refusal>
-    ensures spent { run.new.1 ≤ run.old.1 }
-    ensures means { Does result run.new (operand_integer (meaning S.accesses) job.now.site.now.scope.path.now job.now.site.now.depth (at_tree term.now)) run.old }
-{
-    let value = eval_value(
-        alloc,
-        run,
-        &Task {
-            term: &*term,
-            ..*job
-        },
-    )?;
-    run.world.integer_in(value)
 }
 
 /// Items one after another, until one ends the list.

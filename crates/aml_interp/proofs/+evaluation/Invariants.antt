@@ -1,9 +1,10 @@
 use Rattle.std.proofs.Common.{◌≡◌}
-use Rattle.std.proofs.Common.{◌≤◌, false, ◌+◌, ◌*◌, ◌-◌, []}
+use Rattle.std.proofs.Common.{◌≤◌, true, false, ◌+◌, ◌*◌, ◌-◌, []}
 use Rattle.ar_space.specs.Change.{Same}
 use Rattle.aml_grammar.specs.Shape.{trees_of}
 use Rattle.aml_marked.specs.Marked.{count_at, a_term, to_end, turns_of}
 use Rattle.aml_terms.specs.AtTree.{at_tree, at_list}
+use Rattle.aml_interp.specs.DataAtCursor.{elements_at}
 use Rattle.aml_interp.specs.AtCursor.{behind_one, items_at}
 use Rattle.aml_meaning.specs.Meaning.{meaning}
 use Rattle.aml_meaning.specs.Tasks.{in_turn}
@@ -26,33 +27,6 @@ decreases-terms::eval_list g l = 40 * (l.run.now.1 + (32 - l.job.now.site.now.de
 
 abbrev pub decreases-terms::eval_value_at : goal.decreases-terms::eval_value_at
 decreases-terms::eval_value_at g l = 40 * (l.run.now.1 + (32 - l.job.now.site.now.depth)) + 2
-
-abbrev pub decreases-terms::eval_integer_of : goal.decreases-terms::eval_integer_of
-decreases-terms::eval_integer_of g l = 40 * (l.run.now.1 + (32 - l.job.now.site.now.depth)) + 3
-
-abbrev pub decreases-data::valued_element : goal.decreases-data::valued_element
-decreases-data::valued_element g l = 40 * (l.run.now.1 + (32 - l.job.now.site.now.depth)) + 2
-
-abbrev pub decreases-data::eval_element : goal.decreases-data::eval_element
-decreases-data::eval_element g l = 40 * (l.run.now.1 + (32 - l.job.now.site.now.depth)) + 3
-
-abbrev pub decreases-data::eval_elements : goal.decreases-data::eval_elements
-decreases-data::eval_elements g l = 40 * (l.run.now.1 + (32 - l.job.now.site.now.depth)) + 4
-
-abbrev pub decreases-data::package_of : goal.decreases-data::package_of
-decreases-data::package_of g l = 40 * (l.run.now.1 + (32 - l.job.now.site.now.depth)) + 5
-
-abbrev pub decreases-data::eval_package : goal.decreases-data::eval_package
-decreases-data::eval_package g l = 40 * (l.run.now.1 + (32 - l.job.now.site.now.depth)) + 6
-
-abbrev pub decreases-data::eval_var_package : goal.decreases-data::eval_var_package
-decreases-data::eval_var_package g l = 40 * (l.run.now.1 + (32 - l.job.now.site.now.depth)) + 6
-
-abbrev pub decreases-data::eval_buffer : goal.decreases-data::eval_buffer
-decreases-data::eval_buffer g l = 40 * (l.run.now.1 + (32 - l.job.now.site.now.depth)) + 4
-
-abbrev pub decreases-data::eval_data : goal.decreases-data::eval_data
-decreases-data::eval_data g l = 40 * (l.run.now.1 + (32 - l.job.now.site.now.depth)) + 32
 
 abbrev pub decreases-declarations::eval_name : goal.decreases-declarations::eval_name
 decreases-declarations::eval_name g l = 40 * (l.run.now.1 + (32 - l.job.now.site.now.depth)) + 2
@@ -203,12 +177,6 @@ invariant-terms::eval_list-items g l = (l.run.1 ≤ l.fn.run.1) × Same (in_turn
 
 abbrev pub decreases-terms::eval_list-items : goal.decreases-terms::eval_list-items
 decreases-terms::eval_list-items g l = l.run.1
-
-abbrev pub invariant-data::eval_elements-items : goal.invariant-data::eval_elements-items
-invariant-data::eval_elements-items g l = (l.run.1 ≤ l.fn.run.1) × Same (elements_in_turn (meaning g.S.Space.accesses) l.fn.job.site.now.scope.path.now l.fn.job.site.now.depth l.fn.count (at_list l.fn.job.term.now) []) l.fn.run (elements_in_turn (meaning g.S.Space.accesses) l.fn.job.site.now.scope.path.now l.fn.job.site.now.depth l.left (at_list l.rest) l.elements) l.run
-
-abbrev pub decreases-data::eval_elements-items : goal.decreases-data::eval_elements-items
-decreases-data::eval_elements-items g l = l.left
 
 abbrev pub invariant-index_fields::eval_index_reads-loop-unit : goal.invariant-index_fields::eval_index_reads-loop-unit
 invariant-index_fields::eval_index_reads-loop-unit g l = (l.run.1 ≤ l.fn.run.1) × Reading (index_unit g.S.Space.accesses (asked (answer_within g.S.Space.accesses (meaning g.S.Space.accesses) l.calls)) l.index l.behind l.field.access) l.field l.fn.run l.bits.items l.unit-iterator l.run
@@ -408,9 +376,6 @@ decreases-terms::eval_call_read g l = 40 * (l.run.now.1 + (32 - l.job.now.site.n
 abbrev pub decreases-terms::eval_opcode : goal.decreases-terms::eval_opcode
 decreases-terms::eval_opcode g l = 40 * (l.run.now.1 + (32 - l.job.now.site.now.depth)) + 38
 
-abbrev pub decreases-at_cursor::eval_data_at_cursor : goal.decreases-at_cursor::eval_data_at_cursor
-decreases-at_cursor::eval_data_at_cursor g l = 40 * (l.run.now.1 + (32 - l.context.now.site.now.depth)) + 33
-
 abbrev pub decreases-at_cursor::eval_declaration_at_cursor : goal.decreases-at_cursor::eval_declaration_at_cursor
 decreases-at_cursor::eval_declaration_at_cursor g l = 40 * (l.run.now.1 + (32 - l.context.now.site.now.depth)) + 33
 
@@ -419,3 +384,33 @@ decreases-at_cursor::eval_region_at_cursor g l = 40 * (l.run.now.1 + (32 - l.con
 
 abbrev pub decreases-terms::eval_two_values : goal.decreases-terms::eval_two_values
 decreases-terms::eval_two_values g l = 40 * (l.run.now.1 + (32 - l.job.now.site.now.depth)) + 3
+
+abbrev pub decreases-data::eval_valued_element : goal.decreases-data::eval_valued_element
+decreases-data::eval_valued_element g l = 40 * (l.run.now.1 + (32 - l.context.now.site.now.depth)) + 3
+
+abbrev pub decreases-data::eval_element : goal.decreases-data::eval_element
+decreases-data::eval_element g l = 40 * (l.run.now.1 + (32 - l.context.now.site.now.depth)) + 4
+
+abbrev pub decreases-data::eval_elements : goal.decreases-data::eval_elements
+decreases-data::eval_elements g l = 40 * (l.run.now.1 + (32 - l.context.now.site.now.depth)) + 5
+
+abbrev pub decreases-data::eval_package_of : goal.decreases-data::eval_package_of
+decreases-data::eval_package_of g l = 40 * (l.run.now.1 + (32 - l.context.now.site.now.depth)) + 6
+
+abbrev pub decreases-data::eval_package : goal.decreases-data::eval_package
+decreases-data::eval_package g l = 40 * (l.run.now.1 + (32 - l.context.now.site.now.depth)) + 7
+
+abbrev pub decreases-data::eval_var_package : goal.decreases-data::eval_var_package
+decreases-data::eval_var_package g l = 40 * (l.run.now.1 + (32 - l.context.now.site.now.depth)) + 7
+
+abbrev pub decreases-data::eval_buffer : goal.decreases-data::eval_buffer
+decreases-data::eval_buffer g l = 40 * (l.run.now.1 + (32 - l.context.now.site.now.depth)) + 5
+
+abbrev pub decreases-data::eval_data : goal.decreases-data::eval_data
+decreases-data::eval_data g l = 40 * (l.run.now.1 + (32 - l.context.now.site.now.depth)) + 33
+
+abbrev pub invariant-data::eval_elements-items : goal.invariant-data::eval_elements-items
+invariant-data::eval_elements-items g l = (l.run.1 ≤ l.fn.run.1) × Same (elements_in_turn (meaning g.S.Space.accesses) l.fn.context.site.now.scope.path.now l.fn.context.site.now.depth l.fn.count (elements_at (a_term (count_at l.fn.context.marks.now) l.fn.levels) l.fn.cursor) []) l.fn.run (elements_in_turn (meaning g.S.Space.accesses) l.fn.context.site.now.scope.path.now l.fn.context.site.now.depth l.left (trees_of (to_end (a_term (count_at l.fn.context.marks.now) l.fn.levels true) l.turns l.cursor).0) l.elements) l.run
+
+abbrev pub decreases-data::eval_elements-items : goal.decreases-data::eval_elements-items
+decreases-data::eval_elements-items g l = l.left
