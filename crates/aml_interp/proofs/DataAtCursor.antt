@@ -1,9 +1,9 @@
 -- Buffers and packages, where their operands stand one behind another: what a cursor comes by is what the rule says of the term's tree.
-use Rattle.std.specs.Prelude.{◌≡◌, ◌≢◌, ◌<◌, ◌-◌, ℕ, zero, suc, List, [], ◌∷◌, length, take, Bool, true, false, ◌==◌, Option, Some, None, Ok, Err, refl}
+use Rattle.std.specs.Prelude.{◌≡◌, ◌≢◌, ◌<◌, ◌-◌, ℕ, zero, suc, List, [], ◌∷◌, ◌++◌, length, take, Bool, true, false, ◌==◌, Option, Some, None, Ok, Err, refl}
 use Rattle.std.proofs.Common.{◌∙◌, sym, ap, arith}
 use Rattle.ar_space.specs.Accesses.{Accesses}
 use Rattle.ar_space.specs.Outcome.{Outcome}
-use Rattle.ar_space.specs.Change.{Change, Does, give, stop, settle, go_on, ◌>>=◌, ◌>>◌}
+use Rattle.ar_space.specs.Change.{Change, Does, Same, give, stop, settle, go_on, ◌>>=◌, ◌>>◌}
 use Rattle.aml_path.specs.declared.segment.Seg.{Seg}
 use Rattle.aml_grammar.specs.declared.opcode.TermCode.TheVariants as codes
 use Rattle.aml_grammar.specs.declared.kinds.Row.{Row}
@@ -11,7 +11,7 @@ use Rattle.aml_grammar.specs.Names.{starts_name}
 use Rattle.aml_grammar.specs.State.{little_endian}
 use Rattle.aml_grammar.specs.Table.{row_of}
 use Rattle.aml_grammar.specs.Shape.{trees_of, parts_of}
-use Rattle.aml_grammar.specs.Tree.{Tree, term, name, no_trees}
+use Rattle.aml_grammar.specs.Tree.{Tree, Trees, term, name, no_trees, tree}
 use Rattle.aml_grammar.specs.Apart.{code_of}
 use Rattle.aml_grammar.specs.Grammar.{is_if}
 use Rattle.aml_marked.specs.Marked.{Place, Below, Walk, first, an_integer, a_name, an_opcode, a_coded, a_call, a_term, a_term_in, with_row, after, gives, no_term, to_end}
@@ -19,6 +19,7 @@ use Rattle.aml_marked.specs.Walking.{some_levels}
 use Rattle.aml_scan.specs.RowsAt.{row_at}
 use Rattle.aml_scan.specs.declared.row_places.RowPlace.{RowPlace}
 use Rattle.aml_objects.specs.declared.object.Element.{Element}
+use Rattle.aml_objects.specs.declared.value.Value.{Value}
 use Rattle.aml_meaning.specs.declared.flow.Flow.{Flow}
 use Rattle.aml_meaning.specs.declared.term_kind.TermKind.TheVariants as kinds
 use Rattle.aml_meaning.specs.declared.term_kind.DataKind.TheVariants as datas
@@ -27,11 +28,12 @@ use Rattle.aml_meaning.specs.Run.{Run, charge}
 use Rattle.aml_meaning.specs.Tasks.{Task, task, operand_value}
 use Rattle.aml_meaning.specs.Meaning.{meaning}
 use Rattle.aml_meaning.specs.Evaluation.{rule}
-use Rattle.aml_meaning.specs.DataTerms.{buffer_rule, package_rule, var_package_rule, package_of, named_element, valued_element, element_by}
+use Rattle.aml_meaning.specs.DataTerms.{buffer_rule, package_rule, var_package_rule, package_of, named_element, valued_element, element_by, elements_in_turn}
 use Rattle.aml_meaning.proofs.Meanings.{meaning_is}
 use Rattle.aml_interp.specs.AtCursor.{outside_at, row_kind}
-use Rattle.aml_interp.specs.DataAtCursor.{named_at, element_at, buffer_at, package_at, var_package_at}
+use Rattle.aml_interp.specs.DataAtCursor.{named_at, named_put, value_put, element_at, element_put, buffer_at, package_at, var_package_at}
 use Rattle.aml_interp.proofs.OperandShapes.{stands, a_buffer, a_package, a_var_package}
+use Rattle.aml_interp.proofs.Steps.{same_element}
 use Rattle.aml_interp.proofs.CursorSteps.{items_none, items_over, none_left, some_left}
 
 -- ---- the operands of rows
@@ -144,20 +146,17 @@ module _ {S : Type 0} (accesses : Accesses S) (scope : List Seg) (depth : ℕ) w
   no_term_same : (s : State S × ℕ) → valued_element (meaning accesses) scope depth no_term s ≡ named_element (meaning accesses) scope no_term s
   no_term_same s = no_term_by s (charge s) refl
 
-  of_no_term : {r : Outcome Element} {s s1 : State S × ℕ} → Does r s1 (valued_element (meaning accesses) scope depth no_term) s → Does r s1 (named_element (meaning accesses) scope no_term) s
-  of_no_term {s = s} h = record { is = λ ne. sym (no_term_same s) ∙ h.is ne }
-
-  of_row : {r : Outcome Element} {s s1 : State S × ℕ} (b : Below) (x : Option Row) (p : Place) → Does r s1 (valued_element (meaning accesses) scope depth (with_row b x p).0) s → Does r s1 (element_by (meaning accesses) (code_of (with_row b x p).0) scope depth (with_row b x p).0) s
+  row_same : (b : Below) (x : Option Row) (p : Place) (s : State S × ℕ) → element_by (meaning accesses) (code_of (with_row b x p).0) scope depth (with_row b x p).0 s ≡ valued_element (meaning accesses) scope depth (with_row b x p).0 s
   unfolding with_row gives
-  of_row b None p h = of_no_term h
-  of_row b (Some row) p h = rw (code_row b row p (is_if row.0) refl) h
+  row_same b None p s = sym (no_term_same s)
+  row_same b (Some row) p s = rw (code_row b row p (is_if row.0) refl) refl
 
-  coded_term : (count : ℕ → ℕ) (n : ℕ) (p : Place) → starts_name (first p.rest) ≡ false → a_term count (suc n) false p ≡ with_row (a_term count n) (row_of (an_opcode p).0) (an_opcode p).1
+  tree_same : (t u : Tree) (s : State S × ℕ) → t ≡ u → element_by (meaning accesses) (code_of u) scope depth u s ≡ valued_element (meaning accesses) scope depth u s → element_by (meaning accesses) (code_of t) scope depth t s ≡ valued_element (meaning accesses) scope depth t s
+  tree_same t u s e f = rw e f
+
+  coded_term : (count : ℕ → ℕ) (n : ℕ) (p : Place) → starts_name (first p.rest) ≡ false → (a_term count (suc n) false p).0 ≡ (with_row (a_term count n) (row_of (an_opcode p).0) (an_opcode p).1).0
   unfolding a_term a_term_in a_coded after gives
   coded_term count n p e = rw e refl
-
-  of_same : {r : Outcome Element} {s s1 : State S × ℕ} (t u : Tree) → t ≡ u → (Does r s1 (valued_element (meaning accesses) scope depth u) s → Does r s1 (element_by (meaning accesses) (code_of u) scope depth u) s) → Does r s1 (valued_element (meaning accesses) scope depth t) s → Does r s1 (element_by (meaning accesses) (code_of t) scope depth t) s
-  of_same t u e f h = rw e (f (rw (← e) h))
 
   called : (count : ℕ → ℕ) (n : ℕ) (p : Place) → starts_name (first p.rest) ≡ true → code_of (a_term count (suc n) false p).0 ≡ codes.MethodInvocation
   unfolding a_term a_term_in a_call after gives
@@ -167,23 +166,51 @@ module _ {S : Type 0} (accesses : Accesses S) (scope : List Seg) (depth : ℕ) w
   unfolding a_term gives
   no_levels_term count p = refl
 
-  of_term : {r : Outcome Element} {s s1 : State S × ℕ} (count : ℕ → ℕ) (levels : ℕ) (p : Place) → code_of (a_term count levels false p).0 ≢ codes.MethodInvocation → Does r s1 (valued_element (meaning accesses) scope depth (a_term count levels false p).0) s → Does r s1 (element_by (meaning accesses) (code_of (a_term count levels false p).0) scope depth (a_term count levels false p).0) s
-  of_term count zero p e h = of_same (a_term count zero false p).0 no_term (no_levels_term count p) of_no_term h
-  of_term {r = r} {s = s} {s1 = s1} count (suc n) p e h = by (starts_name (first p.rest)) refl
+  term_same : (count : ℕ → ℕ) (levels : ℕ) (p : Place) (s : State S × ℕ) → code_of (a_term count levels false p).0 ≢ codes.MethodInvocation → element_by (meaning accesses) (code_of (a_term count levels false p).0) scope depth (a_term count levels false p).0 s ≡ valued_element (meaning accesses) scope depth (a_term count levels false p).0 s
+  term_same count zero p s e = tree_same (a_term count zero false p).0 no_term s (no_levels_term count p) (sym (no_term_same s))
+  term_same count (suc n) p s e = by (starts_name (first p.rest)) refl
     where
-      by : (x : Bool) → starts_name (first p.rest) ≡ x → Does r s1 (element_by (meaning accesses) (code_of (a_term count (suc n) false p).0) scope depth (a_term count (suc n) false p).0) s
+      by : (x : Bool) → starts_name (first p.rest) ≡ x → element_by (meaning accesses) (code_of (a_term count (suc n) false p).0) scope depth (a_term count (suc n) false p).0 s ≡ valued_element (meaning accesses) scope depth (a_term count (suc n) false p).0 s
       by true q = absurd (e (called count n p q))
-      by false q = of_same (a_term count (suc n) false p).0 (with_row (a_term count n) (row_of (an_opcode p).0) (an_opcode p).1).0 (ap (λ (t : Tree × Place). t.0) (coded_term count n p q)) (of_row (a_term count n) (row_of (an_opcode p).0) (an_opcode p).1) h
+      by false q = tree_same (a_term count (suc n) false p).0 (with_row (a_term count n) (row_of (an_opcode p).0) (an_opcode p).1).0 s (coded_term count n p q) (row_same (a_term count n) (row_of (an_opcode p).0) (an_opcode p).1 s)
 
-  pub does_valued_element : {r : Outcome Element} {s s1 : State S × ℕ} (count : ℕ → ℕ) (levels : ℕ) (p : Place) → code_of (a_term count levels false p).0 ≢ codes.MethodInvocation → Does r s1 (valued_element (meaning accesses) scope depth (a_term count levels false p).0) s → Does r s1 (element_at (meaning accesses) scope depth (a_term count levels) p) s
-  does_valued_element count levels p e h = rw (same_element_term count levels p e) (of_term count levels p e h)
+  element_same : (count : ℕ → ℕ) (levels : ℕ) (p : Place) (s : State S × ℕ) → code_of (a_term count levels false p).0 ≢ codes.MethodInvocation → element_at (meaning accesses) scope depth (a_term count levels) p s ≡ valued_element (meaning accesses) scope depth (a_term count levels false p).0 s
+  element_same count levels p s e = rw (same_element_term count levels p e) (term_same count levels p s e)
+
+  valued_put : (t : Tree) (done : List Element) (s : State S × ℕ) (c : Outcome Value × (State S × ℕ)) → operand_value (meaning accesses) scope depth t s ≡ c → (valued_element (meaning accesses) scope depth t >>= (λ e. give (done ++ e ∷ []))) s ≡ value_put (meaning accesses) scope depth done t s
+  unfolding valued_element value_put ◌>>=◌ go_on give
+  valued_put t done s (Ok v, w) e = rw e refl
+  valued_put t done s (Err x, w) e = rw e refl
+
+  after_same : {A B : Type 0} (m n : Run S A) (k : A → Run S B) (s : State S × ℕ) → m s ≡ n s → (m >>= k) s ≡ (n >>= k) s
+  unfolding ◌>>=◌
+  after_same m n k s e = rw e refl
+
+  element_put_is : (count : ℕ → ℕ) (levels : ℕ) (p : Place) (done : List Element) (s : State S × ℕ) → code_of (a_term count levels false p).0 ≢ codes.MethodInvocation → element_put (meaning accesses) scope depth (a_term count levels) done p s ≡ value_put (meaning accesses) scope depth done (a_term count levels false p).0 s
+  unfolding element_put
+  element_put_is count levels p done s e = after_same (element_at (meaning accesses) scope depth (a_term count levels) p) (valued_element (meaning accesses) scope depth (a_term count levels false p).0) (λ x. give (done ++ x ∷ [])) s (element_same count levels p s e) ∙ valued_put (a_term count levels false p).0 done s (operand_value (meaning accesses) scope depth (a_term count levels false p).0 s) refl
+
+  pub does_value_put : {r : Outcome (List Element)} {s s1 : State S × ℕ} (count : ℕ → ℕ) (levels : ℕ) (p : Place) (done : List Element) → code_of (a_term count levels false p).0 ≢ codes.MethodInvocation → Does r s1 (value_put (meaning accesses) scope depth done (a_term count levels false p).0) s → Does r s1 (element_put (meaning accesses) scope depth (a_term count levels) done p) s
+  does_value_put {s = s} count levels p done e h = record { is = λ ne. element_put_is count levels p done s e ∙ h.is ne }
 
   named_is : (p : Place) → named_element (meaning accesses) scope (term codes.Name (parts_of (name (a_name p).0 ∷ []))) ≡ named_at (meaning accesses) scope depth p
   unfolding named_element named_at settle ◌>>=◌ go_on
   named_is p = refl
 
-  pub does_named_element : {r : Outcome Element} {s s1 : State S × ℕ} (count : ℕ → ℕ) (levels : ℕ) (p : Place) → a_term count levels false p ≡ a_call (a_term count (levels - 1)) count p → 0 < levels → Does r s1 (named_at (meaning accesses) scope depth p) s → Does r s1 (element_at (meaning accesses) scope depth (a_term count levels) p) s
-  does_named_element count levels p e lt h = rw (named_term count levels p e lt, named_is p) h
+  pub does_named_put : {r : Outcome (List Element)} {s s1 : State S × ℕ} (count : ℕ → ℕ) (levels : ℕ) (p : Place) (done : List Element) → a_term count levels false p ≡ a_call (a_term count (levels - 1)) count p → 0 < levels → Does r s1 (named_put (meaning accesses) scope depth done p) s → Does r s1 (element_put (meaning accesses) scope depth (a_term count levels) done p) s
+  unfolding element_put named_put
+  does_named_put count levels p done e lt h = rw (named_term count levels p e lt, named_is p) h
+
+-- the elements of a package are its first one and the others
+module _ {S : Type 0} (ev : Task → Run S Flow) (scope : List Seg) (depth : ℕ) (b : Below) where
+  put_first : (p : Place) (done : List Element) (k : List Element → Run S (List Element)) (s : State S × ℕ) (c : Outcome Element × (State S × ℕ)) → element_at ev scope depth b p s ≡ c → (element_at ev scope depth b p >>= (λ e. k (done ++ e ∷ []))) s ≡ (element_put ev scope depth b done p >>= k) s
+  unfolding element_put ◌>>=◌ go_on give
+  put_first p done k s (Ok x, w) e = rw e refl
+  put_first p done k s (Err x, w) e = rw e refl
+
+  pub same_put : {m : Run S (List Element)} {s0 s : State S × ℕ} (n : ℕ) (ts us : Trees) (p : Place) (done : List Element) → Same m s0 (elements_in_turn ev scope depth n ts done) s → ts ≡ tree (b true p).0 us → 0 < n
+      → Same m s0 (element_put ev scope depth b done p >>= elements_in_turn ev scope depth (n - 1) us) s
+  same_put {s = s} n ts us p done h e l = record { is = (same_element ev scope depth n ts done h e l).is ∙ put_first p done (elements_in_turn ev scope depth (n - 1) us) s (element_at ev scope depth b p s) refl }
 
 pub behind_named_element : (count : ℕ → ℕ) (levels : ℕ) (p : Place) → a_term count levels false p ≡ a_call (a_term count (levels - 1)) count p → 0 < levels → (a_term count levels true p).1 ≡ (a_name p).1
 behind_named_element count levels p e lt = ap (λ (t : Tree × Place). t.1) (named_term count levels p e lt)

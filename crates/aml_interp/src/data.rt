@@ -1,23 +1,23 @@
 //! Data that terms form: integers, strings, buffers and packages (ACPI 6.5, 19.6 and 20.2.3).
-ghost use Rattle.std.specs.Prelude.{◌≡◌, ◌≤◌, ◌<◌, [], OnOk, Ok, true, false, length};
-ghost use Rattle.ar_space.specs.Outcome.{Answers, NotMemory};
+ghost use Rattle.std.specs.Prelude.{◌≡◌, ◌≤◌, ◌<◌, ◌++◌, ◌∷◌, [], OnOk, Ok, true, false, length};
+ghost use Rattle.ar_space.specs.Outcome.{Answers, NotMemory, seen};
 ghost use Rattle.ar_space.specs.Change.{Does};
 ghost use Rattle.aml_grammar.specs.Tree.{Tree, no_trees};
 ghost use Rattle.aml_grammar.specs.Shape.{trees_of};
 ghost use Rattle.aml_marked.specs.Marked.{Walk, count_at, a_term, a_name, an_integer, over, with_row, to_end};
 ghost use Rattle.aml_scan.specs.RowsAt.{row_at};
-ghost use Rattle.aml_objects.specs.declared.object.Element.TheVariants as elements;
+ghost use Rattle.aml_objects.specs.declared.object.Element.TheVariants as element;
 ghost use Rattle.aml_meaning.specs.declared.term_kind.TermKind.TheVariants as kinds;
 ghost use Rattle.aml_meaning.specs.Meaning.{meaning};
-ghost use Rattle.aml_meaning.specs.DataTerms.{data_rule, constant_rule, integer_rule, string_rule, valued_element, elements_in_turn, package_of};
+ghost use Rattle.aml_meaning.specs.DataTerms.{data_rule, constant_rule, integer_rule, string_rule, elements_in_turn, package_of};
 ghost use Rattle.aml_interp.specs.AtCursor.{behind_one, outside_at, row_kind};
-ghost use Rattle.aml_interp.specs.DataAtCursor.{elements_at, element_at, named_at, buffer_at, package_at, var_package_at};
+ghost use Rattle.aml_interp.specs.DataAtCursor.{elements_at, element_put, value_put, named_put, named_at, package_made, buffer_at, package_at, var_package_at};
 
 use crate::at_cursor::{eval_integer_at_cursor, eval_value_at_cursor};
 use crate::operands::{bytes, number};
 use crate::task::Context;
 use aml_meaning::{DataKind, Flow, Running};
-use aml_objects::{Element, Elements, Octets};
+use aml_objects::{Element, Elements, Octets, Value};
 use aml_path::{NameString, Path};
 use aml_terms::{Cursor, RowPlace};
 use ar_space::{Refusal, Space};
@@ -189,7 +189,7 @@ fn eval_var_package<S: Space>(
 
 /// A package of so many elements, the first of which are given. Where the cursor is left is not said.
 #[cycle(evaluation)]
-#[tactic(auto, using(crate::proofs::Steps::evaluating), unfolding(aml_meaning::specs::DataTerms::package_of))]
+#[tactic(auto, using(crate::proofs::Steps::evaluating), unfolding(aml_meaning::specs::DataTerms::package_of, crate::specs::DataAtCursor::package_made))]
 fn eval_package_of<S: Space>(
     alloc: Global,
     run: &mut Running<S>,
@@ -202,6 +202,20 @@ fn eval_package_of<S: Space>(
     ensures means { Does result run.new (package_of (meaning S.accesses) context.now.site.now.scope.path.now context.now.site.now.depth count (elements_at (a_term (count_at context.now.marks.now) levels) cursor.old)) run.old }
 {
     let elements = eval_elements(alloc, run, context, cursor, levels, count)?;
+    package_made(run, count, elements)
+}
+
+/// A package of so many elements, the first of which are these.
+#[inline(never)]
+#[tactic(auto, using(crate::proofs::Steps::evaluating), unfolding(crate::specs::DataAtCursor::package_made))]
+fn package_made<S: Space>(
+    run: &mut Running<S>,
+    count: usize,
+    elements: Elements,
+) -> Result<Flow, Refusal>
+    ensures spent { run.new.1 ≤ run.old.1 }
+    ensures means { Does result run.new (package_made count elements) run.old }
+{
     let value = run.world.new_package(count, elements)?;
     Ok(Flow::Value(value))
 }
@@ -227,8 +241,7 @@ fn eval_elements<S: Space>(
         if !has_element(cursor, turns) {
             return Ok(elements);
         }
-        let element = eval_element(alloc, run, context, cursor, levels)?;
-        elements.push(element)?;
+        eval_element(alloc, run, context, cursor, levels, &mut elements)?;
         left -= 1;
         turns -= 1;
     }
@@ -248,6 +261,8 @@ fn has_element(cursor: &Cursor<'_>, turns: usize) -> bool
     !cursor.is_empty()
 }
 
+/// The element that stands next, put behind the others. It is made in a frame of its own, since this one stands on the stack once for
+/// each nested package.
 #[cycle(evaluation)]
 #[tactic(auto, using(crate::proofs::Steps::evaluating))]
 fn eval_element<S: Space>(
@@ -256,20 +271,66 @@ fn eval_element<S: Space>(
     context: &Context<'_>,
     cursor: &mut Cursor<'_>,
     levels: u8,
-) -> Result<Element, Refusal>
+    elements: &mut Elements,
+) -> Result<(), Refusal>
     ensures spent { run.new.1 ≤ run.old.1 }
     ensures paid { OnOk result (run.new.1 < run.old.1) }
-    ensures means { Does result run.new (element_at (meaning S.accesses) context.now.site.now.scope.path.now context.now.site.now.depth (a_term (count_at context.now.marks.now) levels) cursor.old) run.old }
-    ensures behind { OnOk result (cursor.new ≡ ((a_term (count_at context.now.marks.now) levels) true cursor.old).1) }
+    ensures means { Does (seen (λ _. elements.new) result) run.new (element_put (meaning S.accesses) context.now.site.now.scope.path.now context.now.site.now.depth (a_term (count_at context.now.marks.now) levels) elements.old cursor.old) run.old }
+    ensures behind { OnOk result (cursor.new ≡ (a_term (count_at context.now.marks.now) levels true cursor.old).1) }
 {
     if cursor.is_at_call(levels) {
-        return named_element(alloc, run, context, cursor);
+        return put_name(alloc, run, context, cursor, elements);
     }
-    eval_valued_element(alloc, run, context, cursor, levels)
+    eval_value_put(alloc, run, context, cursor, levels, elements)
+}
+
+/// The value of a term, put behind the others.
+#[cycle(evaluation)]
+#[tactic(auto, using(crate::proofs::Steps::evaluating), unfolding(crate::specs::DataAtCursor::value_put))]
+fn eval_value_put<S: Space>(
+    alloc: Global,
+    run: &mut Running<S>,
+    context: &Context<'_>,
+    cursor: &mut Cursor<'_>,
+    levels: u8,
+    elements: &mut Elements,
+) -> Result<(), Refusal>
+    ensures spent { run.new.1 ≤ run.old.1 }
+    ensures paid { OnOk result (run.new.1 < run.old.1) }
+    ensures means { Does (seen (λ _. elements.new) result) run.new (value_put (meaning S.accesses) context.now.site.now.scope.path.now context.now.site.now.depth elements.old (a_term (count_at context.now.marks.now) levels false cursor.old).0) run.old }
+    ensures behind { OnOk result (cursor.new ≡ behind_one (a_term (count_at context.now.marks.now) levels) cursor.old) }
+{
+    let value = eval_value_at_cursor(alloc, run, context, cursor, levels)?;
+    put_value(elements, value)
+}
+
+#[inline(never)]
+fn put_value(elements: &mut Elements, value: Value) -> Result<(), Refusal>
+    ensures { Answers (seen (λ _. elements.new) result) (Ok (elements.old ++ element.Value value ∷ [])) }
+{
+    elements.push(Element::Value(value))
+}
+
+/// A name that is an element, put behind the others.
+#[inline(never)]
+#[tactic(auto, using(crate::proofs::Steps::evaluating), unfolding(crate::specs::DataAtCursor::named_put))]
+fn put_name<S: Space>(
+    alloc: Global,
+    run: &mut Running<S>,
+    context: &Context<'_>,
+    cursor: &mut Cursor<'_>,
+    elements: &mut Elements,
+) -> Result<(), Refusal>
+    ensures spent { run.new.1 ≤ run.old.1 }
+    ensures paid { OnOk result (run.new.1 < run.old.1) }
+    ensures means { Does (seen (λ _. elements.new) result) run.new (named_put (meaning S.accesses) context.now.site.now.scope.path.now context.now.site.now.depth elements.old cursor.old) run.old }
+    ensures behind { OnOk result (cursor.new ≡ (a_name cursor.old).1) }
+{
+    let element = named_element(alloc, run, context, cursor)?;
+    elements.push(element)
 }
 
 /// A name in a package, which is searched for at each use.
-#[inline(never)]
 #[tactic(auto, using(crate::proofs::Steps::evaluating), unfolding(crate::specs::DataAtCursor::named_at, aml_marked::specs::Marked::a_name))]
 fn named_element<S: Space>(
     alloc: Global,
@@ -289,26 +350,8 @@ fn named_element<S: Space>(
     element_of(alloc, name, scope.path)
 }
 
-#[cycle(evaluation)]
-#[tactic(auto, using(crate::proofs::Steps::evaluating), unfolding(aml_meaning::specs::DataTerms::valued_element))]
-fn eval_valued_element<S: Space>(
-    alloc: Global,
-    run: &mut Running<S>,
-    context: &Context<'_>,
-    cursor: &mut Cursor<'_>,
-    levels: u8,
-) -> Result<Element, Refusal>
-    ensures spent { run.new.1 ≤ run.old.1 }
-    ensures paid { OnOk result (run.new.1 < run.old.1) }
-    ensures means { Does result run.new (valued_element (meaning S.accesses) context.now.site.now.scope.path.now context.now.site.now.depth ((a_term (count_at context.now.marks.now) levels) false cursor.old).0) run.old }
-    ensures behind { OnOk result (cursor.new ≡ behind_one (a_term (count_at context.now.marks.now) levels) cursor.old) }
-{
-    let value = eval_value_at_cursor(alloc, run, context, cursor, levels)?;
-    Ok(Element::Value(value))
-}
-
 fn element_of(alloc: Global, name: NameString, scope: &Path) -> Result<Element, Refusal>
-    ensures { Answers result (Ok (elements.Name name scope.now)) }
+    ensures { Answers result (Ok (element.Name name scope.now)) }
 {
     Ok(Element::Name(name, scope.copy(alloc)?))
 }

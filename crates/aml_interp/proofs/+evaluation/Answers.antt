@@ -20,7 +20,7 @@ use Rattle.aml_interp.proofs.ShortTerms.{does_put_nowhere, behind_null, target_s
 use Rattle.aml_marked.specs.Marked.{Place}
 use Rattle.std.proofs.Common.{◌-◌}
 use Rattle.aml_interp.proofs.CallsAtCursor.{does_call, does_call_read, turns_more, turns_behind, turns_none, turns_stay}
-use Rattle.aml_interp.proofs.DataAtCursor.{does_named_element, does_valued_element, behind_named_element, behind_valued_element}
+use Rattle.aml_interp.proofs.DataAtCursor.{does_named_put, does_value_put, same_put, behind_named_element, behind_valued_element}
 use Rattle.aml_interp.proofs.TargetsAtCursor.{does_valued, behind_valued, does_named, behind_named}
 use Rattle.aml_interp.proofs.CursorSteps.{rule_of_kind, does_begun, items_more, items_none, items_over, some_left, none_left}
 use Rattle.aml_interp.proofs.Steps.{same_argument, arguments_end, same_turn, same_after, same_ended, same_item, items_end, same_element, elements_end, elements_full, coded, same_true, same_false}
@@ -47,31 +47,29 @@ terms::eval_list-items-preserved g t c = (
 pub data::eval_elements-returns-then-not-has_element-clause-means : goal.data::eval_elements-returns-then-not-has_element-clause-means
 data::eval_elements-returns-then-not-has_element-clause-means g t c = elements_end (meaning g.S.Space.accesses) c.args.context.now.site.now.scope.path.now c.args.context.now.site.now.depth c.items.left _ c.items.elements c.items.invariant.1 (c.has_element.ensures.none _ c.if-not-has_element.true)
 
-pub data::eval_elements-returns-in_err-element-clause-means : goal.data::eval_elements-returns-in_err-element-clause-means
-data::eval_elements-returns-in_err-element-clause-means g t c =
-    does_same (same_element (meaning g.S.Space.accesses) c.args.context.now.site.now.scope.path.now c.args.context.now.site.now.depth c.items.left _ c.items.elements c.items.invariant.1 (items_more _ _ _ (c.has_element.ensures.turns c.if-not-has_element.false) (c.has_element.ensures.bytes c.if-not-has_element.false)) (omega (arith, c.items-test.true))) (does_err _ _ c.in_err-element.ensures.means c.from_residual.ensures)
+pub data::eval_elements-returns-in_err-eval_element-clause-means : goal.data::eval_elements-returns-in_err-eval_element-clause-means
+data::eval_elements-returns-in_err-eval_element-clause-means g t c = does_same (same_put (meaning g.S.Space.accesses) c.args.context.now.site.now.scope.path.now c.args.context.now.site.now.depth (a_term (count_at c.args.context.now.marks.now) c.args.levels) c.items.left _ _ c.items.cursor c.items.elements c.items.invariant.1 (items_more _ _ _ (c.has_element.ensures.turns c.if-not-has_element.false) (c.has_element.ensures.bytes c.if-not-has_element.false)) (omega (arith, c.items-test.true))) (does_err _ _ c.in_err-eval_element.ensures.means c.from_residual.ensures)
 
 pub data::eval_elements-items-preserved : goal.data::eval_elements-items-preserved
 data::eval_elements-items-preserved g t c = (
   let d = c.items.invariant.0 in let e = c.eval_element.ensures.spent in omega arith,
-  let b = c.in_ok-element.ensures.behind in
-      rw (c.in_ok-push.ensures.ok, b) (same_ok _ _ (same_element (meaning g.S.Space.accesses) c.args.context.now.site.now.scope.path.now c.args.context.now.site.now.depth c.items.left _ c.items.elements c.items.invariant.1 (items_more _ _ _ (c.has_element.ensures.turns c.if-not-has_element.false) (c.has_element.ensures.bytes c.if-not-has_element.false)) (omega (arith, c.items-test.true))) c.in_ok-element.ensures.means),
+  let b = c.in_ok-eval_element.ensures.behind in rw b (same_ok _ _ (same_put (meaning g.S.Space.accesses) c.args.context.now.site.now.scope.path.now c.args.context.now.site.now.depth (a_term (count_at c.args.context.now.marks.now) c.args.levels) c.items.left _ _ c.items.cursor c.items.elements c.items.invariant.1 (items_more _ _ _ (c.has_element.ensures.turns c.if-not-has_element.false) (c.has_element.ensures.bytes c.if-not-has_element.false)) (omega (arith, c.items-test.true))) c.in_ok-eval_element.ensures.means),
 )
 
 pub data::eval_elements-returns-clause-means : goal.data::eval_elements-returns-clause-means
 data::eval_elements-returns-clause-means g t c = elements_full (meaning g.S.Space.accesses) c.args.context.now.site.now.scope.path.now c.args.context.now.site.now.depth c.items.left _ c.items.elements c.items.invariant.1 (omega (arith, c.items-test.false))
 
 pub data::eval_element-returns-then-is_at_call-clause-means : goal.data::eval_element-returns-then-is_at_call-clause-means
-data::eval_element-returns-then-is_at_call-clause-means g t c = does_named_element g.S.Space.accesses c.args.context.now.site.now.scope.path.now c.args.context.now.site.now.depth (count_at c.args.context.now.marks.now) c.args.levels c.args.cursor.now (c.is_at_call.ensures.call (count_at c.args.context.now.marks.now) c.if-is_at_call.true) (c.is_at_call.ensures.levels c.if-is_at_call.true) c.named_element.ensures.means
+data::eval_element-returns-then-is_at_call-clause-means g t c = does_named_put g.S.Space.accesses c.args.context.now.site.now.scope.path.now c.args.context.now.site.now.depth (count_at c.args.context.now.marks.now) c.args.levels c.args.cursor.now c.args.elements.now (c.is_at_call.ensures.call (count_at c.args.context.now.marks.now) c.if-is_at_call.true) (c.is_at_call.ensures.levels c.if-is_at_call.true) c.put_name.ensures.means
 
 pub data::eval_element-returns-clause-means : goal.data::eval_element-returns-clause-means
-data::eval_element-returns-clause-means g t c = does_valued_element g.S.Space.accesses c.args.context.now.site.now.scope.path.now c.args.context.now.site.now.depth (count_at c.args.context.now.marks.now) c.args.levels c.args.cursor.now (c.is_at_call.ensures.none (count_at c.args.context.now.marks.now) c.if-is_at_call.false) c.eval_valued_element.ensures.means
+data::eval_element-returns-clause-means g t c = does_value_put g.S.Space.accesses c.args.context.now.site.now.scope.path.now c.args.context.now.site.now.depth (count_at c.args.context.now.marks.now) c.args.levels c.args.cursor.now c.args.elements.now (c.is_at_call.ensures.none (count_at c.args.context.now.marks.now) c.if-is_at_call.false) c.eval_value_put.ensures.means
 
 pub data::eval_element-returns-then-is_at_call-clause-behind : goal.data::eval_element-returns-then-is_at_call-clause-behind
-data::eval_element-returns-then-is_at_call-clause-behind g t c = rw (behind_named_element (count_at c.args.context.now.marks.now) c.args.levels c.args.cursor.now (c.is_at_call.ensures.call (count_at c.args.context.now.marks.now) c.if-is_at_call.true) (c.is_at_call.ensures.levels c.if-is_at_call.true)) c.named_element.ensures.behind
+data::eval_element-returns-then-is_at_call-clause-behind g t c = rw (behind_named_element (count_at c.args.context.now.marks.now) c.args.levels c.args.cursor.now (c.is_at_call.ensures.call (count_at c.args.context.now.marks.now) c.if-is_at_call.true) (c.is_at_call.ensures.levels c.if-is_at_call.true)) c.put_name.ensures.behind
 
 pub data::eval_element-returns-clause-behind : goal.data::eval_element-returns-clause-behind
-data::eval_element-returns-clause-behind g t c = rw (behind_valued_element (count_at c.args.context.now.marks.now) c.args.levels c.args.cursor.now (c.is_at_call.ensures.none (count_at c.args.context.now.marks.now) c.if-is_at_call.false)) c.eval_valued_element.ensures.behind
+data::eval_element-returns-clause-behind g t c = rw (behind_valued_element (count_at c.args.context.now.marks.now) c.args.levels c.args.cursor.now (c.is_at_call.ensures.none (count_at c.args.context.now.marks.now) c.if-is_at_call.false)) c.eval_value_put.ensures.behind
 
 pub statements::eval_loop-returns-in_err-flow-clause-means : goal.statements::eval_loop-returns-in_err-flow-clause-means
 statements::eval_loop-returns-in_err-flow-clause-means g t c =

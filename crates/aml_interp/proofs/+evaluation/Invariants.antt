@@ -385,8 +385,8 @@ decreases-at_cursor::eval_region_at_cursor g l = 40 * (l.run.now.1 + (32 - l.con
 abbrev pub decreases-terms::eval_two_values : goal.decreases-terms::eval_two_values
 decreases-terms::eval_two_values g l = 40 * (l.run.now.1 + (32 - l.job.now.site.now.depth)) + 3
 
-abbrev pub decreases-data::eval_valued_element : goal.decreases-data::eval_valued_element
-decreases-data::eval_valued_element g l = 40 * (l.run.now.1 + (32 - l.context.now.site.now.depth)) + 3
+abbrev pub decreases-data::eval_value_put : goal.decreases-data::eval_value_put
+decreases-data::eval_value_put g l = 40 * (l.run.now.1 + (32 - l.context.now.site.now.depth)) + 3
 
 abbrev pub decreases-data::eval_element : goal.decreases-data::eval_element
 decreases-data::eval_element g l = 40 * (l.run.now.1 + (32 - l.context.now.site.now.depth)) + 4
