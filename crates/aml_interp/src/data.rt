@@ -201,7 +201,8 @@ fn eval_package_of<S: Space>(
     ensures spent { run.new.1 ≤ run.old.1 }
     ensures means { Does result run.new (package_of (meaning S.accesses) context.now.site.now.scope.path.now context.now.site.now.depth count (elements_at (a_term (count_at context.now.marks.now) levels) cursor.old)) run.old }
 {
-    let elements = eval_elements(alloc, run, context, cursor, levels, count)?;
+    let mut elements = Elements::new(alloc);
+    eval_elements(alloc, run, context, cursor, levels, count, &mut elements)?;
     package_made(run, count, elements)
 }
 
@@ -220,7 +221,7 @@ fn package_made<S: Space>(
     Ok(Flow::Value(value))
 }
 
-/// Elements one after another, so many at most.
+/// Elements one after another, so many at most, put behind the others.
 #[cycle(evaluation)]
 #[tactic(auto, using(crate::proofs::Steps::evaluating), unfolding(aml_marked::specs::Marked::all_items))]
 fn eval_elements<S: Space>(
@@ -230,22 +231,22 @@ fn eval_elements<S: Space>(
     cursor: &mut Cursor<'_>,
     levels: u8,
     count: usize,
-) -> Result<Elements, Refusal>
+    elements: &mut Elements,
+) -> Result<(), Refusal>
     ensures spent { run.new.1 ≤ run.old.1 }
-    ensures means { Does result run.new (elements_in_turn (meaning S.accesses) context.now.site.now.scope.path.now context.now.site.now.depth count (elements_at (a_term (count_at context.now.marks.now) levels) cursor.old) []) run.old }
+    ensures means { Does (seen (λ _. elements.new) result) run.new (elements_in_turn (meaning S.accesses) context.now.site.now.scope.path.now context.now.site.now.depth count (elements_at (a_term (count_at context.now.marks.now) levels) cursor.old) elements.old) run.old }
 {
-    let mut elements = Elements::new(alloc);
     let mut left = count;
     let mut turns = cursor.rest().len();
     'items: while left > 0 {
         if !has_element(cursor, turns) {
-            return Ok(elements);
+            return Ok(());
         }
-        eval_element(alloc, run, context, cursor, levels, &mut elements)?;
+        eval_element(alloc, run, context, cursor, levels, elements)?;
         left -= 1;
         turns -= 1;
     }
-    Ok(elements)
+    Ok(())
 }
 
 /// Whether an element stands next, where there are so many turns at most.

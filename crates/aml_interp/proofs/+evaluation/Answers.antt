@@ -48,7 +48,7 @@ pub data::eval_elements-returns-then-not-has_element-clause-means : goal.data::e
 data::eval_elements-returns-then-not-has_element-clause-means g t c = elements_end (meaning g.S.Space.accesses) c.args.context.now.site.now.scope.path.now c.args.context.now.site.now.depth c.items.left _ c.items.elements c.items.invariant.1 (c.has_element.ensures.none _ c.if-not-has_element.true)
 
 pub data::eval_elements-returns-in_err-eval_element-clause-means : goal.data::eval_elements-returns-in_err-eval_element-clause-means
-data::eval_elements-returns-in_err-eval_element-clause-means g t c = does_same (same_put (meaning g.S.Space.accesses) c.args.context.now.site.now.scope.path.now c.args.context.now.site.now.depth (a_term (count_at c.args.context.now.marks.now) c.args.levels) c.items.left _ _ c.items.cursor c.items.elements c.items.invariant.1 (items_more _ _ _ (c.has_element.ensures.turns c.if-not-has_element.false) (c.has_element.ensures.bytes c.if-not-has_element.false)) (omega (arith, c.items-test.true))) (does_err _ _ c.in_err-eval_element.ensures.means c.from_residual.ensures)
+data::eval_elements-returns-in_err-eval_element-clause-means g t c = does_same (same_put (meaning g.S.Space.accesses) c.args.context.now.site.now.scope.path.now c.args.context.now.site.now.depth (a_term (count_at c.args.context.now.marks.now) c.args.levels) c.items.left _ _ c.items.cursor c.items.elements c.items.invariant.1 (items_more _ _ _ (c.has_element.ensures.turns c.if-not-has_element.false) (c.has_element.ensures.bytes c.if-not-has_element.false)) (omega (arith, c.items-test.true))) (does_seen_err _ _ _ _ c.in_err-eval_element.ensures.means c.from_residual.ensures)
 
 pub data::eval_elements-items-preserved : goal.data::eval_elements-items-preserved
 data::eval_elements-items-preserved g t c = (

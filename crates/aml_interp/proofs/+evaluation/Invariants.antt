@@ -410,7 +410,7 @@ abbrev pub decreases-data::eval_data : goal.decreases-data::eval_data
 decreases-data::eval_data g l = 40 * (l.run.now.1 + (32 - l.context.now.site.now.depth)) + 33
 
 abbrev pub invariant-data::eval_elements-items : goal.invariant-data::eval_elements-items
-invariant-data::eval_elements-items g l = (l.run.1 ≤ l.fn.run.1) × Same (elements_in_turn (meaning g.S.Space.accesses) l.fn.context.site.now.scope.path.now l.fn.context.site.now.depth l.fn.count (elements_at (a_term (count_at l.fn.context.marks.now) l.fn.levels) l.fn.cursor) []) l.fn.run (elements_in_turn (meaning g.S.Space.accesses) l.fn.context.site.now.scope.path.now l.fn.context.site.now.depth l.left (trees_of (to_end (a_term (count_at l.fn.context.marks.now) l.fn.levels true) l.turns l.cursor).0) l.elements) l.run
+invariant-data::eval_elements-items g l = (l.run.1 ≤ l.fn.run.1) × Same (elements_in_turn (meaning g.S.Space.accesses) l.fn.context.site.now.scope.path.now l.fn.context.site.now.depth l.fn.count (elements_at (a_term (count_at l.fn.context.marks.now) l.fn.levels) l.fn.cursor) l.fn.elements) l.fn.run (elements_in_turn (meaning g.S.Space.accesses) l.fn.context.site.now.scope.path.now l.fn.context.site.now.depth l.left (trees_of (to_end (a_term (count_at l.fn.context.marks.now) l.fn.levels true) l.turns l.cursor).0) l.elements) l.run
 
 abbrev pub decreases-data::eval_elements-items : goal.decreases-data::eval_elements-items
 decreases-data::eval_elements-items g l = l.left
