@@ -3,6 +3,7 @@
 
 mod calls;
 mod climb;
+mod hints;
 pub mod laws;
 mod located;
 mod mutexes;
