@@ -26,6 +26,9 @@ numbers_same (x ∷ xs) (y ∷ ys) h =
     cc (head, tail)
 
 -- segments that compare as equal are one
+pub equal_segments : (s t : Seg) → true ≡ pointwise nat_eq s.bytes t.bytes → s ≡ t
+equal_segments s t is = same_seg s t (numbers_same _ _ (sym is))
+
 segments_same : (s t : Seg) → false ≡ not (pointwise nat_eq s.bytes t.bytes) → s ≡ t
 segments_same s t h = same_seg s t (numbers_same _ _ (by _ h))
   where

@@ -6,4 +6,5 @@ pub mod Numbering
 pub mod OneSegment
 pub mod Search
 pub mod Walks
+pub mod Parents
 pub mod Tree

@@ -1,5 +1,5 @@
 -- The tree that nodes make: who is whose child, by an index of parents and segments, and which path leads to a node.
-use Rattle.std.specs.Prelude.{◌≡◌, ◌==◌, if◌then◌else◌, filter_map, ℕ, zero, suc, ◌<◌, true, cond, List, [], ◌∷◌, ◌++◌, map, Option, Some, None, is_some, option_and_then}
+use Rattle.std.specs.Prelude.{Bool, ◌≡◌, ◌==◌, if◌then◌else◌, filter_map, ℕ, zero, suc, ◌<◌, true, cond, List, [], ◌∷◌, ◌++◌, map, Option, Some, None, is_some, option_and_then}
 use Rattle.std.specs.Option.{option_map}
 use Rattle.std.specs.declared.cmp.Ordering.{Ordering}
 use Rattle.std.specs.Ordering.{nat_cmp, eq_by_cmp, ordering_then}
@@ -12,6 +12,7 @@ use Rattle.aml_objects.specs.declared.node.NodeId.{NodeId}
 use Rattle.aml_namespace.specs.declared.node.Node.{Node}
 use Rattle.aml_namespace.specs.Namespace.{Map}
 use Rattle.aml_namespace.specs.Nodes.{NodeMap}
+use Rattle.aml_namespace.specs.Parents.{is_marked}
 
 -- the order of the index: by parents, and then by segments
 abbrev pub index_cmp : ℕ × Seg → ℕ × Seg → Ordering
@@ -26,6 +27,10 @@ Children = ℕ → Seg → Option ℕ
 -- the child of a node that has this segment
 abbrev pub child_in : Index → Children
 child_in es parent segment = option_map (λ (id : NodeId). id.number) (lookup (is_at (index_cmp (parent, segment))) es)
+
+-- each node with a child is marked as a parent
+abbrev pub ParentsMarked : List Bool → Index → Type 0
+ParentsMarked marks es = (p : ℕ) (s : Seg) → is_some (child_in es p s) ≡ true → is_marked marks p ≡ true
 
 -- from a node down some segments
 abbrev pub down : Children → ℕ → List Seg → Option ℕ
@@ -54,6 +59,10 @@ map_of m = from_entries (map (λ e. (path_to m e.0, e.1.entry)) (entries m))
 -- a node's parent and segment
 abbrev pub lies : Option Node → Option (ℕ × Seg)
 lies = option_map (λ (x : Node). (x.parent.number, x.segment))
+
+-- each node but the root is the child of its parent
+abbrev pub AllListed : NodeMap → Children → Type 0
+AllListed m child = (n : ℕ) (x : Node) → get m n ≡ Some x → 0 < n → child x.parent.number x.segment ≡ Some n
 
 -- the nodes and the index make a tree: the root stands; the number of a node is that of its declaration, and below the next
 -- one; a node other than the root is its parent's child, and its parent was declared before it; and a child is a node that

@@ -66,7 +66,7 @@ impl Names {
     pub(crate) fn below(&self, id: NodeId, segments: &[Seg]) -> Option<NodeId>
         ensures { (f : List Seg × Entry) → numbered id.number self.now.map ≡ Some f → option_map (λ id. numbered id.number self.now.map) result ≡ option_map Some (at_path self.now.map (f.0 ++ segments.now)) }
     {
-        descend(&self.index, id, segments)
+        descend(&self.nodes, &self.index, id, segments)
     }
 
     /// The node one segment below one that stands. Where there is none, nothing stands further below either. It takes no memory.
@@ -74,7 +74,7 @@ impl Names {
         ensures here { (f : List Seg × Entry) → numbered id.number self.now.map ≡ Some f → option_map (λ id. numbered id.number self.now.map) result ≡ option_map Some (at_path self.now.map (f.0 ++ segment ∷ [])) }
         ensures deeper { (f : List Seg × Entry) → numbered id.number self.now.map ≡ Some f → result ≡ None → (rest : List Seg) → at_path self.now.map (f.0 ++ segment ∷ rest) ≡ None }
     {
-        child(&self.index, id.number, segment)
+        child(&self.nodes, &self.index, id.number, segment)
     }
 
     /// The path of the node with an id; none where its declaration doesn't stand.

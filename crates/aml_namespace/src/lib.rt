@@ -3,6 +3,8 @@
 
 mod calls;
 mod climb;
+mod hints;
+mod index;
 pub mod laws;
 mod located;
 mod mutexes;
@@ -11,6 +13,7 @@ mod nearest;
 mod node;
 mod node_objects;
 mod nodes;
+mod parents;
 mod removal;
 mod scope;
 mod search;

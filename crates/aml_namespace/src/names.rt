@@ -9,14 +9,14 @@ ghost use Rattle.aml_objects.specs.declared.entry.NamedObject.TheVariants as obj
 ghost use Rattle.aml_namespace.specs.Search.{at_path};
 ghost use Rattle.aml_namespace.specs.Numbering.{Numbered};
 
+use crate::index::Index;
 use crate::node::Node;
 use crate::nodes::Nodes;
-use crate::tree::{Index, child, descend, put};
+use crate::tree::{child, descend, put};
 use aml_objects::{Entry, NamedObject, NodeId};
 use aml_path::{Path, Seg};
 use ar_space::{EvaluationFault, NamespaceFault, Refusal};
 use std::alloc::Global;
-use std::collections::BTreeMap;
 use std::marker::Model;
 
 /// The namespace: what stands at each path, and the number of the next declaration.
@@ -41,7 +41,7 @@ impl Model for Names {
 
     ghost view = { λ n. record { map = map_of n.nodes; next = n.next } };
 
-    ghost invariant = { λ n. Linked n.nodes (child_in n.index.entries) n.next };
+    ghost invariant = { λ n. Linked n.nodes (child_in n.index) n.next };
 }
 
 /// The id of the root.
@@ -58,9 +58,10 @@ impl Names {
     {
         let mut nodes = Nodes::new(alloc);
         nodes.insert(root_node())?;
+        let index = Index::new(alloc)?;
         Ok(Names {
             nodes,
-            index: BTreeMap::new(alloc),
+            index,
             next: 1,
         })
     }
@@ -80,9 +81,9 @@ impl Names {
     pub(crate) fn at(&self, front: &[Seg], back: &[Seg]) -> Option<NodeId>
         ensures { option_map (λ id. numbered id.number self.now.map) result ≡ option_map Some (at_path self.now.map (front.now ++ back.now)) }
     {
-        match descend(&self.index, root_id(), front) {
+        match descend(&self.nodes, &self.index, root_id(), front) {
             None => None,
-            Some(scope) => descend(&self.index, scope, back),
+            Some(scope) => descend(&self.nodes, &self.index, scope, back),
         }
     }
 
@@ -90,7 +91,7 @@ impl Names {
     pub fn find(&self, path: &Path) -> Option<NodeId>
         ensures { option_map (λ id. id.number) result ≡ option_map (λ entry. entry.number) (map.get self.now.map path.now) }
     {
-        descend(&self.index, root_id(), path.segments())
+        descend(&self.nodes, &self.index, root_id(), path.segments())
     }
 
     /// What stands at a path. It takes no memory.
@@ -130,10 +131,10 @@ impl Names {
         let Some((segment, above)) = path.segments().split_last() else {
             return Err(Refusal::Namespace(NamespaceFault::Exists));
         };
-        let Some(parent) = descend(&self.index, root_id(), above) else {
+        let Some(parent) = descend(&self.nodes, &self.index, root_id(), above) else {
             return Err(Refusal::Namespace(NamespaceFault::NotFound));
         };
-        if child(&self.index, parent.number, *segment).is_some() {
+        if child(&self.nodes, &self.index, parent.number, *segment).is_some() {
             return Err(Refusal::Namespace(NamespaceFault::Exists));
         }
         if number == u64::MAX {
@@ -156,7 +157,7 @@ impl Names {
         ensures change { Does result self.new (replaced path.now object) self.old }
         ensures memory { NotMemory result }
     {
-        match descend(&self.index, root_id(), path.segments()) {
+        match descend(&self.nodes, &self.index, root_id(), path.segments()) {
             None => Err(Refusal::Namespace(NamespaceFault::NotFound)),
             Some(id) => {
                 self.nodes.replace(id, object);

@@ -1,17 +1,20 @@
 //! Nodes by id: each under the key that the slab picks, and found by its number where the key isn't known.
-ghost use Rattle.std.specs.Prelude.{◌≡◌, ◌≢◌, ℕ, Some, None, true, false, OnOk, OnErr, IfOk, IsOkUnless, option_map};
+ghost use Rattle.std.specs.Prelude.{◌≡◌, ◌≢◌, ℕ, Some, None, true, false, OnOk, OnErr, IfOk, IfSome, IsOkUnless, option_map};
 ghost use Rattle.std.specs.FinMap as map;
 ghost use Rattle.slab.specs.Slab as slots;
 ghost use Rattle.ar_space.specs.declared.refusal.Refusal.TheVariants.{OutOfMemory};
+ghost use Rattle.aml_path.specs.declared.segment.Seg.{Seg};
 ghost use Rattle.aml_objects.specs.declared.entry.NamedObject.TheVariants.{Data};
 ghost use Rattle.aml_objects.specs.declared.value.Value.TheVariants.{Integer};
 ghost use Rattle.aml_namespace.specs.declared.node.Node.{Node as Seen};
 ghost use Rattle.aml_namespace.specs.Mutexes.{acquired};
 ghost use Rattle.aml_namespace.specs.Nodes.{Keyed, key_of, object_put, with_node_object, node_released};
 
+use crate::hints::{Hints, PROBES, first_place};
 use crate::mutexes::{acquired, release};
 use crate::node::Node;
 use aml_objects::{NamedObject, NodeId, Value};
+use aml_path::Seg;
 use ar_space::Refusal;
 use slab::Slab;
 use std::alloc::Global;
@@ -20,11 +23,13 @@ use std::marker::Model;
 
 /// The nodes that stand, seen as a finite map by the numbers of their declarations.
 ///
-/// How many mutexes are acquired is kept beside them, so that nothing is searched for these where there are none.
+/// How many mutexes are acquired is kept beside them, so that nothing is searched for these where there are none. The hints say
+/// where the node below another may lie, and each is checked before it is believed.
 #[derive(Drop)]
 pub(crate) struct Nodes {
     slab: Slab<Node>,
     keys: BTreeMap<u64, usize>,
+    hints: Hints,
     acquired: usize,
 }
 
@@ -55,6 +60,7 @@ impl Nodes {
         Nodes {
             slab: Slab::new(alloc),
             keys: BTreeMap::new(alloc),
+            hints: Hints::new(alloc),
             acquired: 0,
         }
     }
@@ -89,6 +95,20 @@ impl Nodes {
         }
     }
 
+    /// A node below a parent by a segment, if a hint leads to one; where none does, there may be one all the same. It takes no memory.
+    pub(crate) fn hinted(&self, parent: u64, segment: Seg) -> Option<NodeId>
+        ensures { IfSome result (λ id. (x : Seen) × (map.get self.now id.number ≡ Some x) × (x.parent.number ≡ parent) × (x.segment ≡ segment)) }
+    {
+        let first = first_place(parent, segment);
+        for step in 0..PROBES {
+            let key = self.hints.key_at(first.wrapping_add(step))?;
+            if let Some(id) = node_in(&self.slab, key, parent, segment) {
+                return Some(id);
+            }
+        }
+        None
+    }
+
     /// Puts a node that is new. Where there is no memory for it, nothing changes.
     pub(crate) fn insert(&mut self, node: Node) -> Result<NodeId, Refusal>
         requires new { map.get self.old node.entry.number ≡ None }
@@ -98,6 +118,8 @@ impl Nodes {
         ensures memory { IsOkUnless result OutOfMemory }
     {
         let number = node.entry.number;
+        let parent = node.parent.number;
+        let segment = node.segment;
         let more = acquired(&node.entry.object);
         self.slab.reserve(1)?;
         self.keys.insert(number, self.slab.vacant_key())?;
@@ -105,6 +127,7 @@ impl Nodes {
         // So many mutexes are nodes, and the number of nodes fits.
         let _room = self.slab.capacity();
         self.acquired += more;
+        note(&mut self.hints, &self.slab, parent, segment, key);
         Ok(NodeId { key, number })
     }
 
@@ -171,6 +194,37 @@ fn key_of(slab: &Slab<Node>, keys: &BTreeMap<u64, usize>, id: NodeId) -> Option<
             None => None,
             Some(key) => Some(*key),
         },
+    }
+}
+
+/// The id of the node in the slot with a key, if that lies below a parent by a segment.
+fn node_in(slab: &Slab<Node>, key: usize, parent: u64, segment: Seg) -> Option<NodeId>
+    ensures { IfSome result (λ id. (x : Seen) × (slots.get slab.now key ≡ Some x) × (x.entry.number ≡ id.number) × (x.parent.number ≡ parent) × (x.segment ≡ segment)) }
+{
+    match slab.get(key) {
+        Some(node) if node.parent.number == parent && node.segment == segment => Some(NodeId {
+            key,
+            number: node.entry.number,
+        }),
+        _ => None,
+    }
+}
+
+/// Notes where a node lies, below a parent by a segment. Once the hints are many, all nodes are noted anew.
+fn note(hints: &mut Hints, slab: &Slab<Node>, parent: u64, segment: Seg, key: usize) {
+    if hints.is_full() && hints.renew(slab.len()) {
+        note_all(hints, slab);
+    } else {
+        hints.note(parent, segment, key);
+    }
+}
+
+/// Notes where each node lies.
+fn note_all(hints: &mut Hints, slab: &Slab<Node>) {
+    for key in 0..slab.capacity() {
+        if let Some(node) = slab.get(key) {
+            hints.note(node.parent.number, node.segment, key);
+        }
     }
 }
 

@@ -8,7 +8,7 @@ ghost use Rattle.ar_space.specs.Outcome.{Answers, seen};
 ghost use Rattle.aml_namespace.specs.Walks.{children, walked, is_named};
 
 use crate::names::{Names, root_id};
-use crate::tree::{children_of, descend};
+use crate::tree::descend;
 use aml_objects::NodeId;
 use aml_path::{Path, Seg};
 use ar_space::Refusal;
@@ -22,9 +22,9 @@ impl Names {
     {
         // A number is below the next one.
         let _next = self.next;
-        match descend(&self.index, root_id(), path.segments()) {
+        match descend(&self.nodes, &self.index, root_id(), path.segments()) {
             None => Ok(Vec::new(alloc)),
-            Some(id) => children_of(alloc, &self.index, id.number),
+            Some(id) => self.index.children_of(alloc, id.number),
         }
     }
 
@@ -33,7 +33,7 @@ impl Names {
         ensures { Answers (seen (λ list. list.items) result) (Ok (walked self.now.map)) }
     {
         let mut paths = BTreeSet::new(alloc);
-        for (_, id) in &self.index {
+        for (_, id) in self.index.places() {
             put_named(&mut paths, self.path_of(alloc, *id)?)?;
         }
         listed(alloc, paths)

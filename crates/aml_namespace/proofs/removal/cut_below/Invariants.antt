@@ -7,7 +7,7 @@ use Rattle.aml_namespace.proofs.removal.cut_below.Given as goal
 
 abbrev pub invariant-nodes : goal.invariant-nodes
 invariant-nodes l = record {
-  underway : Underway l.initial.nodes l.nodes (child_in l.index.entries) l.next l.start.number l.current.number;
+  underway : Underway l.initial.nodes l.nodes (child_in l.index) l.next l.start.number l.current.number;
   kept : l.removed ≡ false → l.nodes ≡ l.initial.nodes;
   removed : l.removed ≡ true → HasBelow (path_to l.initial.nodes l.start.number) (map_of l.initial.nodes);
 }

@@ -1,13 +1,9 @@
-use Rattle.std.proofs.Common.{◌∙◌, ap}
+use Rattle.std.proofs.Common.{◌∙◌, ap, Some, cond}
 use Rattle.std.specs.Ordering.{eq_by_cmp}
-use Rattle.std.specs.Option.{option_map}
-use Rattle.std.specs.BTreeMap.{is_at}
-use Rattle.std.specs.Map.{lookup}
 use Rattle.std.specs.FinMap.{insert, remove}
-use Rattle.aml_objects.specs.declared.node.NodeId.{NodeId}
 use Rattle.aml_namespace.specs.Nodes.{NodeMap}
-use Rattle.aml_namespace.specs.Tree.{index_cmp}
-use Rattle.aml_namespace.proofs.Declaring.{put_undone, number_updated}
+use Rattle.aml_namespace.specs.Tree.{index_cmp, child_in}
+use Rattle.aml_namespace.proofs.Declaring.{put_undone}
 use Rattle.aml_namespace.proofs.tree.put.Goals as goal
 
 pub returns-in-Err-clause-nodes_unchanged : goal.returns-in-Err-clause-nodes_unchanged
@@ -20,5 +16,5 @@ returns-in-Err-clause-nodes_unchanged c =
 
 pub returns-in-Ok-clause-children : goal.returns-in-Ok-clause-children
 returns-in-Ok-clause-children c = λ p s.
-    ap (option_map (λ (i : NodeId). i.number)) (c.in-Ok.ensures.updates.0 (p, s))
-    ∙ number_updated (eq_by_cmp index_cmp (c.args.node.parent.number, c.args.node.segment) (p, s)) c.in_ok-id.id c.args.node.entry.number (lookup (is_at (index_cmp (p, s))) c.args.index.now.entries) c.in_ok-id.ensures.id
+    c.in-Ok.ensures.children p s
+    ∙ ap (λ k. cond (eq_by_cmp index_cmp (c.args.node.parent.number, c.args.node.segment) (p, s)) (Some k) (child_in c.args.index.now p s)) c.in_ok-id.ensures.id

@@ -9,7 +9,7 @@ use Rattle.aml_namespace.proofs.names.Names.find.Goals as goal
 pub returns : goal.returns
 returns c =
     c.descend.ensures
-    ∙ ap (λ n. down (child_in c.self.inside.index.entries) n c.segments.result.now) c.root_id.ensures
-    ∙ ap (down (child_in c.self.inside.index.entries) 0) c.segments.ensures
-    ∙ find_is c.self.inside.nodes (child_in c.self.inside.index.entries) c.self.inside.next c.self.invariant c.args.path.now
+    ∙ ap (λ n. down (child_in c.self.inside.index) n c.segments.result.now) c.root_id.ensures
+    ∙ ap (down (child_in c.self.inside.index) 0) c.segments.ensures
+    ∙ find_is c.self.inside.nodes (child_in c.self.inside.index) c.self.inside.next c.self.invariant c.args.path.now
     ∙ ap (λ s. option_map (λ (e : Entry). e.number) (get s.map c.args.path.now)) c.self.view_is

@@ -15,7 +15,7 @@ invariant_of-result c =
     let x = c.root_node.result in
     let nodes : c.insert.new.self ≡ insert empty x.entry.number x = c.in_ok-insert.ensures.put ∙ ap (λ (m : NodeMap). insert m x.entry.number x) c.new-nodes.ensures in
     let alone : Linked c.insert.new.self (child_in []) 1 = subst (λ (m : NodeMap). Linked m (child_in []) 1) (sym nodes) (alone_linked x c.root_node.ensures) in
-    subst (λ (es : Index). Linked c.insert.new.self (child_in es) 1) (sym c.new.ensures.empty) alone
+    subst (λ (es : Index). Linked c.insert.new.self (child_in es) 1) (sym c.in_ok-index.ensures.empty) alone
 
 pub returns : goal.returns
 returns c =

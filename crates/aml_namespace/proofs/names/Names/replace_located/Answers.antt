@@ -14,8 +14,8 @@ returns-in-None-clause-change c = record { is = λ _. replaced_none c.args.locat
 pub invariant_of-self : goal.invariant_of-self
 invariant_of-self c =
     let here = subst (λ (s : Namespace). Some (numbered c.in-Some.id.number s.map) ≡ option_map Some (at_path s.map c.args.located.now)) (sym c.self.view_is) c.in-Some.ensures in
-    subst (λ (m : NodeMap). Linked m (child_in c.self.inside.index.entries) c.self.inside.next) (sym c.replace.ensures)
-    (here_linked c.self.inside.nodes (child_in c.self.inside.index.entries) c.self.inside.next c.self.invariant c.in-Some.id.number c.args.object c.args.located.now here)
+    subst (λ (m : NodeMap). Linked m (child_in c.self.inside.index) c.self.inside.next) (sym c.replace.ensures)
+    (here_linked c.self.inside.nodes (child_in c.self.inside.index) c.self.inside.next c.self.invariant c.in-Some.id.number c.args.object c.args.located.now here)
 
 pub returns-in-Some-clause-change : goal.returns-in-Some-clause-change
 returns-in-Some-clause-change c =
@@ -23,6 +23,6 @@ returns-in-Some-clause-change c =
     record {
       is = λ _.
           ap (replaced c.args.located.now c.args.object) (sym c.self.view_is)
-          ∙ here_replaced c.self.inside.nodes (child_in c.self.inside.index.entries) c.self.inside.next c.self.invariant c.in-Some.id.number c.args.object c.args.located.now here
+          ∙ here_replaced c.self.inside.nodes (child_in c.self.inside.index) c.self.inside.next c.self.invariant c.in-Some.id.number c.args.object c.args.located.now here
           ∙ ap (λ (m : NodeMap). (Ok tt, record { map = map_of m; next = c.self.inside.next })) (sym c.replace.ensures);
     }

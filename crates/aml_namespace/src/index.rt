@@ -1,0 +1,135 @@
+//! An index of nodes by their parents and segments.
+ghost use Rattle.std.specs.Prelude.{◌≡◌, ◌<◌, ◌+◌, ◌^◌, ℕ, [], ◌∷◌, Some, None, Ok, false, OnOk, OnErr, IfOk, IsOkUnless, MatchOption, cond, option_map};
+ghost use Rattle.std.specs.List.Sorted.{IsStrictlySortedBy};
+ghost use Rattle.std.specs.Map.{keys_of};
+ghost use Rattle.std.specs.Ordering.{eq_by_cmp};
+ghost use Rattle.ar_space.specs.Outcome.{Answers, seen};
+ghost use Rattle.aml_path.specs.declared.segment.Seg.{Seg};
+ghost use Rattle.ar_space.specs.declared.refusal.Refusal.TheVariants.{OutOfMemory};
+ghost use Rattle.aml_namespace.specs.Tree.{index_cmp, child_in, segments_below};
+
+use crate::parents::Parents;
+use aml_objects::NodeId;
+use aml_path::Seg;
+use ar_space::Refusal;
+use std::alloc::Global;
+use std::collections::BTreeMap;
+use std::marker::Model;
+
+/// The nodes by their parents' numbers and their segments, seen as the list of all in this order.
+///
+/// Which nodes are parents is kept beside it, so that nothing is searched for below most of those that never were.
+#[derive(Drop)]
+pub(crate) struct Index {
+    places: BTreeMap<(u64, Seg), NodeId>,
+    parents: Parents,
+}
+
+impl Model for Index {
+    ghost use Rattle.std.specs.Prelude.{ℕ, List};
+    ghost use Rattle.aml_path.specs.declared.segment.Seg.{Seg as Segment};
+    ghost use Rattle.aml_objects.specs.declared.node.NodeId.{NodeId as Id};
+
+    ghost Value = { List ((ℕ × Segment) × Id) };
+
+    ghost use Rattle.aml_namespace.specs.Tree.{ParentsMarked};
+
+    ghost view = { λ i. i.places.entries };
+
+    ghost invariant = { λ i. ParentsMarked i.parents i.places.entries };
+}
+
+impl Index {
+    /// No node.
+    pub(crate) fn new(alloc: Global) -> Result<Index, Refusal>
+        ensures empty { IfOk result (λ index. index ≡ []) }
+        ensures memory { IsOkUnless result OutOfMemory }
+    {
+        let parents = Parents::new(alloc)?;
+        Ok(Index {
+            places: BTreeMap::new(alloc),
+            parents,
+        })
+    }
+
+    /// The nodes, in order.
+    pub(crate) fn places(&self) -> &BTreeMap<(u64, Seg), NodeId>
+        ensures { result.now.entries ≡ self.now }
+    {
+        &self.places
+    }
+
+    /// Whether a node may have children. Most of those that never had one have none by this. It takes no memory.
+    pub(crate) fn may_have_children(&self, parent: u64) -> bool
+        ensures { result ≡ false → (s : Seg) → child_in self.now parent s ≡ None }
+    {
+        self.parents.contains(parent)
+    }
+
+    /// The child of a node that has this segment. It takes no memory.
+    pub(crate) fn find(&self, parent: u64, segment: Seg) -> Option<NodeId>
+        ensures { option_map (λ id. id.number) result ≡ child_in self.now parent segment }
+    {
+        self.places.get(&(parent, segment)).copied()
+    }
+
+    /// Puts a node below a parent by a segment. Where there is no memory for it, nothing changes.
+    pub(crate) fn insert(&mut self, parent: u64, segment: Seg, id: NodeId) -> Result<(), Refusal>
+        ensures children { OnOk result ((p : ℕ) (s : Seg) → child_in self.new p s ≡ cond (eq_by_cmp index_cmp (parent, segment) (p, s)) (Some id.number) (child_in self.old p s)) }
+        ensures unchanged { OnErr result (self.new ≡ self.old) }
+        ensures memory { IsOkUnless result OutOfMemory }
+    {
+        self.places.insert((parent, segment), id)?;
+        self.parents.insert(parent);
+        Ok(())
+    }
+
+    /// Takes out what lies below a parent by a segment. It takes no memory.
+    pub(crate) fn remove(&mut self, parent: u64, segment: Seg)
+        ensures { (p : ℕ) (s : Seg) → child_in self.new p s ≡ cond (eq_by_cmp index_cmp (parent, segment) (p, s)) None (child_in self.old p s) }
+    {
+        self.places.remove(&(parent, segment));
+    }
+
+    /// The first child of a node, in the order of segments, with its segment. It takes no memory.
+    pub(crate) fn first_child(&self, parent: u64) -> Option<(Seg, NodeId)>
+        ensures { MatchOption result ((s : Seg) → child_in self.now parent s ≡ None) (λ first. child_in self.now parent first.0 ≡ Some first.1.number) }
+    {
+        if !self.may_have_children(parent) {
+            return None;
+        }
+        let mut from = self.places.range((parent, least_segment())..);
+        match from.next() {
+            None => None,
+            Some((place, id)) => {
+                if place.0 == parent {
+                    Some((place.1, *id))
+                } else {
+                    None
+                }
+            }
+        }
+    }
+
+    /// The segments of a node's children, in order.
+    pub(crate) fn children_of(&self, alloc: Global, parent: u64) -> Result<Vec<Seg>, Refusal>
+        requires { parent + 1 < 2 ^ 64 }
+        ensures children { Answers (seen (λ list. list.items) result) (Ok (segments_below parent self.now)) }
+        ensures ordered { IsStrictlySortedBy index_cmp (keys_of self.now) }
+    {
+        let from = (parent, least_segment());
+        let to = (parent + 1, least_segment());
+        let mut list = Vec::new(alloc);
+        for (place, _) in self.places.range(from..to) {
+            list.push(place.1)?;
+        }
+        Ok(list)
+    }
+}
+
+/// The least segment that there is.
+fn least_segment() -> Seg
+    ensures { result.bytes ≡ 65 ∷ 48 ∷ 48 ∷ 48 ∷ [] }
+{
+    Seg::known(*b"A000")
+}
