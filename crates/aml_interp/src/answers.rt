@@ -8,7 +8,8 @@ ghost use Rattle.aml_meaning.specs.Invocations.{invocation_found};
 ghost use Rattle.aml_meaning.specs.Calling.{called, counted, evaluated, with_rest, with_steps, answer_exported, answered, value_of};
 
 use crate::export::exported;
-use crate::field_calls::eval_field_read;
+use crate::field_calls::calls_left;
+use crate::fields::eval_field_value;
 use crate::invocations::eval_method_value;
 use aml_meaning::{Datum, Invocation, Running, World, WorldState};
 use aml_objects::Value;
@@ -150,7 +151,7 @@ fn value_of<S: Space>(
 {
     match invocation {
         Invocation::Value(value) => Ok(value),
-        Invocation::Field(field) => eval_field_read(alloc, run, 1, field),
+        Invocation::Field(field) => eval_field_value(alloc, run, calls_left(1), field),
         Invocation::Method(path, body) => eval_method_value(alloc, run, 0, &path, &body, arguments),
         Invocation::Osi => run.world.osi(arguments),
     }

@@ -5,7 +5,7 @@ ghost use Rattle.ar_space.specs.Outcome.{seen};
 ghost use Rattle.aml_meaning.specs.Given.{given_of};
 ghost use Rattle.aml_meaning.specs.Fields.{field_given};
 ghost use Rattle.aml_meaning.specs.Meaning.{meaning};
-ghost use Rattle.aml_meaning.specs.FieldCalls.{asked, method_integer, answer_over, answer_within, field_read, held_integer, referent_read, called_at, completed, stored_to, back_to, stored_back, held_value};
+ghost use Rattle.aml_meaning.specs.FieldCalls.{asked, answer_within, held_integer, referent_read, called_at, completed, stored_to, stored_back, held_value};
 
 use crate::answers::invocation;
 use crate::fields::{
@@ -14,31 +14,16 @@ use crate::fields::{
 };
 use crate::invocations::{MAX_DEPTH, eval_method_value};
 use aml_meaning::{Datum, Held, Invocation, Referent, Running, StoreTarget, Stored, integer_only};
-use aml_objects::{Body, Field, Value};
+use aml_objects::{Field, Value};
 use aml_path::Path;
 use ar_space::{EvaluationFault, Refusal, Space, ValueFault};
 use std::alloc::Global;
 
 /// How many calls may still be made, one inside another, where so many control methods are being called.
-fn calls_left(depth: usize) -> usize
+pub(crate) fn calls_left(depth: usize) -> usize
     ensures { result ≡ 32 - depth }
 {
     MAX_DEPTH.saturating_sub(depth)
-}
-
-/// The value of a field, where so many control methods are being called.
-#[cycle(evaluation)]
-#[tactic(auto, using(crate::proofs::Steps::evaluating))]
-pub(crate) fn eval_field_read<S: Space>(
-    alloc: Global,
-    run: &mut Running<S>,
-    depth: usize,
-    field: Field,
-) -> Result<Value, Refusal>
-    ensures spent { run.new.1 ≤ run.old.1 }
-    ensures means { Does result run.new (field_read S.accesses (meaning S.accesses) depth field) run.old }
-{
-    eval_field_value(alloc, run, calls_left(depth), field)
 }
 
 /// What a target holds, as an integer.
@@ -111,24 +96,7 @@ pub(crate) fn eval_stored_back<S: Space>(
     ensures spent { run.new.1 ≤ run.old.1 }
     ensures means { Does result run.new (stored_back S.accesses (meaning S.accesses) depth held target.now value) run.old }
 {
-    eval_back_to(alloc, run, depth, target.is_element(), held, target, value)
-}
-
-#[cycle(evaluation)]
-#[tactic(auto, using(crate::proofs::Steps::evaluating))]
-fn eval_back_to<S: Space>(
-    alloc: Global,
-    run: &mut Running<S>,
-    depth: usize,
-    of_element: bool,
-    held: Held,
-    target: &StoreTarget,
-    value: Value,
-) -> Result<(), Refusal>
-    ensures spent { run.new.1 ≤ run.old.1 }
-    ensures means { Does result run.new (back_to S.accesses (meaning S.accesses) of_element depth held target.now value) run.old }
-{
-    if of_element {
+    if target.is_element() {
         return eval_stored_to(alloc, run, depth, target, value);
     }
     match held {
@@ -151,7 +119,7 @@ pub(crate) fn eval_held_value<S: Space>(
 {
     match held {
         Held::Value(value) => Ok(value),
-        Held::Field(field) => eval_field_read(alloc, run, depth, field),
+        Held::Field(field) => eval_field_value(alloc, run, calls_left(depth), field),
     }
 }
 
@@ -190,8 +158,9 @@ pub(crate) fn eval_asked<S: Space>(
     eval_answer(alloc, run, calls, found)
 }
 
+/// What is found, answered, where so many calls may still be made, this one among them.
 #[cycle(evaluation)]
-#[tactic(auto, using(crate::proofs::Steps::evaluating))]
+#[tactic(auto, using(crate::proofs::Steps::evaluating), unfolding(aml_meaning::specs::FieldCalls::method_integer))]
 fn eval_answer<S: Space>(
     alloc: Global,
     run: &mut Running<S>,
@@ -204,47 +173,16 @@ fn eval_answer<S: Space>(
     if calls == 0 {
         return Err(Refusal::Evaluation(EvaluationFault::CallDepth));
     }
-    eval_answer_over(alloc, run, calls - 1, found)
-}
-
-/// What is found, answered, where so many calls may still be made inside this one.
-#[cycle(evaluation)]
-#[tactic(auto, using(crate::proofs::Steps::evaluating))]
-fn eval_answer_over<S: Space>(
-    alloc: Global,
-    run: &mut Running<S>,
-    calls: usize,
-    found: Invocation,
-) -> Result<u64, Refusal>
-    ensures spent { run.new.1 ≤ run.old.1 }
-    ensures means { Does result run.new (answer_over S.accesses (meaning S.accesses) calls (asked (answer_within S.accesses (meaning S.accesses) calls)) found) run.old }
-{
     match found {
         Invocation::Value(value) => integer_only(value),
-        Invocation::Field(field) => eval_field_part(alloc, run, calls, field),
+        Invocation::Field(field) => eval_field_part(alloc, run, calls - 1, field),
         Invocation::Method(path, body) => {
-            let depth = (MAX_DEPTH - 1).saturating_sub(calls);
-            eval_method_integer(alloc, run, depth, &path, &body)
+            let depth = MAX_DEPTH.saturating_sub(calls);
+            let value = eval_method_value(alloc, run, depth, &path, &body, &[])?;
+            integer_only(value)
         }
         Invocation::Osi => Err(Refusal::Value(ValueFault::WrongType)),
     }
-}
-
-/// The integer that a control method gives, called without arguments.
-#[cycle(evaluation)]
-#[tactic(auto, using(crate::proofs::Steps::evaluating), unfolding(aml_meaning::specs::FieldCalls::method_integer))]
-fn eval_method_integer<S: Space>(
-    alloc: Global,
-    run: &mut Running<S>,
-    depth: usize,
-    path: &Path,
-    body: &Body,
-) -> Result<u64, Refusal>
-    ensures spent { run.new.1 ≤ run.old.1 }
-    ensures means { Does result run.new (method_integer S.accesses (meaning S.accesses) depth path.now body.now) run.old }
-{
-    let value = eval_method_value(alloc, run, depth, path, body, &[])?;
-    integer_only(value)
 }
 
 /// A field as it is handed out, read as in a call of its own.

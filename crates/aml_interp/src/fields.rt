@@ -1,10 +1,10 @@
 //! Fields, read and written (ACPI 6.5, 5.5.2.4 and 19.6: OperationRegion, Field, CreateField).
-ghost use Rattle.std.specs.Prelude.{◌≡◌, ◌≤◌, ◌+◌, ◌<◌, ◌^◌, ◌-◌, ◌++◌, ◌∷◌, []};
+ghost use Rattle.std.specs.Prelude.{◌≡◌, ◌≤◌, ◌+◌, ◌<◌, ◌^◌, ◌-◌};
 ghost use Rattle.ar_space.specs.Change.{Does};
 ghost use Rattle.ar_space.specs.Outcome.{seen};
 ghost use Rattle.aml_meaning.specs.Meaning.{meaning};
 ghost use Rattle.aml_meaning.specs.FieldCalls.{asked, answer_within};
-ghost use Rattle.aml_meaning.specs.Fields.{part_in, inherited, pci_address, space_at, located, region_bits, region_written, field_unit_bits, field_unit_written, bits_in, written_in, field_value, field_integer, field_part, field_referent, field_given, field_stored};
+ghost use Rattle.aml_meaning.specs.Fields.{inherited, pci_address, space_at, located, region_bits, region_written, bits_in, written_in, field_value, field_integer, field_part, field_referent, field_given, field_stored};
 ghost use Rattle.aml_meaning.specs.Given.{given_of};
 
 use crate::field_calls::eval_asked;
@@ -128,7 +128,14 @@ fn eval_bits_in<S: Space>(
     ensures means { Does (seen (λ v. v.items) result) run.new (bits_in S.accesses (asked (answer_within S.accesses (meaning S.accesses) calls)) field) run.old }
 {
     match field {
-        Field::Unit(unit) => eval_unit_bits(alloc, run, calls, unit.source, unit),
+        Field::Unit(unit) => match unit.source {
+            FieldSource::Region(region) => {
+                eval_region_bits(alloc, run, calls, RegionField { region, unit })
+            }
+            FieldSource::Index(index, behind) => {
+                eval_index_bits(alloc, run, calls, index, behind, unit)
+            }
+        },
         Field::Buffer(field) => run.world.read_buffer_field(alloc, field),
     }
 }
@@ -146,54 +153,15 @@ fn eval_written_in<S: Space>(
     ensures means { Does result run.new (written_in S.accesses (asked (answer_within S.accesses (meaning S.accesses) calls)) field bytes.now) run.old }
 {
     match field {
-        Field::Unit(unit) => eval_unit_written(alloc, run, calls, unit.source, unit, bytes),
+        Field::Unit(unit) => match unit.source {
+            FieldSource::Region(region) => {
+                eval_region_written(alloc, run, calls, RegionField { region, unit }, bytes)
+            }
+            FieldSource::Index(index, behind) => {
+                eval_index_written(alloc, run, calls, index, behind, unit, bytes)
+            }
+        },
         Field::Buffer(field) => run.world.write_buffer_field(alloc, field, bytes),
-    }
-}
-
-#[cycle(evaluation)]
-#[tactic(auto, using(crate::proofs::Steps::evaluating))]
-fn eval_unit_bits<S: Space>(
-    alloc: Global,
-    run: &mut Running<S>,
-    calls: usize,
-    source: FieldSource,
-    unit: FieldUnit,
-) -> Result<Vec<u8>, Refusal>
-    ensures spent { run.new.1 ≤ run.old.1 }
-    ensures means { Does (seen (λ v. v.items) result) run.new (field_unit_bits S.accesses (asked (answer_within S.accesses (meaning S.accesses) calls)) source unit) run.old }
-{
-    match source {
-        FieldSource::Region(region) => {
-            eval_region_bits(alloc, run, calls, RegionField { region, unit })
-        }
-        FieldSource::Index(index, behind) => {
-            eval_index_bits(alloc, run, calls, index, behind, unit)
-        }
-    }
-}
-
-#[cycle(evaluation)]
-#[tactic(auto, using(crate::proofs::Steps::evaluating))]
-fn eval_unit_written<S: Space>(
-    alloc: Global,
-    run: &mut Running<S>,
-    calls: usize,
-    source: FieldSource,
-    unit: FieldUnit,
-    bytes: &[u8],
-) -> Result<(), Refusal>
-    ensures spent { run.new.1 ≤ run.old.1 }
-    ensures means { Does result run.new (field_unit_written S.accesses (asked (answer_within S.accesses (meaning S.accesses) calls)) source unit bytes.now) run.old }
-{
-    match source {
-        FieldSource::Region(region) => {
-            let field = RegionField { region, unit };
-            eval_region_written(alloc, run, calls, field, bytes)
-        }
-        FieldSource::Index(index, behind) => {
-            eval_index_written(alloc, run, calls, index, behind, unit, bytes)
-        }
     }
 }
 
@@ -306,40 +274,11 @@ fn eval_inherited<S: Space>(
     ensures spent { run.new.1 ≤ run.old.1 }
     ensures means { Does result run.new (inherited S.accesses (asked (answer_within S.accesses (meaning S.accesses) calls)) name device.now) run.old }
 {
-    let near = run.world.nearest(alloc, Sought::Parent(name), device)?;
-    eval_part_in(alloc, run, calls, name, near)
-}
-
-#[cycle(evaluation)]
-#[tactic(auto, using(crate::proofs::Steps::evaluating))]
-fn eval_part_in<S: Space>(
-    alloc: Global,
-    run: &mut Running<S>,
-    calls: usize,
-    name: Seg,
-    scope: Option<Path>,
-) -> Result<u64, Refusal>
-    ensures spent { run.new.1 ≤ run.old.1 }
-    ensures means { Does result run.new (part_in S.accesses (asked (answer_within S.accesses (meaning S.accesses) calls)) name scope) run.old }
-{
-    match scope {
+    match run.world.nearest(alloc, Sought::Parent(name), device)? {
         None => Ok(0),
-        Some(scope) => eval_part_below(alloc, run, calls, name, &scope),
+        Some(scope) => {
+            let object = scope.child(alloc, name)?;
+            eval_asked(alloc, run, calls, &object)
+        }
     }
-}
-
-#[cycle(evaluation)]
-#[tactic(auto, using(crate::proofs::Steps::evaluating))]
-fn eval_part_below<S: Space>(
-    alloc: Global,
-    run: &mut Running<S>,
-    calls: usize,
-    name: Seg,
-    scope: &Path,
-) -> Result<u64, Refusal>
-    ensures spent { run.new.1 ≤ run.old.1 }
-    ensures means { Does result run.new (asked (answer_within S.accesses (meaning S.accesses) calls) (scope.now ++ name ∷ [])) run.old }
-{
-    let object = scope.child(alloc, name)?;
-    eval_asked(alloc, run, calls, &object)
 }

@@ -12,7 +12,8 @@ ghost use Rattle.aml_meaning.specs.InvocationTerms.{osi_rule, arguments_in_turn,
 ghost use Rattle.aml_interp.specs.AtCursor.{call_at};
 
 use crate::at_cursor::{eval_items_at_cursor, eval_value_at_cursor};
-use crate::field_calls::eval_field_read;
+use crate::field_calls::calls_left;
+use crate::fields::eval_field_value;
 use crate::readings::read_body;
 use crate::short_names::node_at;
 use crate::task::{Context, Site};
@@ -104,7 +105,8 @@ fn eval_invocation<S: Space>(
         }
         Invocation::Field(field) => {
             cursor.over_arguments(context.marks, levels, count);
-            let value = eval_field_read(alloc, run, context.site.depth, field)?;
+            let calls = calls_left(context.site.depth);
+            let value = eval_field_value(alloc, run, calls, field)?;
             Ok(Flow::Value(value))
         }
         Invocation::Method(path, body) => {

@@ -49,20 +49,11 @@ decreases-invocations::eval_invoked g l = 40 * (l.run.now.1 + (32 - l.depth)) + 
 abbrev pub decreases-invocations::eval_method_value : goal.decreases-invocations::eval_method_value
 decreases-invocations::eval_method_value g l = 40 * (l.run.now.1 + (32 - l.depth)) + 4
 
-abbrev pub decreases-field_calls::eval_answer_over : goal.decreases-field_calls::eval_answer_over
-decreases-field_calls::eval_answer_over g l = 40 * (l.run.now.1 + l.calls + 1) + 6
-
 abbrev pub decreases-field_calls::eval_answer : goal.decreases-field_calls::eval_answer
 decreases-field_calls::eval_answer g l = 40 * (l.run.now.1 + l.calls) + 7
 
 abbrev pub decreases-field_calls::eval_asked : goal.decreases-field_calls::eval_asked
 decreases-field_calls::eval_asked g l = 40 * (l.run.now.1 + l.calls) + 8
-
-abbrev pub decreases-fields::eval_part_below : goal.decreases-fields::eval_part_below
-decreases-fields::eval_part_below g l = 40 * (l.run.now.1 + l.calls) + 9
-
-abbrev pub decreases-fields::eval_part_in : goal.decreases-fields::eval_part_in
-decreases-fields::eval_part_in g l = 40 * (l.run.now.1 + l.calls) + 10
 
 abbrev pub decreases-fields::eval_inherited : goal.decreases-fields::eval_inherited
 decreases-fields::eval_inherited g l = 40 * (l.run.now.1 + l.calls) + 11
@@ -109,12 +100,6 @@ decreases-fields::eval_bits_in g l = 40 * (l.run.now.1 + l.calls) + 22
 abbrev pub decreases-fields::eval_written_in : goal.decreases-fields::eval_written_in
 decreases-fields::eval_written_in g l = 40 * (l.run.now.1 + l.calls) + 22
 
-abbrev pub decreases-fields::eval_unit_bits : goal.decreases-fields::eval_unit_bits
-decreases-fields::eval_unit_bits g l = 40 * (l.run.now.1 + l.calls) + 21
-
-abbrev pub decreases-fields::eval_unit_written : goal.decreases-fields::eval_unit_written
-decreases-fields::eval_unit_written g l = 40 * (l.run.now.1 + l.calls) + 21
-
 abbrev pub decreases-buffer_fields::eval_sized_field : goal.decreases-buffer_fields::eval_sized_field
 decreases-buffer_fields::eval_sized_field g l = 40 * (l.run.now.1 + (32 - l.job.now.site.now.depth)) + 5
 
@@ -126,9 +111,6 @@ decreases-fields::eval_field_value g l = 40 * (l.run.now.1 + l.calls) + 23
 
 abbrev pub decreases-fields::eval_field_stored : goal.decreases-fields::eval_field_stored
 decreases-fields::eval_field_stored g l = 40 * (l.run.now.1 + l.calls) + 23
-
-abbrev pub decreases-field_calls::eval_field_read : goal.decreases-field_calls::eval_field_read
-decreases-field_calls::eval_field_read g l = 40 * (l.run.now.1 + (32 - l.depth)) + 24
 
 abbrev pub decreases-field_calls::eval_held : goal.decreases-field_calls::eval_held
 decreases-field_calls::eval_held g l = 40 * (l.run.now.1 + (32 - l.depth)) + 24
@@ -148,9 +130,6 @@ decreases-regions::eval_region g l = 40 * (l.run.now.1 + (32 - l.job.now.site.no
 abbrev pub decreases-regions::eval_region_term : goal.decreases-regions::eval_region_term
 decreases-regions::eval_region_term g l = 40 * (l.run.now.1 + (32 - l.job.now.site.now.depth)) + 32
 
-abbrev pub decreases-field_calls::eval_method_integer : goal.decreases-field_calls::eval_method_integer
-decreases-field_calls::eval_method_integer g l = 40 * (l.run.now.1 + (32 - l.depth)) + 5
-
 abbrev pub decreases-fields::eval_field_integer : goal.decreases-fields::eval_field_integer
 decreases-fields::eval_field_integer g l = 40 * (l.run.now.1 + l.calls) + 23
 
@@ -168,9 +147,6 @@ decreases-references::eval_operand_referent g l = 40 * (l.run.now.1 + (32 - l.co
 
 abbrev pub decreases-field_calls::eval_held_value : goal.decreases-field_calls::eval_held_value
 decreases-field_calls::eval_held_value g l = 40 * (l.run.now.1 + (32 - l.depth)) + 25
-
-abbrev pub decreases-field_calls::eval_back_to : goal.decreases-field_calls::eval_back_to
-decreases-field_calls::eval_back_to g l = 40 * (l.run.now.1 + (32 - l.depth)) + 26
 
 abbrev pub invariant-terms::eval_list-items : goal.invariant-terms::eval_list-items
 invariant-terms::eval_list-items g l = (l.run.1 ≤ l.fn.run.1) × Same (in_turn (meaning g.S.Space.accesses) l.fn.job.site.now.scope.path.now l.fn.job.site.now.depth (at_list l.fn.job.term.now)) l.fn.run (in_turn (meaning g.S.Space.accesses) l.fn.job.site.now.scope.path.now l.fn.job.site.now.depth (at_list l.rest)) l.run
