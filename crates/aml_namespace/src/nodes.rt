@@ -75,8 +75,18 @@ impl Nodes {
         }
     }
 
-    /// The node with a number, found by the number alone.
+    /// The node with a number, found by the number alone. Where no node was ever removed, its key is the same number.
     fn numbered(&self, number: u64) -> Option<&Node>
+        ensures { option_map (λ node. node.now) result ≡ map.get self.now number }
+    {
+        match self.slab.get(number as usize) {
+            Some(node) if node.entry.number == number => Some(node),
+            _ => self.searched(number),
+        }
+    }
+
+    /// The same, wherever the node is.
+    fn searched(&self, number: u64) -> Option<&Node>
         ensures { option_map (λ node. node.now) result ≡ map.get self.now number }
     {
         match self.keys.get(&number) {

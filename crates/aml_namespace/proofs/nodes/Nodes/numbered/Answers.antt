@@ -1,14 +1,9 @@
 use Rattle.std.proofs.Common.{◌∙◌, ap, sym}
 use Rattle.std.specs.FinMap.{get}
-use Rattle.aml_namespace.proofs.Slots.{by_number, no_number}
+use Rattle.aml_namespace.proofs.Slots.{by_key}
 use Rattle.aml_namespace.proofs.nodes.Nodes.numbered.Goals as goal
-
-pub returns-in-None : goal.returns-in-None
-returns-in-None c =
-    sym (no_number c.self.inside.slab.slots c.self.inside.keys.entries c.self.invariant.0 c.args.number (sym c.in-None.ensures.value))
-    ∙ ap (λ m. get m c.args.number) c.self.view_is
 
 pub returns-in-Some : goal.returns-in-Some
 returns-in-Some c =
-    c.get-in-Some.ensures ∙ sym (by_number c.self.inside.slab.slots c.self.inside.keys.entries c.self.invariant.0 c.args.number c.in-Some.key.now (sym c.in-Some.ensures.value))
+    sym (by_key c.self.inside.slab.slots c.self.inside.keys.entries c.self.invariant.0 c.args.number c.args.number c.in-Some.node.now (sym c.in-Some.ensures) c.if-node-number.true)
     ∙ ap (λ m. get m c.args.number) c.self.view_is
