@@ -1,6 +1,6 @@
 -- The deepest place of a scope below which a name stands in the body of a control method, or an External names it.
-use Rattle.std.specs.Prelude.{◌≡◌, ◌-◌, ◌+◌, ◌≤◌, ℕ, zero, suc, List, ◌++◌, length, take, Bool, true, false, ◌||◌, Option, Some, None, is_some, if◌then◌else◌}
-use Rattle.std.proofs.Common.{ap, sym, ◌∙◌, refl, arith, length-append}
+use Rattle.std.specs.Prelude.{◌≡◌, ◌-◌, ◌+◌, ◌≤◌, ℕ, zero, suc, List, ◌++◌, length, take, Bool, true, ◌||◌, Option, Some, None, is_some, if◌then◌else◌}
+use Rattle.std.proofs.Common.{ap, ◌∙◌, refl, arith, length-append}
 use Rattle.std.proofs.lemmas.List.{length-take-le}
 use Rattle.std.specs.Option.{option_map}
 use Rattle.std.specs.FinMap.{get}

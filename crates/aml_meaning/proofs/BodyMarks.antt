@@ -1,5 +1,5 @@
 -- The body of a control method that is read over a world, which it leaves alone; and what stays kept of it.
-use Rattle.std.specs.Prelude.{◌≡◌, ℕ, List, [], Bool, true, false, ⊤, Option, Some, None, Ok, Err}
+use Rattle.std.specs.Prelude.{◌≡◌, ℕ, List, Bool, true, false, Option, Some, None, Ok, Err}
 use Rattle.std.specs.Result.{result_ok}
 use Rattle.std.proofs.Common.{◌∙◌, ap, sym, subst, refl}
 use Rattle.ar_space.specs.declared.integer_width.IntegerWidth.{IntegerWidth}

@@ -1,6 +1,6 @@
 -- What is kept of a body while names change.
 use Rattle.std.specs.Prelude.{◌≡◌, ℕ, List, Bool, true, false, not, Option, Some, None, Ok, Err, is_err, OnErr}
-use Rattle.std.proofs.Common.{◌∙◌, ap, sym, subst, refl}
+use Rattle.std.proofs.Common.{◌∙◌, ap, sym, refl}
 use Rattle.std.specs.FinMap.{get}
 use Rattle.ar_space.specs.Outcome.{Outcome, NotMemory}
 use Rattle.ar_space.specs.Change.{Change, Does}

@@ -1,5 +1,5 @@
 -- Where the same names stand, and each takes as many arguments, a body reads the same.
-use Rattle.std.specs.Prelude.{◌≡◌, ℕ, List, [], ◌∷◌, ◌++◌, map, Bool, true, false, ◌&&◌, T, Option, Some, None, Ok, Err, cond}
+use Rattle.std.specs.Prelude.{◌≡◌, ℕ, List, [], ◌∷◌, ◌++◌, map, Bool, true, false, ◌&&◌, T, Option, Some, None, cond}
 use Rattle.std.proofs.Common.{ap, sym, ◌∙◌, refl, subst}
 use Rattle.std.specs.List.{filter}
 use Rattle.std.specs.Option.{option_map}

@@ -1,4 +1,4 @@
-use Rattle.std.proofs.Common.{◌≡◌, ◌∙◌, ◌||◌, ap, length, arith}
+use Rattle.std.proofs.Common.{◌∙◌, ◌||◌, ap, length, arith}
 use Rattle.aml_grammar.specs.Arities.{greatest, is_told_below}
 use Rattle.aml_meaning.specs.Known.{Known}
 use Rattle.aml_meaning.proofs.BodyDepths.{stands_below, search_depth, deepest_in_body}
