@@ -14,7 +14,6 @@ ghost use Rattle.aml_interp.specs.AtCursor.{call_at};
 use crate::at_cursor::{eval_items_at_cursor, eval_value_at_cursor};
 use crate::field_calls::calls_left;
 use crate::fields::eval_field_value;
-use crate::readings::read_body;
 use crate::short_names::node_at;
 use crate::task::{Context, Site};
 use aml_meaning::{Flow, Invocation, Running, WorldState};
@@ -179,7 +178,7 @@ fn eval_invoked<S: Space>(
     ensures means { Does result run.new (invoked (meaning S.accesses) depth path.now body.now arguments.now) run.old }
 {
     shallow(depth)?;
-    let marks = read_body(alloc, &run.world, path, body)?;
+    let marks = run.world.body_marks(alloc, path, body)?;
     run.world.open_frame(frame_arguments(arguments))?;
     eval_body(alloc, run, depth + 1, path, body.as_slice(), &marks)
 }

@@ -18,14 +18,13 @@ use Rattle.aml_grammar.specs.Arities.{latest, or_else}
 use Rattle.aml_grammar.proofs.Counted.{latest_append}
 use Rattle.aml_objects.specs.declared.entry.Entry.{Entry}
 use Rattle.aml_namespace.specs.Namespace.{Map}
-use Rattle.aml_meaning.specs.State.{State}
-use Rattle.aml_meaning.specs.Invocations.{count_through, arity_of_entry, body_arities}
+use Rattle.aml_meaning.specs.Invocations.{count_through, arity_of_entry, arities_in}
 
-path_total : IsTotalOrder path_cmp
+pub path_total : IsTotalOrder path_cmp
 path_total = search (comparing, rules) depth 9
 
 -- only equal paths tie
-only_equal : IsAntisymmetric path_cmp
+pub only_equal : IsAntisymmetric path_cmp
 only_equal = slice_cmp-IsAntisymmetric seg_cmp_exact
 
 first : (a b : Bool) → T (a && b) → T a
@@ -84,20 +83,20 @@ externals : (p : List Seg) (arities : List Arity) → latest p true (filter (λ 
 externals p [] = refl
 externals p (a ∷ arities) = external_by a.external p a arities refl (externals p arities)
 
-module _ {S : Type 0} where
+module _ (m : Map) (told : List Arity) where
   -- what is declared is what stands
-  pub body_declared : (w : State S) (p : List Seg) → latest p false (body_arities w) ≡ option_map (λ e. count_through w.names.map e.object) (get w.names.map p)
-  body_declared w p =
-      latest_append p false (map (arity_of_entry w.names.map) (entries w.names.map)) _
-      ∙ ap (λ o. or_else o (latest p false (map (arity_of_entry w.names.map) (entries w.names.map)))) (none_declared p w.arities)
-      ∙ standing w.names.map p (entries w.names.map) (entries_sorted w.names.map)
-      ∙ ap (option_map (λ (e : Entry). count_through w.names.map e.object)) (sym (get-entries w.names.map p))
+  pub body_declared : (p : List Seg) → latest p false (arities_in m told) ≡ option_map (λ e. count_through m e.object) (get m p)
+  body_declared p =
+      latest_append p false (map (arity_of_entry m) (entries m)) _
+      ∙ ap (λ o. or_else o (latest p false (map (arity_of_entry m) (entries m)))) (none_declared p told)
+      ∙ standing m p (entries m) (entries_sorted m)
+      ∙ ap (option_map (λ (e : Entry). count_through m e.object)) (sym (get-entries m p))
 
   -- an External is one that a table has told of
-  pub body_external : (w : State S) (p : List Seg) → latest p true (body_arities w) ≡ latest p true w.arities
-  body_external w p =
-      latest_append p true (map (arity_of_entry w.names.map) (entries w.names.map)) _
-      ∙ ap (or_else (latest p true (filter (λ a. a.external) w.arities))) (none_external w.names.map p (entries w.names.map))
-      ∙ or_none _ ∙ externals p w.arities
+  pub body_external : (p : List Seg) → latest p true (arities_in m told) ≡ latest p true told
+  body_external p =
+      latest_append p true (map (arity_of_entry m) (entries m)) _
+      ∙ ap (or_else (latest p true (filter (λ a. a.external) told))) (none_external m p (entries m))
+      ∙ or_none _ ∙ externals p told
 
 pub ruleset counting = (body_declared, body_external)

@@ -1,17 +1,17 @@
 -- The deepest place of a scope below which a name stands in the body of a control method, or an External names it.
-use Rattle.std.specs.Prelude.{◌≡◌, ◌-◌, ◌+◌, ◌≤◌, ℕ, zero, suc, List, ◌++◌, length, take, Bool, true, false, ◌||◌, Option, Some, None, is_some, if◌then◌else◌}
-use Rattle.std.proofs.Common.{ap, sym, ◌∙◌, refl, arith, length-append}
+use Rattle.std.specs.Prelude.{◌≡◌, ◌-◌, ◌+◌, ◌≤◌, ℕ, zero, suc, List, ◌++◌, length, take, Bool, true, ◌||◌, Option, Some, None, is_some, if◌then◌else◌}
+use Rattle.std.proofs.Common.{ap, ◌∙◌, refl, arith, length-append}
 use Rattle.std.proofs.lemmas.List.{length-take-le}
 use Rattle.std.specs.Option.{option_map}
 use Rattle.std.specs.FinMap.{get}
 use Rattle.aml_path.specs.declared.segment.Seg.{Seg}
+use Rattle.aml_grammar.specs.declared.arities.Arity.{Arity}
 use Rattle.aml_grammar.specs.Arities.{latest, or_else, arity_at, greatest, is_known_below, is_told_below}
 use Rattle.aml_objects.specs.declared.entry.Entry.{Entry}
 use Rattle.aml_namespace.specs.Namespace.{Map}
 use Rattle.aml_namespace.specs.Search.{Found, search_up}
 use Rattle.aml_namespace.specs.Search.{or_else as elsewise}
-use Rattle.aml_meaning.specs.State.{State}
-use Rattle.aml_meaning.specs.Invocations.{count_through, body_arities}
+use Rattle.aml_meaning.specs.Invocations.{count_through, arities_in}
 use Rattle.aml_meaning.proofs.BodyCounts.{body_declared, body_external}
 
 greatest_same : (f g : ℕ → Bool) → ((k : ℕ) → f k ≡ g k) → (n : ℕ) → greatest f n ≡ greatest g n
@@ -47,11 +47,11 @@ either_by : {A : Type 0} (f : A → ℕ) (a : Option A) (b : Option ℕ) → (is
 either_by f None b = refl
 either_by f (Some x) b = refl
 
-module _ {S : Type 0} (w : State S) where
-  known_by : (p : List Seg) → (is_some (get w.names.map p) || is_some (latest p true w.arities)) ≡ is_some (arity_at (body_arities w) p)
+module _ (m : Map) (told : List Arity) where
+  known_by : (p : List Seg) → (is_some (get m p) || is_some (latest p true told)) ≡ is_some (arity_at (arities_in m told) p)
   unfolding arity_at
-  known_by p = either_by (λ (e : Entry). count_through w.names.map e.object) (get w.names.map p) (latest p true w.arities) ∙ rw (body_declared w p, body_external w p) refl
+  known_by p = either_by (λ (e : Entry). count_through m e.object) (get m p) (latest p true told) ∙ rw (body_declared m told p, body_external m told p) refl
 
   -- in a body a path is known where a name stands, or an External told of it
-  pub deepest_in_body : (scope segments : List Seg) (n : ℕ) → greatest (λ k. stands_below w.names.map scope segments k || is_told_below w.arities scope segments k) n ≡ greatest (is_known_below (body_arities w) scope segments) n
-  deepest_in_body scope segments = greatest_same (λ k. stands_below w.names.map scope segments k || is_told_below w.arities scope segments k) (is_known_below (body_arities w) scope segments) (λ k. known_by (take k scope ++ segments))
+  pub deepest_in_body : (scope segments : List Seg) (n : ℕ) → greatest (λ k. stands_below m scope segments k || is_told_below told scope segments k) n ≡ greatest (is_known_below (arities_in m told) scope segments) n
+  deepest_in_body scope segments = greatest_same (λ k. stands_below m scope segments k || is_told_below told scope segments k) (is_known_below (arities_in m told) scope segments) (λ k. known_by (take k scope ++ segments))

@@ -1,6 +1,6 @@
 -- A change of a part of the world is a change of the world.
 use Rattle.std.specs.Prelude.{◌≡◌, ℕ, List}
-use Rattle.std.proofs.Common.{refl}
+use Rattle.std.proofs.Common.{ap, refl}
 use Rattle.ar_space.specs.declared.integer_width.IntegerWidth.{IntegerWidth}
 use Rattle.ar_space.specs.Outcome.{Outcome}
 use Rattle.ar_space.specs.Change.{Change, Does}
@@ -9,6 +9,7 @@ use Rattle.aml_objects.specs.Objects.{Objects}
 use Rattle.aml_namespace.specs.Namespace.{Namespace}
 use Rattle.aml_meaning.specs.declared.frame.Frame.{Frame}
 use Rattle.aml_meaning.specs.State.{State, on_objects, on_names, on_space}
+use Rattle.aml_meaning.specs.Known.{Known, on_known}
 
 module _ {S A : Type 0} {r : Outcome A} where
   pub objects_changed : (n : Namespace) (a : List Arity) (o o1 : Objects) (f : List Frame) (s : ℕ) (p : S) (i : List (List ℕ)) (d : IntegerWidth) (m : Change Objects A) (w : State S)
@@ -22,16 +23,19 @@ module _ {S A : Type 0} {r : Outcome A} where
   unfolding on_objects
   objects_read n a o f s p i d m w e h = record { is = λ ne. rw (← e, h.is ne) refl }
 
-  pub names_changed : (n n1 : Namespace) (a : List Arity) (o : Objects) (f : List Frame) (s : ℕ) (p : S) (i : List (List ℕ)) (d : IntegerWidth) (m : Change Namespace A) (w : State S)
-      → record { names = n; arities = a; objects = o; frames = f; started = s; space = p; osi = i; width = d } ≡ w → Does r n1 m n
-      → Does r (record { names = n1; arities = a; objects = o; frames = f; started = s; space = p; osi = i; width = d }) (on_names m) w
-  unfolding on_names
-  names_changed n n1 a o f s p i d m w e h = record { is = λ ne. rw (← e, h.is ne) refl }
-
   pub space_changed : (n : Namespace) (a : List Arity) (o : Objects) (f : List Frame) (s : ℕ) (p p1 : S) (i : List (List ℕ)) (d : IntegerWidth) (m : Change S A) (w : State S)
       → record { names = n; arities = a; objects = o; frames = f; started = s; space = p; osi = i; width = d } ≡ w → Does r p1 m p
       → Does r (record { names = n; arities = a; objects = o; frames = f; started = s; space = p1; osi = i; width = d }) (on_space m) w
   unfolding on_space
   space_changed n a o f s p p1 i d m w e h = record { is = λ ne. rw (← e, h.is ne) refl }
 
-pub ruleset parts = (objects_changed, objects_read, names_changed, space_changed)
+  pub known_changed : (k k1 : Known) (o : Objects) (f : List Frame) (s : ℕ) (p : S) (i : List (List ℕ)) (d : IntegerWidth) (m : Change Namespace A) (w : State S)
+      → record { names = k.names; arities = k.arities; objects = o; frames = f; started = s; space = p; osi = i; width = d } ≡ w → Does r k1 (on_known m) k
+      → Does r (record { names = k1.names; arities = k1.arities; objects = o; frames = f; started = s; space = p; osi = i; width = d }) (on_names m) w
+  unfolding on_names on_known
+  known_changed k k1 o f s p i d m w e h = record {
+    is = λ ne.
+        rw (← e) (ap (λ (x : Outcome A × Known). (x.0, record { names = x.1.names; arities = x.1.arities; objects = o; frames = f; started = s; space = p; osi = i; width = d })) (h.is ne));
+  }
+
+pub ruleset parts = (objects_changed, objects_read, known_changed, space_changed)

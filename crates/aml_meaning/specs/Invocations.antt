@@ -92,8 +92,11 @@ abbrev pub arity_of_entry : Map → List Seg × Entry → Arity
 arity_of_entry names e = record { path = e.0; count = count_through names e.1.object; external = false }
 
 -- in a body the names that stand take arguments, and those of which an External told
+abbrev pub arities_in : Map → List Arity → List Arity
+arities_in names told = map (arity_of_entry names) (entries names) ++ filter (λ a. a.external) told
+
 abbrev pub body_arities : {S : Type 0} → State S → List Arity
-body_arities w = map (arity_of_entry w.names.map) (entries w.names.map) ++ filter (λ a. a.external) w.arities
+body_arities w = arities_in w.names.map w.arities
 
 unfoldable pub body_terms : {S : Type 0} → List Seg → List ℕ → Change (State S) Trees
 body_terms p body w = (seen trees_of (reading body p true (body_arities w)), w)

@@ -13,6 +13,8 @@ pub mod Given
 pub mod Importing
 pub mod InvocationTerms
 pub mod Invocations
+pub mod KeptBody
+pub mod Known
 pub mod Meaning
 pub mod Mutexes
 pub mod NewObjects

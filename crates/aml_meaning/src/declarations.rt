@@ -23,7 +23,7 @@ impl<S> WorldState<S> {
         ensures space { self.new.space ≡ self.old.space }
         ensures refused { OnErr result (self.new ≡ self.old) }
     {
-        self.names.insert(path, object)
+        self.declarations.insert(path, object)
     }
 
     /// Declares a name; at module level its parent may be no control method, which is refused as `NotFound`, too.
@@ -73,7 +73,7 @@ impl<S> WorldState<S> {
             return Ok(());
         }
         let above = path.prefix(alloc, path.depth().saturating_sub(1))?;
-        match self.names.get(&above) {
+        match self.names().get(&above) {
             None => Ok(()),
             Some(entry) => no_method(&entry.object),
         }
@@ -83,7 +83,7 @@ impl<S> WorldState<S> {
     pub fn remove_below(&mut self, path: &Path)
         ensures { self.new ≡ record self.old { names = without_below path.now self.old.names } }
     {
-        self.names.remove_below(path);
+        self.declarations.remove_below(path);
     }
 }
 

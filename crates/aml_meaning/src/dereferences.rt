@@ -191,7 +191,7 @@ impl<S> WorldState<S> {
         ensures answer { Does result self.now (declared_number path.now) self.now }
         ensures memory { NotMemory result }
     {
-        match self.names.get_located(path) {
+        match self.names().get_located(path) {
             None => Err(Refusal::Namespace(NamespaceFault::NotFound)),
             Some(entry) => Ok(entry.number),
         }
@@ -241,7 +241,7 @@ impl<S> WorldState<S> {
         ensures answer { Does result self.now (reference_if_found scope.entry.path.now name.now) self.now }
         ensures memory { NotMemory result }
     {
-        match self.names.lookup_in(scope, name) {
+        match self.names().lookup_in(scope, name) {
             Ok(entry) => Ok(Some(Reference::Name(entry.number))),
             Err(Refusal::Namespace(NamespaceFault::NotFound)) => Ok(None),
             Err(refusal) => Err(refusal),

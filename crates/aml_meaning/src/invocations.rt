@@ -47,14 +47,14 @@ impl<S> WorldState<S> {
         ensures answer { seen (λ id. numbered id.number self.now.names.map) result ≡ seen Some (found self.now.names.map scope.entry.path.now name.now) }
         ensures memory { NotMemory result }
     {
-        self.names.search_in(scope, name)
+        self.names().search_in(scope, name)
     }
 
     /// How many arguments it takes to evaluate the node with an id: those of a control method, none of anything else.
     fn arguments_at(&self, id: NodeId) -> u8
         ensures { (f : List Segment × Entry) → numbered id.number self.now.names.map ≡ Some f → result ≡ arguments_of f.1.object }
     {
-        match self.names.node(id) {
+        match self.names().node(id) {
             None => 0,
             Some(entry) => arguments_of(&entry.object),
         }
@@ -80,7 +80,7 @@ impl<S> WorldState<S> {
     ) -> Result<Invocation, Refusal>
         ensures { Does result self.now (named_use scope.entry.path.now name.now) self.now }
     {
-        match self.names.search_in(scope, name) {
+        match self.names().search_in(scope, name) {
             Ok(id) => self.use_of(alloc, id),
             Err(refusal) => Err(refusal),
         }
@@ -90,7 +90,7 @@ impl<S> WorldState<S> {
     fn use_of(&self, alloc: Global, id: NodeId) -> Result<Invocation, Refusal>
         ensures { (f : List Segment × Entry) → numbered id.number self.now.names.map ≡ Some f → Answers result (invocation_of_object f.0 f.1.number f.1.object) }
     {
-        let Some(entry) = self.names.node(id) else {
+        let Some(entry) = self.names().node(id) else {
             return Err(Refusal::Namespace(NamespaceFault::NotFound));
         };
         match &entry.object {
@@ -107,7 +107,7 @@ impl<S> WorldState<S> {
     {
         match body {
             MethodBody::Osi => Ok(Invocation::Osi),
-            MethodBody::Aml(body) => match self.names.path_of(alloc, id)? {
+            MethodBody::Aml(body) => match self.names().path_of(alloc, id)? {
                 None => Err(Refusal::Namespace(NamespaceFault::NotFound)),
                 Some(path) => Ok(Invocation::Method(path, body.share()?)),
             },
@@ -120,66 +120,5 @@ impl<S> WorldState<S> {
     {
         self.close_frame();
         self.remove_below(path);
-    }
-}
-
-/// In the body of a control method: how many arguments the names take that stand, and those of which an External told. Each is
-/// looked up where it stands, so that a call copies none.
-impl<S> ArgumentCounts for WorldState<S> {
-    ghost counts = { body_arities };
-
-    #[tactic(auto, using(crate::proofs::BodyCounts::counting))]
-    fn latest(&self, path: &Path, external: bool) -> Option<u8> {
-        if external {
-            self.arities.latest(path, true)
-        } else {
-            count_at(&self.names, path)
-        }
-    }
-
-    fn deepest(&self, scope: &Path, segments: &[Seg]) -> Option<usize> {
-        let named = depth_of(self.names.nearest(scope, segments));
-        let told = self.arities.deepest_external(scope, segments);
-        deeper(named, told)
-    }
-}
-
-/// How many segments of a scope lead to what was found.
-fn depth_of(near: Option<(usize, NodeId)>) -> Option<usize>
-    ensures { result ≡ list.option_map (λ n. n.0) near }
-{
-    match near {
-        None => None,
-        Some((depth, _)) => Some(depth),
-    }
-}
-
-/// How many arguments what stands at a path takes, if something stands there.
-fn count_at(names: &Names, path: &Path) -> Option<u8>
-    ensures { result ≡ list.option_map (λ e. count_through names.now.map e.object) (get names.now.map path.now) }
-{
-    match names.get(path) {
-        None => None,
-        Some(entry) => Some(count_through(names, &entry.object)),
-    }
-}
-
-/// How many arguments an object takes; an alias takes those of its target.
-fn count_through(names: &Names, object: &NamedObject) -> u8
-    ensures { result ≡ count_through names.now.map object.now }
-{
-    match object {
-        NamedObject::Alias(path) => count_of_entry(names.get(path)),
-        NamedObject::Method(method) => method.flags.arguments(),
-        _ => 0,
-    }
-}
-
-fn count_of_entry(entry: Option<&Entry>) -> u8
-    ensures { result ≡ count_of_entry (list.option_map (λ e. e.now) entry.entry) }
-{
-    match entry {
-        None => 0,
-        Some(entry) => arguments_of(&entry.object),
     }
 }

@@ -1,6 +1,8 @@
 //! What AML means: the world that evaluation changes, and what changes it (ACPI 6.5, 5.3, 5.5 and 19.3.5).
 #![tactic(auto)]
 
+mod argument_counts;
+mod body_marks;
 mod buffer_fields;
 mod datum;
 mod declarations;
@@ -13,6 +15,7 @@ mod integer_operations;
 mod invocation;
 mod invocations;
 mod kinds;
+mod known_names;
 mod mutexes;
 mod name_use;
 mod new_objects;

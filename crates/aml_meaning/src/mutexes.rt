@@ -123,7 +123,8 @@ impl<S> WorldState<S> {
         if count == u64::MAX {
             return false;
         }
-        self.names.replace_node(id, NamedObject::Mutex(count + 1));
+        self.declarations
+            .replace_node(id, NamedObject::Mutex(count + 1));
         true
     }
 
@@ -140,7 +141,8 @@ impl<S> WorldState<S> {
         if count == 0 {
             return false;
         }
-        self.names.replace_node(id, NamedObject::Mutex(count - 1));
+        self.declarations
+            .replace_node(id, NamedObject::Mutex(count - 1));
         true
     }
 
@@ -149,7 +151,7 @@ impl<S> WorldState<S> {
         ensures held { IfSome result (λ count. (f : List Segment × Entry) → numbered id.number self.now.names.map ≡ Some f → f.1.object ≡ object.Mutex count) }
         ensures gone { numbered id.number self.now.names.map ≡ None → result ≡ None }
     {
-        match self.names.node(id) {
+        match self.names().node(id) {
             None => None,
             Some(entry) => count_held(&entry.object),
         }
@@ -160,7 +162,8 @@ impl<S> WorldState<S> {
         ensures change { Does result self.new (on_names (replaced path.now (object.Mutex count))) self.old }
         ensures memory { NotMemory result }
     {
-        self.names.replace_located(path, NamedObject::Mutex(count))
+        self.declarations
+            .replace_located(path, NamedObject::Mutex(count))
     }
 
     /// How often the mutex at a path is acquired.
@@ -169,7 +172,7 @@ impl<S> WorldState<S> {
         ensures answer { Does result self.now (mutex_count path.now) self.now }
         ensures memory { NotMemory result }
     {
-        match self.names.get_located(path) {
+        match self.names().get_located(path) {
             None => Err(Refusal::Namespace(NamespaceFault::NotFound)),
             Some(entry) => count_of(&entry.object),
         }

@@ -36,7 +36,7 @@ impl<S> WorldState<S> {
     ) -> Result<NameUse, Refusal>
         ensures { Does result self.now (name_use name.now scope.now) self.now }
     {
-        match self.names.lookup(scope, name) {
+        match self.names().lookup(scope, name) {
             Ok(entry) => self.held_or_path(alloc, &entry.object, name, scope),
             Err(_) => path_it_would_have(alloc, name, scope),
         }
@@ -82,7 +82,7 @@ impl<S> WorldState<S> {
     fn path_found(&self, alloc: Global, name: &NameString, scope: &Path) -> Result<NameUse, Refusal>
         ensures { Answers result (seen uses.Path (seen (λ f. f.0) (found self.now.names.map scope.now name.now))) }
     {
-        match self.names.locate(alloc, scope, name) {
+        match self.names().locate(alloc, scope, name) {
             Ok(path) => Ok(NameUse::Path(path)),
             Err(refusal) => Err(refusal),
         }
@@ -93,7 +93,7 @@ impl<S> WorldState<S> {
     pub fn path_of(&self, alloc: Global, number: u64) -> Result<Datum, Refusal>
         ensures { Does (seen given_of result) self.now (path_of number) self.now }
     {
-        match self.names.path_of(alloc, NodeId::numbered(number))? {
+        match self.names().path_of(alloc, NodeId::numbered(number))? {
             None => Ok(Datum::Reference),
             Some(path) => Ok(Datum::Named(path)),
         }

@@ -33,7 +33,7 @@ impl<S> WorldState<S> {
         ensures found { seen (λ id. numbered id.number self.now.names.map) (found_or_not result) ≡ seen Some (found self.now.names.map scope.entry.path.now (segment_name segment)) }
         ensures target { IfSome result (λ id. (f : List Segment × Entry) → numbered id.number self.now.names.map ≡ Some f → Does (Ok (targets.Name f.0)) self.now (target_named scope.entry.path.now (segment_name segment)) self.now) }
     {
-        self.names.search_segment(scope, segment)
+        self.names().search_segment(scope, segment)
     }
 
     /// The integer that a name holds which is the node with an id, if it holds one: what the name is where a value stands.
@@ -43,7 +43,7 @@ impl<S> WorldState<S> {
         ensures used { IfSome result (λ number. (f : List Segment × Entry) → numbered id.number self.now.names.map ≡ Some f → Does (Ok (invocation.Value (Integer number))) self.now (use_found f 0) self.now) }
         ensures gone { numbered id.number self.now.names.map ≡ None → result ≡ None }
     {
-        match self.names.node(id) {
+        match self.names().node(id) {
             None => None,
             Some(entry) => integer_of(&entry.object),
         }
@@ -56,7 +56,7 @@ impl<S> WorldState<S> {
         ensures written { IfSome result (λ unit. (f : List Segment × Entry) → numbered id.number self.now.names.map ≡ Some f → (value : AnyValue) → Does (Ok (Field (field.Unit unit))) self.now (stored (targets.Name f.0) value) self.now) }
         ensures gone { numbered id.number self.now.names.map ≡ None → result ≡ None }
     {
-        match self.names.node(id) {
+        match self.names().node(id) {
             None => None,
             Some(entry) => unit_of(&entry.object),
         }
@@ -70,7 +70,7 @@ impl<S> WorldState<S> {
         ensures gone { numbered id.number self.old.names.map ≡ None → result ≡ false }
         ensures unchanged { result ≡ false → self.new ≡ self.old }
     {
-        self.names.put_integer(id, number)
+        self.declarations.put_integer(id, number)
     }
 }
 

@@ -68,7 +68,7 @@ impl<S> WorldState<S> {
     ) -> Result<Option<Path>, Refusal>
         ensures { Does result self.now (nearest sought path.now) self.now }
     {
-        match nearest_depth(&self.names, sought, path) {
+        match nearest_depth(self.names(), sought, path) {
             None => Ok(None),
             Some(depth) => Ok(Some(path.prefix(alloc, depth)?)),
         }

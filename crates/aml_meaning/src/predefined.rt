@@ -77,8 +77,7 @@ impl<S> WorldState<S> {
         ensures world { Does result self.new (takes path count) self.old }
         ensures space { self.new.space ≡ self.old.space }
     {
-        self.arities.add(path, count, false)?;
-        Ok(())
+        self.declarations.add_arity(path, count)
     }
 
     /// The value of `\\_OS_`.

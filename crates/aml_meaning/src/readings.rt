@@ -47,7 +47,7 @@ impl<S> WorldState<S> {
         ensures answer { Does (seen (λ e. e.now) result) self.now (entry_found scope.now name.now) self.now }
         ensures memory { NotMemory result }
     {
-        self.names.lookup(scope, name)
+        self.names().lookup(scope, name)
     }
 
     /// The same from a scope.
@@ -56,14 +56,14 @@ impl<S> WorldState<S> {
         ensures answer { Does (seen (λ e. e.now) result) self.now (entry_found scope.entry.path.now name.now) self.now }
         ensures memory { NotMemory result }
     {
-        self.names.lookup_in(scope, name)
+        self.names().lookup_in(scope, name)
     }
 
     /// The scope at a path, with the node that stands there.
     pub fn scope<'a>(&self, path: &'a Path) -> Scope<'a>
         ensures { result.path.now ≡ path.now }
     {
-        self.names.scope(path)
+        self.names().scope(path)
     }
 
     /// The path of what a name finds from a scope, with the node that is found; refused as `Names::locate` refuses it.
@@ -76,7 +76,7 @@ impl<S> WorldState<S> {
     ) -> Result<Located, Refusal>
         ensures { Does result self.now (path_found scope.entry.path.now name.now) self.now }
     {
-        self.names.locate_in(alloc, scope, name)
+        self.names().locate_in(alloc, scope, name)
     }
 
     /// The path of the scope that a name finds: a predefined scope, a device, a processor, a power resource or a thermal

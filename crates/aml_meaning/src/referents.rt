@@ -64,7 +64,7 @@ impl<S> WorldState<S> {
         ensures answer { Does result self.now (declared_referent path.now) self.now }
         ensures memory { NotMemory result }
     {
-        match self.names.get_located(path) {
+        match self.names().get_located(path) {
             None => Err(Refusal::Namespace(NamespaceFault::NotFound)),
             Some(entry) => Ok(referent_of(&entry.object)),
         }

@@ -220,7 +220,8 @@ impl<S> WorldState<S> {
         ensures change { Does result self.new (on_names (replaced path.now (Data value))) self.old }
         ensures memory { NotMemory result }
     {
-        self.names.replace_located(path, NamedObject::Data(value))
+        self.declarations
+            .replace_located(path, NamedObject::Data(value))
     }
 
     #[tactic(auto, using(ar_space::specs::Change::changing), unfolding(crate::specs::Stores::copy_into_slot))]

@@ -5,14 +5,13 @@ ghost use Rattle.aml_meaning.specs.Calling.{released};
 use crate::world_state::WorldState;
 use aml_grammar::Arities;
 use std::alloc::Global;
-use std::mem;
 
 impl<S> WorldState<S> {
     /// The arguments that names take, as the tables so far have declared them, and as Externals told.
     pub fn arities(&self) -> &Arities
         ensures { result.now ≡ self.now.arities }
     {
-        &self.arities
+        self.declarations.arities()
     }
 
     /// Hands out the arguments that names take, and keeps none: they are set again once more are declared. It takes no memory.
@@ -20,20 +19,20 @@ impl<S> WorldState<S> {
         ensures arities { result ≡ self.old.arities }
         ensures none { self.new ≡ record self.old { arities = [] } }
     {
-        mem::replace(&mut self.arities, Arities::new(alloc))
+        self.declarations.take_arities(alloc)
     }
 
     /// Takes over the arguments that names take from now on. It takes no memory.
     pub fn set_arities(&mut self, arities: Arities)
         ensures { self.new ≡ record self.old { arities = arities } }
     {
-        self.arities = arities;
+        self.declarations.set_arities(arities);
     }
 
     /// Frees all mutexes, as at the end of each evaluation. It takes no memory.
     pub fn release_mutexes(&mut self)
         ensures { self.new ≡ released self.old }
     {
-        self.names.release_mutexes();
+        self.declarations.release_mutexes();
     }
 }

@@ -35,7 +35,7 @@ impl<S> WorldState<S> {
         ensures answer { Does result self.now (held_at path.now) self.now }
         ensures memory { NotMemory result }
     {
-        match self.names.get_located(path) {
+        match self.names().get_located(path) {
             None => Err(Refusal::Namespace(NamespaceFault::NotFound)),
             Some(entry) => Ok(holding_of(&entry.object)),
         }
@@ -136,7 +136,7 @@ impl<S> WorldState<S> {
         ensures answer { Does (seen (λ e. e.now) result) self.now (entry_declared number) self.now }
         ensures memory { NotMemory result }
     {
-        match self.names.node(NodeId::numbered(number)) {
+        match self.names().node(NodeId::numbered(number)) {
             None => Err(Refusal::Evaluation(EvaluationFault::DeadReference)),
             Some(entry) => Ok(entry),
         }
@@ -151,11 +151,11 @@ impl<S> WorldState<S> {
     ) -> Result<(Located, &Entry), Refusal>
         ensures { Does (seen (λ d. (d.0, d.1.now)) result) self.now (declaration number) self.now }
     {
-        let node = self.names.id_of(number);
-        let Some(entry) = self.names.node(node) else {
+        let node = self.names().id_of(number);
+        let Some(entry) = self.names().node(node) else {
             return Err(Refusal::Evaluation(EvaluationFault::DeadReference));
         };
-        match self.names.locate_node(alloc, node)? {
+        match self.names().locate_node(alloc, node)? {
             None => Err(Refusal::Evaluation(EvaluationFault::DeadReference)),
             Some(located) => Ok((located, entry)),
         }

@@ -23,7 +23,7 @@ impl<S> WorldState<S> {
         ensures { IfSome result (λ region. IsPlainRegion self.now unit.source region) }
     {
         match unit.source {
-            FieldSource::Region(number) => match self.names.node(NodeId::numbered(number)) {
+            FieldSource::Region(number) => match self.names().node(NodeId::numbered(number)) {
                 None => None,
                 Some(entry) => plain_region_of(&entry.object),
             },

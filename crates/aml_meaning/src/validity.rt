@@ -24,7 +24,7 @@ impl<S> WorldState<S> {
         ensures { result ≡ is_valid_reference self.now reference }
     {
         match reference {
-            Reference::Name(number) => self.names.was_given(number),
+            Reference::Name(number) => self.names().was_given(number),
             Reference::Slot(_, number) => number < self.started,
             Reference::Element(object, _) => self.has_object(object),
             Reference::Byte(object, _) => self.has_object(object),

@@ -4,7 +4,7 @@ ghost use Rattle.ar_space.specs.declared.refusal.Refusal.TheVariants.{OutOfMemor
 ghost use Rattle.aml_meaning.specs.Predefined.{fresh, predefined};
 
 use crate::frame::Frame;
-use aml_grammar::Arities;
+use crate::known_names::Declarations;
 use aml_namespace::Names;
 use aml_objects::{Heap, Octets};
 use ar_space::{IntegerWidth, Refusal};
@@ -15,8 +15,7 @@ use std::marker::Model;
 /// frames of the calls in progress with the number of the next one, the texts that `_OSI` knows, and how wide integers are.
 #[derive(Drop)]
 pub struct WorldState<S> {
-    pub(crate) names: Names,
-    pub(crate) arities: Arities,
+    pub(crate) declarations: Declarations,
     pub(crate) heap: Heap,
     pub(crate) frames: Vec<Frame>,
     pub(crate) started: u64,
@@ -32,7 +31,7 @@ impl<S> Model for WorldState<S> {
 
     ghost coded = { state_code S.code };
 
-    ghost view = { λ w. record { names = w.names; arities = w.arities; objects = w.heap; frames = w.frames.items; started = w.started; space = w.space; osi = w.osi.items; width = w.width } };
+    ghost view = { λ w. record { names = w.declarations.names; arities = w.declarations.arities; objects = w.heap; frames = w.frames.items; started = w.started; space = w.space; osi = w.osi.items; width = w.width } };
 }
 
 impl<S> WorldState<S> {
@@ -48,13 +47,12 @@ impl<S> WorldState<S> {
         ensures space { IfErr result (λ refused. refused.1 ≡ space) }
         ensures refusal { IfErr result (λ refused. refused.0 ≢ OutOfMemory → (predefined (fresh width osi.items space)).0 ≡ Err refused.0) }
     {
-        let names = match Names::new(alloc) {
-            Ok(names) => names,
+        let declarations = match Declarations::new(alloc) {
+            Ok(declarations) => declarations,
             Err(refusal) => return Err((refusal, space)),
         };
         let mut world = WorldState {
-            names,
-            arities: Arities::new(alloc),
+            declarations,
             heap: Heap::new(alloc),
             frames: Vec::new(alloc),
             started: 0,
@@ -83,10 +81,11 @@ impl<S> WorldState<S> {
     }
 
     /// The names that are declared.
+    #[inline]
     pub fn names(&self) -> &Names
         ensures { result.now ≡ self.now.names }
     {
-        &self.names
+        self.declarations.names()
     }
 
     /// How wide integers are.

@@ -1,14 +1,12 @@
 -- What a scan leaves, copied from its bytes, is what reading gives.
-use Rattle.std.specs.Prelude.{◌≡◌, List, [], ◌∷◌, Bool, false, ℕ, Ok, Err, IsErr, IsErrAnd, refl}
+use Rattle.std.specs.Prelude.{◌≡◌, List, [], ◌∷◌, false, ℕ, Ok, refl}
 use Rattle.std.proofs.Common.{◌∙◌, sym, ap}
-use Rattle.ar_space.specs.declared.refusal.Refusal.{Refusal}
 use Rattle.ar_space.specs.Outcome.{Outcome, Answers, NotMemory, seen, answering}
-use Rattle.aml_path.specs.declared.segment.Seg.{Seg}
 use Rattle.aml_grammar.specs.declared.arities.Arity.{Arity}
 use Rattle.aml_grammar.specs.declared.marks.Mark.{Mark}
 use Rattle.aml_grammar.specs.Tree.{Tree, Trees}
 use Rattle.aml_grammar.specs.Shape.{trees_of}
-use Rattle.aml_grammar.specs.Grammar.{term_list, by_arities, reading, table_reading}
+use Rattle.aml_grammar.specs.Grammar.{term_list, by_arities, table_reading}
 use Rattle.aml_marked.specs.Marked.{trees_by}
 use Rattle.aml_scan.specs.Scanned.{noted}
 use Rattle.aml_terms.specs.Copying.{trees_list}

@@ -4,9 +4,8 @@ use Rattle.aml_path.specs.declared.segment.Seg.{Seg}
 use Rattle.aml_objects.specs.declared.entry.Entry.{Entry}
 use Rattle.aml_objects.specs.declared.entry.NamedObject.TheVariants.{Data}
 use Rattle.aml_objects.specs.declared.value.Value.TheVariants.{Integer}
-use Rattle.aml_namespace.specs.Namespace.{numbered}
+use Rattle.aml_namespace.specs.Namespace.{Namespace, numbered}
 use Rattle.aml_meaning.specs.declared.invocation.Invocation.TheVariants as invocation
-use Rattle.aml_meaning.specs.State.{State}
 use Rattle.aml_meaning.specs.Invocations.{use_found}
 use Rattle.aml_meaning.proofs.SlotIntegers.{if_some}
 use Rattle.aml_meaning.proofs.NodeObjects.{entry_is, integer_used}
@@ -19,6 +18,6 @@ returns-in-Some-clause-used g c =
     let e = c.in-Some.entry.now in
     if_some c.integer_of.result (λ number. e.object ≡ Data (Integer number)) (λ number. (f : List Seg × Entry) → numbered id w.names.map ≡ Some f → Does (Ok (invocation.Value (Integer number))) w (use_found f 0) w)
     (λ number held f at.
-    let same : e ≡ f.1 = entry_is (numbered id c.self.inside.names.map) e f c.in-Some.ensures (ap (λ (s : State g.row.S.Denot). numbered id s.names.map) c.self.view_is ∙ at) in
+    let same : e ≡ f.1 = entry_is (numbered id c.names.result.now.map) e f c.in-Some.ensures (ap (λ (n : Namespace). numbered id n.map) c.names.ensures ∙ at) in
     integer_used w f number (ap (λ (x : Entry). x.object) (sym same) ∙ held))
     c.integer_of.ensures

@@ -5,11 +5,10 @@ use Rattle.aml_objects.specs.declared.entry.Entry.{Entry}
 use Rattle.aml_objects.specs.declared.entry.Field.TheVariants as field
 use Rattle.aml_objects.specs.declared.entry.NamedObject.TheVariants as objects
 use Rattle.aml_objects.specs.declared.value.Value.{Value}
-use Rattle.aml_namespace.specs.Namespace.{numbered}
+use Rattle.aml_namespace.specs.Namespace.{Namespace, numbered}
 use Rattle.aml_meaning.specs.declared.invocation.Invocation.TheVariants as invocation
 use Rattle.aml_meaning.specs.declared.store_target.StoreTarget.TheVariants as targets
 use Rattle.aml_meaning.specs.declared.store_target.Stored.TheVariants.{Field}
-use Rattle.aml_meaning.specs.State.{State}
 use Rattle.aml_meaning.specs.Invocations.{use_found}
 use Rattle.aml_meaning.specs.Stores.{stored}
 use Rattle.aml_meaning.proofs.SlotIntegers.{if_some}
@@ -23,7 +22,7 @@ returns-in-Some-clause-used g c =
     let e = c.in-Some.entry.now in
     if_some c.unit_of.result (λ u. e.object ≡ objects.FieldUnit u) (λ u. (f : List Seg × Entry) → numbered id w.names.map ≡ Some f → Does (Ok (invocation.Field (field.Unit u))) w (use_found f 0) w)
     (λ u held f at.
-    let same : e ≡ f.1 = entry_is (numbered id c.self.inside.names.map) e f c.in-Some.ensures (ap (λ (s : State g.row.S.Denot). numbered id s.names.map) c.self.view_is ∙ at) in
+    let same : e ≡ f.1 = entry_is (numbered id c.names.result.now.map) e f c.in-Some.ensures (ap (λ (n : Namespace). numbered id n.map) c.names.ensures ∙ at) in
     unit_used w f u (ap (λ (x : Entry). x.object) (sym same) ∙ held))
     c.unit_of.ensures
 
@@ -35,6 +34,6 @@ returns-in-Some-clause-written g c =
     if_some c.unit_of.result (λ u. e.object ≡ objects.FieldUnit u)
     (λ u. (f : List Seg × Entry) → numbered id w.names.map ≡ Some f → (v : Value) → Does (Ok (Field (field.Unit u))) w (stored (targets.Name f.0) v) w)
     (λ u held f at v.
-    let same : e ≡ f.1 = entry_is (numbered id c.self.inside.names.map) e f c.in-Some.ensures (ap (λ (s : State g.row.S.Denot). numbered id s.names.map) c.self.view_is ∙ at) in
+    let same : e ≡ f.1 = entry_is (numbered id c.names.result.now.map) e f c.in-Some.ensures (ap (λ (n : Namespace). numbered id n.map) c.names.ensures ∙ at) in
     unit_led_to w id f at w.names u v (ap (λ (x : Entry). x.object) (sym same) ∙ held))
     c.unit_of.ensures

@@ -1,0 +1,103 @@
+//! The marks of the bodies of control methods (ACPI 6.5, 5.5.2 and 20.2.5).
+ghost use Rattle.std.specs.Prelude.{◌≡◌, Ok, IfSome, true};
+ghost use Rattle.ar_space.specs.Change.{Does};
+ghost use Rattle.ar_space.specs.Outcome.{Answers, seen};
+ghost use Rattle.aml_grammar.specs.Grammar.{reading};
+ghost use Rattle.aml_grammar.specs.Shape.{trees_of};
+ghost use Rattle.aml_marked.specs.Marked.{trees_by};
+ghost use Rattle.aml_meaning.specs.Invocations.{body_terms};
+ghost use Rattle.aml_meaning.specs.Known.{known_arities};
+
+use crate::known_names::{Declarations, ScannedBody};
+use crate::world_state::WorldState;
+use aml_marks::{Marks, scan_list};
+use aml_objects::Body;
+use aml_path::Path;
+use ar_space::Refusal;
+use std::alloc::Global;
+use std::mem;
+
+impl<S> WorldState<S> {
+    /// The marks of the body of the control method at a path, with the arguments that names take now; refused as `scan_list` refuses
+    /// it. A body that is read again is not scanned again, unless names came or went in between.
+    ///
+    /// They are good for the whole call: names that it declares or removes don't change how its body reads.
+    pub fn body_marks(&mut self, alloc: Global, path: &Path, body: &Body) -> Result<Marks, Refusal>
+        ensures marks { Does (seen (λ m. trees_of (trees_by m body.now)) result) self.new (body_terms path.now body.now) self.old }
+        ensures unchanged { self.new ≡ self.old }
+    {
+        self.declarations.body_marks(alloc, path, body)
+    }
+}
+
+impl Declarations {
+    /// The marks of a body, kept or scanned now; it is refused as `scan_list` refuses it.
+    pub(crate) fn body_marks(
+        &mut self,
+        alloc: Global,
+        path: &Path,
+        body: &Body,
+    ) -> Result<Marks, Refusal>
+        ensures marks { Answers (seen (λ m. trees_by m body.now) result) (reading body.now path.now true (known_arities self.old)) }
+        ensures unchanged { self.new ≡ self.old }
+    {
+        if let Some(marks) = self.kept_marks(path, body) {
+            return marks.share();
+        }
+        let marks = scan_list(alloc, body.as_slice(), path, true, self)?;
+        self.keep(alloc, path, body, &marks);
+        Ok(marks)
+    }
+
+    /// The marks that are kept, where they are those of this body of the control method at this path.
+    fn kept_marks(&self, path: &Path, body: &Body) -> Option<&Marks>
+        ensures { IfSome result (λ m. reading body.now path.now true (known_arities self.now) ≡ Ok (trees_by m.now body.now)) }
+    {
+        match &self.kept {
+            None => None,
+            Some(kept) => {
+                if kept.is_of(path, body) {
+                    Some(&kept.marks)
+                } else {
+                    None
+                }
+            }
+        }
+    }
+
+    /// Keeps the marks of a body that was scanned now, and no others. Where there is no memory for it, nothing is kept.
+    fn keep(&mut self, alloc: Global, path: &Path, body: &Body, marks: &Marks)
+        requires { reading body.now path.now true (known_arities self.old) ≡ Ok (trees_by marks.now body.now) }
+        ensures { self.new ≡ self.old }
+    {
+        let scanned = ScannedBody::shared(alloc, path, body, marks);
+        drop(mem::replace(&mut self.kept, scanned.ok()));
+    }
+}
+
+impl ScannedBody {
+    /// What is kept of a scan: a copy of the path, and shares of the body and of its marks.
+    fn shared(
+        alloc: Global,
+        path: &Path,
+        body: &Body,
+        marks: &Marks,
+    ) -> Result<ScannedBody, Refusal>
+        ensures { Answers result (Ok (record { path = path.now; body = body.now; marks = marks.now })) }
+    {
+        Ok(ScannedBody {
+            path: path.copy(alloc)?,
+            body: body.share()?,
+            marks: marks.share()?,
+        })
+    }
+
+    /// Whether this is the body of the control method at a path. The bytes are compared, since another table may have told of a method
+    /// at the same path before.
+    fn is_of(&self, path: &Path, body: &Body) -> bool
+        ensures path { result ≡ true → self.now.path ≡ path.now }
+        ensures body { result ≡ true → self.now.body ≡ body.now }
+    {
+        self.path == *path && self.body.as_slice() == body.as_slice()
+    }
+}

@@ -1,0 +1,222 @@
+//! The names that are declared, and how many arguments they take.
+ghost use Rattle.std.specs.Prelude.{◌≡◌, ◌++◌, ◌∷◌, ℕ, List, [], Ok, None, Some, true, false, OnErr, option_map};
+ghost use Rattle.ar_space.specs.Change.{Does};
+ghost use Rattle.ar_space.specs.Outcome.{Answers, NotMemory, seen};
+ghost use Rattle.aml_path.specs.declared.segment.Seg.{Seg as Segment};
+ghost use Rattle.aml_objects.specs.declared.entry.Entry.{Entry};
+ghost use Rattle.aml_objects.specs.declared.entry.NamedObject.TheVariants.{Data};
+ghost use Rattle.aml_objects.specs.declared.value.Value.TheVariants.{Integer};
+ghost use Rattle.aml_namespace.specs.Namespace.{root_alone, declared, without_below, replaced, mutexes_released, numbered};
+ghost use Rattle.aml_meaning.specs.Known.{on_known, is_plain};
+
+use aml_grammar::Arities;
+use aml_marks::Marks;
+use aml_namespace::{Located, Names};
+use aml_objects::{Body, Entry, NamedObject, NodeId};
+use aml_path::Path;
+use ar_space::Refusal;
+use std::alloc::Global;
+use std::marker::Model;
+use std::mem;
+
+/// The body of a control method that was scanned: the path of the method, a share of its bytes, and the marks that the scan left.
+#[derive(Drop)]
+pub(crate) struct ScannedBody {
+    pub(crate) path: Path,
+    pub(crate) body: Body,
+    pub(crate) marks: Marks,
+}
+
+/// The names that are declared, and how many arguments they take as the tables tell.
+///
+/// How a body reads is up to the arguments that names take. So the marks of the body that was scanned last are kept, until another body
+/// is scanned or names come to take other arguments. What is kept is not seen.
+#[derive(Drop)]
+pub(crate) struct Declarations {
+    pub(crate) names: Names,
+    pub(crate) arities: Arities,
+    pub(crate) kept: Option<ScannedBody>,
+}
+
+impl Model for Declarations {
+    ghost use Rattle.aml_meaning.specs.Known.{Known, known_code, known_arities};
+
+    ghost Value = { Known };
+
+    ghost coded = { known_code };
+
+    ghost use Rattle.aml_meaning.specs.KeptBody.{IsKept};
+
+    ghost view = { λ d. record { names = d.names; arities = d.arities } };
+
+    ghost invariant = { λ d. IsKept (known_arities (record { names = d.names; arities = d.arities })) d.kept };
+}
+
+impl Declarations {
+    /// The root alone.
+    #[tactic(auto, using(crate::proofs::BodyMarks::forgotten))]
+    pub(crate) fn new(alloc: Global) -> Result<Declarations, Refusal>
+        ensures { Answers result (Ok (record { names = root_alone; arities = [] })) }
+    {
+        Ok(Declarations {
+            names: Names::new(alloc)?,
+            arities: Arities::new(alloc),
+            kept: None,
+        })
+    }
+
+    /// The names.
+    #[inline]
+    pub(crate) fn names(&self) -> &Names
+        ensures { result.now ≡ self.now.names }
+    {
+        &self.names
+    }
+
+    /// The arguments that names take, as the tables so far have declared them, and as Externals told.
+    #[inline]
+    pub(crate) fn arities(&self) -> &Arities
+        ensures { result.now ≡ self.now.arities }
+    {
+        &self.arities
+    }
+
+    /// Declares a name, as `Names::insert` does. It may take arguments, so nothing is kept any more; where it is refused, what is kept stays.
+    #[tactic(auto, using(crate::proofs::KnownNames::keeping))]
+    pub(crate) fn insert(&mut self, path: Path, object: NamedObject) -> Result<u64, Refusal>
+        ensures change { Does result self.new (on_known (declared path object)) self.old }
+        ensures refused { OnErr result (self.new ≡ self.old) }
+    {
+        let declared = self.names.insert(path, object);
+        keep_where(&mut self.kept, declared.is_err());
+        declared
+    }
+
+    /// Removes the names below a path, as `Names::remove_below` does. Where none stood there, what is kept stays.
+    #[tactic(auto, using(crate::proofs::KnownNames::keeping))]
+    pub(crate) fn remove_below(&mut self, path: &Path)
+        ensures { self.new ≡ record self.old { names = without_below path.now self.old.names } }
+    {
+        let removed = self.names.remove_below(path);
+        keep_where(&mut self.kept, !removed);
+    }
+
+    /// A path takes so many arguments from now on, as `Arities::add` has it.
+    #[tactic(auto, using(crate::proofs::BodyMarks::forgotten))]
+    pub(crate) fn add_arity(&mut self, path: Path, count: u8) -> Result<(), Refusal>
+        ensures change { Answers (seen (λ _. self.new) result) (Ok (record self.old { arities = self.old.arities ++ record { path = path; count = count; external = false } ∷ [] })) }
+        ensures refused { OnErr result (self.new ≡ self.old) }
+    {
+        forget(&mut self.kept);
+        self.arities.add(path, count, false)?;
+        Ok(())
+    }
+
+    /// Hands out the arguments that names take, and keeps none. It takes no memory.
+    #[tactic(auto, using(crate::proofs::BodyMarks::forgotten))]
+    pub(crate) fn take_arities(&mut self, alloc: Global) -> Arities
+        ensures arities { result ≡ self.old.arities }
+        ensures none { self.new ≡ record self.old { arities = [] } }
+    {
+        forget(&mut self.kept);
+        mem::replace(&mut self.arities, Arities::new(alloc))
+    }
+
+    /// Takes over the arguments that names take from now on. It takes no memory.
+    #[tactic(auto, using(crate::proofs::BodyMarks::forgotten))]
+    pub(crate) fn set_arities(&mut self, arities: Arities)
+        ensures { self.new ≡ record self.old { arities = arities } }
+    {
+        forget(&mut self.kept);
+        self.arities = arities;
+    }
+
+    /// Releases every mutex, as `Names::release_mutexes` does. A mutex takes no arguments, so what is kept stays.
+    #[tactic(auto, using(crate::proofs::KnownNames::keeping))]
+    pub(crate) fn release_mutexes(&mut self)
+        ensures { self.new ≡ record self.old { names = mutexes_released self.old.names } }
+    {
+        self.names.release_mutexes();
+    }
+
+    /// Puts an integer in place of another, as `Names::put_integer` does. An integer takes no arguments, so what is kept stays.
+    #[tactic(auto, using(crate::proofs::KnownNames::keeping))]
+    #[inline]
+    pub(crate) fn put_integer(&mut self, id: NodeId, number: u64) -> bool
+        ensures change { result ≡ true → (f : List Segment × Entry) → numbered id.number self.old.names.map ≡ Some f → replaced f.0 (Data (Integer number)) self.old.names ≡ (Ok tt, self.new.names) }
+        ensures arities { self.new.arities ≡ self.old.arities }
+        ensures held { result ≡ true → (f : List Segment × Entry) → numbered id.number self.old.names.map ≡ Some f → (n : ℕ) × (f.1.object ≡ Data (Integer n)) }
+        ensures gone { numbered id.number self.old.names.map ≡ None → result ≡ false }
+        ensures unchanged { result ≡ false → self.new ≡ self.old }
+    {
+        self.names.put_integer(id, number)
+    }
+
+    /// Puts another object into a node, as `Names::replace_node` does. Where neither object takes arguments or is an alias, what is kept
+    /// stays.
+    #[tactic(auto, using(crate::proofs::KnownNames::keeping))]
+    pub(crate) fn replace_node(&mut self, id: NodeId, object: NamedObject)
+        ensures change { (f : List Segment × Entry) → numbered id.number self.old.names.map ≡ Some f → replaced f.0 object self.old.names ≡ (Ok tt, self.new.names) }
+        ensures arities { self.new.arities ≡ self.old.arities }
+        ensures unchanged { numbered id.number self.old.names.map ≡ None → self.new ≡ self.old }
+    {
+        let plain = both_plain(&object, self.names.node(id));
+        keep_where(&mut self.kept, plain);
+        self.names.replace_node(id, object);
+    }
+
+    /// Puts another object at a path, as `Names::replace_located` does. Where neither object takes arguments or is an alias, what is kept
+    /// stays.
+    #[tactic(auto, using(crate::proofs::KnownNames::keeping))]
+    pub(crate) fn replace_located(
+        &mut self,
+        located: &Located,
+        object: NamedObject,
+    ) -> Result<(), Refusal>
+        ensures change { Does result self.new (on_known (replaced located.now object)) self.old }
+        ensures memory { NotMemory result }
+    {
+        let plain = both_plain(&object, self.names.get_located(located));
+        keep_where(&mut self.kept, plain);
+        self.names.replace_located(located, object)
+    }
+}
+
+/// Keeps nothing any more.
+fn forget(kept: &mut Option<ScannedBody>)
+    ensures { kept.new ≡ None }
+{
+    drop(kept.take());
+}
+
+/// Keeps what is kept, or nothing any more.
+fn keep_where(kept: &mut Option<ScannedBody>, stays: bool)
+    ensures stays { stays ≡ true → kept.new ≡ kept.old }
+    ensures goes { stays ≡ false → kept.new ≡ None }
+{
+    if !stays {
+        forget(kept);
+    }
+}
+
+/// Whether an object and the one that stands where it is to stand take no arguments, and are no aliases.
+fn both_plain(object: &NamedObject, standing: Option<&Entry>) -> bool
+    ensures new { result ≡ true → is_plain object.now ≡ true }
+    ensures old { result ≡ true → (e : Entry) → option_map (λ e. e.now) standing.entry ≡ Some e → is_plain e.object ≡ true }
+{
+    match standing {
+        None => false,
+        Some(entry) => is_plain(object) && is_plain(&entry.object),
+    }
+}
+
+/// Whether an object takes no arguments, and is no alias.
+fn is_plain(object: &NamedObject) -> bool
+    ensures { result ≡ is_plain object.now }
+{
+    match object {
+        NamedObject::Method(_) => false,
+        NamedObject::Alias(_) => false,
+        _ => true,
+    }
+}
