@@ -25,9 +25,7 @@ use crate::short_terms::short_integer;
 use crate::statements::eval_statement;
 use crate::task::{Context, Task};
 use crate::terms::unsupported;
-use aml_meaning::{
-    DeclarationKind, Flow, RegionKind, Running, TermKind, WorldState, kind_of,
-};
+use aml_meaning::{DeclarationKind, Flow, RegionKind, Running, TermKind, WorldState, kind_of};
 use aml_objects::Value;
 use aml_terms::{Cursor, RowPlace};
 use ar_space::{NameFault, Refusal, Space};
