@@ -1,4 +1,4 @@
--- Buffers and packages, where their operands stand one behind another: what a cursor comes by is what the rule says of the term's tree.
+-- Strings, buffers and packages, where their operands stand one behind another: what a cursor comes by is what the rule says of the term's tree.
 use Rattle.std.specs.Prelude.{◌≡◌, ◌≢◌, ◌<◌, ◌-◌, ℕ, zero, suc, List, [], ◌∷◌, ◌++◌, length, take, Bool, true, false, ◌==◌, Option, Some, None, Ok, Err, refl}
 use Rattle.std.proofs.Common.{◌∙◌, sym, ap, arith}
 use Rattle.ar_space.specs.Accesses.{Accesses}
@@ -14,7 +14,7 @@ use Rattle.aml_grammar.specs.Shape.{trees_of, parts_of}
 use Rattle.aml_grammar.specs.Tree.{Tree, Trees, term, name, no_trees, tree}
 use Rattle.aml_grammar.specs.Apart.{code_of}
 use Rattle.aml_grammar.specs.Grammar.{is_if}
-use Rattle.aml_marked.specs.Marked.{Place, Below, Walk, first, an_integer, a_name, an_opcode, a_coded, a_call, a_term, a_term_in, with_row, after, gives, no_term, to_end}
+use Rattle.aml_marked.specs.Marked.{Place, Below, Walk, first, an_integer, a_text, a_name, an_opcode, a_coded, a_call, a_term, a_term_in, with_row, after, gives, no_term, to_end}
 use Rattle.aml_marked.specs.Walking.{some_levels}
 use Rattle.aml_scan.specs.RowsAt.{row_at}
 use Rattle.aml_scan.specs.declared.row_places.RowPlace.{RowPlace}
@@ -28,17 +28,20 @@ use Rattle.aml_meaning.specs.Run.{Run, charge}
 use Rattle.aml_meaning.specs.Tasks.{Task, task, operand_value}
 use Rattle.aml_meaning.specs.Meaning.{meaning}
 use Rattle.aml_meaning.specs.Evaluation.{rule}
-use Rattle.aml_meaning.specs.DataTerms.{buffer_rule, package_rule, var_package_rule, package_of, named_element, valued_element, element_by, elements_in_turn}
+use Rattle.aml_meaning.specs.DataTerms.{string_rule, buffer_rule, package_rule, var_package_rule, package_of, named_element, valued_element, element_by, elements_in_turn}
 use Rattle.aml_meaning.proofs.Meanings.{meaning_is}
 use Rattle.aml_interp.specs.AtCursor.{outside_at, row_kind}
-use Rattle.aml_interp.specs.DataAtCursor.{named_at, named_put, value_put, element_at, element_put, buffer_at, package_at, var_package_at}
-use Rattle.aml_interp.proofs.OperandShapes.{stands, a_buffer, a_package, a_var_package}
+use Rattle.aml_interp.specs.DataAtCursor.{named_at, named_put, value_put, element_at, element_put, string_at, buffer_at, package_at, var_package_at}
+use Rattle.aml_interp.proofs.OperandShapes.{stands, a_string, a_buffer, a_package, a_var_package}
 use Rattle.aml_interp.proofs.Steps.{same_element}
 use Rattle.aml_interp.proofs.CursorSteps.{items_none, items_over, none_left, some_left}
 
 -- ---- the operands of rows
 
 module _ (b : Below) where
+  pub past_string : (o : RowPlace) (p : Place) → row_kind (row_at o) ≡ kinds.Data datas.String → (with_row b (row_at o) p).1 ≡ (a_text p).1
+  past_string o p e = let x = stands (kinds.Data datas.String) o e (λ h. absurd (cc h)) in rw (x.1.0, a_string b x.0 p x.1.1) refl
+
   pub past_buffer : (o : RowPlace) (p : Place) → row_kind (row_at o) ≡ kinds.Data datas.Buffer → (with_row b (row_at o) p).1 ≡ outside_at p
   past_buffer o p e = let x = stands (kinds.Data datas.Buffer) o e (λ h. absurd (cc h)) in rw (x.1.0, a_buffer b x.0 p x.1.1) refl
 
@@ -49,6 +52,16 @@ module _ (b : Below) where
   past_var_package o p e = let x = stands (kinds.Data datas.VarPackage) o e (λ h. absurd (cc h)) in rw (x.1.0, a_var_package b x.0 p x.1.1) refl
 
 module _ {S : Type 0} (ev : Task → Run S Flow) (scope : List Seg) (depth : ℕ) (b : Below) where
+  string_is : (o : RowPlace) (p : Place) → row_kind (row_at o) ≡ kinds.Data datas.String → string_rule ev (with_row b (row_at o) p).0 ≡ string_at p
+  unfolding string_rule string_at settle ◌>>=◌ go_on
+  string_is o p e =
+      let x = stands (kinds.Data datas.String) o e (λ h. absurd (cc h)) in
+      let t = a_string b x.0 p x.1.1 in
+      rw (x.1.0, t) refl
+
+  pub does_string : {r : Outcome Flow} {s s1 : State S × ℕ} (o : RowPlace) (p : Place) → row_kind (row_at o) ≡ kinds.Data datas.String → Does r s1 (string_at p) s → Does r s1 (string_rule ev (with_row b (row_at o) p).0) s
+  does_string o p e h = rw (string_is o p e) h
+
   buffer_is : (o : RowPlace) (p : Place) → row_kind (row_at o) ≡ kinds.Data datas.Buffer → buffer_rule ev scope depth (with_row b (row_at o) p).0 ≡ buffer_at ev scope depth b p
   unfolding buffer_rule buffer_at settle ◌>>=◌ go_on
   buffer_is o p e =
@@ -79,7 +92,7 @@ module _ {S : Type 0} (ev : Task → Run S Flow) (scope : List Seg) (depth : ℕ
   pub does_var_package : {r : Outcome Flow} {s s1 : State S × ℕ} (o : RowPlace) (p : Place) → row_kind (row_at o) ≡ kinds.Data datas.VarPackage → Does r s1 (var_package_at ev scope depth b p) s → Does r s1 (var_package_rule ev scope depth (with_row b (row_at o) p).0) s
   does_var_package o p e h = rw (var_package_is o p e) h
 
-pub ruleset data_rules = (does_buffer, does_package, does_var_package, past_buffer, past_package, past_var_package)
+pub ruleset data_rules = (does_string, past_string, does_buffer, does_package, does_var_package, past_buffer, past_package, past_var_package)
 
 -- ---- the number of elements is the byte that stands first
 

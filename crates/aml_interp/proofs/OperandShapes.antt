@@ -10,7 +10,7 @@ use Rattle.aml_grammar.specs.Grammar.{is_if, is_nothing, kinds_of}
 use Rattle.aml_grammar.specs.Shape.{parts_of}
 use Rattle.aml_grammar.specs.Table.{table}
 use Rattle.aml_grammar.specs.Tree.{Tree, term, Part, name, number, bytes, inner, list, Parts, no_parts, part}
-use Rattle.aml_marked.specs.Marked.{Place, Below, Walk, to_part, list_part, over, after, gives, inside, an_operand, all_operands, of_row, with_row, a_target, a_super_name, all_items, all_left, an_integer, maybe_else}
+use Rattle.aml_marked.specs.Marked.{Place, Below, Walk, to_part, list_part, over, after, gives, inside, an_operand, all_operands, of_row, with_row, a_target, a_super_name, all_items, all_left, a_text, an_integer, maybe_else}
 use Rattle.aml_scan.specs.RowsAt.{row_at}
 use Rattle.aml_scan.specs.declared.row_places.RowPlace.{RowPlace}
 use Rattle.aml_meaning.specs.declared.term_kind.TermKind.{TermKind}
@@ -63,6 +63,10 @@ abbrev ◌and◌ : Bool → Bool → Bool
 abbrev opposite : Bool → Bool
 opposite x = if x then false else true
 
+abbrev is_text : OperandKind → Bool
+is_text kinds.AsciiCharList = true
+is_text _ = false
+
 abbrev is_byte_list : OperandKind → Bool
 is_byte_list kinds.ByteList = true
 is_byte_list _ = false
@@ -77,6 +81,7 @@ is_plain row = opposite row.2 and opposite (is_if row.0)
 
 abbrev fits : TermKind → Row → Bool
 fits (term.Data (datas.Constant n)) row = is_plain row and is_nothing row.3.0
+fits (term.Data datas.String) row = is_plain row and is_text row.3.0 and is_nothing row.3.1
 fits (term.Data datas.Buffer) row = row.2 and opposite (is_if row.0) and is_argument row.3.0 and is_byte_list row.3.1 and is_nothing row.3.2
 fits (term.Data datas.Package) row = row.2 and opposite (is_if row.0) and is_byte row.3.0 and is_element_list row.3.1 and is_nothing row.3.2
 fits (term.Data datas.VarPackage) row = row.2 and opposite (is_if row.0) and is_argument row.3.0 and is_element_list row.3.1 and is_nothing row.3.2
@@ -163,6 +168,11 @@ module _ (b : Below) where
   list_reads kinds.LoopTermList e = record { some = refl; is = refl }
   list_reads _ e = absurd (cc e)
 
+  text_reads : (k : OperandKind) → is_text k ≡ true → Reads k (to_part bytes a_text)
+  unfolding an_operand
+  text_reads kinds.AsciiCharList e = record { some = refl; is = refl }
+  text_reads _ e = absurd (cc e)
+
   byte_list_reads : (k : OperandKind) → is_byte_list k ≡ true → Reads k (to_part bytes all_left)
   unfolding an_operand
   byte_list_reads kinds.ByteList e = record { some = refl; is = refl }
@@ -230,6 +240,11 @@ module _ (b : Below) where
       → with_row b (Some row) p ≡ (term (codes.Opcode row.0) (part (inner (b false p).0) no_parts), behind_one b p)
   an_argument row p f = let x = both _ _ f in let y = both _ _ x.1 in
       plain_row row p x.0 ∙ rw (then_one _ _ p (argument_reads row.3.0 y.0) y.1) refl
+
+  pub a_string : (row : Row) (p : Place) → (is_plain row and is_text row.3.0 and is_nothing row.3.1) ≡ true
+      → with_row b (Some row) p ≡ (term (codes.Opcode row.0) (part (bytes (a_text p).0) no_parts), (a_text p).1)
+  a_string row p f = let x = both _ _ f in let y = both _ _ x.1 in
+      plain_row row p x.0 ∙ rw (then_one _ _ p (text_reads row.3.0 y.0) y.1) refl
 
   pub a_super : (row : Row) (p : Place) → (is_plain row and is_super row.3.0 and is_nothing row.3.1) ≡ true
       → with_row b (Some row) p ≡ (term (codes.Opcode row.0) (part (a_super_name b p).0 no_parts), (a_super_name b p).1)

@@ -1,15 +1,17 @@
--- The rules of buffers and packages over the places where their operands stand, one behind another.
+-- The rules of strings, buffers and packages over the places where their operands stand, one behind another.
 use Rattle.std.specs.Prelude.{ℕ, List, [], ◌∷◌, ◌++◌, true, false}
 use Rattle.ar_space.specs.Change.{give, ◌>>=◌}
 use Rattle.aml_path.specs.declared.segment.Seg.{Seg}
 use Rattle.aml_grammar.specs.Tree.{Tree, Trees}
 use Rattle.aml_grammar.specs.Shape.{trees_of}
 use Rattle.aml_grammar.specs.Apart.{code_of}
-use Rattle.aml_marked.specs.Marked.{Place, Below, over, an_integer, a_name, all_items}
+use Rattle.aml_marked.specs.Marked.{Place, Below, over, an_integer, a_text, a_name, all_items}
 use Rattle.aml_objects.specs.declared.object.Element.{Element}
 use Rattle.aml_objects.specs.declared.object.Element.TheVariants as element
 use Rattle.aml_meaning.specs.declared.flow.Flow.{Flow}
 use Rattle.aml_meaning.specs.declared.flow.Flow.TheVariants as flow
+use Rattle.aml_objects.specs.Objects.{make_string}
+use Rattle.aml_meaning.specs.State.{on_objects}
 use Rattle.aml_meaning.specs.Run.{Run, lift, charge}
 use Rattle.aml_meaning.specs.NewObjects.{within, new_buffer, new_package}
 use Rattle.aml_meaning.specs.Tasks.{Task, operand_value, operand_integer}
@@ -24,6 +26,12 @@ elements_at b p = trees_of (all_items b true p).0
 unfoldable pub package_made : {S : Type 0} → ℕ → List Element → Run S Flow
 package_made n es = do
   v ← lift (new_package n es)
+  give (flow.Value v)
+
+-- the characters up to the next zero
+unfoldable pub string_at : {S : Type 0} → Place → Run S Flow
+string_at p = do
+  v ← lift (on_objects (make_string (a_text p).0))
   give (flow.Value v)
 
 -- ev: what a part evaluates to; b: the terms one level below

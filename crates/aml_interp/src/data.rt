@@ -4,21 +4,22 @@ ghost use Rattle.ar_space.specs.Outcome.{Answers, NotMemory, seen};
 ghost use Rattle.ar_space.specs.Change.{Does};
 ghost use Rattle.aml_grammar.specs.Tree.{Tree, no_trees};
 ghost use Rattle.aml_grammar.specs.Shape.{trees_of};
-ghost use Rattle.aml_marked.specs.Marked.{Walk, count_at, a_term, a_name, an_integer, over, with_row, to_end};
+ghost use Rattle.aml_marked.specs.Marked.{Walk, count_at, a_term, a_name, a_text, an_integer, over, with_row, to_end};
 ghost use Rattle.aml_scan.specs.RowsAt.{row_at};
 ghost use Rattle.aml_objects.specs.declared.object.Element.TheVariants as element;
 ghost use Rattle.aml_meaning.specs.declared.term_kind.TermKind.TheVariants as kinds;
 ghost use Rattle.aml_meaning.specs.Meaning.{meaning};
-ghost use Rattle.aml_meaning.specs.DataTerms.{data_rule, constant_rule, integer_rule, string_rule, elements_in_turn, package_of};
+ghost use Rattle.aml_meaning.specs.DataTerms.{data_rule, constant_rule, integer_rule, elements_in_turn, package_of};
 ghost use Rattle.aml_interp.specs.AtCursor.{behind_one, outside_at, row_kind};
-ghost use Rattle.aml_interp.specs.DataAtCursor.{elements_at, element_put, value_put, named_put, named_at, package_made, buffer_at, package_at, var_package_at};
+ghost use Rattle.aml_interp.specs.DataAtCursor.{elements_at, element_put, value_put, named_put, named_at, package_made, string_at, buffer_at, package_at, var_package_at};
 
 use crate::at_cursor::{eval_integer_at_cursor, eval_value_at_cursor};
-use crate::operands::{bytes, number};
+use crate::operands::number;
 use crate::task::Context;
 use aml_meaning::{DataKind, Flow, Running};
 use aml_objects::{Element, Elements, Octets, Value};
 use aml_path::{NameString, Path};
+use aml_scan::text_length;
 use aml_terms::{Cursor, RowPlace};
 use ar_space::{Refusal, Space};
 use std::alloc::Global;
@@ -44,7 +45,7 @@ pub(crate) fn eval_data<S: Space>(
     match kind {
         DataKind::Constant(number) => eval_constant(run, number),
         DataKind::Integer => eval_integer(run, context, cursor, levels, place),
-        DataKind::String => eval_string(alloc, run, context, cursor, levels, place),
+        DataKind::String => eval_string(alloc, run, cursor),
         DataKind::Buffer => eval_buffer(alloc, run, context, cursor, levels),
         DataKind::Package => eval_package(alloc, run, context, cursor, levels),
         DataKind::VarPackage => eval_var_package(alloc, run, context, cursor, levels),
@@ -81,25 +82,32 @@ fn eval_integer<S: Space>(
     eval_constant(run, number)
 }
 
+/// A string: the characters that stand before the next zero.
 #[inline(never)]
-#[tactic(auto, using(crate::proofs::Steps::evaluating), unfolding(aml_meaning::specs::DataTerms::string_rule))]
+#[tactic(auto, using(crate::proofs::Steps::evaluating), unfolding(crate::specs::DataAtCursor::string_at))]
 fn eval_string<S: Space>(
     alloc: Global,
     run: &mut Running<S>,
-    context: &Context<'_>,
     cursor: &mut Cursor<'_>,
-    levels: u8,
-    place: RowPlace,
 ) -> Result<Flow, Refusal>
     ensures spent { run.new.1 ≤ run.old.1 }
-    ensures means { Does result run.new (string_rule (meaning S.accesses) (with_row (a_term (count_at context.now.marks.now) levels) (row_at place) cursor.old).0) run.old }
-    ensures behind { OnOk result (cursor.new ≡ (with_row (a_term (count_at context.now.marks.now) levels) (row_at place) cursor.old).1) }
+    ensures means { Does result run.new (string_at cursor.old) run.old }
+    ensures behind { OnOk result (cursor.new ≡ (a_text cursor.old).1) }
 {
-    let term = cursor.coded_term(context.marks, levels, place);
-    cursor.over_operands(context.marks, levels, place);
-    let text = bytes(alloc, &term, 0)?;
+    let text = take_text(alloc, cursor)?;
     let value = run.world.make_string(text)?;
     Ok(Flow::Value(value))
+}
+
+/// A copy of the text that stands next. The cursor goes over it and its zero.
+fn take_text(alloc: Global, cursor: &mut Cursor<'_>) -> Result<Octets, Refusal>
+    ensures text { Answers result (Ok (a_text cursor.old).0) }
+    ensures behind { cursor.new ≡ (a_text cursor.old).1 }
+{
+    let bytes = cursor.rest();
+    let length = text_length(bytes);
+    cursor.over(length + 1);
+    copied(alloc, &bytes[..length])
 }
 
 /// A buffer: its size is a term, and the bytes behind it are its first ones.
