@@ -7,7 +7,7 @@ pub mod Growth
 pub mod Numbering
 pub mod Finding
 pub mod Declaring
-pub mod Marks
+pub mod Marking
 pub mod Climbing
 pub mod Scopes
 pub mod Searching

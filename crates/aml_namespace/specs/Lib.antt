@@ -7,4 +7,5 @@ pub mod OneSegment
 pub mod Search
 pub mod Walks
 pub mod Parents
+pub mod Places
 pub mod Tree

@@ -13,6 +13,7 @@ use Rattle.aml_namespace.specs.declared.node.Node.{Node}
 use Rattle.aml_namespace.specs.Namespace.{Map}
 use Rattle.aml_namespace.specs.Nodes.{NodeMap}
 use Rattle.aml_namespace.specs.Parents.{is_marked}
+use Rattle.aml_namespace.specs.Places.{place_of, may_be}
 
 -- the order of the index: by parents, and then by segments
 abbrev pub index_cmp : ℕ × Seg → ℕ × Seg → Ordering
@@ -28,9 +29,12 @@ Children = ℕ → Seg → Option ℕ
 abbrev pub child_in : Index → Children
 child_in es parent segment = option_map (λ (id : NodeId). id.number) (lookup (is_at (index_cmp (parent, segment))) es)
 
--- each node with a child is marked as a parent
+-- each node with a child is marked as a parent, and each place in the index where a node is
 abbrev pub ParentsMarked : List Bool → Index → Type 0
 ParentsMarked marks es = (p : ℕ) (s : Seg) → is_some (child_in es p s) ≡ true → is_marked marks p ≡ true
+
+abbrev pub PlacesMarked : List Bool → Index → Type 0
+PlacesMarked marks es = (p : ℕ) (s : Seg) → is_some (child_in es p s) ≡ true → may_be marks (place_of p s) ≡ true
 
 -- from a node down some segments
 abbrev pub down : Children → ℕ → List Seg → Option ℕ

@@ -1,4 +1,6 @@
 //! Hints of where nodes lie, by their parents and segments.
+ghost use Rattle.std.specs.Prelude.{◌≡◌};
+ghost use Rattle.aml_namespace.specs.Places.{place_of};
 
 use aml_path::Seg;
 use std::alloc::Global;
@@ -95,7 +97,10 @@ impl Hints {
 
 /// The first place to look at for the node below a parent by a segment. The number and the segment are multiplied by an odd
 /// number without a pattern, of whose product the upper half depends on all their bits.
-pub(crate) fn first_place(parent: u64, segment: Seg) -> usize {
+#[tactic(auto, unfolding(crate::specs::Places::place_of))]
+pub(crate) fn first_place(parent: u64, segment: Seg) -> usize
+    ensures { result ≡ place_of parent segment }
+{
     let mixed = parent.rotate_left(32) ^ u64::from(u32::from_le_bytes(segment.bytes()));
     (mixed.wrapping_mul(0x9E37_79B9_7F4A_7C15) >> 32) as usize
 }

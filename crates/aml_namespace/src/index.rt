@@ -1,13 +1,16 @@
 //! An index of nodes by their parents and segments.
-ghost use Rattle.std.specs.Prelude.{◌≡◌, ◌<◌, ◌+◌, ◌^◌, ℕ, [], ◌∷◌, Some, None, Ok, false, OnOk, OnErr, IfOk, IsOkUnless, MatchOption, cond, option_map};
+ghost use Rattle.std.specs.Prelude.{◌≡◌, ◌<◌, ◌+◌, ◌^◌, ℕ, [], ◌∷◌, Some, None, Ok, true, false, is_some, OnOk, OnErr, IfOk, IsOkUnless, MatchOption, cond, option_map};
 ghost use Rattle.std.specs.List.Sorted.{IsStrictlySortedBy};
 ghost use Rattle.std.specs.Map.{keys_of};
 ghost use Rattle.std.specs.Ordering.{eq_by_cmp};
 ghost use Rattle.ar_space.specs.Outcome.{Answers, seen};
 ghost use Rattle.aml_path.specs.declared.segment.Seg.{Seg};
 ghost use Rattle.ar_space.specs.declared.refusal.Refusal.TheVariants.{OutOfMemory};
-ghost use Rattle.aml_namespace.specs.Tree.{index_cmp, child_in, segments_below};
+ghost use Rattle.aml_namespace.specs.Places.{may_be, place_of};
+ghost use Rattle.aml_namespace.specs.Tree.{index_cmp, child_in, segments_below, PlacesMarked};
 
+use crate::hints::first_place;
+use crate::marks::Marks;
 use crate::parents::Parents;
 use aml_objects::NodeId;
 use aml_path::Seg;
@@ -18,11 +21,12 @@ use std::marker::Model;
 
 /// The nodes by their parents' numbers and their segments, seen as the list of all in this order.
 ///
-/// Which nodes are parents is kept beside it, so that nothing is searched for below most of those that never were.
+/// Which nodes are parents, and at which places names may be, are kept beside it, so that little is searched for in vain.
 #[derive(Drop)]
 pub(crate) struct Index {
     places: BTreeMap<(u64, Seg), NodeId>,
     parents: Parents,
+    taken: Marks,
 }
 
 impl Model for Index {
@@ -32,11 +36,11 @@ impl Model for Index {
 
     ghost Value = { List ((ℕ × Segment) × Id) };
 
-    ghost use Rattle.aml_namespace.specs.Tree.{ParentsMarked};
+    ghost use Rattle.aml_namespace.specs.Tree.{ParentsMarked, PlacesMarked};
 
     ghost view = { λ i. i.places.entries };
 
-    ghost invariant = { λ i. ParentsMarked i.parents i.places.entries };
+    ghost invariant = { λ i. ParentsMarked i.parents i.places.entries × PlacesMarked i.taken i.places.entries };
 }
 
 impl Index {
@@ -49,6 +53,7 @@ impl Index {
         Ok(Index {
             places: BTreeMap::new(alloc),
             parents,
+            taken: Marks::new(alloc),
         })
     }
 
@@ -66,6 +71,13 @@ impl Index {
         self.parents.contains(parent)
     }
 
+    /// Whether a node may have a child with this segment. Most of those that have none are known by this. It takes no memory.
+    pub(crate) fn may_have_child(&self, parent: u64, segment: Seg) -> bool
+        ensures { result ≡ false → child_in self.now parent segment ≡ None }
+    {
+        self.parents.contains(parent) && self.taken.contains(first_place(parent, segment))
+    }
+
     /// The child of a node that has this segment. It takes no memory.
     pub(crate) fn find(&self, parent: u64, segment: Seg) -> Option<NodeId>
         ensures { option_map (λ id. id.number) result ≡ child_in self.now parent segment }
@@ -81,6 +93,7 @@ impl Index {
     {
         self.places.insert((parent, segment), id)?;
         self.parents.insert(parent);
+        mark(&mut self.taken, &self.places, parent, segment);
         Ok(())
     }
 
@@ -124,6 +137,27 @@ impl Index {
             list.push(place.1)?;
         }
         Ok(list)
+    }
+}
+
+/// Marks the place of what lies below a parent by a segment. Once the marks are many, they are made anew.
+fn mark(taken: &mut Marks, places: &BTreeMap<(u64, Seg), NodeId>, parent: u64, segment: Seg)
+    requires marked { (p : ℕ) (s : Seg) → is_some (child_in places.now.entries p s) ≡ true → eq_by_cmp index_cmp (parent, segment) (p, s) ≡ false → may_be taken.old (place_of p s) ≡ true }
+    ensures { PlacesMarked taken.new places.now.entries }
+{
+    if taken.is_full() && taken.renew(places.len()) {
+        mark_all(taken, places);
+    } else {
+        taken.insert(first_place(parent, segment));
+    }
+}
+
+/// Marks all places where nodes are.
+fn mark_all(taken: &mut Marks, places: &BTreeMap<(u64, Seg), NodeId>)
+    ensures { PlacesMarked taken.new places.now.entries }
+{
+    for (place, _) in places {
+        taken.insert(first_place(place.0, place.1));
     }
 }
 

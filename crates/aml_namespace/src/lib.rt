@@ -7,6 +7,7 @@ mod hints;
 mod index;
 pub mod laws;
 mod located;
+mod marks;
 mod mutexes;
 mod names;
 mod nearest;

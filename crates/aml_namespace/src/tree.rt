@@ -13,13 +13,13 @@ use aml_objects::NodeId;
 use aml_path::Seg;
 use ar_space::Refusal;
 
-/// The child of a node that has this segment. A hint finds it at once, however many nodes there are; where none does, the index
-/// says whether it stands. The root is nobody's child, though it has a segment and a parent.
+/// The child of a node that has this segment. Most that don't stand are known by a mark, and a hint finds most that do, however
+/// many nodes there are. Else the index says it. The root is nobody's child, though it has a segment and a parent.
 pub(crate) fn child(nodes: &Nodes, index: &Index, parent: u64, segment: Seg) -> Option<NodeId>
     requires listed { AllListed nodes.now (child_in index.now) }
     ensures { option_map (λ id. id.number) result ≡ child_in index.now parent segment }
 {
-    if !index.may_have_children(parent) {
+    if !index.may_have_child(parent, segment) {
         return None;
     }
     match nodes.hinted(parent, segment) {

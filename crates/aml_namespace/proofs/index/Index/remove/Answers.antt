@@ -1,7 +1,7 @@
 use Rattle.std.proofs.Common.{◌∙◌, ap, cond, None}
 use Rattle.std.specs.Ordering.{eq_by_cmp}
 use Rattle.aml_namespace.specs.Tree.{Index, index_cmp, child_in}
-use Rattle.aml_namespace.proofs.Marks.{taken_out, taken_marked}
+use Rattle.aml_namespace.proofs.Marking.{taken_out, still_there}
 use Rattle.aml_namespace.proofs.index.Index.remove.Goals as goal
 
 pub returns : goal.returns
@@ -11,5 +11,6 @@ returns c = λ p s.
 
 pub invariant_of-self : goal.invariant_of-self
 invariant_of-self c =
-    taken_marked c.self.inside.places.entries c.remove.new.self.entries c.args.parent c.args.segment c.self.inside.parents c.self.invariant
-    (taken_out c.self.inside.places.entries c.remove.new.self.entries c.args.parent c.args.segment c.remove.ensures.updates.0)
+    let left = still_there c.self.inside.places.entries c.remove.new.self.entries c.args.parent c.args.segment
+    (taken_out c.self.inside.places.entries c.remove.new.self.entries c.args.parent c.args.segment c.remove.ensures.updates.0) in
+    (λ p s stands. c.self.invariant.0 p s (left p s stands), λ p s stands. c.self.invariant.1 p s (left p s stands))
