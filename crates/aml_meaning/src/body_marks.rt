@@ -1,5 +1,6 @@
 //! The marks of the bodies of control methods (ACPI 6.5, 5.5.2 and 20.2.5).
-ghost use Rattle.std.specs.Prelude.{◌≡◌, Ok, IfSome, true};
+ghost use Rattle.std.specs.Prelude.{◌≡◌, Ok, IfSome, true, IsOkUnless};
+ghost use Rattle.ar_space.specs.declared.refusal.Refusal.TheVariants.{OutOfMemory};
 ghost use Rattle.ar_space.specs.Change.{Does};
 ghost use Rattle.ar_space.specs.Outcome.{Answers, seen};
 ghost use Rattle.aml_grammar.specs.Grammar.{reading};
@@ -19,7 +20,8 @@ use std::mem;
 
 impl<S> WorldState<S> {
     /// The marks of the body of the control method at a path, with the arguments that names take now; refused as `scan_list` refuses
-    /// it. A body that is read again is not scanned again, unless names came or went in between.
+    /// it. The body that was read last is not
+    /// scanned again, unless a name came or went, or a control method or an alias was replaced.
     ///
     /// They are good for the whole call: names that it declares or removes don't change how its body reads.
     pub fn body_marks(&mut self, alloc: Global, path: &Path, body: &Body) -> Result<Marks, Refusal>
@@ -45,7 +47,7 @@ impl Declarations {
             return marks.share();
         }
         let marks = scan_list(alloc, body.as_slice(), path, true, self)?;
-        self.keep(alloc, path, body, &marks);
+        self.keep(alloc, path, body, &marks)?;
         Ok(marks)
     }
 
@@ -65,13 +67,21 @@ impl Declarations {
         }
     }
 
-    /// Keeps the marks of a body that was scanned now, and no others. Where there is no memory for it, nothing is kept.
-    fn keep(&mut self, alloc: Global, path: &Path, body: &Body, marks: &Marks)
+    /// Keeps the marks of a body that was scanned now, and no others. Where there is no memory for it, what is kept stays.
+    fn keep(
+        &mut self,
+        alloc: Global,
+        path: &Path,
+        body: &Body,
+        marks: &Marks,
+    ) -> Result<(), Refusal>
         requires { reading body.now path.now true (known_arities self.old) ≡ Ok (trees_by marks.now body.now) }
-        ensures { self.new ≡ self.old }
+        ensures unchanged { self.new ≡ self.old }
+        ensures memory { IsOkUnless result OutOfMemory }
     {
-        let scanned = ScannedBody::shared(alloc, path, body, marks);
-        drop(mem::replace(&mut self.kept, scanned.ok()));
+        let scanned = ScannedBody::shared(alloc, path, body, marks)?;
+        drop(mem::replace(&mut self.kept, Some(scanned)));
+        Ok(())
     }
 }
 

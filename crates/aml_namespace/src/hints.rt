@@ -1,8 +1,10 @@
 //! Hints of where nodes lie, by their parents and segments.
-ghost use Rattle.std.specs.Prelude.{◌≡◌};
+ghost use Rattle.std.specs.Prelude.{◌≡◌, IsOkUnless};
+ghost use Rattle.ar_space.specs.declared.refusal.Refusal.TheVariants.{OutOfMemory};
 ghost use Rattle.aml_namespace.specs.Places.{place_of};
 
 use aml_path::Seg;
+use ar_space::Refusal;
 use std::alloc::Global;
 
 /// The key of no node.
@@ -53,8 +55,10 @@ impl Hints {
         let place = self.place_for(first_place(parent, segment), key);
         let within = self.place_within(place);
         if let Some(held) = self.keys.get_mut(within) {
+            if *held == FREE {
+                self.noted = self.noted.saturating_add(1);
+            }
             *held = key;
-            self.noted = self.noted.saturating_add(1);
         }
     }
 
@@ -75,28 +79,29 @@ impl Hints {
         self.noted >= self.keys.len() / 2
     }
 
-    /// Forgets all hints, and makes room for those of so many nodes; whether there was memory for it. If not, nothing changes.
+    /// Forgets all hints, and makes room for those of so many nodes. Where there is no memory for them, nothing changes.
     ///
     /// A table whose nodes were removed keeps its length, so it doesn't grow with what was ever declared. Either way as many
     /// nodes as a quarter of the length can be noted before it is full again, which pays for noting all anew.
-    pub(crate) fn renew(&mut self, nodes: usize) -> bool {
+    pub(crate) fn renew(&mut self, nodes: usize) -> Result<(), Refusal>
+        ensures memory { IsOkUnless result OutOfMemory }
+    {
         let length = self.keys.len();
         let wanted = if nodes > length / 4 {
             length.saturating_mul(2).max(LEAST)
         } else {
             length
         };
-        if self.keys.resize(wanted, FREE).is_err() {
-            return false;
-        }
+        self.keys.resize(wanted, FREE)?;
         self.keys.fill(FREE);
         self.noted = 0;
-        true
+        Ok(())
     }
 }
 
 /// The first place to look at for the node below a parent by a segment. The number and the segment are multiplied by an odd
-/// number without a pattern, of whose product the upper half depends on all their bits.
+/// number without a pattern. The last bits of the place, which a small table uses, come from the segment and the last bits of the
+/// number.
 #[tactic(auto, unfolding(crate::specs::Places::place_of))]
 pub(crate) fn first_place(parent: u64, segment: Seg) -> usize
     ensures { result ≡ place_of parent segment }

@@ -10,8 +10,8 @@ ghost use Rattle.aml_namespace.specs.Places.{may_be, place_of};
 ghost use Rattle.aml_namespace.specs.Tree.{index_cmp, child_in, segments_below, PlacesMarked};
 
 use crate::hints::first_place;
-use crate::marks::Marks;
 use crate::parents::Parents;
+use crate::taken_places::TakenPlaces;
 use aml_objects::NodeId;
 use aml_path::Seg;
 use ar_space::Refusal;
@@ -26,7 +26,7 @@ use std::marker::Model;
 pub(crate) struct Index {
     places: BTreeMap<(u64, Seg), NodeId>,
     parents: Parents,
-    taken: Marks,
+    taken: TakenPlaces,
 }
 
 impl Model for Index {
@@ -53,7 +53,7 @@ impl Index {
         Ok(Index {
             places: BTreeMap::new(alloc),
             parents,
-            taken: Marks::new(alloc),
+            taken: TakenPlaces::new(alloc),
         })
     }
 
@@ -91,9 +91,10 @@ impl Index {
         ensures unchanged { OnErr result (self.new ≡ self.old) }
         ensures memory { IsOkUnless result OutOfMemory }
     {
+        make_room(&mut self.taken, &self.places)?;
         self.places.insert((parent, segment), id)?;
         self.parents.insert(parent);
-        mark(&mut self.taken, &self.places, parent, segment);
+        self.taken.insert(first_place(parent, segment));
         Ok(())
     }
 
@@ -140,20 +141,24 @@ impl Index {
     }
 }
 
-/// Marks the place of what lies below a parent by a segment. Once the marks are many, they are made anew.
-fn mark(taken: &mut Marks, places: &BTreeMap<(u64, Seg), NodeId>, parent: u64, segment: Seg)
-    requires marked { (p : ℕ) (s : Seg) → is_some (child_in places.now.entries p s) ≡ true → eq_by_cmp index_cmp (parent, segment) (p, s) ≡ false → may_be taken.old (place_of p s) ≡ true }
-    ensures { PlacesMarked taken.new places.now.entries }
+/// Makes room for one more mark: once there are many, all are made anew.
+fn make_room(
+    taken: &mut TakenPlaces,
+    places: &BTreeMap<(u64, Seg), NodeId>,
+) -> Result<(), Refusal>
+    requires { PlacesMarked taken.old places.now.entries }
+    ensures marked { PlacesMarked taken.new places.now.entries }
+    ensures memory { IsOkUnless result OutOfMemory }
 {
-    if taken.is_full() && taken.renew(places.len()) {
+    if taken.is_full() {
+        taken.renew(places.len())?;
         mark_all(taken, places);
-    } else {
-        taken.insert(first_place(parent, segment));
     }
+    Ok(())
 }
 
 /// Marks all places where nodes are.
-fn mark_all(taken: &mut Marks, places: &BTreeMap<(u64, Seg), NodeId>)
+fn mark_all(taken: &mut TakenPlaces, places: &BTreeMap<(u64, Seg), NodeId>)
     ensures { PlacesMarked taken.new places.now.entries }
 {
     for (place, _) in places {

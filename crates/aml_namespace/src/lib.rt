@@ -7,7 +7,6 @@ mod hints;
 mod index;
 pub mod laws;
 mod located;
-mod marks;
 mod mutexes;
 mod names;
 mod nearest;
@@ -18,6 +17,7 @@ mod parents;
 mod removal;
 mod scope;
 mod search;
+mod taken_places;
 mod tree;
 mod walk;
 

@@ -131,13 +131,14 @@ impl Nodes {
         let parent = node.parent.number;
         let segment = node.segment;
         let more = acquired(&node.entry.object);
+        make_room(&mut self.hints, &self.slab)?;
         self.slab.reserve(1)?;
         self.keys.insert(number, self.slab.vacant_key())?;
         let key = self.slab.insert_reserved(node);
         // So many mutexes are nodes, and the number of nodes fits.
         let _room = self.slab.capacity();
         self.acquired += more;
-        note(&mut self.hints, &self.slab, parent, segment, key);
+        self.hints.note(parent, segment, key);
         Ok(NodeId { key, number })
     }
 
@@ -220,13 +221,15 @@ fn node_in(slab: &Slab<Node>, key: usize, parent: u64, segment: Seg) -> Option<N
     }
 }
 
-/// Notes where a node lies, below a parent by a segment. Once the hints are many, all nodes are noted anew.
-fn note(hints: &mut Hints, slab: &Slab<Node>, parent: u64, segment: Seg, key: usize) {
-    if hints.is_full() && hints.renew(slab.len()) {
+/// Makes room for one more hint: once there are many, the table is renewed.
+fn make_room(hints: &mut Hints, slab: &Slab<Node>) -> Result<(), Refusal>
+    ensures memory { IsOkUnless result OutOfMemory }
+{
+    if hints.is_full() {
+        hints.renew(slab.len())?;
         note_all(hints, slab);
-    } else {
-        hints.note(parent, segment, key);
     }
+    Ok(())
 }
 
 /// Notes where each node lies.

@@ -9,7 +9,6 @@ ghost use Rattle.aml_namespace.specs.Tree.{child_in, path_to, map_of, Linked, Cu
 use crate::index::Index;
 use crate::names::{Names, root_id};
 use crate::nodes::Nodes;
-use crate::scope::Scope;
 use crate::tree::{cut, descend};
 use aml_objects::NodeId;
 use aml_path::Path;
@@ -24,19 +23,6 @@ impl Names {
         match descend(&self.nodes, &self.index, root_id(), path.segments()) {
             None => false,
             Some(start) => cut_below(&mut self.nodes, &mut self.index, self.next, start),
-        }
-    }
-
-    /// Removes the names below a scope, as `remove_below` does below its path; whether there were any. It takes no memory.
-    pub fn clear(&mut self, scope: Scope<'_>) -> bool
-        ensures left { self.new ≡ without_below scope.entry.path.now self.old }
-        ensures kept { result ≡ false → self.new ≡ self.old }
-        ensures removed { result ≡ true → HasBelow scope.entry.path.now self.old.map }
-    {
-        if self.is_at(scope.node, scope.path.segments()) {
-            cut_below(&mut self.nodes, &mut self.index, self.next, scope.node)
-        } else {
-            self.remove_below(scope.path)
         }
     }
 }

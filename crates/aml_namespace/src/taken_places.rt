@@ -1,7 +1,9 @@
-//! Marks at places, which tell of most places that nothing is there.
-ghost use Rattle.std.specs.Prelude.{◌≡◌, ℕ, true, false};
+//! TakenPlaces at places, which tell of most places that nothing is there.
+ghost use Rattle.std.specs.Prelude.{◌≡◌, ℕ, true, OnErr, IsOkUnless};
+ghost use Rattle.ar_space.specs.declared.refusal.Refusal.TheVariants.{OutOfMemory};
 ghost use Rattle.aml_namespace.specs.Places.{may_be};
 
+use ar_space::Refusal;
 use std::alloc::Global;
 use std::marker::Model;
 
@@ -10,16 +12,16 @@ const LEAST: usize = 64;
 
 /// A table of marks, seen as their list. Where there is none at all, anything may be at any place.
 ///
-/// The places go round, so many share a mark, and one in eight is marked at most, unless there is no memory for more.
+/// The places go round, so many share a mark, and one in eight is marked at most.
 #[derive(Drop)]
-pub(crate) struct Marks {
+pub(crate) struct TakenPlaces {
     /// No mark, or as many as a power of two.
     marks: Vec<bool>,
     /// How many places were marked since the table was last renewed.
     marked: usize,
 }
 
-impl Model for Marks {
+impl Model for TakenPlaces {
     ghost use Rattle.std.specs.Prelude.{List, Bool};
 
     ghost Value = { List Bool };
@@ -27,10 +29,10 @@ impl Model for Marks {
     ghost view = { λ m. m.marks.items };
 }
 
-impl Marks {
+impl TakenPlaces {
     /// No mark. It takes no memory.
-    pub(crate) fn new(alloc: Global) -> Marks {
-        Marks {
+    pub(crate) fn new(alloc: Global) -> TakenPlaces {
+        TakenPlaces {
             marks: Vec::new(alloc),
             marked: 0,
         }
@@ -46,7 +48,7 @@ impl Marks {
         self.marks[place & (self.marks.len() - 1)]
     }
 
-    /// Marks a place. It takes no memory.
+    /// TakenPlaces a place. It takes no memory.
     pub(crate) fn insert(&mut self, place: usize)
         ensures here { may_be self.new place ≡ true }
         ensures others { (p : ℕ) → may_be self.old p ≡ true → may_be self.new p ≡ true }
@@ -55,8 +57,10 @@ impl Marks {
             return;
         }
         let within = place & (self.marks.len() - 1);
-        self.marks[within] = true;
-        self.marked = self.marked.saturating_add(1);
+        if !self.marks[within] {
+            self.marks[within] = true;
+            self.marked = self.marked.saturating_add(1);
+        }
     }
 
     /// Whether the table is to be renewed before more is marked.
@@ -64,11 +68,12 @@ impl Marks {
         self.marked >= self.marks.len() / 8
     }
 
-    /// Takes all marks away, and makes room for so many; whether there was memory for it. If not, nothing changes.
+    /// Takes all marks away, and makes room for so many. Where there is no memory for them, nothing changes.
     ///
     /// A table most of whose marks were of what is gone keeps its length, so it doesn't grow with all that ever was.
-    pub(crate) fn renew(&mut self, count: usize) -> bool
-        ensures { result ≡ false → self.new ≡ self.old }
+    pub(crate) fn renew(&mut self, count: usize) -> Result<(), Refusal>
+        ensures unchanged { OnErr result (self.new ≡ self.old) }
+        ensures memory { IsOkUnless result OutOfMemory }
     {
         let length = self.marks.len();
         let wanted = if count > length / 16 {
@@ -76,11 +81,9 @@ impl Marks {
         } else {
             length
         };
-        if self.marks.resize(wanted, false).is_err() {
-            return false;
-        }
+        self.marks.resize(wanted, false)?;
         self.marks.fill(false);
         self.marked = 0;
-        true
+        Ok(())
     }
 }
