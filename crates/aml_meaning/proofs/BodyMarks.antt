@@ -64,10 +64,9 @@ scanned_now : (b : ScannedBody) (path : List Seg) (body : List ℕ) (marks : Lis
 unfolding IsKept
 scanned_now b path body marks arities is read = subst (λ (x : ScannedBody). IsKept arities (Some x)) is read
 
--- what is kept of a scan now, or nothing
-pub newly_kept : (r : Outcome ScannedBody) (k o : Option ScannedBody) (path : List Seg) (body : List ℕ) (marks : List Mark) (known now : Known) → known ≡ now
-    → Answers r (Ok (record { path = path; body = body; marks = marks })) → o ≡ result_ok r → k ≡ o → reading body path true (known_arities now) ≡ Ok (trees_by marks body) → IsKept (known_arities known) k
-newly_kept (Ok b) k o path body marks known now same h is at read =
+-- what is kept of a scan now
+pub newly_kept : (b : ScannedBody) (k : Option ScannedBody) (path : List Seg) (body : List ℕ) (marks : List Mark) (known now : Known) → known ≡ now → Answers (Ok b) (Ok (record { path = path; body = body; marks = marks })) → k ≡ Some b
+    → reading body path true (known_arities now) ≡ Ok (trees_by marks body) → IsKept (known_arities known) k
+newly_kept b k path body marks known now same h at read =
     let made : ◌≡◌ {A = ScannedBody} (record { path = path; body = body; marks = marks }) b = cc (h.is tt) in
-    subst (IsKept (known_arities known)) (sym (at ∙ is)) (scanned_now b path body marks (known_arities known) made (ap (λ w. reading body path true (known_arities w)) same ∙ read))
-newly_kept (Err e) k o path body marks known now same h is at read = forgotten (known_arities known) k (at ∙ is)
+    subst (IsKept (known_arities known)) (sym at) (scanned_now b path body marks (known_arities known) made (ap (λ w. reading body path true (known_arities w)) same ∙ read))

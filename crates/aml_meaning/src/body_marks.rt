@@ -20,8 +20,7 @@ use std::mem;
 
 impl<S> WorldState<S> {
     /// The marks of the body of the control method at a path, with the arguments that names take now; refused as `scan_list` refuses
-    /// it. The body that was read last is not
-    /// scanned again, unless a name came or went, or a control method or an alias was replaced.
+    /// it. The body that was read last is not scanned again, unless a name came or went, or a control method or an alias was replaced.
     ///
     /// They are good for the whole call: names that it declares or removes don't change how its body reads.
     pub fn body_marks(&mut self, alloc: Global, path: &Path, body: &Body) -> Result<Marks, Refusal>

@@ -142,10 +142,7 @@ impl Index {
 }
 
 /// Makes room for one more mark: once there are many, all are made anew.
-fn make_room(
-    taken: &mut TakenPlaces,
-    places: &BTreeMap<(u64, Seg), NodeId>,
-) -> Result<(), Refusal>
+fn make_room(taken: &mut TakenPlaces, places: &BTreeMap<(u64, Seg), NodeId>) -> Result<(), Refusal>
     requires { PlacesMarked taken.old places.now.entries }
     ensures marked { PlacesMarked taken.new places.now.entries }
     ensures memory { IsOkUnless result OutOfMemory }

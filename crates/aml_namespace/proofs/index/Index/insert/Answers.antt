@@ -12,8 +12,7 @@ returns-clause-children c = λ p s.
 
 pub invariant_of-self-2 : goal.invariant_of-self-2
 invariant_of-self-2 c =
-    let updated = put_in c.self.inside.places.entries c.insert.new.self.entries c.args.parent c.args.segment c.args.id c.in_ok-insert.ensures.updates.0 in
-    (
+    let updated = put_in c.self.inside.places.entries c.insert.new.self.entries c.args.parent c.args.segment c.args.id c.in_ok-insert.ensures.updates.0 in (
       put_marked c.self.inside.places.entries c.insert.new.self.entries c.args.parent c.args.segment c.self.inside.parents c.self.invariant.0 c.insert-2.new.self c.args.id.number c.insert-2.ensures.here c.insert-2.ensures.others updated,
       all_marked c.make_room.new.taken c.insert-3.new.self c.insert.new.self.entries c.args.parent c.args.segment
           (put_apart c.self.inside.places.entries c.insert.new.self.entries c.args.parent c.args.segment c.make_room.new.taken c.make_room.ensures.marked c.args.id.number updated)
