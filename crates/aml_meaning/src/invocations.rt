@@ -1,7 +1,5 @@
 //! Names where values stand, and calls of control methods (ACPI 6.5, 5.5.2 and 20.2.5).
 ghost use Rattle.std.specs.Prelude.{◌≡◌, List, Some};
-ghost use Rattle.std.specs.Prelude as list;
-ghost use Rattle.std.specs.FinMap.{get};
 ghost use Rattle.ar_space.specs.Change.{Does};
 ghost use Rattle.ar_space.specs.Outcome.{Answers, NotMemory, seen};
 ghost use Rattle.aml_path.specs.declared.segment.Seg.{Seg as Segment};
@@ -9,15 +7,14 @@ ghost use Rattle.aml_objects.specs.declared.entry.Entry.{Entry};
 ghost use Rattle.aml_namespace.specs.Namespace.{numbered};
 ghost use Rattle.aml_namespace.specs.Search.{found};
 ghost use Rattle.aml_meaning.specs.Readings.{arguments_of};
-ghost use Rattle.aml_meaning.specs.Invocations.{invocation_of_body, invocation_of_object, invocation_of, named_use, invocation_found, use_found, count_of_entry, count_through, body_arities, left};
+ghost use Rattle.aml_meaning.specs.Invocations.{invocation_of_body, invocation_of_object, invocation_of, named_use, invocation_found, use_found, left};
 
 use crate::invocation::Invocation;
 use crate::readings::{arguments_of, as_many, read_as};
 use crate::world_state::WorldState;
-use aml_grammar::{ArgumentCounts, deeper};
-use aml_namespace::{Names, Scope};
-use aml_objects::{Entry, Field, MethodBody, NamedObject, NodeId, Reference, Value};
-use aml_path::{NameString, Path, Seg};
+use aml_namespace::Scope;
+use aml_objects::{Field, MethodBody, NamedObject, NodeId, Reference, Value};
+use aml_path::{NameString, Path};
 use ar_space::{NamespaceFault, Refusal};
 use std::alloc::Global;
 

@@ -81,7 +81,8 @@ impl Declarations {
         &self.arities
     }
 
-    /// Declares a name, as `Names::insert` does. It may take arguments, so nothing is kept any more; where it is refused, what is kept stays.
+    /// Declares a name, as `Names::insert` does. What a name in a body finds may be another one
+    /// from then on, so nothing is kept any more; where the declaration is refused, what is kept stays.
     #[tactic(auto, using(crate::proofs::KnownNames::keeping))]
     pub(crate) fn insert(&mut self, path: Path, object: NamedObject) -> Result<u64, Refusal>
         ensures change { Does result self.new (on_known (declared path object)) self.old }
