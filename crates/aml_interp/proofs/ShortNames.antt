@@ -1,5 +1,5 @@
 -- Names of one segment without a prefix, where a cursor stands.
-use Rattle.std.specs.Prelude.{◌≡◌, ℕ, zero, suc, List, [], ◌∷◌, ◌+◌, ◌-◌, ◌<◌, ◌≤◌, length, drop, slice_index_or, Option, Some, None, IfSome, IfOk, IfErr, MatchOption, MatchBool, Bool, true, false, Ok, Err, ◌==◌, ◌&&◌, refl, if◌then◌else◌}
+use Rattle.std.specs.Prelude.{IsErr, IsErrAnd, ◌≡◌, ℕ, zero, suc, List, [], ◌∷◌, ◌+◌, ◌-◌, ◌<◌, ◌≤◌, length, drop, slice_index_or, Option, Some, None, IfSome, IfOk, IfErr, MatchOption, MatchBool, Bool, true, false, Ok, Err, ◌==◌, ◌&&◌, refl, if◌then◌else◌}
 use Rattle.std.proofs.Common.{◌∙◌, sym, ap, subst, arith}
 use Rattle.std.proofs.lemmas.Bool.{eqb-true}
 use Rattle.ar_space.specs.declared.refusal.Refusal.{Refusal}
@@ -46,7 +46,7 @@ use Rattle.aml_meaning.specs.Mutexes.{acquired_at, given_back_at}
 use Rattle.aml_meaning.specs.StoreTargets.{held_at, name_read, target_read}
 use Rattle.aml_meaning.specs.OperatorTerms.{counted_by}
 use Rattle.aml_meaning.specs.TargetTerms.{target_named, part_target}
-use Rattle.aml_meaning.specs.FieldCalls.{called_at, stored_to}
+use Rattle.aml_meaning.specs.FieldCalls.{asked, answer_within, called_at, stored_to}
 use Rattle.aml_meaning.specs.Invocations.{use_found}
 use Rattle.aml_meaning.specs.InvocationTerms.{field_rule, invocation_rule, name_value}
 use Rattle.aml_meaning.specs.Evaluation.{rule}
@@ -56,7 +56,7 @@ use Rattle.aml_meaning.proofs.Meanings.{does_meaning}
 use Rattle.aml_meaning.proofs.Runs.{lift_ok}
 use Rattle.aml_meaning.proofs.Uses.{found_is, used}
 use Rattle.aml_interp.specs.AtCursor.{put_to, acquire_at, release_at, counted_at}
-use Rattle.aml_interp.specs.ShortNames.{IsSegmentAt, FindsAt, node_value, Reads, Puts}
+use Rattle.aml_interp.specs.ShortNames.{IsSegmentAt, FindsAt, IsUnitAt, node_value, Reads, Puts}
 
 -- ---- a segment that stands next is a name
 
@@ -268,6 +268,40 @@ module _ {S : Type 0} (accesses : Accesses S) (ev : Task → Run S Flow) (scope 
   pub released_at_name : ((f : List Seg × Entry) → numbered number w.names.map ≡ Some f → Does (Ok tt) w1 (given_back_at (targets.Name f.0)) w) → Does (Ok flow.Next) (w1, steps) (release_at accesses ev scope depth below p) (w, steps)
   unfolding release_at
   released_at_name i = does_ok (part_target ev scope depth (a_super_name below p).0) _ (target_at_name ev scope depth below p steps h) (lift_ok steps (given_back_at (targets.Name h.node.0)) _ (i h.node h.is) does_give)
+
+-- a field unit that a name is, and what is stored to it
+pub unit_if : {S : Type 0} (w : State S) (scope : List Seg) (p : Place) (number : ℕ) (o : Option FieldUnit) → FindsAt w scope p number
+    → IfSome o (λ u. (f : List Seg × Entry) → numbered number w.names.map ≡ Some f → (v : Value) → Does (Ok (store.Field (field.Unit u))) w (stored (targets.Name f.0) v) w) → IfSome o (λ u. IsUnitAt w scope p u)
+unit_if w scope p number None h i = tt
+unit_if w scope p number (Some u) h i = record { number = number; finds = h; written = i }
+
+module _ {S : Type 0} (accesses : Accesses S) (ev : Task → Run S Flow) (scope : List Seg) (depth : ℕ) (below : Below) (p : Place) (w : State S) (steps : ℕ) (u : FieldUnit) (h : IsUnitAt w scope p u) (v : Value) where
+  unit_stored : {r : Outcome (Unit {0})} {s1 : State S × ℕ} → Does r s1 (field_stored accesses (called_at accesses ev depth) (field.Unit u) v) (w, steps) → Does r s1 (stored_to accesses ev depth (targets.Name h.finds.node.0) v) (w, steps)
+  unfolding stored_to
+  unit_stored i = lift_ok steps (stored (targets.Name h.finds.node.0) v) _ (h.written h.finds.node h.finds.is v) i
+
+  put_to_unit : {s1 : State S × ℕ} → Does (Ok tt) s1 (field_stored accesses (called_at accesses ev depth) (field.Unit u) v) (w, steps) → Does (Ok (flow.Value v)) s1 (put_to accesses ev scope depth (a_super_name below p).0 v) (w, steps)
+  unfolding put_to
+  put_to_unit i = does_ok (part_target ev scope depth (a_super_name below p).0) _ (target_at_name ev scope depth below p steps h.finds) (does_ok (stored_to accesses ev depth (targets.Name h.finds.node.0) v) _ (unit_stored i) does_give)
+
+  unit_refused : {s1 : State S × ℕ} {r : Outcome Flow} {x : Refusal} → Does {A = Unit {0}} (Err x) s1 (field_stored accesses (called_at accesses ev depth) (field.Unit u) v) (w, steps) → IsErr r × IsErrAnd r (λ y. y ≡ x) → Does r s1 (put_to accesses ev scope depth (a_super_name below p).0 v) (w, steps)
+  unfolding put_to
+  unit_refused i e = does_ok (part_target ev scope depth (a_super_name below p).0) _ (target_at_name ev scope depth below p steps h.finds) (does_err (stored_to accesses ev depth (targets.Name h.finds.node.0) v) _ (unit_stored i) e)
+
+  -- the same, where the calls that are left were counted, and of a state that is seen as a whole
+  module _ (calls : ℕ) (counted : calls ≡ 32 - depth) (s : State S × ℕ) (same : (w, steps) ≡ s) where
+    counted_store : {r : Outcome (Unit {0})} {s1 : State S × ℕ} → Does r s1 (field_stored accesses (asked (answer_within accesses ev calls)) (field.Unit u) v) s → Does r s1 (field_stored accesses (called_at accesses ev depth) (field.Unit u) v) (w, steps)
+    counted_store {r = r} {s1 = s1} i = subst (λ n. Does r s1 (field_stored accesses (asked (answer_within accesses ev n)) (field.Unit u) v) (w, steps)) counted
+        (subst (λ x. Does r s1 (field_stored accesses (asked (answer_within accesses ev calls)) (field.Unit u) v) x) (sym same) i)
+
+    pub does_put_to_unit : {s1 : State S × ℕ} → Does (Ok tt) s1 (field_stored accesses (asked (answer_within accesses ev calls)) (field.Unit u) v) s → Does (Ok (flow.Value v)) s1 (put_to accesses ev scope depth (a_super_name below p).0 v) s
+    does_put_to_unit {s1 = s1} i = subst (λ x. Does (Ok (flow.Value v)) s1 (put_to accesses ev scope depth (a_super_name below p).0 v) x) same (put_to_unit (counted_store i))
+
+    pub does_unit_refused : {s1 : State S × ℕ} {r : Outcome Flow} {x : Refusal} → Does {A = Unit {0}} (Err x) s1 (field_stored accesses (asked (answer_within accesses ev calls)) (field.Unit u) v) s → IsErr r × IsErrAnd r (λ y. y ≡ x) → Does r s1 (put_to accesses ev scope depth (a_super_name below p).0 v) s
+    does_unit_refused {s1 = s1} {r = r} i e = subst (λ x. Does r s1 (put_to accesses ev scope depth (a_super_name below p).0 v) x) same (unit_refused (counted_store i) e)
+
+  pub behind_unit : over 4 p ≡ (a_super_name below p).1
+  behind_unit = behind_target below p h.finds
 
 module _ {S : Type 0} (accesses : Accesses S) (number : ℕ) (w w1 : State S) where
   pub puts_integer : (n : ℕ) → ((f : List Seg × Entry) → numbered number w.names.map ≡ Some f → Does (Ok store.Done) w1 (stored (targets.Name f.0) (value.Integer n)) w) → Puts accesses number (value.Integer n) (Ok tt) w1 w

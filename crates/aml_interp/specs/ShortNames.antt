@@ -8,12 +8,16 @@ use Rattle.aml_grammar.specs.Names.{starts_name}
 use Rattle.aml_grammar.specs.Tree.{no_trees}
 use Rattle.aml_marked.specs.Marked.{Place, first, name_length, a_name}
 use Rattle.aml_objects.specs.declared.entry.Entry.{Entry}
+use Rattle.aml_objects.specs.declared.entry.FieldUnit.{FieldUnit}
+use Rattle.aml_objects.specs.declared.entry.Field.TheVariants as field
 use Rattle.aml_objects.specs.declared.value.Value.{Value}
 use Rattle.aml_namespace.specs.Namespace.{numbered}
 use Rattle.aml_namespace.specs.OneSegment.{segment_name}
 use Rattle.aml_namespace.specs.Search.{found}
 use Rattle.aml_meaning.specs.declared.flow.Flow.{Flow}
 use Rattle.aml_meaning.specs.declared.store_target.StoreTarget.TheVariants as targets
+use Rattle.aml_meaning.specs.declared.store_target.Stored.TheVariants as store
+use Rattle.aml_meaning.specs.Stores.{stored}
 use Rattle.aml_meaning.specs.State.{State}
 use Rattle.aml_meaning.specs.Run.{Run, lift}
 use Rattle.aml_meaning.specs.Tasks.{Task}
@@ -34,6 +38,12 @@ pub record FindsAt {S : Type 0} (w : State S) (scope : List Seg) (p : Place) (nu
   pub node : List Seg × Entry
   pub is : numbered number w.names.map ≡ Some node
   pub finds : found w.names.map scope (segment_name segment) ≡ Ok node
+
+-- such a name is a field unit, to which a value is stored that is stored to the name
+pub record IsUnitAt {S : Type 0} (w : State S) (scope : List Seg) (p : Place) (u : FieldUnit) : Type 0 where
+  pub number : ℕ
+  pub finds : FindsAt w scope p number
+  pub written : (f : List Seg × Entry) → numbered number w.names.map ≡ Some f → (v : Value) → Does (Ok (store.Field (field.Unit u))) w (stored (targets.Name f.0) v) w
 
 -- what a name that finds a node is where a value stands, without arguments
 unfoldable pub node_value : {S : Type 0} → Accesses S → (Task → Run S Flow) → List Seg → ℕ → List Seg × Entry → Run S Flow

@@ -8,9 +8,9 @@ ghost use Rattle.aml_meaning.specs.Invocations.{invocation_found};
 ghost use Rattle.aml_meaning.specs.Calling.{called, counted, evaluated, with_rest, with_steps, answer_exported, answered, value_of};
 
 use crate::export::exported;
-use crate::field_calls::calls_left;
 use crate::fields::eval_field_value;
 use crate::invocations::eval_method_value;
+use crate::task::calls_left;
 use aml_meaning::{Datum, Invocation, Running, World, WorldState};
 use aml_objects::Value;
 use aml_path::{NameString, Path, Prefix};

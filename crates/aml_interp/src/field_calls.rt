@@ -12,19 +12,13 @@ use crate::fields::{
     eval_field_integer, eval_field_part, eval_field_referent, eval_field_stored, eval_field_value,
     field_given,
 };
-use crate::invocations::{MAX_DEPTH, eval_method_value};
+use crate::invocations::eval_method_value;
+use crate::task::{MAX_DEPTH, calls_left};
 use aml_meaning::{Datum, Held, Invocation, Referent, Running, StoreTarget, Stored, integer_only};
 use aml_objects::{Field, Value};
 use aml_path::Path;
 use ar_space::{EvaluationFault, Refusal, Space, ValueFault};
 use std::alloc::Global;
-
-/// How many calls may still be made, one inside another, where so many control methods are being called.
-pub(crate) fn calls_left(depth: usize) -> usize
-    ensures { result ≡ 32 - depth }
-{
-    MAX_DEPTH.saturating_sub(depth)
-}
 
 /// What a target holds, as an integer.
 #[cycle(evaluation)]

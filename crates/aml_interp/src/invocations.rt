@@ -12,19 +12,15 @@ ghost use Rattle.aml_meaning.specs.InvocationTerms.{osi_rule, arguments_in_turn,
 ghost use Rattle.aml_interp.specs.AtCursor.{call_at};
 
 use crate::at_cursor::{eval_items_at_cursor, eval_value_at_cursor};
-use crate::field_calls::calls_left;
 use crate::fields::eval_field_value;
 use crate::short_names::node_at;
-use crate::task::{Context, Site};
+use crate::task::{Context, MAX_DEPTH, Site, calls_left};
 use aml_meaning::{Flow, Invocation, Running, WorldState};
 use aml_objects::{Body, Value};
 use aml_path::Path;
 use aml_terms::{Cursor, LEVELS, Marks};
 use ar_space::{EvaluationFault, Refusal, Space};
 use std::alloc::Global;
-
-/// How many control methods may be called one inside another.
-pub(crate) const MAX_DEPTH: usize = 32;
 
 /// A name where a value stands, and its arguments.
 #[inline(never)]

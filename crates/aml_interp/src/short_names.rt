@@ -11,17 +11,17 @@ ghost use Rattle.aml_meaning.specs.declared.flow.Flow.TheVariants as flow;
 ghost use Rattle.aml_meaning.specs.Meaning.{meaning};
 ghost use Rattle.aml_meaning.specs.Tasks.{task};
 ghost use Rattle.aml_interp.specs.AtCursor.{put_to, acquire_at, release_at, counted_at};
-ghost use Rattle.aml_interp.specs.ShortNames.{IsSegmentAt, FindsAt, Reads, Puts};
+ghost use Rattle.aml_interp.specs.ShortNames.{IsSegmentAt, FindsAt, IsUnitAt, Reads, Puts};
 
 use crate::task::Context;
 use aml_meaning::{Count, Running, WorldState};
-use aml_objects::NodeId;
+use aml_objects::{FieldUnit, NodeId};
 use aml_path::Seg;
 use aml_terms::Cursor;
 use ar_space::{Refusal, Space};
 
 /// How many bytes a name of one segment takes.
-const SEGMENT_LENGTH: usize = 4;
+pub(crate) const SEGMENT_LENGTH: usize = 4;
 
 /// The segment of the name that begins here, where it is one segment without a prefix.
 fn one_segment(cursor: &Cursor<'_>) -> Option<Seg>
@@ -168,6 +168,21 @@ pub(crate) fn put_integer_at_name<S: Space>(
         cursor.over(SEGMENT_LENGTH);
     }
     Ok(done)
+}
+
+/// The field unit that the name of one segment is which stands next.
+#[inline(never)]
+pub(crate) fn unit_at_name<S>(
+    world: &WorldState<S>,
+    context: &Context<'_>,
+    cursor: &Cursor<'_>,
+) -> Option<FieldUnit>
+    ensures { IfSome result (λ unit. IsUnitAt world.now context.now.site.now.scope.path.now cursor.now unit) }
+{
+    match node_at(world, context, cursor) {
+        None => None,
+        Some(id) => world.node_unit(id),
+    }
 }
 
 /// Acquires the mutex that the name of one segment is which stands next, and goes over the time that follows it.

@@ -13,12 +13,13 @@ ghost use Rattle.aml_interp.specs.AtCursor.{behind_one, put_to};
 
 use crate::at_cursor::eval_value_at_cursor;
 use crate::field_calls::eval_stored_to;
+use crate::fields::eval_field_stored;
 use crate::operands::code;
-use crate::short_names::put_integer_at_name;
+use crate::short_names::{SEGMENT_LENGTH, put_integer_at_name, unit_at_name};
 use crate::short_terms::put_integer_to_slot;
-use crate::task::Context;
+use crate::task::{Context, calls_left};
 use aml_meaning::{Flow, Running, StoreTarget, TargetKind, reference_in, target_kind};
-use aml_objects::Value;
+use aml_objects::{Field, Value};
 use aml_terms::Cursor;
 use ar_space::{NameFault, Refusal, Space};
 use std::alloc::Global;
@@ -258,7 +259,7 @@ pub(crate) fn eval_store_to_super_name<S: Space>(
 /// The same where no local and no argument takes an integer at once.
 #[inline(never)]
 #[cycle(evaluation)]
-#[tactic(auto, using(crate::proofs::Steps::evaluating), unfolding(crate::specs::AtCursor::put_to))]
+#[tactic(auto, using(crate::proofs::Steps::evaluating))]
 fn eval_store_to_any<S: Space>(
     alloc: Global,
     run: &mut Running<S>,
@@ -275,6 +276,31 @@ fn eval_store_to_any<S: Space>(
         if put_integer_at_name(run, context, cursor, levels, number)? {
             return Ok(Flow::Value(value));
         }
+    }
+    eval_store_elsewhere(alloc, run, context, cursor, levels, value)
+}
+
+/// The same where no name takes an integer at once: a field unit that a name of one segment is takes any value, without its path.
+#[inline(always)]
+#[cycle(evaluation)]
+#[tactic(auto, using(crate::proofs::Steps::evaluating), unfolding(crate::specs::AtCursor::put_to))]
+fn eval_store_elsewhere<S: Space>(
+    alloc: Global,
+    run: &mut Running<S>,
+    context: &Context<'_>,
+    cursor: &mut Cursor<'_>,
+    levels: u8,
+    value: Value,
+) -> Result<Flow, Refusal>
+    ensures spent { run.new.1 ≤ run.old.1 }
+    ensures means { Does result run.new (put_to S.accesses (meaning S.accesses) context.now.site.now.scope.path.now context.now.site.now.depth (a_super_name (a_term (count_at context.now.marks.now) levels) cursor.old).0 value) run.old }
+    ensures behind { OnOk result (cursor.new ≡ (a_super_name (a_term (count_at context.now.marks.now) levels) cursor.old).1) }
+{
+    if let Some(unit) = unit_at_name(&run.world, context, &*cursor) {
+        let calls = calls_left(context.site.depth);
+        eval_field_stored(alloc, run, calls, Field::Unit(unit), value)?;
+        cursor.over(SEGMENT_LENGTH);
+        return Ok(Flow::Value(value));
     }
     let target = eval_super_name(alloc, run, context, cursor, levels)?;
     eval_stored_to(alloc, run, context.site.depth, &target, value)?;

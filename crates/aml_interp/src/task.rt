@@ -1,8 +1,12 @@
 //! What a function of evaluation is asked to evaluate.
+ghost use Rattle.std.specs.Prelude.{◌≡◌, ◌-◌};
 
 use crate::operands::Reader;
 use aml_namespace::Scope;
 use aml_terms::Marks;
+
+/// How many control methods may be called one inside another.
+pub(crate) const MAX_DEPTH: usize = 32;
 
 /// Where a term is evaluated: the scope that its names stand in, and how many control methods are being called.
 #[derive(Clone, Copy)]
@@ -23,4 +27,11 @@ pub(crate) struct Task<'t> {
 pub(crate) struct Context<'t> {
     pub(crate) site: &'t Site<'t>,
     pub(crate) marks: &'t Marks,
+}
+
+/// How many calls may still be made, one inside another, where so many control methods are being called.
+pub(crate) fn calls_left(depth: usize) -> usize
+    ensures { result ≡ 32 - depth }
+{
+    MAX_DEPTH.saturating_sub(depth)
 }
