@@ -297,8 +297,13 @@ module _ {S : Type 0} (accesses : Accesses S) (ev : Task → Run S Flow) (scope 
     pub does_put_to_unit : {s1 : State S × ℕ} → Does (Ok tt) s1 (field_stored accesses (asked (answer_within accesses ev calls)) (field.Unit u) v) s → Does (Ok (flow.Value v)) s1 (put_to accesses ev scope depth (a_super_name below p).0 v) s
     does_put_to_unit {s1 = s1} i = subst (λ x. Does (Ok (flow.Value v)) s1 (put_to accesses ev scope depth (a_super_name below p).0 v) x) same (put_to_unit (counted_store i))
 
-    pub does_unit_refused : {s1 : State S × ℕ} {r : Outcome Flow} {x : Refusal} → Does {A = Unit {0}} (Err x) s1 (field_stored accesses (asked (answer_within accesses ev calls)) (field.Unit u) v) s → IsErr r × IsErrAnd r (λ y. y ≡ x) → Does r s1 (put_to accesses ev scope depth (a_super_name below p).0 v) s
+    does_unit_refused : {s1 : State S × ℕ} {r : Outcome Flow} {x : Refusal} → Does {A = Unit {0}} (Err x) s1 (field_stored accesses (asked (answer_within accesses ev calls)) (field.Unit u) v) s → IsErr r × IsErrAnd r (λ y. y ≡ x) → Does r s1 (put_to accesses ev scope depth (a_super_name below p).0 v) s
     does_unit_refused {s1 = s1} {r = r} i e = subst (λ x. Does r s1 (put_to accesses ev scope depth (a_super_name below p).0 v) x) same (unit_refused (counted_store i) e)
+
+    pub unit_refused_if : {s1 : State S × ℕ} {x : Refusal} → Does {A = Unit {0}} (Err x) s1 (field_stored accesses (asked (answer_within accesses ev calls)) (field.Unit u) v) s → (r : Outcome Bool) → IsErr r × IsErrAnd r (λ y. y ≡ x)
+        → IfErr r (λ y. Does (Err y) s1 (put_to accesses ev scope depth (a_super_name below p).0 v) s)
+    unit_refused_if i (Ok done) e = tt
+    unit_refused_if i (Err y) e = does_unit_refused i (refl, e.1)
 
   pub behind_unit : over 4 p ≡ (a_super_name below p).1
   behind_unit = behind_target below p h.finds

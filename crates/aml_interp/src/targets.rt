@@ -1,9 +1,10 @@
 //! Operands that name a target, which is read or stored to (ACPI 6.5, 20.2.2).
-ghost use Rattle.std.specs.Prelude.{◌≡◌, ◌≤◌, ◌<◌, OnOk, false};
+ghost use Rattle.std.specs.Prelude.{◌≡◌, ◌≤◌, ◌<◌, OnOk, IfOk, IfErr, Ok, Err, true, false};
 ghost use Rattle.ar_space.specs.Change.{Does};
 ghost use Rattle.aml_grammar.specs.Apart.{code_of};
 ghost use Rattle.aml_marked.specs.Marked.{count_at, a_term, a_name, a_target, a_super_name};
 ghost use Rattle.aml_meaning.specs.declared.store_target.TargetKind.TheVariants as kinds;
+ghost use Rattle.aml_meaning.specs.declared.flow.Flow.TheVariants as flow;
 ghost use Rattle.aml_meaning.specs.Run.{lift};
 ghost use Rattle.aml_meaning.specs.Meaning.{meaning};
 ghost use Rattle.aml_meaning.specs.Tasks.{value_at};
@@ -280,7 +281,7 @@ fn eval_store_to_any<S: Space>(
     eval_store_elsewhere(alloc, run, context, cursor, levels, value)
 }
 
-/// The same where no name takes an integer at once: a field unit that a name of one segment is takes any value, without its path.
+/// The same where no name takes an integer at once.
 #[inline(always)]
 #[cycle(evaluation)]
 #[tactic(auto, using(crate::proofs::Steps::evaluating), unfolding(crate::specs::AtCursor::put_to))]
@@ -296,13 +297,39 @@ fn eval_store_elsewhere<S: Space>(
     ensures means { Does result run.new (put_to S.accesses (meaning S.accesses) context.now.site.now.scope.path.now context.now.site.now.depth (a_super_name (a_term (count_at context.now.marks.now) levels) cursor.old).0 value) run.old }
     ensures behind { OnOk result (cursor.new ≡ (a_super_name (a_term (count_at context.now.marks.now) levels) cursor.old).1) }
 {
-    if let Some(unit) = unit_at_name(&run.world, context, &*cursor) {
-        let calls = calls_left(context.site.depth);
-        eval_field_stored(alloc, run, calls, Field::Unit(unit), value)?;
-        cursor.over(SEGMENT_LENGTH);
+    if eval_put_to_unit(alloc, run, context, cursor, levels, value)? {
         return Ok(Flow::Value(value));
     }
     let target = eval_super_name(alloc, run, context, cursor, levels)?;
     eval_stored_to(alloc, run, context.site.depth, &target, value)?;
     Ok(Flow::Value(value))
+}
+
+/// Stores a value to the field unit that the name of one segment is which stands next, without its path. Where none stands there, it
+/// answers no, and nothing changes. What it needs stays out of the frames of terms.
+#[inline(never)]
+#[cycle(evaluation)]
+#[tactic(auto, using(crate::proofs::Steps::evaluating))]
+fn eval_put_to_unit<S: Space>(
+    alloc: Global,
+    run: &mut Running<S>,
+    context: &Context<'_>,
+    cursor: &mut Cursor<'_>,
+    levels: u8,
+    value: Value,
+) -> Result<bool, Refusal>
+    ensures done { IfOk result (λ done. done ≡ true → Does (Ok (flow.Value value)) run.new (put_to S.accesses (meaning S.accesses) context.now.site.now.scope.path.now context.now.site.now.depth (a_super_name (a_term (count_at context.now.marks.now) levels) cursor.old).0 value) run.old) }
+    ensures refused { IfErr result (λ refusal. Does (Err refusal) run.new (put_to S.accesses (meaning S.accesses) context.now.site.now.scope.path.now context.now.site.now.depth (a_super_name (a_term (count_at context.now.marks.now) levels) cursor.old).0 value) run.old) }
+    ensures spent { run.new.1 ≤ run.old.1 }
+    ensures behind { IfOk result (λ done. done ≡ true → cursor.new ≡ (a_super_name (a_term (count_at context.now.marks.now) levels) cursor.old).1) }
+    ensures none { IfOk result (λ done. done ≡ false → run.new ≡ run.old) }
+    ensures stays { IfOk result (λ done. done ≡ false → cursor.new ≡ cursor.old) }
+{
+    let Some(unit) = unit_at_name(&run.world, context, &*cursor) else {
+        return Ok(false);
+    };
+    let calls = calls_left(context.site.depth);
+    eval_field_stored(alloc, run, calls, Field::Unit(unit), value)?;
+    cursor.over(SEGMENT_LENGTH);
+    Ok(true)
 }

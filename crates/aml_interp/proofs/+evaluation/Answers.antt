@@ -16,7 +16,7 @@ use Rattle.aml_scan.specs.RowsAt.{row_at}
 use Rattle.aml_meaning.specs.Terms.{kind_of}
 use Rattle.aml_meaning.specs.declared.term_kind.TermKind.TheVariants as kinds
 use Rattle.aml_grammar.specs.Tree.{Tree, Part}
-use Rattle.aml_interp.proofs.ShortNames.{does_put_to_unit, does_unit_refused, behind_unit}
+use Rattle.aml_interp.proofs.ShortNames.{does_put_to_unit, unit_refused_if, behind_unit}
 use Rattle.aml_interp.proofs.ShortTerms.{does_put_nowhere, behind_null, target_super, does_put_target}
 use Rattle.aml_marked.specs.Marked.{Place}
 use Rattle.std.proofs.Common.{◌-◌}
@@ -159,14 +159,14 @@ at_cursor::eval_items_at_cursor-returns-clause-means g t c = elim c.items-test.b
 pub at_cursor::eval_uncoded_at_cursor-returns-then-is_at_call-clause-means : goal.at_cursor::eval_uncoded_at_cursor-returns-then-is_at_call-clause-means
 at_cursor::eval_uncoded_at_cursor-returns-then-is_at_call-clause-means g t c = does_call g.S.Space.accesses (meaning g.S.Space.accesses) c.args.context.now.site.now.scope.path.now c.args.context.now.site.now.depth (a_term (count_at c.args.context.now.marks.now) (c.args.levels - 1)) (count_at c.args.context.now.marks.now) c.args.cursor.now (a_term (count_at c.args.context.now.marks.now) c.args.levels false c.args.cursor.now).0 (ap (λ (x : Tree × Place). x.0) (c.is_at_call.ensures.call (count_at c.args.context.now.marks.now) c.if-is_at_call.true)) c.eval_name_at_cursor.ensures.means
 
-pub targets::eval_store_elsewhere-returns-in_err-eval_field_stored-clause-means : goal.targets::eval_store_elsewhere-returns-in_err-eval_field_stored-clause-means
-targets::eval_store_elsewhere-returns-in_err-eval_field_stored-clause-means g t c = does_unit_refused g.S.Space.accesses (meaning g.S.Space.accesses) c.args.context.now.site.now.scope.path.now c.args.context.now.site.now.depth (a_term (count_at c.args.context.now.marks.now) c.args.levels) c.args.cursor.now c.run.inside.world c.run.inside.steps c.in-Some.unit c.in-Some.ensures c.args.value c.calls_left-calls.result c.calls_left-calls.ensures c.args.run.now c.run.view_is c.in_err-eval_field_stored.ensures.means c.from_residual.ensures
+pub targets::eval_put_to_unit-returns-in_err-eval_field_stored-clause-refused : goal.targets::eval_put_to_unit-returns-in_err-eval_field_stored-clause-refused
+targets::eval_put_to_unit-returns-in_err-eval_field_stored-clause-refused g t c = unit_refused_if g.S.Space.accesses (meaning g.S.Space.accesses) c.args.context.now.site.now.scope.path.now c.args.context.now.site.now.depth (a_term (count_at c.args.context.now.marks.now) c.args.levels) c.args.cursor.now c.run.inside.world c.run.inside.steps c.in-Some.unit c.in-Some.ensures c.args.value c.calls_left-calls.result c.calls_left-calls.ensures c.args.run.now c.run.view_is c.in_err-eval_field_stored.ensures.means c.from_residual.result c.from_residual.ensures
 
-pub targets::eval_store_elsewhere-returns-in-Some-clause-means : goal.targets::eval_store_elsewhere-returns-in-Some-clause-means
-targets::eval_store_elsewhere-returns-in-Some-clause-means g t c = does_put_to_unit g.S.Space.accesses (meaning g.S.Space.accesses) c.args.context.now.site.now.scope.path.now c.args.context.now.site.now.depth (a_term (count_at c.args.context.now.marks.now) c.args.levels) c.args.cursor.now c.run.inside.world c.run.inside.steps c.in-Some.unit c.in-Some.ensures c.args.value c.calls_left-calls.result c.calls_left-calls.ensures c.args.run.now c.run.view_is c.in_ok-eval_field_stored.ensures.means
+pub targets::eval_put_to_unit-returns-clause-done : goal.targets::eval_put_to_unit-returns-clause-done
+targets::eval_put_to_unit-returns-clause-done g t c = λ _. does_put_to_unit g.S.Space.accesses (meaning g.S.Space.accesses) c.args.context.now.site.now.scope.path.now c.args.context.now.site.now.depth (a_term (count_at c.args.context.now.marks.now) c.args.levels) c.args.cursor.now c.run.inside.world c.run.inside.steps c.in-Some.unit c.in-Some.ensures c.args.value c.calls_left-calls.result c.calls_left-calls.ensures c.args.run.now c.run.view_is c.in_ok-eval_field_stored.ensures.means
 
-pub targets::eval_store_elsewhere-returns-in-Some-clause-behind : goal.targets::eval_store_elsewhere-returns-in-Some-clause-behind
-targets::eval_store_elsewhere-returns-in-Some-clause-behind g t c = c.over.ensures ∙ behind_unit g.S.Space.accesses (meaning g.S.Space.accesses) c.args.context.now.site.now.scope.path.now c.args.context.now.site.now.depth (a_term (count_at c.args.context.now.marks.now) c.args.levels) c.args.cursor.now c.run.inside.world c.run.inside.steps c.in-Some.unit c.in-Some.ensures c.args.value
+pub targets::eval_put_to_unit-returns-clause-behind : goal.targets::eval_put_to_unit-returns-clause-behind
+targets::eval_put_to_unit-returns-clause-behind g t c = λ _. c.over.ensures ∙ behind_unit g.S.Space.accesses (meaning g.S.Space.accesses) c.args.context.now.site.now.scope.path.now c.args.context.now.site.now.depth (a_term (count_at c.args.context.now.marks.now) c.args.levels) c.args.cursor.now c.run.inside.world c.run.inside.steps c.in-Some.unit c.in-Some.ensures c.args.value
 
 pub targets::eval_dereferenced_operand-returns-in-Some-clause-means : goal.targets::eval_dereferenced_operand-returns-in-Some-clause-means
 targets::eval_dereferenced_operand-returns-in-Some-clause-means g t c = does_valued (a_term (count_at c.args.context.now.marks.now) (c.args.levels - 1)) c.in-Some.field-0 c.take_opcode.new.self (a_term (count_at c.args.context.now.marks.now) c.args.levels false c.args.cursor.now) (meaning g.S.Space.accesses) c.args.context.now.site.now.scope.path.now c.args.context.now.site.now.depth (c.in-Some.ensures.term c.in-Some.field-0 (count_at c.args.context.now.marks.now) false refl) c.requires c.eval_value_at_cursor.ensures.means

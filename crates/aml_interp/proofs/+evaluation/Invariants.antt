@@ -343,6 +343,9 @@ decreases-targets::eval_named_operand g l = 40 * (l.run.now.1 + (32 - l.context.
 abbrev pub decreases-at_cursor::eval_flow_value : goal.decreases-at_cursor::eval_flow_value
 decreases-at_cursor::eval_flow_value g l = 40 * (l.run.now.1 + (32 - l.context.now.site.now.depth)) + 1
 
+abbrev pub decreases-targets::eval_put_to_unit : goal.decreases-targets::eval_put_to_unit
+decreases-targets::eval_put_to_unit g l = 40 * (l.run.now.1 + (32 - l.context.now.site.now.depth)) + 25
+
 abbrev pub decreases-targets::eval_store_elsewhere : goal.decreases-targets::eval_store_elsewhere
 decreases-targets::eval_store_elsewhere g l = 40 * (l.run.now.1 + (32 - l.context.now.site.now.depth)) + 26
 
