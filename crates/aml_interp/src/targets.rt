@@ -34,7 +34,7 @@ pub(crate) fn kind_of_target(context: &Context<'_>, cursor: &Cursor<'_>, levels:
 }
 
 /// The target that a term is where a cursor stands, by its kind: Debug, a local or an argument, or what it refers to.
-#[inline(never)]
+#[inline(always)]
 #[cycle(evaluation)]
 #[tactic(auto, using(crate::proofs::Steps::evaluating))]
 fn eval_target_by_kind<S: Space>(
@@ -171,7 +171,7 @@ fn eval_indexed_target<S: Space>(
 }
 
 /// What a name or a term names, where a cursor stands.
-#[inline(never)]
+#[inline(always)]
 #[cycle(evaluation)]
 #[tactic(auto, using(crate::proofs::Steps::evaluating), unfolding(aml_marked::specs::Marked::a_super_name, aml_marked::specs::Marked::a_name, aml_meaning::specs::TargetTerms::part_target))]
 pub(crate) fn eval_super_name<S: Space>(
