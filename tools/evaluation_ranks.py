@@ -5,8 +5,8 @@
 
 Each function of the cycle has a rank in `crates/aml_interp/proofs/+evaluation/Invariants.antt`: the number that its measure adds. A call
 before the function has taken a step has to go to a function of a lower rank. The proof says so too, but only after a quarter of an hour.
-Prints each call that goes up or stays, and each function without a rank or rank without a function. `eval_answer_over` is printed always: its
-measure counts calls differently.
+Prints each call that goes up or stays, and each function without a rank or rank without a function. `eval_answer` is printed always: its measure
+counts calls differently.
 """
 import pathlib
 import re
