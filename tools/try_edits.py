@@ -20,32 +20,22 @@ A crate is passed over where must-fail/tried.md has the sum of all that a verdic
 library is built, it compares what the crate's own files say, and tells so."""
 import concurrent.futures
 import hashlib
-import importlib.machinery
-import importlib.util
 import os
 import re
 import shutil
 import sys
 import tempfile
 
+import kit
+
 sys.dont_write_bytecode = True
-RT = shutil.which("rt") or "rt"
 # how many edits one check tries at most
 TOGETHER = 16
 # and one lane
 IN_ONE_LANE = 24
 
 
-def kit():
-    """The kit's own `rt` as a module, so that edits are applied and judged as the gate does it."""
-    loader = importlib.machinery.SourceFileLoader("rt", os.path.realpath(RT))
-    made = importlib.util.module_from_spec(importlib.util.spec_from_loader("rt", loader))
-    sys.modules["rt"] = made
-    loader.exec_module(made)
-    return made
-
-
-rt = kit()
+rt = kit.load()
 rtlib = rt.rtlib
 # what the kit's `rt` says of an edit that the check refused, or gave up on: some kits have a word for each, others say yes
 REFUSED = getattr(rt, "REFUSED", True)

@@ -281,7 +281,7 @@ fn eval_store_to_any<S: Space>(
     eval_store_elsewhere(alloc, run, context, cursor, levels, value)
 }
 
-/// The same where no name takes an integer at once.
+/// The same for a value that no name takes at once.
 #[inline(always)]
 #[cycle(evaluation)]
 #[tactic(auto, using(crate::proofs::Steps::evaluating), unfolding(crate::specs::AtCursor::put_to))]

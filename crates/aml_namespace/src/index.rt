@@ -105,7 +105,7 @@ impl Index {
         self.places.remove(&(parent, segment));
     }
 
-    /// The first child of a node, in the order of segments, with its segment. It takes no memory.
+    /// A child of a node with its segment, if the node has one: which of them, the contract leaves open. It takes no memory.
     pub(crate) fn first_child(&self, parent: u64) -> Option<(Seg, NodeId)>
         ensures { MatchOption result ((s : Seg) → child_in self.now parent s ≡ None) (λ first. child_in self.now parent first.0 ≡ Some first.1.number) }
     {

@@ -131,7 +131,7 @@ impl Nodes {
         let parent = node.parent.number;
         let segment = node.segment;
         let more = acquired(&node.entry.object);
-        make_room(&mut self.hints, &self.slab)?;
+        make_room(&mut self.hints, &self.slab, &self.keys)?;
         self.slab.reserve(1)?;
         self.keys.insert(number, self.slab.vacant_key())?;
         let key = self.slab.insert_reserved(node);
@@ -222,21 +222,25 @@ fn node_in(slab: &Slab<Node>, key: usize, parent: u64, segment: Seg) -> Option<N
 }
 
 /// Makes room for one more hint: once there are many, the table is renewed.
-fn make_room(hints: &mut Hints, slab: &Slab<Node>) -> Result<(), Refusal>
+fn make_room(
+    hints: &mut Hints,
+    slab: &Slab<Node>,
+    keys: &BTreeMap<u64, usize>,
+) -> Result<(), Refusal>
     ensures memory { IsOkUnless result OutOfMemory }
 {
     if hints.is_full() {
         hints.renew(slab.len())?;
-        note_all(hints, slab);
+        note_all(hints, slab, keys);
     }
     Ok(())
 }
 
-/// Notes where each node lies.
-fn note_all(hints: &mut Hints, slab: &Slab<Node>) {
-    for key in 0..slab.capacity() {
-        if let Some(node) = slab.get(key) {
-            hints.note(node.parent.number, node.segment, key);
+/// Notes where each node lies. It goes over the nodes that stand, and not over all slots: these may be many more.
+fn note_all(hints: &mut Hints, slab: &Slab<Node>, keys: &BTreeMap<u64, usize>) {
+    for (_, key) in keys {
+        if let Some(node) = slab.get(*key) {
+            hints.note(node.parent.number, node.segment, *key);
         }
     }
 }

@@ -1,4 +1,4 @@
-//! TakenPlaces at places, which tell of most places that nothing is there.
+//! Marks at places, which tell of most places that nothing is there.
 ghost use Rattle.std.specs.Prelude.{◌≡◌, ℕ, true, OnErr, IsOkUnless};
 ghost use Rattle.ar_space.specs.declared.refusal.Refusal.TheVariants.{OutOfMemory};
 ghost use Rattle.aml_namespace.specs.Places.{may_be};
@@ -12,7 +12,7 @@ const LEAST: usize = 64;
 
 /// A table of marks, seen as their list. Where there is none at all, anything may be at any place.
 ///
-/// The places go round, so many share a mark, and one in eight is marked at most.
+/// The places go round, so many share a mark. Once one in eight is marked, the table is to be renewed.
 #[derive(Drop)]
 pub(crate) struct TakenPlaces {
     /// No mark, or as many as a power of two.
@@ -48,7 +48,7 @@ impl TakenPlaces {
         self.marks[place & (self.marks.len() - 1)]
     }
 
-    /// TakenPlaces a place. It takes no memory.
+    /// Marks a place. It takes no memory.
     pub(crate) fn insert(&mut self, place: usize)
         ensures here { may_be self.new place ≡ true }
         ensures others { (p : ℕ) → may_be self.old p ≡ true → may_be self.new p ≡ true }
