@@ -1,29 +1,41 @@
 #!/usr/bin/env python3
-"""gate_model.py [--lanes N] [--twice]: how long the gate takes, reckoned from the processor seconds of its tasks.
+"""gate_model.py [--processors N] [--twice]: how long the gate takes, reckoned from the processor seconds of its tasks.
 
-tools/gate_table.txt has a line for each crate: the processor seconds of its proof, and those of its edits. Tasks, their order and
-what waits for what are the gate's own: a crate is proved once those below it are, its edits come in one lane after it, and of
-what is ready the task with the longest chain of source lines behind it begins first. A proof begins where the memory is free that it
-is expected to need, and gets the lanes that no other proof waits for, at most four. Programs run at the end.
+tools/gate_table.txt has a line for each crate: the processor seconds of its proof, and those of its edits. Which task begins first, with
+how many processes and at which priority is what `.ci/gate.py` says. Programs run at the end.
 
---twice reckons twice the code: each crate once more beside the first, and two of the new ones in the longest chain."""
-import heapq
+--processors N also prints when each task begins and ends. --twice reckons twice the code: each crate once more beside the first, and two of the new ones in
+the longest chain."""
+import importlib.util
 import os
 import sys
 
+sys.dont_write_bytecode = True
 ROOT = os.path.join(os.path.dirname(os.path.abspath(__file__)), "..")
 # seconds for running the programs at the end, once nothing is left to prove
 LAST = 30
-# the memory that the gate takes into account on a machine of 24 GiB, in GB
-MEMORY = 18.7
-# the share of the time of one lane that a proof takes in one to four lanes
-TIME_IN_LANES = [1, 0.6, 0.47, 0.4]
+# the part of a proof in which it is one process, whatever it was given
+ALONE = 0.12
+# what each further process adds to the processor seconds
+ADDED = 0.12
+# how much less of a processor a process gets at the next lower priority
+NEXT_LOWER = 1.25
 
 
-def lines_of(name, part):
-    """How many lines the files of a crate in one of its folders have."""
+def load_gate():
+    spec = importlib.util.spec_from_file_location("gate", f"{ROOT}/.ci/gate.py")
+    made = importlib.util.module_from_spec(spec)
+    spec.loader.exec_module(made)
+    return made
+
+
+gate = load_gate()
+
+
+def source_lines(name):
+    """How many lines the files of a crate's src/ have."""
     found = 0
-    for at, _, files in os.walk(f"{ROOT}/crates/{name}/{part}"):
+    for at, _, files in os.walk(f"{ROOT}/crates/{name}/src"):
         for file in files:
             with open(f"{at}/{file}", "rb") as it:
                 found += it.read().count(b"\n")
@@ -31,29 +43,21 @@ def lines_of(name, part):
 
 
 def read_repository():
-    """Each crate with those below it, its lines of source, and those of its definitions and lemmas."""
+    """Each crate with those that its line of crates.txt names."""
     deps = {}
     with open(f"{ROOT}/crates.txt", encoding="utf-8") as it:
         for line in it.read().splitlines():
             if line.strip() and not line.startswith("#"):
                 name, _, below = line.partition(":")
                 deps[name.split()[0]] = below.split()
-    lines = {name: lines_of(name, "src") for name in deps}
-    lemmas = {name: lines_of(name, "specs") + lines_of(name, "proofs") for name in deps}
-    return {name: [it for it in below if it in deps] for name, below in deps.items()}, lines, lemmas
+    return {name: [it for it in below if it in deps] for name, below in deps.items()}
 
 
-def read_table():
-    with open(f"{ROOT}/tools/gate_table.txt", encoding="utf-8") as it:
-        rows = [line.split("#")[0].split() for line in it]
-    return {row[0]: [float(it) for it in row[1:]] for row in rows if row}
-
-
-def twice(deps, lines, lemmas, table):
+def twice(deps, rows):
     again = lambda name: f"{name}_2"
     for name in [*deps]:
         deps[again(name)] = [again(it) for it in deps[name]]
-        lines[again(name)], lemmas[again(name)], table[again(name)] = lines[name], lemmas[name], table[name]
+        rows[again(name)] = rows[name]
     # two of the new crates stand in the longest chain
     deps["acpi_links_2"].append("acpi_configure")
     deps["acpi_configure_2"] = ["acpi_links_2"]
@@ -67,82 +71,99 @@ def below(deps, name):
     return found
 
 
-def tasks_of(deps, lines, lemmas, table):
-    """Of each task: what it waits for, its lines, its seconds, and the GB of memory that the gate expects it to need."""
-    if missing := [it for it in deps if it not in table]:
-        sys.exit(f"tools/gate_table.txt has no line for {', '.join(missing)}")
+def tasks_of(deps, rows):
+    """The gate's tasks, with what each waits for and its lines. What it does is the model's, and what memory it needs is left out."""
     tasks = {}
     for name in sorted(deps, key=lambda it: len(below(deps, it))):
-        proof, edits = table[name]
-        lower = below(deps, name)
-        needs = 1.3 + lines[name] / 1000 + lemmas[name] / 5000 + sum(lines[it] for it in lower) / 12500
-        tasks[name, "proof"] = ([(it, "proof") for it in lower], lines[name], proof, needs)
-        if edits:
-            tasks[name, "edits"] = ([(name, "proof")], 0, edits, needs)
+        lines = source_lines(name.removesuffix("_2"))
+        tasks[name, "proof"] = ([(it, "proof") for it in below(deps, name)], lines, 0, None)
+        if rows.get(name, [0, 0])[1]:
+            tasks[name, "edits"] = ([(name, "proof")], lines, 0, None)
     return tasks
 
 
-def lanes_for(key, ready, idle, room, needs):
-    """How many lanes a task gets: a proof those that no other proof waits for, where their memory is free."""
-    proofs = [it for it in ready if it[1] == "proof"]
-    if key not in proofs:
-        return 1
-    others = len(proofs) - proofs.index(key)
-    return max(1, min(4, idle // others, 1 + int((room / needs - 1) / 0.6)))
+class Running:
+    """A task that has begun: the seconds in which it is one process, those that its processes share, and its weight beside others."""
+
+    def __init__(self, seconds, processes, niceness, begun):
+        self.alone, self.shared = ALONE * seconds, seconds * (1 - ALONE + ADDED * (processes - 1))
+        self.processes, self.weight, self.begun = processes, NEXT_LOWER**-niceness, begun
+
+    def most(self):
+        return 1 if self.alone > 0 else self.processes
+
+    def left(self):
+        return self.alone if self.alone > 0 else self.shared
+
+    def spend(self, seconds):
+        if self.alone > 0:
+            self.alone = self.alone - seconds if self.alone - seconds > 1e-6 else 0
+        else:
+            self.shared -= seconds
 
 
-def run(tasks, lanes):
-    """The second at which each task ends."""
-    behind = {it: 0 for it in tasks}
-    for key in reversed([*tasks]):
-        behind[key] += tasks[key][1]
-        for it in tasks[key][0]:
-            behind[it] = max(behind[it], behind[key])
-    left = sorted(tasks, key=lambda it: (it[1] != "proof", -behind[it]))
-    running, ends, ended, now = {}, [], {}, 0.0
+def shares(running, processors):
+    """How much of the processors each running task gets: by weight, and no more than it has processes."""
+    given, left, free = {}, dict(running), processors
+    while left:
+        whole = sum(it.weight * it.most() for it in left.values())
+        full = [key for key, it in left.items() if free * it.weight * it.most() / whole >= it.most()]
+        for key in full or [*left]:
+            given[key] = left[key].most() if full else free * left[key].weight * left[key].most() / whole
+        free -= sum(given[key] for key in full)
+        left = {key: it for key, it in left.items() if key not in given}
+    return given
+
+
+def run(tasks, processors):
+    """The seconds at which each task begins and ends."""
+    plan, left, running, ended, now = gate.Plan(tasks, processors), [], {}, {}, 0.0
+    left = plan.order
     while left or running:
-        ready = [it for it in left if all(low in ended for low in tasks[it][0])]
-        for key in ready:
-            _, _, seconds, needs = tasks[key]
-            idle = lanes - sum(it for it, _ in running.values())
-            room = MEMORY - sum(it for _, it in running.values())
-            if idle > 0 and (not running or needs <= room):
+        for key in [it for it in left if all(low in ended for low in tasks[it][0])]:
+            if len(running) < 2 * processors:
                 left.remove(key)
-                own = lanes_for(key, ready, idle, room, needs)
-                running[key] = own, needs * (1 + 0.6 * (own - 1))
-                heapq.heappush(ends, (now + seconds * TIME_IN_LANES[own - 1], key))
-        now, key = heapq.heappop(ends)
-        ended[key] = now
-        del running[key]
+                seconds = plan.table.seconds(*key, tasks[key][1])
+                running[key] = Running(max(seconds, 0.1), plan.processes(key), plan.niceness(key), now)
+        given = shares(running, processors)
+        step = min(it.left() / given[key] for key, it in running.items())
+        now += step
+        for key, it in [*running.items()]:
+            it.spend(step * given[key])
+            if it.alone <= 0 and it.shared <= 1e-6:
+                ended[key] = it.begun, now
+                del running[key]
     return ended
 
 
-def longest_chain(deps, table):
+def longest_chain(deps, rows):
     longest = {}
     for name in sorted(deps, key=lambda it: len(below(deps, it))):
         before = max(deps[name], key=lambda it: longest[it][0], default=None)
         seconds, names = longest[before] if before else (0, [])
-        longest[name] = seconds + table[name][0], [*names, name]
+        longest[name] = seconds + rows[name][0], [*names, name]
     return max(longest.values())
 
 
 def main(words):
-    lanes = [int(words[words.index("--lanes") + 1])] if "--lanes" in words else [4, 2]
-    deps, lines, lemmas = read_repository()
-    table = read_table()
+    asked = [int(words[words.index("--processors") + 1])] if "--processors" in words else [4, 2]
+    deps, rows = read_repository(), gate.gate_table.read().rows
+    if missing := [it for it in deps if it not in rows]:
+        sys.exit(f"tools/gate_table.txt has no line for {', '.join(missing)}")
     if "--twice" in words:
-        twice(deps, lines, lemmas, table)
-    tasks = tasks_of(deps, lines, lemmas, table)
-    print(f"work: {sum(it[2] for it in tasks.values()) / 60:.0f} processor minutes")
-    seconds, names = longest_chain(deps, table)
-    print(f"longest chain: {seconds / 60:.1f} processor minutes: {', '.join(names)}")
-    for count in lanes:
+        twice(deps, rows)
+        made = gate.gate_table.Table(rows)
+        gate.gate_table.read = lambda: made
+    tasks = tasks_of(deps, rows)
+    print(f"work: {sum(sum(rows[it][:2]) for it in deps) / 60:.0f} processor minutes, with one process each")
+    seconds, names = longest_chain(deps, rows)
+    print(f"longest chain: {seconds / 60:.1f} of them: {', '.join(names)}")
+    for count in asked:
         ended = run(tasks, count)
-        print(f"{count} lanes: {(max(ended.values()) + LAST) / 60:.1f} minutes")
-        if "--lanes" in words:
-            for (name, what), end in sorted(ended.items(), key=lambda it: it[1]):
-                if what == "proof" or tasks[name, what][2]:
-                    print(f"  {end / 60:5.1f} {name} {what}")
+        print(f"{count} processors: {(max(end for _, end in ended.values()) + LAST) / 60:.1f} minutes")
+        if "--processors" in words:
+            for (name, what), (begun, end) in sorted(ended.items(), key=lambda it: it[1][1]):
+                print(f"  {begun / 60:5.1f} {end / 60:5.1f} {name} {what}")
 
 
 if __name__ == "__main__":
