@@ -1,16 +1,17 @@
 #!/usr/bin/env python3
-"""gate_model.py [--processors N] [--twice]: how long the gate takes, reckoned from the processor seconds of its tasks.
+"""gate_model.py [--processors N] [--twice]: how long the gate takes, estimated from the processor seconds of its tasks.
 
-tools/gate_table.txt has a line for each crate: the processor seconds of its proof, and those of its edits. Which task begins first, with
-how many processes and at which priority is what `.ci/gate.py` says. Programs run at the end.
+tools/gate_table.txt has a line for each crate: the processor seconds of its proof and of its edits, and the memory of its proof. The order, the
+processes and the priorities are the gate's (tools/gate_plan.py); memory is taken as plentiful. Programs run at the end.
 
---processors N also prints when each task begins and ends. --twice reckons twice the code: each crate once more beside the first, and two of the new ones in
-the longest chain."""
-import importlib.util
+--processors N also prints when each task begins and ends. --twice estimates twice the code: each crate once more beside the first, and two of the
+new ones in the longest chain."""
 import os
 import sys
 
 sys.dont_write_bytecode = True
+import gate_plan
+
 ROOT = os.path.join(os.path.dirname(os.path.abspath(__file__)), "..")
 # seconds for running the programs at the end, once nothing is left to prove
 LAST = 30
@@ -20,16 +21,6 @@ ALONE = 0.12
 ADDED = 0.12
 # how much less of a processor a process gets at the next lower priority
 NEXT_LOWER = 1.25
-
-
-def load_gate():
-    spec = importlib.util.spec_from_file_location("gate", f"{ROOT}/.ci/gate.py")
-    made = importlib.util.module_from_spec(spec)
-    spec.loader.exec_module(made)
-    return made
-
-
-gate = load_gate()
 
 
 def source_lines(name):
@@ -115,16 +106,15 @@ def shares(running, processors):
     return given
 
 
-def run(tasks, processors):
+def run(tasks, table, processors):
     """The seconds at which each task begins and ends."""
-    plan, left, running, ended, now = gate.Plan(tasks, processors), [], {}, {}, 0.0
-    left = plan.order
+    plan = gate_plan.Plan(tasks, table, processors)
+    left, running, ended, now = plan.in_order(), {}, {}, 0.0
     while left or running:
         for key in [it for it in left if all(low in ended for low in tasks[it][0])]:
             if len(running) < 2 * processors:
                 left.remove(key)
-                seconds = plan.table.seconds(*key, tasks[key][1])
-                running[key] = Running(max(seconds, 0.1), plan.processes(key), plan.niceness(key), now)
+                running[key] = Running(max(plan.seconds(key), 0.1), plan.processes(key), plan.niceness(key), now)
         given = shares(running, processors)
         step = min(it.left() / given[key] for key, it in running.items())
         now += step
@@ -147,19 +137,17 @@ def longest_chain(deps, rows):
 
 def main(words):
     asked = [int(words[words.index("--processors") + 1])] if "--processors" in words else [4, 2]
-    deps, rows = read_repository(), gate.gate_table.read().rows
+    deps, rows = read_repository(), gate_plan.read_table()
     if missing := [it for it in deps if it not in rows]:
         sys.exit(f"tools/gate_table.txt has no line for {', '.join(missing)}")
     if "--twice" in words:
         twice(deps, rows)
-        made = gate.gate_table.Table(rows)
-        gate.gate_table.read = lambda: made
     tasks = tasks_of(deps, rows)
     print(f"work: {sum(sum(rows[it][:2]) for it in deps) / 60:.0f} processor minutes, with one process each")
     seconds, names = longest_chain(deps, rows)
     print(f"longest chain: {seconds / 60:.1f} of them: {', '.join(names)}")
     for count in asked:
-        ended = run(tasks, count)
+        ended = run(tasks, rows, count)
         print(f"{count} processors: {(max(end for _, end in ended.values()) + LAST) / 60:.1f} minutes")
         if "--processors" in words:
             for (name, what), (begun, end) in sorted(ended.items(), key=lambda it: it[1][1]):

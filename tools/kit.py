@@ -7,8 +7,11 @@ import sys
 
 
 def load():
-    """The module; as a program, it would begin to work."""
-    loader = importlib.machinery.SourceFileLoader("rt", os.path.realpath(shutil.which("rt") or "rt"))
+    """The module. As a program, it would begin to work."""
+    found = shutil.which("rt")
+    if not found:
+        sys.exit("the kit's command rt is not on the PATH")
+    loader = importlib.machinery.SourceFileLoader("rt", os.path.realpath(found))
     made = importlib.util.module_from_spec(importlib.util.spec_from_loader("rt", loader))
     sys.modules["rt"] = made
     loader.exec_module(made)

@@ -8,7 +8,8 @@ is tried over a copy of the work that the crate's own check kept, so none costs 
 - first together with others that change other functions: a function is proved from its own body and from the contracts of those
   that it calls, so an edit counts as refused where the check says that something in the very function which it changes is not
   proved;
-- where that doesn't show it, or the edit changes something outside of functions, by itself, as in the gate.
+- those that this doesn't show are tried together again, or in two halves where it shows none, until one is left;
+- that one is tried by itself, as in the gate, and so is an edit that changes a function's head or something outside of functions.
 
 A crate is passed over where must-fail/tried.md has the sum of all that a verdict on its edits rests on:
 
@@ -26,12 +27,14 @@ import shutil
 import sys
 import tempfile
 
+sys.dont_write_bytecode = True
 import kit
 
-sys.dont_write_bytecode = True
 # how many edits one check tries at most
 TOGETHER = 16
-# and one lane
+# the same where functions call one another in a cycle: each check of such a crate costs much, however few of its functions changed
+TOGETHER_IN_A_CYCLE = 64
+# how many edits one lane tries at most, or one group
 IN_ONE_LANE = 24
 
 
@@ -122,8 +125,15 @@ def function_at(text, place):
     return None
 
 
+def body_at(text, place):
+    """The name of the function whose body holds a place of a source file, if one does. Behind a head and its clauses, a line ends in a brace."""
+    found = function_at(text, place)
+    begin = re.compile(r"(?m)\{$").search(text, found[1]) if found else None
+    return found[0] if begin and begin.end() <= place else None
+
+
 class Edit:
-    """An edit, and where it changes functions: pairs of a file and a function's name, or None where it changes anything else."""
+    """An edit, and where it changes bodies: pairs of a file and a function's name, or None where it changes anything else."""
 
     def __init__(self, crate, file):
         self.file, self.name = file, os.path.basename(file)
@@ -142,8 +152,8 @@ class Edit:
                 new = re.sub(r"\A ", "", line[len("new:"):])
                 self.pairs.append((path, old, new))
                 is_clear = path.startswith("src/") and texts[path].count(old) == 1
-                found = function_at(texts[path], texts[path].find(old)) if is_clear else None
-                self.changes = self.changes | {(path, found[0])} if found and self.changes is not None else None
+                found = body_at(texts[path], texts[path].find(old)) if is_clear else None
+                self.changes = self.changes | {(path, found)} if found and self.changes is not None else None
                 texts[path] = texts[path].replace(old, new)
                 old = None
 
@@ -151,16 +161,21 @@ class Edit:
 def together(crate, edits):
     """Edits in groups, in each of which no two change the same function: a function is proved from its own body and from the
     contracts of those that it calls, so in a group each edit is refused or not as it is by itself."""
-    groups = []
+    groups, most = [], TOGETHER_IN_A_CYCLE if has_cycle(crate) else TOGETHER
     for edit in edits:
         for group in groups:
-            is_free = len(group) < TOGETHER and not any(edit.changes & it.changes for it in group)
+            is_free = len(group) < most and not any(edit.changes & it.changes for it in group)
             if is_free and applied(crate, [*group, edit]):
                 group.append(edit)
                 break
         else:
             groups.append([edit])
     return groups
+
+
+def has_cycle(crate):
+    files = [it for it in files_below(f"{crate.folder}/src") if it.endswith(".rt")]
+    return any("#[cycle(" in (rtlib.text_of(it) or "") for it in files)
 
 
 def applied(crate, edits):
@@ -223,6 +238,18 @@ def try_group(crate, group, kept):
     return {it.name: f"must-fail {crate.name}/{it.name}: {said} {sorted(it.changes)[0][1]}" for it in group if it.changes <= found}
 
 
+def try_together(crate, edits, kept):
+    """What the gate's own judgement, or a check of several edits, says of each edit, by its name: whether it is refused, and a line."""
+    if len(edits) == 1:
+        return {edits[0].name: rt.must_fail(crate, edits[0].file, ["--jobs", "1"], kept)}
+    shown = {name: (REFUSED, text) for name, text in try_group(crate, edits, kept).items()}
+    left = [it for it in edits if it.name not in shown]
+    half = (len(left) + 1) // 2
+    for part in [left] if shown else [left[:half], left[half:]]:
+        shown |= try_together(crate, part, kept) if part else {}
+    return shown
+
+
 def try_some(crate, groups):
     """Tries groups of edits of a crate over one copy of its kept work; returns the lines to print and whether all were refused."""
     said, well = [], True
@@ -232,9 +259,7 @@ def try_some(crate, groups):
         if rt.checked(crate, {}, ["--jobs", "1"], kept).returncode:
             return [f"{crate.name}: not proved: check it first"], False
         for group in groups:
-            shown = try_group(crate, group, kept)
-            for edit in group:
-                came, text = (REFUSED, shown[edit.name]) if edit.name in shown else rt.must_fail(crate, edit.file, ["--jobs", "1"], kept)
+            for came, text in try_together(crate, group, kept).values():
                 # (an edit that can't be applied or compiled shows nothing, nor does one that was not tried)
                 said, well = said + [text], well and came in (REFUSED, AT_LIMIT)
         # what the edits left in the folder must not have spoilt the crate's own verdict
@@ -260,7 +285,7 @@ def groups_of(crate):
 
 
 def shared_out(groups):
-    """Groups in parts of some twenty edits, each of which is tried in one lane."""
+    """Groups in parts of some twenty edits, or of one group, each of which is tried in one lane."""
     parts = [[]]
     for group in groups:
         if sum(map(len, parts[-1])) + len(group) > IN_ONE_LANE and parts[-1]:

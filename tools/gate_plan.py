@@ -1,0 +1,71 @@
+"""How the gate begins its tasks: in which order, with how many processes, and at which priority.
+
+A task is a crate's name and what is done: its proof, its tests, or its edits. It is described as the kit's `rt ci` does: by what it waits for,
+its lines, the bytes of memory that it is expected to need, and a call.
+
+The slack of a task is how many seconds later it could begin without the whole run ending later, if each proof had one process and never
+waited for a processor. What has next to none belongs to the longest chain."""
+import os
+
+FILE = os.path.join(os.path.dirname(os.path.abspath(__file__)), "gate_table.txt")
+# the seconds of a proof for each line, where the table doesn't have the crate
+SECONDS_A_LINE = 0.25
+# what is added to a memory that was measured
+MARGIN = 1.25
+# a task with at most so many seconds of slack belongs to the longest chain
+CHAIN = 60
+# so many seconds of slack lower the priority of a task by one step
+STEP = 60
+LOWEST = 15
+# what a further process of a proof takes of the memory of the first, by the kit's estimate
+FURTHER = 0.6
+
+
+def read_table():
+    """The rows of tools/gate_table.txt: of each crate the seconds of its proof and of its edits, and the GB of memory of its proof."""
+    with open(FILE, encoding="utf-8") as it:
+        rows = [line.split("#")[0].split() for line in it]
+    return {row[0]: [float(it) for it in row[1:]] for row in rows if row}
+
+
+class Plan:
+    def __init__(self, tasks, table, processors):
+        self.tasks, self.table = tasks, table
+        self.several = min(4, max(2, 3 * processors // 4)) if processors > 1 else 1
+        before, behind = {}, {it: self.seconds(it) for it in tasks}
+        # (a task comes after those that it waits for)
+        for key, task in tasks.items():
+            before[key] = max((before[it] + self.seconds(it) for it in task[0]), default=0)
+        for key in reversed([*tasks]):
+            for it in tasks[key][0]:
+                behind[it] = max(behind[it], self.seconds(it) + behind[key])
+        longest = max((before[it] + behind[it] for it in tasks), default=0)
+        self.slack = {it: longest - before[it] - behind[it] for it in tasks}
+
+    def seconds(self, key):
+        """The processor seconds of a task with one process."""
+        name, what = key
+        if what == "tests":
+            return 0.0
+        if name not in self.table:
+            return SECONDS_A_LINE * self.tasks[key][1]
+        return self.table[name][0 if what == "proof" else 1]
+
+    def in_order(self):
+        """The tasks, those first that can wait least."""
+        return sorted(self.tasks, key=lambda it: self.slack[it])
+
+    def is_in_chain(self, key):
+        return key[1] == "proof" and self.slack[key] <= CHAIN
+
+    def processes(self, key):
+        return self.several if self.is_in_chain(key) else 1
+
+    def niceness(self, key):
+        return int(min(LOWEST, self.slack[key] / STEP))
+
+    def memory(self, key, processes):
+        """The bytes that a task takes: as measured with all its processes, or as the kit expects."""
+        expected = self.tasks[key][2] * (1 + FURTHER * (processes - 1))
+        row = self.table.get(key[0], [])
+        return min(expected, MARGIN * 1e9 * row[2]) if len(row) > 2 else expected
