@@ -189,6 +189,18 @@ def applied(crate, edits):
     return texts
 
 
+# what a proof file is told that names something which an edit took away
+NAMES_WHAT_IS_GONE = r"has no field|is not in scope|has no `|was not admitted"
+
+
+def place_told(text, number):
+    """The end of the line with a number, or, where a function's attributes begin there, of the line with its head."""
+    lines = text.split("\n")
+    while number < len(lines) and lines[number - 1].lstrip().startswith(("#[", "//")):
+        number += 1
+    return sum(len(it) + 1 for it in lines[:number]) - 1
+
+
 def unproved(crate, texts, lines):
     """The pairs of a file and a function of which a check says that something in it is not proved."""
     found = set()
@@ -196,12 +208,15 @@ def unproved(crate, texts, lines):
         at = re.match(r"note: (?:\./)?(src/\S+?):(\d+):\d+: it is not proved", line)
         if at:
             text = texts.get(at[1]) or rtlib.text_of(f"{crate.folder}/{at[1]}") or ""
-            place = sum(len(it) + 1 for it in text.split("\n")[: int(at[2]) - 1]) + 1
-            named = function_at(text, place + len(text[place:].split("\n")[0]))
+            named = function_at(text, place_told(text, int(at[2])))
             found |= {(at[1], named[0])} if named else set()
+        # (the answers of a cycle of functions stand in one file)
+        at = re.match(r"(?:\./)?proofs/\+\w+/\w+\.antt:\d+:\d+: error: `([\w:]+)::(\w+)-", line)
+        if at and not re.search(NAMES_WHAT_IS_GONE, line):
+            found |= {(file, at[2]) for file in files_with(crate, texts, at[1].replace("::", "/"), at[2])}
         at = re.match(r"fn \S+: no proof: expected answers in \./proofs/(\S+)/(\w+)/Answers\.antt", line)
         at = at or re.match(r"(?:\./)?proofs/(\S+)/(\w+)/(?:Answers|Invariants|Proof)\.antt:\d+:\d+: error", line)
-        if at and not re.search(r"has no field|is not in scope|has no `|was not admitted", line):
+        if at and not re.search(NAMES_WHAT_IS_GONE, line):
             found |= {(file, at[2]) for file in files_with(crate, texts, at[1], at[2])}
     return found
 
