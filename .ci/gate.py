@@ -1,7 +1,7 @@
 """The kit's `rt ci`, with the processors shared out so that the run ends sooner.
 
 What is proved, tried and run, and whether it passes, is the kit's own: this script replaces its `in_lanes` alone, which decides in which
-order the tasks begin and with how many processes. With RT_JOBS set, or under a kit whose tasks are no tuples of four, the kit's own is used.
+order the tasks begin and with how many processes. With RT_JOBS set, or under a kit whose tasks this script can't plan, the kit's own is used.
 
 The longest chain of proofs decides how long a run takes. The kit shares the idle processors among all tasks that can begin, and a proof keeps
 what it got, so the chain mostly gets one. Here its proofs get several processes, and other tasks begin beside them at a lower priority:
@@ -18,16 +18,23 @@ import gate_plan
 import kit
 
 rt = kit.load()
-KITS_OWN = rt.in_lanes
+KITS_OWN = getattr(rt, "in_lanes", None)
 
 
 def in_lanes(tasks):
     """Runs tasks side by side, each once those that it waits for have ended, and returns what each gave. A task is what it waits for,
     its lines, the memory that it needs, and a call that takes what was given so far and a number of processes."""
-    if os.environ.get("RT_JOBS") or not are_known(tasks):
+    plan = None if os.environ.get("RT_JOBS") else planned(tasks)
+    if not plan:
         return KITS_OWN(tasks)
+    # (some kits make files for edits, which go at the end)
+    with getattr(rt, "ending", contextlib.nullcontext)():
+        return in_order(plan, tasks)
+
+
+def in_order(plan, tasks):
+    """Runs the tasks in the order of a plan."""
     processors, memory = rt.processors(), 0.85 * rt.free()
-    plan = gate_plan.Plan(tasks, gate_plan.read_table(), processors)
     left, running, given, ended = plan.in_order(), {}, {}, queue.SimpleQueue()
     while left or running:
         for key in [it for it in left if all(low in given for low in tasks[it][0])]:
@@ -49,9 +56,18 @@ def in_lanes(tasks):
     return given
 
 
-def are_known(tasks):
-    """Whether a kit's tasks are those that this script knows."""
-    return isinstance(tasks, dict) and all(isinstance(it, tuple) and len(it) == 4 and callable(it[3]) for it in tasks.values())
+def planned(tasks):
+    """The plan of the tasks, or None where a kit describes them in another way than this script knows: then only time is lost."""
+    try:
+        plan = gate_plan.Plan(tasks, gate_plan.read_table(), rt.processors())
+        for key, (_, _, _, call) in tasks.items():
+            # (what is asked of the plan later on)
+            if not callable(call) or plan.memory(key, plan.processes(key)) < 0 or plan.niceness(key) < 0:
+                raise TypeError(key)
+        return plan
+    except (TypeError, ValueError, LookupError, AttributeError) as why:
+        print(f"gate: this kit's tasks can't be planned ({why!r}), so they run in the kit's own order")
+        return None
 
 
 def fitting(plan, key, room):
@@ -77,5 +93,7 @@ def begun(call, key, given, processes, niceness, ended):
 
 
 if __name__ == "__main__":
+    if not KITS_OWN:
+        os.execvp("rt", ["rt", "ci"])
     rt.in_lanes = in_lanes
     sys.exit(rt.main(["ci"]))

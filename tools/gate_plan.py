@@ -1,10 +1,12 @@
 """How the gate begins its tasks: in which order, with how many processes, and at which priority.
 
-A task is a crate's name and what is done: its proof, its tests, or its edits. It is described as the kit's `rt ci` does: by what it waits for,
-its lines, the bytes of memory that it is expected to need, and a call.
+A task's key is a crate's name, what is done, and in some kits a number: its `proof`, its `tests`, its `edits` (all of them, or the one with a number), the
+`seed`, which is the check that its edits begin with, and what else a kit does for edits, which takes next to no time. A task is described as the kit's
+`rt ci` does: by what it waits for, its lines, the bytes of memory that it is expected to need, and a call.
 
 The slack of a task is how many seconds later it could begin without the whole run ending later, if each proof had one process and never
 waited for a processor. What has next to none belongs to the longest chain."""
+import collections
 import os
 
 FILE = os.path.join(os.path.dirname(os.path.abspath(__file__)), "gate_table.txt")
@@ -31,6 +33,7 @@ def read_table():
 class Plan:
     def __init__(self, tasks, table, processors):
         self.tasks, self.table = tasks, table
+        self.edits = collections.Counter(key[0] for key in tasks if key[1] == "edits")
         self.several = min(4, max(2, 3 * processors // 4)) if processors > 1 else 1
         before, behind = {}, {it: self.seconds(it) for it in tasks}
         # (a task comes after those that it waits for)
@@ -44,12 +47,13 @@ class Plan:
 
     def seconds(self, key):
         """The processor seconds of a task with one process."""
-        name, what = key
-        if what == "tests":
+        name, what = key[:2]
+        if what not in ("proof", "seed", "edits"):
             return 0.0
         if name not in self.table:
             return SECONDS_A_LINE * self.tasks[key][1]
-        return self.table[name][0 if what == "proof" else 1]
+        proof, edits = self.table[name][:2]
+        return edits / self.edits[name] if what == "edits" else proof
 
     def in_order(self):
         """The tasks, those first that can wait least."""
