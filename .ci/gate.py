@@ -34,7 +34,7 @@ def in_lanes(tasks):
 
 def in_order(plan, tasks):
     """Runs the tasks in the order of a plan."""
-    processors, memory = rt.processors(), 0.85 * rt.free()
+    processors, memory, stamps = rt.processors(), 0.85 * rt.free(), kit.stamps(rt)
     left, running, given, ended = plan.in_order(), {}, {}, queue.SimpleQueue()
     while left or running:
         for key in [it for it in left if all(low in given for low in tasks[it][0])]:
@@ -53,6 +53,8 @@ def in_order(plan, tasks):
             raise fault
         del running[key]
         given[key] = gave
+        if key[1] == "proof" and gave:
+            kit.mark_built(stamps, key[0])
     return given
 
 

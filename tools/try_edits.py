@@ -1,11 +1,12 @@
 #!/usr/bin/env python3
 """try_edits.py [--all] [--lanes N] [--check] [NAME..]: tries the must-fail edits of crates that have changed.
 
-Run it at the top of the repository, once every crate is proved (`rt all check`). The edits of a crate are its files
-must-fail/*.edit, which the gate tries too, and those must-fail/*.md that hold lines `old:`, which only this script tries. An edit
-is tried over a copy of the work that the crate's own check kept, so none costs a whole proof:
+Run it at the top of a checkout in which the libraries are built: by the gate (`.ci/run`, in a fresh clone), or by `rt all check`. The edits of a
+crate are its files must-fail/*.edit, which the gate tries too, and those must-fail/*.md that hold lines `old:`, which only this script
+tries. An edit is tried over a copy of the work that one check of the crate keeps, so none costs a whole proof:
 
-- first together with others that change other functions: a function is proved from its own body and from the contracts of those
+- first, without any proof, whether it compiles together with the others: what doesn't compile shows nothing, and is told at once;
+- then together with others that change other functions: a function is proved from its own body and from the contracts of those
   that it calls, so an edit counts as refused where the check says that something in the very function which it changes is not
   proved;
 - those that this doesn't show are tried together again, or in two halves where it shows none, until one is left;
@@ -26,6 +27,7 @@ import re
 import shutil
 import sys
 import tempfile
+import threading
 
 sys.dont_write_bytecode = True
 import kit
@@ -97,7 +99,9 @@ def tried(crate, word):
 
 
 def are_built(crates):
-    return all(it.is_built() for it in crates)
+    """Whether libraries are built from the files that stand there, all of them by the gate or all by the kit's other commands: what was
+    proved over the statements of a library fits no other build of it."""
+    return all(it.is_built() for it in crates) or kit.are_by_gate(rt, crates)
 
 
 def is_old(crate):
@@ -235,6 +239,49 @@ def files_with(crate, texts, path, name):
 # ---- trying
 
 
+class Starts:
+    """The work that the tries of a crate begin with: what the crate's own checks kept, or else what one check from nothing keeps."""
+
+    def __init__(self, crates, room, processes):
+        self.room, self.processes, self.made = room, processes, {}
+        self.locks = {it.name: threading.Lock() for it in crates}
+
+    def of(self, crate):
+        """The folder of that work, or None where the crate is not proved."""
+        with self.locks[crate.name]:
+            if crate.name not in self.made:
+                self.made[crate.name] = self.begun(crate)
+            return self.made[crate.name]
+
+    def begun(self, crate):
+        own, kept = f"{crate.folder}/out/incremental", f"{self.room}/{crate.name}"
+        is_kept = os.path.isdir(own)
+        shutil.copytree(own, kept) if is_kept else os.mkdir(kept)
+        status = rt.checked(crate, {}, ["--jobs", str(1 if is_kept else self.processes)], kept).returncode
+        return None if status else kept
+
+    def end(self, crate):
+        shutil.rmtree(f"{self.room}/{crate.name}", ignore_errors=True)
+
+
+def compiles(crate, group):
+    """Whether the crate compiles with these edits, before any proof."""
+    texts = applied(crate, group)
+    return texts is not None and rt.checked(crate, texts, ["--jobs", "1", "--only="], None).returncode == 0
+
+
+def compiling(crate, group):
+    """Those of a group of edits that compile, and what to say of each other one, by its name."""
+    if compiles(crate, group):
+        return group, {}
+    if len(group) == 1:
+        why = f"must-fail {crate.name}/{group[0].name}: BAD EDIT: the crate doesn't compile with it, so no contract was tried"
+        return [], {group[0].name: (None, why)}
+    half = len(group) // 2
+    (first, told), (second, more) = compiling(crate, group[:half]), compiling(crate, group[half:])
+    return first + second, told | more
+
+
 def try_group(crate, group, kept):
     """What to say of each edit of a group that one check of them all shows to be refused, by the edit's name."""
     texts = applied(crate, group)
@@ -265,16 +312,18 @@ def try_together(crate, edits, kept):
     return shown
 
 
-def try_some(crate, groups):
+def try_some(crate, groups, starts):
     """Tries groups of edits of a crate over one copy of its kept work; returns the lines to print and whether all were refused."""
     said, well = [], True
     with tempfile.TemporaryDirectory(prefix="edits-") as room:
-        kept, own = f"{room}/kept", f"{crate.folder}/out/incremental"
-        shutil.copytree(own, kept) if os.path.isdir(own) else os.mkdir(kept)
-        if rt.checked(crate, {}, ["--jobs", "1"], kept).returncode:
+        start, kept = starts.of(crate), f"{room}/kept"
+        if not start:
             return [f"{crate.name}: not proved: check it first"], False
+        getattr(rt, "linked", shutil.copytree)(start, kept)
         for group in groups:
-            for came, text in try_together(crate, group, kept).values():
+            group, shown = compiling(crate, group) if len(group) > 1 else (group, {})
+            shown |= try_together(crate, group, kept) if group else {}
+            for came, text in shown.values():
                 # (an edit that can't be applied or compiled shows nothing, nor does one that was not tried)
                 said, well = said + [text], well and came in (REFUSED, AT_LIMIT)
         # what the edits left in the folder must not have spoilt the crate's own verdict
@@ -314,14 +363,18 @@ def try_crates(crates, lanes):
     before = {it.name: sums(it) for it in crates}
     parts = {it.name: shared_out(groups_of(it)) for it in crates}
     left, wells = {name: len(it) for name, it in parts.items()}, dict.fromkeys(parts, True)
-    with concurrent.futures.ThreadPoolExecutor(lanes) as pool:
-        runs = {pool.submit(try_some, crate, some): crate for crate in crates for some in parts[crate.name]}
+    with tempfile.TemporaryDirectory(prefix="starts-") as room, concurrent.futures.ThreadPoolExecutor(lanes) as pool:
+        starts = Starts(crates, room, lanes)
+        runs = {pool.submit(try_some, crate, some, starts): crate for crate in crates for some in parts[crate.name]}
         for run in concurrent.futures.as_completed(runs):
             crate, (said, well) = runs[run], run.result()
             print("\n".join(said), flush=True)
             left[crate.name] -= 1
             wells[crate.name] = wells[crate.name] and well
-            if not left[crate.name] and wells[crate.name] and sums(crate) == before[crate.name]:
+            if left[crate.name]:
+                continue
+            starts.end(crate)
+            if wells[crate.name] and sums(crate) == before[crate.name]:
                 note(crate, before[crate.name])
     return [name for name, well in wells.items() if not well]
 
@@ -337,13 +390,13 @@ def main(words):
         return 2
     if "--check" in words:
         old = [it for it in crates if is_old(it)]
-        built = "" if are_built(crates) else " (by the crates' own files: no library is built)"
+        built = "" if all(are_built(it.below()) for it in crates) else " (of some by the crates' own files alone: a library below them isn't built)"
         print(f"{len(old)} of {len(crates)} crates have changed since their edits were tried{built}")
         print("".join(f"{it.name}: {len(edits_of(it))} edits to try\n" for it in old), end="")
         return 1 if old else 0
     lacking = [it.name for it in crates if not are_built(it.below())]
     if lacking:
-        print(f"the libraries below {', '.join(lacking)} are not built: rt all check first")
+        print(f"the libraries below {', '.join(lacking)} are not built: .ci/run in a fresh clone builds them, and so does rt all check")
         return 2
     changed = [it for it in crates if "--all" in words or is_old(it)]
     print(f"{len(changed)} of {len(crates)} crates have changed since their edits were tried", flush=True)
