@@ -1,7 +1,8 @@
 """The kit's `rt ci`, with the processors shared out so that the run ends sooner.
 
 What is proved, tried and run, and whether it passes, is the kit's own: this script replaces its `in_lanes` alone, which decides in which
-order the tasks begin and with how many processes. With RT_JOBS set, or under a kit whose tasks this script can't plan, the kit's own is used.
+order the tasks begin and with how many processes. With RT_JOBS set, or under a kit whose tasks this script can't plan, the kit's own order is
+used. Under a kit that has no such call, plain `rt ci` runs.
 
 The longest chain of proofs decides how long a run takes. The kit shares the idle processors among all tasks that can begin, and a proof keeps
 what it got, so the chain mostly gets one. Here its proofs get several processes, and other tasks begin beside them at a lower priority:
@@ -21,55 +22,64 @@ rt = kit.load()
 KITS_OWN = getattr(rt, "in_lanes", None)
 
 
-def in_lanes(tasks):
+def in_lanes(tasks, *more, **named):
     """Runs tasks side by side, each once those that it waits for have ended, and returns what each gave. A task is what it waits for,
     its lines, the memory that it needs, and a call that takes what was given so far and a number of processes."""
-    plan = None if os.environ.get("RT_JOBS") else planned(tasks)
-    if not plan:
-        return KITS_OWN(tasks)
-    # (some kits make files for edits, which go at the end)
-    with getattr(rt, "ending", contextlib.nullcontext)():
-        return in_order(plan, tasks)
-
-
-def in_order(plan, tasks):
-    """Runs the tasks in the order of a plan."""
-    processors, memory, stamps = rt.processors(), 0.85 * rt.free(), kit.stamps(rt)
-    left, running, given, ended = plan.in_order(), {}, {}, queue.SimpleQueue()
-    while left or running:
-        for key in [it for it in left if all(low in given for low in tasks[it][0])]:
-            processes = fitting(plan, key, memory - sum(it for it, _ in running.values()))
-            if len(running) < 2 * processors and (processes or not running):
-                left.remove(key)
-                thread = begun(tasks[key][3], key, given, processes or 1, plan.niceness(key), ended)
-                running[key] = plan.memory(key, processes or 1), thread
-            elif plan.is_in_chain(key):
-                # what it waits for is not given to others
-                break
-        key, gave, fault = ended.get()
-        if fault is not None:
-            for _, thread in running.values():
-                thread.join()
-            raise fault
-        del running[key]
-        given[key] = gave
-        if key[1] == "proof" and gave:
+    planned = None if more or named or os.environ.get("RT_JOBS") else plan_of(tasks)
+    stamps = kit.stamps(rt)
+    given = in_order(*planned, tasks) if planned else KITS_OWN(tasks, *more, **named)
+    for key in tasks:
+        if key[1] == "proof" and given[key]:
             kit.mark_built(stamps, key[0])
     return given
 
 
-def planned(tasks):
-    """The plan of the tasks, or None where a kit describes them in another way than this script knows: then only time is lost."""
+def plan_of(tasks):
+    """The plan of the tasks, and how many bytes of memory they may take together; or None where a kit describes them in another way than
+    this script knows, which costs nothing but time."""
     try:
         plan = gate_plan.Plan(tasks, gate_plan.read_table(), rt.processors())
         for key, (_, _, _, call) in tasks.items():
-            # (what is asked of the plan later on)
+            # (asked now, so that a plan that can't answer is found here)
             if not callable(call) or plan.memory(key, plan.processes(key)) < 0 or plan.niceness(key) < 0:
                 raise TypeError(key)
-        return plan
-    except (TypeError, ValueError, LookupError, AttributeError) as why:
+        return plan, 0.85 * rt.free()
+    except (TypeError, ValueError, LookupError, AttributeError, OSError) as why:
         print(f"gate: this kit's tasks can't be planned ({why!r}), so they run in the kit's own order")
         return None
+
+
+def in_order(plan, memory, tasks):
+    """Runs the tasks in the order of a plan."""
+    # this removes the folders that some kits make for edits
+    with getattr(rt, "ending", contextlib.nullcontext)():
+        running = {}
+        try:
+            return ended_in_order(plan, memory, tasks, running)
+        finally:
+            # (after this the kit removes files and puts others back, so no task may still run)
+            for thread, _ in running.values():
+                thread.join()
+
+
+def ended_in_order(plan, memory, tasks, running):
+    left, given, ended = plan.in_order(), {}, queue.SimpleQueue()
+    while left or running:
+        for key in [it for it in left if all(low in given for low in tasks[it][0])]:
+            processes = fitting(plan, key, memory - sum(it for _, it in running.values()))
+            if len(running) < 2 * plan.processors and (processes or not running):
+                left.remove(key)
+                thread = begun(tasks[key][3], key, given, processes or 1, plan.niceness(key), ended)
+                running[key] = thread, plan.memory(key, processes or 1)
+            elif plan.is_in_chain(key):
+                # what it waits for is not given to others
+                break
+        key, gave, fault = ended.get()
+        del running[key]
+        if fault is not None:
+            raise fault
+        given[key] = gave
+    return given
 
 
 def fitting(plan, key, room):

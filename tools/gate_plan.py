@@ -1,8 +1,8 @@
 """How the gate begins its tasks: in which order, with how many processes, and at which priority.
 
-A task's key is a crate's name, what is done, and in some kits a number: its `proof`, its `tests`, its `edits` (all of them, or the one with a number), the
-`seed`, which is the check that its edits begin with, and what else a kit does for edits, which takes next to no time. A task is described as the kit's
-`rt ci` does: by what it waits for, its lines, the bytes of memory that it is expected to need, and a call.
+A task's key is a crate's name, what is done, and in some kits a number. What is done is its `proof`, its `tests`, its `edits` (all of them, or
+the one with the number), the `seed`, which is the check that its edits begin with, or what a kit adds to those. A task is described
+as the kit's `rt ci` does: by what it waits for, its lines, the bytes of memory that it is expected to need, and a call.
 
 The slack of a task is how many seconds later it could begin without the whole run ending later, if each proof had one process and never
 waited for a processor. What has next to none belongs to the longest chain."""
@@ -32,8 +32,8 @@ def read_table():
 
 class Plan:
     def __init__(self, tasks, table, processors):
-        self.tasks, self.table = tasks, table
-        self.edits = collections.Counter(key[0] for key in tasks if key[1] == "edits")
+        self.tasks, self.table, self.processors = tasks, table, processors
+        self.tries = collections.Counter(key[0] for key in tasks if key[1] == "edits")
         self.several = min(4, max(2, 3 * processors // 4)) if processors > 1 else 1
         before, behind = {}, {it: self.seconds(it) for it in tasks}
         # (a task comes after those that it waits for)
@@ -53,7 +53,7 @@ class Plan:
         if name not in self.table:
             return SECONDS_A_LINE * self.tasks[key][1]
         proof, edits = self.table[name][:2]
-        return edits / self.edits[name] if what == "edits" else proof
+        return edits / self.tries[name] if what == "edits" else proof
 
     def in_order(self):
         """The tasks, those first that can wait least."""

@@ -20,18 +20,19 @@ def load():
 
 
 def stamps(rt):
-    """Each crate of the repository, with a sum of its files and of those below it. None where a kit has no such sum."""
-    with contextlib.suppress(AttributeError, OSError):
+    """Each crate of the repository, with a sum of its files and of those below it; empty where a kit has no such sum."""
+    # (what follows from it is a convenience, so nothing here may end the gate)
+    with contextlib.suppress(Exception, SystemExit):
         return {it.name: (it, it.stamp()) for it in rt.rtlib.crates_below(os.getcwd())}
     return {}
 
 
 def mark_built(stamps, name):
-    """Notes beside the library that the gate has just built which files it was built from: what it was proved over are the statements of
-    those below, so the kit's other commands build their own, and only tools/try_edits.py takes it."""
-    crate, stamp = stamps.get(name, (None, ""))
-    with contextlib.suppress(OSError):
-        if crate and os.path.isdir(crate.rlib) and crate.stamp() == stamp:
+    """Marks a library that the gate built with a sum of its sources. The kit gives it no stamp, since it was proved over the statements of
+    the libraries below it, so only tools/try_edits.py and tools/slow_modules.py use it."""
+    with contextlib.suppress(Exception, SystemExit):
+        crate, stamp = stamps[name]
+        if os.path.isdir(crate.rlib) and not os.path.exists(f"{os.path.dirname(crate.rlib)}/stamp") and crate.stamp() == stamp:
             with open(mark_of(crate), "w", encoding="utf-8") as it:
                 it.write(stamp)
 
@@ -40,6 +41,6 @@ def mark_of(crate):
     return f"{os.path.dirname(crate.rlib)}/by-gate"
 
 
-def are_by_gate(rt, crates):
-    """Whether the gate built these libraries, from the files that stand there now."""
-    return all(os.path.isdir(it.rlib) and rt.rtlib.text_of(mark_of(it)) == it.stamp() for it in crates)
+def is_by_gate(rt, crate):
+    """Whether the gate built this library, from the files that stand there now."""
+    return os.path.isdir(crate.rlib) and rt.rtlib.text_of(mark_of(crate)) == crate.stamp()

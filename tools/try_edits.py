@@ -5,11 +5,11 @@ Run it at the top of a checkout in which the libraries are built: by the gate (`
 crate are its files must-fail/*.edit, which the gate tries too, and those must-fail/*.md that hold lines `old:`, which only this script
 tries. An edit is tried over a copy of the work that one check of the crate keeps, so none costs a whole proof:
 
-- first, without any proof, whether it compiles together with the others: what doesn't compile shows nothing, and is told at once;
-- then together with others that change other functions: a function is proved from its own body and from the contracts of those
+- first together with others that change other functions: a function is proved from its own body and from the contracts of those
   that it calls, so an edit counts as refused where the check says that something in the very function which it changes is not
   proved;
-- those that this doesn't show are tried together again, or in two halves where it shows none, until one is left;
+- those that this doesn't show are tried together again, or in two halves where it shows none, until one is left. Where the crate doesn't
+  compile with them, it is found before any proof with which of them it doesn't;
 - that one is tried by itself, as in the gate, and so is an edit that changes a function's head or something outside of functions.
 
 A crate is passed over where must-fail/tried.md has the sum of all that a verdict on its edits rests on:
@@ -18,13 +18,15 @@ A crate is passed over where must-fail/tried.md has the sum of all that a verdic
 - of each library below, what the built library hands on: its public items with their clauses and no bodies, and its
   definitions. A body or a proof below that changes nothing of them leaves the sum as it is.
 
---check tries nothing, reads the repository's own files and the sums, and fails where one differs: for a hook or a push. Where no
-library is built, it compares what the crate's own files say, and tells so."""
+--check tries nothing, reads the repository's own files and the sums, and fails where one differs: for a hook or a push. Of a crate
+below which a library isn't built, it compares what the crate's own files say, and tells so."""
 import concurrent.futures
+import functools
 import hashlib
 import os
 import re
 import shutil
+import signal
 import sys
 import tempfile
 import threading
@@ -38,6 +40,8 @@ TOGETHER = 16
 TOGETHER_IN_A_CYCLE = 64
 # how many edits one lane tries at most, or one group
 IN_ONE_LANE = 24
+# how the names of temporary folders begin: those that a killed run leaves are removed by the kit's commands
+PREFIX = f"rt-edits-{os.getpid()}-"
 
 
 rt = kit.load()
@@ -98,10 +102,16 @@ def tried(crate, word):
     return said[1] if said else None
 
 
+@functools.lru_cache(maxsize=None)
+def built_by(crate):
+    """Who built a library from the files that stand there, or "" where nobody did."""
+    return "kit" if crate.is_built() else "gate" if kit.is_by_gate(rt, crate) else ""
+
+
 def are_built(crates):
-    """Whether libraries are built from the files that stand there, all of them by the gate or all by the kit's other commands: what was
-    proved over the statements of a library fits no other build of it."""
-    return all(it.is_built() for it in crates) or kit.are_by_gate(rt, crates)
+    """Whether these libraries are built, all of them by the gate or all by the kit's other commands: what was proved over the statements of a
+    library fits no other build of it."""
+    return {built_by(it) for it in crates} in (set(), {"kit"}, {"gate"})
 
 
 def is_old(crate):
@@ -255,9 +265,13 @@ class Starts:
 
     def begun(self, crate):
         own, kept = f"{crate.folder}/out/incremental", f"{self.room}/{crate.name}"
+        self.end(crate)
         is_kept = os.path.isdir(own)
         shutil.copytree(own, kept) if is_kept else os.mkdir(kept)
-        status = rt.checked(crate, {}, ["--jobs", str(1 if is_kept else self.processes)], kept).returncode
+        for processes in (1 if is_kept else self.processes, 1):
+            status = rt.checked(crate, {}, ["--jobs", str(processes)], kept).returncode
+            if status != -signal.SIGKILL:
+                break
         return None if status else kept
 
     def end(self, crate):
@@ -271,43 +285,47 @@ def compiles(crate, group):
 
 
 def compiling(crate, group):
-    """Those of a group of edits that compile, and what to say of each other one, by its name."""
+    """Those of a group of edits with which the crate compiles, and the others."""
     if compiles(crate, group):
-        return group, {}
+        return group, []
     if len(group) == 1:
-        why = f"must-fail {crate.name}/{group[0].name}: BAD EDIT: the crate doesn't compile with it, so no contract was tried"
-        return [], {group[0].name: (None, why)}
+        return [], group
     half = len(group) // 2
-    (first, told), (second, more) = compiling(crate, group[:half]), compiling(crate, group[half:])
-    return first + second, told | more
+    (first, odd), (second, more) = compiling(crate, group[:half]), compiling(crate, group[half:])
+    return first + second, odd + more
 
 
 def try_group(crate, group, kept):
-    """What to say of each edit of a group that one check of them all shows to be refused, by the edit's name."""
+    """What to say of each edit of a group that one check of them all shows to be refused, by the edit's name, and whether the crate compiled."""
     texts = applied(crate, group)
-    if len(group) < 2 or not texts:
-        return {}
+    if not texts:
+        return {}, True
     ran = rt.checked(crate, texts, ["--jobs", "1"], kept)
     lines = ran.stdout.rstrip("\n").split("\n")
     is_refused = ran.returncode == 1 and lines[-1].startswith("logic=not-proved") and not rtlib.STALE.search(ran.stdout)
     if not is_refused or any(rt.unread(it, texts) for it in lines):
-        return {}
+        return {}, ran.returncode != 1 or lines[-1].startswith("logic=")
     found = unproved(crate, texts, lines)
     if found - set().union(*(it.changes for it in group)):
         # what nobody changed is not proved either: the edits are not independent
-        return {}
+        return {}, True
     said = "refused, as it must be: not proved beside other edits of the crate, none of them of the same function:"
-    return {it.name: f"must-fail {crate.name}/{it.name}: {said} {sorted(it.changes)[0][1]}" for it in group if it.changes <= found}
+    return {it.name: f"must-fail {crate.name}/{it.name}: {said} {sorted(it.changes)[0][1]}" for it in group if it.changes <= found}, True
 
 
 def try_together(crate, edits, kept):
     """What the gate's own judgement, or a check of several edits, says of each edit, by its name: whether it is refused, and a line."""
     if len(edits) == 1:
         return {edits[0].name: rt.must_fail(crate, edits[0].file, ["--jobs", "1"], kept)}
-    shown = {name: (REFUSED, text) for name, text in try_group(crate, edits, kept).items()}
+    told, has_compiled = try_group(crate, edits, kept)
+    shown = {name: (REFUSED, text) for name, text in told.items()}
     left = [it for it in edits if it.name not in shown]
     half = (len(left) + 1) // 2
-    for part in [left] if shown else [left[:half], left[half:]]:
+    parts = [left] if shown else [left[:half], left[half:]]
+    if not has_compiled:
+        well, odd = compiling(crate, left)
+        parts = [well, *([it] for it in odd)] if odd else parts
+    for part in parts:
         shown |= try_together(crate, part, kept) if part else {}
     return shown
 
@@ -315,15 +333,13 @@ def try_together(crate, edits, kept):
 def try_some(crate, groups, starts):
     """Tries groups of edits of a crate over one copy of its kept work; returns the lines to print and whether all were refused."""
     said, well = [], True
-    with tempfile.TemporaryDirectory(prefix="edits-") as room:
+    with tempfile.TemporaryDirectory(prefix=PREFIX) as room:
         start, kept = starts.of(crate), f"{room}/kept"
         if not start:
-            return [f"{crate.name}: not proved: check it first"], False
+            return [f"{crate.name}: its check failed, or was killed: no edit was tried"], False
         getattr(rt, "linked", shutil.copytree)(start, kept)
         for group in groups:
-            group, shown = compiling(crate, group) if len(group) > 1 else (group, {})
-            shown |= try_together(crate, group, kept) if group else {}
-            for came, text in shown.values():
+            for came, text in try_together(crate, group, kept).values():
                 # (an edit that can't be applied or compiled shows nothing, nor does one that was not tried)
                 said, well = said + [text], well and came in (REFUSED, AT_LIMIT)
         # what the edits left in the folder must not have spoilt the crate's own verdict
@@ -334,6 +350,12 @@ def try_some(crate, groups, starts):
 
 def sums(crate):
     return own_sum(crate), below_sum(crate)
+
+
+def state(crate):
+    """What a crate's edits are tried on: its sums, and what tells whether a file was changed meanwhile, also where it was changed back."""
+    built = [os.stat(f"{it.rlib}/format") for it in crate.below()]
+    return sums(crate), getattr(rt, "touched", lambda _: [])(crate), [(it.st_ino, it.st_mtime_ns) for it in built]
 
 
 def note(crate, found):
@@ -360,23 +382,35 @@ def shared_out(groups):
 
 def try_crates(crates, lanes):
     # (what changes while edits are tried is not what they were tried on)
-    before = {it.name: sums(it) for it in crates}
+    before = {it.name: state(it) for it in crates}
     parts = {it.name: shared_out(groups_of(it)) for it in crates}
     left, wells = {name: len(it) for name, it in parts.items()}, dict.fromkeys(parts, True)
-    with tempfile.TemporaryDirectory(prefix="starts-") as room, concurrent.futures.ThreadPoolExecutor(lanes) as pool:
+    with tempfile.TemporaryDirectory(prefix=PREFIX) as room, concurrent.futures.ThreadPoolExecutor(lanes) as pool:
         starts = Starts(crates, room, lanes)
         runs = {pool.submit(try_some, crate, some, starts): crate for crate in crates for some in parts[crate.name]}
-        for run in concurrent.futures.as_completed(runs):
-            crate, (said, well) = runs[run], run.result()
-            print("\n".join(said), flush=True)
-            left[crate.name] -= 1
-            wells[crate.name] = wells[crate.name] and well
-            if left[crate.name]:
-                continue
-            starts.end(crate)
-            if wells[crate.name] and sums(crate) == before[crate.name]:
-                note(crate, before[crate.name])
+        try:
+            for run in concurrent.futures.as_completed(runs):
+                crate, (said, well) = runs[run], result_of(run, runs[run])
+                print("\n".join(said), flush=True)
+                left[crate.name] -= 1
+                wells[crate.name] = wells[crate.name] and well
+                if left[crate.name]:
+                    continue
+                starts.end(crate)
+                if wells[crate.name] and state(crate) == before[crate.name]:
+                    note(crate, sums(crate))
+        except BaseException:
+            pool.shutdown(wait=False, cancel_futures=True)
+            raise
     return [name for name, well in wells.items() if not well]
+
+
+def result_of(run, crate):
+    """What a lane gave. One that failed fails its crate, and no other."""
+    try:
+        return run.result()
+    except (OSError, shutil.Error) as why:
+        return [f"{crate.name}: NOT TRIED: {why}"], False
 
 
 def main(words):
@@ -390,13 +424,13 @@ def main(words):
         return 2
     if "--check" in words:
         old = [it for it in crates if is_old(it)]
-        built = "" if all(are_built(it.below()) for it in crates) else " (of some by the crates' own files alone: a library below them isn't built)"
+        built = "" if all(are_built(it.below()) for it in crates) else " (some by their own files alone, as a library below them isn't built)"
         print(f"{len(old)} of {len(crates)} crates have changed since their edits were tried{built}")
         print("".join(f"{it.name}: {len(edits_of(it))} edits to try\n" for it in old), end="")
         return 1 if old else 0
     lacking = [it.name for it in crates if not are_built(it.below())]
     if lacking:
-        print(f"the libraries below {', '.join(lacking)} are not built: .ci/run in a fresh clone builds them, and so does rt all check")
+        print(f"the libraries below {', '.join(lacking)} are not built: rm -rf crates/*/out, and then .ci/run or rt all check")
         return 2
     changed = [it for it in crates if "--all" in words or is_old(it)]
     print(f"{len(changed)} of {len(crates)} crates have changed since their edits were tried", flush=True)

@@ -79,5 +79,8 @@ pub(crate) fn eval_answer(
     ensures { Answers result (eval_answer mode steps path.now integers.now text.items) }
 {
     let mut machine = machine_of_text_in(alloc, mode, steps, text)?;
-    evaluated_text(alloc, &mut machine, path.as_str(), integers.as_slice())
+    let value = evaluated_text(alloc, &mut machine, path.as_str(), integers.as_slice());
+    // (by a call: what a scope drops at its end is dropped part by part, and long to prove)
+    drop(machine);
+    value
 }

@@ -71,8 +71,14 @@ fn initialized_machine(
     ensures { Answers result (initialized_machine mode machine) }
 {
     let mut machine = machine;
-    machine.initialize(alloc, mode)?;
-    Ok(machine)
+    match machine.initialize(alloc, mode) {
+        Ok(()) => Ok(machine),
+        Err(refusal) => {
+            // (by a call: what a scope drops at its end is dropped part by part, and long to prove)
+            drop(machine);
+            Err(refusal)
+        }
+    }
 }
 
 /// The machine of a machine text, initialized in a mode. A refusal of initializing comes after those of `machine_of_text`.

@@ -28,5 +28,8 @@ pub(crate) fn names_answer(alloc: Global, steps: u64, text: Vec<u8>) -> Result<A
     ensures { Answers result (names_answer steps text.items) }
 {
     let machine = machine_of_text(alloc, steps, text)?;
-    names_of_machine(alloc, &machine)
+    let names = names_of_machine(alloc, &machine);
+    // (by a call: what a scope drops at its end is dropped part by part, and long to prove)
+    drop(machine);
+    names
 }

@@ -80,5 +80,8 @@ pub(crate) fn route_answer(
     ensures { NotMemory result → IsRouteAnswer mode steps dry avoid.now text.items result }
 {
     let mut machine = machine_of_text_in(alloc, mode, steps, text)?;
-    routed(alloc, &mut machine, dry, avoid)
+    let report = routed(alloc, &mut machine, dry, avoid);
+    // (by a call: what a scope drops at its end is dropped part by part, and long to prove)
+    drop(machine);
+    report
 }

@@ -36,12 +36,20 @@ fn text_of(alloc: Global, report: &Report) -> anyhow::Result<String> {
     Ok(String::from_utf8(print(alloc, report)?)?)
 }
 
+/// The report of a machine.
+fn report_of(alloc: Global, machine: &mut Machine<Chipset>) -> anyhow::Result<String> {
+    machine.initialize(alloc, SETTINGS.mode)?;
+    let report = configure(alloc, machine, SETTINGS.dry, &[])?;
+    text_of(alloc, &report)
+}
+
 /// The report of a machine whose registers are the chipset's.
 pub fn report_over_registers(alloc: Global, text: &[u8]) -> anyhow::Result<String> {
     let mut machine = machine(alloc, text)?;
-    machine.initialize(alloc, SETTINGS.mode)?;
-    let report = configure(alloc, &mut machine, SETTINGS.dry, &[])?;
-    text_of(alloc, &report)
+    let report = report_of(alloc, &mut machine);
+    // (by a call: what a scope drops at its end is dropped part by part, and long to prove)
+    drop(machine);
+    report
 }
 
 /// An access, made on the chipset, with its answer.

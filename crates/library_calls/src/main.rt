@@ -18,8 +18,8 @@ use crate::route_calls::call_routes;
 use crate::term_calls::call_terms;
 use acpi_machine::{Machine, load_tables};
 use ar_space::{Refusal, Sparse};
-use ar_tables::find_tables;
-use machine_text::read_machine;
+use ar_tables::{Tables, find_tables};
+use machine_text::{MachineText, read_machine};
 use std::alloc::Global;
 use std::io;
 use std::process::ExitCode;
@@ -27,13 +27,18 @@ use std::process::ExitCode;
 /// How many steps each table and each evaluation may take.
 const STEPS: u64 = 1_000_000;
 
+/// The tables of a machine text.
+fn tables_of(alloc: Global, said: &MachineText) -> Result<Tables, Ended> {
+    answered(
+        "find_tables",
+        find_tables(alloc, said.space.memory(), said.rsdp),
+    )
+}
+
 /// The machine of the text, with its tables loaded. Where loading is refused, the register space comes back.
 fn loaded(alloc: Global) -> Result<Machine<Sparse>, Ended> {
     let said = answered("read_machine", read_machine(alloc, TEXT))?;
-    let tables = answered(
-        "find_tables",
-        find_tables(alloc, said.space.memory(), said.rsdp),
-    )?;
+    let tables = tables_of(alloc, &said)?;
     match load_tables(alloc, tables, said.space, STEPS, Vec::new(alloc)) {
         Ok(machine) => Ok(machine),
         Err((Refusal::OutOfMemory, _space)) => Err(Ended::OutOfMemory),
@@ -41,12 +46,20 @@ fn loaded(alloc: Global) -> Result<Machine<Sparse>, Ended> {
     }
 }
 
+/// Every call of a machine, and every call that routes over it, once.
+fn call_over(alloc: Global, machine: &mut Machine<Sparse>) -> Result<(), Ended> {
+    call_machine(alloc, machine)?;
+    call_routes(alloc, machine)
+}
+
 /// Every call, once.
 fn call_all(alloc: Global) -> Result<(), Ended> {
     call_terms(alloc)?;
     let mut machine = loaded(alloc)?;
-    call_machine(alloc, &mut machine)?;
-    call_routes(alloc, &mut machine)
+    let came = call_over(alloc, &mut machine);
+    // (by a call: what a scope drops at its end is dropped part by part, and long to prove)
+    drop(machine);
+    came
 }
 
 fn main(rt: HostRuntime) -> io::Result<ExitCode> {

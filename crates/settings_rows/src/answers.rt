@@ -1,6 +1,6 @@
 //! Answers to the questions of a row.
 use crate::accesses::say_accesses;
-use crate::machine::{TracedMachine, initialized};
+use crate::machine::{TracedMachine, initialize, machine_of};
 use crate::row::Row;
 use acpi_configure::configure;
 use ar_space::{Place, Refusal};
@@ -67,13 +67,21 @@ fn passed(asked: &mut Exchange) -> u64 {
     }
 }
 
+/// Initializes a machine in the mode `apic`, and routes its interrupts.
+fn route_initialized(asked: &mut Exchange, machine: &mut TracedMachine, dry: bool) {
+    match initialize(asked.alloc(), machine) {
+        Ok(()) => route(asked, machine, dry),
+        Err(refusal) => refuse(asked, refusal),
+    }
+}
+
 /// `configure`: makes the machine of the text, and routes its interrupts.
 fn configured(asked: &mut Exchange, row: &mut Row) {
     let pass = passed(asked);
     let dry = asked.takes("dry");
-    match initialized(asked.alloc(), row.text.as_slice(), pass) {
+    match machine_of(asked.alloc(), row.text.as_slice(), pass) {
         Ok(mut machine) => {
-            route(asked, &mut machine, dry);
+            route_initialized(asked, &mut machine, dry);
             drop(row.machine.replace(machine));
         }
         Err(refusal) => refuse(asked, refusal),

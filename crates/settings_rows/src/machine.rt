@@ -33,10 +33,13 @@ fn loaded(
     }
 }
 
-/// The machine of a machine text, initialized in the mode `apic`. After `pass` accesses, one fails.
-pub fn initialized(alloc: Global, text: &[u8], pass: u64) -> Result<TracedMachine, Refusal> {
+/// The machine of a machine text. After `pass` accesses, one fails.
+pub fn machine_of(alloc: Global, text: &[u8], pass: u64) -> Result<TracedMachine, Refusal> {
     let (tables, space) = described(alloc, text)?;
-    let mut machine = loaded(alloc, tables, space, pass)?;
-    machine.initialize(alloc, Mode::Apic)?;
-    Ok(machine)
+    loaded(alloc, tables, space, pass)
+}
+
+/// Tells the firmware the mode `apic`.
+pub fn initialize(alloc: Global, machine: &mut TracedMachine) -> Result<(), Refusal> {
+    machine.initialize(alloc, Mode::Apic)
 }
