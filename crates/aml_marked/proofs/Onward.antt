@@ -18,7 +18,7 @@ use Rattle.aml_marked.specs.Marked.{an_else, else_of, maybe_else, with_else, wit
 use Rattle.aml_marked.specs.Moving.{MovesOn}
 
 -- the walk moves on from any place
-record Onward {A : Type 0} (m : Walk A) : Type 0 where
+pub record Onward {A : Type 0} (m : Walk A) : Type 0 where
   pub from : (p : Place) → MovesOn p (m p).1
 
 -- ---- places
@@ -26,7 +26,7 @@ record Onward {A : Type 0} (m : Walk A) : Type 0 where
 past_past : (m n : ℕ) (p : Place) → past m (past n p) ≡ past (n + m) p
 past_past m n p = rw (add_assoc, drop-drop m n p.rest) refl
 
-stays : (p : Place) → MovesOn p p
+pub stays : (p : Place) → MovesOn p p
 stays p = record { count = 0; within = omega arith; is = rw add-zero refl }
 
 along : {p q r : Place} → MovesOn p q → MovesOn q r → MovesOn p r
@@ -37,7 +37,7 @@ along {p = p} {q = q} h i =
       is = i.is ∙ ap (past i.count) h.is ∙ past_past i.count h.count p;
     }
 
-moves_over : (n : ℕ) (p : Place) → MovesOn p (over n p)
+pub moves_over : (n : ℕ) (p : Place) → MovesOn p (over n p)
 moves_over n p = record { count = min n (length p.rest); within = grind arith; is = refl }
 
 -- ---- walks made of walks
@@ -57,7 +57,7 @@ on_if : {A : Type 0} {m n : Walk A} (test : Bool) → Onward m → Onward n → 
 on_if true h i = h
 on_if false h i = i
 
-on_turns : {A : Type 0} {m : Walk A} → Onward m → (n : ℕ) → Onward (turns_of m n)
+pub on_turns : {A : Type 0} {m : Walk A} → Onward m → (n : ℕ) → Onward (turns_of m n)
 unfolding turns_of
 on_turns h zero = on_gives []
 on_turns h (suc n) = on_then h (λ x. on_then (on_turns h n) (λ xs. on_gives (x ∷ xs)))
@@ -103,7 +103,7 @@ on_name : Onward a_name
 unfolding a_name
 on_name = record { from = λ p. moves_over _ p }
 
-on_opcode : Onward an_opcode
+pub on_opcode : Onward an_opcode
 unfolding an_opcode
 on_opcode = on_then on_byte (λ b. on_if (b == 0x5B) (on_then on_byte (λ e. on_gives _)) (on_gives b))
 
@@ -128,18 +128,18 @@ on_named_field = on_then on_name (λ n. on_then on_bit_count (λ bits. on_gives 
 -- ---- operands and terms, over terms one level below
 
 module _ (below : Below) (h : (element : Bool) → Onward (below element)) where
-  on_items : (element : Bool) → Onward (all_items below element)
+  pub on_items : (element : Bool) → Onward (all_items below element)
   unfolding all_items
   on_items element = record { from = λ p. (on_to_end (h element) (length p.rest)).from p }
 
   on_name_or_term : (b : ℕ) → Onward (name_or_term below b)
   on_name_or_term b = on_if (starts_name b) (on_part name on_name) (on_part inner (h false))
 
-  on_super_name : Onward (a_super_name below)
+  pub on_super_name : Onward (a_super_name below)
   unfolding a_super_name
   on_super_name = record { from = λ p. (on_name_or_term (first p.rest)).from p }
 
-  on_target : Onward (a_target below)
+  pub on_target : Onward (a_target below)
   unfolding a_target
   on_target = record { from = λ p. (on_if (first p.rest == 0) (on_part (λ _. null) on_byte) (on_name_or_term (first p.rest))).from p }
 
@@ -203,14 +203,14 @@ module _ (below : Below) (h : (element : Bool) → Onward (below element)) where
   on_else_of true = on_part inner on_else
   on_else_of false = on_gives null
 
-  on_maybe_else : Onward (maybe_else below)
+  pub on_maybe_else : Onward (maybe_else below)
   unfolding maybe_else
   on_maybe_else = record { from = λ p. (on_else_of (is_next 0xA1 p.rest)).from p }
 
   on_with_else : (opcode : Opcode) (ps : List Part) → Onward (with_else below opcode ps)
   on_with_else opcode ps = on_then on_maybe_else (λ e. on_gives _)
 
-  on_with_row : (row : Option Row) → Onward (with_row below row)
+  pub on_with_row : (row : Option Row) → Onward (with_row below row)
   unfolding with_row
   on_with_row None = on_gives no_term
   on_with_row (Some row) = on_then (on_row row) (λ ps. on_if (is_if row.0) (on_with_else row.0 ps) (on_gives _))
@@ -232,7 +232,7 @@ module _ (below : Below) (h : (element : Bool) → Onward (below element)) where
     unfolding a_term_in
     on_term_in element = record { from = λ p. (on_if (starts_name (first p.rest)) (on_named element) on_coded).from p }
 
-on_term : (count : ℕ → ℕ) (levels : ℕ) (element : Bool) → Onward (a_term count levels element)
+pub on_term : (count : ℕ → ℕ) (levels : ℕ) (element : Bool) → Onward (a_term count levels element)
 unfolding a_term
 on_term count zero element = on_gives no_term
 on_term count (suc levels) element = on_term_in (a_term count levels) (on_term count levels) count element
@@ -307,3 +307,27 @@ next_place bs at q n h e =
 
 pub ends_within : (bs : List ℕ) (at : ℕ) (q : Place) → at ≤ length bs → MovesOn (place_in bs at) q → q.at ≤ length bs
 ends_within bs at q le h = let e : q.at ≡ at + h.count = ap (λ (x : Place). x.at) h.is in omega (arith, le, e, h.within, length-drop at bs)
+
+-- ---- walks by marks
+
+module _ (count : ℕ → ℕ) (levels : ℕ) where
+  pub moves_on_row : (row : Option Row) (p : Place) → MovesOn p (with_row (a_term count levels) row p).1
+  moves_on_row row p = (on_with_row (a_term count levels) (on_term count levels) row).from p
+
+  pub moves_on_target : (p : Place) → MovesOn p (a_target (a_term count levels) p).1
+  moves_on_target p = (on_target (a_term count levels) (on_term count levels)).from p
+
+  pub moves_on_super_name : (p : Place) → MovesOn p (a_super_name (a_term count levels) p).1
+  moves_on_super_name p = (on_super_name (a_term count levels) (on_term count levels)).from p
+
+  pub moves_on_turns : (n : ℕ) (p : Place) → MovesOn p (turns_of (a_term count levels false) n p).1
+  moves_on_turns n p = (on_turns (on_term count levels false) n).from p
+
+  pub moves_on_else : (p : Place) → MovesOn p (maybe_else (a_term count levels) p).1
+  moves_on_else p = (on_maybe_else (a_term count levels) (on_term count levels)).from p
+
+pub moves_on_opcode : (p : Place) → MovesOn p (an_opcode p).1
+moves_on_opcode p = on_opcode.from p
+
+pub moves_on_size : (p : Place) → MovesOn p (a_size p).1
+moves_on_size p = on_size.from p

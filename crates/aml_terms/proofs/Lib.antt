@@ -5,3 +5,4 @@ pub mod Elses
 pub mod InOrder
 pub mod Parsed
 pub mod ShortTerms
+mod MovingOn

@@ -6,6 +6,7 @@ ghost use Rattle.aml_grammar.specs.declared.opcode.TermCode.TheVariants as codes
 ghost use Rattle.aml_grammar.specs.Apart.{code_of};
 ghost use Rattle.aml_grammar.specs.Names.{starts_name};
 ghost use Rattle.aml_marked.specs.Marked.{Below, count_at, first, a_name, a_term, a_field, an_else, a_call, turns_of, with_row, a_target, maybe_else};
+ghost use Rattle.aml_marked.specs.Moving.{MovesOn};
 ghost use Rattle.aml_scan.specs.RowsAt.{row_at};
 ghost use Rattle.aml_scan.specs.declared.row_places.RowPlace.{RowPlace};
 ghost use Rattle.aml_terms.specs.AtTree.{at_tree, place_at};
@@ -47,11 +48,12 @@ impl<'a> Cursor<'a> {
     /// Goes over the opcode of the term that stands next, and gives the place of its row. Where a name stands, or no opcode of the table,
     /// or no level is left, nothing changes.
     #[inline(always)]
-    #[tactic(auto, using(crate::proofs::CodedTerms::coded_term))]
+    #[tactic(auto, using(crate::proofs::CodedTerms::coded_term, crate::proofs::MovingOn::moving))]
     pub fn take_opcode(&mut self, levels: u8) -> Option<RowPlace>
         ensures some { (place : RowPlace) → result ≡ Some place → 0 < levels }
         ensures term { (place : RowPlace) → (count : ℕ → ℕ) → (element : Bool) → result ≡ Some place → a_term count levels element self.old ≡ with_row (a_term count (levels - 1)) (row_at place) self.new }
         ensures none { result ≡ None → self.new ≡ self.old }
+        ensures moves { MovesOn self.old self.new }
         ensures uncoded { (count : ℕ → ℕ) → (element : Bool) → (opcode : Opcode) → result ≡ None → code_of (a_term count levels element self.old).0 ≢ codes.Opcode opcode }
     {
         if levels > 0 {
@@ -65,11 +67,12 @@ impl<'a> Cursor<'a> {
 
     /// The same, whatever stands there.
     #[inline(never)]
-    #[tactic(auto, using(aml_marked::specs::Walking::walking), unfolding(aml_marked::specs::Marked::a_call, aml_marked::specs::Marked::with_row, aml_marked::specs::Marked::a_coded, aml_marked::specs::Marked::a_term_in, aml_marked::specs::Marked::after, aml_marked::specs::Marked::gives))]
+    #[tactic(auto, using(aml_marked::specs::Walking::walking, crate::proofs::MovingOn::moving), unfolding(aml_marked::specs::Marked::a_call, aml_marked::specs::Marked::with_row, aml_marked::specs::Marked::a_coded, aml_marked::specs::Marked::a_term_in, aml_marked::specs::Marked::after, aml_marked::specs::Marked::gives))]
     fn take_any_opcode(&mut self, levels: u8) -> Option<RowPlace>
         ensures some { (place : RowPlace) → result ≡ Some place → 0 < levels }
         ensures term { (place : RowPlace) → (count : ℕ → ℕ) → (element : Bool) → result ≡ Some place → a_term count levels element self.old ≡ with_row (a_term count (levels - 1)) (row_at place) self.new }
         ensures none { result ≡ None → self.new ≡ self.old }
+        ensures moves { MovesOn self.old self.new }
         ensures uncoded { (count : ℕ → ℕ) → (element : Bool) → (opcode : Opcode) → result ≡ None → code_of (a_term count levels element self.old).0 ≢ codes.Opcode opcode }
     {
         if levels == 0 || starts_name(self.first()) {

@@ -1,0 +1,171 @@
+-- Steps of the machine: each keeps what the machine means.
+use Rattle.std.specs.Prelude.{◌≡◌, ℕ, ◌+◌, ◌<◌, List, [], ◌∷◌, ◌++◌, length, Ok, Err, IsErr, IsErrAnd, refl}
+use Rattle.std.proofs.Common.{◌∙◌, ap, sym, arith}
+use Rattle.ar_space.specs.Accesses.{Accesses}
+use Rattle.ar_space.specs.declared.refusal.Refusal.{Refusal}
+use Rattle.ar_space.specs.declared.refusal.Refusal.TheVariants.{OutOfMemory}
+use Rattle.ar_space.specs.Outcome.{Outcome, NotMemory, seen}
+use Rattle.ar_space.specs.Change.{Does, Same, give, stop, settle, go_on, ◌>>=◌}
+use Rattle.aml_path.specs.declared.segment.Seg.{Seg}
+use Rattle.aml_marked.specs.Marked.{all_items}
+use Rattle.aml_meaning.specs.declared.flow.Flow.{Flow}
+use Rattle.aml_meaning.specs.State.{State}
+use Rattle.aml_meaning.specs.Run.{Run}
+use Rattle.aml_meaning.specs.Tasks.{Task}
+use Rattle.aml_meaning.specs.Invocations.{left, returned_by, leaving}
+use Rattle.aml_frames.specs.declared.frames.Control.{Control}
+use Rattle.aml_frames.specs.declared.frames.Control.TheVariants as control
+use Rattle.aml_frames.specs.declared.frames.Entry.{Entry}
+use Rattle.aml_frames.specs.declared.frames.Entry.TheVariants as entry
+use Rattle.aml_frames.specs.declared.frames.Frame.{Frame}
+use Rattle.aml_frames.specs.declared.frames.Items.{Items}
+use Rattle.aml_frames.specs.declared.frames.Next.{Next}
+use Rattle.aml_frames.specs.declared.frames.Next.TheVariants as next
+use Rattle.aml_frames.specs.Places.{Site, behind_term}
+use Rattle.aml_frames.specs.Follow.{at_position, ends, term_run, items_run, body_run, resumed, next_run, next_ends, Leads}
+use Rattle.aml_frames.specs.Stack.{Rest, whole, met, unwinding, at_bottom, then_all, machine, Goes, entry_weight, stack_weight, control_weight}
+
+-- ---- the newest entry meets the outcome first
+
+unwinding_on : {S : Type 0} (ac : Accesses S) (ev : Task → Run S Flow) (xs : List Entry) (x : Entry) (k : Rest S) → unwinding ac ev (xs ++ x ∷ []) k ≡ met ac ev x (unwinding ac ev xs k)
+unfolding unwinding
+unwinding_on ac ev [] x k = refl
+unwinding_on ac ev (y ∷ xs) x k = unwinding_on ac ev xs x (met ac ev y k)
+
+pub weight_on : (xs : List Entry) (x : Entry) → stack_weight (xs ++ x ∷ []) ≡ stack_weight xs + entry_weight x
+unfolding stack_weight
+weight_on [] x = omega arith
+weight_on (y ∷ xs) x = let e = weight_on xs x in omega arith
+
+-- ---- a refusal passes all sites alike
+
+any_site : {S : Type 0} (ac : Accesses S) (ev : Task → Run S Flow) (e : Refusal) (xs : List Entry) (k : Rest S) → ((c d : Site) (s : State S × ℕ) → k c (Err e) s ≡ k d (Err e) s) → (c d : Site) (s : State S × ℕ) → unwinding ac ev xs k c (Err e) s ≡ unwinding ac ev xs k d (Err e) s
+unfolding unwinding go_on
+any_site ac ev e [] k h c d s = h c d s
+any_site ac ev e (entry.Frame x ∷ xs) k h c d s = any_site ac ev e xs (met ac ev (entry.Frame x) k) (λ c d s. h (ends x c) (ends x d) s) c d s
+any_site ac ev e (entry.Leave caller p ∷ xs) k h c d s = any_site ac ev e xs (met ac ev (entry.Leave caller p) k) (λ c d s. refl) c d s
+
+module _ {S : Type 0} (ac : Accesses S) (ev : Task → Run S Flow) where
+  pub stopped_anywhere : (e : Refusal) (xs : List Entry) (c d : Site) (s : State S × ℕ) → then_all ac ev (stop e) c xs s ≡ then_all ac ev (stop e) d xs s
+  unfolding then_all stop
+  stopped_anywhere e xs c d s = any_site ac ev e xs (at_bottom ac ev) (λ c d s. refl) c d s
+
+  at_frame : (m : Run S Flow) (c : Site) (xs : List Entry) (x : Frame) (s : State S × ℕ) → then_all ac ev m c (xs ++ entry.Frame x ∷ []) s ≡ then_all ac ev (m >>= resumed ac ev x c) (ends x c) xs s
+  unfolding then_all ◌>>=◌
+  at_frame m c xs x s = rw (unwinding_on ac ev xs (entry.Frame x) (at_bottom ac ev)) refl
+
+  at_leave : (m : Run S Flow) (a b : Site) (p : List Seg) (xs : List Entry) (s : State S × ℕ) → then_all ac ev m b (xs ++ entry.Leave a p ∷ []) s ≡ then_all ac ev (leaving p m) a xs s
+  unfolding then_all leaving
+  at_leave m a b p xs s = rw (unwinding_on ac ev xs (entry.Leave a p) (at_bottom ac ev)) refl
+
+refused_first : {S : Type 0} (ac : Accesses S) (ev : Task → Run S Flow) (m : Run S Flow) (s s1 : State S × ℕ) (x : Refusal) (c : Site) (xs : List Entry) → m s ≡ stop x s1 → then_all ac ev m c xs s ≡ then_all ac ev (stop x) c xs s1
+unfolding then_all
+refused_first ac ev m s s1 x c xs h = rw h refl
+
+passed : {S : Type 0} (ac : Accesses S) (ev : Task → Run S Flow) (e : Refusal) (c : Site) (xs : List Entry) (x : Frame) (s : State S × ℕ) {t : Outcome Flow × (State S × ℕ)} → t ≡ then_all ac ev (stop e >>= resumed ac ev x c) (ends x c) xs s → t ≡ then_all ac ev (stop e) (ends x c) xs s
+unfolding then_all stop ◌>>=◌ go_on
+passed ac ev e c xs x s h = h
+
+module _ {S : Type 0} {ac : Accesses S} {ev : Task → Run S Flow} where
+  -- ---- what a step leaves to do is put on the stack
+
+  pub goes_flow : {c : Site} {xs : List Entry} {s : State S × ℕ} (f : Flow) → Goes ac ev (Ok (control.Flow f)) c xs s (then_all ac ev (give f) c xs) s
+  goes_flow f = record { is = λ _. refl }
+
+  pub goes_items : {c : Site} {xs : List Entry} {s : State S × ℕ} (i : Items) → Goes ac ev (Ok (control.Items i)) c xs s (then_all ac ev (items_run ac ev i c) (at_position c i.outer) xs) s
+  goes_items i = record { is = λ _. refl }
+
+  pub goes_term : {c : Site} {s : State S × ℕ} (xs ys : List Entry) (levels : ℕ) (x : Frame) → ys ≡ xs ++ entry.Frame x ∷ [] → Goes ac ev (Ok (control.Term levels)) c ys s (then_all ac ev (next_run ac ev (next.Term levels x) c) (next_ends (next.Term levels x) c) xs) s
+  goes_term {c = c} {s = s} xs ys levels x e = record { is = λ _. sym (ap (λ zs. then_all ac ev (term_run ac ev c levels) (behind_term c levels) zs s) e ∙ at_frame ac ev (term_run ac ev c levels) (behind_term c levels) xs x s) }
+
+  pub goes_items_then : {c : Site} {s : State S × ℕ} (xs ys : List Entry) (i : Items) (x : Frame) → ys ≡ xs ++ entry.Frame x ∷ [] → Goes ac ev (Ok (control.Items i)) c ys s (then_all ac ev (next_run ac ev (next.ItemsThen i x) c) (next_ends (next.ItemsThen i x) c) xs) s
+  goes_items_then {c = c} {s = s} xs ys i x e = record { is = λ _. sym (ap (λ zs. then_all ac ev (items_run ac ev i c) (at_position c i.outer) zs s) e ∙ at_frame ac ev (items_run ac ev i c) (at_position c i.outer) xs x s) }
+
+  pub goes_body : {s : State S × ℕ} (a b : Site) (xs ys : List Entry) → ys ≡ xs ++ entry.Leave a b.scope ∷ [] → Goes ac ev (Ok (control.Items (whole b))) b ys s (then_all ac ev (body_run ac ev b) a xs) s
+  unfolding all_items
+  goes_body {s = s} a b xs ys e = record { is = λ _. sym (ap (λ zs. then_all ac ev (items_run ac ev (whole b) b) (at_position b (whole b).outer) zs s) e ∙ at_leave ac ev (items_run ac ev (whole b) b) a (at_position b (whole b).outer) b.scope xs s) }
+
+  pub goes_body_then : {s : State S × ℕ} (a b : Site) (xs ys zs : List Entry) (x : Frame) → ys ≡ xs ++ entry.Frame x ∷ [] → zs ≡ ys ++ entry.Leave a b.scope ∷ [] → Goes ac ev (Ok (control.Items (whole b))) b zs s (then_all ac ev (next_run ac ev (next.BodyThen b x) a) (next_ends (next.BodyThen b x) a) xs) s
+  goes_body_then {s = s} a b xs ys zs x e h = record { is = λ _. sym (at_frame ac ev (body_run ac ev b) a xs x s) ∙ ap (λ us. then_all ac ev (body_run ac ev b) a us s) (sym e) ∙ (goes_body {s = s} a b ys zs h).is tt }
+
+  pub goes_memory : {s : State S × ℕ} (r : Outcome Control) (c : Site) (xs : List Entry) (after : State S × ℕ) (m : Run S Flow) → IsErr r × IsErrAnd r (λ e. e ≡ OutOfMemory) → Goes ac ev r c xs after m s
+  goes_memory (Ok x) c xs after m i = absurd (cc i.0)
+  goes_memory (Err e) c xs after m i = record { is = λ ne. absurd (ne i.1) }
+
+  -- ---- a step
+
+  pub goes_leads : {r : Outcome Control} {d : Site} {ys : List Entry} {s s1 s2 : State S × ℕ} (n : Next) (c behind : Site) (xs : List Entry) (m : Run S Flow) → Leads ac ev (Ok n) c s1 m s → next_ends n c ≡ behind → Goes ac ev r d ys s2 (then_all ac ev (next_run ac ev n c) (next_ends n c) xs) s1 → Goes ac ev r d ys s2 (then_all ac ev m behind xs) s
+  unfolding then_all
+  goes_leads n c behind xs m h e i = record { is = λ ne. rw (h.is tt, ← e) (i.is ne) }
+
+  pub goes_leads_err : {e : Refusal} {r : Outcome Control} {s s1 : State S × ℕ} (c behind : Site) (xs : List Entry) (m : Run S Flow) → Leads ac ev (Err e) c s1 m s → IsErr r × IsErrAnd r (λ x. x ≡ e) → Goes ac ev r c xs s1 (then_all ac ev m behind xs) s
+  goes_leads_err {r = Ok x} c behind xs m h i = absurd (cc i.0)
+  goes_leads_err {e = e} {r = Err x} {s = s} {s1 = s1} c behind xs m h i = record { is = λ ne. refused_first ac ev m s s1 x behind xs (rw i.1 (h.is (λ q. ne (i.1 ∙ q)))) ∙ stopped_anywhere ac ev x xs behind c s1 }
+
+  pub goes_frame : {r : Outcome Control} {d : Site} {ys : List Entry} {s s1 : State S × ℕ} (c : Site) (xs : List Entry) (x : Frame) (f : Flow) → Goes ac ev r d ys s1 (then_all ac ev (resumed ac ev x c f) (ends x c) xs) s → Goes ac ev r d ys s1 (machine ac ev (control.Flow f) c (xs ++ entry.Frame x ∷ [])) s
+  unfolding then_all give ◌>>=◌ go_on
+  goes_frame {s = s} c xs x f h = record { is = λ ne. at_frame ac ev (give f) c xs x s ∙ h.is ne }
+
+  pub goes_leave : {s s1 : State S × ℕ} (a b : Site) (p : List Seg) (xs : List Entry) (f g : Flow) → s1 ≡ (left p s.0, s.1) → g ≡ returned_by f → Goes ac ev (Ok (control.Flow g)) b xs s1 (machine ac ev (control.Flow f) a (xs ++ entry.Leave b p ∷ [])) s
+  unfolding then_all give leaving
+  goes_leave {s = s} a b p xs f g h i = rw (h, i) (record { is = λ _. at_leave ac ev (give f) b a p xs s })
+
+-- ---- the loop
+
+pub falls_popped : (n m : ℕ) (xs ys : List Entry) (y : Entry) (x : Control) (f : Flow) → n < m + (stack_weight ys + entry_weight y + 3) → xs ≡ ys ++ y ∷ [] → x ≡ control.Flow f → n < m + (stack_weight xs + control_weight x)
+falls_popped n m xs ys y x f h e i = rw (e, i, weight_on ys y) h
+
+pub empty_list : (xs : List Entry) → length xs ≡ 0 → xs ≡ []
+empty_list [] h = refl
+empty_list (x ∷ xs) h = absurd (cc h)
+
+module _ {S : Type 0} (ac : Accesses S) (ev : Task → Run S Flow) where
+  pub same_goes : {m : Run S Flow} {s0 s s1 : State S × ℕ} {d : Site} {ys : List Entry} (c : Site) (xs : List Entry) (x y : Control) → Same m s0 (machine ac ev x c xs) s → Goes ac ev (Ok y) d ys s1 (machine ac ev x c xs) s → Same m s0 (machine ac ev y d ys) s1
+  same_goes c xs x y h i = record { is = h.is ∙ i.is tt }
+
+  pub does_ended : {m : Run S Flow} {s0 s : State S × ℕ} (c : Site) (xs : List Entry) (f : Flow) (x : Control) → Same m s0 (machine ac ev x c xs) s → x ≡ control.Flow f → xs ≡ [] → Does (Ok f) s m s0
+  unfolding then_all unwinding give settle
+  does_ended {s = s} c xs f x h i e = record { is = λ _. h.is ∙ ap (λ y. machine ac ev y c xs s) i ∙ ap (λ ys. then_all ac ev (give f) c ys s) e }
+
+  -- a refusal: each call that is being run ends
+  pub does_unwound : {m : Run S Flow} {e : Refusal} {s0 s s1 s2 : State S × ℕ} {d : Site} {ys : List Entry} (c : Site) (xs : List Entry) (x : Control) → Same m s0 (machine ac ev x c xs) s → Goes ac ev (Err e) d ys s1 (machine ac ev x c xs) s → then_all ac ev (stop e) d ys s1 ≡ (Err e, s2) → Does (Err e) s2 m s0
+  does_unwound c xs x h i u = record { is = λ ne. h.is ∙ i.is ne ∙ u }
+
+  pub unwound_frame : (e : Refusal) (c : Site) (xs : List Entry) (x : Frame) (s : State S × ℕ) → then_all ac ev (stop e) c (xs ++ entry.Frame x ∷ []) s ≡ then_all ac ev (stop e) c xs s
+  unwound_frame e c xs x s = passed ac ev e c xs x s (at_frame ac ev (stop e) c xs x s) ∙ stopped_anywhere ac ev e xs (ends x c) c s
+
+  pub unwound_leave : (e : Refusal) (a b : Site) (p : List Seg) (xs : List Entry) (s : State S × ℕ) → then_all ac ev (stop e) a (xs ++ entry.Leave b p ∷ []) s ≡ then_all ac ev (stop e) b xs (left p s.0, s.1)
+  unfolding then_all stop leaving
+  unwound_leave e a b p xs s = at_leave ac ev (stop e) b a p xs s
+
+  pub popped_frame : (e : Refusal) (c : Site) (xs ys : List Entry) (x : Frame) (y : Entry) (s : State S × ℕ) → xs ≡ ys ++ y ∷ [] → y ≡ entry.Frame x → then_all ac ev (stop e) c xs s ≡ then_all ac ev (stop e) c ys s
+  popped_frame e c xs ys x y s h i = ap (λ zs. then_all ac ev (stop e) c zs s) (h ∙ ap (λ z. ys ++ z ∷ []) i) ∙ unwound_frame e c ys x s
+
+  pub popped_leave : (e : Refusal) (a b : Site) (p : List Seg) (xs ys : List Entry) (y : Entry) (s : State S × ℕ) → xs ≡ ys ++ y ∷ [] → y ≡ entry.Leave b p → then_all ac ev (stop e) a xs s ≡ then_all ac ev (stop e) b ys (left p s.0, s.1)
+  popped_leave e a b p xs ys y s h i = ap (λ zs. then_all ac ev (stop e) a zs s) (h ∙ ap (λ z. ys ++ z ∷ []) i) ∙ unwound_leave e a b p ys s
+
+  pub unwound_end : (e : Refusal) (c : Site) (xs : List Entry) (s : State S × ℕ) → xs ≡ [] → then_all ac ev (stop e) c xs s ≡ (Err e, s)
+  unfolding then_all unwinding stop settle
+  unwound_end e c xs s i = rw i refl
+
+pub ruleset going = (weight_on, goes_flow, goes_items, goes_term, goes_items_then, goes_body, goes_body_then, goes_memory)
+
+pub ruleset taking = (goes_leads, goes_leads_err, goes_frame, goes_leave, goes_memory)
+
+-- ---- a call
+
+returned : (r : Outcome Flow) → NotMemory (seen returned_by r) → NotMemory r
+returned (Ok f) ne = tt
+returned (Err e) ne = ne
+
+does_whole : {S : Type 0} (ac : Accesses S) (ev : Task → Run S Flow) {r : Outcome Flow} {s s1 : State S × ℕ} (b : Site) (xs : List Entry) → xs ≡ [] → Does r s1 (machine ac ev (control.Items (whole b)) b xs) s → Does r s1 (items_run ac ev (whole b) b) s
+unfolding then_all unwinding settle
+does_whole ac ev b xs e h = rw e at h
+
+pub does_body : {S : Type 0} (ac : Accesses S) (ev : Task → Run S Flow) {r q : Outcome Flow} {s s1 s2 : State S × ℕ} (b c : Site) (i : Items) (xs : List Entry) → c ≡ b → i ≡ whole b → xs ≡ [] → Does r s1 (machine ac ev (control.Items i) c xs) s → s2 ≡ (left b.scope s1.0, s1.1) → q ≡ seen returned_by r → Does q s2 (body_run ac ev b) s
+unfolding leaving all_items
+does_body ac ev {r = r} {s = s} {s1 = s1} b c i xs f g e h j k =
+    let h1 = rw (f, g) at h in
+    rw (j, k) (record { is = λ ne. rw ((does_whole ac ev b xs e h1).is (returned r ne)) refl })
+
+pub ruleset beginning = (does_body)

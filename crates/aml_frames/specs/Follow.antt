@@ -1,0 +1,185 @@
+-- What frames, and what steps leave to do, mean: rules cut where a part is evaluated. What a frame means is the rest of its rule.
+use Rattle.std.specs.Prelude.{◌≡◌, ℕ, List, [], ◌∷◌, ◌++◌, Bool, Some, Ok, Err, IfOk, false}
+use Rattle.ar_space.specs.Accesses.{Accesses}
+use Rattle.ar_space.specs.Outcome.{Outcome, NotMemory}
+use Rattle.ar_space.specs.Change.{give, stop, settle, ◌>>=◌}
+use Rattle.ar_space.specs.declared.refusal.Refusal.TheVariants as refusal
+use Rattle.ar_space.specs.declared.refusal.EvaluationFault.TheVariants.{Fatal}
+use Rattle.aml_grammar.specs.Apart.{code_of}
+use Rattle.aml_grammar.specs.Shape.{trees_of}
+use Rattle.aml_grammar.specs.Tree.{Trees}
+use Rattle.aml_marked.specs.Marked.{Place, turns_of, to_end, all_items, maybe_else, walk_levels, with_row}
+use Rattle.aml_scan.specs.RowsAt.{row_at}
+use Rattle.aml_scan.specs.declared.row_places.RowPlace.{RowPlace}
+use Rattle.aml_convert.specs.Operators.{is_true}
+use Rattle.aml_objects.specs.declared.value.Value.{Value}
+use Rattle.aml_meaning.specs.declared.flow.Flow.{Flow}
+use Rattle.aml_meaning.specs.declared.flow.Flow.TheVariants as flow
+use Rattle.aml_meaning.specs.declared.term_kind.OperatorKind.{OperatorKind}
+use Rattle.aml_meaning.specs.declared.term_kind.StatementKind.{StatementKind}
+use Rattle.aml_meaning.specs.State.{State}
+use Rattle.aml_meaning.specs.Run.{Run, lift}
+use Rattle.aml_meaning.specs.Readings.{value_in, integer_in}
+use Rattle.aml_meaning.specs.Terms.{else_of}
+use Rattle.aml_meaning.specs.Tasks.{Task, task, after_item, in_turn}
+use Rattle.aml_meaning.specs.Evaluation.{code_rule}
+use Rattle.aml_meaning.specs.OperatorTerms.{operator_rule}
+use Rattle.aml_meaning.specs.StatementTerms.{statement_rule, branch, turn_of, after_turn, loop, loop_end}
+use Rattle.aml_meaning.specs.InvocationTerms.{arguments_in_turn}
+use Rattle.aml_meaning.specs.Invocations.{leaving, invoked}
+use Rattle.aml_frames.specs.declared.activation.Position.{Position}
+use Rattle.aml_frames.specs.declared.frames.Call.{Call}
+use Rattle.aml_frames.specs.declared.frames.Items.{Items}
+use Rattle.aml_frames.specs.declared.frames.Loop.{Loop}
+use Rattle.aml_frames.specs.declared.frames.Frame.{Frame}
+use Rattle.aml_frames.specs.declared.frames.Frame.TheVariants as frames
+use Rattle.aml_frames.specs.declared.frames.Next.{Next}
+use Rattle.aml_frames.specs.declared.frames.Next.TheVariants as next
+use Rattle.aml_frames.specs.Places.{Site, place_between, at_place, terms, next_term, behind_term}
+use Rattle.aml_frames.specs.Operands.{operator_tree, statement_tree, behind_operator, behind_statement}
+
+abbrev pub place_of : Site → Position → Place
+place_of c o = place_between c.bytes o.at o.end
+
+abbrev pub at_position : Site → Position → Site
+at_position c o = at_place c (place_of c o)
+
+-- the items of a list that are left, and where it ends
+abbrev pub items_left : Items → Site → Trees
+items_left i c = trees_of (to_end (terms c i.levels false) i.left c.place).0
+
+-- all items that are left
+abbrev pub all_left : Site → ℕ → Trees
+all_left c levels = trees_of (all_items (terms c levels) false c.place).0
+
+-- the list of a While, behind its predicate
+abbrev pub loop_site : Loop → Site → Site
+loop_site l c = at_position c l.predicate
+
+abbrev pub loop_list : Loop → Site → Trees
+loop_list l c = all_left (behind_term (loop_site l c) l.levels) l.levels
+
+-- behind an operator, a statement and any term whose operands stand next
+abbrev pub behind_operator_at : OperatorKind → Site → ℕ → Site
+behind_operator_at k c levels = at_place c (behind_operator (terms c levels) k c.place)
+
+abbrev pub behind_statement_at : StatementKind → Site → ℕ → Site
+behind_statement_at k c levels = at_place c (behind_statement (terms c levels) k c.place)
+
+abbrev pub behind_coded : RowPlace → Site → ℕ → Site
+behind_coded o c levels = at_place c (with_row (terms c levels) (row_at o) c.place).1
+
+-- behind the arguments of a call that are left
+abbrev pub behind_arguments : Call → Site → Site
+behind_arguments k c = at_place c (turns_of (terms c k.levels false) k.left c.place).1
+
+abbrev pub behind_else : Site → ℕ → Position → Site
+behind_else c levels o = at_place c (maybe_else (terms c levels) (place_of c o)).1
+
+-- where evaluation stands when all of a frame's term is done
+abbrev pub ends : Frame → Site → Site
+ends (frames.Items i) c = at_position c i.outer
+ends (frames.If levels o) c = behind_else c levels o
+ends (frames.Predicate l) c = at_position c l.outer
+ends (frames.Turn l) c = at_position c l.outer
+ends frames.Return c = c
+ends frames.Pause c = c
+ends frames.Fatal c = c
+ends (frames.Argument k) c = behind_arguments k c
+
+-- and when all that a step leaves is done
+abbrev pub next_ends : Next → Site → Site
+next_ends (next.Flow f) c = c
+next_ends (next.Term levels x) c = ends x (behind_term c levels)
+next_ends (next.Items i) c = at_position c i.outer
+next_ends (next.ItemsThen i x) c = ends x (at_position c i.outer)
+next_ends (next.Body b) c = c
+next_ends (next.BodyThen b x) c = ends x c
+
+-- a step of a rule ends where the rule ends
+abbrev pub EndsAt : Outcome Next → Site → Site → Type 0
+EndsAt r c behind = IfOk r (λ n. next_ends n c ≡ behind)
+
+module _ {S : Type 0} (accesses : Accesses S) (ev : Task → Run S Flow) where
+  abbrev pub term_run : Site → ℕ → Run S Flow
+  term_run c levels = ev (task c.scope c.depth (next_term c levels))
+
+  abbrev pub list_run : Site → Trees → Run S Flow
+  list_run c ts = in_turn ev c.scope c.depth ts
+
+  abbrev pub items_run : Items → Site → Run S Flow
+  items_run i c = list_run c (items_left i c)
+
+  -- the body of a control method that was entered, and what the call leaves
+  abbrev pub body_run : Site → Run S Flow
+  body_run b = leaving b.scope (list_run b (all_left b walk_levels))
+
+  -- a While again
+  abbrev pub loop_again : Loop → Site → Run S Flow
+  loop_again l c = loop ev c.scope c.depth (next_term (loop_site l c) l.levels) (loop_list l c)
+
+  -- what is left of a While whose predicate was evaluated, before its list
+  unfoldable pub turn_left : Loop → Site → Bool → Run S Flow
+  turn_left l c holds = do
+    f ← turn_of ev c.scope c.depth (all_left c l.levels) holds
+    after_turn ev (loop_end f) (loop_again l c)
+
+  abbrev pub branch_at : Site → ℕ → Position → Bool → Run S Flow
+  branch_at c levels o holds = branch ev c.scope c.depth (all_left c levels) (else_of (Some (maybe_else (terms c levels) (place_of c o)).0)) holds
+
+  -- the arguments of a call that are left behind those that are done, and then the call
+  abbrev pub arguments_left : Call → List Value → Site → Run S Flow
+  arguments_left k done c = arguments_in_turn ev c.scope c.depth (trees_of (turns_of (terms c k.levels false) k.left c.place).0) done >>= invoked ev c.depth k.path k.body
+
+  -- an operator and a statement whose operands stand next
+  abbrev pub operator_run : OperatorKind → Site → ℕ → Run S Flow
+  operator_run k c levels = operator_rule accesses ev k c.scope c.depth (operator_tree (terms c levels) k c.place)
+
+  abbrev pub statement_run : StatementKind → Site → ℕ → Run S Flow
+  statement_run k c levels = statement_rule ev k c.scope c.depth (statement_tree (terms c levels) k c.place)
+
+  -- a term whose opcode was read, by the place of its row
+  abbrev pub coded_run : RowPlace → Site → ℕ → Run S Flow
+  coded_run o c levels = code_rule accesses ev (code_of (with_row (terms c levels) (row_at o) c.place).0) c.scope c.depth (with_row (terms c levels) (row_at o) c.place).0
+
+  -- what a frame does with the flow that it waits for
+  abbrev pub resumed : Frame → Site → Flow → Run S Flow
+  resumed (frames.Items i) c f = after_item ev f (items_run i c)
+  resumed (frames.If levels o) c f = do
+    v ← settle (value_in f)
+    x ← lift (integer_in v)
+    branch_at c levels o (is_true x)
+  resumed (frames.Predicate l) c f = do
+    v ← settle (value_in f)
+    x ← lift (integer_in v)
+    turn_left l c (is_true x)
+  resumed (frames.Turn l) c f = after_turn ev (loop_end f) (loop_again l c)
+  resumed frames.Return c f = do
+    v ← settle (value_in f)
+    give (flow.Return v)
+  resumed frames.Pause c f = do
+    v ← settle (value_in f)
+    give flow.Next
+  resumed frames.Fatal c f = do
+    v ← settle (value_in f)
+    stop (refusal.Evaluation Fatal)
+  resumed (frames.Argument k) c f = do
+    v ← settle (value_in f)
+    arguments_left k (k.done.items ++ v ∷ []) c
+
+  -- what is left to do
+  abbrev pub next_run : Next → Site → Run S Flow
+  next_run (next.Flow f) c = give f
+  next_run (next.Term levels x) c = term_run c levels >>= resumed x (behind_term c levels)
+  next_run (next.Items i) c = items_run i c
+  next_run (next.ItemsThen i x) c = items_run i c >>= resumed x (at_position c i.outer)
+  next_run (next.Body b) c = body_run b
+  next_run (next.BodyThen b x) c = body_run b >>= resumed x c
+
+  abbrev pub followed : Outcome Next → Site → Run S Flow
+  followed (Ok n) c = next_run n c
+  followed (Err e) c = stop e
+
+  -- a step of a rule: what the rule does is what is left to do after the step, unless memory ran out
+  pub record Leads (r : Outcome Next) (c : Site) (after : State S × ℕ) (m : Run S Flow) (before : State S × ℕ) : Type 0 where
+    pub is : NotMemory r → m before ≡ followed r c after

@@ -1,0 +1,5 @@
+pub mod Follow
+pub mod Operands
+pub mod Places
+pub mod Stack
+pub mod Weights

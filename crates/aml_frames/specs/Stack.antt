@@ -1,0 +1,83 @@
+-- The machine: what is on its stack means what is still to do.
+use Rattle.std.specs.Prelude.{◌≡◌, ℕ, ◌+◌, List, [], ◌∷◌, length, Ok, Err}
+use Rattle.ar_space.specs.Accesses.{Accesses}
+use Rattle.ar_space.specs.Outcome.{Outcome, NotMemory, seen}
+use Rattle.ar_space.specs.Change.{give, stop, settle, go_on}
+use Rattle.aml_marked.specs.Marked.{walk_levels}
+use Rattle.aml_meaning.specs.declared.flow.Flow.{Flow}
+use Rattle.aml_meaning.specs.State.{State}
+use Rattle.aml_meaning.specs.Run.{Run}
+use Rattle.aml_meaning.specs.Tasks.{Task}
+use Rattle.aml_meaning.specs.Invocations.{left, returned_by}
+use Rattle.aml_frames.specs.declared.frames.Control.{Control}
+use Rattle.aml_frames.specs.declared.frames.Control.TheVariants as control
+use Rattle.aml_frames.specs.declared.frames.Entry.{Entry}
+use Rattle.aml_frames.specs.declared.frames.Entry.TheVariants as entry
+use Rattle.aml_frames.specs.declared.frames.Items.{Items}
+use Rattle.aml_frames.specs.Places.{Site, behind_term}
+use Rattle.aml_frames.specs.Follow.{at_position, ends, term_run, items_run, resumed}
+use Rattle.aml_frames.specs.Weights.{weight}
+
+-- what goes on with an outcome, where evaluation stands
+abbrev pub Rest : Type 0 → Type 0
+Rest S = Site → Outcome Flow → Run S Flow
+
+-- all of the list of a body; where it ends doesn't matter, since the call ends there
+abbrev pub whole : Site → Items
+whole b = record { left = length b.place.rest; levels = walk_levels; outer = record { at = 0; end = 0 } }
+
+-- where evaluation stands when what is controlled is done
+abbrev pub control_ends : Control → Site → Site
+control_ends (control.Term levels) c = behind_term c levels
+control_ends (control.Items i) c = at_position c i.outer
+control_ends (control.Flow f) c = c
+
+module _ {S : Type 0} (accesses : Accesses S) (ev : Task → Run S Flow) where
+  -- an outcome meets an entry, and what it leaves goes on: a refusal passes frames by, and ends calls
+  abbrev pub met : Entry → Rest S → Rest S
+  met (entry.Frame x) k c r s = let b = go_on r s (resumed accesses ev x c) in k (ends x c) b.0 b.1
+  met (entry.Leave caller p) k c r s = k caller (seen returned_by r) (left p s.0, s.1)
+
+  -- the entries from the bottom of the stack
+  unfoldable pub unwinding : List Entry → Rest S → Rest S
+  unwinding [] k = k
+  unwinding (x ∷ xs) k = unwinding xs (met x k)
+
+  abbrev pub at_bottom : Rest S
+  at_bottom c r = settle r
+
+  -- what is still to do, after what is done first, which ends at a site
+  unfoldable pub then_all : Run S Flow → Site → List Entry → Run S Flow
+  then_all m c xs s = let b = m s in unwinding xs at_bottom c b.0 b.1
+
+  abbrev pub controlled : Control → Site → Run S Flow
+  controlled (control.Term levels) c = term_run accesses ev c levels
+  controlled (control.Items i) c = items_run accesses ev i c
+  controlled (control.Flow f) c = give f
+
+  -- the machine's meaning
+  abbrev pub machine : Control → Site → List Entry → Run S Flow
+  machine x c xs = then_all (controlled x c) (control_ends x c) xs
+
+  -- what is still to do after a step of the machine
+  abbrev pub gone : Outcome Control → Site → List Entry → Run S Flow
+  gone (Ok x) c xs = machine x c xs
+  gone (Err e) c xs = then_all (stop e) c xs
+
+  pub record Goes (r : Outcome Control) (c : Site) (xs : List Entry) (after : State S × ℕ) (m : Run S Flow) (before : State S × ℕ) : Type 0 where
+    pub is : NotMemory r → m before ≡ gone r c xs after
+
+-- ---- how much entries may ask for without a step being paid
+
+abbrev pub entry_weight : Entry → ℕ
+entry_weight (entry.Frame x) = weight x
+entry_weight (entry.Leave caller p) = 1
+
+unfoldable pub stack_weight : List Entry → ℕ
+stack_weight [] = 0
+stack_weight (x ∷ xs) = entry_weight x + stack_weight xs
+
+abbrev pub control_weight : Control → ℕ
+control_weight (control.Term levels) = 0
+control_weight (control.Items i) = 4
+control_weight (control.Flow f) = 3

@@ -1,0 +1,369 @@
+//! The table or the control method that is being evaluated, and where evaluation stands in it.
+ghost use Rattle.std.specs.Prelude.{◌≡◌, ◌≢◌, ◌<◌, ◌-◌, ◌==◌, ℕ, Bool, length, take, drop, Some, None, true, false, Ok};
+ghost use Rattle.ar_space.specs.Outcome.{Answers};
+ghost use Rattle.aml_grammar.specs.declared.opcode.Opcode.{Opcode};
+ghost use Rattle.aml_grammar.specs.declared.opcode.TermCode.TheVariants as codes;
+ghost use Rattle.aml_grammar.specs.Apart.{code_of};
+ghost use Rattle.aml_grammar.specs.Names.{starts_name};
+ghost use Rattle.aml_grammar.specs.State.{is_next};
+ghost use Rattle.aml_marked.specs.Marked.{Below, count_at, first, over, name_length, a_name, a_size, a_term, a_call, a_target, turns_of, with_row, maybe_else};
+ghost use Rattle.aml_scan.specs.RowsAt.{row_at};
+ghost use Rattle.aml_scan.specs.declared.row_places.RowPlace.{RowPlace};
+ghost use Rattle.aml_frames.specs.Places.{Stands, place_between, end_of, at_place, terms};
+
+use crate::frames::Items;
+use aml_namespace::Scope;
+use aml_objects::{Body, NodeId};
+use aml_path::{NameString, Path};
+use aml_terms::{Cursor, Marks, RowPlace};
+use ar_space::Refusal;
+use std::alloc::Global;
+use std::marker::Model;
+use std::rc::Rc;
+
+/// Where evaluation stands in a list of bytes: the offset of the next byte, and that behind the last one of its list or package.
+#[derive(Clone, Copy, Debug)]
+pub struct Position {
+    pub at: usize,
+    pub end: usize,
+}
+
+/// The path of a control method or of a scope: a counted share of it.
+#[derive(Drop)]
+pub struct MethodPath {
+    path: Rc<Path>,
+}
+
+impl Model for MethodPath {
+    ghost use Rattle.std.specs.Prelude.{List};
+    ghost use Rattle.aml_path.specs.declared.segment.Seg.{Seg};
+
+    ghost Value = { List Seg };
+
+    ghost view = { λ p. p.path.value };
+}
+
+impl MethodPath {
+    /// The path that this is.
+    pub fn new(alloc: Global, path: Path) -> Result<MethodPath, Refusal>
+        ensures { Answers result (Ok path) }
+    {
+        Ok(MethodPath {
+            path: Rc::new(alloc, path)?,
+        })
+    }
+
+    /// Another share of the same path. It takes no memory, and is refused as `OutOfMemory` where no more shares can be counted.
+    pub fn share(&self) -> Result<MethodPath, Refusal>
+        ensures { Answers result (Ok self.now) }
+    {
+        Ok(MethodPath {
+            path: Rc::clone(&self.path)?,
+        })
+    }
+
+    /// The path.
+    pub fn path(&self) -> &Path
+        ensures { result.now ≡ self.now }
+    {
+        self.path.as_ref()
+    }
+}
+
+/// The table or the control method that is being evaluated: a share of its bytes and their marks, the scope that its names stand in, how
+/// many control methods are being called, and the place of the next byte.
+#[derive(Drop)]
+pub struct Activation {
+    bytes: Body,
+    marks: Marks,
+    scope: MethodPath,
+    node: NodeId,
+    depth: usize,
+    position: Position,
+}
+
+impl Model for Activation {
+    ghost use Rattle.aml_frames.specs.Places.{Site, place_between};
+
+    ghost Value = { Site };
+
+    ghost view = { λ a. record { bytes = a.bytes; marks = a.marks; scope = a.scope; depth = a.depth; place = place_between a.bytes a.position.at a.position.end } };
+}
+
+/// The bytes between two offsets: as many as there are.
+fn between(bytes: &[u8], at: usize, end: usize) -> &[u8]
+    ensures { result.now ≡ take (end - at) (drop at bytes.now) }
+{
+    let first = at.min(bytes.len());
+    let last = end.clamp(first, bytes.len());
+    &bytes[first..last]
+}
+
+impl Activation {
+    /// A list of bytes with its marks, at its first byte. `node` is where the scope is looked for first.
+    #[tactic(auto, using(crate::proofs::Between::whole_place))]
+    pub fn new(
+        bytes: Body,
+        marks: Marks,
+        scope: MethodPath,
+        node: NodeId,
+        depth: usize,
+    ) -> Activation
+        ensures { result ≡ record { bytes = bytes; marks = marks; scope = scope; depth = depth; place = record { at = 0; rest = bytes } } }
+    {
+        let end = bytes.as_slice().len();
+        Activation {
+            bytes,
+            marks,
+            scope,
+            node,
+            depth,
+            position: Position { at: 0, end },
+        }
+    }
+
+    /// The scope that names stand in.
+    pub fn scope(&self) -> Scope<'_>
+        ensures { result.path.now ≡ self.now.scope }
+    {
+        Scope {
+            path: self.scope.path(),
+            node: self.node,
+        }
+    }
+
+    /// A share of the path of the scope.
+    pub fn share_scope(&self) -> Result<MethodPath, Refusal>
+        ensures { Answers result (Ok self.now.scope) }
+    {
+        self.scope.share()
+    }
+
+    /// How many control methods are being called.
+    pub fn depth(&self) -> usize
+        ensures { result ≡ self.now.depth }
+    {
+        self.depth
+    }
+
+    /// Where evaluation stands.
+    pub fn position(&self) -> Position
+        ensures { place_between self.now.bytes result.at result.end ≡ self.now.place }
+    {
+        self.position
+    }
+
+    /// Evaluation goes on at a position.
+    pub fn go_to(&mut self, position: Position)
+        ensures { self.new ≡ at_place self.old (place_between self.old.bytes position.at position.end) }
+    {
+        self.position = position;
+    }
+
+    /// A cursor at the next byte.
+    #[tactic(auto, using(crate::proofs::Between::moving))]
+    fn cursor(&self) -> Cursor<'_>
+        ensures place { result ≡ self.now.place }
+        ensures stands { Stands self.now.bytes self.now.place }
+    {
+        let rest = between(self.bytes.as_slice(), self.position.at, self.position.end);
+        Cursor::new(self.position.at, rest)
+    }
+
+    /// Goes over the opcode of the term that stands next, and gives the place of its row, as `Cursor::take_opcode` does.
+    #[inline(always)]
+    #[tactic(auto, using(crate::proofs::Between::moving))]
+    pub fn take_opcode(&mut self, levels: u8) -> Option<RowPlace>
+        ensures some { (place : RowPlace) → result ≡ Some place → 0 < levels }
+        ensures term { (place : RowPlace) → (count : ℕ → ℕ) → (element : Bool) → result ≡ Some place → a_term count levels element self.old.place ≡ with_row (a_term count (levels - 1)) (row_at place) self.new.place }
+        ensures none { result ≡ None → self.new ≡ self.old }
+        ensures moves { self.new ≡ at_place self.old self.new.place }
+        ensures uncoded { (count : ℕ → ℕ) → (element : Bool) → (opcode : Opcode) → result ≡ None → code_of (a_term count levels element self.old.place).0 ≢ codes.Opcode opcode }
+    {
+        let mut cursor = self.cursor();
+        let place = cursor.take_opcode(levels);
+        let position = position_of(&cursor);
+        self.go_to(position);
+        place
+    }
+
+    /// Whether a name begins here.
+    pub fn is_at_name(&self) -> bool
+        ensures { result ≡ starts_name (first self.now.place.rest) }
+    {
+        self.cursor().is_at_name()
+    }
+
+    /// Whether a call begins here: a name, with a level left for its arguments.
+    pub fn is_at_call(&self, levels: u8) -> bool
+        ensures levels { result ≡ true → 0 < levels }
+        ensures call { (count : ℕ → ℕ) → result ≡ true → a_term count levels false self.now.place ≡ a_call (a_term count (levels - 1)) count self.now.place }
+        ensures none { (count : ℕ → ℕ) → result ≡ false → code_of (a_term count levels false self.now.place).0 ≢ codes.MethodInvocation }
+    {
+        self.cursor().is_at_call(levels)
+    }
+
+    /// How many arguments follow the name that begins here.
+    pub fn argument_count(&self) -> u8
+        ensures { result ≡ count_at self.now.marks self.now.place.at }
+    {
+        self.marks.count_at(self.position.at)
+    }
+
+    /// The name that begins here; the root where none does. Refused: `OutOfMemory`.
+    pub fn name(&self, alloc: Global) -> Result<NameString, Refusal>
+        ensures { Answers result (Ok (a_name self.now.place).0) }
+    {
+        self.cursor().name(alloc)
+    }
+
+    /// What is left of the list or package.
+    pub fn rest(&self) -> &[u8]
+        ensures { result.now ≡ self.now.place.rest }
+    {
+        self.cursor().rest()
+    }
+
+    /// The next byte, or zero.
+    pub fn first(&self) -> u8
+        ensures { result ≡ first self.now.place.rest }
+    {
+        self.cursor().first()
+    }
+
+    /// Whether this byte stands next.
+    pub fn is_next(&self, byte: u8) -> bool
+        ensures { result ≡ is_next byte self.now.place.rest }
+    {
+        self.cursor().is_next(byte)
+    }
+
+    /// So many bytes on, or to the end.
+    #[tactic(auto, using(crate::proofs::Between::moving))]
+    pub fn over(&mut self, count: usize)
+        ensures { self.new ≡ at_place self.old (over count self.old.place) }
+    {
+        let mut cursor = self.cursor();
+        cursor.over(count);
+        let position = position_of(&cursor);
+        self.go_to(position);
+    }
+
+    /// Goes over the name that stands next.
+    #[tactic(auto, using(crate::proofs::Between::moving))]
+    pub fn over_name(&mut self)
+        ensures { self.new ≡ at_place self.old (over (name_length self.old.place.rest) self.old.place) }
+    {
+        let mut cursor = self.cursor();
+        cursor.over_name();
+        let position = position_of(&cursor);
+        self.go_to(position);
+    }
+
+    /// Goes over the operands of a term, by the place of its row, and over the Else that may follow an If.
+    #[tactic(auto, using(crate::proofs::Between::moving))]
+    pub fn over_operands(&mut self, levels: u8, place: RowPlace)
+        ensures { self.new ≡ at_place self.old (with_row (terms self.old levels) (row_at place) self.old.place).1 }
+    {
+        let mut cursor = self.cursor();
+        cursor.over_operands(&self.marks, levels, place);
+        let position = position_of(&cursor);
+        self.go_to(position);
+    }
+
+    /// Goes over so many arguments of a call.
+    #[tactic(auto, using(crate::proofs::Between::moving))]
+    pub fn over_arguments(&mut self, levels: u8, count: u8)
+        ensures { self.new ≡ at_place self.old (turns_of (terms self.old levels false) count self.old.place).1 }
+    {
+        let mut cursor = self.cursor();
+        cursor.over_arguments(&self.marks, levels, count);
+        let position = position_of(&cursor);
+        self.go_to(position);
+    }
+
+    /// Goes over a target.
+    #[tactic(auto, using(crate::proofs::Between::moving))]
+    pub fn over_target(&mut self, levels: u8)
+        ensures { self.new ≡ at_place self.old (a_target (terms self.old levels) self.old.place).1 }
+    {
+        let mut cursor = self.cursor();
+        cursor.over_target(&self.marks, levels);
+        let position = position_of(&cursor);
+        self.go_to(position);
+    }
+
+    /// Goes over an Else, where one follows.
+    #[tactic(auto, using(crate::proofs::Between::moving))]
+    pub fn over_else(&mut self)
+        ensures { (below : Below) → self.new ≡ at_place self.old (maybe_else below self.old.place).1 }
+    {
+        let mut cursor = self.cursor();
+        cursor.over_else();
+        let position = position_of(&cursor);
+        self.go_to(position);
+    }
+
+    /// Goes into the package whose length stands next, and gives what stands behind it.
+    #[tactic(auto, using(crate::proofs::Between::moving))]
+    pub fn open(&mut self) -> Position
+        ensures inside { self.new ≡ at_place self.old (record (a_size self.old.place).1 { rest = take (a_size self.old.place).0 (a_size self.old.place).1.rest }) }
+        ensures outer { place_between self.old.bytes result.at result.end ≡ over (a_size self.old.place).0 (a_size self.old.place).1 }
+    {
+        let mut cursor = self.cursor();
+        let outer = cursor.open();
+        let inside = position_of(&cursor);
+        let outside = position_of(&outer);
+        self.go_to(inside);
+        outside
+    }
+
+    /// Whether nothing is left of the list or package.
+    pub fn is_empty(&self) -> bool
+        ensures { result ≡ (length self.now.place.rest == 0) }
+    {
+        self.cursor().is_empty()
+    }
+
+    /// What stands behind the Else that may follow at a position.
+    #[tactic(auto, using(crate::proofs::Between::moving))]
+    pub fn behind_else(&self, outer: Position) -> Position
+        ensures { (below : Below) → place_between self.now.bytes result.at result.end ≡ (maybe_else below (place_between self.now.bytes outer.at outer.end)).1 }
+    {
+        let mut cursor = self.cursor_at(outer);
+        cursor.over_else();
+        position_of(&cursor)
+    }
+
+    /// A cursor at a position.
+    #[tactic(auto, using(crate::proofs::Between::moving))]
+    fn cursor_at(&self, position: Position) -> Cursor<'_>
+        ensures place { result ≡ place_between self.now.bytes position.at position.end }
+        ensures stands { Stands self.now.bytes (place_between self.now.bytes position.at position.end) }
+    {
+        let rest = between(self.bytes.as_slice(), position.at, position.end);
+        Cursor::new(position.at, rest)
+    }
+
+    /// All items that are left of the list or package, with evaluation going on at a position behind them.
+    pub fn items(&self, levels: u8, outer: Position) -> Items
+        ensures { result ≡ record { left = length self.now.place.rest; levels = levels; outer = outer } }
+    {
+        Items {
+            left: self.rest().len(),
+            levels,
+            outer,
+        }
+    }
+}
+
+/// Where a cursor stands.
+fn position_of(cursor: &Cursor<'_>) -> Position
+    ensures at { result.at ≡ cursor.now.at }
+    ensures end { result.end ≡ end_of cursor.now }
+{
+    Position {
+        at: cursor.at(),
+        end: cursor.at() + cursor.rest().len(),
+    }
+}

@@ -1,0 +1,126 @@
+//! Calls of control methods (ACPI 6.5, 5.5.2 and 20.2.5: MethodInvocation).
+ghost use Rattle.std.specs.Prelude.{◌≡◌, ◌≤◌, ◌<◌, ◌+◌, IfOk, OnOk, slice_index_or};
+ghost use Rattle.ar_space.specs.Outcome.{Answers, NotMemory};
+ghost use Rattle.aml_objects.specs.declared.value.Value.TheVariants.{Uninitialized};
+ghost use Rattle.aml_meaning.specs.Meaning.{meaning};
+ghost use Rattle.aml_meaning.specs.Invocations.{shallow, frame_arguments, invoked};
+ghost use Rattle.aml_frames.specs.declared.frames.Frame.TheVariants as frames;
+ghost use Rattle.aml_frames.specs.Follow.{arguments_left, behind_arguments, resumed, ends, Leads, EndsAt};
+ghost use Rattle.aml_frames.specs.Weights.{next_weight};
+
+use crate::activation::{Activation, MethodPath};
+use crate::frames::{Call, Frame, Next};
+use aml_meaning::{Flow, Running};
+use aml_objects::Value;
+use ar_space::{EvaluationFault, Refusal, Space};
+use std::alloc::Global;
+
+/// How many control methods may be called one inside another.
+const MAX_DEPTH: usize = 32;
+
+/// A call whose arguments that are left stand next: the first of them is evaluated, or the call is made.
+#[tactic(auto, using(crate::proofs::Stepping::calls))]
+pub fn begin_call<S: Space>(
+    alloc: Global,
+    run: &mut Running<S>,
+    act: &mut Activation,
+    call: Call,
+) -> Result<Next, Refusal>
+    ensures spent { run.new.1 ≤ run.old.1 }
+    ensures falls { IfOk result (λ n. next_weight n < 6) }
+    ensures means { Leads S.accesses (meaning S.accesses) result act.new run.new
+        (arguments_left S.accesses (meaning S.accesses) call call.done.items act.old) run.old }
+    ensures ends { EndsAt result act.new (behind_arguments call act.old) }
+{
+    if call.left == 0 {
+        return begin_body(alloc, run, act, call);
+    }
+    let levels = call.levels;
+    Ok(Next::Term(
+        levels,
+        Frame::Argument(Call {
+            left: call.left - 1,
+            ..call
+        }),
+    ))
+}
+
+/// A call whose argument was evaluated.
+#[tactic(auto, using(crate::proofs::Stepping::stepping))]
+pub(crate) fn resume_argument<S: Space>(
+    alloc: Global,
+    run: &mut Running<S>,
+    act: &mut Activation,
+    call: Call,
+    flow: Flow,
+) -> Result<Next, Refusal>
+    ensures spent { run.new.1 ≤ run.old.1 }
+    ensures falls { IfOk result (λ n. next_weight n < 6) }
+    ensures means { Leads S.accesses (meaning S.accesses) result act.new run.new
+        (resumed S.accesses (meaning S.accesses) (frames.Argument call) act.old flow) run.old }
+    ensures ends { EndsAt result act.new (ends (frames.Argument call) act.old) }
+{
+    let mut call = call;
+    let value = flow.value()?;
+    call.done.push(value)?;
+    begin_call(alloc, run, act, call)
+}
+
+/// The body of a called control method, in a frame of slots of its own.
+#[tactic(auto, using(crate::proofs::Stepping::calls), unfolding(aml_meaning::specs::Invocations::invoked))]
+fn begin_body<S: Space>(
+    alloc: Global,
+    run: &mut Running<S>,
+    act: &Activation,
+    call: Call,
+) -> Result<Next, Refusal>
+    ensures spent { run.new.1 ≤ run.old.1 }
+    ensures falls { IfOk result (λ n. next_weight n < 6) }
+    ensures means { Leads S.accesses (meaning S.accesses) result act.now run.new
+        (invoked (meaning S.accesses) act.now.depth call.path call.body call.done.items) run.old }
+    ensures ends { EndsAt result act.now act.now }
+{
+    shallow(act.depth())?;
+    let marks = run.world.body_marks(alloc, &call.path, &call.body)?;
+    let node = run.world.scope(&call.path).node;
+    let method = MethodPath::new(alloc, call.path)?;
+    let body = Activation::new(call.body, marks, method, node, act.depth() + 1);
+    run.world.open_frame(frame_arguments(&call.done))?;
+    Ok(Next::Body(body))
+}
+
+fn shallow(depth: usize) -> Result<(), Refusal>
+    ensures answer { Answers result (shallow depth) }
+    ensures few { OnOk result (depth < 32) }
+    ensures memory { NotMemory result }
+{
+    if depth < MAX_DEPTH {
+        Ok(())
+    } else {
+        Err(Refusal::Evaluation(EvaluationFault::CallDepth))
+    }
+}
+
+/// The slots of a frame for these arguments.
+fn frame_arguments(arguments: &[Value]) -> [Value; 7]
+    ensures { result ≡ frame_arguments arguments.now }
+{
+    [
+        argument(arguments, 0),
+        argument(arguments, 1),
+        argument(arguments, 2),
+        argument(arguments, 3),
+        argument(arguments, 4),
+        argument(arguments, 5),
+        argument(arguments, 6),
+    ]
+}
+
+fn argument(arguments: &[Value], index: usize) -> Value
+    ensures { result ≡ slice_index_or arguments.now index Uninitialized }
+{
+    match arguments.get(index) {
+        None => Value::Uninitialized,
+        Some(value) => *value,
+    }
+}

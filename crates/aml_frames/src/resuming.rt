@@ -1,0 +1,186 @@
+//! What frames do with the flows that they wait for.
+ghost use Rattle.std.specs.Prelude.{◌≡◌, ◌≤◌, ◌<◌, ◌+◌, Ok, IfOk};
+ghost use Rattle.aml_meaning.specs.Meaning.{meaning};
+ghost use Rattle.aml_frames.specs.declared.frames.Frame.TheVariants as frames;
+ghost use Rattle.aml_frames.specs.Follow.{at_position, turn_left, resumed, ends, next_ends, Leads, EndsAt};
+ghost use Rattle.aml_frames.specs.Weights.{weight, next_weight};
+
+use crate::activation::{Activation, Position};
+use crate::calls::resume_argument;
+use crate::frames::{Frame, Items, Loop, Next};
+use crate::statements::next_branch;
+use crate::values::integer_of;
+use aml_convert::is_true;
+use aml_meaning::{Flow, Running};
+use ar_space::{EvaluationFault, Refusal, Space};
+use std::alloc::Global;
+
+/// A list goes on behind an item, or it ends.
+#[tactic(auto, using(crate::proofs::Stepping::listing))]
+fn resume_items<S: Space>(run: &Running<S>, act: &mut Activation, items: Items, flow: Flow) -> Next
+    ensures falls { next_weight result < 6 }
+    ensures means { Leads S.accesses (meaning S.accesses) (Ok result) act.new run.now
+        (resumed S.accesses (meaning S.accesses) (frames.Items items) act.old flow) run.now }
+    ensures ends { next_ends result act.new ≡ ends (frames.Items items) act.old }
+{
+    if flow.goes_on() {
+        Next::Items(items)
+    } else {
+        act.go_to(items.outer);
+        Next::Flow(flow)
+    }
+}
+
+/// An If whose predicate was evaluated.
+#[tactic(auto, using(crate::proofs::Stepping::stepping))]
+fn resume_if<S: Space>(
+    run: &mut Running<S>,
+    act: &mut Activation,
+    levels: u8,
+    outer: Position,
+    flow: Flow,
+) -> Result<Next, Refusal>
+    ensures spent { run.new.1 ≤ run.old.1 }
+    ensures falls { IfOk result (λ n. next_weight n < 6) }
+    ensures means { Leads S.accesses (meaning S.accesses) result act.new run.new
+        (resumed S.accesses (meaning S.accesses) (frames.If levels outer) act.old flow) run.old }
+    ensures ends { EndsAt result act.new (ends (frames.If levels outer) act.old) }
+{
+    let value = flow.value()?;
+    let number = integer_of(&run.world, value)?;
+    next_branch(run, act, levels, outer, is_true(number))
+}
+
+/// A While whose predicate was evaluated.
+#[tactic(auto, using(crate::proofs::Stepping::stepping))]
+fn resume_predicate<S: Space>(
+    run: &mut Running<S>,
+    act: &mut Activation,
+    turn: Loop,
+    flow: Flow,
+) -> Result<Next, Refusal>
+    ensures spent { run.new.1 ≤ run.old.1 }
+    ensures falls { IfOk result (λ n. next_weight n < 6) }
+    ensures means { Leads S.accesses (meaning S.accesses) result act.new run.new
+        (resumed S.accesses (meaning S.accesses) (frames.Predicate turn) act.old flow) run.old }
+    ensures ends { EndsAt result act.new (ends (frames.Predicate turn) act.old) }
+{
+    let value = flow.value()?;
+    let number = integer_of(&run.world, value)?;
+    Ok(next_turn(run, act, turn, is_true(number)))
+}
+
+/// The list of a While, where its predicate holds.
+#[tactic(auto, using(crate::proofs::Stepping::looping))]
+fn next_turn<S: Space>(run: &Running<S>, act: &mut Activation, turn: Loop, holds: bool) -> Next
+    ensures falls { next_weight result < 6 }
+    ensures means { Leads S.accesses (meaning S.accesses) (Ok result) act.new run.now
+        (turn_left S.accesses (meaning S.accesses) turn act.old holds) run.now }
+    ensures ends { next_ends result act.new ≡ at_position act.old turn.outer }
+{
+    if holds {
+        Next::ItemsThen(act.items(turn.levels, turn.outer), Frame::Turn(turn))
+    } else {
+        act.go_to(turn.outer);
+        Next::Flow(Flow::Next)
+    }
+}
+
+/// A turn of a While is done.
+#[tactic(auto, using(crate::proofs::Stepping::looping))]
+fn resume_turn<S: Space>(run: &Running<S>, act: &mut Activation, turn: Loop, flow: Flow) -> Next
+    ensures falls { next_weight result < 4 }
+    ensures means { Leads S.accesses (meaning S.accesses) (Ok result) act.new run.now
+        (resumed S.accesses (meaning S.accesses) (frames.Turn turn) act.old flow) run.now }
+    ensures ends { next_ends result act.new ≡ ends (frames.Turn turn) act.old }
+{
+    match flow.loop_end() {
+        None => {
+            act.go_to(turn.predicate);
+            Next::Term(turn.levels, Frame::Predicate(turn))
+        }
+        Some(last) => {
+            act.go_to(turn.outer);
+            Next::Flow(last)
+        }
+    }
+}
+
+/// A Return whose argument was evaluated.
+#[tactic(auto, using(crate::proofs::Stepping::stepping))]
+fn resume_return<S: Space>(
+    run: &mut Running<S>,
+    act: &mut Activation,
+    flow: Flow,
+) -> Result<Next, Refusal>
+    ensures spent { run.new.1 ≤ run.old.1 }
+    ensures falls { IfOk result (λ n. next_weight n < 6) }
+    ensures means { Leads S.accesses (meaning S.accesses) result act.new run.new
+        (resumed S.accesses (meaning S.accesses) frames.Return act.old flow) run.old }
+    ensures ends { EndsAt result act.new act.old }
+{
+    let value = flow.value()?;
+    Ok(Next::Flow(Flow::Return(value)))
+}
+
+/// A Stall or a Sleep: no time passes.
+#[tactic(auto, using(crate::proofs::Stepping::stepping))]
+fn resume_pause<S: Space>(
+    run: &mut Running<S>,
+    act: &mut Activation,
+    flow: Flow,
+) -> Result<Next, Refusal>
+    ensures spent { run.new.1 ≤ run.old.1 }
+    ensures falls { IfOk result (λ n. next_weight n < 6) }
+    ensures means { Leads S.accesses (meaning S.accesses) result act.new run.new
+        (resumed S.accesses (meaning S.accesses) frames.Pause act.old flow) run.old }
+    ensures ends { EndsAt result act.new act.old }
+{
+    let _time = flow.value()?;
+    Ok(Next::Flow(Flow::Next))
+}
+
+/// Fatal ends the evaluation.
+#[tactic(auto, using(crate::proofs::Stepping::stepping))]
+fn resume_fatal<S: Space>(
+    run: &mut Running<S>,
+    act: &mut Activation,
+    flow: Flow,
+) -> Result<Next, Refusal>
+    ensures spent { run.new.1 ≤ run.old.1 }
+    ensures falls { IfOk result (λ n. next_weight n < 6) }
+    ensures means { Leads S.accesses (meaning S.accesses) result act.new run.new
+        (resumed S.accesses (meaning S.accesses) frames.Fatal act.old flow) run.old }
+    ensures ends { EndsAt result act.new act.old }
+{
+    let _argument = flow.value()?;
+    Err(Refusal::Evaluation(EvaluationFault::Fatal))
+}
+
+/// A frame goes on with a flow.
+#[inline(always)]
+#[tactic(auto, using(crate::proofs::Stepping::stepping))]
+pub fn resume<S: Space>(
+    alloc: Global,
+    run: &mut Running<S>,
+    act: &mut Activation,
+    frame: Frame,
+    flow: Flow,
+) -> Result<Next, Refusal>
+    ensures spent { run.new.1 ≤ run.old.1 }
+    ensures falls { IfOk result (λ n. next_weight n < weight frame + 3) }
+    ensures means { Leads S.accesses (meaning S.accesses) result act.new run.new
+        (resumed S.accesses (meaning S.accesses) frame act.old flow) run.old }
+    ensures ends { EndsAt result act.new (ends frame act.old) }
+{
+    match frame {
+        Frame::Items(items) => Ok(resume_items(run, act, items, flow)),
+        Frame::If(levels, outer) => resume_if(run, act, levels, outer, flow),
+        Frame::Predicate(turn) => resume_predicate(run, act, turn, flow),
+        Frame::Turn(turn) => Ok(resume_turn(run, act, turn, flow)),
+        Frame::Return => resume_return(run, act, flow),
+        Frame::Pause => resume_pause(run, act, flow),
+        Frame::Fatal => resume_fatal(run, act, flow),
+        Frame::Argument(call) => resume_argument(alloc, run, act, call, flow),
+    }
+}

@@ -1,0 +1,300 @@
+//! The machine: a loop over a stack of frames.
+ghost use Rattle.std.specs.Prelude.{◌≡◌, ◌≤◌, ◌<◌, ◌+◌, ◌*◌, [], ◌∷◌, ◌++◌, Ok, Err, OnOk, IfOk, IfErr};
+ghost use Rattle.ar_space.specs.Change.{Does, stop};
+ghost use Rattle.ar_space.specs.Outcome.{seen};
+ghost use Rattle.ar_space.specs.declared.refusal.Refusal.TheVariants.{OutOfMemory};
+ghost use Rattle.aml_meaning.specs.Invocations.{left, returned_by};
+ghost use Rattle.aml_meaning.specs.Meaning.{meaning};
+ghost use Rattle.aml_frames.specs.declared.frames.Control.TheVariants as control;
+ghost use Rattle.aml_frames.specs.declared.frames.Entry.TheVariants as entry;
+ghost use Rattle.aml_frames.specs.Follow.{body_run, next_run, next_ends};
+ghost use Rattle.aml_frames.specs.Stack.{whole, then_all, machine, Goes, stack_weight, entry_weight, control_weight};
+ghost use Rattle.aml_frames.specs.Weights.{next_weight};
+
+use crate::activation::{Activation, Position};
+use crate::frames::{Control, Entry, Frame, Items, Next};
+use crate::lists::begin_items;
+use crate::resuming::resume;
+use crate::terms::Terms;
+use aml_meaning::{Flow, Running};
+use aml_path::Path;
+use aml_terms::LEVELS;
+use ar_space::{Refusal, Space};
+use std::alloc::Global;
+use std::mem;
+
+/// What is evaluated, and what waits for it.
+#[derive(Drop)]
+pub(crate) struct Stack {
+    pub(crate) act: Activation,
+    pub(crate) entries: Vec<Entry>,
+}
+
+/// Evaluates the body of a control method whose slots stand already, in one loop; `body` stands at its first byte. However the body ends,
+/// its call ends: its frame of slots, and the names below it.
+#[tactic(auto, using(crate::proofs::Machine::beginning))]
+pub fn evaluate<S: Space, T: Terms<S>>(
+    alloc: Global,
+    terms: &T,
+    run: &mut Running<S>,
+    body: Activation,
+) -> Result<Flow, Refusal>
+    ensures { Does result run.new (body_run S.accesses (meaning S.accesses) body) run.old }
+{
+    let path = match body.share_scope() {
+        Ok(path) => path,
+        Err(refusal) => {
+            end_call(run, body.scope().path);
+            return Err(refusal);
+        }
+    };
+    let list = whole(&body);
+    let outcome = execute(
+        alloc,
+        terms,
+        run,
+        Stack::new(alloc, body),
+        Control::Items(list),
+    );
+    end_call(run, path.path());
+    of_call(outcome)
+}
+
+/// What a call leaves whose body leaves this.
+fn of_call(outcome: Result<Flow, Refusal>) -> Result<Flow, Refusal>
+    ensures { result ≡ seen returned_by outcome }
+{
+    match outcome {
+        Ok(flow) => Ok(flow.of_call()),
+        Err(refusal) => Err(refusal),
+    }
+}
+
+/// All of the list of a body.
+fn whole(body: &Activation) -> Items
+    ensures { result ≡ whole body.now }
+{
+    body.items(LEVELS, Position { at: 0, end: 0 })
+}
+
+impl Stack {
+    /// A stack on which nothing waits.
+    fn new(alloc: Global, act: Activation) -> Stack
+        ensures act { result.act ≡ act }
+        ensures empty { result.entries.items ≡ [] }
+    {
+        Stack {
+            act,
+            entries: Vec::new(alloc),
+        }
+    }
+}
+
+/// The loop.
+fn execute<S: Space, T: Terms<S>>(
+    alloc: Global,
+    terms: &T,
+    run: &mut Running<S>,
+    stack: Stack,
+    first: Control,
+) -> Result<Flow, Refusal>
+    ensures { Does result run.new (machine S.accesses (meaning S.accesses) first stack.act stack.entries.items) run.old }
+{
+    let mut stack = stack;
+    let mut control = first;
+    'steps: loop {
+        match control {
+            Control::Term(levels) => match step_term(alloc, terms, run, &mut stack, levels) {
+                Ok(after) => control = after,
+                Err(refusal) => {
+                    unwind(run, &mut stack, &refusal);
+                    return Err(refusal);
+                }
+            },
+            Control::Items(items) => match step_items(run, &mut stack, items) {
+                Ok(after) => control = after,
+                Err(refusal) => {
+                    unwind(run, &mut stack, &refusal);
+                    return Err(refusal);
+                }
+            },
+            Control::Flow(flow) => match stack.entries.pop() {
+                None => return Ok(flow),
+                Some(top) => match step_entry(alloc, run, &mut stack, top, flow) {
+                    Ok(after) => control = after,
+                    Err(refusal) => {
+                        unwind(run, &mut stack, &refusal);
+                        return Err(refusal);
+                    }
+                },
+            },
+        }
+    }
+}
+
+/// A term begins.
+#[inline(always)]
+#[tactic(auto, using(crate::proofs::Machine::taking))]
+fn step_term<S: Space, T: Terms<S>>(
+    alloc: Global,
+    terms: &T,
+    run: &mut Running<S>,
+    stack: &mut Stack,
+    levels: u8,
+) -> Result<Control, Refusal>
+    ensures falls { IfOk result (λ c. 20 * run.new.1 + (stack_weight stack.new.entries.items + control_weight c) < 20 * run.old.1 + stack_weight stack.old.entries.items) }
+    ensures means { Goes S.accesses (meaning S.accesses) result stack.new.act stack.new.entries.items run.new
+        (machine S.accesses (meaning S.accesses) (control.Term levels) stack.old.act stack.old.entries.items) run.old }
+{
+    let next = terms.begin(alloc, run, &mut stack.act, levels)?;
+    follow(run, stack, next)
+}
+
+/// A list begins.
+#[inline(always)]
+#[tactic(auto, using(crate::proofs::Machine::taking))]
+fn step_items<S: Space>(
+    run: &mut Running<S>,
+    stack: &mut Stack,
+    items: Items,
+) -> Result<Control, Refusal>
+    ensures falls { IfOk result (λ c. 20 * run.new.1 + (stack_weight stack.new.entries.items + control_weight c) < 20 * run.old.1 + (stack_weight stack.old.entries.items + 4)) }
+    ensures means { Goes S.accesses (meaning S.accesses) result stack.new.act stack.new.entries.items run.new
+        (machine S.accesses (meaning S.accesses) (control.Items items) stack.old.act stack.old.entries.items) run.old }
+{
+    let next = begin_items(run, &mut stack.act, items);
+    follow(run, stack, next)
+}
+
+/// A flow meets what waited for it.
+#[inline(always)]
+#[tactic(auto, using(crate::proofs::Machine::taking))]
+fn step_entry<S: Space>(
+    alloc: Global,
+    run: &mut Running<S>,
+    stack: &mut Stack,
+    top: Entry,
+    flow: Flow,
+) -> Result<Control, Refusal>
+    ensures falls { IfOk result (λ c. 20 * run.new.1 + (stack_weight stack.new.entries.items + control_weight c) < 20 * run.old.1 + (stack_weight stack.old.entries.items + entry_weight top + 3)) }
+    ensures means { Goes S.accesses (meaning S.accesses) result stack.new.act stack.new.entries.items run.new
+        (machine S.accesses (meaning S.accesses) (control.Flow flow) stack.old.act (stack.old.entries.items ++ top ∷ [])) run.old }
+{
+    match top {
+        Entry::Frame(frame) => {
+            let next = resume(alloc, run, &mut stack.act, frame, flow)?;
+            follow(run, stack, next)
+        }
+        Entry::Leave(caller, method) => {
+            end_call(run, method.path());
+            stack.act = caller;
+            Ok(Control::Flow(flow.of_call()))
+        }
+    }
+}
+
+/// What is left to do is put on the stack.
+#[inline(always)]
+#[tactic(auto, using(crate::proofs::Machine::going))]
+fn follow<S: Space>(run: &mut Running<S>, stack: &mut Stack, next: Next) -> Result<Control, Refusal>
+    ensures spent { run.new.1 ≡ run.old.1 }
+    ensures falls { IfOk result (λ c. stack_weight stack.new.entries.items + control_weight c ≡ stack_weight stack.old.entries.items + next_weight next) }
+    ensures means { Goes S.accesses (meaning S.accesses) result stack.new.act stack.new.entries.items run.new
+        (then_all S.accesses (meaning S.accesses) (next_run S.accesses (meaning S.accesses) next stack.old.act) (next_ends next stack.old.act) stack.old.entries.items) run.old }
+{
+    match next {
+        Next::Flow(flow) => Ok(Control::Flow(flow)),
+        Next::Items(items) => Ok(Control::Items(items)),
+        Next::Term(levels, frame) => {
+            stack.entries.push(Entry::Frame(frame))?;
+            Ok(Control::Term(levels))
+        }
+        Next::ItemsThen(items, frame) => {
+            stack.entries.push(Entry::Frame(frame))?;
+            Ok(Control::Items(items))
+        }
+        Next::Body(body) => run_in(run, stack, body),
+        Next::BodyThen(body, frame) => {
+            push_frame(run, stack, &body, frame)?;
+            run_in(run, stack, body)
+        }
+    }
+}
+
+/// A frame is put on the stack, to wait for a call whose slots stand already: without memory for it the call ends.
+#[inline(always)]
+fn push_frame<S: Space>(
+    run: &mut Running<S>,
+    stack: &mut Stack,
+    body: &Activation,
+    frame: Frame,
+) -> Result<(), Refusal>
+    ensures steps { run.new.1 ≡ run.old.1 }
+    ensures kept { OnOk result (run.new ≡ run.old) }
+    ensures act { stack.new.act ≡ stack.old.act }
+    ensures pushed { OnOk result (stack.new.entries.items ≡ stack.old.entries.items ++ entry.Frame frame ∷ []) }
+    ensures memory { IfErr result (λ e. e ≡ OutOfMemory) }
+{
+    match stack.entries.push(Entry::Frame(frame)) {
+        Ok(()) => Ok(()),
+        Err(failed) => {
+            end_call(run, body.scope().path);
+            Err(Refusal::from(failed))
+        }
+    }
+}
+
+/// The body of a control method is evaluated, whose slots stand already; without memory for its caller the call ends.
+#[inline(always)]
+fn run_in<S: Space>(
+    run: &mut Running<S>,
+    stack: &mut Stack,
+    body: Activation,
+) -> Result<Control, Refusal>
+    ensures steps { run.new.1 ≡ run.old.1 }
+    ensures kept { OnOk result (run.new ≡ run.old) }
+    ensures act { OnOk result (stack.new.act ≡ body) }
+    ensures pushed { OnOk result (stack.new.entries.items ≡ stack.old.entries.items ++ entry.Leave stack.old.act body.scope ∷ []) }
+    ensures list { IfOk result (λ c. c ≡ control.Items (whole body)) }
+    ensures memory { IfErr result (λ e. e ≡ OutOfMemory) }
+{
+    let method = match body.share_scope() {
+        Ok(method) => method,
+        Err(refusal) => {
+            end_call(run, body.scope().path);
+            return Err(refusal);
+        }
+    };
+    let list = whole(&body);
+    let caller = mem::replace(&mut stack.act, body);
+    match stack.entries.push(Entry::Leave(caller, method)) {
+        Ok(()) => Ok(Control::Items(list)),
+        Err(failed) => {
+            end_call(run, stack.act.scope().path);
+            Err(Refusal::from(failed))
+        }
+    }
+}
+
+/// A refusal: what waits is given up, and each call that is being evaluated ends.
+fn unwind<S: Space>(run: &mut Running<S>, stack: &mut Stack, refusal: &Refusal)
+    ensures { then_all S.accesses (meaning S.accesses) (stop refusal.now) stack.old.act stack.old.entries.items run.old ≡ (Err refusal.now, run.new) }
+{
+    'entries: loop {
+        match stack.entries.pop() {
+            None => return,
+            Some(Entry::Frame(_frame)) => {}
+            Some(Entry::Leave(caller, method)) => {
+                end_call(run, method.path());
+                stack.act = caller;
+            }
+        }
+    }
+}
+
+/// The call of the control method at a path ends: its frame of slots, and the names below it.
+fn end_call<S: Space>(run: &mut Running<S>, method: &Path)
+    ensures { run.new ≡ (left method.now run.old.0, run.old.1) }
+{
+    run.world.leave(method);
+}

@@ -1,0 +1,159 @@
+//! Statements: what is done before their first part is evaluated (ACPI 6.5, 19.6 and 20.2.5.3). The operands stand next.
+ghost use Rattle.std.specs.Prelude.{◌≡◌, ◌≤◌, ◌<◌, Ok, Some, IfOk};
+ghost use Rattle.aml_marked.specs.Marked.{maybe_else};
+ghost use Rattle.aml_meaning.specs.Meaning.{meaning};
+ghost use Rattle.aml_meaning.specs.StatementTerms.{otherwise};
+ghost use Rattle.aml_meaning.specs.Terms.{else_of};
+ghost use Rattle.aml_meaning.specs.declared.term_kind.StatementKind.TheVariants as statements;
+ghost use Rattle.aml_frames.specs.Places.{at_place, terms};
+ghost use Rattle.aml_frames.specs.Follow.{behind_else, statement_run, branch_at, behind_statement_at, next_ends, Leads, EndsAt};
+ghost use Rattle.aml_frames.specs.Weights.{next_weight};
+
+use crate::activation::{Activation, Position};
+use crate::frames::{Frame, Loop, Next};
+use aml_meaning::{Flow, Running};
+use aml_terms::ELSE;
+use ar_space::{Refusal, Space};
+
+/// Return: its argument is evaluated.
+#[tactic(auto, using(crate::proofs::Stepping::stepping), unfolding(aml_meaning::specs::StatementTerms::return_rule))]
+pub fn begin_return<S: Space>(
+    run: &mut Running<S>,
+    act: &mut Activation,
+    levels: u8,
+) -> Result<Next, Refusal>
+    ensures spent { run.new.1 ≤ run.old.1 }
+    ensures means { Leads S.accesses (meaning S.accesses) result act.new run.new
+        (statement_run S.accesses (meaning S.accesses) statements.Return act.old levels) run.old }
+    ensures ends { EndsAt result act.new (behind_statement_at statements.Return act.old levels) }
+{
+    Ok(Next::Term(levels, Frame::Return))
+}
+
+/// Stall and Sleep: the time is evaluated.
+#[tactic(auto, using(crate::proofs::Stepping::stepping), unfolding(aml_meaning::specs::StatementTerms::pause_rule))]
+pub fn begin_pause<S: Space>(
+    run: &mut Running<S>,
+    act: &mut Activation,
+    levels: u8,
+) -> Result<Next, Refusal>
+    ensures spent { run.new.1 ≤ run.old.1 }
+    ensures means { Leads S.accesses (meaning S.accesses) result act.new run.new
+        (statement_run S.accesses (meaning S.accesses) statements.Pause act.old levels) run.old }
+    ensures ends { EndsAt result act.new (behind_statement_at statements.Pause act.old levels) }
+{
+    Ok(Next::Term(levels, Frame::Pause))
+}
+
+/// Fatal: its argument is evaluated, which stands behind a byte and a double word.
+#[tactic(auto, using(crate::proofs::Stepping::leads_fatal))]
+pub fn begin_fatal<S: Space>(
+    run: &mut Running<S>,
+    act: &mut Activation,
+    levels: u8,
+) -> Result<Next, Refusal>
+    ensures spent { run.new.1 ≤ run.old.1 }
+    ensures means { Leads S.accesses (meaning S.accesses) result act.new run.new
+        (statement_run S.accesses (meaning S.accesses) statements.Fatal act.old levels) run.old }
+    ensures ends { EndsAt result act.new (behind_statement_at statements.Fatal act.old levels) }
+{
+    act.over(1);
+    act.over(4);
+    Ok(Next::Term(levels, Frame::Fatal))
+}
+
+/// If: its predicate is evaluated.
+#[tactic(auto, using(crate::proofs::Stepping::branching))]
+pub fn begin_if<S: Space>(
+    run: &mut Running<S>,
+    act: &mut Activation,
+    levels: u8,
+) -> Result<Next, Refusal>
+    ensures spent { run.new.1 ≤ run.old.1 }
+    ensures means { Leads S.accesses (meaning S.accesses) result act.new run.new
+        (statement_run S.accesses (meaning S.accesses) statements.If act.old levels) run.old }
+    ensures ends { EndsAt result act.new (behind_statement_at statements.If act.old levels) }
+{
+    let outer = act.open();
+    Ok(Next::Term(levels, Frame::If(levels, outer)))
+}
+
+/// The list of an If, or the Else behind it.
+#[tactic(auto, using(crate::proofs::Stepping::branching))]
+pub(crate) fn next_branch<S: Space>(
+    run: &mut Running<S>,
+    act: &mut Activation,
+    levels: u8,
+    outer: Position,
+    holds: bool,
+) -> Result<Next, Refusal>
+    ensures spent { run.new.1 ≤ run.old.1 }
+    ensures falls { IfOk result (λ n. next_weight n < 6) }
+    ensures means { Leads S.accesses (meaning S.accesses) result act.new run.new
+        (branch_at S.accesses (meaning S.accesses) act.old levels outer holds) run.old }
+    ensures ends { EndsAt result act.new (behind_else act.old levels outer) }
+{
+    if holds {
+        let behind = act.behind_else(outer);
+        Ok(Next::Items(act.items(levels, behind)))
+    } else {
+        act.go_to(outer);
+        next_otherwise(run, act, levels)
+    }
+}
+
+/// The Else of an If, where it has one: it costs a step.
+#[tactic(auto, using(crate::proofs::Stepping::elses), unfolding(aml_marked::specs::Marked::maybe_else, aml_marked::specs::Marked::gives))]
+fn next_otherwise<S: Space>(
+    run: &mut Running<S>,
+    act: &mut Activation,
+    levels: u8,
+) -> Result<Next, Refusal>
+    ensures spent { run.new.1 ≤ run.old.1 }
+    ensures falls { IfOk result (λ n. next_weight n < 6) }
+    ensures means { Leads S.accesses (meaning S.accesses) result act.new run.new
+        (otherwise (meaning S.accesses) act.old.scope act.old.depth (else_of (Some (maybe_else (terms act.old levels) act.old.place).0))) run.old }
+    ensures ends { EndsAt result act.new (at_place act.old (maybe_else (terms act.old levels) act.old.place).1) }
+{
+    if act.is_next(ELSE) {
+        run.charge()?;
+        act.over(1);
+        Ok(begin_list(run, act, levels))
+    } else {
+        Ok(Next::Flow(Flow::Next))
+    }
+}
+
+/// The list of a package.
+#[tactic(auto, using(crate::proofs::Stepping::stepping))]
+pub fn begin_list<S: Space>(run: &Running<S>, act: &mut Activation, levels: u8) -> Next
+    ensures falls { next_weight result < 6 }
+    ensures means { Leads S.accesses (meaning S.accesses) (Ok result) act.new run.now
+        (statement_run S.accesses (meaning S.accesses) statements.Else act.old levels) run.now }
+    ensures ends { next_ends result act.new ≡ behind_statement_at statements.Else act.old levels }
+{
+    let outer = act.open();
+    Next::Items(act.items(levels, outer))
+}
+
+/// While: its predicate is evaluated.
+#[tactic(auto, using(crate::proofs::Stepping::looping))]
+pub fn begin_while<S: Space>(
+    run: &mut Running<S>,
+    act: &mut Activation,
+    levels: u8,
+) -> Result<Next, Refusal>
+    ensures spent { run.new.1 ≤ run.old.1 }
+    ensures means { Leads S.accesses (meaning S.accesses) result act.new run.new
+        (statement_run S.accesses (meaning S.accesses) statements.While act.old levels) run.old }
+    ensures ends { EndsAt result act.new (behind_statement_at statements.While act.old levels) }
+{
+    let outer = act.open();
+    let predicate = act.position();
+    let turn = Loop {
+        levels,
+        predicate,
+        outer,
+    };
+    Ok(Next::Term(levels, Frame::Predicate(turn)))
+}
