@@ -1,14 +1,19 @@
 #!/usr/bin/env python3
 """opcodes.py [--check]
 
-Writes docs/OPCODES.md, one row for each opcode of AML: its row in the grammar, which rule it is evaluated by, where the rule is
-defined, which function evaluates it, and where it is tested. All of it is read from the sources.
+Writes from tables/opcodes.txt the marked regions of the sources (the enum of opcodes, both tables of terms, and what is looked up by a
+byte), and then docs/OPCODES.md, one row for each opcode of AML: its row in the table, which rule it is evaluated by, where the rule is
+defined, which function evaluates it, and where it is tested. What the table doesn't have is read from the sources.
 
-With --check it writes nothing, and fails (status 1) where the page differs from what the sources say."""
+With --check it writes nothing, and fails (status 1) where a region or the page differs, or where a row's kind isn't that of
+crates/aml_meaning/specs/Terms.antt."""
 import glob
 import os
 import re
 import sys
+
+sys.dont_write_bytecode = True
+import opcode_table
 
 TOP = os.path.dirname(os.path.dirname(os.path.abspath(__file__)))
 PAGE = "docs/OPCODES.md"
@@ -43,13 +48,13 @@ ASL_NAMES = {
 PARTLY = {"Field": "a list with a connection", "IndexField": "a list with a connection"}
 HEAD = """# Opcodes
 
-<!-- Written by tools/opcodes.py from the sources: change those, and run it again. -->
+<!-- Written by tools/opcodes.py from tables/opcodes.txt and the sources: change those, and run it again. -->
 
 One row for each opcode of AML (ACPI 6.5, 20.3).
 
-- **Operands** are those of the grammar's row (`crates/aml_grammar/specs/Table.antt`; the same table as code is
-  `crates/aml_scan/src/table.rt`), behind the class that says where the term may stand. `in a package` means that a package length
-  comes first.
+- **Operands** are those of the row in `tables/opcodes.txt`, from which both tables of terms are written (the definition
+  `crates/aml_grammar/specs/Table.antt`, and as code `crates/aml_scan/src/table.rt`), behind the class that says where the term may
+  stand. `in a package` means that a package length comes first. **Count** is how many there are, and **Targets** how many of them are of the kind `Target`.
 - **Kind** is the rule that evaluates the term (`crates/aml_meaning/specs/Terms.antt`; as code `crates/aml_meaning/src/kinds.rt`).
   *left out* means that the term is read, and refused by number 73 with its opcode where it is evaluated.
 - **Definition** is a function in `crates/aml_meaning/specs`, **Code** a function in `crates/aml_interp/src`, or in the crate that is
@@ -57,8 +62,8 @@ One row for each opcode of AML (ACPI 6.5, 20.3).
 - **Tests** are files of rows: in `crates/name_rows/data` the one with the row `the opcode NAME, read and refused`, and in
   `crates/evaluation_rows/data` the one that names the term most often.
 
-| Opcode | Name | Operands | Kind | Definition | Code | Tests |
-|---|---|---|---|---|---|---|
+| Opcode | Name | Operands | Count | Targets | Kind | Definition | Code | Tests |
+|---|---|---|---|---|---|---|---|---|
 """
 
 
@@ -78,20 +83,34 @@ def files_in(pattern):
 # ---- what the sources say
 
 
-def opcodes():
-    """The opcodes in the order of the code: name and number."""
-    found = re.findall(r"^    (\w+) = 0x([0-9A-F]+),", text_of("crates/aml_grammar/src/opcode.rt"), re.MULTILINE)
-    return {name: int(number, 16) for name, number in found}
+def table_rows():
+    """The rows of the table."""
+    return opcode_table.read_rows(text_of(opcode_table.TABLE), text_of("crates/aml_grammar/src/kinds.rt"))
 
 
-def grammar_rows():
-    """The operands of each opcode, as the page writes them."""
-    rows = {}
-    for form, name, kind, operands in re.findall(r"(plain|packaged) opcodes\.(\w+) classes\.(\w+) (\[\]|\(.*?\[\]\))",
-                                                 text_of("crates/aml_grammar/specs/Table.antt")):
-        words = " ".join(re.findall(r"kinds\.(\w+)", operands)) or "none"
-        rows[name] = f"{kind}: {'in a package ' * (form == 'packaged')}{words}"
-    return rows
+def operands_text(row):
+    """The operands of an opcode, as the page writes them."""
+    return f"{row.place}: {'in a package ' * row.packaged}{' '.join(row.operands) or 'none'}"
+
+
+def check_kinds(rows, found, targets):
+    """Refuses a row whose kind isn't that of the definitions."""
+    for it in rows:
+        kind = "unsupported"
+        if it.name in found:
+            kind = ".".join([found[it.name][0], *found[it.name][1]])
+        elif it.name in targets:
+            kind = f"target.{targets[it.name]}"
+        if it.kind != kind:
+            raise Missing(f"{opcode_table.TABLE}: {it.name} has the kind {it.kind}, and Terms.antt says {kind}")
+
+
+def written(rows):
+    """Each file that has regions, as the table has it."""
+    texts = {}
+    for file, comment, name, lines in opcode_table.regions(rows, text_of):
+        texts[file] = opcode_table.with_region(file, texts.get(file) or text_of(file), comment, name, lines)
+    return texts
 
 
 def kinds():
@@ -203,20 +222,21 @@ def how(name, sources):
     return kind_text(name, function, kind), definition, f"`{sources['functions'][code]}`: `{code}`"
 
 
-def row(name, number, sources):
-    if name not in sources["grammar"] or name not in sources["tests"]:
-        raise Missing(f"{name} has no row in the grammar, or no test")
-    kind, definition, code = how(name, sources)
-    evaluated = evaluation_test(name, sources["lines"])
-    tests = f"`{sources['tests'][name]}`" + (f", `{evaluated}`" if evaluated else "")
-    return f"| {number:02X} | {name} | {sources['grammar'][name]} | {kind} | {definition} | {code} | {tests} |"
+def page_row(row, sources):
+    if row.name not in sources["tests"]:
+        raise Missing(f"{row.name} has no test")
+    kind, definition, code = how(row.name, sources)
+    evaluated = evaluation_test(row.name, sources["lines"])
+    tests = f"`{sources['tests'][row.name]}`" + (f", `{evaluated}`" if evaluated else "")
+    counts = f"{len(row.operands)} | {row.operands.count('Target')}"
+    return f"| {row.code:02X} | {row.name} | {operands_text(row)} | {counts} | {kind} | {definition} | {code} | {tests} |"
 
 
-def page():
-    sources = {"grammar": grammar_rows(), "kinds": kinds(), "targets": target_kinds(), "functions": functions_of_evaluation(),
-               "tests": grammar_tests(), "lines": told_lines()}
-    rows = [row(name, number, sources) for name, number in opcodes().items()]
-    return HEAD + "\n".join(rows) + "\n"
+def page(rows):
+    sources = {"kinds": kinds(), "targets": target_kinds(), "functions": functions_of_evaluation(), "tests": grammar_tests(),
+               "lines": told_lines()}
+    check_kinds(rows, sources["kinds"], sources["targets"])
+    return HEAD + "\n".join(page_row(it, sources) for it in rows) + "\n"
 
 
 def main(words):
@@ -224,18 +244,19 @@ def main(words):
         print(__doc__, file=sys.stderr)
         return 2
     try:
-        wanted = page()
-    except Missing as missing:
-        print(f"opcodes.py: {missing}", file=sys.stderr)
+        rows = table_rows()
+        texts = {**written(rows), PAGE: page(rows)}
+    except (Missing, opcode_table.Wrong) as wrong:
+        print(f"opcodes.py: {wrong}", file=sys.stderr)
         return 1
-    if not words:
-        with open(f"{TOP}/{PAGE}", "w", encoding="utf-8") as it:
-            it.write(wanted)
-        return 0
-    if not os.path.exists(f"{TOP}/{PAGE}") or text_of(PAGE) != wanted:
-        print(f"opcodes.py: {PAGE} is stale: run tools/opcodes.py", file=sys.stderr)
-        return 1
-    return 0
+    stale = [file for file, wanted in texts.items() if not os.path.exists(f"{TOP}/{file}") or text_of(file) != wanted]
+    for file in stale:
+        if words:
+            print(f"opcodes.py: {file} is stale: run tools/opcodes.py", file=sys.stderr)
+            continue
+        with open(f"{TOP}/{file}", "w", encoding="utf-8") as it:
+            it.write(texts[file])
+    return 1 if words and stale else 0
 
 
 if __name__ == "__main__":

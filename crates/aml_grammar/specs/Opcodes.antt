@@ -3,6 +3,7 @@ use Rattle.std.specs.Prelude.{ℕ}
 use Rattle.aml_grammar.specs.declared.opcode.Opcode.{Opcode}
 use Rattle.aml_grammar.specs.declared.opcode.Opcode.TheVariants as opcodes
 
+-- written by tools/opcodes.py from tables/opcodes.txt: codes: begin
 abbrev pub number_of : Opcode → ℕ
 number_of opcodes.Zero = 0x00
 number_of opcodes.One = 0x01
@@ -116,3 +117,5 @@ number_of opcodes.ThermalZone = 0x5B85
 number_of opcodes.IndexField = 0x5B86
 number_of opcodes.BankField = 0x5B87
 number_of opcodes.DataRegion = 0x5B88
+
+-- written by tools/opcodes.py from tables/opcodes.txt: codes: end

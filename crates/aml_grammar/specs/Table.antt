@@ -30,6 +30,7 @@ packaged opcode class ks = record { 0 = opcode; 1 = class; 2 = true; 3 = kinds_i
 
 abbrev pub table : List Row
 table =
+    -- written by tools/opcodes.py from tables/opcodes.txt: rows: begin
     plain opcodes.Zero classes.Data [] ∷
     plain opcodes.One classes.Data [] ∷
     plain opcodes.Alias classes.ModuleLevel (kinds.AliasSource ∷ kinds.AliasName ∷ []) ∷
@@ -142,6 +143,7 @@ table =
     packaged opcodes.IndexField classes.Statement (kinds.NameString ∷ kinds.NameString ∷ kinds.ByteData ∷ kinds.FieldList ∷ []) ∷
     packaged opcodes.BankField classes.Statement (kinds.NameString ∷ kinds.NameString ∷ kinds.TermArg ∷ kinds.ByteData ∷ kinds.FieldList ∷ []) ∷
     plain opcodes.DataRegion classes.Statement (kinds.DeclaredName ∷ kinds.TermArg ∷ kinds.TermArg ∷ kinds.TermArg ∷ []) ∷ []
+    -- written by tools/opcodes.py from tables/opcodes.txt: rows: end
 
 -- the row of an opcode
 unfoldable pub row_of : ℕ → Option Row

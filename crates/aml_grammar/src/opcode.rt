@@ -7,6 +7,7 @@ ghost use Rattle.aml_grammar.specs.Opcodes.{number_of};
 /// The number is its byte, or `5B` (ExtOpPrefix) and its second byte.
 #[derive(Clone, Copy, Debug, PartialEq, Eq)]
 pub enum Opcode {
+    // written by tools/opcodes.py from tables/opcodes.txt: codes: begin
     Zero = 0x00,
     One = 0x01,
     Alias = 0x06,
@@ -119,6 +120,7 @@ pub enum Opcode {
     IndexField = 0x5B86,
     BankField = 0x5B87,
     DataRegion = 0x5B88,
+    // written by tools/opcodes.py from tables/opcodes.txt: codes: end
 }
 
 impl Opcode {

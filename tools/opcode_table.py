@@ -1,0 +1,134 @@
+"""Reads tables/opcodes.txt, and forms the regions of the sources that are written from it (tools/opcodes.py writes or checks them)."""
+import re
+
+TABLE = "tables/opcodes.txt"
+MOST_OPERANDS = 6
+# The bytes of an operand that alone says how long a term is.
+SIZES = {"ByteData": 1, "WordData": 2, "DWordData": 4, "QWordData": 8}
+
+
+class Wrong(Exception):
+    """A row that can't stand, or a file without its region."""
+
+
+class Row:
+    """One opcode."""
+
+    def __init__(self, name, code, place, packaged, kind, operands):
+        self.name, self.code, self.place, self.packaged, self.kind, self.operands = name, code, place, packaged, kind, operands
+
+
+def variants(text, enum):
+    body = re.search(rf"^pub enum {enum} {{\n(.*?)^}}", text, re.MULTILINE | re.DOTALL)[1]
+    return re.findall(r"^    (\w+),", body, re.MULTILINE)
+
+
+def read_row(line, classes, operand_kinds):
+    words = line.split()
+    if len(words) < 6:
+        raise Wrong("fewer than six columns")
+    name, code, place, packaged, kind, *operands = words
+    operands = [] if operands == ["-"] else operands
+    if not re.fullmatch(r"[A-Z]\w*", name):
+        raise Wrong(f"{name} is no name")
+    if not re.fullmatch(r"(?:5B)?[0-9A-F]{1,2}", code):
+        raise Wrong(f"{code} is no code")
+    if place not in classes:
+        raise Wrong(f"{place} is no class")
+    if packaged not in ("yes", "no"):
+        raise Wrong(f"package is yes or no, not {packaged}")
+    if len(operands) > MOST_OPERANDS:
+        raise Wrong(f"{len(operands)} operands, and {MOST_OPERANDS} are the most")
+    for it in operands:
+        if it not in operand_kinds or it == "Nothing":
+            raise Wrong(f"{it} is no kind of operand")
+    return Row(name, int(code, 16), place, packaged == "yes", kind, operands)
+
+
+def read_rows(text, kinds_text):
+    """The rows of the table; `kinds_text` is crates/aml_grammar/src/kinds.rt."""
+    classes, operand_kinds = variants(kinds_text, "Class"), variants(kinds_text, "OperandKind")
+    rows = []
+    for number, line in enumerate(text.splitlines(), 1):
+        if not line.strip() or line.startswith("#"):
+            continue
+        try:
+            row = read_row(line, classes, operand_kinds)
+            if any(it.code == row.code or it.name == row.name for it in rows):
+                raise Wrong(f"{row.name} or its code is there already")
+            if rows and row.code < rows[-1].code:
+                raise Wrong("codes rise from row to row")
+        except Wrong as wrong:
+            raise Wrong(f"{TABLE}:{number}: {wrong}: {line.strip()}") from None
+        rows.append(row)
+    return rows
+
+
+def digits(row):
+    return f"0x{row.code:04X}" if row.code > 0xFF else f"0x{row.code:02X}"
+
+
+def definition_row(row):
+    operands = "(" + "".join(f"kinds.{it} ∷ " for it in row.operands) + "[])" if row.operands else "[]"
+    return f"    {'packaged' if row.packaged else 'plain'} opcodes.{row.name} classes.{row.place} {operands} ∷"
+
+
+def constants(text):
+    """The operand lists that crates/aml_scan/src/table.rt has names for."""
+    found = re.findall(r"^const (\w+): OperandKinds = OperandKinds\((.*?)\);", text, re.MULTILINE | re.DOTALL)
+    return {tuple(re.findall(r"Kind::(\w+)", inside)): name for name, inside in found}
+
+
+def code_row(row, names):
+    if tuple(row.operands) not in names:
+        raise Wrong(f"crates/aml_scan/src/table.rt has no constant for the operands of {row.name}: {' '.join(row.operands)}")
+    return f"    Row(Op::{row.name}, {row.place}, {str(row.packaged).lower()}, {names[tuple(row.operands)]}),"
+
+
+def places(rows, high):
+    found = [len(rows)] * 256
+    for place, row in enumerate(rows):
+        if row.code >> 8 == high:
+            found[row.code & 0xFF] = place
+    return ["    " + " ".join(f"0x{it:02X}," for it in found[start:start + 16]) for start in range(0, 256, 16)]
+
+
+def lengths(rows):
+    found = [0] * 256
+    for row in rows:
+        if row.code < 0x100 and not row.packaged and (not row.operands or len(row.operands) == 1 and row.operands[0] in SIZES):
+            found[row.code] = 1 + sum(SIZES[it] for it in row.operands)
+    return ["    " + " ".join(f"{it}," for it in found[start:start + 32]) for start in range(0, 256, 32)]
+
+
+def regions(rows, text_of):
+    """Each region: its file, the comment that begins a line there, its name, and its lines."""
+    definitions = [definition_row(it) for it in rows]
+    definitions[-1] += " []"
+    numbers = ["abbrev pub number_of : Opcode → ℕ", *[f"number_of opcodes.{it.name} = {digits(it)}" for it in rows], ""]
+    scan = "crates/aml_scan/src/table.rt"
+    names = constants(text_of(scan))
+    return [
+        ("crates/aml_grammar/src/opcode.rt", "    // ", "codes", [f"    {it.name} = {digits(it)}," for it in rows]),
+        ("crates/aml_grammar/specs/Opcodes.antt", "-- ", "codes", numbers),
+        ("crates/aml_grammar/specs/Table.antt", "    -- ", "rows", definitions),
+        (scan, "// ", "rows", [f"static TABLE: [Row; {len(rows)}] = [", *[code_row(it, names) for it in rows], "];"]),
+        (scan, "// ", "number of rows", [f"const NO_ROW: u8 = 0x{len(rows):02X};"]),
+        (scan, "    // ", "places", places(rows, 0)),
+        (scan, "    // ", "places behind 5B", places(rows, 0x5B)),
+        ("crates/aml_terms/src/short.rt", "    // ", "lengths", lengths(rows)),
+    ]
+
+
+def bounds(comment, name):
+    said = f"written by tools/opcodes.py from {TABLE}: {name}"
+    return f"{comment}{said}: begin\n", f"{comment}{said}: end\n"
+
+
+def with_region(file, text, comment, name, lines):
+    """The text of a file with one region as the table has it."""
+    begin, end = bounds(comment, name)
+    if text.count(begin) != 1 or text.count(end) != 1:
+        raise Wrong(f"{file} has no region `{name}`")
+    before, rest = text.split(begin)
+    return before + begin + "".join(f"{it}\n" for it in lines) + end + rest.split(end)[1]
