@@ -1,10 +1,12 @@
 #!/usr/bin/env python3
-"""How long the first least assignment of many links takes, beside the earlier solver that is kept for tests.
+"""How long the first least assignment of many links takes, beside the earlier solver that is kept for tests, and how long it takes from
+there to an assignment under which they share as little as they can, and to test that one.
 
     benches/route_solve.py [--count] [PROGRAM]
 
 The program is crates/timing/out/timing: build it first by `rt run` in crates/timing. Each problem is solved many times in one run
-of it, by `timing solver TIMES` and by `timing earlier-solver TIMES` in turn, and what a run with no solution takes is taken off.
+of it, by `timing solver TIMES`, `timing earlier-solver TIMES`, `timing spread TIMES` and `timing spread-check TIMES` in turn, and what a
+run with no solution takes is taken off.
 The microseconds of a solution are those of the fastest of five runs, of one run where a solution takes half a second. With --count
 the instructions of one solution are counted in place of that, by valgrind's callgrind, which other work on the machine doesn't
 disturb. The problems are the same at each call.
@@ -17,8 +19,13 @@ import sys
 import tempfile
 import time
 
+sys.path.insert(0, str(pathlib.Path(__file__).parent.parent / "tools"))
+sys.dont_write_bytecode = True
+from usage import answer_help, program_there
+
 PROGRAM = str(pathlib.Path(__file__).parent.parent / "crates/timing/out/timing")
 SOLVERS = ("earlier-solver", "solver")
+SHARINGS = ("spread", "spread-check")
 
 
 class Problem:
@@ -147,15 +154,18 @@ def counted(program, solver, text):
 
 
 def main(words):
+    answer_help(__doc__)
     measure, unit = (counted, "thousand instructions") if "--count" in words else (fastest, "microseconds")
-    program = next((it for it in words if not it.startswith("--")), PROGRAM)
-    print(f"{unit}: the earlier solver, the solver, and the second in parts of the first")
+    program = program_there(next((it for it in words if not it.startswith("--")), PROGRAM))
+    print(f"{unit}: the earlier solver, the solver, and the second in parts of the first; links moved to share as little as they can, and the test")
     for kind in KINDS:
         for links in (16, 64, 256):
             text = kind(links, 255).text()
             (before, came), (now, also) = (measure(program, it, text) for it in SOLVERS)
             same = came.decode().strip() if came == also else f"{came} and {also}"
-            print(f"{links:3} links, {kind.__name__}: {before:.1f} {now:.1f} {now / before:.2f} ({same})", flush=True)
+            (moved, how_many), (test, answer) = (measure(program, it, text) for it in SHARINGS)
+            shared = f"{how_many.decode().strip()}, {answer.decode().strip()}"
+            print(f"{links:3} links, {kind.__name__}: {before:.1f} {now:.1f} {now / before:.2f} ({same}); {moved:.1f} {test:.1f} ({shared})", flush=True)
 
 
 if __name__ == "__main__":

@@ -29,7 +29,7 @@ fn is_same(one: &Answer, other: &Answer) -> bool {
 fn is_as_made(kind: Kind, busiest: u32) -> bool {
     match kind {
         Kind::Tight(limit) | Kind::TightWired(limit) => busiest == limit,
-        Kind::Sparse | Kind::Dense | Kind::Wired => true,
+        Kind::Few | Kind::Sparse | Kind::Dense | Kind::Wired => true,
     }
 }
 

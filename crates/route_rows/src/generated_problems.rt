@@ -1,4 +1,6 @@
 //! Problems that are generated from a seed, of up to 40 links and 40 interrupts.
+ghost use Rattle.std.specs.Prelude.{◌<◌};
+
 use crate::random::Random;
 use crate::words::{add, path_of};
 use route_model::Link;
@@ -8,6 +10,8 @@ use test_rows::Exchange;
 /// How a problem is generated.
 #[derive(Clone, Copy)]
 pub enum Kind {
+    /// Up to five links and four interrupts, of which a link offers about half, and up to three sources wired to each.
+    Few,
     /// A link offers about an interrupt in eight.
     Sparse,
     /// A link offers about three interrupts in four.
@@ -32,6 +36,7 @@ fn count(random: &mut Random, kind: Kind) -> usize {
             let most = 40 / limit.max(1) as usize;
             random.below(most.max(2) - 1) + 2
         }
+        Kind::Few => random.below(4) + 1,
         Kind::Sparse | Kind::Dense | Kind::Wired => random.below(40) + 1,
     }
 }
@@ -40,7 +45,7 @@ fn count(random: &mut Random, kind: Kind) -> usize {
 fn sources(random: &mut Random, kind: Kind) -> u32 {
     match kind {
         Kind::Sparse | Kind::Dense | Kind::Tight(_) => 0,
-        Kind::Wired => random.below(4) as u32,
+        Kind::Few | Kind::Wired => random.below(4) as u32,
         Kind::TightWired(limit) => random.below(limit as usize + 1) as u32,
     }
 }
@@ -58,6 +63,7 @@ fn wired(asked: &mut Exchange, random: &mut Random, kind: Kind, count: usize) ->
 fn bits(random: &mut Random, kind: Kind) -> u64 {
     match kind {
         Kind::Dense => random.number() | random.number(),
+        Kind::Few => random.number(),
         Kind::Wired => random.number() & random.number(),
         Kind::Sparse | Kind::Tight(_) | Kind::TightWired(_) => {
             random.number() & random.number() & random.number()
@@ -88,10 +94,20 @@ fn add_link(asked: &mut Exchange, links: &mut Vec<Link>, offers: Vec<u32>) {
     }
 }
 
-/// 1 to 40 links.
+/// Up to how many links a problem has.
+fn most_links(kind: Kind) -> usize
+    ensures { 0 < result }
+{
+    match kind {
+        Kind::Few => 5,
+        _ => 40,
+    }
+}
+
+/// 1 to 40 links, or few.
 fn some_links(asked: &mut Exchange, random: &mut Random, kind: Kind, count: usize) -> Vec<Link> {
     let mut links = Vec::new(asked.alloc());
-    for _ in 0..random.below(40) + 1 {
+    for _ in 0..random.below(most_links(kind)) + 1 {
         let sure = random.below(count.max(1));
         let offers = offers(asked, count, bits(random, kind), sure);
         add_link(asked, &mut links, offers);
@@ -147,7 +163,9 @@ pub fn generated(asked: &mut Exchange, kind: Kind, seed: u64) -> Problem {
             let mut rooms = rooms(asked, count, wired.as_slice(), limit);
             tight_links(asked, &mut random, kind, count, &mut rooms)
         }
-        Kind::Sparse | Kind::Dense | Kind::Wired => some_links(asked, &mut random, kind, count),
+        Kind::Few | Kind::Sparse | Kind::Dense | Kind::Wired => {
+            some_links(asked, &mut random, kind, count)
+        }
     };
     Problem { links, wired }
 }

@@ -66,7 +66,7 @@ fn say_places(asked: &mut Exchange, links: &[Link], places: &[usize]) {
 }
 
 /// Answers the interrupts of the links in their order.
-fn say_choice(asked: &mut Exchange, choice: &[u32]) {
+pub fn say_choice(asked: &mut Exchange, choice: &[u32]) {
     asked.say("give");
     say_numbers(asked, choice);
 }

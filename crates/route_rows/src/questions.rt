@@ -3,7 +3,7 @@ use crate::earlier_solver::on_generated;
 use crate::row::RouteRow;
 use crate::small_problems::both_solvers;
 use crate::words::named;
-use crate::{claims, problems, reports, texts};
+use crate::{claims, problems, reports, sharings, texts};
 use test_rows::Exchange;
 
 /// A question, by what it is about.
@@ -12,8 +12,11 @@ enum Ask {
     Claim(claims::Ask),
     Problem(problems::Ask),
     Text(texts::Ask),
+    Sharing(sharings::Ask),
     BothSolvers,
     Generated,
+    SpreadSmall,
+    SpreadGenerated,
     Report,
     Print,
     Read,
@@ -23,7 +26,7 @@ enum Ask {
 }
 
 /// The questions, by their first words.
-const QUESTIONS: [(&str, Ask); 30] = [
+const QUESTIONS: [(&str, Ask); 34] = [
     ("link", Ask::Claim(claims::Ask::Link)),
     ("links", Ask::Claim(claims::Ask::Links)),
     ("wired", Ask::Claim(claims::Ask::Wired)),
@@ -46,8 +49,12 @@ const QUESTIONS: [(&str, Ask); 30] = [
     ("repeat", Ask::Text(texts::Ask::Repeat)),
     ("crowd", Ask::Text(texts::Ask::Crowd)),
     ("line", Ask::Text(texts::Ask::Line)),
+    ("spread", Ask::Sharing(sharings::Ask::Spread)),
+    ("least-shared", Ask::Sharing(sharings::Ask::LeastShared)),
     ("both-solvers", Ask::BothSolvers),
     ("generated", Ask::Generated),
+    ("spread-small", Ask::SpreadSmall),
+    ("spread-generated", Ask::SpreadGenerated),
     ("report", Ask::Report),
     ("print", Ask::Print),
     ("read", Ask::Read),
@@ -62,8 +69,11 @@ pub fn answer(row: &mut RouteRow, asked: &mut Exchange) {
         Ask::Claim(ask) => claims::answer(asked, &mut row.claim, ask),
         Ask::Problem(ask) => problems::answer(asked, &mut row.claim, ask),
         Ask::Text(ask) => texts::answer(asked, &mut row.text, ask),
+        Ask::Sharing(ask) => sharings::answer(asked, &mut row.claim, ask),
         Ask::BothSolvers => both_solvers(asked),
         Ask::Generated => on_generated(asked),
+        Ask::SpreadSmall => sharings::on_small(asked),
+        Ask::SpreadGenerated => sharings::on_generated(asked),
         Ask::Report => reports::add_line(asked, &mut row.report),
         Ask::Print => texts::print_report(asked, &mut row.text, &row.report),
         Ask::Read => texts::read_text(asked, &mut row.claim, row.text.as_slice()),

@@ -19,7 +19,7 @@ fn interrupts(asked: &mut Exchange, bits: usize) -> Vec<u32> {
 
 /// Up to two sources wired to three interrupts that links may offer and one that none offers: two
 /// numbers of 0 for none and 1 to 4, the first of them not the smaller.
-fn wired(asked: &mut Exchange, one: usize, other: usize) -> Vec<(u32, u32)> {
+pub fn small_wired(asked: &mut Exchange, one: usize, other: usize) -> Vec<(u32, u32)> {
     let mut counts: Vec<(u32, u32)> = Vec::new(asked.alloc());
     for (place, number) in [(1, 5), (2, 10), (3, 11), (4, 12)] {
         let sources = u32::from(one == place) + u32::from(other == place);
@@ -40,7 +40,7 @@ fn add_link(asked: &mut Exchange, links: &mut Vec<Link>, name: &str, bits: usize
 }
 
 /// The links with the offers of these bits.
-fn links(asked: &mut Exchange, bits: usize) -> Vec<Link> {
+pub fn small_links(asked: &mut Exchange, bits: usize) -> Vec<Link> {
     let mut links = Vec::new(asked.alloc());
     add_link(asked, &mut links, "\\LNKA", bits / 64 % 8);
     add_link(asked, &mut links, "\\LNKB", bits / 8 % 8);
@@ -66,13 +66,13 @@ fn agree_on(asked: &mut Exchange, problem: &Problem) -> bool {
 /// Whether they agree on links with all ways to wire up to two sources.
 fn agree_on_links(asked: &mut Exchange, bits: usize) -> bool {
     let mut problem = Problem {
-        links: links(asked, bits),
+        links: small_links(asked, bits),
         wired: Vec::new(asked.alloc()),
     };
     let mut agree = true;
     for one in 0..5usize {
         for other in 0..one + 1 {
-            problem.wired = wired(asked, one, other);
+            problem.wired = small_wired(asked, one, other);
             agree = agree_on(asked, &problem) && agree;
         }
     }

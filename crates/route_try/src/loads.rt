@@ -17,7 +17,7 @@ fn links_given(choice: &[u32], n: u32) -> usize {
 }
 
 /// How many sources an interrupt serves.
-fn load(wired: &[(u32, u32)], choice: &[u32], n: u32) -> usize {
+pub(crate) fn load(wired: &[(u32, u32)], choice: &[u32], n: u32) -> usize {
     links_given(choice, n).saturating_add(wired_sources(wired, n))
 }
 

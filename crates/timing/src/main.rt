@@ -1,7 +1,9 @@
 //! For measuring parts of the program by themselves: `timing machine-text` reads a machine text from the standard input and
 //! prints the address of its RSDP; `timing solver TIMES` reads links and wired interrupts, solves the problem so many times, once
-//! where no number is given, and prints how many sources the busiest interrupt of its first least assignment serves; and
-//! `timing earlier-solver TIMES` does the same by the earlier solver, which is there for tests.
+//! where no number is given, and prints how many sources the busiest interrupt of its first least assignment serves;
+//! `timing earlier-solver TIMES` does the same by the earlier solver, which is there for tests; `timing spread TIMES` moves links so
+//! often from that assignment to one under which they share as little as they can, and `timing spread-check TIMES` tests that one so
+//! often.
 #![tactic(auto)]
 
 mod links;
@@ -11,6 +13,7 @@ ghost use Rattle.route_solve.specs.Fits.{Fits};
 use crate::links::problem;
 use machine_text::read_machine;
 use route_solve::{Answer, Problem, fits, solve};
+use route_spread::{is_least_shared, solve_spread};
 use route_try::earlier;
 use std::alloc::{AllocError, Global};
 use std::env;
@@ -41,6 +44,40 @@ fn solved(alloc: Global, which: Which, problem: &Problem) -> Result<Answer, Allo
     }
 }
 
+/// What a least sharing comes to, found so many times from the first least assignment.
+fn spread_line(alloc: Global, text: &[u8], times: u32) -> anyhow::Result<String> {
+    let problem = problem(alloc, text)?;
+    if !fits(&problem) {
+        return Ok("not a problem that fits".to_string(alloc)?);
+    }
+    let first = solve(alloc, &problem)?.choice;
+    let mut moved = 0;
+    for _ in 0..times {
+        let choice = solve_spread(alloc, &problem.links, &problem.wired, &first)?;
+        moved = first
+            .iter()
+            .zip(choice.iter())
+            .filter(|(a, b)| **a != **b)
+            .count();
+    }
+    Ok(format!(in alloc; "moved {moved}")?)
+}
+
+/// Whether the least sharing that is found passes its test, so many times.
+fn spread_check_line(alloc: Global, text: &[u8], times: u32) -> anyhow::Result<String> {
+    let problem = problem(alloc, text)?;
+    if !fits(&problem) {
+        return Ok("not a problem that fits".to_string(alloc)?);
+    }
+    let first = solve(alloc, &problem)?.choice;
+    let choice = solve_spread(alloc, &problem.links, &problem.wired, &first)?;
+    let mut least = true;
+    for _ in 0..times {
+        least = is_least_shared(alloc, &problem.links, &problem.wired, &choice)?;
+    }
+    Ok(format!(in alloc; "least {least}")?)
+}
+
 /// What links come to, solved so many times.
 fn solver_line(alloc: Global, text: &[u8], which: Which, times: u32) -> anyhow::Result<String> {
     let problem = problem(alloc, text)?;
@@ -63,7 +100,9 @@ fn line(alloc: Global, words: &[String], text: &[u8]) -> anyhow::Result<String> 
         "machine-text" => machine_line(alloc, text),
         "solver" => solver_line(alloc, text, Which::Now, times),
         "earlier-solver" => solver_line(alloc, text, Which::Earlier, times),
-        _ => Ok("machine-text, solver or earlier-solver?".to_string(alloc)?),
+        "spread" => spread_line(alloc, text, times),
+        "spread-check" => spread_check_line(alloc, text, times),
+        _ => Ok("machine-text, solver, earlier-solver, spread or spread-check?".to_string(alloc)?),
     }
 }
 

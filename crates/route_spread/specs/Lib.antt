@@ -1,0 +1,4 @@
+pub mod Sharing
+pub mod Numbers
+pub mod Marks
+pub mod Sharings

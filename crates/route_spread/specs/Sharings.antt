@@ -1,0 +1,23 @@
+-- An assignment by places, with its loads.
+use Rattle.std.specs.Prelude.{◌≡◌, ℕ, ◌+◌, ◌<◌, ◌≤◌, ◌^◌, Bool, List, length, map}
+use Rattle.std.specs.List.Sorted.{IsStrictlyIncreasing}
+use Rattle.route_model.specs.Routing.{given, wired_to}
+use Rattle.route_spread.specs.Numbers.{number_at, IsNumbered}
+use Rattle.route_spread.specs.Marks.{at, ArePlaced}
+
+-- links, by their places, on the interrupts that they have in an assignment, by the places of these
+pub record IsSharing (offers : List (List ℕ)) (wired : List (ℕ × ℕ)) (a numbers : List ℕ) (places : List (List ℕ)) (choice loads : List ℕ) : Type 0 where
+  pub up : IsStrictlyIncreasing numbers
+  pub numbered : IsNumbered offers numbers places
+  pub named : map (number_at numbers) choice ≡ a
+  pub many : length choice ≡ length places
+  pub placed : ArePlaced places choice
+  pub long : length loads ≡ length numbers
+  pub loaded : (x : ℕ) → x < length numbers → at loads x ≡ given choice x + wired_to wired (number_at numbers x)
+
+-- what a search owes: no load too great to count with, and room for what it marks
+pub record HasRoom (choice loads : List ℕ) (raised : List Bool) (from turn : List ℕ) : Type 0 where
+  pub small : (x : ℕ) → at loads x ≤ 2 ^ 100
+  pub marks : length raised ≡ length loads
+  pub links : length from ≡ length loads
+  pub turns : length turn ≡ length choice
