@@ -1,3 +1,4 @@
+pub mod AllLeft
 pub mod Counted
 pub mod Found
 pub mod Kept

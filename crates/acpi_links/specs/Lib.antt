@@ -10,3 +10,4 @@ pub mod Resources
 pub mod Settings
 pub mod Stops
 pub mod Wiring
+pub mod Sparing

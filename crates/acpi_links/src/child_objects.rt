@@ -15,7 +15,7 @@ use ar_space::{Refusal, Space, ValueFault};
 use std::alloc::Global;
 
 /// Whether a name stands at a path.
-pub(crate) fn stands<S: Space>(machine: &Machine<S>, path: &Path) -> bool
+pub fn stands<S: Space>(machine: &Machine<S>, path: &Path) -> bool
     ensures { result ≡ stands path.now machine.now }
 {
     machine.find_node(path).is_some()

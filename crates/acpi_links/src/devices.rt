@@ -17,7 +17,7 @@ use std::alloc::Global;
 
 /// The paths of all devices, in path order.
 #[tactic(auto, using(ar_space::specs::Outcome::answering), unfolding(crate::specs::Devices::devices))]
-pub(crate) fn devices<S: Space>(alloc: Global, machine: &Machine<S>) -> Result<Vec<Path>, Refusal>
+pub fn list_devices<S: Space>(alloc: Global, machine: &Machine<S>) -> Result<Vec<Path>, Refusal>
     ensures { Answers (seen (λ list. list.items) result) (Ok (devices machine.now)) }
 {
     only_devices(alloc, machine.walk_namespace(alloc)?)

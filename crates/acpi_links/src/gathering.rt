@@ -12,7 +12,7 @@ ghost use Rattle.acpi_links.specs.Devices.{devices, devices_listed};
 ghost use Rattle.acpi_links.specs.Gatherings.{sci_shown, pins_found, links_found, gathering, gathered};
 ghost use Rattle.acpi_links.specs.Problems.{problem_of};
 
-use crate::devices::{devices, pins_of_each};
+use crate::devices::{list_devices, pins_of_each};
 use crate::gathered::Gathered;
 use crate::links::{PresentLink, few_links, few_pins, links_named, links_of_each, one_polarity};
 use crate::problem::problem_of;
@@ -45,6 +45,9 @@ pub fn gather<S: Space>(
     ensures fits { IfOk result (λ g. Fits g.problem) }
     ensures few_wired { IfOk result (λ g. length g.problem.wired ≤ 4096) }
     ensures few_pins { IfOk result (λ g. length g.pins ≤ 4096) }
+    ensures few_sources { IfOk result (λ g. length g.pins + length (option_to_list (sci_of machine.old)) ≤ 4096) }
+    ensures few_links { IfOk result (λ g. length g.links ≤ 256) }
+    ensures in_order { IfOk result (λ g. IsStrictlySortedBy path_cmp (map (λ link. link.0) g.links)) }
 {
     let sci = sci_shown(machine)?;
     let pins = pins_found(alloc, machine, sci)?;
@@ -82,7 +85,7 @@ fn pins_found<S: Space>(
 fn devices_listed<S: Space>(alloc: Global, machine: &Machine<S>) -> Result<Vec<Path>, Refusal>
     ensures { Does (seen (λ list. list.items) result) machine.now devices_listed machine.now }
 {
-    devices(alloc, machine)
+    list_devices(alloc, machine)
 }
 
 /// The present links that some pins lead to.
@@ -106,7 +109,8 @@ fn links_found<S: Space>(
     Ok(links)
 }
 
-fn gathering(
+/// What was found, with the problem that it poses where these interrupts are avoided.
+pub(crate) fn gathering(
     alloc: Global,
     avoid: &[u32],
     sci: Option<u32>,
@@ -122,6 +126,8 @@ fn gathering(
     ensures fits { IfOk result (λ g. Fits g.problem) }
     ensures few_wired { IfOk result (λ g. length g.problem.wired ≤ 4096) }
     ensures few_pins { IfOk result (λ g. length g.pins ≤ 4096) }
+    ensures same_pins { IfOk result (λ g. g.pins ≡ pins.items) }
+    ensures same_links { IfOk result (λ g. g.links ≡ links.items) }
 {
     let problem = problem_of(alloc, avoid, sci, &links, &pins)?;
     Ok(Gathered {

@@ -11,9 +11,14 @@ mod links;
 mod presence;
 mod problem;
 mod resources;
+mod sparing;
 
+pub use child_objects::stands;
+pub use devices::list_devices;
 pub use gathered::Gathered;
 pub use gathering::gather;
 pub use links::PresentLink;
+pub use presence::is_present;
 pub use problem::{pin_counts, set_of};
 pub use resources::{get_current_resources, get_possible_resources, set_current_resources};
+pub use sparing::avoid_more;

@@ -203,7 +203,8 @@ fn some_left(alloc: Global, avoid: &[u32], link: &Path, offer: &Offer) -> Result
     }
 }
 
-fn all_avoided(alloc: Global, link: &Path) -> Result<(), Refusal>
+/// A link of whose offer nothing is left, with its path.
+pub(crate) fn all_avoided(alloc: Global, link: &Path) -> Result<(), Refusal>
     ensures value { Answers result (Err (refusals.Routing (routing.Avoided (text_of link.now)))) }
     ensures refused { IsErr result }
 {

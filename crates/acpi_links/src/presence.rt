@@ -14,11 +14,11 @@ use aml_path::Path;
 use ar_space::{Refusal, Space, ValueFault};
 use std::alloc::Global;
 
-/// Whether a link device is present: bit 0 of the integer that its `_STA` answers; one without `_STA` is.
+/// Whether a device is present: bit 0 of the integer that its `_STA` answers; one without `_STA` is.
 ///
 /// An answer that is no integer is refused as `WrongType`; a refusal of the evaluation is handed on.
 #[tactic(auto, using(ar_space::specs::Change::changing, acpi_machine::specs::Stops::making), unfolding(crate::specs::Presence::is_present))]
-pub(crate) fn is_present<S: Space>(
+pub fn is_present<S: Space>(
     alloc: Global,
     machine: &mut Machine<S>,
     link: &Path,

@@ -11,13 +11,16 @@ use Rattle.ar_space.specs.Outcome.{Outcome, ◌>>=◌}
 use Rattle.aml_path.specs.declared.segment.Seg.{Seg}
 use Rattle.aml_path.specs.Text.{text_of, path_of_text}
 use Rattle.route_check.specs.Claims.{BoundingSet, interrupts_of_bound}
-use Rattle.route_report.specs.Reading.{Said, ascends, here, number_here, path_here, named, numbered, one_of, expected, offered, offers, with_next, until, link, link_line, with_link, wired, wired_line, with_wired, sci, sci_line, with_sci, ascending_after, avoid, avoid_line, with_avoid, give, give_line, with_give, busiest, busiest_line, with_busiest, with_path, set_links, with_number, numbers_after, set, bound, bound_line, with_bound, keyed, line}
+use Rattle.route_report.specs.Reading.{Said, ascends, here, number_here, path_here, named, numbered, one_of, expected, offered, offers, with_next, until, link, link_line, with_link, wired, wired_line, with_wired, sci, sci_line, with_sci, ascending_after, avoid, avoid_line, with_avoid, give, give_line, with_give, busiest, busiest_line, with_busiest, with_path, set_links, with_number, numbers_after, set, bound, bound_line, with_bound, some_numbers, spared, spared_line, with_spared, unread, unread_line, with_unread, rule_line, with_rule, keyed, line}
 use Rattle.acpi_resources.specs.declared.form.Form.{Form}
 use Rattle.acpi_resources.specs.declared.form.Form.TheVariants as form
 use Rattle.acpi_resources.specs.declared.form.Polarity.{Polarity}
 use Rattle.acpi_resources.specs.declared.form.Polarity.TheVariants as polarity
-use Rattle.route_report.specs.Reports.{ReportedLink}
-use Rattle.route_report.specs.Printing.{Words, form_word, polarity_word, now_words, link_words, wired_words, sci_words, source_words, number_words, avoid_words, give_words, busiest_words, path_words, set_of_bound, bound_words}
+use Rattle.route_report.specs.Reports.{ReportedLink, SparedDevice}
+use Rattle.route_report.specs.Printing.{Words, form_word, polarity_word, now_words, link_words, wired_words, sci_words, source_words, number_words, avoid_words, spared_words, unread_words, rule_words, give_words, busiest_words, path_words, set_of_bound, bound_words}
+use Rattle.route_report.specs.declared.report.UnreadLine.{UnreadLine}
+use Rattle.route_report.specs.declared.report.Rule.{Rule}
+use Rattle.route_report.specs.declared.report.Rule.TheVariants as rule
 use Rattle.route_report.specs.Readable.{link_of, IsReadableOffer}
 use Rattle.route_report.proofs.Ascending.{increasing_tail}
 use Rattle.route_report.proofs.Decimals.{same_bytes, equal_bytes, number_of_decimal}
@@ -183,3 +186,21 @@ set_again back n (Some b) small = bound_by back n b.links b.interrupts small
 pub bound_again : (back : PathsAreReadBack) (n : ℕ) (b : Option BoundingSet) (d : Said) → d.bound ≡ None → All (λ m. m < 2 ^ 32) (interrupts_of_bound b) → line n (bound_words b) d ≡ Ok (record d { bound = Some b })
 unfolding line keyed bound_line with_bound ◌>>=◌
 bound_again back n b d none small = rw (set_again back n b small, none) refl
+
+some_again : (n : ℕ) (ns : List ℕ) → 0 < length ns → All (λ m. m < 2 ^ 32) ns → some_numbers n (map decimal ns) ≡ Ok ns
+unfolding some_numbers ◌>>=◌
+some_again n [] some small = absurd (omega arith)
+some_again n (k ∷ ks) some small = rw (number_more n [] k (All-head (λ x. x < 2 ^ 32) k ks small)) (numbers_again n (k ∷ []) ks (All-tail (λ x. x < 2 ^ 32) k ks small))
+
+pub spared_again : (back : PathsAreReadBack) (n : ℕ) (s : SparedDevice) (d : Said) (ms : List ℕ) → d.spared ≡ Some ms → 0 < length s.interrupts → All (λ m. m < 2 ^ 32) s.interrupts
+    → line n (spared_words s) d ≡ Ok (record d { spared = Some (ms ++ s.interrupts) })
+unfolding line keyed spared_line spared with_spared ◌>>=◌
+spared_again back n s d ms is some small = rw (named_again back n s.device (map decimal s.interrupts), some_again n s.interrupts some small, is) refl
+
+pub unread_again : (back : PathsAreReadBack) (n : ℕ) (u : UnreadLine) (d : Said) (ms : List ℕ) → d.spared ≡ Some ms → u.refusal < 2 ^ 32 → line n (unread_words u) d ≡ Ok d
+unfolding line keyed unread_line unread with_unread ◌>>=◌
+unread_again back n u d ms is small = rw (named_again back n u.device (decimal u.refusal ∷ []), numbered_again n u.refusal [] small, is) refl
+
+pub rule_again : (n : ℕ) (r : Rule) (d : Said) → d.rule ≡ None → line n (rule_words r) d ≡ Ok (record d { rule = Some r })
+unfolding line keyed rule_line with_rule ◌>>=◌
+rule_again n rule.First d none = rw none refl

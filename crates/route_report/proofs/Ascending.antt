@@ -72,7 +72,8 @@ here_ascends n (Some ms) ns up e = let same : ms ≡ ns = cc e in subst IsStrict
 pub first_ascends : (v : Version) → AvoidAscends (first_said v).avoid
 first_ascends version.One = none_increases 1
 first_ascends version.Two = tt
+first_ascends version.Three = tt
 
 -- and stays so from line to line
 pub line_ascends : (n : ℕ) (d e : Said) (ws : List (List ℕ)) → AvoidAscends d.avoid → line n ws d ≡ Ok e → AvoidAscends e.avoid
-line_ascends n d e ws up is = line_keeps (λ s ns. AvoidAscends ns) n d up (λ s _. up) (λ us ns is _. avoid_ascends n us ns is) ws e is
+line_ascends n d e ws up is = line_keeps (λ s ns ms. AvoidAscends ns) n d up (λ s _. up) (λ us ns is _. avoid_ascends n us ns is) (λ ms ns _. up) ws e is

@@ -1,17 +1,18 @@
 -- What is read is in order, and has what the lines said.
-use Rattle.std.proofs.Common.{◌≡◌, subst, refl, ℕ, ◌+◌, List, [], ◌∷◌, Ok, Option, Some, None}
+use Rattle.std.proofs.Common.{◌≡◌, subst, refl, ℕ, ◌+◌, List, [], ◌∷◌, ◌++◌, Ok, Option, Some, None}
 use Rattle.std.specs.Prelude.{is_some}
 use Rattle.std.specs.Ordering.{nat_cmp}
 use Rattle.std.specs.FinMap.{nat_cmp-IsAntisymmetric}
 use Rattle.std.specs.List.Sorted.{IsPermutation, IsSorted, IsStrictlyIncreasing}
 use Rattle.std.proofs.lemmas.Cmp.{nat_cmp_total}
 use Rattle.std.proofs.lemmas.List.Sorted.{IsPermutation-refl}
+use Rattle.std.proofs.lemmas.Map.Keys.{IsStrictlyIncreasing-dedup}
 use Rattle.aml_path.specs.Paths.{path_cmp}
 use Rattle.route_model.proofs.Paths.{path_total}
 use Rattle.route_check.specs.Claims.{BoundingSet, RoutingClaim, links_of_bound, interrupts_of_bound}
 use Rattle.text_words.specs.Words.{words}
 use Rattle.route_report.specs.Lines.{lines}
-use Rattle.route_report.specs.Ordered.{link_order, wired_order, give_order, bound_in_order, claim_in_order, IsInOrder, HasSameElements}
+use Rattle.route_report.specs.Ordered.{in_order, barred_by, link_order, wired_order, give_order, bound_in_order, claim_in_order, IsInOrder, HasSameElements}
 use Rattle.route_report.specs.Reading.{Said, first_said, here, claimed, line, heading, lines_read, all_read, claim_of_text}
 use Rattle.route_report.proofs.Ascending.{AvoidAscends, here_ascends, first_ascends, line_ascends}
 use Rattle.route_report.proofs.Orders.{path_exact, link_exact, wired_exact, give_exact, link_total, wired_total, give_total}
@@ -93,16 +94,21 @@ claim_elements c = record {
 }
 
 -- what is claimed of what was said
+barred_ascends : (ns : List ℕ) (ms : Option (List ℕ)) → IsStrictlyIncreasing ns → IsStrictlyIncreasing (barred_by ns ms)
+barred_ascends ns None up = up
+barred_ascends ns (Some ms) up = IsStrictlyIncreasing-dedup (in_order nat_cmp (ns ++ ms)) (is_sorted nat_cmp nat_cmp_total nat_cmp-IsAntisymmetric (ns ++ ms))
+
 said_in_order : (n : ℕ) (d : Said) (c : RoutingClaim) → AvoidAscends d.avoid → claimed n d ≡ Ok c → IsInOrder c
 unfolding claimed
 said_in_order n d c up e =
     let s = went_on (here n d.sci) _ c e in
     let ns = went_on (here n d.avoid) _ c s.2 in
-    let k = went_on (here n d.busiest) _ c ns.2 in
+    let r = went_on (here n d.rule) _ c ns.2 in
+    let k = went_on (here n d.busiest) _ c r.2 in
     let b = went_on (here n d.bound) _ c k.2 in
-    let raw : RoutingClaim = record { links = d.links; wired = d.wired; sci = s.0; avoid = ns.0; gives = d.gives; busiest = k.0; bound = b.0 } in
+    let raw : RoutingClaim = record { links = d.links; wired = d.wired; sci = s.0; avoid = barred_by ns.0 d.spared; gives = d.gives; busiest = k.0; bound = b.0 } in
     let is : claim_in_order raw ≡ c = cc (b.2) in
-    subst IsInOrder is (claim_sorted raw (here_ascends n d.avoid ns.0 up ns.1))
+    subst IsInOrder is (claim_sorted raw (barred_ascends ns.0 d.spared (here_ascends n d.avoid ns.0 up ns.1)))
 
 read_in_order : (n : ℕ) (ls : List (List ℕ)) (d : Said) (c : RoutingClaim) → AvoidAscends d.avoid → lines_read n ls d ≡ Ok c → IsInOrder c
 unfolding lines_read

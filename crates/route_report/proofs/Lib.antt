@@ -1,4 +1,5 @@
 pub mod Again
+pub mod Barred
 pub mod Ascending
 pub mod Claims
 pub mod Claimed

@@ -37,6 +37,11 @@ middle xs ys w whole first second last is then_word then_rest = rw (then_rest, t
 pub onward : (t0 t1 t2 x y : List ℕ) → t1 ≡ t0 ++ x → t2 ≡ t1 ++ y → t2 ≡ t0 ++ (x ++ y)
 onward t0 t1 t2 x y first next = next ∙ (ap (λ t. t ++ y) first ∙ append_assoc t0 x y)
 
+-- lines, and then others
+pub onward_some : (ls rest : List (List (List ℕ))) (t0 t1 t2 : List ℕ) → t1 ≡ t0 ++ text_of_lines ls → t2 ≡ t1 ++ text_of_lines rest → t2 ≡ t0 ++ text_of_lines (ls ++ rest)
+onward_some ls rest t0 t1 t2 first next =
+    next ∙ (ap (λ t. t ++ text_of_lines rest) first ∙ (append_assoc t0 (text_of_lines ls) (text_of_lines rest) ∙ ap (λ t. t0 ++ t) (sym (lines_append ls rest))))
+
 -- the lines of a list that is read as another, and then others
 pub onward_lines : {X : Type 0} (view : X → List (List ℕ)) (xs ys : List X) (rest : List (List (List ℕ))) (t0 t1 t2 : List ℕ) → xs ≡ ys → t1 ≡ t0 ++ text_of_lines (map view xs)
     → t2 ≡ t1 ++ text_of_lines rest → t2 ≡ t0 ++ text_of_lines (map view ys ++ rest)
@@ -46,3 +51,6 @@ onward_lines view xs ys rest t0 t1 t2 is first next =
 
 pub last_lines : {X : Type 0} (view : X → List (List ℕ)) (xs ys : List X) (t0 t1 : List ℕ) → xs ≡ ys → t1 ≡ t0 ++ text_of_lines (map view xs) → t1 ≡ t0 ++ text_of_lines (map view ys)
 last_lines view xs ys t0 t1 is first = first ∙ ap (λ zs. t0 ++ text_of_lines (map view zs)) is
+
+pub only_line : (ws : List (List ℕ)) (t0 t1 : List ℕ) → t1 ≡ t0 ++ line_text ws → t1 ≡ t0 ++ text_of_lines (ws ∷ [])
+only_line ws t0 t1 e = e ∙ ap (λ t. t0 ++ t) (sym (append-nil (line_text ws)))

@@ -6,7 +6,7 @@ use Rattle.ar_space.specs.Outcome.{Outcome, ◌>>=◌}
 use Rattle.aml_path.specs.declared.segment.Seg.{Seg}
 use Rattle.aml_path.specs.Text.{text_of, path_of_text}
 use Rattle.route_report.specs.Lines.{number}
-use Rattle.route_report.specs.Reading.{ascends, in_line, here, word, ended, expected, one_of, number_here, path_here, numbered, named, with_next, until, offers, offered, link, wired, sci, ascending_after, avoid, give, busiest, with_path, set_links, with_number, numbers_after, set, bound}
+use Rattle.route_report.specs.Reading.{ascends, in_line, here, word, ended, expected, one_of, number_here, path_here, numbered, named, with_next, until, offers, offered, link, wired, sci, ascending_after, avoid, some_numbers, spared, unread, give, busiest, with_path, set_links, with_number, numbers_after, set, bound}
 
 -- two outcomes give the same value, or are both a refusal
 abbrev pub Alike : {A : Type 0} → Outcome A → Outcome A → Type 0
@@ -28,7 +28,7 @@ module _ (n m : ℕ) where
   word_alike [] = refl
   word_alike (w ∷ ws) = refl
 
-  ended_alike : (ws : List (List ℕ)) → Alike (ended n ws) (ended m ws)
+  pub ended_alike : (ws : List (List ℕ)) → Alike (ended n ws) (ended m ws)
   ended_alike [] = refl
   ended_alike (w ∷ ws) = refl
 
@@ -146,6 +146,20 @@ module _ (n m : ℕ) where
   unfolding numbers_after
   numbers_alike is [] = refl
   numbers_alike is (w ∷ ws) = then_alike (with_number n is w) (with_number m is w) _ _ (with_number_alike is w) (λ more. numbers_alike more ws)
+
+  some_alike : (ws : List (List ℕ)) → Alike (some_numbers n ws) (some_numbers m ws)
+  unfolding some_numbers
+  some_alike ws =
+      then_alike (word n ws) (word m ws) _ _ (word_alike ws)
+      (λ w. then_alike (with_number n [] w.0) (with_number m [] w.0) _ _ (with_number_alike [] w.0) (λ first. numbers_alike first w.1))
+
+  pub spared_alike : (ws : List (List ℕ)) → Alike (spared n ws) (spared m ws)
+  unfolding spared
+  spared_alike ws = then_alike (named n ws) (named m ws) _ _ (named_alike ws) (λ p. some_alike p.1)
+
+  pub unread_alike : (ws : List (List ℕ)) → Alike (unread n ws) (unread m ws)
+  unfolding unread
+  unread_alike ws = then_alike (named n ws) (named m ws) _ _ (named_alike ws) (λ p. then_alike (numbered n p.1) (numbered m p.1) _ _ (numbered_alike p.1) (λ r. ended_alike r.1))
 
   set_alike : (w : List ℕ) (ws : List (List ℕ)) → Alike (set n w ws) (set m w ws)
   unfolding set

@@ -1,5 +1,5 @@
 -- All lines of a report, section by section.
-use Rattle.std.proofs.Common.{◌≡◌, ◌∙◌, ap, sym, refl, ℕ, ◌+◌, ◌<◌, ◌≤◌, ◌^◌, List, [], ◌∷◌, ◌++◌, length, map, get_or, arith, append_assoc, append-nil, length-append, Ok, None, Some, Option}
+use Rattle.std.proofs.Common.{◌≡◌, ◌∙◌, ap, ap₂, sym, refl, ℕ, ◌+◌, ◌<◌, ◌≤◌, ◌^◌, List, [], ◌∷◌, ◌++◌, length, map, get_or, arith, append_assoc, append-nil, length-append, Ok, None, Some, Option}
 use Rattle.std.specs.Prelude.{All, codes, decimal}
 use Rattle.std.proofs.lemmas.List.Elements.{All-nil, All-cons, All-head, All-tail, All-append, All-map}
 use Rattle.std.specs.Int.{to_be_bytes, w16, w32}
@@ -27,11 +27,14 @@ use Rattle.route_report.specs.declared.report.PinLine.{PinLine}
 use Rattle.route_report.specs.declared.report.SetOutcome.{SetOutcome}
 use Rattle.route_report.specs.declared.report.SetOutcome.TheVariants as outcome
 use Rattle.route_report.specs.declared.report.SetLine.{SetLine}
-use Rattle.route_report.specs.Reports.{ReportedLink, AfterState, Now, Refused, ReportedAfter, RoutingReport}
-use Rattle.route_report.specs.Printing.{Words, mode_word, form_word, polarity_word, pin_word, number_words, path_words, now_words, heading_words, mode_words, io_apic_words, override_words, source_words, sci_words, avoid_words, link_words, wired_words, route_words, pin_words, give_words, busiest_words, set_of_bound, bound_words, outcome_words, set_words, state_words, after_words, found_lines, chosen_lines, text_of_report}
-use Rattle.route_report.specs.Readable.{link_of, claim_of_report, IsReadableOffer, IsReadable, IsSmall}
+use Rattle.route_report.specs.declared.report.UnreadLine.{UnreadLine}
+use Rattle.route_report.specs.declared.report.Rule.{Rule}
+use Rattle.route_report.specs.declared.report.Rule.TheVariants as rule
+use Rattle.route_report.specs.Reports.{ReportedLink, AfterState, Now, Refused, ReportedAfter, SparedDevice, ReportedOptions, RoutingReport}
+use Rattle.route_report.specs.Printing.{Words, mode_word, form_word, polarity_word, pin_word, number_words, path_words, now_words, version_word, heading_words, mode_words, io_apic_words, override_words, source_words, sci_words, avoid_words, spared_words, unread_words, rule_words, option_lines, link_words, wired_words, route_words, pin_words, give_words, busiest_words, set_of_bound, bound_words, outcome_words, set_words, state_words, after_words, found_lines, chosen_lines, text_of_report}
+use Rattle.route_report.specs.Readable.{link_of, spared_numbers, spared_by, spared_devices, unread_devices, claim_of_report, IsReadableOffer, IsReadable, IsSmall}
 use Rattle.route_report.proofs.Plain.{Plain, PlainWords, literal, decimal_plain, upper_plain, path_plain, words_again, lines_again}
-use Rattle.route_report.proofs.Again.{PathsAreReadBack, link_again, wired_again, sci_again, avoid_again, give_again, busiest_again, bound_again}
+use Rattle.route_report.proofs.Again.{PathsAreReadBack, link_again, wired_again, sci_again, avoid_again, spared_again, unread_again, rule_again, give_again, busiest_again, bound_again}
 
 -- the words of each line are plain
 key : (k : List ℕ) (ws : Words) → All Plain k → PlainWords ws → PlainWords (k ∷ ws)
@@ -76,8 +79,12 @@ pin_word_plain pin.B = literal (codes "B") refl
 pin_word_plain pin.C = literal (codes "C") refl
 pin_word_plain pin.D = literal (codes "D") refl
 
-heading_plain : PlainWords heading_words
-heading_plain = key (codes "acpiroute") (codes "2" ∷ []) (literal (codes "acpiroute") refl) (key (codes "2") [] (literal (codes "2") refl) none)
+version_plain : (o : Option ReportedOptions) → All Plain (version_word o)
+version_plain None = literal (codes "2") refl
+version_plain (Some o) = literal (codes "3") refl
+
+heading_plain : (o : Option ReportedOptions) → PlainWords (heading_words o)
+heading_plain o = key (codes "acpiroute") (version_word o ∷ []) (literal (codes "acpiroute") refl) (key (version_word o) [] (version_plain o) none)
 
 mode_plain : (m : Mode) → PlainWords (mode_words m)
 mode_plain m = key (codes "mode") (mode_word m ∷ []) (literal (codes "mode") refl) (key (mode_word m) [] (mode_word_plain m) none)
@@ -178,22 +185,42 @@ after_plain a = key (codes "after") (text_of a.path ∷ state_words a.state) (li
 section : {X : Type 0} (view : X → Words) → ((x : X) → PlainWords (view x)) → (xs : List X) → All PlainWords (map view xs)
 section view plain xs = All-map PlainWords view xs (λ i d l. plain (get_or xs i d))
 
+spared_plain : (s : SparedDevice) → PlainWords (spared_words s)
+spared_plain s = key (codes "spared") (text_of s.device ∷ map decimal s.interrupts) (literal (codes "spared") refl) (key (text_of s.device) (map decimal s.interrupts) (path_plain s.device) (decimals s.interrupts))
+
+unread_plain : (u : UnreadLine) → PlainWords (unread_words u)
+unread_plain u =
+    key (codes "unread") (text_of u.device ∷ decimal u.refusal ∷ []) (literal (codes "unread") refl)
+    (key (text_of u.device) (decimal u.refusal ∷ []) (path_plain u.device) (key (decimal u.refusal) [] (decimal_plain u.refusal) none))
+
+rule_plain : (r : Rule) → PlainWords (rule_words r)
+rule_plain rule.First = key (codes "first") [] (literal (codes "first") refl) none
+
+options_plain : (o : Option ReportedOptions) → All PlainWords (option_lines o)
+options_plain None = All-nil PlainWords
+options_plain (Some o) =
+    let rules = rule_words o.rule ∷ [] in
+    All-append PlainWords (map spared_words o.spared) (map unread_words o.unread ++ rules) (section spared_words spared_plain o.spared)
+    (All-append PlainWords (map unread_words o.unread) rules (section unread_words unread_plain o.unread) (All-cons PlainWords (rule_words o.rule) [] (rule_plain o.rule) (All-nil PlainWords)))
+
 found_plain : (r : RoutingReport) → All PlainWords (found_lines r)
 found_plain r =
     let pins = map pin_words r.pins in
     let wireds = map wired_words r.wired ++ pins in
     let links = map link_words r.links ++ wireds in
-    let others = sci_words r.sci ∷ avoid_words r.avoid ∷ links in
+    let options = option_lines r.options ++ links in
+    let others = sci_words r.sci ∷ avoid_words r.avoid ∷ options in
     let overrides = map override_words r.overrides ++ others in
     let io_apics = map io_apic_words r.io_apics ++ overrides in
-    All-cons PlainWords heading_words (mode_words r.mode ∷ io_apics) heading_plain
+    All-cons PlainWords (heading_words r.options) (mode_words r.mode ∷ io_apics) (heading_plain r.options)
     (All-cons PlainWords (mode_words r.mode) io_apics (mode_plain r.mode)
     (All-append PlainWords (map io_apic_words r.io_apics) overrides (section io_apic_words io_apic_plain r.io_apics)
     (All-append PlainWords (map override_words r.overrides) others (section override_words override_plain r.overrides)
-    (All-cons PlainWords (sci_words r.sci) (avoid_words r.avoid ∷ links) (sci_plain r.sci)
-    (All-cons PlainWords (avoid_words r.avoid) links (avoid_plain r.avoid)
+    (All-cons PlainWords (sci_words r.sci) (avoid_words r.avoid ∷ options) (sci_plain r.sci)
+    (All-cons PlainWords (avoid_words r.avoid) options (avoid_plain r.avoid)
+    (All-append PlainWords (option_lines r.options) links (options_plain r.options)
     (All-append PlainWords (map link_words r.links) wireds (section link_words link_plain r.links)
-    (All-append PlainWords (map wired_words r.wired) pins (section wired_words wired_plain r.wired) (section pin_words pin_plain r.pins))))))))
+    (All-append PlainWords (map wired_words r.wired) pins (section wired_words wired_plain r.wired) (section pin_words pin_plain r.pins)))))))))
 
 chosen_plain : (r : RoutingReport) → All PlainWords (chosen_lines r)
 chosen_plain r =
@@ -284,14 +311,68 @@ all_gives back n (g ∷ gs) rest d small =
 next : (n : ℕ) (ls : List Words) (d : Said) (rest : List Words) (e : Said) (last : List Words) (f : Said) → Reaches n ls d rest e → ((m : ℕ) → Reaches m rest e last f) → Reaches n ls d last f
 next n ls d rest e last f r go = let s = go r.0 in (s.0, r.1 ∙ s.1)
 
+-- the lines of options, where there are any
+abbrev rule_by : Option ReportedOptions → Rule
+rule_by None = rule.First
+rule_by (Some o) = o.rule
+
+-- what the first line says of them
+abbrev spared_at_first : Option ReportedOptions → Option (List ℕ)
+spared_at_first None = None
+spared_at_first (Some o) = Some []
+
+abbrev rule_at_first : Option ReportedOptions → Option Rule
+rule_at_first None = Some rule.First
+rule_at_first (Some o) = None
+
+all_spared : (back : PathsAreReadBack) (n : ℕ) (ss : List SparedDevice) (rest : List Words) (d : Said) (ms : List ℕ) → d.spared ≡ Some ms → All (λ s. 0 < length s.interrupts) ss → All (λ s. All (λ m. m < 2 ^ 32) s.interrupts) ss
+    → Reaches n (map spared_words ss ++ rest) d rest (record d { spared = Some (ms ++ spared_numbers ss) })
+unfolding spared_numbers
+all_spared back n [] rest d ms is some small = (n, ap (λ (o : Option (List ℕ)). reads n rest (record d { spared = o })) (is ∙ ap Some (sym (append-nil ms))))
+all_spared back n (s ∷ ss) rest d ms is some small =
+    let e : Said = record d { spared = Some (ms ++ s.interrupts) } in
+    let r = all_spared back (n + 1) ss rest e (ms ++ s.interrupts) refl (All-tail (λ x. 0 < length x.interrupts) s ss some) (All-tail (λ x. All (λ m. m < 2 ^ 32) x.interrupts) s ss small) in
+    let t = reach n (codes "spared") (text_of s.device ∷ map decimal s.interrupts) (map spared_words ss ++ rest) d e rest (record e { spared = Some ((ms ++ s.interrupts) ++ spared_numbers ss) }) (spared_plain s)
+    (spared_again back n s d ms is (All-head (λ x. 0 < length x.interrupts) s ss some) (All-head (λ x. All (λ m. m < 2 ^ 32) x.interrupts) s ss small)) r in
+    (t.0, t.1 ∙ ap (λ (xs : List ℕ). reads t.0 rest (record d { spared = Some xs })) (append_assoc ms s.interrupts (spared_numbers ss)))
+
+all_unread : (back : PathsAreReadBack) (n : ℕ) (us : List UnreadLine) (rest : List Words) (d : Said) (ms : List ℕ) → d.spared ≡ Some ms → All (λ u. u.refusal < 2 ^ 32) us → Reaches n (map unread_words us ++ rest) d rest d
+all_unread back n [] rest d ms is small = (n, refl)
+all_unread back n (u ∷ us) rest d ms is small =
+    reach n (codes "unread") (text_of u.device ∷ decimal u.refusal ∷ []) (map unread_words us ++ rest) d d rest d (unread_plain u) (unread_again back n u d ms is (All-head (λ x. x.refusal < 2 ^ 32) u us small))
+    (all_unread back (n + 1) us rest d ms is (All-tail (λ x. x.refusal < 2 ^ 32) u us small))
+
+rule_read : (n : ℕ) (r : Rule) (rest : List Words) (d : Said) → d.rule ≡ None → Reaches n (rule_words r ∷ rest) d rest (record d { rule = Some r })
+rule_read n rule.First rest d none = let e : Said = record d { rule = Some rule.First } in reach n (codes "first") [] rest d e rest e (rule_plain rule.First) (rule_again n rule.First d none) (n + 1, refl)
+
+options_read : (back : PathsAreReadBack) (n : ℕ) (o : Option ReportedOptions) (rest : List Words) (d : Said) → d.spared ≡ spared_at_first o → d.rule ≡ rule_at_first o
+    → All (λ s. 0 < length s.interrupts) (spared_devices o) → All (λ s. All (λ m. m < 2 ^ 32) s.interrupts) (spared_devices o) → All (λ u. u.refusal < 2 ^ 32) (unread_devices o)
+    → Reaches n (option_lines o ++ rest) d rest (record d { spared = spared_by o; rule = Some (rule_by o) })
+options_read back n None rest d is ruled some small few = (n, ap (λ (p : Option (List ℕ) × Option Rule). reads n rest (record d { spared = p.0; rule = p.1 })) (ap₂ (λ (s : Option (List ℕ)) (r : Option Rule). (s, r)) is ruled))
+options_read back n (Some o) rest d is ruled some small few =
+    let rules = rule_words o.rule ∷ rest in
+    let unreads = map unread_words o.unread ++ rules in
+    let e : Said = record d { spared = Some (spared_numbers o.spared) } in
+    let f : Said = record e { rule = Some o.rule } in
+    let spareds = next n (map spared_words o.spared ++ unreads) d unreads e rest f (all_spared back n o.spared unreads d [] is some small)
+    (λ m. next m unreads e rules e rest f (all_unread back m o.unread rules e (spared_numbers o.spared) refl few) (λ k. rule_read k o.rule rest e ruled)) in
+    (spareds.0, ap (λ ls. reads n ls d) (simp append_assoc refl) ∙ spareds.1)
+
+-- what the first line says
+abbrev blank : Option ReportedOptions → Said
+blank o = record { links = []; wired = []; sci = None; avoid = None; spared = spared_at_first o; rule = rule_at_first o; gives = []; busiest = None; bound = None }
+
 abbrev sourced : RoutingReport → Said
-sourced r = record (first_said version.Two) { sci = Some r.sci }
+sourced r = record (blank r.options) { sci = Some r.sci }
 
 abbrev avoided : RoutingReport → Said
 avoided r = record (sourced r) { avoid = Some r.avoid }
 
+abbrev optioned : RoutingReport → Said
+optioned r = record (avoided r) { spared = spared_by r.options; rule = Some (rule_by r.options) }
+
 abbrev linked : RoutingReport → Said
-linked r = record (avoided r) { links = map link_of r.links }
+linked r = record (optioned r) { links = map link_of r.links }
 
 abbrev with_wires : RoutingReport → Said
 with_wires r = record (linked r) { wired = r.wired }
@@ -313,9 +394,9 @@ chosen_rest r = busiest_words r.busiest ∷ bound_words r.bound ∷ last_lines r
 
 abbrev all_lines : RoutingReport → List Words
 all_lines r = mode_words r.mode ∷ (map io_apic_words r.io_apics ++ (map override_words r.overrides
-    ++ (sci_words r.sci ∷ avoid_words r.avoid ∷ (map link_words r.links ++ (map wired_words r.wired ++ (map pin_words r.pins ++ (map give_words r.gives ++ chosen_rest r)))))))
+    ++ (sci_words r.sci ∷ avoid_words r.avoid ∷ (option_lines r.options ++ (map link_words r.links ++ (map wired_words r.wired ++ (map pin_words r.pins ++ (map give_words r.gives ++ chosen_rest r))))))))
 
-flat : (r : RoutingReport) → found_lines r ++ chosen_lines r ≡ heading_words ∷ all_lines r
+flat : (r : RoutingReport) → found_lines r ++ chosen_lines r ≡ heading_words r.options ∷ all_lines r
 flat r = simp (append_assoc, append-nil) refl
 
 read_last : (r : RoutingReport) (d : Said) (n : ℕ) → Reaches n (last_lines r) d [] d
@@ -331,40 +412,43 @@ read_chosen back r small n =
     (reach (m + 1) (codes "bound") (set_of_bound r.bound) (last_lines r) (busy r) (all_said r) [] (all_said r) (bound_plain r.bound) (bound_again back (m + 1) r.bound (busy r) refl small.interrupts)
     (read_last r (all_said r) (m + 1 + 1))))
 
-read_all : (back : PathsAreReadBack) (r : RoutingReport) → IsReadable r → IsSmall r → (n : ℕ) → Reaches n (all_lines r) (first_said version.Two) [] (all_said r)
+read_all : (back : PathsAreReadBack) (r : RoutingReport) → IsReadable r → IsSmall r → (n : ℕ) → Reaches n (all_lines r) (blank r.options) [] (all_said r)
 read_all back r readable small n =
     let gives = map give_words r.gives ++ chosen_rest r in
     let pins = map pin_words r.pins ++ gives in
     let wireds = map wired_words r.wired ++ pins in
     let links = map link_words r.links ++ wireds in
-    let others = sci_words r.sci ∷ avoid_words r.avoid ∷ links in
+    let options = option_lines r.options ++ links in
+    let others = sci_words r.sci ∷ avoid_words r.avoid ∷ options in
     let overrides = map override_words r.overrides ++ others in
     let io_apics = map io_apic_words r.io_apics ++ overrides in
     let few_links = readable.few_links in
     let few_wired = readable.few_wired in
-    let d = first_said version.Two in
+    let d = blank r.options in
     let e = all_said r in
     reach n (codes "mode") (mode_word r.mode ∷ []) io_apics d d [] e (mode_plain r.mode) (mode_passed n r.mode d)
     (next (n + 1) io_apics d overrides d [] e (over (codes "ioapic") (λ (a : IoApicLine). decimal a.id ∷ codes "at" ∷ encode_upper (to_be_bytes w32 a.address) ∷ codes "base" ∷ decimal a.gsi_base ∷ []) io_apic_plain io_apic_passed (n + 1) r.io_apics overrides d)
     (λ m. next m overrides d others d [] e (over (codes "override") (λ (o : OverrideLine). decimal o.source ∷ codes "to" ∷ decimal o.gsi ∷ codes "flags" ∷ encode_upper (to_be_bytes w16 o.flags) ∷ []) override_plain override_passed m r.overrides others d)
-    (λ m. reach m (codes "sci") (source_words r.sci) (avoid_words r.avoid ∷ links) d (sourced r) [] e (sci_plain r.sci) (sci_again m r.sci d refl small.sci)
-    (reach (m + 1) (codes "avoid") (number_words r.avoid) links (sourced r) (avoided r) [] e (avoid_plain r.avoid) (avoid_again (m + 1) r.avoid (sourced r) refl readable.avoid small.avoid)
-    (next (m + 1 + 1) links (avoided r) wireds (linked r) [] e (all_links back (m + 1 + 1) r.links wireds (avoided r) (omega arith) readable.offers small.offers)
+    (λ m. reach m (codes "sci") (source_words r.sci) (avoid_words r.avoid ∷ options) d (sourced r) [] e (sci_plain r.sci) (sci_again m r.sci d refl small.sci)
+    (reach (m + 1) (codes "avoid") (number_words r.avoid) options (sourced r) (avoided r) [] e (avoid_plain r.avoid) (avoid_again (m + 1) r.avoid (sourced r) refl readable.avoid small.avoid)
+    (next (m + 1 + 1) options (avoided r) links (optioned r) [] e (options_read back (m + 1 + 1) r.options links (avoided r) refl refl readable.spared small.spared small.unread)
+    (λ m. next m links (optioned r) wireds (linked r) [] e (all_links back m r.links wireds (optioned r) (omega arith) readable.offers small.offers)
     (λ m. next m wireds (linked r) pins (with_wires r) [] e (all_wired m r.wired pins (linked r) (omega arith) small.wired)
     (λ m. next m pins (with_wires r) gives (with_wires r) [] e (over (codes "pin") (λ (p : PinLine). text_of p.device ∷ decimal p.number ∷ pin_word p.pin ∷ route_words p.route) pin_plain pin_passed m r.pins gives (with_wires r))
-    (λ m. read_chosen back r small m))))))))
+    (λ m. read_chosen back r small m)))))))))
 
 ended : (r : RoutingReport) (n : ℕ) → reads n [] (all_said r) ≡ Ok (claim_of_report r)
 unfolding lines_read claimed ◌>>=◌
 ended r n = refl
 
-headed : (ls : List Words) → all_read (map joined (heading_words ∷ ls)) ≡ reads 2 ls (first_said version.Two)
+headed : (o : Option ReportedOptions) (ls : List Words) → all_read (map joined (heading_words o ∷ ls)) ≡ reads 2 ls (blank o)
 unfolding all_read heading expected ◌>>=◌
-headed ls = refl
+headed None ls = refl
+headed (Some o) ls = refl
 
 pub read_back : (back : PathsAreReadBack) (r : RoutingReport) → IsReadable r → IsSmall r → claim_of_text (text_of_report r) ≡ Ok (claim_of_report r)
 unfolding claim_of_text text_of_report
 read_back back r readable small =
     let all = read_all back r readable small 2 in
     ap all_read (lines_again (found_lines r ++ chosen_lines r) (All-append PlainWords (found_lines r) (chosen_lines r) (found_plain r) (chosen_plain r)) ∙ ap (map joined) (flat r))
-    ∙ (headed (all_lines r) ∙ (all.1 ∙ ended r all.0))
+    ∙ (headed r.options (all_lines r) ∙ (all.1 ∙ ended r all.0))

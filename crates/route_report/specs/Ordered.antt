@@ -1,6 +1,7 @@
 -- The lists of a claim in order: paths in path order, numbers ascending. What stands twice stays twice. The interrupts that are
 -- avoided ascend already where they are read, and stay as they are.
-use Rattle.std.specs.Prelude.{◌≡◌, ℕ, List, [], ◌∷◌, Option, Some, None, is_some, if◌then◌else◌}
+use Rattle.std.specs.Prelude.{◌≡◌, ℕ, ◌==◌, List, [], ◌∷◌, ◌++◌, Option, Some, None, is_some, if◌then◌else◌}
+use Rattle.std.specs.List.{dedup}
 use Rattle.std.specs.declared.cmp.Ordering.{Ordering}
 use Rattle.std.specs.List.Sorted.{IsPermutation, IsSorted, IsStrictlyIncreasing}
 use Rattle.std.specs.Ordering.{is_gt, nat_cmp, ordering_then}
@@ -34,6 +35,16 @@ give_order g h = ordering_then (path_cmp g.0 h.0) (nat_cmp g.1 h.1)
 abbrev pub bound_in_order : Option BoundingSet → Option BoundingSet
 bound_in_order None = None
 bound_in_order (Some b) = Some (record { links = in_order path_cmp b.links; interrupts = in_order nat_cmp b.interrupts })
+
+-- the interrupts that no link may be given, ascending and each once, where those of some devices are spared: these, and those that are
+-- avoided
+abbrev pub barred : List ℕ → List ℕ → List ℕ
+barred avoid spared = dedup ◌==◌ (in_order nat_cmp (avoid ++ spared))
+
+-- the same, where there may be none that are spared
+abbrev pub barred_by : List ℕ → Option (List ℕ) → List ℕ
+barred_by avoid None = avoid
+barred_by avoid (Some spared) = barred avoid spared
 
 abbrev pub claim_in_order : RoutingClaim → RoutingClaim
 claim_in_order c = record {

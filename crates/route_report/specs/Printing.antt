@@ -22,7 +22,10 @@ use Rattle.route_report.specs.declared.report.PinLine.{PinLine}
 use Rattle.route_report.specs.declared.report.SetOutcome.{SetOutcome}
 use Rattle.route_report.specs.declared.report.SetOutcome.TheVariants as outcome
 use Rattle.route_report.specs.declared.report.SetLine.{SetLine}
-use Rattle.route_report.specs.Reports.{ReportedLink, AfterState, Now, Refused, ReportedAfter, RoutingReport}
+use Rattle.route_report.specs.declared.report.UnreadLine.{UnreadLine}
+use Rattle.route_report.specs.declared.report.Rule.{Rule}
+use Rattle.route_report.specs.declared.report.Rule.TheVariants as rule
+use Rattle.route_report.specs.Reports.{ReportedLink, AfterState, Now, Refused, ReportedAfter, SparedDevice, ReportedOptions, RoutingReport}
 
 abbrev pub Words : Type 0
 Words = List (List ℕ)
@@ -60,9 +63,14 @@ abbrev pub now_words : Option (List ℕ) → Words
 now_words None = codes "none" ∷ []
 now_words (Some ns) = number_words ns
 
+-- `3` where options add lines, else `2`
+abbrev pub version_word : Option ReportedOptions → List ℕ
+version_word None = codes "2"
+version_word (Some o) = codes "3"
+
 -- `acpiroute 2`: a report of version 2
-abbrev pub heading_words : Words
-heading_words = codes "acpiroute" ∷ codes "2" ∷ []
+abbrev pub heading_words : Option ReportedOptions → Words
+heading_words options = codes "acpiroute" ∷ version_word options ∷ []
 
 -- `mode apic` or `mode pic`
 abbrev pub mode_words : Mode → Words
@@ -87,6 +95,23 @@ sci_words sci = codes "sci" ∷ source_words sci
 -- `avoid N..`, or `avoid -`
 abbrev pub avoid_words : List ℕ → Words
 avoid_words ns = codes "avoid" ∷ number_words ns
+
+-- `spared D N..`
+abbrev pub spared_words : SparedDevice → Words
+spared_words s = codes "spared" ∷ text_of s.device ∷ map decimal s.interrupts
+
+-- `unread D R`
+abbrev pub unread_words : UnreadLine → Words
+unread_words u = codes "unread" ∷ text_of u.device ∷ decimal u.refusal ∷ []
+
+-- `first`
+abbrev pub rule_words : Rule → Words
+rule_words rule.First = codes "first" ∷ []
+
+-- the lines of version 3 alone
+abbrev pub option_lines : Option ReportedOptions → List Words
+option_lines None = []
+option_lines (Some o) = map spared_words o.spared ++ (map unread_words o.unread ++ rule_words o.rule ∷ [])
 
 -- `link P small low offers N.. now V`
 abbrev pub link_words : ReportedLink → Words
@@ -141,8 +166,8 @@ after_words a = codes "after" ∷ text_of a.path ∷ state_words a.state
 
 -- all lines, in their order: what was found, and what was chosen
 abbrev pub found_lines : RoutingReport → List Words
-found_lines r = heading_words ∷ mode_words r.mode ∷ (map io_apic_words r.io_apics ++ (map override_words r.overrides
-    ++ (sci_words r.sci ∷ avoid_words r.avoid ∷ (map link_words r.links ++ (map wired_words r.wired ++ map pin_words r.pins)))))
+found_lines r = heading_words r.options ∷ mode_words r.mode ∷ (map io_apic_words r.io_apics ++ (map override_words r.overrides
+    ++ (sci_words r.sci ∷ avoid_words r.avoid ∷ (option_lines r.options ++ (map link_words r.links ++ (map wired_words r.wired ++ map pin_words r.pins))))))
 
 abbrev pub chosen_lines : RoutingReport → List Words
 chosen_lines r = map give_words r.gives ++ (busiest_words r.busiest ∷ bound_words r.bound ∷ (map set_words r.sets ++ map after_words r.afters))

@@ -1,17 +1,37 @@
 -- What a report claims itself, and which reports are read.
-use Rattle.std.specs.Prelude.{ℕ, List, ◌<◌, ◌≤◌, ◌^◌, length, map, All, option_to_list}
+use Rattle.std.specs.Prelude.{ℕ, List, [], ◌∷◌, ◌++◌, Option, Some, None, ◌<◌, ◌≤◌, ◌^◌, length, map, All, option_to_list}
 use Rattle.std.specs.List.Sorted.{IsStrictlyIncreasing}
 use Rattle.route_model.specs.Links.{OfferingLink}
 use Rattle.route_check.specs.Claims.{RoutingClaim, interrupts_of_bound}
-use Rattle.route_report.specs.Ordered.{claim_in_order}
-use Rattle.route_report.specs.Reports.{ReportedLink, RoutingReport}
+use Rattle.route_report.specs.Ordered.{barred_by, claim_in_order}
+use Rattle.route_report.specs.declared.report.UnreadLine.{UnreadLine}
+use Rattle.route_report.specs.Reports.{ReportedLink, SparedDevice, ReportedOptions, RoutingReport}
 
 abbrev pub link_of : ReportedLink → OfferingLink
 link_of l = record { path = l.path; offers = l.offers }
 
+-- the interrupts of devices, one after the other
+unfoldable pub spared_numbers : List SparedDevice → List ℕ
+spared_numbers [] = []
+spared_numbers (s ∷ ss) = s.interrupts ++ spared_numbers ss
+
+-- those that options spare
+abbrev pub spared_by : Option ReportedOptions → Option (List ℕ)
+spared_by None = None
+spared_by (Some o) = Some (spared_numbers o.spared)
+
+-- the devices whose interrupts are spared, and those whose interrupts couldn't be read
+abbrev pub spared_devices : Option ReportedOptions → List SparedDevice
+spared_devices None = []
+spared_devices (Some o) = o.spared
+
+abbrev pub unread_devices : Option ReportedOptions → List UnreadLine
+unread_devices None = []
+unread_devices (Some o) = o.unread
+
 -- what the report claims, each list in order
 abbrev pub claim_of_report : RoutingReport → RoutingClaim
-claim_of_report r = claim_in_order (record { links = map link_of r.links; wired = r.wired; sci = r.sci; avoid = r.avoid; gives = r.gives; busiest = r.busiest; bound = r.bound })
+claim_of_report r = claim_in_order (record { links = map link_of r.links; wired = r.wired; sci = r.sci; avoid = barred_by r.avoid (spared_by r.options); gives = r.gives; busiest = r.busiest; bound = r.bound })
 
 -- an offer that a line can show
 pub record IsReadableOffer (offers : List ℕ) : Type 0 where
@@ -24,6 +44,7 @@ pub record IsReadable (r : RoutingReport) : Type 0 where
   pub few_wired : length r.wired ≤ 4096
   pub offers : All (λ l. IsReadableOffer l.offers) r.links
   pub avoid : IsStrictlyIncreasing r.avoid
+  pub spared : All (λ s. 0 < length s.interrupts) (spared_devices r.options)
 
 -- its numbers have 32 bits, as those of every report in memory do
 pub record IsSmall (r : RoutingReport) : Type 0 where
@@ -31,6 +52,8 @@ pub record IsSmall (r : RoutingReport) : Type 0 where
   pub wired : All (λ w. (w.0 < 2 ^ 32) × (w.1 < 2 ^ 32)) r.wired
   pub sci : All (λ n. n < 2 ^ 32) (option_to_list r.sci)
   pub avoid : All (λ n. n < 2 ^ 32) r.avoid
+  pub spared : All (λ s. All (λ n. n < 2 ^ 32) s.interrupts) (spared_devices r.options)
+  pub unread : All (λ u. u.refusal < 2 ^ 32) (unread_devices r.options)
   pub gives : All (λ g. g.1 < 2 ^ 32) r.gives
   pub busiest : r.busiest < 2 ^ 32
   pub interrupts : All (λ n. n < 2 ^ 32) (interrupts_of_bound r.bound)

@@ -12,23 +12,29 @@ use Rattle.text_words.specs.Words.{words}
 use Rattle.route_report.specs.Lines.{lines, number}
 use Rattle.route_report.specs.declared.version.Version.{Version}
 use Rattle.route_report.specs.declared.version.Version.TheVariants as version
-use Rattle.route_report.specs.Ordered.{claim_in_order}
+use Rattle.route_report.specs.declared.report.Rule.{Rule}
+use Rattle.route_report.specs.declared.report.Rule.TheVariants as rule
+use Rattle.route_report.specs.Ordered.{barred_by, claim_in_order}
 
 -- what the lines have said so far; of a bound, and of the interrupt that the System Control Interrupt is wired to, that there is
--- none is said too
+-- none is said too; of devices whose interrupts are spared, that lines may tell of them
 pub record Said : Type 0 where
   pub links : List OfferingLink
   pub wired : List (ℕ × ℕ)
   pub sci : Option (Option ℕ)
   pub avoid : Option (List ℕ)
+  pub spared : Option (List ℕ)
+  pub rule : Option Rule
   pub gives : List (List Seg × ℕ)
   pub busiest : Option ℕ
   pub bound : Option (Option BoundingSet)
 
--- what the first line says: in version 1 there is no System Control Interrupt, nothing is avoided, and no line tells of these
+-- what the first line says: in version 1 there is no System Control Interrupt, nothing is avoided, and no line tells of these; before
+-- version 3 no line tells of interrupts that are spared, and the choice is the first
 abbrev pub first_said : Version → Said
-first_said version.One = record { links = []; wired = []; sci = Some None; avoid = Some []; gives = []; busiest = None; bound = None }
-first_said version.Two = record { links = []; wired = []; sci = None; avoid = None; gives = []; busiest = None; bound = None }
+first_said version.One = record { links = []; wired = []; sci = Some None; avoid = Some []; spared = None; rule = Some rule.First; gives = []; busiest = None; bound = None }
+first_said version.Two = record { links = []; wired = []; sci = None; avoid = None; spared = None; rule = Some rule.First; gives = []; busiest = None; bound = None }
+first_said version.Three = record { links = []; wired = []; sci = None; avoid = None; spared = Some []; rule = None; gives = []; busiest = None; bound = None }
 
 -- a number follows those before it
 abbrev pub ascends : List ℕ → ℕ → Bool
@@ -212,6 +218,26 @@ module _ (n : ℕ) where
     more ← with_number is w
     numbers_after more ws
 
+  -- one number at least
+  unfoldable pub some_numbers : List (List ℕ) → Outcome (List ℕ)
+  some_numbers ws = do
+    w ← word ws
+    first ← with_number [] w.0
+    numbers_after first w.1
+
+  -- `D N..`
+  unfoldable pub spared : List (List ℕ) → Outcome (List ℕ)
+  spared ws = do
+    p ← named ws
+    some_numbers p.1
+
+  -- `D R`
+  unfoldable pub unread : List (List ℕ) → Outcome (Unit {0})
+  unread ws = do
+    p ← named ws
+    r ← numbered p.1
+    ended r.1
+
   -- `P.. over N..`
   unfoldable pub set : List ℕ → List (List ℕ) → Outcome BoundingSet
   set w ws = do
@@ -248,6 +274,19 @@ module _ (n : ℕ) where
   unfoldable pub with_avoid : List ℕ → Said → Outcome Said
   with_avoid ns d = if is_some d.avoid then bad_line else Ok (record d { avoid = Some ns })
 
+  -- and with the interrupts of one device more, or the word that those of one can't be read, where lines may tell of these; and with
+  -- one rule of the choice
+  unfoldable pub with_spared : List ℕ → Said → Outcome Said
+  with_spared ns d = do
+    ms ← here d.spared
+    Ok (record d { spared = Some (ms ++ ns) })
+
+  unfoldable pub with_unread : Said → Outcome Said
+  with_unread d = if is_some d.spared then Ok d else bad_line
+
+  unfoldable pub with_rule : Rule → Said → Outcome Said
+  with_rule r d = if is_some d.rule then bad_line else Ok (record d { rule = Some r })
+
   unfoldable pub with_busiest : ℕ → Said → Outcome Said
   with_busiest k d = if is_some d.busiest then bad_line else Ok (record d { busiest = Some k })
 
@@ -275,6 +314,21 @@ module _ (n : ℕ) where
     ns ← avoid ws
     with_avoid ns d
 
+  unfoldable pub spared_line : List (List ℕ) → Said → Outcome Said
+  spared_line ws d = do
+    ns ← spared ws
+    with_spared ns d
+
+  unfoldable pub unread_line : List (List ℕ) → Said → Outcome Said
+  unread_line ws d = do
+    _ ← unread ws
+    with_unread d
+
+  unfoldable pub rule_line : Rule → List (List ℕ) → Said → Outcome Said
+  rule_line r ws d = do
+    _ ← ended ws
+    with_rule r d
+
   unfoldable pub give_line : List (List ℕ) → Said → Outcome Said
   give_line ws d = do
     g ← give ws
@@ -297,6 +351,9 @@ module _ (n : ℕ) where
       else if bytes_eq key (codes "wired") then wired_line ws d
       else if bytes_eq key (codes "sci") then sci_line ws d
       else if bytes_eq key (codes "avoid") then avoid_line ws d
+      else if bytes_eq key (codes "spared") then spared_line ws d
+      else if bytes_eq key (codes "unread") then unread_line ws d
+      else if bytes_eq key (codes "first") then rule_line rule.First ws d
       else if bytes_eq key (codes "give") then give_line ws d
       else if bytes_eq key (codes "busiest") then busiest_line ws d
       else if bytes_eq key (codes "bound") then bound_line ws d
@@ -308,11 +365,13 @@ module _ (n : ℕ) where
     w ← word ws
     keyed w.0 w.1 d
 
-  -- `1` or `2`
+  -- `1`, `2` or `3`
   abbrev pub version_here : List ℕ → Outcome Version
-  version_here w = if bytes_eq w (codes "1") then Ok version.One else (if bytes_eq w (codes "2") then Ok version.Two else bad_line)
+  version_here w = if bytes_eq w (codes "1") then Ok version.One
+      else (if bytes_eq w (codes "2") then Ok version.Two
+      else (if bytes_eq w (codes "3") then Ok version.Three else bad_line))
 
-  -- the first line: a report of version 1 or 2
+  -- the first line: a report of version 1, 2 or 3
   unfoldable pub heading : List (List ℕ) → Outcome Version
   heading ws = do
     name ← expected (codes "acpiroute") ws
@@ -321,15 +380,16 @@ module _ (n : ℕ) where
     _ ← ended w.1
     Ok v
 
-  -- what all lines claim, each list in order: the interrupt that the System Control Interrupt is wired to, what is avoided, the
-  -- busiest interrupt and the bound must be said
+  -- what all lines claim, each list in order: the interrupt that the System Control Interrupt is wired to, what is avoided, the rule of
+  -- the choice, the busiest interrupt and the bound must be said
   unfoldable pub claimed : Said → Outcome RoutingClaim
   claimed d = do
     s ← here d.sci
     ns ← here d.avoid
+    r ← here d.rule
     k ← here d.busiest
     b ← here d.bound
-    Ok (claim_in_order (record { links = d.links; wired = d.wired; sci = s; avoid = ns; gives = d.gives; busiest = k; bound = b }))
+    Ok (claim_in_order (record { links = d.links; wired = d.wired; sci = s; avoid = barred_by ns d.spared; gives = d.gives; busiest = k; bound = b }))
 
 -- the lines from the n-th on, and what was said before them
 unfoldable pub lines_read : ℕ → List (List ℕ) → Said → Outcome RoutingClaim

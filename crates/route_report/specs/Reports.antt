@@ -9,6 +9,8 @@ use Rattle.route_report.specs.declared.report.IoApicLine.{IoApicLine}
 use Rattle.route_report.specs.declared.report.OverrideLine.{OverrideLine}
 use Rattle.route_report.specs.declared.report.PinLine.{PinLine}
 use Rattle.route_report.specs.declared.report.SetLine.{SetLine}
+use Rattle.route_report.specs.declared.report.UnreadLine.{UnreadLine}
+use Rattle.route_report.specs.declared.report.Rule.{Rule}
 use Rattle.route_report.specs.declared.report.After.{After}
 use Rattle.route_report.specs.declared.report.After.TheVariants as after
 
@@ -32,12 +34,24 @@ pub record ReportedAfter : Type 0 where
   pub path : List Seg
   pub state : AfterState
 
+-- a device that is no link, with its interrupts, which no link is given
+pub record SparedDevice : Type 0 where
+  pub device : List Seg
+  pub interrupts : List ℕ
+
+-- what options of a run add to its report
+pub record ReportedOptions : Type 0 where
+  pub spared : List SparedDevice
+  pub unread : List UnreadLine
+  pub rule : Rule
+
 pub record RoutingReport : Type 0 where
   pub mode : Mode
   pub io_apics : List IoApicLine
   pub overrides : List OverrideLine
   pub sci : Option ℕ
   pub avoid : List ℕ
+  pub options : Option ReportedOptions
   pub links : List ReportedLink
   pub wired : List (ℕ × ℕ)
   pub pins : List PinLine

@@ -1,9 +1,11 @@
 //! What the lines of a report have said so far.
-ghost use Rattle.std.specs.Prelude.{◌≡◌, option_map};
+ghost use Rattle.std.specs.Prelude.{◌≡◌, [], Ok, option_map};
 ghost use Rattle.ar_space.specs.Outcome.{Answers, NotMemory, seen};
-ghost use Rattle.route_report.specs.Reading.{first_said, with_link, with_wired, with_sci, with_avoid, with_give, with_busiest, with_bound, here, claimed};
+ghost use Rattle.route_report.specs.Reading.{first_said, with_link, with_wired, with_sci, with_avoid, with_spared, with_unread, with_rule, with_give, with_busiest, with_bound, here, claimed};
+ghost use Rattle.route_report.specs.Ordered.{barred_by};
 
-use crate::ordered::{bound_in_order, gives_in_order, links_in_order, wired_in_order};
+use crate::ordered::{barred, bound_in_order, gives_in_order, links_in_order, wired_in_order};
+use crate::report::Rule;
 use crate::version::Version;
 use crate::words::bad_line;
 use aml_path::Path;
@@ -19,13 +21,15 @@ const MAX_LINKS: usize = 256;
 const MAX_WIRED: usize = 4096;
 
 /// A claim that isn't whole yet. Of a bound, and of the interrupt that the System Control Interrupt is wired to, that there is none
-/// is said too.
+/// is said too. Of devices whose interrupts are spared, that lines may tell of them.
 #[derive(Drop)]
 pub(crate) struct Draft {
     links: Vec<Link>,
     wired: Vec<(u32, u32)>,
     sci: Option<Option<u32>>,
     avoid: Option<Vec<u32>>,
+    spared: Option<Vec<u32>>,
+    rule: Option<Rule>,
     gives: Vec<(Path, u32)>,
     busiest: Option<u32>,
     bound: Option<Option<Bound>>,
@@ -37,7 +41,7 @@ impl Model for Draft {
 
     ghost Value = { Said };
 
-    ghost view = { λ d. record { links = d.links.items; wired = d.wired.items; sci = d.sci; avoid = option_map (λ v. v.items) d.avoid; gives = d.gives.items; busiest = d.busiest; bound = d.bound } };
+    ghost view = { λ d. record { links = d.links.items; wired = d.wired.items; sci = d.sci; avoid = option_map (λ v. v.items) d.avoid; spared = option_map (λ v. v.items) d.spared; rule = d.rule; gives = d.gives.items; busiest = d.busiest; bound = d.bound } };
 }
 
 impl Draft {
@@ -51,6 +55,8 @@ impl Draft {
             wired: Vec::new(alloc),
             sci,
             avoid,
+            spared: spared_first(alloc, version),
+            rule: rule_first(version),
             gives: Vec::new(alloc),
             busiest: None,
             bound: None,
@@ -109,6 +115,43 @@ impl Draft {
         Ok(())
     }
 
+    /// The interrupts of one device more, where lines may tell of these.
+    #[tactic(auto, using(ar_space::specs::Outcome::answering), unfolding(crate::specs::Reading::with_spared))]
+    pub(crate) fn add_spared(&mut self, n: usize, mut interrupts: Vec<u32>) -> Result<(), Refusal>
+        ensures { Answers (seen (λ _. self.new) result) (with_spared n interrupts.items self.old) }
+    {
+        let mut spared = numbers_here(n, self.spared.take())?;
+        spared.append(&mut interrupts)?;
+        self.spared = Some(spared);
+        Ok(())
+    }
+
+    /// The interrupts of a device can't be read, where lines may tell of this.
+    #[tactic(auto, using(ar_space::specs::Outcome::answering), unfolding(crate::specs::Reading::with_unread))]
+    pub(crate) fn add_unread(&self, n: usize) -> Result<(), Refusal>
+        ensures answer { Answers (seen (λ _. self.now) result) (with_unread n self.now) }
+        ensures memory { NotMemory result }
+    {
+        if self.spared.is_some() {
+            Ok(())
+        } else {
+            Err(bad_line(n))
+        }
+    }
+
+    /// The rule of the choice, once.
+    #[tactic(auto, using(ar_space::specs::Outcome::answering), unfolding(crate::specs::Reading::with_rule))]
+    pub(crate) fn set_rule(&mut self, n: usize, rule: Rule) -> Result<(), Refusal>
+        ensures answer { Answers (seen (λ _. self.new) result) (with_rule n rule self.old) }
+        ensures memory { NotMemory result }
+    {
+        if self.rule.is_some() {
+            return Err(bad_line(n));
+        }
+        self.rule = Some(rule);
+        Ok(())
+    }
+
     /// What one link more is given.
     #[tactic(auto, using(ar_space::specs::Outcome::answering), unfolding(crate::specs::Reading::with_give))]
     pub(crate) fn add_give(&mut self, n: usize, give: (Path, u32)) -> Result<(), Refusal>
@@ -147,13 +190,14 @@ impl Draft {
     /// The claim, each of its lists in order, of a report that has n - 1 lines.
     #[tactic(auto, using(ar_space::specs::Outcome::answering), unfolding(crate::specs::Reading::claimed))]
     pub(crate) fn claim(self, n: usize) -> Result<Claim, Refusal>
-        ensures answer { Answers result (claimed n self) }
-        ensures memory { NotMemory result }
+        ensures { Answers result (claimed n self) }
     {
         let sci = sci_here(n, self.sci)?;
-        let avoid = avoid_here(n, self.avoid)?;
+        let avoid = numbers_here(n, self.avoid)?;
+        rule_here(n, self.rule)?;
         let busiest = busiest_here(n, self.busiest)?;
         let bound = bound_here(n, self.bound)?;
+        let avoid = barred_by(avoid, self.spared)?;
         Ok(Claim {
             links: links_in_order(self.links),
             wired: wired_in_order(self.wired),
@@ -173,7 +217,49 @@ fn first_said(alloc: Global, version: Version) -> (Option<Option<u32>>, Option<V
 {
     match version {
         Version::One => (Some(None), Some(Vec::new(alloc))),
-        Version::Two => (None, None),
+        Version::Two | Version::Three => (None, None),
+    }
+}
+
+/// What it has said of interrupts that are spared.
+fn spared_first(alloc: Global, version: Version) -> Option<Vec<u32>>
+    ensures { option_map (λ v. v.items) result ≡ (first_said version).spared }
+{
+    match version {
+        Version::One | Version::Two => None,
+        Version::Three => Some(Vec::new(alloc)),
+    }
+}
+
+/// What it has said of the rule of the choice.
+fn rule_first(version: Version) -> Option<Rule>
+    ensures { result ≡ (first_said version).rule }
+{
+    match version {
+        Version::One | Version::Two => Some(Rule::First),
+        Version::Three => None,
+    }
+}
+
+/// The interrupts that no link may be given.
+fn barred_by(avoid: Vec<u32>, spared: Option<Vec<u32>>) -> Result<Vec<u32>, Refusal>
+    ensures { Answers (seen (λ v. v.items) result) (Ok (barred_by avoid.items (option_map (λ v. v.items) spared))) }
+{
+    match spared {
+        Some(spared) => barred(avoid, spared),
+        None => Ok(avoid),
+    }
+}
+
+/// What was said of the rule of the choice.
+#[tactic(auto, using(ar_space::specs::Outcome::answering))]
+fn rule_here(n: usize, rule: Option<Rule>) -> Result<Rule, Refusal>
+    ensures answer { Answers result (here n rule) }
+    ensures memory { NotMemory result }
+{
+    match rule {
+        Some(rule) => Ok(rule),
+        None => Err(bad_line(n)),
     }
 }
 
@@ -189,14 +275,14 @@ fn sci_here(n: usize, sci: Option<Option<u32>>) -> Result<Option<u32>, Refusal>
     }
 }
 
-/// What was said of the interrupts that are avoided.
+/// Interrupts that were said.
 #[tactic(auto, using(ar_space::specs::Outcome::answering))]
-fn avoid_here(n: usize, avoid: Option<Vec<u32>>) -> Result<Vec<u32>, Refusal>
-    ensures answer { Answers (seen (λ v. v.items) result) (here n (option_map (λ v. v.items) avoid)) }
+fn numbers_here(n: usize, numbers: Option<Vec<u32>>) -> Result<Vec<u32>, Refusal>
+    ensures answer { Answers (seen (λ v. v.items) result) (here n (option_map (λ v. v.items) numbers)) }
     ensures memory { NotMemory result }
 {
-    match avoid {
-        Some(avoid) => Ok(avoid),
+    match numbers {
+        Some(numbers) => Ok(numbers),
         None => Err(bad_line(n)),
     }
 }

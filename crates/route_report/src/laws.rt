@@ -1,5 +1,5 @@
 //! What holds of all reports: each law is the contract of a function that does nothing.
-ghost use Rattle.std.specs.Prelude.{◌≡◌, ◌↔◌, ◌<◌, ◌∷◌, [], ℕ, List, Option, None, Ok, All, codes, length, map, filter};
+ghost use Rattle.std.specs.Prelude.{◌≡◌, ◌↔◌, ◌⊎◌, ◌<◌, ◌∷◌, [], ℕ, List, Option, None, Ok, All, Any, Contains, codes, length, map, filter};
 ghost use Rattle.std.specs.List.Sorted.{IsPermutation, IsStrictlyIncreasing, IsStrictlySortedBy};
 ghost use Rattle.aml_path.specs.Paths.{path_cmp};
 ghost use Rattle.route_model.specs.Links.{OfferingLink, paths_of};
@@ -7,17 +7,17 @@ ghost use Rattle.route_check.specs.Claimed.{claim_of};
 ghost use Rattle.route_check.specs.Claims.{RoutingClaim};
 ghost use Rattle.route_report.specs.Counting.{counts};
 ghost use Rattle.route_report.specs.Lines.{lines};
-ghost use Rattle.route_report.specs.Reports.{RoutingReport};
-ghost use Rattle.route_report.specs.Ordered.{claim_in_order, IsInOrder, HasSameElements};
+ghost use Rattle.route_report.specs.Reports.{RoutingReport, SparedDevice};
+ghost use Rattle.route_report.specs.Ordered.{barred_by, claim_in_order, IsInOrder, HasSameElements};
 ghost use Rattle.route_report.specs.Printing.{text_of_report};
 ghost use Rattle.route_report.specs.Reading.{claim_of_text};
-ghost use Rattle.route_report.specs.Readable.{IsReadable, IsSmall, claim_of_report};
+ghost use Rattle.route_report.specs.Readable.{IsReadable, IsSmall, spared_by, spared_devices, claim_of_report};
 
 use aml_path::laws::text_is_read_back;
 
 /// The text of a report is read as the report's own claim, its lists in order, where its links, offers and wired interrupts are within the
-/// limits of reading: at most 256 links, each with an offer in ascending order, at most 4096 wired interrupts, and the avoided
-/// interrupts in ascending order, each once.
+/// limits of reading: at most 256 links, each with an offer in ascending order, at most 4096 wired interrupts, the avoided interrupts
+/// in ascending order, each once, and at least one interrupt of each device whose interrupts are spared.
 pub fn a_printed_report_is_read_back()
     ensures { (report : RoutingReport) → IsReadable report → IsSmall report → claim_of_text (text_of_report report) ≡ Ok (claim_of_report report) }
 {
@@ -32,6 +32,26 @@ pub fn a_claim_that_was_read_is_in_order()
 /// A report of version 1 tells of no System Control Interrupt, and avoids no interrupt.
 pub fn a_report_of_version_1_has_no_sci_and_avoids_nothing()
     ensures { (text : List ℕ) (ls : List (List ℕ)) (claim : RoutingClaim) → lines text ≡ codes "acpiroute 1" ∷ ls → claim_of_text text ≡ Ok claim → (claim.sci ≡ None) × (claim.avoid ≡ []) }
+{}
+
+/// A report of version 1 or 2 spares nothing: the claim avoids just what the line `avoid` says.
+pub fn a_report_before_version_3_spares_nothing()
+    ensures { (avoid : List ℕ) → barred_by avoid (spared_by None) ≡ avoid }
+{}
+
+/// Where a report spares an interrupt of a device, its claim lets no link have it.
+pub fn a_spared_interrupt_is_avoided()
+    ensures { (report : RoutingReport) (device : SparedDevice) (n : ℕ) → Contains (spared_devices report.options) device → Contains device.interrupts n → Contains (claim_of_report report).avoid n }
+{}
+
+/// Where a report avoids an interrupt, its claim lets no link have it.
+pub fn an_avoided_interrupt_stays_avoided()
+    ensures { (report : RoutingReport) (n : ℕ) → Contains report.avoid n → Contains (claim_of_report report).avoid n }
+{}
+
+/// What a claim lets no link have is avoided or spared.
+pub fn nothing_else_is_avoided()
+    ensures { (report : RoutingReport) (n : ℕ) → Contains (claim_of_report report).avoid n → Contains report.avoid n ⊎ Any (λ s. Contains s.interrupts n) (spared_devices report.options) }
 {}
 
 /// Putting the lists of a claim in order neither adds an element nor drops one, and changes nothing else.

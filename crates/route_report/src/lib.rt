@@ -20,6 +20,6 @@ pub use ar_tables::Mode;
 pub use printing::print;
 pub use reading::read;
 pub use report::{
-    After, AfterLine, IoApicLine, LinkLine, OverrideLine, PinLine, PinName, PinRoute, Report,
-    SetLine, SetOutcome,
+    After, AfterLine, IoApicLine, LinkLine, OptionLines, OverrideLine, PinLine, PinName, PinRoute,
+    Report, Rule, SetLine, SetOutcome, SparedLine, UnreadLine,
 };

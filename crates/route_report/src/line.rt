@@ -2,9 +2,10 @@
 ghost use Rattle.std.specs.Prelude.{◌≡◌, [], codes};
 ghost use Rattle.ar_space.specs.Outcome.{Answers, NotMemory, seen};
 ghost use Rattle.text_words.specs.Words.{words};
-ghost use Rattle.route_report.specs.Reading.{ascends, is_passed_over, with_next, until, offers, offered, link, wired, sci, ascending_after, avoid, give, busiest, with_path, set_links, with_number, numbers_after, set, bound, link_line, wired_line, sci_line, avoid_line, give_line, busiest_line, bound_line, keyed, line, version_here, heading};
+ghost use Rattle.route_report.specs.Reading.{ascends, is_passed_over, with_next, until, offers, offered, link, wired, sci, ascending_after, avoid, spared, unread, give, busiest, with_path, set_links, with_number, numbers_after, some_numbers, set, bound, link_line, wired_line, sci_line, avoid_line, spared_line, unread_line, rule_line, give_line, busiest_line, bound_line, keyed, line, version_here, heading};
 
 use crate::draft::Draft;
+use crate::report::Rule;
 use crate::version::Version;
 use crate::words::{bad_line, ended, expected, number, number_here, one_of, path, path_here, word};
 use aml_path::Path;
@@ -221,10 +222,49 @@ fn numbers(alloc: Global, n: usize, words: &mut Words<'_>) -> Result<Vec<u32>, R
     ensures { Answers (seen (λ v. v.items) result) (numbers_after n [] words.old) }
 {
     let mut numbers = Vec::new(alloc);
-    while let Some(word) = words.take() {
-        add_number(n, &mut numbers, word)?;
-    }
+    add_numbers(n, &mut numbers, words)?;
     Ok(numbers)
+}
+
+/// All words that are left, as numbers, after those before.
+fn add_numbers(n: usize, numbers: &mut Vec<u32>, words: &mut Words<'_>) -> Result<(), Refusal>
+    ensures { Answers (seen (λ _. numbers.new.items) result) (numbers_after n numbers.old.items words.old) }
+{
+    while let Some(word) = words.take() {
+        add_number(n, numbers, word)?;
+    }
+    Ok(())
+}
+
+/// `N..`, one number at least
+#[tactic(auto, using(ar_space::specs::Outcome::answering), unfolding(crate::specs::Reading::some_numbers))]
+fn some_numbers(alloc: Global, n: usize, words: &mut Words<'_>) -> Result<Vec<u32>, Refusal>
+    ensures { Answers (seen (λ v. v.items) result) (some_numbers n words.old) }
+{
+    let first = word(n, words)?;
+    let mut numbers = Vec::new(alloc);
+    add_number(n, &mut numbers, first)?;
+    add_numbers(n, &mut numbers, words)?;
+    Ok(numbers)
+}
+
+/// `D N..`
+#[tactic(auto, using(ar_space::specs::Outcome::answering), unfolding(crate::specs::Reading::spared))]
+fn spared(alloc: Global, n: usize, words: &mut Words<'_>) -> Result<Vec<u32>, Refusal>
+    ensures { Answers (seen (λ v. v.items) result) (spared n words.old) }
+{
+    path(alloc, n, words)?;
+    some_numbers(alloc, n, words)
+}
+
+/// `D R`
+#[tactic(auto, using(ar_space::specs::Outcome::answering), unfolding(crate::specs::Reading::unread))]
+fn unread(alloc: Global, n: usize, words: &mut Words<'_>) -> Result<(), Refusal>
+    ensures { Answers result (unread n words.old) }
+{
+    path(alloc, n, words)?;
+    number(n, words)?;
+    ended(n, words)
 }
 
 /// `P.. over N..`
@@ -310,6 +350,39 @@ fn avoid_line(
     draft.set_avoid(n, avoid)
 }
 
+/// Adds the interrupts of a device that are spared.
+#[tactic(auto, using(ar_space::specs::Outcome::answering), unfolding(crate::specs::Reading::spared_line))]
+fn spared_line(
+    alloc: Global,
+    n: usize,
+    words: &mut Words<'_>,
+    draft: &mut Draft,
+) -> Result<(), Refusal>
+    ensures { Answers (seen (λ _. draft.new) result) (spared_line n words.old draft.old) }
+{
+    let interrupts = spared(alloc, n, words)?;
+    draft.add_spared(n, interrupts)
+}
+
+/// Reads over a device whose interrupts couldn't be read.
+#[tactic(auto, using(ar_space::specs::Outcome::answering), unfolding(crate::specs::Reading::unread_line))]
+fn unread_line(alloc: Global, n: usize, words: &mut Words<'_>, draft: &Draft) -> Result<(), Refusal>
+    ensures { Answers (seen (λ _. draft.now) result) (unread_line n words.old draft.now) }
+{
+    unread(alloc, n, words)?;
+    draft.add_unread(n)
+}
+
+/// Sets the rule of the choice.
+#[tactic(auto, using(ar_space::specs::Outcome::answering), unfolding(crate::specs::Reading::rule_line))]
+fn rule_line(n: usize, rule: Rule, words: &Words<'_>, draft: &mut Draft) -> Result<(), Refusal>
+    ensures answer { Answers (seen (λ _. draft.new) result) (rule_line n rule words.now draft.old) }
+    ensures memory { NotMemory result }
+{
+    ended(n, words)?;
+    draft.set_rule(n, rule)
+}
+
 /// Adds what a link is given.
 #[tactic(auto, using(ar_space::specs::Outcome::answering), unfolding(crate::specs::Reading::give_line))]
 fn give_line(
@@ -367,6 +440,12 @@ fn keyed(
         sci_line(n, words, draft)
     } else if key == b"avoid".as_slice() {
         avoid_line(alloc, n, words, draft)
+    } else if key == b"spared".as_slice() {
+        spared_line(alloc, n, words, draft)
+    } else if key == b"unread".as_slice() {
+        unread_line(alloc, n, words, draft)
+    } else if key == b"first".as_slice() {
+        rule_line(n, Rule::First, words, draft)
     } else if key == b"give".as_slice() {
         give_line(alloc, n, words, draft)
     } else if key == b"busiest".as_slice() {
@@ -400,12 +479,14 @@ fn version_here(n: usize, word: &[u8]) -> Result<Version, Refusal>
         Ok(Version::One)
     } else if word == b"2".as_slice() {
         Ok(Version::Two)
+    } else if word == b"3".as_slice() {
+        Ok(Version::Three)
     } else {
         Err(bad_line(n))
     }
 }
 
-/// The first line: a report of version 1 or 2.
+/// The first line: a report of version 1, 2 or 3.
 #[tactic(auto, using(ar_space::specs::Outcome::answering), unfolding(crate::specs::Reading::heading))]
 pub(crate) fn heading(n: usize, text: &[u8]) -> Result<Version, Refusal>
     ensures answer { Answers result (heading n (words text.now)) }

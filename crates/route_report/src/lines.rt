@@ -1,14 +1,15 @@
 //! The lines of a report, put behind a text.
-ghost use Rattle.std.specs.Prelude.{◌≡◌, ◌<◌, ◌^◌, All, ◌++◌, ◌∷◌, [], OnOk, map, option_map, option_to_list, codes, decimal};
+ghost use Rattle.std.specs.Prelude.{◌≡◌, ◌<◌, ◌^◌, All, ◌++◌, ◌∷◌, [], Some, OnOk, map, option_map, option_to_list, codes, decimal};
 ghost use Rattle.route_check.specs.Claims.{interrupts_of_bound};
 ghost use Rattle.route_report.specs.Lines.{spaced, line_text, text_of_lines};
 ghost use Rattle.route_report.specs.Reports.{after_state};
-ghost use Rattle.route_report.specs.Printing.{mode_word, form_word, polarity_word, pin_word, heading_words, mode_words, io_apic_words, override_words, source_words, sci_words, avoid_words, now_words, link_words, wired_words, route_words, pin_words, give_words, busiest_words, path_words, set_of_bound, bound_words, outcome_words, set_words, state_words, after_words};
+ghost use Rattle.route_report.specs.Readable.{spared_devices, unread_devices};
+ghost use Rattle.route_report.specs.Printing.{mode_word, form_word, polarity_word, pin_word, heading_words, mode_words, io_apic_words, override_words, source_words, sci_words, avoid_words, spared_words, unread_words, rule_words, option_lines, now_words, link_words, wired_words, route_words, pin_words, give_words, busiest_words, path_words, set_of_bound, bound_words, outcome_words, set_words, state_words, after_words};
 
 use crate::put;
 use crate::report::{
-    After, AfterLine, IoApicLine, LinkLine, OverrideLine, PinLine, PinName, PinRoute, SetLine,
-    SetOutcome,
+    After, AfterLine, IoApicLine, LinkLine, OptionLines, OverrideLine, PinLine, PinName, PinRoute,
+    Rule, SetLine, SetOutcome, SparedLine, UnreadLine,
 };
 use acpi_resources::{Form, Polarity};
 use aml_path::Path;
@@ -48,11 +49,17 @@ pub(crate) fn put_all<L: Line>(
     Ok(())
 }
 
-/// `acpiroute 2`
-pub(crate) fn put_heading(text: &mut Vec<u8>) -> Result<(), AllocError>
-    ensures { OnOk result (text.new.items ≡ text.old.items ++ line_text heading_words) }
+/// `acpiroute 2`, or `acpiroute 3` where options add lines
+pub(crate) fn put_heading(
+    text: &mut Vec<u8>,
+    options: &Option<OptionLines>,
+) -> Result<(), AllocError>
+    ensures { OnOk result (text.new.items ≡ text.old.items ++ line_text (heading_words options.now)) }
 {
-    text.extend_from_slice(b"acpiroute 2\n")
+    match options {
+        None => text.extend_from_slice(b"acpiroute 2\n"),
+        Some(_) => text.extend_from_slice(b"acpiroute 3\n"),
+    }
 }
 
 fn mode_word(mode: Mode) -> &'static [u8]
@@ -138,6 +145,76 @@ pub(crate) fn put_avoid(text: &mut Vec<u8>, avoid: &[u32]) -> Result<(), AllocEr
     text.extend_from_slice(b"avoid")?;
     put::some_numbers(text, avoid)?;
     put::end(text)
+}
+
+/// `spared D N..`
+impl Line for SparedLine {
+    ghost words = { spared_words };
+
+    ghost Small = { λ s. All (λ n. n < 2 ^ 32) s.interrupts };
+
+    #[tactic(auto, using(crate::proofs::Putting::putting))]
+    fn put(&self, alloc: Global, text: &mut Vec<u8>) -> Result<(), AllocError> {
+        text.extend_from_slice(b"spared")?;
+        put::path(alloc, text, &self.device)?;
+        put::numbers(text, &self.interrupts)?;
+        put::end(text)
+    }
+}
+
+/// `unread D R`
+impl Line for UnreadLine {
+    ghost words = { unread_words };
+
+    ghost Small = { λ u. u.refusal < 2 ^ 32 };
+
+    fn put(&self, alloc: Global, text: &mut Vec<u8>) -> Result<(), AllocError> {
+        text.extend_from_slice(b"unread")?;
+        put::path(alloc, text, &self.device)?;
+        put::number(text, u32::from(self.refusal))?;
+        put::end(text)
+    }
+}
+
+/// `first`
+fn put_rule(text: &mut Vec<u8>, rule: Rule) -> Result<(), AllocError>
+    ensures { OnOk result (text.new.items ≡ text.old.items ++ line_text (rule_words rule)) }
+{
+    match rule {
+        Rule::First => text.extend_from_slice(b"first\n"),
+    }
+}
+
+/// `spared D N..` and `unread D R`, one for each such device, and the rule of the choice.
+fn put_each_option(
+    alloc: Global,
+    text: &mut Vec<u8>,
+    options: &OptionLines,
+) -> Result<(), AllocError>
+    ensures text { OnOk result (text.new.items ≡ text.old.items ++ text_of_lines (option_lines (Some options.now))) }
+    ensures spared { OnOk result (All (λ s. All (λ n. n < 2 ^ 32) s.interrupts) options.now.spared) }
+    ensures unread { OnOk result (All (λ u. u.refusal < 2 ^ 32) options.now.unread) }
+{
+    put_all(alloc, text, &options.spared)?;
+    put_all(alloc, text, &options.unread)?;
+    put_rule(text, options.rule)?;
+    Ok(())
+}
+
+/// The lines of version 3 alone, where there are any.
+pub(crate) fn put_options(
+    alloc: Global,
+    text: &mut Vec<u8>,
+    options: &Option<OptionLines>,
+) -> Result<(), AllocError>
+    ensures text { OnOk result (text.new.items ≡ text.old.items ++ text_of_lines (option_lines options.now)) }
+    ensures spared { OnOk result (All (λ s. All (λ n. n < 2 ^ 32) s.interrupts) (spared_devices options.now)) }
+    ensures unread { OnOk result (All (λ u. u.refusal < 2 ^ 32) (unread_devices options.now)) }
+{
+    match options {
+        Some(options) => put_each_option(alloc, text, options),
+        None => Ok(()),
+    }
 }
 
 /// `wired N C`

@@ -1,11 +1,14 @@
 //! The lists of a claim in order, so that the order of a report's lines says nothing.
-ghost use Rattle.std.specs.Prelude.{◌≡◌};
+ghost use Rattle.std.specs.Prelude.{◌≡◌, ◌==◌, Ok};
+ghost use Rattle.std.specs.List.{dedup};
 ghost use Rattle.std.specs.FinMap.{IsAntisymmetric};
 ghost use Rattle.std.specs.Ordering.{nat_cmp};
 ghost use Rattle.aml_path.specs.Paths.{path_cmp};
-ghost use Rattle.route_report.specs.Ordered.{in_order, link_order, wired_order, give_order, bound_in_order};
+ghost use Rattle.ar_space.specs.Outcome.{Answers, seen};
+ghost use Rattle.route_report.specs.Ordered.{in_order, barred, link_order, wired_order, give_order, bound_in_order};
 
 use aml_path::Path;
+use ar_space::Refusal;
 use route_check::Bound;
 use route_model::Link;
 use std::cmp::Ordering;
@@ -74,6 +77,22 @@ fn numbers_in_order(numbers: Vec<u32>) -> Vec<u32>
     ensures { result.items ≡ in_order nat_cmp numbers.items }
 {
     in_order(numbers)
+}
+
+/// A list of numbers without those that stand right behind an equal one.
+fn without_repeats(mut numbers: Vec<u32>) -> Vec<u32>
+    ensures { result.items ≡ dedup ◌==◌ numbers.items }
+{
+    numbers.dedup();
+    numbers
+}
+
+/// Numbers that are avoided and numbers that are spared, ascending, each once.
+pub(crate) fn barred(mut avoid: Vec<u32>, mut spared: Vec<u32>) -> Result<Vec<u32>, Refusal>
+    ensures { Answers (seen (λ v. v.items) result) (Ok (barred avoid.items spared.items)) }
+{
+    avoid.append(&mut spared)?;
+    Ok(without_repeats(numbers_in_order(avoid)))
 }
 
 /// Both lists of a bound.

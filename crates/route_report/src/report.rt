@@ -114,6 +114,55 @@ impl Model for AfterLine {
     ghost view = { λ a. record { path = a.path; state = after_state a.state } };
 }
 
+/// A device that is no link, and the interrupts that it has: no link is given them.
+#[derive(Debug, Drop)]
+pub struct SparedLine {
+    pub device: Path,
+    /// At least one.
+    pub interrupts: Vec<u32>,
+}
+
+impl Model for SparedLine {
+    ghost use Rattle.route_report.specs.Reports.{SparedDevice};
+
+    ghost Value = { SparedDevice };
+
+    ghost view = { λ s. record { device = s.device; interrupts = s.interrupts.items } };
+}
+
+/// A device that is no link, whose interrupts couldn't be read.
+#[derive(Debug, Drop)]
+pub struct UnreadLine {
+    pub device: Path,
+    /// The number of the refusal.
+    pub refusal: u8,
+}
+
+/// Which of the least busy assignments is chosen.
+#[derive(Clone, Copy, Debug, PartialEq, Eq)]
+pub enum Rule {
+    /// The first one: links in path order, the smaller interrupt first.
+    First,
+}
+
+/// The lines that a report has in version 3 alone.
+#[derive(Debug, Drop)]
+pub struct OptionLines {
+    /// The devices whose interrupts no link is given, in path order.
+    pub spared: Vec<SparedLine>,
+    /// The devices whose interrupts couldn't be read, in path order.
+    pub unread: Vec<UnreadLine>,
+    pub rule: Rule,
+}
+
+impl Model for OptionLines {
+    ghost use Rattle.route_report.specs.Reports.{ReportedOptions};
+
+    ghost Value = { ReportedOptions };
+
+    ghost view = { λ o. record { spared = o.spared.items; unread = o.unread.items; rule = o.rule } };
+}
+
 /// What a run found and chose. `print` writes its lines in the order of the fields.
 #[derive(Debug, Drop)]
 pub struct Report {
@@ -124,6 +173,8 @@ pub struct Report {
     pub sci: Option<u32>,
     /// The interrupts that no link is given, ascending, each once.
     pub avoid: Vec<u32>,
+    /// What options of the run add: with these a report is of version 3, without them of version 2.
+    pub options: Option<OptionLines>,
     /// The present links, in path order.
     pub links: Vec<LinkLine>,
     /// Interrupts with the number of pins that are wired to them, ascending.
@@ -153,6 +204,7 @@ impl Model for Report {
       overrides = r.overrides.items;
       sci = r.sci;
       avoid = r.avoid.items;
+      options = r.options;
       links = r.links.items;
       wired = r.wired.items;
       pins = r.pins.items;

@@ -7,4 +7,6 @@ pub(crate) enum Version {
     One,
     /// With one line of each.
     Two,
+    /// And with the lines that options ask for: of interrupts that are spared, and of the rule of the choice.
+    Three,
 }

@@ -23,6 +23,8 @@ returns-clause-read_back c readable =
     ∙ read_back c.text_is_read_back.ensures c.args.report.now readable (record {
       sci = c.in_ok-put_found.ensures.sci;
       avoid = c.in_ok-put_found.ensures.avoid;
+      spared = c.in_ok-put_found.ensures.spared;
+      unread = c.in_ok-put_found.ensures.unread;
       offers = c.in_ok-put_found.ensures.offers;
       wired = c.in_ok-put_found.ensures.wired;
       gives = c.in_ok-put_chosen.ensures.gives;

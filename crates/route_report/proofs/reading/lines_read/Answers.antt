@@ -16,4 +16,4 @@ loop-rest-preserved c = record {
 }
 
 pub returns : goal.returns
-returns c = lines_done c.loop-rest.n c.loop-rest.draft c.loop-rest.rest.now c.claim.result _ (eqb-true _ _ (sym c.loop-rest-test.ensures)) c.loop-rest.invariant.same c.claim.ensures.answer
+returns c = lines_done c.loop-rest.n c.loop-rest.draft c.loop-rest.rest.now c.claim.result _ (eqb-true _ _ (sym c.loop-rest-test.ensures)) c.loop-rest.invariant.same c.claim.ensures

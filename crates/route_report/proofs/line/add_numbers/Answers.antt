@@ -1,5 +1,5 @@
 use Rattle.route_report.proofs.Steps.{numbers_on, numbers_fail, numbers_done}
-use Rattle.route_report.proofs.line.numbers.Goals as goal
+use Rattle.route_report.proofs.line.add_numbers.Goals as goal
 
 pub loop-word-preserved : goal.loop-word-preserved
 loop-word-preserved c = numbers_on c.args.n c.loop-word.numbers.items c.in-Some.word.now c.loop-word.words c.take.new.self _ c.in-Some.ensures.some c.loop-word.invariant c.add_number.new.numbers.items c.in_ok-add_number.ensures
