@@ -8,10 +8,18 @@ use Rattle.aml_meaning.specs.Given as given
 use Rattle.acpi_machine.specs.Calls.{evaluated_object}
 use Rattle.acpi_machine.specs.MachineStates.{MachineState}
 use Rattle.ar_tables.specs.declared.mode.Mode.{Mode}
+use Rattle.acpiroute_words.specs.declared.arguments.Argument.{Argument}
+use Rattle.acpiroute_words.specs.declared.arguments.Argument.TheVariants as argument
 use Rattle.acpiroute_words.specs.declared.completion.Completion.TheVariants.{Done}
 use Rattle.acpiroute_lib.specs.Machines.{machine_of_text_in}
 use Rattle.acpiroute_lib.specs.ValueText.{value_text}
 use Rattle.acpiroute_words.specs.Written.{Written}
+
+-- an argument of the command line as a value for the interpreter
+abbrev pub given_argument : Argument → given.Given
+given_argument (argument.Integer n) = given.Integer n
+given_argument (argument.Text bytes) = given.Text bytes
+given_argument (argument.Bytes bytes) = given.Bytes bytes
 
 -- what the object at a path of a machine answers to arguments
 unfoldable pub value_at : MachineState Bytes → List Seg → List given.Given → Outcome given.Given
@@ -21,16 +29,16 @@ value_at m path arguments = (evaluated_object byte_accesses path arguments m).0
 abbrev pub value_written : given.Given → Written
 value_written value = record { text = value_text value ++ codes "\n"; completion = Done }
 
--- the value of the object whose path this text is, where the arguments are these integers
-unfoldable pub evaluated_text : MachineState Bytes → List ℕ → List ℕ → Outcome Written
-evaluated_text m path integers = do
+-- the value of the object whose path this text is, where these are the arguments
+unfoldable pub evaluated_text : MachineState Bytes → List ℕ → List Argument → Outcome Written
+evaluated_text m path arguments = do
   p ← path_of_text path
-  value ← value_at m p (map given.Integer integers)
+  value ← value_at m p (map given_argument arguments)
   Ok (value_written value)
 
 -- what `eval` answers over a machine text, in this mode and with this budget of steps: the text of the path is looked at once
 -- the machine is initialized
-unfoldable pub eval_answer : Mode → ℕ → List ℕ → List ℕ → List ℕ → Outcome Written
-eval_answer mode steps path integers text = do
+unfoldable pub eval_answer : Mode → ℕ → List ℕ → List Argument → List ℕ → Outcome Written
+eval_answer mode steps path arguments text = do
   m ← machine_of_text_in mode steps text
-  evaluated_text m path integers
+  evaluated_text m path arguments

@@ -2,25 +2,44 @@
 ghost use Rattle.std.specs.Prelude.{◌≡◌, IfOk, Ok, map};
 ghost use Rattle.ar_space.specs.Outcome.{Answers, seen};
 ghost use Rattle.aml_meaning.specs.Given as given;
-ghost use Rattle.acpiroute_lib.specs.EvalCommand.{value_at, value_written, evaluated_text, eval_answer};
+ghost use Rattle.acpiroute_lib.specs.EvalCommand.{given_argument, value_at, value_written, evaluated_text, eval_answer};
 
 use crate::machine::machine_of_text_in;
 use crate::value_text::value_line;
 use acpi_machine::Machine;
-use acpiroute_words::{Answer, Completion, Integers};
+use acpiroute_words::{Answer, Argument, ArgumentBytes, Arguments, Completion};
 use aml_meaning::Datum;
+use aml_objects::Octets;
 use aml_path::Path;
 use ar_space::{PathText, Refusal, Sparse};
 use route_report::Mode;
 use std::alloc::{AllocError, Global};
 
-/// Integers as arguments.
-fn arguments(alloc: Global, integers: &[u64]) -> Result<Vec<Datum>, AllocError>
-    ensures { IfOk result (λ list. map given.given_of list.items ≡ map given.Integer integers.now) }
+/// The bytes of a string or a buffer, of its own.
+fn octets(alloc: Global, bytes: &ArgumentBytes) -> Result<Octets, AllocError>
+    ensures { IfOk result (λ o. o ≡ bytes.now) }
+{
+    Ok(Octets::from_vec(Vec::from_slice(alloc, bytes.as_slice())?))
+}
+
+/// An argument as a value for the interpreter.
+fn datum(alloc: Global, argument: &Argument) -> Result<Datum, AllocError>
+    ensures { IfOk result (λ d. given.given_of d ≡ given_argument argument.now) }
+{
+    match argument {
+        Argument::Integer(n) => Ok(Datum::Integer(*n)),
+        Argument::Text(bytes) => Ok(Datum::Text(octets(alloc, bytes)?)),
+        Argument::Bytes(bytes) => Ok(Datum::Bytes(octets(alloc, bytes)?)),
+    }
+}
+
+/// Arguments as values for the interpreter.
+fn data(alloc: Global, arguments: &[Argument]) -> Result<Vec<Datum>, AllocError>
+    ensures { IfOk result (λ list. map given.given_of list.items ≡ map given_argument arguments.now) }
 {
     let mut list = Vec::new(alloc);
-    for integer in integers {
-        list.push(Datum::Integer(*integer))?;
+    for argument in arguments {
+        list.push(datum(alloc, argument)?)?;
     }
     Ok(list)
 }
@@ -54,18 +73,18 @@ fn evaluated_text(
     alloc: Global,
     machine: &mut Machine<Sparse>,
     path: &str,
-    integers: &[u64],
+    arguments: &[Argument],
 ) -> Result<Answer, Refusal>
-    ensures { Answers result (evaluated_text machine.old path.now integers.now) }
+    ensures { Answers result (evaluated_text machine.old path.now arguments.now) }
 {
     let path = Path::from_text(alloc, path.as_bytes())?;
-    let arguments = arguments(alloc, integers)?;
+    let arguments = data(alloc, arguments)?;
     let value = value_at(alloc, machine, &path, arguments)?;
     value_written(alloc, &value)
 }
 
 /// What `eval` answers over a machine text, in a mode and with a budget of steps for each table and each evaluation: the value
-/// of the object whose path a text is, called with these integers. Refused are the machine text, its tables, their loading,
+/// of the object whose path a text is, called with these arguments. Refused are the machine text, its tables, their loading,
 /// initializing, then the path's text, and then the evaluation.
 #[tactic(auto, using(ar_space::specs::Outcome::answering), unfolding(crate::specs::EvalCommand::eval_answer))]
 pub(crate) fn eval_answer(
@@ -73,13 +92,13 @@ pub(crate) fn eval_answer(
     mode: Mode,
     steps: u64,
     path: &PathText,
-    integers: &Integers,
+    arguments: &Arguments,
     text: Vec<u8>,
 ) -> Result<Answer, Refusal>
-    ensures { Answers result (eval_answer mode steps path.now integers.now text.items) }
+    ensures { Answers result (eval_answer mode steps path.now arguments.now text.items) }
 {
     let mut machine = machine_of_text_in(alloc, mode, steps, text)?;
-    let value = evaluated_text(alloc, &mut machine, path.as_str(), integers.as_slice());
+    let value = evaluated_text(alloc, &mut machine, path.as_str(), arguments.as_slice());
     // (by a call: what a scope drops at its end is dropped part by part, and long to prove)
     drop(machine);
     value

@@ -14,8 +14,8 @@ mod route_command;
 mod value_text;
 
 pub use acpiroute_words::{
-    Asked, Failed, Growing, Integers, Interrupts, Outside, Request, Sink, Source, parse,
-    write_error_line,
+    Argument, ArgumentBytes, Arguments, Asked, Failed, Growing, Interrupts, Outside, Request, Sink,
+    Source, parse, write_error_line,
 };
 pub use memory::{Reply, run_over};
 pub use program::run;

@@ -98,9 +98,9 @@ fn decline<W: Sink, E: Sink>(writer: &mut W, errors: &mut E) -> u8
 /// The commands:
 ///
 /// - `check`: reads a report, and writes `yes`, or `no` and the number of its flaw.
-/// - `eval [--mode apic|pic] [--steps N] PATH [INTEGER..]`: reads a machine text, loads its tables, initializes the machine in
-///   the mode, by default `apic`, evaluates the object at the path with these integers as arguments, at most seven below 2^64
-///   in decimal digits, and writes its value with a line feed: `integer N` in decimal digits; `string H` and `buffer H`, the
+/// - `eval [--mode apic|pic] [--steps N] PATH [ARGUMENT..]`: reads a machine text, loads its tables, initializes the machine in
+///   the mode, by default `apic`, evaluates the object at the path with these arguments, at most seven, each an integer below
+///   2^64 in decimal digits, `s:` and the bytes of a string, or `b:` and those of a buffer in hexadecimal digits, and writes its value with a line feed: `integer N` in decimal digits; `string H` and `buffer H`, the
 ///   bytes in upper-case hexadecimal digits, `-` where there is none; `package C ( V.. )`, the count of its elements and the
 ///   elements, each behind a blank; `name P`, the path of what holds no data; `reference`; `none`, no value.
 /// - `names [--steps N]`: reads a machine text, loads its tables, and writes the names of the namespace, one a line in path

@@ -1,9 +1,9 @@
 -- What stands in the output and the errors after a run.
-use Rattle.std.proofs.Common.{◌≡◌, ℕ, Bool, true, false, List, [], refl, sym, subst, inl, inr}
+use Rattle.std.proofs.Common.{◌≡◌, ℕ, true, List, [], refl, subst, inl, inr}
 use Rattle.std.specs.Prelude.{codes, Ok, Err}
 use Rattle.std.specs.Fmt.{digits}
 use Rattle.acpiroute_words.specs.Held.{Held, Takes}
-use Rattle.acpiroute_words.specs.Deliveries.{Reply, Delivered, Told, reply_of}
+use Rattle.acpiroute_words.specs.Deliveries.{Reply, Delivered, Told}
 use Rattle.ar_space.specs.Outcome.{Outcome}
 use Rattle.ar_space.specs.declared.refusal.Refusal.{Refusal}
 use Rattle.ar_space.specs.declared.refusal.Refusal.TheVariants.{OutOfMemory}

@@ -6,8 +6,8 @@ use Rattle.clap.specs.Words.{App, Kinds, Row, Rule, Text, all_of, fault_of, firs
 use Rattle.clap.specs.declared.builder.action.ArgAction.TheVariants.{SetTrue}
 use Rattle.clap.specs.declared.error.kind.ErrorKind.TheVariants as kind
 use Rattle.ar_tables.specs.declared.mode.Mode.{Mode}
-use Rattle.acpiroute_words.specs.Values.{◌>>=◌, interrupts_named, mode_named, numbers_named, steps_named, is_true}
-use Rattle.acpiroute_words.specs.declared.request.Request.{Request}
+use Rattle.acpiroute_words.specs.Values.{◌>>=◌, interrupts_named, mode_named, arguments_named, steps_named, is_true}
+use Rattle.acpiroute_words.specs.declared.arguments.Argument.{Argument}
 use Rattle.acpiroute_words.specs.declared.request.Request.TheVariants as request
 use Rattle.acpiroute_words.specs.declared.request.Asked.{Asked}
 use Rattle.acpiroute_words.specs.declared.request.Asked.TheVariants.{For, BadAvoid}
@@ -36,7 +36,7 @@ route_app = with_rule (with_rule (with_rule (with_rule (new_app (codes "route"))
 abbrev pub names_app : App
 names_app = with_rule (new_app (codes "names")) steps_rule
 
--- a path, and then at most seven numbers
+-- a path, and then at most seven arguments
 abbrev pub path_rule : Rule
 path_rule = record (new_rule (codes "path")) { value_names = 1; required = true }
 
@@ -67,8 +67,8 @@ steps_of rows = steps_named (first_of (codes "steps") rows)
 abbrev pub path_of : List Row → Option Text
 path_of rows = first_of (codes "path") rows
 
-abbrev pub arguments_of : List Row → Option (List ℕ)
-arguments_of rows = numbers_named (all_of (codes "arguments") rows)
+abbrev pub arguments_of : List Row → Option (List Argument)
+arguments_of rows = arguments_named (all_of (codes "arguments") rows)
 
 abbrev pub is_dry : List Row → Bool
 is_dry rows = is_true (first_of (codes "dry") rows)
@@ -96,7 +96,7 @@ names_of rows = do
   Some (For (request.Names steps))
 
 -- all of it must be said
-unfoldable pub eval_with : Option Mode → Option ℕ → Option Text → Option (List ℕ) → Option Asked
+unfoldable pub eval_with : Option Mode → Option ℕ → Option Text → Option (List Argument) → Option Asked
 eval_with maybe_mode maybe_steps maybe_path maybe_arguments = do
   mode ← maybe_mode
   steps ← maybe_steps

@@ -1,8 +1,11 @@
 -- The values of options.
-use Rattle.std.specs.Prelude.{ℕ, ◌+◌, ◌*◌, ◌-◌, ◌==◌, ◌&&◌, nat_le, nat_lt, Bool, false, List, [], ◌∷◌, length, Option, Some, None, codes, option_and_then, if◌then◌else◌}
+use Rattle.std.specs.Prelude.{ℕ, ◌+◌, ◌*◌, ◌-◌, ◌==◌, ◌&&◌, nat_le, nat_lt, Bool, false, List, [], ◌∷◌, length, Option, Some, None, Result, Ok, Err, codes, option_and_then, option_map, if◌then◌else◌}
 use Rattle.std.specs.List.{slice_split}
 use Rattle.std.specs.Str.{bytes_eq}
 use Rattle.clap.specs.Words.{Text}
+use Rattle.hex.specs.Hex.{decode_of}
+use Rattle.acpiroute_words.specs.declared.arguments.Argument.{Argument}
+use Rattle.acpiroute_words.specs.declared.arguments.Argument.TheVariants as variant
 use Rattle.ar_tables.specs.declared.mode.Mode.{Mode}
 use Rattle.ar_tables.specs.declared.mode.Mode.TheVariants.{Apic, Pic}
 
@@ -40,18 +43,35 @@ steps_named (Some t) = do
   n ← number t
   within_steps n
 
--- each number of some texts
-unfoldable pub numbers : List Text → Option (List ℕ)
-numbers [] = Some []
-numbers (word ∷ words) = do
-  n ← number word
-  ns ← numbers words
-  Some (n ∷ ns)
+-- the bytes of pairs of hexadecimal digits
+abbrev pub decoded : {E : Type 0} → Result (List ℕ) E → Option (List ℕ)
+decoded (Ok bytes) = Some bytes
+decoded (Err e) = None
+
+unfoldable pub bytes_of_digits : Text → Option (List ℕ)
+bytes_of_digits digits = decoded (decode_of digits)
+
+-- `s:` and the bytes of a string, `b:` and those of a buffer in hexadecimal digits, or a number
+unfoldable pub argument : Text → Option Argument
+argument [] = None
+argument (c ∷ []) = option_map variant.Integer (number (c ∷ []))
+argument (c ∷ d ∷ rest) =
+    if (c == 115) && (d == 58) then Some (variant.Text rest)
+    else if (c == 98) && (d == 58) then option_map variant.Bytes (bytes_of_digits rest)
+    else option_map variant.Integer (number (c ∷ d ∷ rest))
+
+-- each argument of some texts
+unfoldable pub arguments : List Text → Option (List Argument)
+arguments [] = Some []
+arguments (word ∷ words) = do
+  a ← argument word
+  others ← arguments words
+  Some (a ∷ others)
 
 -- none where no text is given
-abbrev pub numbers_named : Option (List Text) → Option (List ℕ)
-numbers_named None = Some []
-numbers_named (Some words) = numbers words
+abbrev pub arguments_named : Option (List Text) → Option (List Argument)
+arguments_named None = Some []
+arguments_named (Some words) = arguments words
 
 -- the number of an interrupt, below 2^32
 unfoldable pub interrupt : Text → Option ℕ

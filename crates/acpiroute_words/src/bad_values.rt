@@ -3,7 +3,7 @@ ghost use Rattle.std.specs.Prelude.{◌≡◌, IfOk};
 ghost use Rattle.clap.specs.Words.{kind_of};
 
 use crate::command_line::{eval_command, names_command, route_command};
-use crate::values::{mode_named, number, steps_named};
+use crate::values::{argument, mode_named, steps_named};
 use clap::error::ErrorKind;
 use clap::{ArgMatches, Command, Error};
 use std::alloc::{AllocError, Global};
@@ -42,27 +42,38 @@ fn bad_steps<'a>(matches: &ArgMatches<'a>) -> Option<BadValue<'a>> {
     })
 }
 
-fn bad_argument<'a>(matches: &ArgMatches<'a>) -> Option<BadValue<'a>> {
-    let value = *matches
-        .get_strs("arguments")?
-        .iter()
-        .find(|value| number(value).is_none())?;
-    Some(BadValue {
-        value,
-        option: "[N]...",
-        takes: "a decimal number below 2^64",
-    })
+fn bad_argument<'a>(
+    alloc: Global,
+    matches: &ArgMatches<'a>,
+) -> Result<Option<BadValue<'a>>, AllocError> {
+    let Some(values) = matches.get_strs("arguments") else {
+        return Ok(None);
+    };
+    for value in values {
+        if argument(alloc, value)?.is_none() {
+            return Ok(Some(BadValue {
+                value,
+                option: "[N]...",
+                takes: "a decimal number below 2^64, s:TEXT or b:HEX",
+            }));
+        }
+    }
+    Ok(None)
 }
 
 /// The first value of a command that its option doesn't take.
-fn first_bad<'a>(matches: &ArgMatches<'a>) -> Option<BadValue<'a>> {
-    bad_mode(matches)
-        .or_else(|| bad_steps(matches))
-        .or_else(|| bad_argument(matches))
+fn first_bad<'a>(
+    alloc: Global,
+    matches: &ArgMatches<'a>,
+) -> Result<Option<BadValue<'a>>, AllocError> {
+    match bad_mode(matches).or_else(|| bad_steps(matches)) {
+        Some(bad) => Ok(Some(bad)),
+        None => bad_argument(alloc, matches),
+    }
 }
 
 fn message(alloc: Global, matches: &ArgMatches<'_>) -> Result<String, AllocError> {
-    match first_bad(matches) {
+    match first_bad(alloc, matches)? {
         Some(bad) => format!(in alloc;
             "invalid value '{}' for '{}': {}",
             bad.value, bad.option, bad.takes

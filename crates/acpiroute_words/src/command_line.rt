@@ -4,12 +4,12 @@ ghost use Rattle.clap.specs.Words.{app_of, new_app, rows_of, rule_of, found_of, 
 ghost use Rattle.clap.specs.declared.builder.command.Command.TheViews.{out-Command as fields_of};
 ghost use Rattle.acpiroute_words.specs.CommandLine.{app, bare_app, route_app, names_app, eval_app, check_app, mode_rule, steps_rule, dry_rule, avoid_rule, path_rule, arguments_rule, route_with, route_by, route_of, names_of, eval_of, eval_with, parsed_command, parsed_subcommand, clap_faults, command_of, faults_of, asked_of};
 
+use crate::arguments::Arguments;
 use crate::bad_values::bad_value;
 use crate::help_texts;
-use crate::integers::Integers;
 use crate::interrupts::Interrupts;
 use crate::request::{Asked, Request};
-use crate::values::{interrupts_named, is_true, mode_named, numbers_named, steps_named};
+use crate::values::{arguments_named, interrupts_named, is_true, mode_named, steps_named};
 use ar_space::PathText;
 use clap::{Arg, ArgAction, ArgMatches, Command, Error};
 use route_report::Mode;
@@ -51,7 +51,7 @@ fn avoid_arg<'a>(alloc: Global) -> Arg<'a>
         .long("avoid")
         .value_name("LIST")
         .help(
-            "Interrupts that no link device is given: 1 to 255 decimal numbers, separated by commas",
+            "Interrupts that no link device is given: 1 to 255 decimal numbers, separated by commas, as 3,4,7",
         )
 }
 
@@ -72,7 +72,9 @@ fn arguments_arg<'a>(alloc: Global) -> Arg<'a>
     Arg::new(alloc, "arguments")
         .value_name("N")
         .num_args(1..=7)
-        .help("The arguments of a control method, at most 7 decimal numbers below 2^64")
+        .help(
+            "The arguments of a control method, at most 7: decimal numbers below 2^64, s:TEXT for a string, b:HEX for a buffer",
+        )
 }
 
 /// `route`, without its options.
@@ -81,7 +83,9 @@ fn bare_route_command<'a>(alloc: Global) -> Command<'a>
     ensures local { (fields_of result).has_globals ≡ false }
 {
     Command::new(alloc, "route")
-        .about("Read a machine text, route its interrupts, and write the report")
+        .about(
+            "Read a machine text from the standard input, route its interrupts, and write the report",
+        )
         .after_help(help_texts::ROUTE)
 }
 
@@ -101,7 +105,7 @@ pub(crate) fn names_command<'a>(alloc: Global) -> Result<Command<'a>, AllocError
     ensures local { IfOk result (λ c. (fields_of c).has_globals ≡ false) }
 {
     Command::new(alloc, "names")
-        .about("Read a machine text, and write the names of its namespace")
+        .about("Read a machine text from the standard input, and write the names of its namespace")
         .after_help(help_texts::NAMES)
         .arg(steps_arg(alloc))
 }
@@ -112,7 +116,9 @@ fn bare_eval_command<'a>(alloc: Global) -> Command<'a>
     ensures local { (fields_of result).has_globals ≡ false }
 {
     Command::new(alloc, "eval")
-        .about("Read a machine text, evaluate an object of its namespace, and write the value")
+        .about(
+            "Read a machine text from the standard input, evaluate an object of its namespace, and write the value",
+        )
         .after_help(help_texts::EVAL)
 }
 
@@ -132,7 +138,7 @@ fn check_command<'a>(alloc: Global) -> Command<'a>
     ensures local { (fields_of result).has_globals ≡ false }
 {
     Command::new(alloc, "check")
-        .about("Read a report, and write whether its claim is valid")
+        .about("Read a report from the standard input, and write whether its claim is valid")
         .after_help(help_texts::CHECK)
 }
 
@@ -234,7 +240,7 @@ fn eval_with(
     mode: Option<Mode>,
     steps: Option<u64>,
     path: Option<PathText>,
-    arguments: Option<Integers>,
+    arguments: Option<Arguments>,
 ) -> Option<Asked>
     ensures { result ≡ eval_with mode steps path arguments }
 {
@@ -256,7 +262,7 @@ fn eval_of(alloc: Global, matches: &ArgMatches<'_>) -> Result<Option<Asked>, All
     ensures { IfOk result (λ r. r ≡ eval_of (rows_of (found_of matches.now))) }
 {
     let path = path_named(alloc, matches.get_str("path"))?;
-    let arguments = numbers_named(alloc, matches.get_strs("arguments"))?;
+    let arguments = arguments_named(alloc, matches.get_strs("arguments"))?;
     let mode = mode_named(matches.get_str("mode"));
     let steps = steps_named(matches.get_str("steps"));
     Ok(eval_with(mode, steps, path, arguments))

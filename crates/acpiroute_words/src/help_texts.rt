@@ -4,6 +4,9 @@
 pub(crate) const VERSION: &str = "0.1.0";
 
 pub(crate) const PROGRAM: &str = "\
+Every command reads its input from the standard input, as in 'acpiroute route < machine.txt'. tools/machine_text.py makes a machine \
+text of ACPI tables.
+
 Exit status: 0 where all went well, 1 for a refusal, 2 for a faulty command line, 3 where setting a link was refused, 4 where check \
 says no.
 
@@ -18,9 +21,17 @@ A refusal is one line on the error output: 'refused' and its number.
   110 to 123  the interrupts can't be routed
   130         a report can't be read
   140 to 143  the input can't be read, or the output can't be written
-Behind the number stands where or what: 'at N' an offset, 'op XXXX' an opcode, 'tag N' a descriptor, 'line N' a line, or a path.";
+Behind the number stands where or what: 'at N' an offset, 'op XXXX' an opcode, 'tag N' a descriptor, 'line N' a line, or a path. \
+docs/REFUSALS.md says what each number means and what to do.";
 
 pub(crate) const ROUTE: &str = "\
+The machine text is read from the standard input: acpiroute route < machine.txt
+
+The numbers of --avoid are separated by commas, without blanks: --avoid 3,4,7. Any other text is told by the line 'bad --avoid'. With the \
+8259 controllers, --mode pic, devices of the ISA bus may use interrupts that links offer, and only those of the System Control Interrupt \
+and of wired pins are counted: --avoid 1,3,4,6,7,12,14,15 leaves those of keyboard, serial ports, floppy disk, parallel port, mouse and \
+disks to them.
+
 An interrupt of --avoid is given to no link device; what is wired to it stays there, and counts. Where all that a link device offers is \
 avoided, the machine is refused by number 123. The report's line 'sci N' says that the System Control Interrupt is one source on N; 'sci \
 none', that there is none.
@@ -29,11 +40,23 @@ Exit status: 0 for a report, 1 for a refusal, 2 for a faulty command line, 3 whe
 'acpiroute --help' lists the refusals.";
 
 pub(crate) const NAMES: &str = "\
+The machine text is read from the standard input: acpiroute names < machine.txt
+
 Exit status: 0 for the names, 1 for a refusal, 2 for a faulty command line. 'acpiroute --help' lists the refusals.";
 
 pub(crate) const EVAL: &str = "\
+The machine text is read from the standard input: acpiroute eval '\\_SB_.PCI0._PRT' < machine.txt
+
+Write the path between single quotes, for the shell, and as 'acpiroute names' prints it: capitals, and four characters for each name. \
+tools/show_value.py shows the value so that people can read it.
+
 Exit status: 0 for the value, 1 for a refusal, 2 for a faulty command line. 'acpiroute --help' lists the refusals.";
 
 pub(crate) const CHECK: &str = "\
+The report is read from the standard input: acpiroute check < report
+
+The lines 'link', up to 'now', 'wired', 'sci' and 'avoid' are believed: whether they tell the machine truly, check can't know. By them the \
+lines 'give', 'busiest' and 'bound' are tested. The lines 'mode', 'ioapic', 'override', 'pin', 'set' and 'after' are passed over.
+
 Exit status: 0 where the claim is valid, 4 where it isn't, 1 for a refusal, 2 for a faulty command line. 'acpiroute --help' lists \
 the refusals.";

@@ -3,6 +3,7 @@
 #![tactic(auto)]
 
 mod answer;
+mod arguments;
 mod bad_values;
 mod check_command;
 mod command_line;
@@ -11,7 +12,6 @@ mod delivery;
 mod error_line;
 mod help_texts;
 mod input;
-mod integers;
 mod interrupts;
 pub mod laws;
 mod put;
@@ -20,13 +20,13 @@ mod streams;
 mod values;
 
 pub use answer::Answer;
+pub use arguments::{Argument, ArgumentBytes, Arguments};
 pub use check_command::check_answer;
 pub use command_line::parse;
 pub use completion::Completion;
 pub use delivery::{deliver, deliver_outcome};
 pub use error_line::write_error_line;
 pub use input::{Stop, read_input};
-pub use integers::Integers;
 pub use interrupts::Interrupts;
 pub use put::{put_number, put_path};
 pub use request::{Asked, Request};

@@ -1,12 +1,12 @@
 //! What a run is to do.
 
-use crate::integers::Integers;
+use crate::arguments::Arguments;
 use crate::interrupts::Interrupts;
 use ar_space::PathText;
 use route_report::Mode;
 
 /// What the words of the command line ask for.
-#[derive(Debug, Drop, PartialEq, Eq)]
+#[derive(Debug, Drop)]
 pub enum Request {
     /// Route the interrupts of a machine in this mode, with a budget of steps for each evaluation, from 1 to
     /// 1,000,000,000, set no link device where `dry`, and give none an interrupt of those to avoid.
@@ -26,14 +26,14 @@ pub enum Request {
         mode: Mode,
         steps: u64,
         path: PathText,
-        arguments: Integers,
+        arguments: Arguments,
     },
     /// Read a report, and say whether its claim is valid.
     Check,
 }
 
 /// What the words of the command line come to.
-#[derive(Debug, Drop, PartialEq, Eq)]
+#[derive(Debug, Drop)]
 pub enum Asked {
     /// They ask for this.
     For(Request),

@@ -1,10 +1,12 @@
 //! The values of options.
 ghost use Rattle.std.specs.Prelude.{◌≡◌, ◌==◌, IfOk, map, option_map};
 ghost use Rattle.std.specs.List.{slice_split};
-ghost use Rattle.acpiroute_words.specs.Values.{number, number_from, with_digit, numbers, numbers_named, interrupt, interrupts, few_interrupts, interrupts_listed, interrupts_named, mode_named, steps_named, within_steps, is_true};
+ghost use Rattle.acpiroute_words.specs.declared.arguments.Argument.TheVariants as variant;
+ghost use Rattle.acpiroute_words.specs.Values.{number, number_from, with_digit, argument, arguments, arguments_named, bytes_of_digits, interrupt, interrupts, few_interrupts, interrupts_listed, interrupts_named, mode_named, steps_named, within_steps, is_true};
 
-use crate::integers::Integers;
+use crate::arguments::{Argument, ArgumentBytes, Arguments};
 use crate::interrupts::Interrupts;
+use hex::FromHexError;
 use route_report::Mode;
 use std::alloc::{AllocError, Global};
 
@@ -48,30 +50,80 @@ fn number_in(digits: &[u8]) -> Option<u64>
     number_of_digits(digits)
 }
 
-/// Each number of some texts.
-fn numbers(alloc: Global, texts: &[&str]) -> Result<Option<Integers>, AllocError>
-    ensures { IfOk result (λ r. r ≡ numbers (map (λ s. s.now) texts.now)) }
+/// The bytes of pairs of hexadecimal digits, of either case.
+#[tactic(auto, unfolding(crate::specs::Values::bytes_of_digits))]
+fn bytes_of_digits(alloc: Global, digits: &[u8]) -> Result<Option<ArgumentBytes>, AllocError>
+    ensures { IfOk result (λ r. r ≡ bytes_of_digits digits.now) }
+{
+    match hex::decode(alloc, digits) {
+        Ok(bytes) => Ok(Some(ArgumentBytes::from_vec(bytes))),
+        Err(FromHexError::OutOfMemory) => Err(AllocError),
+        Err(_) => Ok(None),
+    }
+}
+
+/// A buffer of these digits.
+fn buffer(alloc: Global, digits: &[u8]) -> Result<Option<Argument>, AllocError>
+    ensures { IfOk result (λ r. r ≡ option_map variant.Bytes (bytes_of_digits digits.now)) }
+{
+    match bytes_of_digits(alloc, digits)? {
+        Some(bytes) => Ok(Some(Argument::Bytes(bytes))),
+        None => Ok(None),
+    }
+}
+
+fn integer(digits: &[u8]) -> Option<Argument>
+    ensures { result ≡ option_map variant.Integer (number digits.now) }
+{
+    Some(Argument::Integer(number_in(digits)?))
+}
+
+/// The argument that a text is: `s:` and the bytes of a string, `b:` and those of a buffer in hexadecimal digits, or a number.
+pub(crate) fn argument(alloc: Global, text: &str) -> Result<Option<Argument>, AllocError>
+    ensures { IfOk result (λ r. r ≡ argument text.now) }
+{
+    argument_in(alloc, text.as_bytes())
+}
+
+#[tactic(auto, unfolding(crate::specs::Values::argument))]
+fn argument_in(alloc: Global, text: &[u8]) -> Result<Option<Argument>, AllocError>
+    ensures { IfOk result (λ r. r ≡ argument text.now) }
+{
+    match text {
+        [] => Ok(None),
+        [b's', b':', bytes @ ..] => {
+            let bytes = ArgumentBytes::from_slice(alloc, bytes)?;
+            Ok(Some(Argument::Text(bytes)))
+        }
+        [b'b', b':', digits @ ..] => buffer(alloc, digits),
+        digits => Ok(integer(digits)),
+    }
+}
+
+/// Each argument of some texts.
+fn arguments(alloc: Global, texts: &[&str]) -> Result<Option<Arguments>, AllocError>
+    ensures { IfOk result (λ r. r ≡ arguments (map (λ s. s.now) texts.now)) }
 {
     let mut list = Vec::new(alloc);
     for text in texts {
-        match number(text) {
-            Some(n) => list.push(n)?,
+        match argument(alloc, text)? {
+            Some(argument) => list.push(argument)?,
             None => return Ok(None),
         }
     }
-    Ok(Some(Integers::from_vec(list)))
+    Ok(Some(Arguments::from_vec(list)))
 }
 
-/// The numbers of texts; none where no text is given.
-pub(crate) fn numbers_named(
+/// The arguments of texts; none where no text is given.
+pub(crate) fn arguments_named(
     alloc: Global,
     texts: Option<&[&str]>,
-) -> Result<Option<Integers>, AllocError>
-    ensures { IfOk result (λ r. r ≡ numbers_named (option_map (λ t. map (λ s. s.now) t.now) texts.entry)) }
+) -> Result<Option<Arguments>, AllocError>
+    ensures { IfOk result (λ r. r ≡ arguments_named (option_map (λ t. map (λ s. s.now) t.now) texts.entry)) }
 {
     match texts {
-        None => Ok(Some(Integers::from_vec(Vec::new(alloc)))),
-        Some(texts) => numbers(alloc, texts),
+        None => Ok(Some(Arguments::from_vec(Vec::new(alloc)))),
+        Some(texts) => arguments(alloc, texts),
     }
 }
 

@@ -1,5 +1,5 @@
 //! What the words of the command line ask for, as text.
-use acpiroute_lib::{Asked, Integers, Interrupts, Request, parse};
+use acpiroute_lib::{Argument, Arguments, Asked, Interrupts, Request, parse};
 use ar_space::PathText;
 use route_report::Mode;
 use std::alloc::{AllocError, Global};
@@ -12,11 +12,42 @@ fn mode_word(mode: Mode) -> &'static str {
     }
 }
 
-/// Integers, each behind a blank.
-fn integers_text(alloc: Global, integers: &Integers) -> Result<String, AllocError> {
+/// Bytes in hexadecimal digits, `-` where there is none.
+fn digits(alloc: Global, bytes: &[u8]) -> Result<String, AllocError> {
+    if bytes.is_empty() {
+        return "-".to_string(alloc);
+    }
     let mut text = String::new(alloc);
-    for integer in integers.as_slice() {
-        let next = format!(in alloc; " {integer}")?;
+    for byte in bytes {
+        let next = format!(in alloc; "{byte:02X}")?;
+        text.push_str(next.as_str())?;
+    }
+    Ok(text)
+}
+
+/// An argument behind a blank.
+fn argument_text(alloc: Global, argument: &Argument) -> Result<String, AllocError> {
+    match argument {
+        Argument::Integer(n) => {
+            let n = *n;
+            format!(in alloc; " {n}")
+        }
+        Argument::Text(bytes) => {
+            let bytes = digits(alloc, bytes.as_slice())?;
+            format!(in alloc; " string {bytes}")
+        }
+        Argument::Bytes(bytes) => {
+            let bytes = digits(alloc, bytes.as_slice())?;
+            format!(in alloc; " buffer {bytes}")
+        }
+    }
+}
+
+/// Arguments, each behind a blank.
+fn arguments_text(alloc: Global, arguments: &Arguments) -> Result<String, AllocError> {
+    let mut text = String::new(alloc);
+    for argument in arguments.as_slice() {
+        let next = argument_text(alloc, argument)?;
         text.push_str(next.as_str())?;
     }
     Ok(text)
@@ -28,11 +59,11 @@ fn eval_text(
     mode: Mode,
     steps: u64,
     path: &PathText,
-    arguments: &Integers,
+    arguments: &Arguments,
 ) -> Result<String, AllocError> {
     let mode = mode_word(mode);
     let path = path.as_str();
-    let arguments = integers_text(alloc, arguments)?;
+    let arguments = arguments_text(alloc, arguments)?;
     format!(in alloc; "eval mode {mode} steps {steps} path \"{path}\" arguments{arguments}")
 }
 

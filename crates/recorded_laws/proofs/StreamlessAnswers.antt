@@ -11,6 +11,7 @@ use Rattle.aml_meaning.specs.Predefined.{fresh}
 use Rattle.aml_meaning.specs.State.{State}
 use Rattle.acpi_machine.specs.MachineStates.{MachineState}
 use Rattle.acpi_links.specs.Gatherings.{gathered}
+use Rattle.acpiroute_words.specs.declared.arguments.Argument.{Argument}
 use Rattle.acpiroute_words.specs.declared.request.Request.{Request}
 use Rattle.acpiroute_words.specs.declared.request.Request.TheVariants.{Route, Names, Eval, Check}
 use Rattle.acpiroute_words.specs.CheckCommand.{Verdict, check_answer, IsCheckAnswer}
@@ -73,13 +74,13 @@ value_streamless : (m : MachineState Bytes) (path : List Seg) (arguments : List 
 unfolding value_at
 value_streamless m path arguments = explained_streamless byte_accesses _ _ _ ((evaluated_object_explains byte_accesses path arguments).explained m)
 
-evaluated_streamless : (m : MachineState Bytes) (path integers : List ℕ) → Streamless (evaluated_text m path integers)
+evaluated_streamless : (m : MachineState Bytes) (path : List ℕ) (arguments : List Argument) → Streamless (evaluated_text m path arguments)
 unfolding evaluated_text
-evaluated_streamless m path integers = followed_streamless _ _ (clean_streamless _ (path_of_text_clean path)) (λ p. followed_streamless _ _ (value_streamless m p _) (λ value. tt))
+evaluated_streamless m path arguments = followed_streamless _ _ (clean_streamless _ (path_of_text_clean path)) (λ p. followed_streamless _ _ (value_streamless m p _) (λ value. tt))
 
-eval_streamless : (mode : Mode) (steps : ℕ) (path integers text : List ℕ) → Streamless (eval_answer mode steps path integers text)
+eval_streamless : (mode : Mode) (steps : ℕ) (path : List ℕ) (arguments : List Argument) (text : List ℕ) → Streamless (eval_answer mode steps path arguments text)
 unfolding eval_answer
-eval_streamless mode steps path integers text = followed_streamless _ _ (machine_of_text_in_streamless mode steps text) (λ m. evaluated_streamless m path integers)
+eval_streamless mode steps path arguments text = followed_streamless _ _ (machine_of_text_in_streamless mode steps text) (λ m. evaluated_streamless m path arguments)
 
 check_streamless : (verdict : Verdict) (report : List ℕ) → Streamless (check_answer verdict report)
 unfolding check_answer

@@ -1,4 +1,4 @@
-use Rattle.std.proofs.Common.{map, sym, ◌∙◌, ap, Some}
+use Rattle.std.proofs.Common.{map, sym, ◌∙◌}
 use Rattle.acpiroute_words.specs.Values.{interrupts}
 use Rattle.acpiroute_words.proofs.Numbers.{interrupts_read, one_read, one_refused, all_read}
 use Rattle.acpiroute_words.proofs.values.interrupts.Goals as goal
