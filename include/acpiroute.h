@@ -11,14 +11,34 @@
  *   aligned for them; what is read and what is filled is in no case above PTRDIFF_MAX bytes.
  * - What is read doesn't change during a call. The two buffers, the reply and the place of an access overlap neither one another nor
  *   what is read.
- * - Calls take memory from `malloc`, `realloc` and `free`, which are one allocator, and give all of it back before they return. So
- *   no call is made from a signal handler, nor from the child of a fork in a program with threads.
+ * - Calls take memory from the three functions of `acpiroute_memory.h`, and give all of it back before they return. In a program
+ *   these are over `malloc`, `realloc` and `free`, so no call is made from a signal handler, nor from the child of a fork in a
+ *   program with threads. A kernel defines them itself.
+ * - The code is that of the library that was linked:
+ *
+ *                                  for programs            libacpiroute_kernel.a    libacpiroute_kernel_no_sse.a
+ *     made by                      rt lib, a release       tools/kernel_library.py, a release
+ *     calls                        all                     all                      acpiroute_configure
+ *     x86-64 processors            from x86-64-v2 on       all                      all
+ *     registers                    general, xmm0 to xmm15  general, xmm0 to xmm15   general
+ *     128 bytes below the stack    used (the red zone)     not used                 not used
+ *     pointer
+ *     alignment of the stack       16                      8                        8
+ *     frame pointers, endbr64      no                      yes                      yes
+ *
+ *   Where the red zone is used, nothing may run on the stack of a call while it lasts: an interrupt handler that does spoils
+ *   values of the call, which then ends in an exception, or in an answer that is wrong. A library for programs is not for a
+ *   kernel. Nor does it check the processor. Where xmm registers are used, SSE has to be enabled (CR0.EM = 0, CR0.MP = 1,
+ *   CR4.OSFXSR = 1), and their values belong to the call while it lasts. docs/EMBEDDING.md has more about kernels.
+ *
+ * Each library needs `memcpy`, `memmove` and `memset` beside the three functions of memory, and nothing else: no thread-local
+ * data, no unwinding, no constructors.
  *
  * Nothing is kept between two calls, and there is no global state: any number of threads may make calls at once, each over its
  * own buffers. Everything that is handed in stays the caller's. A call reads no file, prints nothing, and touches no register.
  *
- * A call takes up to 4 MiB of stack, and as much memory as the tables ask for. The option `--steps` bounds how many terms an
- * evaluation begins, and neither time nor memory.
+ * Give a call 4 MiB of stack: at most 2.6 MiB were measured. It takes as much memory as the tables ask for. The option `--steps`
+ * bounds how many terms an evaluation begins, and neither time nor memory.
  */
 #ifndef ACPIROUTE_H
 #define ACPIROUTE_H
@@ -95,7 +115,10 @@ uint32_t acpiroute_names(const uint8_t *options, size_t options_length, const ui
                          uint8_t *text, size_t text_capacity, uint8_t *line, size_t line_capacity,
                          struct acpiroute_reply *reply);
 
-/* Evaluates an object of a machine text; its path and its arguments are among the options: "\\_SB_.LNKA._PRS". */
+/*
+ * Evaluates an object of a machine text; its path and its arguments are among the options: "\\_SB_.LNKA._PRS", or "\\_OSI s:Linux".
+ * A string among the arguments has no blank, since blanks part the options.
+ */
 uint32_t acpiroute_eval(const uint8_t *options, size_t options_length, const uint8_t *machine, size_t machine_length,
                         uint8_t *text, size_t text_capacity, uint8_t *line, size_t line_capacity,
                         struct acpiroute_reply *reply);
@@ -172,9 +195,16 @@ struct acpiroute_settings {
  *     links are set (none where `dry` is 1), 3 they are set but for those that refused it, as the text says, 1 the machine is refused,
  *     for the reason in the line.
  *
- * Where the access that is wanted is the one that was appended last, the record is not of this run: other settings, another text, or
- * an entry that was changed. Begin anew with an empty record. That a run ends in all cases is not proved: registers may answer so that
- * its steps run out (70).
+ * A record that grew in this way is of this run, as long as the settings, the text and its entries are as they were. The call
+ * doesn't say where in the record it stopped, and the access that is wanted may well be the last entry once more: AML reads a
+ * register twice in a row. Whoever doubts a record asks by one call more: it leaves out the entries at the end that are the
+ * wanted access, and one entry before them, and calls over what is left. Where that call wants the entry that was left out, the
+ * record is of this run; where it wants the same access as before, it is not (other settings, another text, or an entry that was
+ * changed), and one has to begin anew with an empty one. If the whole record is that one access, it is of this run. Accesses are
+ * the same where all is equal but `answer` and, of reads, `value`.
+ *
+ * That a run ends in all cases is not proved: registers may answer so that its steps run out (70), after as many accesses. A
+ * caller sets a limit of its own to the length of its record.
  *
  * The record is read anew by each call, and keeps to the order in which accesses were made. Between two accesses the caller may do
  * what it likes, but nothing else is to change the registers that the tables use. After ACPIROUTE_TOO_SMALL, ACPIROUTE_NO_MEMORY or

@@ -1,0 +1,67 @@
+#!/usr/bin/env python3
+"""What the calls of a static library cost a program in C.
+
+    benches/calls.py LIBRARY [MACHINE:MODE]..
+
+LIBRARY is one that tools/kernel_library.py makes. For each machine text, by default examples/i440fx.txt and q35.txt, it is routed
+in the given mode over a record of accesses, and a line is printed: accesses, calls, milliseconds (of the processor, the least of
+20 times), milliseconds a call, allocations a call, the most KiB of memory at once beside the text and the record, and the bytes
+of stack.
+
+Where the library has `acpiroute_eval`, the last line is the stack of the deepest evaluation of benches/stack.py."""
+import os
+import subprocess
+import sys
+import tempfile
+
+import stack
+
+HERE = os.path.dirname(os.path.abspath(__file__))
+TOP = os.path.dirname(HERE)
+
+
+def built(library, folder):
+    host = os.path.join(folder, "calls")
+    subprocess.run(["cc", "-std=gnu11", "-O2", "-Wall", "-Wextra", "-Werror", "-I", os.path.join(TOP, "include"), os.path.join(HERE, "calls.c"),
+                    os.path.join(TOP, "examples/c/bytes.c"), library, "-lpthread", "-Wl,--gc-sections", "-o", host], check=True)
+    return host
+
+
+def row(host, machine, mode):
+    said = subprocess.run([host, "configure", machine, mode], capture_output=True, text=True, check=True).stdout.split()
+    accesses, calls, allocations, most, deepest, time = map(int, said[:6])
+    name = os.path.splitext(os.path.basename(machine))[0]
+    print(f"| `{name}`, {mode} | {accesses} | {calls} | {time / 1000:.1f} | {time / 1000 / calls:.2f} | {allocations // calls:,} | {most // 1024} | {deepest:,} |",
+          " ".join(said[6:]), flush=True)
+
+
+def deepest(host, folder):
+    """The stack of the deepest evaluation, and its kind of term."""
+    text = os.path.join(folder, "deep.txt")
+    found = []
+    for name, make in stack.cases():
+        for depth in range(64, 0, -1):
+            with open(text, "wb") as it:
+                it.write(stack.machine(make(depth)))
+            used, line = subprocess.run([host, "eval", text], capture_output=True, text=True, check=True).stdout.split(None, 1)
+            if line == "refused 77\n":
+                found.append((int(used), name))
+                break
+    return max(found)
+
+
+def main():
+    library = os.path.abspath(sys.argv[1])
+    machines = sys.argv[2:] or [f"{TOP}/examples/{it}" for it in ("i440fx.txt:pic", "q35.txt:pic", "q35.txt:apic")]
+    with tempfile.TemporaryDirectory() as folder:
+        host = built(library, folder)
+        print("| Machine | Accesses | Calls | Milliseconds | a call | Allocations a call | Most memory, KiB | Stack, bytes |")
+        for it in machines:
+            row(host, *it.rsplit(":", 1))
+        if "acpiroute_eval" in subprocess.run(["nm", library], capture_output=True, text=True, check=True).stdout:
+            used, name = deepest(host, folder)
+            print(f"the deepest evaluation: {used / 1024:,.0f} KiB ({name})")
+
+
+if __name__ == "__main__":
+    main()
