@@ -6,7 +6,9 @@ used. Under a kit that has no such call, plain `rt ci` runs.
 
 The longest chain of proofs decides how long a run takes. The kit shares the idle processors among all tasks that can begin, and a proof keeps
 what it got, so the chain mostly gets one. Here its proofs get several processes, and other tasks begin beside them at a lower priority:
-as many as memory holds, and at most two tasks for each processor in all. `tools/gate_plan.py` says which they are."""
+as many as memory holds, and at most two tasks for each processor in all. `tools/gate_plan.py` says which they are.
+
+The check of a static library is also written to its out/checked, from which tools/kernel_library.py compiles it without a second proof."""
 import contextlib
 import os
 import queue
@@ -32,6 +34,22 @@ def in_lanes(tasks, *more, **named):
         if key[1] == "proof" and given[key]:
             kit.mark_built(stamps, key[0])
     return given
+
+
+def keep_checks():
+    """Has the check of a static library write what it checked. It is the kit's own check with one flag more; a kit that checks in another
+    way is left as it is."""
+    kits_own = getattr(rt.Crate, "ci", None)
+
+    def ci(crate, *words):
+        if getattr(crate, "is_static", False) and hasattr(crate, "prove"):
+            prove, more = crate.prove, ["-o", kit.checked_of(crate)]
+            # (the kit makes a copy of the crate for each task)
+            crate.prove = lambda *commands: prove(*([*it, *more] if it[0] == "check" and "-o" not in it else it for it in commands))
+        return kits_own(crate, *words)
+
+    if kits_own:
+        rt.Crate.ci = ci
 
 
 def plan_of(tasks):
@@ -108,4 +126,5 @@ if __name__ == "__main__":
     if not KITS_OWN:
         os.execvp("rt", ["rt", "ci"])
     rt.in_lanes = in_lanes
+    keep_checks()
     sys.exit(rt.main(["ci"]))

@@ -13,6 +13,10 @@ import subprocess
 import sys
 import time
 
+sys.path.insert(0, str(pathlib.Path(__file__).parent.parent / "tools"))
+sys.dont_write_bytecode = True
+from usage import answer_help, program_there
+
 SIZE = 16_777_216
 PROGRAM = [pathlib.Path(__file__).parent.parent / "crates/acpiroute/out/acpiroute", "check"]
 LETTERS = "ABCDEFGHIJKLMNOPQRSTUVWXYZ_"
@@ -141,7 +145,9 @@ def fastest(command, text):
 
 
 def main():
+    answer_help(__doc__)
     command = sys.argv[1:] or PROGRAM
+    program_there(command[0])
     for report in REPORTS:
         text = report().encode()
         assert len(text) <= SIZE

@@ -16,6 +16,10 @@ import subprocess
 import sys
 import time
 
+sys.path.insert(0, str(pathlib.Path(__file__).parent.parent / "tools"))
+sys.dont_write_bytecode = True
+from usage import answer_help, program_there
+
 PROGRAM = pathlib.Path(__file__).parent.parent / "crates/acpiroute/out/acpiroute"
 
 
@@ -102,7 +106,8 @@ def run(program, text, words):
 
 
 def main():
-    program = sys.argv[1] if len(sys.argv) > 1 else PROGRAM
+    answer_help(__doc__)
+    program = program_there(sys.argv[1] if len(sys.argv) > 1 else PROGRAM)
     seconds, said = run(program, machine(method(b"M000", 0, b"\xa4\x01")), [])
     print(f"{'nothing':16} {seconds:8.3f} s  {said}")
     for name, aml, steps in cases():

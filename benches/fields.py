@@ -12,7 +12,7 @@ by themselves. With no program named, it is acpiroute: build it first by `rt run
 import sys
 
 sys.dont_write_bytecode = True
-from evaluation import PROGRAM, counting, integer, machine, method, package, run
+from evaluation import PROGRAM, answer_help, counting, integer, machine, method, package, program_there, run
 
 OPERATIONS = 100_000
 START = 0x60
@@ -54,7 +54,8 @@ def looping(body):
 
 
 def main():
-    program = sys.argv[1] if len(sys.argv) > 1 else PROGRAM
+    answer_help(__doc__)
+    program = program_there(sys.argv[1] if len(sys.argv) > 1 else PROGRAM)
     seconds, said = run(program, text("mem", method(b"M000", 0, b"\xa4\x01")), [])
     print(f"{'nothing':28} {seconds:8.3f} s  {said}")
     seconds, said = run(program, text("mem", looping(b"\x70\x60\x61")), [])

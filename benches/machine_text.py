@@ -14,6 +14,10 @@ import subprocess
 import sys
 import time
 
+sys.path.insert(0, str(pathlib.Path(__file__).parent.parent / "tools"))
+sys.dont_write_bytecode = True
+from usage import answer_help, program_there
+
 SIZE = 16_777_216
 LINE_BYTES = 32
 PROGRAM = [pathlib.Path(__file__).parent.parent / "crates/timing/out/timing", "machine-text"]
@@ -42,7 +46,9 @@ def machine_text():
 
 
 def main():
+    answer_help(__doc__)
     command = sys.argv[1:] or PROGRAM
+    program_there(command[0])
     text = machine_text()
     assert len(text) == SIZE
     fastest = None

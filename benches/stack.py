@@ -15,6 +15,10 @@ import resource
 import subprocess
 import sys
 
+sys.path.insert(0, str(pathlib.Path(__file__).parent.parent / "tools"))
+sys.dont_write_bytecode = True
+from usage import answer_help, program_there
+
 PROGRAM = pathlib.Path(__file__).parent.parent / "crates/acpiroute/out/acpiroute"
 CALLS = 32
 
@@ -171,14 +175,20 @@ def deepest(program, make):
     return 0, machine(make(0))
 
 
-def main():
-    program = sys.argv[1] if sys.argv[1:] else PROGRAM
-    cases = [(name, lambda depth, wrap=wrap: calls(wrap, depth)) for name, wrap in KINDS.items()]
-    cases += [(name, lambda depth, wrap=wrap: calls(wrap, depth, buffer)) for name, wrap in ELEMENTS.items()]
+def cases():
+    """Each kind of term, with its table for a depth."""
+    found = [(name, lambda depth, wrap=wrap: calls(wrap, depth)) for name, wrap in KINDS.items()]
+    found += [(name, lambda depth, wrap=wrap: calls(wrap, depth, buffer)) for name, wrap in ELEMENTS.items()]
     accesses = (("read", lambda it: it), ("stored to", lambda it: b"\x70\x00" + it), ("counted", lambda it: b"\x75" + it))
     for what, access in accesses:
-        cases.append((f"Else, and fields {what}", lambda depth, access=access: fields(either, depth, access)))
-    for name, make in [*cases, ("Else, called from devices", devices)]:
+        found.append((f"Else, and fields {what}", lambda depth, access=access: fields(either, depth, access)))
+    return [*found, ("Else, called from devices", devices)]
+
+
+def main():
+    answer_help(__doc__)
+    program = program_there(sys.argv[1] if sys.argv[1:] else PROGRAM)
+    for name, make in cases():
         depth, text = deepest(program, make)
         print(f"{name:28} {depth} deep: {least(program, text)} KiB", flush=True)
 

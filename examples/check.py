@@ -1,11 +1,12 @@
 #!/usr/bin/env python3
 """check.py PROGRAM | check.py --tools | check.py --rows
 
-Runs the examples of this folder over a built acpiroute, for instance crates/acpiroute/out/acpiroute:
+Runs the examples of this folder over a built acpiroute, for instance build/acpiroute (tools/build.py) or crates/acpiroute/out/acpiroute:
 
 - each command of README.md has to leave the stored report, or the output and the line that stand in this script;
 - `check` has to say yes to each report;
 - tools/report_graph.py has to make the stored graph of it, and JSON with the same loads;
+- tools/show_value.py has to show values as they stand in this script;
 - tools/machine_text.py has to make each machine text anew from the tables in it, and to refuse files that are no tables;
 - where iasl is installed, the ASL sources have to compile to these tables.
 
@@ -31,10 +32,14 @@ REPORTS = {
     "q35.pic": ("q35", ["route", "--mode", "pic"]),
     "q35.apic": ("q35", ["route"]),
     "index": ("index", ["route"]),
+    "isa": ("isa", ["route", "--mode", "pic"]),
+    "isa.avoid": ("isa", ["route", "--mode", "pic", "--avoid", "1,3,4,6,7,12,14,15"]),
 }
 # Other commands: the machine text, the words, the exit status, the output and the line of errors.
 COMMANDS = [
     ("two-links", ["route", "--avoid", "5"], 1, "", "refused 123 \\_SB_.LNKB\n"),
+    ("switch", ["route"], 1, "", "refused 73 op 0089\n"),
+    ("switch", ["eval", "\\_SB_.PCI0.RP01._PRT"], 1, "", "refused 73 op 0089\n"),
     ("refused", ["route"], 1, "", "refused 101\n"),
     ("refused", ["eval", "\\_SB_.LNKA._PRS"], 0, "buffer 232004187900\n", ""),
     ("refused", ["eval", "\\_SB_.LNKB._PRS"], 0, "buffer 232004087900\n", ""),
@@ -44,6 +49,8 @@ WORDS = {
     "i440fx": ["--pci", "i440fx.lspci"],
     "q35": ["--pci", "q35.lspci"],
     "index": ["--io", "C00=0005"],
+    "isa": [],
+    "switch": [],
     "refused": [],
 }
 # The ASL sources of each machine text, in the order of its DSDT, SSDT and MADT.
@@ -52,17 +59,51 @@ SOURCES = {
     "i440fx": ["i440fx"],
     "q35": ["q35"],
     "index": ["index", "index-ssdt", "index-madt"],
+    "isa": ["isa"],
+    "switch": ["switch"],
     "refused": ["refused"],
 }
 HEADER_BYTES = 36
 # Texts that report_graph.py refuses.
 EMPTY_REPORT = "acpiroute 2\nmode apic\nsci none\navoid -\nbusiest 0\nbound none\n"
+SPARING_REPORT = r"""acpiroute 3
+mode pic
+sci none
+avoid -
+spared \_SB_.KBD_ 1
+unread \_SB_.COM1 74
+first
+link \_SB_.LNKA small low offers 1 5 now 5
+give \_SB_.LNKA 5
+busiest 1
+bound \_SB_.LNKA over 5
+set \_SB_.LNKA ok
+after \_SB_.LNKA 1
+"""
 FAULTY_REPORTS = [
-    "", "no report\n", "acpiroute 1\n", "acpiroute 2\n", "acpiroute 1\nmode apic\nlink LNKA\n",
+    "", "no report\n", "acpiroute 2\r\nmode apic\r\n", "acpiroute 1\n", "acpiroute 2\n", "acpiroute 1\nmode apic\nlink LNKA\n",
     EMPTY_REPORT.replace("2", "3"), EMPTY_REPORT.replace("2", "1"),
     EMPTY_REPORT.replace("avoid -\n", ""), EMPTY_REPORT.replace("sci none\n", ""), EMPTY_REPORT + "sci none\n",
     EMPTY_REPORT.replace("-", "5 5"), EMPTY_REPORT.replace("none", "-", 1),
+    EMPTY_REPORT + "first\n", EMPTY_REPORT + "unread \\_SB_ 74\n", SPARING_REPORT.replace("first\n", ""), SPARING_REPORT + "first\n",
+    SPARING_REPORT.replace("KBD_ 1", "KBD_"),
 ]
+# Values of eval, and what show_value.py shows of them.
+SHOWN = {
+    "integer 51040321": "integer 51040321 (0x30AD041), as an EISA id PNP0A03",
+    "integer 0": "integer 0 (0x0)",
+    "string 57696E": 'string "Win"',
+    "buffer -": "buffer of 0 bytes",
+    "buffer 0102": "buffer of 2 bytes:\n     0  01 02                                            ..",
+    "buffer 232004187900": "buffer of 6 bytes, as a resource template:\n     0  IRQ 5 10, level, active-low, shared\n     4  end",
+    "buffer 8906000901140000007900": "buffer of 11 bytes, as a resource template:\n     0  interrupts 20, level, active-high, shared, consumed\n     9  end",
+    "buffer 4701F80CF80C01087900": "buffer of 10 bytes, as a resource template:\n     0  I/O ports CF8 to CF8, 8 of them, alignment 1, decodes 16 bits\n     8  end",
+    "package 2 ( integer 1 none )": "package of 2:\n  0: integer 1 (0x1)\n  1: none",
+    "package 1 ( package 4 ( integer 131071 integer 1 name \\_SB_.LNKA integer 0 ) )":
+        "package of 1, as a _PRT:\n  device  function  pin  leads to\n       1       all    B  \\_SB_.LNKA",
+    "name \\_SB_": "name \\_SB_",
+}
+NO_VALUES = ["", "refused 1\n", "acpiroute 2\n", "integer\n", "integer x\n", "buffer 1\n", "package 1 ( integer 1\n", "integer 1 2\n"]
 
 
 class Check:
@@ -139,7 +180,18 @@ def check_graphs(check):
     for text in FAULTY_REPORTS:
         status, output, errors = ran(tool("report_graph.py"), text)
         check.same(f"report_graph.py over {text!r}", (status, output, errors.count("\n")), (1, "", 1))
+    told = json.loads(ran(tool("report_graph.py", "--json"), SPARING_REPORT)[1])
+    check.same("a report of version 3 as JSON", (told["spared"], told["unread"], told["links"][0]["as_given"]),
+               ([{"device": "\\_SB_.KBD_", "interrupts": [1]}], [{"device": "\\_SB_.COM1", "refused": 74}], False))
     check.same("report_graph.py over a report of nothing", ran(tool("report_graph.py"), EMPTY_REPORT)[0], 0)
+
+
+def check_values(check):
+    for text, wanted in SHOWN.items():
+        check.same(f"show_value.py over {text}", ran(tool("show_value.py"), text + "\n"), (0, wanted + "\n", ""))
+    for text in NO_VALUES:
+        status, output, errors = ran(tool("show_value.py"), text)
+        check.same(f"show_value.py over {text!r}", (status, output, errors.count("\n")), (1, "", 1))
 
 
 # ---- machine_text.py
@@ -228,8 +280,29 @@ def check_faults(check):
             status, output, errors = ran(tool("machine_text.py", f"{folder}/{name}"))
             check.same(f"machine_text.py over a table that is {name}", (status, output, errors.count("\n")), (1, "", 1))
     check.same("machine_text.py over a file that is not there", ran(tool("machine_text.py", "nothing.aml"))[0], 1)
-    for words in ([], ["--io", "60"], ["--io", "60=G"], ["--mem", "=00"], ["--osi", "", "x"], ["--unknown", "x"]):
+    for name, word in (("two-links.asl", "iasl"), ("two-links.txt", "machine text"), ("two-links.report", "report"), ("q35.lspci", "--pci")):
+        errors = ran(tool("machine_text.py", name))[2]
+        check.same(f"machine_text.py over {name}", ("a text, and no table" in errors, word in errors), (True, True))
+    for words in ([], ["--pci", "0:1.0:60=G", "x"], ["--pci", "0:1.0=00", "x"], ["--pci", "0:1.0:FFF=0000", "x"], ["--io", "60"], ["--io", "60=G"], ["--mem", "=00"], ["--osi", "", "x"], ["--unknown", "x"]):
         check.same(f"machine_text.py {' '.join(words)}", ran(tool("machine_text.py", *words))[:2], (2, ""))
+
+
+def check_folders(check):
+    """Tables that are written into a folder, with files there that are no tables, and two DSDTs; registers that are given by themselves."""
+    registers = "0:1.0:60=80808080"
+    with tempfile.TemporaryDirectory() as folder:
+        write(f"{folder}/memory", as_memory("index"))
+        first = ran(tool("machine_text.py", "--tables", f"{folder}/tables", "--pci", registers, f"{folder}/memory"))
+        names = ["APIC.aml", "DSDT.aml", "FACP.aml", "SSDT1.aml"]
+        check.same("the tables of a memory dump, as files", sorted(os.listdir(f"{folder}/tables")), names)
+        check.same("registers that are given by themselves", first[1].splitlines()[-1], "pci 0 0 1 0 60 80808080")
+        write(f"{folder}/tables/DSDT.dsl", b"DefinitionBlock\n" * 9)
+        again = ran(tool("machine_text.py", "--pci", registers, f"{folder}/tables"))
+        check.same("a machine text of these files, and of an ASL source beside them", (again[0], without_remarks(again[1])), (0, without_remarks(first[1])))
+        check.same("an ASL source in a folder is named", again[2].count("DSDT.dsl"), 1)
+        check.same("files that are there are not replaced", ran(tool("machine_text.py", "--tables", f"{folder}/tables", f"{folder}/memory"))[0], 1)
+        write(f"{folder}/tables/other.aml", tables_of("two-links")[0])
+        check.same("two DSDTs are named", [it in ran(tool("machine_text.py", f"{folder}/tables"))[2] for it in ("DSDT.aml", "other.aml")], [True, True])
 
 
 # ---- sources
@@ -289,15 +362,23 @@ def main(words):
     if words == ["--rows"]:
         print(rows(), end="")
         return 0
+    if words in (["-h"], ["--help"]):
+        print(__doc__)
+        return 0
     if len(words) != 1 or words[0].startswith("-") and words[0] != "--tools":
         print(__doc__, file=sys.stderr)
+        return 2
+    if words[0] != "--tools" and not os.access(words[0], os.X_OK):
+        print(f"check.py: {words[0]}: no program is there", file=sys.stderr)
         return 2
     check = Check()
     if words[0] != "--tools":
         check_program(check, os.path.abspath(words[0]))
     check_graphs(check)
+    check_values(check)
     check_machine_texts(check)
     check_faults(check)
+    check_folders(check)
     check_sources(check)
     # a release has no crates
     if os.path.isdir(CRATES):

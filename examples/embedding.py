@@ -154,6 +154,9 @@ def main():
     parser.add_argument("--program")
     asked = parser.parse_args()
     libraries = asked.library or [os.path.join(TOP, "crates/acpiroute_c/out/libacpiroute_c.a"), kit_library()]
+    for name in libraries + [asked.program] * bool(asked.program):
+        if not os.path.isfile(name):
+            sys.exit(f"embedding.py: {name}: no such file")
     check = Check()
     with tempfile.TemporaryDirectory() as folder:
         for language, (host, configure) in built(libraries, folder).items():

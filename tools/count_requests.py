@@ -12,6 +12,7 @@ import tempfile
 sys.dont_write_bytecode = True
 from fuzz import machine
 from refuse_memory import Runs
+from usage import answer_help, program_there
 
 # how many terms the long method has
 TERMS = 1000
@@ -44,10 +45,11 @@ def requests(runs, text, name):
 
 
 def main(words):
+    answer_help(__doc__)
     if len(words) != 1:
         sys.exit(__doc__)
     with tempfile.TemporaryDirectory(prefix="count-requests-") as folder:
-        runs = Runs(words[0], folder)
+        runs = Runs(program_there(words[0]), folder)
         for kind, digits in KINDS:
             term = bytes.fromhex(digits)
             text = machine(method(SHORT, term, 1) + method(LONG, term, TERMS))

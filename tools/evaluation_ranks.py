@@ -10,6 +10,10 @@ counts calls differently.
 """
 import pathlib
 import re
+import sys
+
+sys.dont_write_bytecode = True
+from usage import answer_help
 
 CRATE = pathlib.Path(__file__).parent.parent / "crates/aml_interp"
 FUNCTION = re.compile(r"#\[cycle\(evaluation\)\]\n(?:#[^\n]*\n)*(?:pub\(crate\) )?fn (\w+)<.*?\n\{\n(.*?)\n\}\n", re.S)
@@ -17,6 +21,7 @@ RANK = re.compile(r"\ndecreases-\w+::(\w+) g l = 40 \* .* \+ (\d+)\n")
 
 
 def main():
+    answer_help(__doc__)
     measure = (CRATE / "proofs/+evaluation/Invariants.antt").read_text()
     ranks = {name: int(rank) for name, rank in RANK.findall(measure)}
     bodies = {}

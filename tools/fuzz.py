@@ -15,6 +15,9 @@ import sys
 import threading
 import time
 
+sys.dont_write_bytecode = True
+from usage import answer_help, program_there
+
 TOP = os.path.dirname(os.path.dirname(os.path.abspath(__file__)))
 REFUSED = re.compile(rb"refused (\d+)( at \d+| op [0-9A-F]{4}| tag \d+| line \d+| \\\S*)?\n\Z")
 SECONDS = 10
@@ -187,11 +190,12 @@ def option(words, name, value):
 
 
 def main(words):
+    answer_help(__doc__)
     if not words or words[0].startswith("-"):
         print(__doc__)
         return 2
     runs, minutes = option(words, "--runs", 100_000), option(words, "--minutes", 10.0)
-    fuzz = Fuzz(os.path.abspath(words[0]), option(words, "--seed", "1"))
+    fuzz = Fuzz(os.path.abspath(program_there(words[0])), option(words, "--seed", "1"))
     end, done = time.time() + 60 * minutes, 0
     with concurrent.futures.ThreadPoolExecutor(option(words, "--lanes", os.cpu_count() or 2)) as pool:
         while done < runs and time.time() < end and not fuzz.failure:

@@ -11,6 +11,7 @@ import sys
 
 sys.dont_write_bytecode = True
 import gate_plan
+from usage import answer_help
 
 ROOT = os.path.join(os.path.dirname(os.path.abspath(__file__)), "..")
 # seconds for running the programs at the end, once nothing is left to prove
@@ -136,6 +137,7 @@ def longest_chain(deps, rows):
 
 
 def main(words):
+    answer_help(__doc__)
     asked = [int(words[words.index("--processors") + 1])] if "--processors" in words else [4, 2]
     deps, rows = read_repository(), gate_plan.read_table()
     if missing := [it for it in deps if it not in rows]:

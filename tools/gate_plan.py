@@ -73,3 +73,7 @@ class Plan:
         expected = self.tasks[key][2] * (1 + FURTHER * (processes - 1))
         row = self.table.get(key[0], [])
         return min(expected, MARGIN * 1e9 * row[2]) if len(row) > 2 else expected
+
+
+if __name__ == "__main__":
+    print(__doc__)

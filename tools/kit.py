@@ -37,6 +37,11 @@ def mark_built(stamps, name):
                 it.write(stamp)
 
 
+def checked_of(crate):
+    """Where the gate leaves its check of a static library."""
+    return os.path.join(crate.folder, "out", "checked")
+
+
 def mark_of(crate):
     return f"{os.path.dirname(crate.rlib)}/by-gate"
 
@@ -44,3 +49,7 @@ def mark_of(crate):
 def is_by_gate(rt, crate):
     """Whether the gate built this library, from the files that stand there now."""
     return os.path.isdir(crate.rlib) and rt.rtlib.text_of(mark_of(crate)) == crate.stamp()
+
+
+if __name__ == "__main__":
+    print(__doc__)

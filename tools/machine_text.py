@@ -1,5 +1,5 @@
 #!/usr/bin/env python3
-"""machine_text.py [--pci FILE] [--io PORT=BYTES] [--mem ADDRESS=BYTES] [--osi TEXT] TABLE..
+"""machine_text.py [--pci FILE] [--pci FUNCTION:REGISTER=BYTES] [--io PORT=BYTES] [--mem ADDRESS=BYTES] [--osi TEXT] [--tables DIR] TABLE..
 
 Makes a machine text, the input of acpiroute, of ACPI tables, and writes it to the standard output.
 
@@ -7,7 +7,7 @@ TABLE is one of these:
   a table file     of /sys/firmware/acpi/tables, of `acpidump -b`, or an .aml file of iasl
   a text           that `acpidump` printed
   a memory dump    from address 0 on, as QEMU's monitor saves one (pmemsave); the tables are found by the RSDP
-  a folder         all files in it, but no folders inside it
+  a folder         all tables in it, but no folders inside it; files that are no tables are passed over, and named on the error output
   -                a table, a text or a dump from the standard input
 
 One of the tables has to be the DSDT. SSDTs, the FADT and the MADT are taken where they are given; where there is no FADT, a
@@ -18,12 +18,17 @@ number alone come by that number, so SSDT2 before SSDT10.
 
 Registers that the AML reads have to be given:
   --pci FILE           PCI configuration registers: the text of `lspci -xxxx`, taken as root
+  --pci 0:1F.0:60=0A0B PCI configuration registers of one function: the bus, device and function as lspci writes them, with a segment
+                       group before them or without, the first register, and the bytes
   --io PORT=BYTES      I/O ports from PORT on
   --mem ADDRESS=BYTES  memory from ADDRESS on
   --osi TEXT           a text that _OSI knows, such as 'Windows 2015'
 
-PORT and ADDRESS are hexadecimal numbers. BYTES are pairs of hexadecimal digits, or @FILE for the bytes of a file. All four may be
-given several times.
+PORT, ADDRESS and what is before = in --pci are hexadecimal numbers. BYTES are pairs of hexadecimal digits, or in --io and --mem @FILE
+for the bytes of a file. All may be given several times; bytes that are given later replace earlier ones.
+
+With --tables DIR the tables are written into the folder DIR too, for `iasl -d`: the DSDT, the FADT, the MADT and the SSDTs, each as a
+file of its own such as DSDT.aml. They are written as they were found, with right checksums. Files that are there stay as they are.
 
     sudo tools/machine_text.py /sys/firmware/acpi/tables > machine.txt
     sudo acpidump | tools/machine_text.py --pci lspci.txt - > machine.txt
@@ -41,6 +46,7 @@ TABLES_AT = 0x100000
 HEADER_BYTES = 36
 LAST_ADDRESS = 2**64 - 1
 LAST_PORT = 0xFFFF
+LAST_REGISTER = 0xFFF
 BYTES_A_LINE = 64
 # The tables that acpiroute reads.
 READ = (b"DSDT", b"SSDT", b"FACP", b"APIC")
@@ -49,11 +55,16 @@ NEVER_TOLD = (b"RSD ", b"RSDT", b"XSDT", b"FACS")
 DUMPED_TABLE = re.compile(r"(?:RSD PTR |[ -~]{4}) @ (?:0x)?[0-9A-Fa-f]+\s*$")
 DUMPED_ROW = re.compile(r"\s*([0-9A-Fa-f]{4,}):((?: [0-9A-Fa-f]{2}){1,16})(?: |$)")
 PCI_FUNCTION = re.compile(r"(?:([0-9a-fA-F]{4,8}):)?([0-9a-fA-F]{2}):([01][0-9a-fA-F])\.([0-7])(?:\s|$)")
+PCI_GIVEN = re.compile(r"(?:([0-9a-fA-F]{1,4}):)?([0-9a-fA-F]{1,2}):([01]?[0-9a-fA-F])\.([0-7]):([0-9a-fA-F]{1,3})=(.*)", re.DOTALL)
 PCI_ROW = re.compile(r"([0-9a-fA-F]{2,3}):((?: [0-9a-fA-F]{2}){1,16})\s*$")
 
 
 class Fault(Exception):
     """What is wrong with a file, as a line for the user."""
+
+
+class NoTable(Fault):
+    """A file that isn't meant as a table."""
 
 
 def note(text):
@@ -82,14 +93,16 @@ def by_number(names):
 
 
 def files_of(names):
-    """The files that the words name, with those in folders."""
-    files = []
+    """The files that the words name, with those in folders, and the set of those in folders."""
+    files, in_folders = [], set()
     for name in names:
         if os.path.isdir(name):
-            files += [it for it in (f"{name}/{entry}" for entry in sorted(os.listdir(name))) if os.path.isfile(it)]
+            found = [it for it in (f"{name}/{entry}" for entry in sorted(os.listdir(name))) if os.path.isfile(it)]
+            in_folders |= set(found)
+            files += found
         else:
             files.append(name)
-    return by_number(files)
+    return by_number(files), in_folders - set(names)
 
 
 def bytes_of(name):
@@ -141,14 +154,35 @@ def is_dump(data):
     return b"\0" not in data and any(map(DUMPED_TABLE.match, data.decode("latin-1").splitlines()))
 
 
+def is_text(data):
+    """Whether all bytes are those of a text. A table has bytes below 32 in its header: its length is below 2^29."""
+    return len(data) > 0 and all(it >= 0x20 or it in b"\t\n\f\r" for it in data)
+
+
+def kind_of_text(data):
+    """What is to be done with a text that stands in the place of a table, where it is known."""
+    lines = data.decode("latin-1").splitlines()
+    if any(it.startswith(("rsdp ", "mem ")) for it in lines):
+        return ": it is a machine text already, for acpiroute to read as it stands"
+    if any("DefinitionBlock" in it for it in lines):
+        return ": it is an ASL source, of which `iasl` makes a table"
+    if lines[0].startswith("acpiroute "):
+        return ": it is a report of acpiroute"
+    if any(map(PCI_FUNCTION.match, lines)):
+        return ": it is the text of lspci, which --pci takes"
+    return ""
+
+
 def tested(name, data):
     """The table, where it is one."""
     if data[:8] == b"RSD PTR ":
         return data
+    if is_text(data):
+        raise NoTable(f"{name}: a text, and no table{kind_of_text(data)}")
     if len(data) < 8 or len(data) < HEADER_BYTES and data[:4] != b"FACS":
-        raise Fault(f"{name}: no ACPI table: {len(data)} bytes, and a table has at least {HEADER_BYTES}")
+        raise NoTable(f"{name}: no ACPI table: {len(data)} bytes, and a table has at least {HEADER_BYTES}")
     if not all(0x20 <= it < 0x7F for it in data[:4]):
-        raise Fault(f"{name}: no ACPI table: it begins with the bytes {data[:4].hex(' ').upper()}, and not with a signature")
+        raise NoTable(f"{name}: no ACPI table: it begins with the bytes {data[:4].hex(' ').upper()}, and not with a signature")
     length = int.from_bytes(data[4:8], "little")
     if length != len(data):
         raise Fault(f"{name}: no whole ACPI table: its header says {length} bytes, and there are {len(data)}")
@@ -221,28 +255,53 @@ def mended(name, data):
     return right
 
 
-def gathered(files):
+def tables_or_none(name, in_folders):
+    """The tables of one file. A file of a folder that isn't meant as one is passed over."""
+    try:
+        return tables_in(name)
+    except NoTable as fault:
+        if name not in in_folders:
+            raise
+        note(f"{fault}: passed over")
+        return []
+
+
+def gathered(files, in_folders):
     """The tables that acpiroute reads, by their signatures, and the signatures of those that are left out."""
-    found, left_out = {it: [] for it in READ}, []
+    found, left_out, dsdts = {it: [] for it in READ}, [], {}
     for name in files:
-        for data in tables_in(name):
+        for data in tables_or_none(name, in_folders):
             signature = data[:4]
             if signature in READ:
                 found[signature].append(mended(name, data))
             elif signature not in NEVER_TOLD:
                 left_out.append(signature.decode("latin-1"))
-    found[b"DSDT"] = only_dsdt(found[b"DSDT"])
+            if signature == b"DSDT":
+                dsdts.setdefault(found[signature][-1], name)
+    found[b"DSDT"] = only_dsdt(dsdts)
     return found, left_out
 
 
-def only_dsdt(tables):
-    """The DSDT, which may be given twice, but not in two forms."""
-    different = list(dict.fromkeys(tables))
-    if not different:
+def only_dsdt(names):
+    """The DSDT, which may be given twice, but not in two forms. The names are the files of each form."""
+    if not names:
         raise Fault("no DSDT is among the tables")
-    if len(different) > 1:
-        raise Fault(f"{len(different)} different DSDTs are among the tables, and a machine has one")
-    return different
+    if len(names) > 1:
+        raise Fault(f"{len(names)} different DSDTs are among the tables, and a machine has one: {', '.join(names.values())}")
+    return list(names)
+
+
+def write_tables(folder, tables):
+    """Writes each table into a file of its own."""
+    for signature, some in tables.items():
+        for number, data in enumerate(some, 1):
+            name = f"{folder}/{signature.decode()}{number if signature == b'SSDT' else ''}.aml"
+            try:
+                os.makedirs(folder, exist_ok=True)
+                with open(name, "xb") as it:
+                    it.write(data)
+            except OSError as error:
+                raise Fault(f"{name}: {error.strerror}") from error
 
 
 def small_fadt():
@@ -353,6 +412,13 @@ def pci_lines(name):
     return lines
 
 
+def function_lines(given):
+    """The lines of registers that are given by themselves."""
+    (segment, bus, device, function, register), data = given
+    place = f"pci {segment:X} {bus:X} {device:X} {function:X}"
+    return [f"{place} {register + it:X} {words}" for it, words in rows(data)]
+
+
 def place_lines(word, given):
     return [f"{word} {at + it:X} {words}" for at, data in given for it, words in rows(data)]
 
@@ -371,7 +437,9 @@ def loaded(given, last):
 
 def machine_text(words):
     """The machine text that the words of the command line ask for."""
-    tables, left_out = gathered(files_of(words.tables))
+    tables, left_out = gathered(*files_of(words.tables))
+    if words.folder is not None:
+        write_tables(words.folder, tables)
     memory, ports = loaded(words.mem, LAST_ADDRESS), loaded(words.io, LAST_PORT)
     counts = [f"{len(some)} {signature.decode()}" for signature, some in tables.items() if some]
     lines = [f"# A machine of {', '.join(counts)}"]
@@ -379,7 +447,7 @@ def machine_text(words):
         lines.append(f"# Left out: {', '.join(left_out)}")
     lines += memory_lines(tables, memory)
     lines += place_lines("mem", memory) + place_lines("io", ports)
-    lines += [line for name in words.pci for line in pci_lines(name)]
+    lines += [line for it in words.pci for line in (pci_lines(it) if isinstance(it, str) else function_lines(it))]
     lines += [f"osi {text}" for text in words.osi]
     return "\n".join(lines) + "\n"
 
@@ -405,6 +473,22 @@ def bytes_up_to(last):
     return given
 
 
+def pci_given(text):
+    """Reads FUNCTION:REGISTER=BYTES, or the name of a file with the text of lspci."""
+    found = PCI_GIVEN.fullmatch(text)
+    if not found:
+        if "=" in text and not os.path.exists(text):
+            raise argparse.ArgumentTypeError(f"'{text}' is neither a file nor registers such as 0:1F.0:60=0A0B")
+        return text
+    place = tuple(int(it or "0", 16) for it in found.groups()[:5])
+    if not re.fullmatch(r"([0-9A-Fa-f]{2} *)+", found[6]):
+        raise argparse.ArgumentTypeError(f"'{found[6]}' is not pairs of hexadecimal digits")
+    data = bytes.fromhex(found[6])
+    if place[4] + len(data) - 1 > LAST_REGISTER:
+        raise argparse.ArgumentTypeError(f"the bytes of '{text}' end past register {LAST_REGISTER:X}")
+    return place, data
+
+
 def osi_given(text):
     if not re.fullmatch(r"[ -~]{1,255}", text):
         raise argparse.ArgumentTypeError("a text of _OSI has 1 to 255 printable ASCII characters")
@@ -415,10 +499,11 @@ def parsed(words):
     parser = argparse.ArgumentParser(prog=NAME, usage=__doc__.split("\n", 1)[0], description=__doc__.split("\n", 2)[2],
                                      formatter_class=argparse.RawDescriptionHelpFormatter, allow_abbrev=False)
     hidden = {"action": "append", "default": [], "help": argparse.SUPPRESS}
-    parser.add_argument("--pci", **hidden)
+    parser.add_argument("--pci", type=pci_given, **hidden)
     parser.add_argument("--io", type=bytes_up_to(LAST_PORT), **hidden)
     parser.add_argument("--mem", type=bytes_up_to(LAST_ADDRESS), **hidden)
     parser.add_argument("--osi", type=osi_given, **hidden)
+    parser.add_argument("--tables", dest="folder", metavar="DIR", help=argparse.SUPPRESS)
     parser.add_argument("tables", nargs="+", metavar="TABLE", help=argparse.SUPPRESS)
     found = parser.parse_args(words)
     if len(found.osi) > 64:

@@ -15,6 +15,9 @@ import subprocess
 import sys
 import tempfile
 
+sys.dont_write_bytecode = True
+from usage import answer_help, file_there, program_there
+
 TOP = os.path.dirname(os.path.dirname(os.path.abspath(__file__)))
 SHIM = r"""
 #define _GNU_SOURCE
@@ -113,6 +116,7 @@ def read(name):
 
 
 def main(words):
+    answer_help(__doc__)
     every = 1
     if "--every" in words:
         at = words.index("--every")
@@ -121,16 +125,16 @@ def main(words):
     calls = None
     if "--calls" in words:
         at = words.index("--calls")
-        calls = words[at + 1]
+        calls = program_there(words[at + 1])
         del words[at:at + 2]
     if not words:
         sys.exit(__doc__)
-    program, machines = words[0], words[1:]
+    program, machines = program_there(words[0]), [file_there(it) for it in words[1:]]
     at = f"{TOP}/examples"
     plan = [(["route"], it) for it in machines]
     if not machines:
         two, report = f"{at}/two-links.txt", f"{at}/two-links.report"
-        plan = [(["route"], two), (["names"], two), (["check"], report), (["route"], f"{at}/index.txt"), (["route", "--dry"], f"{at}/i440fx.txt"), (["eval", "\\_SB_.PCI0._PRT"], f"{at}/i440fx.txt")]
+        plan = [(["route"], two), (["names"], two), (["check"], report), (["route"], f"{at}/index.txt"), (["route", "--dry"], f"{at}/i440fx.txt"), (["eval", "\\_SB_.PCI0._PRT"], f"{at}/i440fx.txt"), (["eval", "\\_OSI", "s:Linux"], two), (["eval", "\\_OSI", "b:00FF"], two)]
     with tempfile.TemporaryDirectory(prefix="refuse-memory-") as folder:
         runs = Runs(program, folder)
         for arguments, file in plan:

@@ -10,7 +10,8 @@ On the left are the pins of devices and the System Control Interrupt (SCI), in t
 with their loads: the sources that each serves. Devices whose pins lead to the same are drawn as one. A thick line leads to the
 interrupt that a link is given, dotted lines to the others that it offers, grey ones to those that are avoided. Links and interrupts of
 the `bound` line are filled, and an interrupt that is as busy as the busiest has a double line around it. Links that are not present and
-interrupts that are avoided are drawn with dashes, and links whose setting was refused in red. Reports of version 1 and 2 are read.
+interrupts that are avoided or spared are drawn with dashes. Links are drawn in red whose setting was refused, or whose `after` is another
+interrupt than they were given. The legend below the picture says so of what is in it. Reports of version 1, 2 and 3 are read.
 
 The exit status is 0, 1 where the input is no report (one line on the error output says why), or 2 for wrong usage."""
 import argparse
@@ -24,12 +25,15 @@ NUMBER = r"(?:0|[1-9]\d*)"
 NUMBERS = rf"{NUMBER}(?: {NUMBER})*"
 STATE = rf"none|-|{NUMBERS}"
 # Each kind of line after the first one, with its parts.
-LINES = {word: re.compile(f"{word} {rest}") for word, rest in {
+LINES = {word: re.compile(f"{word} {rest}" if rest else word) for word, rest in {
     "mode": r"(apic|pic)",
     "ioapic": rf"({NUMBER}) at ([0-9A-F]{{8}}) base ({NUMBER})",
     "override": rf"({NUMBER}) to ({NUMBER}) flags ([0-9A-F]{{4}})",
     "sci": rf"(?:none|({NUMBER}))",
     "avoid": rf"(?:-|({NUMBERS}))",
+    "spared": rf"({PATH}) ({NUMBERS})",
+    "unread": rf"({PATH}) ({NUMBER})",
+    "first": r"",
     "link": rf"({PATH}) (small|extended) (low|high) offers ({NUMBERS}) now ({STATE})",
     "wired": rf"({NUMBER}) ({NUMBER})",
     "pin": rf"({PATH}) ({NUMBER}) ([A-D]) (?:({NUMBER}) wired|({NUMBER}|absent) ({PATH}))",
@@ -39,8 +43,9 @@ LINES = {word: re.compile(f"{word} {rest}") for word, rest in {
     "set": rf"({PATH}) (?:(ok|none)|refused ({NUMBER}))",
     "after": rf"({PATH}) (?:({STATE})|refused ({NUMBER}))",
 }.items()}
-# The lines that stand in version 2 alone, each once.
-ADDED = ("sci", "avoid")
+# The lines that stand from a version on, and those of them that stand there once.
+SINCE = {"sci": 2, "avoid": 2, "spared": 3, "unread": 3, "first": 3}
+ONCE = ("sci", "avoid", "first")
 
 
 class Fault(Exception):
@@ -67,6 +72,11 @@ def is_refused(told):
     return isinstance(told, dict)
 
 
+def is_as_given(link):
+    """Whether a link is set to the interrupt that it was given; one that can't tell, since it has no _CRS, counts as set so."""
+    return link["after"] is None or link["after"] == [link["give"]]
+
+
 class Report:
     """A report, gathered line by line."""
 
@@ -76,6 +86,7 @@ class Report:
         self.bound_is_told = False
         self.io_apics, self.overrides, self.avoid, self.pins = [], [], [], []
         self.links, self.wired = {}, {}
+        self.spared, self.unread, self.rule = [], [], "first"
         self.added = set()
 
     def known(self, path):
@@ -99,6 +110,15 @@ class Report:
         self.avoid = numbers(interrupts or "")
         if sorted(set(self.avoid)) != self.avoid:
             raise Fault("the interrupts that are avoided don't ascend")
+
+    def add_spared(self, device, interrupts):
+        self.spared.append({"device": device, "interrupts": numbers(interrupts)})
+
+    def add_unread(self, device, refusal):
+        self.unread.append({"device": device, "refused": int(refusal)})
+
+    def add_first(self):
+        self.rule = "first"
 
     def add_link(self, path, form, polarity, offers, now):
         if path in self.links:
@@ -134,11 +154,11 @@ class Report:
 
     def add(self, line):
         word = line.split(" ", 1)[0]
-        if word not in LINES or self.version == 1 and word in ADDED:
+        if word not in LINES or self.version < SINCE.get(word, 1):
             raise Fault(f"no line of a report of version {self.version} begins with '{word[:40]}'")
         if word in self.added:
             raise Fault(f"a second line '{word}'")
-        self.added |= {word} & set(ADDED)
+        self.added |= {word} & set(ONCE)
         found = LINES[word].fullmatch(line)
         if not found:
             raise Fault(f"not a line '{word}' of a report: '{line[:120]}'")
@@ -149,11 +169,14 @@ class Report:
             if "give" not in link:
                 raise Fault(f"{path} has no line 'give'")
         told = [("mode", self.mode), ("busiest", self.busiest is not None), ("bound", self.bound_is_told)]
-        told += [(word, self.version == 1 or word in self.added) for word in ADDED]
+        told += [(word, self.version < SINCE[word] or word in self.added) for word in ONCE]
         for word, is_told in told:
             if not is_told:
                 raise Fault(f"the line '{word}' is missing")
         return self
+
+    def spared_interrupts(self):
+        return {it for device in self.spared for it in device["interrupts"]}
 
     def interrupts(self):
         """Each interrupt that is offered or wired, and that of the SCI, with its load."""
@@ -170,14 +193,16 @@ class Report:
         wired, sci = self.wired.get(number, 0), number == self.sci
         inside = self.bound["interrupts"] if self.bound else []
         return {"number": number, "load": len(links) + wired + sci, "wired": wired, "sci": sci, "links": links,
-                "avoided": number in self.avoid, "in_bound": number in inside}
+                "avoided": number in self.avoid, "spared": number in self.spared_interrupts(), "in_bound": number in inside}
 
 
 def report_of(text):
     """The report that a text is."""
+    if "\r" in text:
+        raise Fault("the report has Windows line ends, which `tr -d '\\r'` takes away")
     lines = text.split("\n")
-    if lines[0] not in ("acpiroute 1", "acpiroute 2"):
-        raise Fault("line 1: a report of acpiroute begins with 'acpiroute 1' or 'acpiroute 2'" if text else "the input is empty")
+    if lines[0] not in ("acpiroute 1", "acpiroute 2", "acpiroute 3"):
+        raise Fault("line 1: a report of acpiroute begins with 'acpiroute 1', 'acpiroute 2' or 'acpiroute 3'" if text else "the input is empty")
     report = Report(int(lines[0][-1]))
     for number, line in enumerate(lines[1:-1] if lines[-1] == "" else lines[1:], 2):
         try:
@@ -190,11 +215,17 @@ def report_of(text):
 # ---- JSON
 
 
+def link_json(link):
+    """A link; where it was set, whether it is set to what it was given."""
+    return {**link, "as_given": is_as_given(link)} if "after" in link else link
+
+
 def as_json(report):
     whole = {
         "version": report.version, "mode": report.mode, "io_apics": report.io_apics, "overrides": report.overrides,
         "sci": report.sci, "avoid": report.avoid,
-        "links": list(report.links.values()), "pins": report.pins, "interrupts": report.interrupts(),
+        "spared": report.spared, "unread": report.unread, "rule": report.rule,
+        "links": [link_json(it) for it in report.links.values()], "pins": report.pins, "interrupts": report.interrupts(),
         "busiest": report.busiest, "bound": report.bound,
     }
     return json.dumps(whole, indent=2) + "\n"
@@ -227,8 +258,18 @@ def link_text(link):
     if "set" in link:
         lines.append(f"set: {outcome_text(link['set'], str)}")
     if "after" in link:
-        lines.append(f"after: {outcome_text(link['after'], state_text)}")
+        otherwise = f", not {link['give']}" if is_set_otherwise(link) else ""
+        lines.append(f"after: {outcome_text(link['after'], state_text)}{otherwise}")
     return "\n".join(lines)
+
+
+def is_set_otherwise(link):
+    """Whether the link's `_CRS` answers, after all links were set, something else than the interrupt that it was given."""
+    return isinstance(link.get("after"), list) and not is_as_given(link)
+
+
+def is_faulty(link):
+    return is_refused(link.get("set")) or is_refused(link.get("after")) or is_set_otherwise(link)
 
 
 def link_lines(report):
@@ -236,8 +277,8 @@ def link_lines(report):
     lines = []
     for link in report.links.values():
         colour = {"style": "filled", "fillcolor": "lightsalmon"} if link["path"] in inside else {}
-        if is_refused(link.get("set")) or is_refused(link.get("after")):
-            colour["color"] = "red"
+        if is_faulty(link):
+            colour.update(color="red", penwidth=2)
         lines.append(line_of(quoted(link["path"]), label=link_text(link), **colour))
     absent = dict.fromkeys(it["link"] for it in report.pins if it["link"] and it["interrupt"] is None)
     return lines + [line_of(quoted(it), label=f"{it}\nabsent", style="dashed") for it in absent]
@@ -247,13 +288,13 @@ def interrupt_text(it):
     """What is written in the ellipse of an interrupt."""
     others = [f"{it['wired']} wired"] * bool(it["wired"]) + ["SCI"] * it["sci"]
     lines = [str(it["number"]), f"load {it['load']}" + (f" ({', '.join(others)})" if others else "")]
-    return "\n".join(lines + ["avoided"] * it["avoided"])
+    return "\n".join(lines + ["avoided"] * it["avoided"] + ["spared"] * it["spared"])
 
 
 def interrupt_lines(report):
     lines = []
     for it in report.interrupts():
-        style = ["filled"] * it["in_bound"] + ["dashed"] * it["avoided"]
+        style = ["filled"] * it["in_bound"] + ["dashed"] * (it["avoided"] or it["spared"])
         colour = {"style": ",".join(style)} if style else {}
         if it["in_bound"]:
             colour["fillcolor"] = "lightsalmon"
@@ -268,7 +309,7 @@ def offer_lines(report):
     for link in report.links.values():
         for it in link["offers"]:
             kind = {"penwidth": 2} if it == link["give"] else {"style": "dotted", "arrowhead": "none"}
-            if it in report.avoid:
+            if it in report.avoid or it in report.spared_interrupts():
                 kind["color"] = "grey"
             lines.append(line_of(f"{quoted(link['path'])} -> {quoted('interrupt ' + str(it))}", **kind))
     return lines
@@ -316,7 +357,25 @@ def title(report):
     lines += [f"I/O APIC {it['id']} at {it['address']}, interrupts from {it['base']}" for it in report.io_apics]
     lines += [f"source {it['source']} is interrupt {it['interrupt']}, flags {it['flags']}" for it in report.overrides]
     lines += [f"avoided: {' '.join(map(str, report.avoid))}"] if report.avoid else []
-    return "\n".join(lines)
+    lines += [f"spared for {it['device']}: {' '.join(map(str, it['interrupts']))}" for it in report.spared]
+    lines += [f"{it['device']} couldn't be asked: refused {it['refused']}" for it in report.unread]
+    return "\n".join([*lines, "", *legend(report)])
+
+
+def legend(report):
+    """What the forms and colours say that are in the picture."""
+    bound = report.bound or {"links": [], "interrupts": []}
+    interrupts = report.interrupts()
+    said = [
+        (report.links, "thick line: the interrupt that the link is given; dotted line: one that it offers"),
+        (report.busiest, "double line around an interrupt: as busy as the busiest"),
+        (bound["interrupts"], "filled: the line 'bound', which proves that no choice has a less busy busiest interrupt"),
+        (any(it["interrupt"] is None for it in report.pins), "dashed box: a link that is not present"),
+        (any(it["avoided"] for it in interrupts), "dashed ellipse, grey line: an interrupt that is avoided"),
+        (any(it["spared"] for it in interrupts), "dashed ellipse, grey line: an interrupt that is spared"),
+        (any(map(is_faulty, report.links.values())), "red: a link that refused its setting, or is set to another interrupt than it was given"),
+    ]
+    return [text for is_there, text in said if is_there]
 
 
 def as_graph(report):

@@ -12,6 +12,7 @@ import time
 
 sys.dont_write_bytecode = True
 import kit
+from usage import answer_help
 
 SHOWN = 20
 
@@ -23,6 +24,7 @@ def saved(folder):
 
 
 def main(words):
+    answer_help(__doc__)
     rt = kit.load()
     rt.rtlib.guarded()
     name, flags = words[0] if words else "", words[1:]

@@ -33,6 +33,7 @@ import threading
 
 sys.dont_write_bytecode = True
 import kit
+from usage import answer_help
 
 # how many edits one check tries at most
 TOGETHER = 16
@@ -414,6 +415,7 @@ def result_of(run, crate):
 
 
 def main(words):
+    answer_help(__doc__)
     lanes = int(words[words.index("--lanes") + 1]) if "--lanes" in words else 2
     names = [it for it in words if re.fullmatch(r"[a-z_][a-z0-9_]*", it)]
     rtlib.guarded()
