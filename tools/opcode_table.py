@@ -3,6 +3,19 @@ import re
 
 TABLE = "tables/opcodes.txt"
 MOST_OPERANDS = 6
+COLUMNS = 7
+# The sections of the ACPI Specification 6.5 that have the encodings of terms.
+SECTIONS = {
+    "20.2.3": "Data Objects Encoding",
+    "20.2.5.1": "Namespace Modifier Objects Encoding",
+    "20.2.5.2": "Named Objects Encoding",
+    "20.2.5.3": "Statement Opcodes Encoding",
+    "20.2.5.4": "Expression Opcodes Encoding",
+    "20.2.6.1": "Arg Objects Encoding",
+    "20.2.6.2": "Local Objects Encoding",
+    "20.2.6.3": "Debug Objects Encoding",
+    "20.3": "AML Byte Stream Byte Values",
+}
 # The bytes of an operand that alone says how long a term is.
 SIZES = {"ByteData": 1, "WordData": 2, "DWordData": 4, "QWordData": 8}
 
@@ -14,8 +27,11 @@ class Wrong(Exception):
 class Row:
     """One opcode."""
 
-    def __init__(self, name, code, place, packaged, kind, operands):
-        self.name, self.code, self.place, self.packaged, self.kind, self.operands = name, code, place, packaged, kind, operands
+    def __init__(self, columns, operands, meaning):
+        self.name, code, self.place, packaged, self.section, self.kind = columns
+        self.code, self.packaged = int(code, 16), packaged == "yes"
+        self.operands, self.meaning = operands, meaning
+        self.line = None  # the number of its line in the table
 
 
 def variants(text, enum):
@@ -23,11 +39,18 @@ def variants(text, enum):
     return re.findall(r"^    (\w+),", body, re.MULTILINE)
 
 
+def is_sentence(text):
+    """Whether a text is one sentence: a capital letter first, two words at least, and no point but the last character."""
+    return re.fullmatch(r"[A-Z]\S* [^|]*[^|.\s]\.", text) and ". " not in text
+
+
 def read_row(line, classes, operand_kinds):
-    words = line.split()
-    if len(words) < 6:
-        raise Wrong("fewer than six columns")
-    name, code, place, packaged, kind, *operands = words
+    before, bar, meaning = line.partition("|")
+    words = before.split()
+    if len(words) < COLUMNS or not bar:
+        raise Wrong(f"fewer than {COLUMNS} columns, or no meaning behind a bar")
+    columns, operands = words[:COLUMNS - 1], words[COLUMNS - 1:]
+    name, code, place, packaged, section, _ = columns
     operands = [] if operands == ["-"] else operands
     if not re.fullmatch(r"[A-Z]\w*", name):
         raise Wrong(f"{name} is no name")
@@ -37,12 +60,16 @@ def read_row(line, classes, operand_kinds):
         raise Wrong(f"{place} is no class")
     if packaged not in ("yes", "no"):
         raise Wrong(f"package is yes or no, not {packaged}")
+    if section not in SECTIONS:
+        raise Wrong(f"{section} is no section with the encodings of terms")
     if len(operands) > MOST_OPERANDS:
         raise Wrong(f"{len(operands)} operands, and {MOST_OPERANDS} are the most")
     for it in operands:
         if it not in operand_kinds or it == "Nothing":
             raise Wrong(f"{it} is no kind of operand")
-    return Row(name, int(code, 16), place, packaged == "yes", kind, operands)
+    if not is_sentence(meaning.strip()):
+        raise Wrong("the meaning is no sentence")
+    return Row(columns, operands, meaning.strip())
 
 
 def read_rows(text, kinds_text):
@@ -60,6 +87,7 @@ def read_rows(text, kinds_text):
                 raise Wrong("codes rise from row to row")
         except Wrong as wrong:
             raise Wrong(f"{TABLE}:{number}: {wrong}: {line.strip()}") from None
+        row.line = number
         rows.append(row)
     return rows
 

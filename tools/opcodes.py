@@ -2,8 +2,9 @@
 """opcodes.py [--check]
 
 Writes from tables/opcodes.txt the marked regions of the sources (the enum of opcodes, both tables of terms, and what is looked up by a
-byte), and then docs/OPCODES.md, one row for each opcode of AML: its row in the table, which rule it is evaluated by, where the rule is
-defined, which function evaluates it, and where it is tested. What the table doesn't have is read from the sources.
+byte), and then docs/OPCODES.md, one row for each opcode of AML: its row in the table with its section and its meaning, which rule it is
+evaluated by, where the rule is defined, which function evaluates it, and where it is tested. What the table doesn't have is read from
+the sources.
 
 With --check it writes nothing, and fails (status 1) where a region or the page differs, or where a row's kind isn't that of
 crates/aml_meaning/specs/Terms.antt."""
@@ -50,8 +51,11 @@ HEAD = """# Opcodes
 
 <!-- Written by tools/opcodes.py from tables/opcodes.txt and the sources: change those, and run it again. -->
 
-One row for each opcode of AML (ACPI 6.5, 20.3).
+One row for each opcode of AML.
 
+- **Section** is the one of the ACPI Specification 6.5 that has the encoding of the term; what the terms mean is in 19.6. The
+  sections are {sections}.
+  {older} is no longer in the grammar: its code alone is listed.
 - **Operands** are those of the row in `tables/opcodes.txt`, from which both tables of terms are written (the definition
   `crates/aml_grammar/specs/Table.antt`, and as code `crates/aml_scan/src/table.rt`), behind the class that says where the term may
   stand. `in a package` means that a package length comes first. **Count** is how many there are, and **Targets** how many of them are of the kind `Target`.
@@ -62,8 +66,8 @@ One row for each opcode of AML (ACPI 6.5, 20.3).
 - **Tests** are files of rows: in `crates/name_rows/data` the one with the row `the opcode NAME, read and refused`, and in
   `crates/evaluation_rows/data` the one that names the term most often.
 
-| Opcode | Name | Operands | Count | Targets | Kind | Definition | Code | Tests |
-|---|---|---|---|---|---|---|---|---|
+| Opcode | Name | Section | Meaning | Operands | Count | Targets | Kind | Definition | Code | Tests |
+|---|---|---|---|---|---|---|---|---|---|---|
 """
 
 
@@ -93,6 +97,16 @@ def operands_text(row):
     return f"{row.place}: {'in a package ' * row.packaged}{' '.join(row.operands) or 'none'}"
 
 
+def check_names(rows, sources):
+    """Refuses a name that the sources don't know, and asks for the row of each name that they know."""
+    for it in rows:
+        if it.name not in sources["tests"]:
+            raise Missing(f"{opcode_table.TABLE}:{it.line}: {it.name} is unknown: no row in crates/name_rows/data tests `the opcode {it.name}`")
+    names = {it.name for it in rows}
+    for name in sorted({*sources["tests"], *sources["kinds"], *sources["targets"]} - names):
+        raise Missing(f"{opcode_table.TABLE}: {name} has no row")
+
+
 def check_kinds(rows, found, targets):
     """Refuses a row whose kind isn't that of the definitions."""
     for it in rows:
@@ -102,7 +116,7 @@ def check_kinds(rows, found, targets):
         elif it.name in targets:
             kind = f"target.{targets[it.name]}"
         if it.kind != kind:
-            raise Missing(f"{opcode_table.TABLE}: {it.name} has the kind {it.kind}, and Terms.antt says {kind}")
+            raise Missing(f"{opcode_table.TABLE}:{it.line}: {it.name} has the kind {it.kind}, and Terms.antt says {kind}")
 
 
 def written(rows):
@@ -223,20 +237,27 @@ def how(name, sources):
 
 
 def page_row(row, sources):
-    if row.name not in sources["tests"]:
-        raise Missing(f"{row.name} has no test")
     kind, definition, code = how(row.name, sources)
     evaluated = evaluation_test(row.name, sources["lines"])
     tests = f"`{sources['tests'][row.name]}`" + (f", `{evaluated}`" if evaluated else "")
     counts = f"{len(row.operands)} | {row.operands.count('Target')}"
-    return f"| {row.code:02X} | {row.name} | {operands_text(row)} | {counts} | {kind} | {definition} | {code} | {tests} |"
+    said = f"{row.section} | {row.meaning} | {operands_text(row)}"
+    return f"| {row.code:02X} | {row.name} | {said} | {counts} | {kind} | {definition} | {code} | {tests} |"
+
+
+def head(rows):
+    """What stands above the rows."""
+    titles = [f"{number} {title}" for number, title in opcode_table.SECTIONS.items()]
+    sections = ",\n  ".join(", ".join(titles[it:it + 3]) for it in range(0, len(titles), 3))
+    return HEAD.format(sections=sections, older=" and ".join(it.name for it in rows if it.section == "20.3"))
 
 
 def page(rows):
     sources = {"kinds": kinds(), "targets": target_kinds(), "functions": functions_of_evaluation(), "tests": grammar_tests(),
                "lines": told_lines()}
+    check_names(rows, sources)
     check_kinds(rows, sources["kinds"], sources["targets"])
-    return HEAD + "\n".join(page_row(it, sources) for it in rows) + "\n"
+    return head(rows) + "\n".join(page_row(it, sources) for it in rows) + "\n"
 
 
 def main(words):

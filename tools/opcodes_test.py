@@ -11,7 +11,18 @@ import tempfile
 
 TOP = os.path.dirname(os.path.dirname(os.path.abspath(__file__)))
 TABLE = "tables/opcodes.txt"
-ADD = "Add              72    Expression   no       integer_operator.Add                        TermArg TermArg Target\n"
+
+def read(file):
+    with open(file, encoding="utf-8") as it:
+        return it.read()
+
+
+def row_of(name):
+    """The row of an opcode, with the end of its line."""
+    return next(it for it in read(f"{TOP}/{TABLE}").splitlines(keepends=True) if it.startswith(f"{name} "))
+
+
+ADD, CONCAT = row_of("Add"), row_of("Concat")
 # What is tried: the file, its text, what stands in its place, and what the answer must say. LINE is the line of Add's row, and NEXT the
 # one behind it.
 CASES = [
@@ -21,12 +32,31 @@ CASES = [
     ("crates/aml_scan/src/table.rt", "u8 = 0x70", "u8 = 0x71", "crates/aml_scan/src/table.rt is stale"),
     ("crates/aml_terms/src/short.rt", "    1, 1, 0,", "    1, 2, 0,", "crates/aml_terms/src/short.rt is stale"),
     ("docs/OPCODES.md", "| 72 | Add |", "| 72 | Sum |", "docs/OPCODES.md is stale"),
+    ("docs/OPCODES.md", "Adds two integers.", "Adds two numbers.", "docs/OPCODES.md is stale"),
+    ("docs/OPCODES.md", "| 20.2.5.4 | Adds", "| 20.2.5.3 | Adds", "docs/OPCODES.md is stale"),
+    # names that are unknown, missing, there twice, in the place of another
+    (TABLE, ADD, ADD.replace("Add ", "Sum "), f"{TABLE}:LINE: Sum is unknown"),
+    (TABLE, ADD, "", f"{TABLE}: Add has no row"),
     (TABLE, ADD, ADD.replace("Add ", "Sum ", 1) + ADD, f"{TABLE}:NEXT: Add or its code is there already"),
-    (TABLE, ADD, ADD.replace("Target", "Targett"), f"{TABLE}:LINE: Targett is no kind of operand"),
+    (TABLE, ADD, ADD + ADD.replace("72", "9A"), f"{TABLE}:NEXT: Add or its code is there already"),
+    (TABLE, ADD + CONCAT, CONCAT + ADD, f"{TABLE}:NEXT: codes rise from row to row"),
+    # columns
+    (TABLE, ADD, ADD.replace("Target ", "Targett"), f"{TABLE}:LINE: Targett is no kind of operand"),
     (TABLE, ADD, ADD.replace("Expression", "Expressive"), f"{TABLE}:LINE: Expressive is no class"),
     (TABLE, ADD, ADD.replace("Target", "Target " * 5), f"{TABLE}:LINE: 7 operands"),
     (TABLE, ADD, ADD.replace("72", "7G"), f"{TABLE}:LINE: 7G is no code"),
-    (TABLE, ADD, ADD.replace("integer_operator.Add", "integer_operator.Sub"), "Add has the kind integer_operator.Sub"),
+    (TABLE, ADD, ADD.replace("integer_operator.Add", "integer_operator.Sub"), f"{TABLE}:LINE: Add has the kind integer_operator.Sub"),
+    (TABLE, ADD, ADD.replace("20.2.5.4", "20.2.5.5"), f"{TABLE}:LINE: 20.2.5.5 is no section"),
+    (TABLE, ADD, ADD.replace("20.2.5.4", "19.6.4"), f"{TABLE}:LINE: 19.6.4 is no section"),
+    (TABLE, ADD, ADD.replace("20.2.5.4 ", ""), f"{TABLE}:LINE: integer_operator.Add is no section"),
+    # meanings
+    (TABLE, ADD, ADD.replace("|", " "), f"{TABLE}:LINE: fewer than 7 columns, or no meaning behind a bar"),
+    (TABLE, ADD, ADD.replace("Adds two integers.", ""), f"{TABLE}:LINE: the meaning is no sentence"),
+    (TABLE, ADD, ADD.replace("Adds", "adds"), f"{TABLE}:LINE: the meaning is no sentence"),
+    (TABLE, ADD, ADD.replace("integers.", "integers"), f"{TABLE}:LINE: the meaning is no sentence"),
+    (TABLE, ADD, ADD.replace("integers.", "integers. And stores."), f"{TABLE}:LINE: the meaning is no sentence"),
+    (TABLE, ADD, ADD.replace("integers.", "integers | numbers."), f"{TABLE}:LINE: the meaning is no sentence"),
+    (TABLE, ADD, ADD.replace("Adds two integers.", "Sum."), f"{TABLE}:LINE: the meaning is no sentence"),
 ]
 
 
@@ -35,11 +65,6 @@ def copy(to):
     for file in listed.stdout.splitlines():
         os.makedirs(os.path.dirname(f"{to}/{file}"), exist_ok=True)
         shutil.copyfile(f"{TOP}/{file}", f"{to}/{file}")
-
-
-def read(file):
-    with open(file, encoding="utf-8") as it:
-        return it.read()
 
 
 def write(file, text):
