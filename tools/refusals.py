@@ -1,13 +1,18 @@
 #!/usr/bin/env python3
 """refusals.py: compares the numbers in docs/REFUSALS.md with those of the sources.
 
-Each refusal and each flaw of a report has to have one row there, with its number and its name. What is missing, or too much, is
-printed, and the exit status is then 1."""
+Each refusal and each flaw of a report has to have one row there, with its number and its name. A refusal's row also says by which
+definitions, functions or constants it is given, in three files at most: each file has to exist, and what is named has to stand there
+and to name the refusal. What is missing, too much or wrong is printed, and the exit status is then 1."""
 import os
 import re
 import sys
 
+import usage
+
 TOP = os.path.dirname(os.path.dirname(os.path.abspath(__file__)))
+PAGE = "docs/REFUSALS.md"
+MOST_FILES = 3
 
 
 def text_of(file):
@@ -16,30 +21,74 @@ def text_of(file):
 
 
 def in_sources():
-    """The numbers and names of refusals and flaws."""
+    """The numbers and names of refusals, and those of flaws."""
     faults = re.findall(r"^\w+_fault_number \(?(\w+)(?: x\))? = (\d+)$", text_of("crates/ar_space/specs/Numbers.antt"), re.MULTILINE)
     memory = re.findall(r"^number_of refusal\.(\w+) = (\d+)$", text_of("crates/ar_space/specs/Numbers.antt"), re.MULTILINE)
     flaws = re.findall(r"^number_of (?:\w+\.)?(\w+) = (\d+)$", text_of("crates/route_check/specs/Flaws.antt"), re.MULTILINE)
-    return sorted((int(number), name) for name, number in faults + memory + flaws)
+    return [(int(number), name) for name, number in faults + memory], [(int(number), name) for name, number in flaws]
 
 
 def on_page():
-    return sorted((int(number), name) for number, name in re.findall(r"^\| (\d+) \| (\w+) \|", text_of("docs/REFUSALS.md"), re.MULTILINE))
+    """The number, the name and the last cell of each row."""
+    rows = re.findall(r"^\| (\d+) \| (\w+) \|.*?([^|]*) \|$", text_of(PAGE), re.MULTILINE)
+    return [(int(number), name, last.strip()) for number, name, last in rows]
 
 
-def main(words):
-    if words:
+def block(text, name):
+    """The lines of a definition, a function or a constant, without remarks; None where the text has none of the name."""
+    lines = [it for it in text.splitlines() if not it.lstrip().startswith(("--", "//"))]
+    begins = re.compile(rf"^\s*(?:\w+ )*(?:pub(?:\(crate\))? )?(?:record |const |fn )?{name}\b *[:(<]|^pub record {name}\b")
+    found = []
+    for place, line in enumerate(lines):
+        if begins.search(line) and not line.startswith("use "):
+            rest = lines[place:]
+            found.extend(rest[:next((it for it, said in enumerate(rest) if not said.strip()), len(rest))])
+    return "\n".join(found) or None
+
+
+def faults_of_row(number, name, cell):
+    """What is wrong with what a row names."""
+    parts = [re.fullmatch(r"`([^`]+)`: ((?:`\w+`, )*`\w+`)", it) for it in cell.split("; ")]
+    if None in parts:
+        yield f"the row {number} {name} doesn't say what gives it, as in `crate/specs/File.antt`: `definition`"
+        return
+    if len(parts) > MOST_FILES:
+        yield f"the row {number} {name} has more than {MOST_FILES} files"
+    for part in parts:
+        file = f"crates/{part[1]}"
+        if not os.path.isfile(f"{TOP}/{file}"):
+            yield f"the row {number} {name} has a file that isn't there: {file}"
+            continue
+        for giver in re.findall(r"\w+", part[2]):
+            said = block(text_of(file), giver)
+            if said is None:
+                yield f"the row {number} {name}: {file} has no {giver}"
+            elif not re.search(rf"\b{name}\b", said):
+                yield f"the row {number} {name}: {giver} in {file} doesn't name {name}"
+
+
+def faults(refusals, flaws, rows):
+    found = [row[:2] for row in rows]
+    for number, name in sorted(refusals + flaws):
+        if (number, name) not in found:
+            yield f"no row for {number} {name}"
+    for number, name, cell in rows:
+        if (number, name) not in refusals + flaws or found.count((number, name)) > 1:
+            yield f"a row too much: {number} {name}"
+        elif (number, name) in refusals:
+            yield from faults_of_row(number, name, cell)
+
+
+def main():
+    usage.answer_help(__doc__)
+    if sys.argv[1:]:
         print(__doc__, file=sys.stderr)
         return 2
-    wanted, found = in_sources(), on_page()
-    for number, name in wanted:
-        if (number, name) not in found:
-            print(f"docs/REFUSALS.md has no row for {number} {name}")
-    for number, name in found:
-        if (number, name) not in wanted or found.count((number, name)) > 1:
-            print(f"docs/REFUSALS.md has a row too much: {number} {name}")
-    return 0 if wanted == found else 1
+    wrong = list(faults(*in_sources(), on_page()))
+    for it in wrong:
+        print(f"{PAGE}: {it}")
+    return 1 if wrong else 0
 
 
 if __name__ == "__main__":
-    sys.exit(main(sys.argv[1:]))
+    sys.exit(main())
