@@ -17,6 +17,10 @@ import usage
 
 TOP = os.path.dirname(os.path.dirname(os.path.abspath(__file__)))
 TABLE, PAGE = "tables/descriptors.txt", "docs/DESCRIPTORS.md"
+# What an expression of the definition or of the code has, and the kind of descriptor that it gives then.
+KINDS = {
+    "irq": "Interrupts", "extended_interrupt": "Interrupts", "EndTag": "EndTag", "DependentFunctions": "DependentFunctions",
+}
 SPECS, SRC = "crates/acpi_resources/specs", "crates/acpi_resources/src"
 HEAD = """# Resource descriptors
 
@@ -85,8 +89,8 @@ def definition(file, name):
 
 def kind_of(said):
     """The kind of descriptor that an expression of the definition or of the code gives."""
-    for kind, signs in {"Interrupts": ("irq", "extended_interrupt"), "DependentFunctions": ("DependentFunctions",), "EndTag": ("EndTag",)}.items():
-        if any(it in said for it in signs):
+    for sign, kind in KINDS.items():
+        if sign in said:
             return kind
     raise Wrong(f"no kind of descriptor is known in: {said}")
 
@@ -103,8 +107,8 @@ def defined():
 def constants():
     """The first bytes that the code has names for: the name, and the section that its remark has."""
     found = {}
-    text = text_of(f"{SRC}/descriptor.rt")
-    for section, name, tag in re.findall(r"^/// .*\(ACPI 6\.5, ([\d.]+)\)\.\n(?:pub\(crate\) )?const (\w+): u8 = 0x(\w\w);", text, re.MULTILINE):
+    form = r"^/// .*\(ACPI 6\.5, ([\d.]+)\)\.\n(?:pub\(crate\) )?const (\w+): u8 = 0x(\w\w);"
+    for section, name, tag in re.findall(form, text_of(f"{SRC}/descriptor.rt"), re.MULTILINE):
         found[int(tag, 16)] = (name, section)
     return found
 
