@@ -1,0 +1,241 @@
+#!/usr/bin/env python3
+"""report_lines.py [--check]
+
+Writes docs/REPORT.md: one row for each line of a report, of every version: its forms and its meaning (from tables/report_lines.txt), the
+versions that have it, the definition of its words, what writes it, what reads it, whether `check` passes over it, and the definition that
+its content comes from. What the table doesn't have is read from the definitions and the code of crates/route_report.
+
+With --check it writes nothing, and fails (status 1) where the page differs. In both cases it fails where the table, the definitions, the
+code, and tools/report_graph.py don't know the same lines in the same versions, or a form isn't that of the code."""
+import os
+import re
+import sys
+
+import opcode_table
+import refusals
+import report_graph
+import usage
+
+TOP = os.path.dirname(os.path.dirname(os.path.abspath(__file__)))
+TABLE, PAGE = "tables/report_lines.txt", "docs/REPORT.md"
+CRATE = "crates/route_report"
+HEADING = "acpiroute"
+# The lines that a version has or not, by the field of the definition `first_said` that says so, and its value where it has them.
+FIELDS = {"sci": ("sci", "None"), "avoid": ("avoid", "None"), "spared": ("spared", "Some []"), "unread": ("spared", "Some []")}
+RULE = ("rule", "None")
+HEAD = """# The lines of a report
+
+<!-- Written by tools/report_lines.py from tables/report_lines.txt and the sources: change those, and run it again. -->
+
+One row for each line, in the order in which `route` writes them. `check` reads reports of the versions 1 to 3, the lines behind the first
+one in any order. `README.md` shows a report, and says what each line means for a user.
+
+- **Form**: D and P are paths; N, K, C, I, S, G, R decimal numbers; A and F hexadecimal digits, eight and four; V is `-`, `none` or
+  numbers; X is A to D. `N..` and `P..` are one or more. Where an offer isn't `small` and `low`, it is `extended` and `high`; a bound
+  without links has `-` in their place. The first line of a report of version 1 is `acpiroute 1`.
+- **Versions** are those that have the line. `route` writes version 2, and version 3 where options add lines.
+- **`check`**: *read* lines are what it tests, or what it believes of the machine. *passed over*: the line may say anything. Of a line
+  `link`, what stands behind `now` is passed over too; of a line `unread`, the form alone is tested.
+- **Words** is the definition of the line's words, in `crates/route_report/specs/Printing.antt`; **Written by** a function, or the
+  `impl Line` of a type, in `crates/route_report/src/lines.rt`; **Read by** a definition in `specs/Reading.antt` and the function of the
+  same name in `src/line.rt`.
+- **Content from** is the definition that says what stands in the line.
+
+| Line | Form | Meaning | Versions | `check` | Words | Written by | Read by | Content from |
+|---|---|---|---|---|---|---|---|---|
+"""
+
+
+class Wrong(Exception):
+    """A row that can't stand, or sources that don't agree with it."""
+
+
+class Row:
+    """One kind of line: what the table says of it."""
+
+    def __init__(self, line, number):
+        cells = [it.strip() for it in line.split("|")]
+        if len(cells) != 4:
+            raise Wrong(f"{TABLE}:{number}: four columns are wanted")
+        self.word, forms, self.meaning, source = cells
+        self.forms = forms.split(", ")
+        self.source = re.fullmatch(r"(\w+/specs/\w+\.antt): (\w+)", source)
+        self.where = f"{TABLE}:{number}"
+        if any(it.split()[0] != self.word for it in self.forms):
+            raise Wrong(f"{self.where}: a form doesn't begin with {self.word}")
+        if not opcode_table.is_sentence(self.meaning):
+            raise Wrong(f"{self.where}: the meaning is no sentence")
+        if not self.source:
+            raise Wrong(f"{self.where}: the source is no `crate/specs/File.antt: definition`")
+
+
+def text_of(file):
+    with open(f"{TOP}/{file}", encoding="utf-8") as it:
+        return it.read()
+
+
+def table_rows(text):
+    rows = [Row(line, number) for number, line in enumerate(text.splitlines(), 1) if line.strip() and not line.startswith("#")]
+    for place, row in enumerate(rows):
+        if any(it.word == row.word for it in rows[:place]):
+            raise Wrong(f"{row.where}: {row.word} has a row already")
+    return rows
+
+
+# ---- what the sources say
+
+
+def definition(file, name):
+    found = refusals.block(text_of(f"{CRATE}/specs/{file}.antt"), name)
+    if not found:
+        raise Wrong(f"{CRATE}/specs/{file}.antt has no {name}")
+    return found
+
+
+def printed():
+    """The first word of each line that is printed, in their order, with the definition of its words."""
+    options = definition("Printing", "option_lines")
+    listed = definition("Printing", "found_lines").replace("option_lines r.options", options) + definition("Printing", "chosen_lines")
+    found = {}
+    for name in dict.fromkeys(re.findall(r"\b\w+_words\b", listed)):
+        for word in re.findall(rf'^{name} .*= codes "(\w+)"', definition("Printing", name), re.MULTILINE):
+            found[word] = name
+    return found
+
+
+def writers():
+    """What writes the line of each first word."""
+    found = {}
+    for block in re.split(r"\n(?=///|impl |fn |pub)", text_of(f"{CRATE}/src/lines.rt")):
+        head = re.match(r"(?:///.*\n)*(?:pub\(crate\) )?(?:impl Line for (.+) \{|fn (\w+))", re.sub(r"#\[.*\]\n", "", block))
+        for word in re.findall(r'extend_from_slice\(b"(\w+)(?:"| \w|\\n)', block) if head else []:
+            found.setdefault(word, f"`impl Line for {head[1]}`" if head[1] else f"`{head[2]}`")
+    return found
+
+
+def read_by_definition():
+    return dict(re.findall(r'bytes_eq key \(codes "(\w+)"\) then (\w+)', definition("Reading", "keyed")))
+
+
+def function(name):
+    """A function of the code that reads a line."""
+    found = re.search(rf"^(?:pub\(crate\) )?fn {name}\(.*?^\}}\n", text_of(f"{CRATE}/src/line.rt"), re.MULTILINE | re.DOTALL)
+    if not found:
+        raise Wrong(f"{CRATE}/src/line.rt has no {name}")
+    return found[0]
+
+
+def read_by_code():
+    return dict(re.findall(r'key == b"(\w+)"\.as_slice\(\) \{\s*(\w+)\(', function("keyed")))
+
+
+def passed_over():
+    """The words of lines that are passed over: those of the definition, and those of the code."""
+    by_definition = re.findall(r'codes "(\w+)"', definition("Reading", "is_passed_over"))
+    return by_definition, re.findall(r'key == b"(\w+)"', function("is_passed_over"))
+
+
+def versions(word, rules):
+    """The versions that have lines of a first word; `rules` are the words that are a line alone."""
+    field, value = RULE if word in rules else FIELDS.get(word, (None, None))
+    said = re.findall(r"^first_said version\.\w+ = record \{(.*)\}$", definition("Reading", "first_said"), re.MULTILINE)
+    if not said:
+        raise Wrong(f"{CRATE}/specs/Reading.antt: first_said has no clause that is read here")
+    return [number for number, fields in enumerate(said, 1) if not field or f" {field} = {value};" in f"{fields};"]
+
+
+def documented_forms():
+    """The forms that the remark of `print` lists."""
+    remark = re.findall(r"^///(.*)$", text_of(f"{CRATE}/src/printing.rt"), re.MULTILINE)
+    return re.findall(r"`([^`]+)`", " ".join(remark))
+
+
+# ---- what has to agree
+
+
+def compare(what, found, wanted):
+    for word in wanted:
+        if word not in found:
+            raise Wrong(f"{what} doesn't know the line {word}")
+    for word in found:
+        if word not in wanted:
+            raise Wrong(f"{what} knows the line {word}, which has no row in {TABLE}")
+
+
+def check_sources(rows):
+    """Refuses sources that don't know the lines of the table."""
+    words = [it.word for it in rows]
+    lines = [it for it in words if it != HEADING]
+    over, over_by_code = passed_over()
+    compare(f"{CRATE}/specs/Printing.antt", printed(), words)
+    if list(printed()) != words:
+        raise Wrong(f"{TABLE}: the rows don't stand in the order of the lines: {' '.join(printed())}")
+    compare(f"{CRATE}/specs/Reading.antt", [*read_by_definition(), *over], lines)
+    compare(f"{CRATE}/src/line.rt", [*read_by_code(), *over_by_code], lines)
+    compare("tools/report_graph.py", report_graph.LINES, lines)
+    for word in words:
+        if word not in writers():
+            raise Wrong(f"{CRATE}/src/lines.rt writes no line {word}")
+    for word, name in read_by_definition().items():
+        if read_by_code().get(word) != name:
+            raise Wrong(f"the line {word} is read by {name} in the definition, and by {read_by_code().get(word)} in the code")
+
+
+def rule_words():
+    return [word for word, name in printed().items() if name == "rule_words"]
+
+
+def check_row(row):
+    """Refuses a row whose forms, versions or source aren't those of the sources."""
+    for form in row.forms:
+        if form not in documented_forms():
+            raise Wrong(f"{row.where}: the remark of `print` in {CRATE}/src/printing.rt has no form `{form}`")
+    since = versions(row.word, rule_words())[0]
+    if report_graph.SINCE.get(row.word, 1) != since:
+        raise Wrong(f"{row.where}: {row.word} stands from version {since} on, and in tools/report_graph.py from another one")
+    file, name = row.source.groups()
+    if not os.path.isfile(f"{TOP}/crates/{file}") or not refusals.block(text_of(f"crates/{file}"), name):
+        raise Wrong(f"{row.where}: there is no {name} in crates/{file}")
+
+
+# ---- the page
+
+
+def page_row(row):
+    forms = ", ".join(f"`{it}`" for it in row.forms)
+    reader = read_by_definition().get(row.word, "heading" if row.word == HEADING else None)
+    said = f"{row.meaning} | {' '.join(str(it) for it in versions(row.word, rule_words()))} | {'read' if reader else 'passed over'}"
+    file, name = row.source.groups()
+    givers = f"`{printed()[row.word]}` | {writers()[row.word]} | {f'`{reader}`' if reader else '-'} | `{file}`: `{name}`"
+    return f"| `{row.word}` | {forms} | {said} | {givers} |"
+
+
+def page(rows):
+    check_sources(rows)
+    for row in rows:
+        check_row(row)
+    return HEAD + "\n".join(page_row(it) for it in rows) + "\n"
+
+
+def main(words):
+    usage.answer_help(__doc__)
+    if words not in ([], ["--check"]):
+        print(__doc__, file=sys.stderr)
+        return 2
+    try:
+        text = page(table_rows(text_of(TABLE)))
+    except Wrong as wrong:
+        print(f"report_lines.py: {wrong}", file=sys.stderr)
+        return 1
+    if os.path.exists(f"{TOP}/{PAGE}") and text_of(PAGE) == text:
+        return 0
+    if words:
+        print(f"report_lines.py: {PAGE} is stale: run tools/report_lines.py", file=sys.stderr)
+        return 1
+    with open(f"{TOP}/{PAGE}", "w", encoding="utf-8") as it:
+        it.write(text)
+    return 0
+
+
+if __name__ == "__main__":
+    sys.exit(main(sys.argv[1:]))
