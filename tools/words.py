@@ -1,0 +1,66 @@
+#!/usr/bin/env python3
+"""words.py: checks docs/WORDS.md, the table of the words that code and pages use.
+
+The words stand in the order of the alphabet, none twice; a word that has several meanings says in brackets of what each is; and each
+row's file has its word. What is wrong is printed, and the exit status is then 1."""
+import os
+import re
+import sys
+
+import usage
+
+TOP = os.path.dirname(os.path.dirname(os.path.abspath(__file__)))
+PAGE = "docs/WORDS.md"
+
+
+def text_of(file):
+    with open(f"{TOP}/{file}", encoding="utf-8") as it:
+        return it.read()
+
+
+def table_rows():
+    """The word, the meaning and the file of each row."""
+    return re.findall(r"^\| ([a-z][^|]*) \| ([^|]*) \| `([^`|]*)` \|$", text_of(PAGE), re.MULTILINE)
+
+
+def faults_of_row(word, meaning, file):
+    if not meaning.endswith("."):
+        yield f"the meaning of {word} doesn't end in a point"
+    if not os.path.isfile(f"{TOP}/crates/{file}"):
+        yield f"{word}: there is no file crates/{file}"
+        return
+    bare = word.split(" (")[0]
+    if not re.search(rf"{bare}|{bare.replace(' ', '_')}", text_of(f"crates/{file}"), re.IGNORECASE):
+        yield f"crates/{file} doesn't have the word {bare}"
+
+
+def faults(rows):
+    words = [word for word, _, _ in rows]
+    if not words:
+        yield "there is no word"
+    for before, word in zip(words, words[1:]):
+        if word == before:
+            yield f"{word} is there twice"
+        elif word < before:
+            yield f"{word} doesn't stand in its order: it is behind {before}"
+    bare = [word.split(" (")[0] for word in words]
+    for word in words:
+        if " (" not in word and bare.count(word) > 1:
+            yield f"{word} has another meaning too: say in brackets of what each is"
+    for row in rows:
+        yield from faults_of_row(*row)
+
+
+def main():
+    usage.answer_help(__doc__)
+    if sys.argv[1:]:
+        print(__doc__, file=sys.stderr)
+        return 2
+    wrong = list(faults(table_rows()))
+    for it in wrong:
+        print(f"{PAGE}: {it}")
+    return 1 if wrong else 0
+
+
+if __name__ == "__main__":
+    sys.exit(main())
