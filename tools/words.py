@@ -30,7 +30,8 @@ def faults_of_row(word, meaning, file):
         yield f"{word}: there is no file crates/{file}"
         return
     bare = word.split(" (")[0]
-    if not re.search(rf"{bare}|{bare.replace(' ', '_')}", text_of(f"crates/{file}"), re.IGNORECASE):
+    said = bare.replace(" ", "[ _]")
+    if not re.search(rf"(?<![A-Za-z])(?i:{said})|{said.capitalize()}", text_of(f"crates/{file}")):
         yield f"crates/{file} doesn't have the word {bare}"
 
 
