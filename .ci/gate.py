@@ -19,7 +19,10 @@ sys.dont_write_bytecode = True
 sys.path.append(os.path.join(os.path.dirname(os.path.abspath(__file__)), "..", "tools"))
 import gate_plan
 import kit
+import usage
 
+if __name__ == "__main__":
+    usage.answer_help(__doc__)
 rt = kit.load()
 KITS_OWN = getattr(rt, "in_lanes", None)
 

@@ -15,6 +15,7 @@ import sys
 import tempfile
 
 import stack
+from usage import answer_help, file_there
 
 HERE = os.path.dirname(os.path.abspath(__file__))
 TOP = os.path.dirname(HERE)
@@ -51,17 +52,28 @@ def deepest(host, folder):
 
 
 def main():
-    library = os.path.abspath(sys.argv[1])
+    answer_help(__doc__)
+    if len(sys.argv) < 2:
+        sys.exit(__doc__)
+    library = os.path.abspath(file_there(sys.argv[1]))
     machines = sys.argv[2:] or [f"{TOP}/examples/{it}" for it in ("i440fx.txt:pic", "q35.txt:pic", "q35.txt:apic")]
+    machines = [it.rpartition(":")[::2] for it in machines]
+    for machine, mode in machines:
+        if mode not in ("apic", "pic"):
+            sys.exit(f"calls.py: {mode}: a machine text and its mode are wanted, such as examples/q35.txt:pic")
+        file_there(machine)
     with tempfile.TemporaryDirectory() as folder:
         host = built(library, folder)
         print("| Machine | Accesses | Calls | Milliseconds | a call | Allocations a call | Most memory, KiB | Stack, bytes |")
-        for it in machines:
-            row(host, *it.rsplit(":", 1))
+        for machine, mode in machines:
+            row(host, machine, mode)
         if "acpiroute_eval" in subprocess.run(["nm", library], capture_output=True, text=True, check=True).stdout:
             used, name = deepest(host, folder)
             print(f"the deepest evaluation: {used / 1024:,.0f} KiB ({name})")
 
 
 if __name__ == "__main__":
-    main()
+    try:
+        main()
+    except subprocess.CalledProcessError as failed:
+        sys.exit(f"calls.py: {failed.cmd[0]} ended with status {failed.returncode}")

@@ -8,11 +8,15 @@ Runs the examples of this folder over a built acpiroute, for instance build/acpi
 - tools/report_graph.py has to make the stored graph of it, and JSON with the same loads;
 - tools/show_value.py has to show values as they stand in this script;
 - tools/machine_text.py has to make each machine text anew from the tables in it, and to refuse files that are no tables;
+- each script of tools/, benches/ and this folder has to answer --help with its text, and those that take a file to name one that is
+  missing;
 - where iasl is installed, the ASL sources have to compile to these tables.
 
 Each difference is printed. The last line is `N passed, M failed`, and the exit status is 0 where none failed.
 
 With --tools it needs no program, and leaves out what the program prints. With --rows it runs nothing, and prints the examples as rows for crates/program_rows/data/examples.rows."""
+import ast
+import glob
 import json
 import os
 import shutil
@@ -22,6 +26,11 @@ import tempfile
 
 HERE = os.path.dirname(os.path.abspath(__file__))
 TOOLS = os.path.join(os.path.dirname(HERE), "tools")
+TOP = os.path.dirname(HERE)
+# The scripts that end at once where a file is missing that they are given.
+READERS = ["tools/machine_text.py", "tools/report_graph.py", "tools/show_value.py", "tools/fuzz.py", "tools/refuse_memory.py",
+           "tools/count_requests.py", "benches/calls.py", "benches/check_hostile.py", "benches/evaluation.py", "benches/fields.py",
+           "benches/machine_text.py", "benches/route_solve.py", "benches/stack.py", "examples/check.py", "examples/kernel/run.py"]
 CRATES = os.path.join(os.path.dirname(HERE), "crates")
 ROWS = os.path.join(CRATES, "program_rows/data")
 # The reports: each with its machine text and its command.
@@ -305,6 +314,31 @@ def check_folders(check):
         check.same("two DSDTs are named", [it in ran(tool("machine_text.py", f"{folder}/tables"))[2] for it in ("DSDT.aml", "other.aml")], [True, True])
 
 
+# ---- the words of scripts
+
+
+def scripts():
+    """The scripts that are there, from the top folder on; a release has few of them."""
+    folders = ("tools", "benches", "examples", "examples/kernel")
+    return sorted(os.path.relpath(it, TOP) for folder in folders for it in glob.glob(f"{TOP}/{folder}/*.py"))
+
+
+def said_of(script):
+    """The last line of what a script says of itself."""
+    with open(f"{TOP}/{script}", encoding="utf-8") as it:
+        return ast.get_docstring(ast.parse(it.read())).strip().splitlines()[-1].strip()
+
+
+def check_words(check):
+    """Each script tells what it is for, and names a file that is missing."""
+    for script in scripts():
+        status, said, errors = ran([sys.executable, f"{TOP}/{script}", "--help"])
+        check.same(f"{script} --help", (status, said_of(script) in said, errors), (0, True, ""))
+    for script in [it for it in READERS if it in scripts()]:
+        status, _, errors = ran([sys.executable, f"{TOP}/{script}", "no/such/file"])
+        check.same(f"{script} of a missing file", (status in (1, 2), "no/such/file" in errors, "Traceback" in errors), (True, True, False))
+
+
 # ---- sources
 
 
@@ -368,7 +402,7 @@ def main(words):
     if len(words) != 1 or words[0].startswith("-") and words[0] != "--tools":
         print(__doc__, file=sys.stderr)
         return 2
-    if words[0] != "--tools" and not os.access(words[0], os.X_OK):
+    if words[0] != "--tools" and not (os.path.isfile(words[0]) and os.access(words[0], os.X_OK)):
         print(f"check.py: {words[0]}: no program is there", file=sys.stderr)
         return 2
     check = Check()
@@ -379,6 +413,7 @@ def main(words):
     check_machine_texts(check)
     check_faults(check)
     check_folders(check)
+    check_words(check)
     check_sources(check)
     # a release has no crates
     if os.path.isdir(CRATES):

@@ -171,4 +171,7 @@ def main():
 
 
 if __name__ == "__main__":
-    main()
+    try:
+        main()
+    except subprocess.CalledProcessError as failed:
+        sys.exit(f"embedding.py: {failed.cmd[0]} ended with status {failed.returncode}")

@@ -15,6 +15,8 @@ import re
 import shutil
 import sys
 
+from usage import answer_help
+
 SOURCE = pathlib.Path(__file__).parent.parent / "crates/aml_interp"
 HEAD = re.compile(r"(?:pub(?:\(crate\))? )?fn (\w+)")
 ENTRY = re.compile(r"(?:abbrev )?pub (?:decreases-|invariant-)?(\w+::\w+)")
@@ -131,9 +133,12 @@ def write_answers(folder, kept, cyclic, name):
 
 
 def main():
+    answer_help(__doc__)
     if len(sys.argv) < 3:
         sys.exit(__doc__)
     folder = pathlib.Path(sys.argv[1])
+    if not folder.is_dir():
+        sys.exit(f"cut_evaluation.py: {folder}: no such folder")
     words = dict(it.split("=", 1) for it in sys.argv[2:])
     keep, stubs, drop = ({*words.get(it, "").split(",")} - {""} for it in ("keep", "stub", "drop"))
     for it in ("src", "specs", "proofs"):

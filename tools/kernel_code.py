@@ -15,6 +15,8 @@ import subprocess
 import sys
 import tempfile
 
+import usage
+
 NEEDED = ["memcpy", "memmove", "memset", "rattle_alloc", "rattle_dealloc", "rattle_realloc"]
 SECTIONS_REFUSED = r"\.(eh_frame|gcc_except_table|tdata|tbss|init_array|fini_array|ctors|dtors|preinit_array)\b"
 RELOCATIONS = {"R_X86_64_PC32", "R_X86_64_PLT32", "R_X86_64_64"}
@@ -245,6 +247,7 @@ def is_found(wanted, source, flags, folder):
 
 
 def main():
+    usage.answer_help(__doc__)
     with tempfile.TemporaryDirectory() as folder:
         missed = [(wanted or "nothing", source) for wanted, source, flags in TRIALS if not is_found(wanted, source, flags, folder)]
     print("".join(f"not found: {wanted}: {source}\n" for wanted, source in missed) + f"{len(TRIALS) - len(missed)} passed, {len(missed)} failed")

@@ -160,3 +160,7 @@ def with_region(file, text, comment, name, lines):
         raise Wrong(f"{file} has no region `{name}`")
     before, rest = text.split(begin)
     return before + begin + "".join(f"{it}\n" for it in lines) + end + rest.split(end)[1]
+
+
+if __name__ == "__main__":
+    print(__doc__)

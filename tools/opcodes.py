@@ -15,6 +15,7 @@ import sys
 
 sys.dont_write_bytecode = True
 import opcode_table
+import usage
 
 TOP = os.path.dirname(os.path.dirname(os.path.abspath(__file__)))
 PAGE = "docs/OPCODES.md"
@@ -261,6 +262,7 @@ def page(rows):
 
 
 def main(words):
+    usage.answer_help(__doc__)
     if words not in ([], ["--check"]):
         print(__doc__, file=sys.stderr)
         return 2

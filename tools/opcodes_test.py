@@ -9,6 +9,8 @@ import subprocess
 import sys
 import tempfile
 
+import usage
+
 TOP = os.path.dirname(os.path.dirname(os.path.abspath(__file__)))
 TABLE = "tables/opcodes.txt"
 
@@ -77,6 +79,7 @@ def check(top):
 
 
 def main():
+    usage.answer_help(__doc__)
     wrong = 0
     with tempfile.TemporaryDirectory() as top:
         copy(top)

@@ -25,6 +25,9 @@ def saved(folder):
 
 def main(words):
     answer_help(__doc__)
+    if not words:
+        print(__doc__, file=sys.stderr)
+        return 2
     rt = kit.load()
     rt.rtlib.guarded()
     name, flags = words[0] if words else "", words[1:]

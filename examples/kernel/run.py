@@ -145,6 +145,8 @@ def main():
     parser.add_argument("library")
     asked = parser.parse_args()
     library = os.path.abspath(asked.library)
+    if not os.path.isfile(library):
+        sys.exit(f"run.py: {asked.library}: no such file: tools/kernel_library.py makes the libraries")
     code = instructions(library)
     more_words = (" own-stack" if asked.red_zone else "") + ("" if "%xmm" in code else " no-sse")
     flags = [] if asked.red_zone else ["-mpreferred-stack-boundary=3"]
@@ -165,4 +167,7 @@ def main():
 
 
 if __name__ == "__main__":
-    main()
+    try:
+        main()
+    except subprocess.CalledProcessError as failed:
+        sys.exit(f"run.py: {failed.cmd[0]} ended with status {failed.returncode}")
