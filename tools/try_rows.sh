@@ -1,7 +1,16 @@
 #!/usr/bin/env bash
-# try_rows.sh NAME: runs the rows of the program crates/NAME before any proof, in seconds to a minute.
+# try_rows.sh NAME: runs the rows of the program crates/NAME, such as program_rows, before any proof, in a minute or two.
 set -euo pipefail
-cd "$(dirname "$0")/../crates/$1"
+case ${1-} in
+-h | --help) sed -n 's/^# //p' "$0"; exit ;;
+esac
+cd "$(dirname "$0")/../crates"
+if [ $# -ne 1 ] || [ ! -d "$1/data" ]; then
+    names=(*/data)
+    echo "try_rows.sh: the name of one program with rows is wanted: ${names[*]%/data}" >&2
+    exit 2
+fi
+cd "$1"
 words=()
 for file in data/*; do words+=(--data "$(basename "$file")=$file"); done
 exec rt try "${words[@]}" --seconds 600 --steps 1000000000000
