@@ -53,7 +53,7 @@ CASES = {
         ("docs/REFUSALS.md", "`read_answer`", "`read_answers`", "Bytes.antt has no read_answers"),
         ("docs/REFUSALS.md", "specs/Headers.antt`: `summed`", "specs/Header.antt`: `summed`", "a file that isn't there"),
         ("docs/REFUSALS.md", "`summed`; ", "`length_in`; ", "length_in in crates/ar_tables/specs/Headers.antt doesn't name BadChecksum"),
-        ("crates/ar_tables/specs/Headers.antt", "Err (Table BadChecksum)", "Err (Table BadLength)", "summed in crates/ar_tables/specs/Headers.antt doesn't name"),
+        ("crates/ar_tables/specs/Headers.antt", "Err (Table BadChecksum)", "Err (Table BadLength)", "doesn't name BadChecksum"),
     ],
     "tools/architecture.py": [
         ("docs/ARCHITECTURE.md", "| | | `sparing` |", "| | | |", "to add: | | | `sparing` | What was gathered"),
