@@ -86,7 +86,7 @@ def read_rows(text, kinds_text):
             if rows and row.code < rows[-1].code:
                 raise Wrong("codes rise from row to row")
         except Wrong as wrong:
-            raise Wrong(f"{TABLE}:{number}: {wrong}: {line.strip()}") from None
+            raise Wrong(f"{TABLE}:{number}: {wrong}: {' '.join(line.split())}") from None
         row.line = number
         rows.append(row)
     return rows
