@@ -63,7 +63,11 @@ One row for each opcode of AML.
 - **Kind** is the rule that evaluates the term (`crates/aml_meaning/specs/Terms.antt`; as code `crates/aml_meaning/src/kinds.rt`).
   *left out* means that the term is read, and refused by number 73 with its opcode where it is evaluated.
 - **Definition** is a function in `crates/aml_meaning/specs`, **Code** a function in `crates/aml_interp/src`, or in the crate that is
-  named.
+  named. What an operator makes *of values* is defined in `specs/Operations.antt`, and its code is in
+  `crates/aml_meaning/src/operations.rt`.
+- **Field**, **IndexField** and the `Create` terms only declare fields. How a field of an operation region is read and written is in
+  `specs/Fields.antt`, with its code in `crates/aml_interp/src/fields.rt` and `index_fields.rt`; for a buffer field in
+  `crates/aml_fields/specs/BufferFields.antt`, with its code in `crates/aml_fields/src/buffer_fields.rt`.
 - **Tests** are files of rows: in `crates/name_rows/data` the one with the row `the opcode NAME, read and refused`, and in
   `crates/evaluation_rows/data` the one that names the term most often.
 
@@ -168,6 +172,15 @@ def value_of(function, kind):
     return found[1]
 
 
+def code_of_value(value):
+    """The function of crates/aml_meaning/src/operations.rt whose contract has this definition of an operator's value."""
+    form = r"^ *(?:pub(?:\(crate\))? )?fn (\w+)[^\n]*\n?(.*?)^ *\{$"
+    for name, contract in re.findall(form, text_of("crates/aml_meaning/src/operations.rt"), re.MULTILINE | re.DOTALL):
+        if re.search(rf"\b{value}\b", contract):
+            return name
+    raise Missing(f"no function of crates/aml_meaning/src/operations.rt has {value} in its contract")
+
+
 def functions_of_evaluation():
     """Each function of evaluation, with its file."""
     found = {}
@@ -234,7 +247,8 @@ def how(name, sources):
     value = value_of(function, kind)
     code = code_of(function, kind, sources["functions"])
     definition = f"`{file}`: `{rule}`" + (f", of values `{value}`" if value else "")
-    return kind_text(name, function, kind), definition, f"`{sources['functions'][code]}`: `{code}`"
+    by = f"`{sources['functions'][code]}`: `{code}`" + (f", of values `{code_of_value(value)}`" if value else "")
+    return kind_text(name, function, kind), definition, by
 
 
 def page_row(row, sources):
