@@ -7,6 +7,7 @@ its content comes from. What the table doesn't have is read from the definitions
 
 With --check it writes nothing, and fails (status 1) where the page differs. In both cases it fails where the table, the definitions, the
 code, and tools/report_graph.py don't know the same lines in the same versions, or a form isn't that of the code."""
+import glob
 import os
 import re
 import sys
@@ -39,7 +40,7 @@ one in any order. `README.md` shows a report, and says what each line means for 
 - **Words** is the definition of the line's words, in `crates/route_report/specs/Printing.antt`; **Written by** a function, or the
   `impl Line` of a type, in `crates/route_report/src/lines.rt`; **Read by** a definition in `specs/Reading.antt` and the function of the
   same name in `src/line.rt`.
-- **Content from** is the definition that says what stands in the line.
+- **Content from** is the definition that says what stands in the line, and the function whose contract has it.
 
 | Line | Form | Meaning | Versions | `check` | Words | Written by | Read by | Content from |
 |---|---|---|---|---|---|---|---|---|
@@ -150,6 +151,23 @@ def documented_forms():
     return re.findall(r"`([^`]+)`", " ".join(remark))
 
 
+def functions(text):
+    """The name of each function, and its contract: the lines up to the one that opens its body."""
+    for rest in re.split(r"^ *(?:pub(?:\(crate\))? )?fn (?=\w)", text, flags=re.MULTILINE)[1:]:
+        yield re.match(r"\w+", rest)[0], re.split(r"^ *\{$", rest, maxsplit=1, flags=re.MULTILINE)[0]
+
+
+def code_of(file, name):
+    """The function whose contract has a definition, in its crate or in the one that forms the lines; none where it is a type."""
+    found = None
+    for crate in (file.split("/")[0], "acpi_configure"):
+        for source in sorted(glob.glob(f"{TOP}/crates/{crate}/src/*.rt")) if not found else []:
+            for name_there, contract in functions(text_of(os.path.relpath(source, TOP))):
+                if os.path.basename(source) != "laws.rt" and re.search(rf"ensures[^\n]*\b{name}\b", contract):
+                    found = f"`{crate}/src/{os.path.basename(source)}`: `{name_there}`"
+    return found
+
+
 # ---- what has to agree
 
 
@@ -206,7 +224,9 @@ def page_row(row):
     reader = read_by_definition().get(row.word, "heading" if row.word == HEADING else None)
     said = f"{row.meaning} | {' '.join(str(it) for it in versions(row.word, rule_words()))} | {'read' if reader else 'passed over'}"
     file, name = row.source.groups()
-    givers = f"`{printed()[row.word]}` | {writers()[row.word]} | {f'`{reader}`' if reader else '-'} | `{file}`: `{name}`"
+    code = code_of(file, name)
+    source = f"`{file}`: `{name}`" + (f"; {code}" if code else "")
+    givers = f"`{printed()[row.word]}` | {writers()[row.word]} | {f'`{reader}`' if reader else '-'} | {source}"
     return f"| `{row.word}` | {forms} | {said} | {givers} |"
 
 
