@@ -59,7 +59,8 @@ One row for each opcode of AML.
   {older} is no longer in the grammar: its code alone is listed.
 - **Operands** are those of the row in `tables/opcodes.txt`, from which both tables of terms are written (the definition
   `crates/aml_grammar/specs/Table.antt`, and as code `crates/aml_scan/src/table.rt`), behind the class that says where the term may
-  stand. `in a package` means that a package length comes first. **Count** is how many there are, and **Targets** how many of them are of the kind `Target`.
+  stand. `in a package` means that a package length comes first. **Count** is how many there are, and **Targets** how many of them are
+  of the kind `Target`.
 - **Kind** is the rule that evaluates the term (`crates/aml_meaning/specs/Terms.antt`; as code `crates/aml_meaning/src/kinds.rt`).
   *left out* means that the term is read, and refused by number 73 with its opcode where it is evaluated.
 - **Definition** is a function in `crates/aml_meaning/specs`, **Code** a function in `crates/aml_interp/src`, or in the crate that is
@@ -106,7 +107,8 @@ def check_names(rows, sources):
     """Refuses a name that the sources don't know, and asks for the row of each name that they know."""
     for it in rows:
         if it.name not in sources["tests"]:
-            raise Missing(f"{opcode_table.TABLE}:{it.line}: {it.name} is unknown: no row in crates/name_rows/data tests `the opcode {it.name}`")
+            where = f"{opcode_table.TABLE}:{it.line}"
+            raise Missing(f"{where}: {it.name} is unknown: no row in crates/name_rows/data tests `the opcode {it.name}`")
     names = {it.name for it in rows}
     for name in sorted({*sources["tests"], *sources["kinds"], *sources["targets"]} - names):
         raise Missing(f"{opcode_table.TABLE}: {name} has no row")
