@@ -5,8 +5,8 @@ use Rattle.std.proofs.lemmas.List.{drop-drop, drop-take, take_min, take_rest, le
 use Rattle.aml_grammar.specs.declared.kinds.Row.{Row}
 use Rattle.aml_marked.specs.Marked.{Place, Below, past, over, name_length, count_at, a_term, a_target, a_size, turns_of, with_row, maybe_else}
 use Rattle.aml_marked.specs.Moving.{MovesOn}
-use Rattle.aml_marked.proofs.Onward.{moves_over, moves_on_row, moves_on_target, moves_on_turns, moves_on_else, moves_on_size}
-use Rattle.aml_frames.specs.Places.{Site, Stands, place_between, end_of, at_place, terms}
+use Rattle.aml_marked.proofs.Onward.{moves_over, moves_on_term, moves_on_row, moves_on_target, moves_on_turns, moves_on_else, moves_on_size}
+use Rattle.aml_frames.specs.Places.{Site, Stands, place_between, end_of, at_place, terms, behind_term}
 
 prefix : (n : ℕ) (xs : List ℕ) → take (length (take n xs)) xs ≡ take n xs
 prefix n xs = rw (length-take n xs) (take_min n xs)
@@ -65,6 +65,9 @@ moved_row c at end levels row p q h i j e f = moved c at end p q h i (rw j (move
 pub moved_target : (c : Site) (at end levels : ℕ) (p q : Place) → Stands c.bytes c.place → p ≡ c.place → q ≡ (a_target (a_term (count_at c.marks) levels) p).1 → at ≡ q.at → end ≡ end_of q → at_place c (place_between c.bytes at end) ≡ at_place c (a_target (terms c levels) c.place).1
 moved_target c at end levels p q h i j e f = moved c at end p q h i (rw j (moves_on_target (count_at c.marks) levels p)) e f ∙ ap (at_place c) (j ∙ ap (λ x. (a_target (terms c levels) x).1) i)
 
+pub moved_term : (c : Site) (at end levels : ℕ) (p q : Place) → Stands c.bytes c.place → p ≡ c.place → q ≡ (a_term (count_at c.marks) levels false p).1 → at ≡ q.at → end ≡ end_of q → at_place c (place_between c.bytes at end) ≡ behind_term c levels
+moved_term c at end levels p q h i j e f = moved c at end p q h i (rw j (moves_on_term (count_at c.marks) levels false p)) e f ∙ ap (at_place c) (j ∙ ap (λ x. (terms c levels false x).1) i)
+
 pub moved_turns : (c : Site) (at end levels n : ℕ) (p q : Place) → Stands c.bytes c.place → p ≡ c.place → q ≡ (turns_of (a_term (count_at c.marks) levels false) n p).1 → at ≡ q.at → end ≡ end_of q → at_place c (place_between c.bytes at end) ≡ at_place c (turns_of (terms c levels false) n c.place).1
 moved_turns c at end levels n p q h i j e f = moved c at end p q h i (rw j (moves_on_turns (count_at c.marks) levels n p)) e f ∙ ap (at_place c) (j ∙ ap (λ x. (turns_of (terms c levels false) n x).1) i)
 
@@ -90,4 +93,4 @@ behind_else_is bs at end o p q below h i j e f =
 pub term_taken : (count : ℕ → ℕ) (levels : ℕ) (element : Bool) (row : Option Row) (at end : ℕ) (bs : List ℕ) (o p q : Place) → Stands bs o → p ≡ o → MovesOn p q → at ≡ q.at → end ≡ end_of q → a_term count levels element p ≡ with_row (a_term count (levels - 1)) row q → a_term count levels element o ≡ with_row (a_term count (levels - 1)) row (place_between bs at end)
 term_taken count levels element row at end bs o p q h i m e f t = ap (a_term count levels element) (sym i) ∙ t ∙ ap (with_row (a_term count (levels - 1)) row) (sym (rw (e, f) (place_again bs q (stands_on bs o q h (rw (← i) m)))))
 
-pub ruleset moving = (stands_between, moved, moved_over, moved_name, moved_row, moved_target, moved_turns, moved_else, opened, behind_package, behind_else_is, term_taken)
+pub ruleset moving = (stands_between, moved, moved_over, moved_name, moved_row, moved_term, moved_target, moved_turns, moved_else, opened, behind_package, behind_else_is, term_taken)

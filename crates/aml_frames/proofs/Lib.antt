@@ -3,3 +3,7 @@ pub mod Machine
 pub mod OperandShapes
 pub mod RuleShapes
 pub mod Stepping
+pub mod Weighing
+pub mod Targeting
+pub mod Using
+pub mod Beginning

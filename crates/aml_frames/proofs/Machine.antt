@@ -21,6 +21,11 @@ use Rattle.aml_frames.specs.declared.frames.Frame.{Frame}
 use Rattle.aml_frames.specs.declared.frames.Items.{Items}
 use Rattle.aml_frames.specs.declared.frames.Next.{Next}
 use Rattle.aml_frames.specs.declared.frames.Next.TheVariants as next
+use Rattle.aml_frames.specs.declared.uses.Access.{Access}
+use Rattle.aml_frames.specs.declared.uses.Target.{Target}
+use Rattle.aml_frames.specs.declared.uses.TargetUse.{TargetUse}
+use Rattle.aml_frames.specs.Uses.{target_ends, target_run, access_run}
+use Rattle.aml_frames.proofs.Weighing.{falling}
 use Rattle.aml_frames.specs.Places.{Site, behind_term}
 use Rattle.aml_frames.specs.Follow.{at_position, ends, term_run, items_run, body_run, resumed, next_run, next_ends, Leads}
 use Rattle.aml_frames.specs.Stack.{Rest, whole, met, unwinding, at_bottom, then_all, machine, Goes, entry_weight, stack_weight, control_weight}
@@ -88,6 +93,18 @@ module _ {S : Type 0} {ac : Accesses S} {ev : Task → Run S Flow} where
   pub goes_body_then : {s : State S × ℕ} (a b : Site) (xs ys zs : List Entry) (x : Frame) → ys ≡ xs ++ entry.Frame x ∷ [] → zs ≡ ys ++ entry.Leave a b.scope ∷ [] → Goes ac ev (Ok (control.Items (whole b))) b zs s (then_all ac ev (next_run ac ev (next.BodyThen b x) a) (next_ends (next.BodyThen b x) a) xs) s
   goes_body_then {s = s} a b xs ys zs x e h = record { is = λ _. sym (at_frame ac ev (body_run ac ev b) a xs x s) ∙ ap (λ us. then_all ac ev (body_run ac ev b) a us s) (sym e) ∙ (goes_body {s = s} a b ys zs h).is tt }
 
+  pub goes_target : {c : Site} {xs : List Entry} {s : State S × ℕ} (t : Target) (u : TargetUse) → Goes ac ev (Ok (control.Target t u)) c xs s (then_all ac ev (target_run ac ev t u c) (target_ends t u c) xs) s
+  goes_target t u = record { is = λ _. refl }
+
+  pub goes_access : {c : Site} {xs : List Entry} {s : State S × ℕ} (a : Access) → Goes ac ev (Ok (control.Access a)) c xs s (then_all ac ev (access_run ac ev a) c xs) s
+  goes_access a = record { is = λ _. refl }
+
+  pub goes_target_then : {c : Site} {s : State S × ℕ} (xs ys : List Entry) (t : Target) (u : TargetUse) (x : Frame) → ys ≡ xs ++ entry.Frame x ∷ [] → Goes ac ev (Ok (control.Target t u)) c ys s (then_all ac ev (next_run ac ev (next.TargetThen t u x) c) (next_ends (next.TargetThen t u x) c) xs) s
+  goes_target_then {c = c} {s = s} xs ys t u x e = record { is = λ _. sym (ap (λ zs. then_all ac ev (target_run ac ev t u c) (target_ends t u c) zs s) e ∙ at_frame ac ev (target_run ac ev t u c) (target_ends t u c) xs x s) }
+
+  pub goes_access_then : {c : Site} {s : State S × ℕ} (xs ys : List Entry) (a : Access) (x : Frame) → ys ≡ xs ++ entry.Frame x ∷ [] → Goes ac ev (Ok (control.Access a)) c ys s (then_all ac ev (next_run ac ev (next.AccessThen a x) c) (next_ends (next.AccessThen a x) c) xs) s
+  goes_access_then {c = c} {s = s} xs ys a x e = record { is = λ _. sym (ap (λ zs. then_all ac ev (access_run ac ev a) c zs s) e ∙ at_frame ac ev (access_run ac ev a) c xs x s) }
+
   pub goes_memory : {s : State S × ℕ} (r : Outcome Control) (c : Site) (xs : List Entry) (after : State S × ℕ) (m : Run S Flow) → IsErr r × IsErrAnd r (λ e. e ≡ OutOfMemory) → Goes ac ev r c xs after m s
   goes_memory (Ok x) c xs after m i = absurd (cc i.0)
   goes_memory (Err e) c xs after m i = record { is = λ ne. absurd (ne i.1) }
@@ -148,9 +165,9 @@ module _ {S : Type 0} (ac : Accesses S) (ev : Task → Run S Flow) where
   unfolding then_all unwinding stop settle
   unwound_end e c xs s i = rw i refl
 
-pub ruleset going = (weight_on, goes_flow, goes_items, goes_term, goes_items_then, goes_body, goes_body_then, goes_memory)
+pub ruleset going = (weight_on, goes_flow, goes_items, goes_term, goes_items_then, goes_body, goes_body_then, goes_target, goes_target_then, goes_access, goes_access_then, goes_memory)
 
-pub ruleset taking = (goes_leads, goes_leads_err, goes_frame, goes_leave, goes_memory)
+pub ruleset taking = (falling, goes_leads, goes_leads_err, goes_frame, goes_leave, goes_memory)
 
 -- ---- a call
 

@@ -352,7 +352,7 @@ row_aims [] i row h e = absurd (cc e)
 row_aims (r ∷ rows) zero row h e = let same : r ≡ row = cc e in ap (λ x. aims (target_kind (codes.Opcode x.0)) x) (sym same) ∙ (both _ _ h).0
 row_aims (r ∷ rows) (suc i) row h e = row_aims rows i row (both _ _ h).1 e
 
-code_stands : (b : Below) (row : Row) (p : Place) (other : Bool) → is_if row.0 ≡ other → code_of (with_row b (Some row) p).0 ≡ codes.Opcode row.0
+pub code_stands : (b : Below) (row : Row) (p : Place) (other : Bool) → is_if row.0 ≡ other → code_of (with_row b (Some row) p).0 ≡ codes.Opcode row.0
 unfolding with_row after gives
 code_stands b row p true e = rw e refl
 code_stands b row p false e = rw e refl

@@ -49,7 +49,7 @@ use Rattle.aml_frames.specs.declared.frames.Next.{Next}
 use Rattle.aml_frames.specs.declared.frames.Next.TheVariants as next
 use Rattle.aml_frames.specs.Places.{Site, at_place, terms, next_term, behind_term}
 use Rattle.aml_frames.specs.Operands.{inside_at, outside_at, behind_one, items_at, row_kind, operator_tree, statement_tree}
-use Rattle.aml_frames.specs.Follow.{arguments_left, behind_arguments, place_of, branch_at, statement_run, behind_statement_at, behind_operator_at, behind_coded, term_run, items_run, loop_site, loop_list, loop_again, turn_left, resumed, ends, Leads, EndsAt}
+use Rattle.aml_frames.specs.Follow.{called, arguments_left, behind_arguments, place_of, branch_at, statement_run, behind_statement_at, behind_operator_at, behind_coded, term_run, items_run, loop_site, loop_list, loop_again, turn_left, resumed, ends, Leads, EndsAt}
 use Rattle.aml_frames.proofs.RuleShapes.{operator_is, statement_is, behind_operator_is, behind_statement_is}
 
 -- ---- one after another, and then another: brackets make no difference
@@ -281,7 +281,7 @@ module _ {S : Type 0} {ac : Accesses S} where
   unfolding arguments_in_turn operand_value
   leads_argument {s = s} c k j some e = rw e (record { is = λ _. rw (ap (λ (x : List Tree × Place). trees_of x.0) (some_turns (terms c k.levels false) k.left c.place some)) (bind_bind _ _ _ s ∙ bind_bind _ _ _ s) })
 
-  pub leads_no_argument : {r : Outcome Next} {e : Site} {s s1 : State S × ℕ} (c : Site) (k : Call) → k.left ≡ 0 → Leads ac (meaning ac) r e s1 (invoked (meaning ac) c.depth k.path k.body k.done.items) s → Leads ac (meaning ac) r e s1 (arguments_left ac (meaning ac) k k.done.items c) s
+  pub leads_no_argument : {r : Outcome Next} {e : Site} {s s1 : State S × ℕ} (c : Site) (k : Call) → k.left ≡ 0 → Leads ac (meaning ac) r e s1 (called ac (meaning ac) k.callee c.depth k.done.items) s → Leads ac (meaning ac) r e s1 (arguments_left ac (meaning ac) k k.done.items c) s
   unfolding arguments_in_turn give ◌>>=◌ go_on
   leads_no_argument c k none h = record { is = λ ne. rw (ap (λ (x : List Tree × Place). trees_of x.0) (no_turns (terms c k.levels false) k.left c.place none)) (h.is ne) }
 

@@ -8,27 +8,37 @@ use Rattle.ar_space.specs.declared.refusal.EvaluationFault.TheVariants.{Fatal}
 use Rattle.aml_grammar.specs.Apart.{code_of}
 use Rattle.aml_grammar.specs.Shape.{trees_of}
 use Rattle.aml_grammar.specs.Tree.{Trees}
-use Rattle.aml_marked.specs.Marked.{Place, turns_of, to_end, all_items, maybe_else, walk_levels, with_row}
+use Rattle.aml_marked.specs.Marked.{Place, count_at, a_name, turns_of, to_end, all_items, maybe_else, walk_levels, with_row}
 use Rattle.aml_scan.specs.RowsAt.{row_at}
 use Rattle.aml_scan.specs.declared.row_places.RowPlace.{RowPlace}
 use Rattle.aml_convert.specs.Operators.{is_true}
 use Rattle.aml_objects.specs.declared.value.Value.{Value}
+use Rattle.aml_objects.specs.declared.value.Value.TheVariants as value
 use Rattle.aml_meaning.specs.declared.flow.Flow.{Flow}
 use Rattle.aml_meaning.specs.declared.flow.Flow.TheVariants as flow
 use Rattle.aml_meaning.specs.declared.term_kind.OperatorKind.{OperatorKind}
+use Rattle.aml_meaning.specs.declared.term_kind.OperatorKind.TheVariants as operators
 use Rattle.aml_meaning.specs.declared.term_kind.StatementKind.{StatementKind}
 use Rattle.aml_meaning.specs.State.{State}
 use Rattle.aml_meaning.specs.Run.{Run, lift}
-use Rattle.aml_meaning.specs.Readings.{value_in, integer_in}
+use Rattle.aml_meaning.specs.Readings.{value_in, integer_in, integer_kept}
+use Rattle.aml_meaning.specs.declared.store_target.Held.TheVariants as held
+use Rattle.aml_meaning.specs.declared.store_target.StoreTarget.TheVariants as targets
+use Rattle.aml_meaning.specs.StoreTargets.{tested, value_followed, most_references}
+use Rattle.aml_meaning.specs.StoreTargets.{followed as references_followed}
+use Rattle.aml_meaning.specs.TargetTerms.{reference_in}
+use Rattle.aml_meaning.specs.Osi.{osi_answered}
 use Rattle.aml_meaning.specs.Terms.{else_of}
-use Rattle.aml_meaning.specs.Tasks.{Task, task, after_item, in_turn}
+use Rattle.aml_meaning.specs.Tasks.{Task, task, operand_value, after_item, in_turn}
 use Rattle.aml_meaning.specs.Evaluation.{code_rule}
 use Rattle.aml_meaning.specs.OperatorTerms.{operator_rule}
 use Rattle.aml_meaning.specs.StatementTerms.{statement_rule, branch, turn_of, after_turn, loop, loop_end}
-use Rattle.aml_meaning.specs.InvocationTerms.{arguments_in_turn}
-use Rattle.aml_meaning.specs.Invocations.{leaving, invoked}
+use Rattle.aml_meaning.specs.InvocationTerms.{arguments_in_turn, invocation_rule}
+use Rattle.aml_meaning.specs.Invocations.{leaving, invoked, invocation_found, shallow}
 use Rattle.aml_frames.specs.declared.activation.Position.{Position}
 use Rattle.aml_frames.specs.declared.frames.Call.{Call}
+use Rattle.aml_frames.specs.declared.frames.Callee.{Callee}
+use Rattle.aml_frames.specs.declared.frames.Callee.TheVariants as callee
 use Rattle.aml_frames.specs.declared.frames.Items.{Items}
 use Rattle.aml_frames.specs.declared.frames.Loop.{Loop}
 use Rattle.aml_frames.specs.declared.frames.Frame.{Frame}
@@ -36,6 +46,10 @@ use Rattle.aml_frames.specs.declared.frames.Frame.TheVariants as frames
 use Rattle.aml_frames.specs.declared.frames.Next.{Next}
 use Rattle.aml_frames.specs.declared.frames.Next.TheVariants as next
 use Rattle.aml_frames.specs.Places.{Site, place_between, at_place, terms, next_term, behind_term}
+use Rattle.aml_frames.specs.declared.uses.Inquiry.{Inquiry}
+use Rattle.aml_frames.specs.declared.uses.Inquiry.TheVariants as inquiry
+use Rattle.aml_frames.specs.declared.uses.TargetUse.TheVariants as uses
+use Rattle.aml_frames.specs.Uses.{optional, behind_target, use_ends, target_ends, monadic_ends, dyadic_ends, access_run, inquired, counted_back, used, target_run, monadic_done, dyadic_by, dyadic_done}
 use Rattle.aml_frames.specs.Operands.{operator_tree, statement_tree, behind_operator, behind_statement}
 
 abbrev pub place_of : Site → Position → Place
@@ -63,6 +77,15 @@ loop_list l c = all_left (behind_term (loop_site l c) l.levels) l.levels
 abbrev pub behind_operator_at : OperatorKind → Site → ℕ → Site
 behind_operator_at k c levels = at_place c (behind_operator (terms c levels) k c.place)
 
+-- the operators that ask something of what their operand refers to
+abbrev pub inquiry_kind : Inquiry → OperatorKind
+inquiry_kind inquiry.SizeOf = operators.SizeOf
+inquiry_kind inquiry.ObjectType = operators.ObjectType
+
+-- behind a name with its arguments
+abbrev pub behind_name_at : Site → ℕ → Site
+behind_name_at c levels = at_place c (turns_of (terms c levels false) (count_at c.marks c.place.at) (a_name c.place).1).1
+
 abbrev pub behind_statement_at : StatementKind → Site → ℕ → Site
 behind_statement_at k c levels = at_place c (behind_statement (terms c levels) k c.place)
 
@@ -86,6 +109,16 @@ ends frames.Return c = c
 ends frames.Pause c = c
 ends frames.Fatal c = c
 ends (frames.Argument k) c = behind_arguments k c
+ends (frames.Operand k levels) c = monadic_ends k levels c
+ends (frames.First k levels) c = dyadic_ends k levels (behind_term c levels)
+ends (frames.Second o) c = dyadic_ends o.kind o.levels c
+ends (frames.Give v) c = c
+ends (frames.Quotient levels q) c = behind_target (optional levels) c
+ends frames.Found c = c
+ends (frames.IndexTarget u) c = use_ends u c
+ends (frames.DerefTarget u) c = use_ends u c
+ends (frames.Referent i) c = c
+ends (frames.Counted k p h) c = c
 
 -- and when all that a step leaves is done
 abbrev pub next_ends : Next → Site → Site
@@ -95,6 +128,10 @@ next_ends (next.Items i) c = at_position c i.outer
 next_ends (next.ItemsThen i x) c = ends x (at_position c i.outer)
 next_ends (next.Body b) c = c
 next_ends (next.BodyThen b x) c = ends x c
+next_ends (next.Target t u) c = target_ends t u c
+next_ends (next.TargetThen t u x) c = ends x (target_ends t u c)
+next_ends (next.Access a) c = c
+next_ends (next.AccessThen a x) c = ends x c
 
 -- a step of a rule ends where the rule ends
 abbrev pub EndsAt : Outcome Next → Site → Site → Type 0
@@ -127,9 +164,23 @@ module _ {S : Type 0} (accesses : Accesses S) (ev : Task → Run S Flow) where
   abbrev pub branch_at : Site → ℕ → Position → Bool → Run S Flow
   branch_at c levels o holds = branch ev c.scope c.depth (all_left c levels) (else_of (Some (maybe_else (terms c levels) (place_of c o)).0)) holds
 
+  -- a call whose arguments are evaluated; `\_OSI` has no body
+  abbrev pub called : Callee → ℕ → List Value → Run S Flow
+  called (callee.Method p body) depth vs = invoked ev depth p body vs
+  called callee.Osi depth vs = do
+    few ← settle (shallow depth)
+    v ← lift (osi_answered vs)
+    give (flow.Value v)
+
   -- the arguments of a call that are left behind those that are done, and then the call
   abbrev pub arguments_left : Call → List Value → Site → Run S Flow
-  arguments_left k done c = arguments_in_turn ev c.scope c.depth (trees_of (turns_of (terms c k.levels false) k.left c.place).0) done >>= invoked ev c.depth k.path k.body
+  arguments_left k done c = arguments_in_turn ev c.scope c.depth (trees_of (turns_of (terms c k.levels false) k.left c.place).0) done >>= called k.callee c.depth
+
+  -- a name where a value stands, with its arguments behind it
+  unfoldable pub name_run : Site → ℕ → Run S Flow
+  name_run c levels = do
+    i ← lift (invocation_found c.scope (a_name c.place).0 (count_at c.marks c.place.at))
+    invocation_rule accesses ev c.scope c.depth (trees_of (turns_of (terms c levels false) (count_at c.marks c.place.at) (a_name c.place).1).0) i
 
   -- an operator and a statement whose operands stand next
   abbrev pub operator_run : OperatorKind → Site → ℕ → Run S Flow
@@ -137,6 +188,10 @@ module _ {S : Type 0} (accesses : Accesses S) (ev : Task → Run S Flow) where
 
   abbrev pub statement_run : StatementKind → Site → ℕ → Run S Flow
   statement_run k c levels = statement_rule ev k c.scope c.depth (statement_tree (terms c levels) k c.place)
+
+  -- the term that stands next, whose step is paid
+  abbrev pub begun_run : Site → ℕ → Run S Flow
+  begun_run c levels = code_rule accesses ev (code_of (next_term c levels)) c.scope c.depth (next_term c levels)
 
   -- a term whose opcode was read, by the place of its row
   abbrev pub coded_run : RowPlace → Site → ℕ → Run S Flow
@@ -166,6 +221,38 @@ module _ {S : Type 0} (accesses : Accesses S) (ev : Task → Run S Flow) where
   resumed (frames.Argument k) c f = do
     v ← settle (value_in f)
     arguments_left k (k.done.items ++ v ∷ []) c
+  resumed (frames.Operand k levels) c f = do
+    v ← settle (value_in f)
+    monadic_done accesses ev k levels v c
+  resumed (frames.First k levels) c f = do
+    v ← settle (value_in f)
+    u ← operand_value ev c.scope c.depth (next_term c levels)
+    dyadic_by accesses ev k levels v u (behind_term c levels)
+  resumed (frames.Second o) c f = do
+    u ← settle (value_in f)
+    dyadic_done accesses ev o u c
+  resumed (frames.Give v) c f = give (flow.Value v)
+  resumed (frames.Quotient levels q) c f = target_run accesses ev (optional levels) (uses.Store q) c
+  resumed frames.Found c f = do
+    v ← lift (integer_kept 18446744073709551615)
+    give (flow.Value v)
+  resumed (frames.IndexTarget u) c f = do
+    v ← settle (value_in f)
+    r ← settle (reference_in v)
+    used accesses ev u c (targets.Refers r)
+  resumed (frames.DerefTarget u) c f = do
+    v ← settle (value_in f)
+    r ← settle (reference_in v)
+    there ← lift (tested r)
+    used accesses ev u c (targets.Refers r)
+  resumed (frames.Referent i) c f = do
+    v ← settle (value_in f)
+    r ← lift (value_followed (references_followed most_references) v)
+    inquired accesses ev i c r
+  resumed (frames.Counted k p h) c f = do
+    v ← settle (value_in f)
+    n ← lift (integer_in v)
+    counted_back accesses ev k p (held.Field h) c n
 
   -- what is left to do
   abbrev pub next_run : Next → Site → Run S Flow
@@ -175,6 +262,10 @@ module _ {S : Type 0} (accesses : Accesses S) (ev : Task → Run S Flow) where
   next_run (next.ItemsThen i x) c = items_run i c >>= resumed x (at_position c i.outer)
   next_run (next.Body b) c = body_run b
   next_run (next.BodyThen b x) c = body_run b >>= resumed x c
+  next_run (next.Target t u) c = target_run accesses ev t u c
+  next_run (next.TargetThen t u x) c = target_run accesses ev t u c >>= resumed x (target_ends t u c)
+  next_run (next.Access a) c = access_run accesses ev a
+  next_run (next.AccessThen a x) c = access_run accesses ev a >>= resumed x c
 
   abbrev pub followed : Outcome Next → Site → Run S Flow
   followed (Ok n) c = next_run n c

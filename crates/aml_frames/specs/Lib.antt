@@ -2,4 +2,5 @@ pub mod Follow
 pub mod Operands
 pub mod Places
 pub mod Stack
+pub mod Uses
 pub mod Weights

@@ -1,13 +1,67 @@
 -- How much each frame may ask for without a step being paid: the sum falls while no term begins.
-use Rattle.std.specs.Prelude.{ℕ, ◌+◌}
+use Rattle.std.specs.Prelude.{ℕ, zero, suc, ◌+◌, ◌*◌}
 use Rattle.aml_frames.specs.declared.frames.Frame.{Frame}
 use Rattle.aml_frames.specs.declared.frames.Frame.TheVariants as frames
 use Rattle.aml_frames.specs.declared.frames.Next.{Next}
 use Rattle.aml_frames.specs.declared.frames.Next.TheVariants as next
+use Rattle.aml_frames.specs.declared.uses.Access.{Access}
+use Rattle.aml_frames.specs.declared.uses.Accessed.{Accessed}
+use Rattle.aml_frames.specs.declared.uses.Accessed.TheVariants as object
+use Rattle.aml_frames.specs.declared.uses.TargetUse.{TargetUse}
+use Rattle.aml_frames.specs.declared.uses.TargetUse.TheVariants as uses
 
--- a frame that waits for a list weighs 1, and one that waits for a term 3
+-- ---- accesses of fields, by how many calls may be made one inside another: an address has three parts, each of which may be a field
+
+-- more than the units of any field, which has fewer than 2^32 bits
+abbrev pub most_units : ℕ
+most_units = 4294967296
+
+unfoldable pub region_weight : ℕ → ℕ
+region_weight zero = 40
+region_weight (suc n) = 3 * (most_units * (4 * region_weight n + 20) + 40) + 40
+
+unfoldable pub field_weight : ℕ → ℕ
+field_weight n = most_units * (4 * region_weight n + 20) + 40
+
+abbrev pub accessed_weight : ℕ → Accessed → ℕ
+accessed_weight calls (object.Field f) = field_weight calls
+accessed_weight calls (object.Unit f) = region_weight calls
+
+abbrev pub access_weight : Access → ℕ
+access_weight a = accessed_weight a.calls a.object
+
+-- the most that an access of a term asks for: 32 calls may be made one inside another
+unfoldable pub most : ℕ
+most = field_weight 32
+
+-- ---- targets
+
+abbrev pub use_weight : TargetUse → ℕ
+use_weight (uses.Store v) = most + 4
+use_weight (uses.CopyObject v) = most + 4
+use_weight (uses.Count k) = 2 * most + 12
+use_weight (uses.Inquire i) = most + 4
+use_weight uses.Acquire = 4
+use_weight uses.Release = 4
+use_weight uses.RefOf = 4
+use_weight (uses.CondRefOf levels) = most + 20
+use_weight (uses.Notify levels) = 4
+
+abbrev pub target_weight : TargetUse → ℕ
+target_weight u = use_weight u + 8
+
+-- ---- frames: one that waits for a list weighs 1, and one that waits for a term 3 and what it asks for then
+
 abbrev pub weight : Frame → ℕ
 weight (frames.Turn l) = 1
+weight (frames.Operand k levels) = most + 12
+weight (frames.First k levels) = 2 * most + 22
+weight (frames.Second o) = 2 * most + 22
+weight (frames.Quotient levels q) = most + 10
+weight (frames.IndexTarget u) = use_weight u + 5
+weight (frames.DerefTarget u) = use_weight u + 5
+weight (frames.Referent i) = most + 1
+weight (frames.Counted k p h) = most + 8
 weight _ = 3
 
 abbrev pub next_weight : Next → ℕ
@@ -17,3 +71,15 @@ next_weight (next.Items i) = 4
 next_weight (next.ItemsThen i x) = 4 + weight x
 next_weight (next.Body b) = 5
 next_weight (next.BodyThen b x) = 5 + weight x
+next_weight (next.Target t u) = target_weight u
+next_weight (next.TargetThen t u x) = target_weight u + weight x
+next_weight (next.Access a) = access_weight a
+next_weight (next.AccessThen a x) = access_weight a + weight x
+
+-- ---- steps: each pays for what a term asks for when it begins
+
+unfoldable pub step_weight : ℕ
+step_weight = 3 * most + 100
+
+unfoldable pub charged : ℕ → ℕ
+charged steps = step_weight * steps

@@ -9,9 +9,12 @@ ghost use Rattle.aml_grammar.specs.State.{is_next};
 ghost use Rattle.aml_marked.specs.Marked.{Below, count_at, first, over, name_length, a_name, a_size, a_term, a_call, a_target, turns_of, with_row, maybe_else};
 ghost use Rattle.aml_scan.specs.RowsAt.{row_at};
 ghost use Rattle.aml_scan.specs.declared.row_places.RowPlace.{RowPlace};
-ghost use Rattle.aml_frames.specs.Places.{Stands, place_between, end_of, at_place, terms};
+ghost use Rattle.aml_meaning.specs.Terms.{target_kind};
+ghost use Rattle.aml_frames.specs.Places.{Stands, place_between, end_of, at_place, terms, next_term, behind_term};
 
 use crate::frames::Items;
+use aml_grammar::TermReader;
+use aml_meaning::{TargetKind, target_kind};
 use aml_namespace::Scope;
 use aml_objects::{Body, NodeId};
 use aml_path::{NameString, Path};
@@ -256,6 +259,24 @@ impl Activation {
     {
         let mut cursor = self.cursor();
         cursor.over_name();
+        let position = position_of(&cursor);
+        self.go_to(position);
+    }
+
+    /// How the term that stands next names a target, with so many levels.
+    pub fn target_kind(&self, levels: u8) -> TargetKind
+        ensures { result ≡ target_kind (code_of (next_term self.now levels)) }
+    {
+        target_kind(self.cursor().term(&self.marks, levels).code())
+    }
+
+    /// Goes over the term that stands next.
+    #[tactic(auto, using(crate::proofs::Between::moving))]
+    pub fn over_term(&mut self, levels: u8)
+        ensures { self.new ≡ behind_term self.old levels }
+    {
+        let mut cursor = self.cursor();
+        cursor.over_term(&self.marks, levels);
         let position = position_of(&cursor);
         self.go_to(position);
     }

@@ -5,13 +5,14 @@ ghost use Rattle.aml_objects.specs.declared.value.Value.TheVariants.{Uninitializ
 ghost use Rattle.aml_meaning.specs.Meaning.{meaning};
 ghost use Rattle.aml_meaning.specs.Invocations.{shallow, frame_arguments, invoked};
 ghost use Rattle.aml_frames.specs.declared.frames.Frame.TheVariants as frames;
-ghost use Rattle.aml_frames.specs.Follow.{arguments_left, behind_arguments, resumed, ends, Leads, EndsAt};
+ghost use Rattle.aml_frames.specs.Follow.{called, arguments_left, behind_arguments, resumed, ends, Leads, EndsAt};
 ghost use Rattle.aml_frames.specs.Weights.{next_weight};
 
 use crate::activation::{Activation, MethodPath};
-use crate::frames::{Call, Frame, Next};
+use crate::frames::{Call, Callee, Frame, Next};
 use aml_meaning::{Flow, Running};
-use aml_objects::Value;
+use aml_objects::{Body, Value};
+use aml_path::Path;
 use ar_space::{EvaluationFault, Refusal, Space};
 use std::alloc::Global;
 
@@ -33,7 +34,7 @@ pub fn begin_call<S: Space>(
     ensures ends { EndsAt result act.new (behind_arguments call act.old) }
 {
     if call.left == 0 {
-        return begin_body(alloc, run, act, call);
+        return begin_callee(alloc, run, act, call);
     }
     let levels = call.levels;
     Ok(Next::Term(
@@ -66,9 +67,9 @@ pub(crate) fn resume_argument<S: Space>(
     begin_call(alloc, run, act, call)
 }
 
-/// The body of a called control method, in a frame of slots of its own.
-#[tactic(auto, using(crate::proofs::Stepping::calls), unfolding(aml_meaning::specs::Invocations::invoked))]
-fn begin_body<S: Space>(
+/// A call whose arguments are evaluated.
+#[tactic(auto, using(crate::proofs::Stepping::calls))]
+fn begin_callee<S: Space>(
     alloc: Global,
     run: &mut Running<S>,
     act: &Activation,
@@ -77,15 +78,42 @@ fn begin_body<S: Space>(
     ensures spent { run.new.1 ≤ run.old.1 }
     ensures falls { IfOk result (λ n. next_weight n < 6) }
     ensures means { Leads S.accesses (meaning S.accesses) result act.now run.new
-        (invoked (meaning S.accesses) act.now.depth call.path call.body call.done.items) run.old }
+        (called S.accesses (meaning S.accesses) call.callee act.now.depth call.done.items) run.old }
+    ensures ends { EndsAt result act.now act.now }
+{
+    let done = call.done;
+    match call.callee {
+        Callee::Method(path, body) => begin_body(alloc, run, act, path, body, &done),
+        Callee::Osi => {
+            shallow(act.depth())?;
+            let value = run.world.osi(&done)?;
+            Ok(Next::Flow(Flow::Value(value)))
+        }
+    }
+}
+
+/// The body of a called control method, in a frame of slots of its own.
+#[tactic(auto, using(crate::proofs::Stepping::calls), unfolding(aml_meaning::specs::Invocations::invoked))]
+fn begin_body<S: Space>(
+    alloc: Global,
+    run: &mut Running<S>,
+    act: &Activation,
+    path: Path,
+    body: Body,
+    arguments: &[Value],
+) -> Result<Next, Refusal>
+    ensures spent { run.new.1 ≤ run.old.1 }
+    ensures falls { IfOk result (λ n. next_weight n < 6) }
+    ensures means { Leads S.accesses (meaning S.accesses) result act.now run.new
+        (invoked (meaning S.accesses) act.now.depth path body arguments.now) run.old }
     ensures ends { EndsAt result act.now act.now }
 {
     shallow(act.depth())?;
-    let marks = run.world.body_marks(alloc, &call.path, &call.body)?;
-    let node = run.world.scope(&call.path).node;
-    let method = MethodPath::new(alloc, call.path)?;
-    let body = Activation::new(call.body, marks, method, node, act.depth() + 1);
-    run.world.open_frame(frame_arguments(&call.done))?;
+    let marks = run.world.body_marks(alloc, &path, &body)?;
+    let node = run.world.scope(&path).node;
+    let method = MethodPath::new(alloc, path)?;
+    let body = Activation::new(body, marks, method, node, act.depth() + 1);
+    run.world.open_frame(frame_arguments(arguments))?;
     Ok(Next::Body(body))
 }
 

@@ -1,8 +1,9 @@
 //! What a step of evaluation leaves to do, and what waits for it in memory.
 
 use crate::activation::{Activation, MethodPath, Position};
-use aml_meaning::Flow;
-use aml_objects::{Body, Value};
+use crate::uses::{Access, Dyadic, Inquiry, Monadic, SecondOperand, Target, TargetUse};
+use aml_meaning::{Count, Flow, StoreTarget};
+use aml_objects::{Body, Field, Value};
 use aml_path::Path;
 
 /// The items of a list that are left.
@@ -27,13 +28,20 @@ pub struct Loop {
     pub outer: Position,
 }
 
-/// A call of a control method, while its arguments are evaluated from left to right.
+/// What is called.
+#[derive(Drop)]
+pub enum Callee {
+    /// The control method at this path, with a share of its body.
+    Method(Path, Body),
+    /// The predefined control method `\_OSI`, which has no body.
+    Osi,
+}
+
+/// A call, while its arguments are evaluated from left to right.
 #[derive(Drop)]
 pub struct Call {
-    /// The path of the control method.
-    pub path: Path,
-    /// A share of its body.
-    pub body: Body,
+    /// What is called.
+    pub callee: Callee,
     /// How many arguments are left.
     pub left: u8,
     /// How many levels of terms are read below the call.
@@ -61,6 +69,26 @@ pub enum Frame {
     Fatal,
     /// A call, while an argument is evaluated; those behind it are left.
     Argument(Call),
+    /// An operator with so many levels below it, while its only operand is evaluated.
+    Operand(Monadic, u8),
+    /// An operator with so many levels below it, while the first of its operands is evaluated.
+    First(Dyadic, u8),
+    /// The same, while the second one is.
+    Second(SecondOperand),
+    /// A term whose value this is, while it is stored.
+    Give(Value),
+    /// A Divide with so many levels below it, while its remainder is stored: its quotient.
+    Quotient(u8, Value),
+    /// A CondRefOf that found a name, while the reference is stored.
+    Found,
+    /// A target that is an Index, while its value is evaluated.
+    IndexTarget(TargetUse),
+    /// A target that is a DerefOf, while its operand is evaluated.
+    DerefTarget(TargetUse),
+    /// SizeOf or ObjectType of a term that refers, while its value is evaluated.
+    Referent(Inquiry),
+    /// Increment or Decrement of a field that the target leads to, while it is read.
+    Counted(Count, StoreTarget, Field),
 }
 
 /// What a step leaves to do.
@@ -78,6 +106,14 @@ pub enum Next {
     Body(Activation),
     /// The body of a control method, and then a frame.
     BodyThen(Activation, Frame),
+    /// The target that stands next, and what is done with it.
+    Target(Target, TargetUse),
+    /// The same, and then a frame.
+    TargetThen(Target, TargetUse, Frame),
+    /// An access of a field.
+    Access(Access),
+    /// An access of a field, and then a frame.
+    AccessThen(Access, Frame),
 }
 
 /// What stands on the stack.
@@ -90,12 +126,16 @@ pub enum Entry {
 }
 
 /// What the machine does at its next step.
-#[derive(Clone, Copy)]
+#[derive(Drop)]
 pub enum Control {
     /// It begins the term that stands next, with so many levels.
     Term(u8),
     /// It begins a list.
     Items(Items),
+    /// It finds the target that stands next.
+    Target(Target, TargetUse),
+    /// It accesses a field.
+    Access(Access),
     /// It hands a flow to what waits for it.
     Flow(Flow),
 }

@@ -4,21 +4,33 @@
 //! step of a term takes it up to the first part that is evaluated, and leaves what is to be done then (`Next`).
 #![tactic(auto)]
 
+mod accesses;
 mod activation;
 mod calls;
 mod frames;
 mod lists;
+mod names;
+mod operators;
+mod references;
 mod resuming;
 mod stack;
 mod statements;
+mod target_uses;
+mod targets;
 mod terms;
+mod uses;
 mod values;
 
 pub use activation::{Activation, MethodPath, Position};
 pub use calls::begin_call;
-pub use frames::{Call, Control, Entry, Frame, Items, Loop, Next};
+pub use frames::{Call, Callee, Control, Entry, Frame, Items, Loop, Next};
 pub use lists::begin_items;
+pub use names::begin_name;
+pub use operators::begin_operator;
 pub use resuming::resume;
 pub use stack::evaluate;
-pub use statements::{begin_fatal, begin_if, begin_list, begin_pause, begin_return, begin_while};
+pub use statements::begin_statement;
 pub use terms::Terms;
+pub use uses::{
+    Access, Accessed, Doing, Dyadic, Inquiry, Monadic, Reading, Target, TargetForm, TargetUse,
+};

@@ -8,7 +8,11 @@ ghost use Rattle.aml_frames.specs.Weights.{weight, next_weight};
 use crate::activation::{Activation, Position};
 use crate::calls::resume_argument;
 use crate::frames::{Frame, Items, Loop, Next};
+use crate::operators::{resume_first, resume_operand, resume_quotient, resume_second};
+use crate::references::{resume_found, resume_referent};
 use crate::statements::next_branch;
+use crate::target_uses::resume_counted;
+use crate::targets::{resume_dereferenced, resume_index_target};
 use crate::values::integer_of;
 use aml_convert::is_true;
 use aml_meaning::{Flow, Running};
@@ -182,5 +186,19 @@ pub fn resume<S: Space>(
         Frame::Pause => resume_pause(run, act, flow),
         Frame::Fatal => resume_fatal(run, act, flow),
         Frame::Argument(call) => resume_argument(alloc, run, act, call, flow),
+        Frame::Operand(kind, levels) => resume_operand(alloc, run, act, kind, levels, flow),
+        Frame::First(kind, levels) => resume_first(run, act, kind, levels, flow),
+        Frame::Second(operator) => resume_second(alloc, run, act, operator, flow),
+        Frame::Give(value) => Ok(Next::Flow(Flow::Value(value))),
+        Frame::Quotient(levels, quotient) => {
+            resume_quotient(alloc, run, act, levels, quotient, flow)
+        }
+        Frame::Found => resume_found(run, act, flow),
+        Frame::IndexTarget(target_use) => resume_index_target(alloc, run, act, target_use, flow),
+        Frame::DerefTarget(target_use) => resume_dereferenced(alloc, run, act, target_use, flow),
+        Frame::Referent(inquiry) => resume_referent(run, act, inquiry, flow),
+        Frame::Counted(count, target, field) => {
+            resume_counted(alloc, run, act, (count, target, field), flow)
+        }
     }
 }

@@ -9,13 +9,15 @@ ghost use Rattle.aml_frames.specs.declared.frames.Control.TheVariants as control
 ghost use Rattle.aml_frames.specs.declared.frames.Entry.TheVariants as entry;
 ghost use Rattle.aml_frames.specs.Follow.{body_run, next_run, next_ends};
 ghost use Rattle.aml_frames.specs.Stack.{whole, then_all, machine, Goes, stack_weight, entry_weight, control_weight};
-ghost use Rattle.aml_frames.specs.Weights.{next_weight};
+ghost use Rattle.aml_frames.specs.Weights.{next_weight, target_weight, access_weight, charged};
 
 use crate::activation::{Activation, Position};
 use crate::frames::{Control, Entry, Frame, Items, Next};
 use crate::lists::begin_items;
 use crate::resuming::resume;
-use crate::terms::Terms;
+use crate::targets::begin_target;
+use crate::terms::{Terms, begin_term};
+use crate::uses::{Access, Target, TargetUse};
 use aml_meaning::{Flow, Running};
 use aml_path::Path;
 use aml_terms::LEVELS;
@@ -118,6 +120,22 @@ fn execute<S: Space, T: Terms<S>>(
                     return Err(refusal);
                 }
             },
+            Control::Target(target, target_use) => {
+                match step_target(alloc, run, &mut stack, target, target_use) {
+                    Ok(after) => control = after,
+                    Err(refusal) => {
+                        unwind(run, &mut stack, &refusal);
+                        return Err(refusal);
+                    }
+                }
+            }
+            Control::Access(access) => match step_access(alloc, terms, run, &mut stack, access) {
+                Ok(after) => control = after,
+                Err(refusal) => {
+                    unwind(run, &mut stack, &refusal);
+                    return Err(refusal);
+                }
+            },
             Control::Flow(flow) => match stack.entries.pop() {
                 None => return Ok(flow),
                 Some(top) => match step_entry(alloc, run, &mut stack, top, flow) {
@@ -142,11 +160,11 @@ fn step_term<S: Space, T: Terms<S>>(
     stack: &mut Stack,
     levels: u8,
 ) -> Result<Control, Refusal>
-    ensures falls { IfOk result (λ c. 20 * run.new.1 + (stack_weight stack.new.entries.items + control_weight c) < 20 * run.old.1 + stack_weight stack.old.entries.items) }
+    ensures falls { IfOk result (λ c. charged run.new.1 + (stack_weight stack.new.entries.items + control_weight c) < charged run.old.1 + stack_weight stack.old.entries.items) }
     ensures means { Goes S.accesses (meaning S.accesses) result stack.new.act stack.new.entries.items run.new
         (machine S.accesses (meaning S.accesses) (control.Term levels) stack.old.act stack.old.entries.items) run.old }
 {
-    let next = terms.begin(alloc, run, &mut stack.act, levels)?;
+    let next = begin_term(alloc, terms, run, &mut stack.act, levels)?;
     follow(run, stack, next)
 }
 
@@ -158,11 +176,47 @@ fn step_items<S: Space>(
     stack: &mut Stack,
     items: Items,
 ) -> Result<Control, Refusal>
-    ensures falls { IfOk result (λ c. 20 * run.new.1 + (stack_weight stack.new.entries.items + control_weight c) < 20 * run.old.1 + (stack_weight stack.old.entries.items + 4)) }
+    ensures falls { IfOk result (λ c. charged run.new.1 + (stack_weight stack.new.entries.items + control_weight c) < charged run.old.1 + (stack_weight stack.old.entries.items + 4)) }
     ensures means { Goes S.accesses (meaning S.accesses) result stack.new.act stack.new.entries.items run.new
         (machine S.accesses (meaning S.accesses) (control.Items items) stack.old.act stack.old.entries.items) run.old }
 {
     let next = begin_items(run, &mut stack.act, items);
+    follow(run, stack, next)
+}
+
+/// A target is found, and used.
+#[inline(always)]
+#[tactic(auto, using(crate::proofs::Machine::taking))]
+fn step_target<S: Space>(
+    alloc: Global,
+    run: &mut Running<S>,
+    stack: &mut Stack,
+    target: Target,
+    target_use: TargetUse,
+) -> Result<Control, Refusal>
+    ensures falls { IfOk result (λ c. charged run.new.1 + (stack_weight stack.new.entries.items + control_weight c) < charged run.old.1 + (stack_weight stack.old.entries.items + target_weight target_use)) }
+    ensures means { Goes S.accesses (meaning S.accesses) result stack.new.act stack.new.entries.items run.new
+        (machine S.accesses (meaning S.accesses) (control.Target target target_use) stack.old.act stack.old.entries.items) run.old }
+{
+    let next = begin_target(alloc, run, &mut stack.act, target, target_use)?;
+    follow(run, stack, next)
+}
+
+/// A field is accessed.
+#[inline(always)]
+#[tactic(auto, using(crate::proofs::Machine::taking))]
+fn step_access<S: Space, T: Terms<S>>(
+    alloc: Global,
+    terms: &T,
+    run: &mut Running<S>,
+    stack: &mut Stack,
+    access: Access,
+) -> Result<Control, Refusal>
+    ensures falls { IfOk result (λ c. charged run.new.1 + (stack_weight stack.new.entries.items + control_weight c) < charged run.old.1 + (stack_weight stack.old.entries.items + access_weight access)) }
+    ensures means { Goes S.accesses (meaning S.accesses) result stack.new.act stack.new.entries.items run.new
+        (machine S.accesses (meaning S.accesses) (control.Access access) stack.old.act stack.old.entries.items) run.old }
+{
+    let next = terms.access(alloc, run, &stack.act, access)?;
     follow(run, stack, next)
 }
 
@@ -176,7 +230,7 @@ fn step_entry<S: Space>(
     top: Entry,
     flow: Flow,
 ) -> Result<Control, Refusal>
-    ensures falls { IfOk result (λ c. 20 * run.new.1 + (stack_weight stack.new.entries.items + control_weight c) < 20 * run.old.1 + (stack_weight stack.old.entries.items + entry_weight top + 3)) }
+    ensures falls { IfOk result (λ c. charged run.new.1 + (stack_weight stack.new.entries.items + control_weight c) < charged run.old.1 + (stack_weight stack.old.entries.items + entry_weight top + 3)) }
     ensures means { Goes S.accesses (meaning S.accesses) result stack.new.act stack.new.entries.items run.new
         (machine S.accesses (meaning S.accesses) (control.Flow flow) stack.old.act (stack.old.entries.items ++ top ∷ [])) run.old }
 {
@@ -212,6 +266,16 @@ fn follow<S: Space>(run: &mut Running<S>, stack: &mut Stack, next: Next) -> Resu
         Next::ItemsThen(items, frame) => {
             stack.entries.push(Entry::Frame(frame))?;
             Ok(Control::Items(items))
+        }
+        Next::Target(target, target_use) => Ok(Control::Target(target, target_use)),
+        Next::TargetThen(target, target_use, frame) => {
+            stack.entries.push(Entry::Frame(frame))?;
+            Ok(Control::Target(target, target_use))
+        }
+        Next::Access(access) => Ok(Control::Access(access)),
+        Next::AccessThen(access, frame) => {
+            stack.entries.push(Entry::Frame(frame))?;
+            Ok(Control::Access(access))
         }
         Next::Body(body) => run_in(run, stack, body),
         Next::BodyThen(body, frame) => {

@@ -1,5 +1,5 @@
 //! Statements: what is done before their first part is evaluated (ACPI 6.5, 19.6 and 20.2.5.3). The operands stand next.
-ghost use Rattle.std.specs.Prelude.{◌≡◌, ◌≤◌, ◌<◌, Ok, Some, IfOk};
+ghost use Rattle.std.specs.Prelude.{◌≡◌, ◌≤◌, ◌<◌, ◌+◌, ◌*◌, Ok, Some, IfOk};
 ghost use Rattle.aml_marked.specs.Marked.{maybe_else};
 ghost use Rattle.aml_meaning.specs.Meaning.{meaning};
 ghost use Rattle.aml_meaning.specs.StatementTerms.{otherwise};
@@ -7,22 +7,72 @@ ghost use Rattle.aml_meaning.specs.Terms.{else_of};
 ghost use Rattle.aml_meaning.specs.declared.term_kind.StatementKind.TheVariants as statements;
 ghost use Rattle.aml_frames.specs.Places.{at_place, terms};
 ghost use Rattle.aml_frames.specs.Follow.{behind_else, statement_run, branch_at, behind_statement_at, next_ends, Leads, EndsAt};
-ghost use Rattle.aml_frames.specs.Weights.{next_weight};
+ghost use Rattle.aml_frames.specs.Weights.{most, next_weight};
 
 use crate::activation::{Activation, Position};
 use crate::frames::{Frame, Loop, Next};
-use aml_meaning::{Flow, Running};
+use crate::targets::begin_target;
+use crate::uses::{Target, TargetUse};
+use aml_meaning::{Flow, Running, StatementKind};
 use aml_terms::ELSE;
 use ar_space::{Refusal, Space};
+use std::alloc::Global;
+
+/// A statement: its first part is evaluated, or it is done.
+#[tactic(auto, using(crate::proofs::Using::operating))]
+pub fn begin_statement<S: Space>(
+    alloc: Global,
+    run: &mut Running<S>,
+    act: &mut Activation,
+    levels: u8,
+    kind: StatementKind,
+) -> Result<Next, Refusal>
+    ensures spent { run.new.1 ≤ run.old.1 }
+    ensures falls { IfOk result (λ n. next_weight n < 3 * most + 100) }
+    ensures means { Leads S.accesses (meaning S.accesses) result act.new run.new
+        (statement_run S.accesses (meaning S.accesses) kind act.old levels) run.old }
+    ensures ends { EndsAt result act.new (behind_statement_at kind act.old levels) }
+{
+    match kind {
+        StatementKind::If => begin_if(run, act, levels),
+        StatementKind::Else => Ok(begin_list(run, act, levels)),
+        StatementKind::While => begin_while(run, act, levels),
+        StatementKind::Break => Ok(Next::Flow(Flow::Break)),
+        StatementKind::Continue => Ok(Next::Flow(Flow::Continue)),
+        StatementKind::Noop => Ok(Next::Flow(Flow::Next)),
+        StatementKind::Return => begin_return(run, act, levels),
+        StatementKind::Release => {
+            begin_target(
+                alloc,
+                run,
+                act,
+                Target::super_name(levels),
+                TargetUse::Release,
+            )
+        }
+        StatementKind::Notify => {
+            begin_target(
+                alloc,
+                run,
+                act,
+                Target::super_name(levels),
+                TargetUse::Notify(levels),
+            )
+        }
+        StatementKind::Pause => begin_pause(run, act, levels),
+        StatementKind::Fatal => begin_fatal(run, act, levels),
+    }
+}
 
 /// Return: its argument is evaluated.
 #[tactic(auto, using(crate::proofs::Stepping::stepping), unfolding(aml_meaning::specs::StatementTerms::return_rule))]
-pub fn begin_return<S: Space>(
+fn begin_return<S: Space>(
     run: &mut Running<S>,
     act: &mut Activation,
     levels: u8,
 ) -> Result<Next, Refusal>
     ensures spent { run.new.1 ≤ run.old.1 }
+    ensures falls { IfOk result (λ n. next_weight n < 6) }
     ensures means { Leads S.accesses (meaning S.accesses) result act.new run.new
         (statement_run S.accesses (meaning S.accesses) statements.Return act.old levels) run.old }
     ensures ends { EndsAt result act.new (behind_statement_at statements.Return act.old levels) }
@@ -32,12 +82,13 @@ pub fn begin_return<S: Space>(
 
 /// Stall and Sleep: the time is evaluated.
 #[tactic(auto, using(crate::proofs::Stepping::stepping), unfolding(aml_meaning::specs::StatementTerms::pause_rule))]
-pub fn begin_pause<S: Space>(
+fn begin_pause<S: Space>(
     run: &mut Running<S>,
     act: &mut Activation,
     levels: u8,
 ) -> Result<Next, Refusal>
     ensures spent { run.new.1 ≤ run.old.1 }
+    ensures falls { IfOk result (λ n. next_weight n < 6) }
     ensures means { Leads S.accesses (meaning S.accesses) result act.new run.new
         (statement_run S.accesses (meaning S.accesses) statements.Pause act.old levels) run.old }
     ensures ends { EndsAt result act.new (behind_statement_at statements.Pause act.old levels) }
@@ -47,12 +98,13 @@ pub fn begin_pause<S: Space>(
 
 /// Fatal: its argument is evaluated, which stands behind a byte and a double word.
 #[tactic(auto, using(crate::proofs::Stepping::leads_fatal))]
-pub fn begin_fatal<S: Space>(
+fn begin_fatal<S: Space>(
     run: &mut Running<S>,
     act: &mut Activation,
     levels: u8,
 ) -> Result<Next, Refusal>
     ensures spent { run.new.1 ≤ run.old.1 }
+    ensures falls { IfOk result (λ n. next_weight n < 6) }
     ensures means { Leads S.accesses (meaning S.accesses) result act.new run.new
         (statement_run S.accesses (meaning S.accesses) statements.Fatal act.old levels) run.old }
     ensures ends { EndsAt result act.new (behind_statement_at statements.Fatal act.old levels) }
@@ -64,12 +116,13 @@ pub fn begin_fatal<S: Space>(
 
 /// If: its predicate is evaluated.
 #[tactic(auto, using(crate::proofs::Stepping::branching))]
-pub fn begin_if<S: Space>(
+fn begin_if<S: Space>(
     run: &mut Running<S>,
     act: &mut Activation,
     levels: u8,
 ) -> Result<Next, Refusal>
     ensures spent { run.new.1 ≤ run.old.1 }
+    ensures falls { IfOk result (λ n. next_weight n < 6) }
     ensures means { Leads S.accesses (meaning S.accesses) result act.new run.new
         (statement_run S.accesses (meaning S.accesses) statements.If act.old levels) run.old }
     ensures ends { EndsAt result act.new (behind_statement_at statements.If act.old levels) }
@@ -126,7 +179,7 @@ fn next_otherwise<S: Space>(
 
 /// The list of a package.
 #[tactic(auto, using(crate::proofs::Stepping::stepping))]
-pub fn begin_list<S: Space>(run: &Running<S>, act: &mut Activation, levels: u8) -> Next
+fn begin_list<S: Space>(run: &Running<S>, act: &mut Activation, levels: u8) -> Next
     ensures falls { next_weight result < 6 }
     ensures means { Leads S.accesses (meaning S.accesses) (Ok result) act.new run.now
         (statement_run S.accesses (meaning S.accesses) statements.Else act.old levels) run.now }
@@ -138,12 +191,13 @@ pub fn begin_list<S: Space>(run: &Running<S>, act: &mut Activation, levels: u8) 
 
 /// While: its predicate is evaluated.
 #[tactic(auto, using(crate::proofs::Stepping::looping))]
-pub fn begin_while<S: Space>(
+fn begin_while<S: Space>(
     run: &mut Running<S>,
     act: &mut Activation,
     levels: u8,
 ) -> Result<Next, Refusal>
     ensures spent { run.new.1 ≤ run.old.1 }
+    ensures falls { IfOk result (λ n. next_weight n < 6) }
     ensures means { Leads S.accesses (meaning S.accesses) result act.new run.new
         (statement_run S.accesses (meaning S.accesses) statements.While act.old levels) run.old }
     ensures ends { EndsAt result act.new (behind_statement_at statements.While act.old levels) }

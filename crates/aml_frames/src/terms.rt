@@ -1,29 +1,147 @@
-//! How terms begin.
-ghost use Rattle.std.specs.Prelude.{◌≤◌};
+//! How terms begin: what is done before the first part of a term is evaluated. The machine goes on with what is left to do.
+ghost use Rattle.std.specs.Prelude.{◌≡◌, ◌≢◌, ◌≤◌, ◌<◌, ◌+◌, ◌*◌, OnOk, IfOk};
+ghost use Rattle.aml_grammar.specs.Apart.{code_of};
+ghost use Rattle.aml_grammar.specs.declared.opcode.Opcode.{Opcode};
+ghost use Rattle.aml_grammar.specs.declared.opcode.TermCode.TheVariants as codes;
+ghost use Rattle.aml_meaning.specs.Meaning.{meaning};
+ghost use Rattle.aml_frames.specs.Places.{next_term, behind_term};
+ghost use Rattle.aml_frames.specs.Follow.{term_run, begun_run, coded_run, behind_coded, Leads, EndsAt};
+ghost use Rattle.aml_frames.specs.Weights.{most, next_weight};
 
 use crate::activation::Activation;
 use crate::frames::Next;
-use aml_meaning::Running;
-use ar_space::{Refusal, Space};
+use crate::names::begin_name;
+use crate::operators::begin_operator;
+use crate::statements::begin_statement;
+use crate::uses::Access;
+use aml_meaning::{Running, TermKind, kind_of};
+use aml_terms::RowPlace;
+use ar_space::{EvaluationFault, NameFault, Refusal, Space};
 use std::alloc::Global;
 
-/// How terms begin: what is done before the first part of a term is evaluated. The machine goes on with what is left to do.
+/// The terms that form data or declare something, and accesses of fields: they have no steps of this crate.
 pub trait Terms<S: Space> {
-    ghost use Rattle.std.specs.Prelude.{◌<◌, OnOk};
+    ghost use Rattle.std.specs.Prelude.{◌≤◌, ◌<◌, ◌+◌, ◌*◌, IfOk};
     ghost use Rattle.aml_meaning.specs.Meaning.{meaning};
-    ghost use Rattle.aml_frames.specs.Places.{behind_term};
-    ghost use Rattle.aml_frames.specs.Follow.{term_run, Leads, EndsAt};
+    ghost use Rattle.aml_frames.specs.Follow.{coded_run, behind_coded, Leads, EndsAt};
+    ghost use Rattle.aml_frames.specs.Uses.{access_run};
+    ghost use Rattle.aml_frames.specs.Weights.{most, next_weight, access_weight};
 
-    /// Begins the term that stands next, with so many levels: it costs a step.
+    /// Begins a term whose operands stand next, by the place of its row, with so many levels.
     fn begin(
         &self,
         alloc: Global,
         run: &mut Running<S>,
         act: &mut Activation,
         levels: u8,
+        place: RowPlace,
     ) -> Result<Next, Refusal>
-        ensures paid { OnOk result (run.new.1 < run.old.1) }
+        ensures spent { run.new.1 ≤ run.old.1 }
+        ensures falls { IfOk result (λ n. next_weight n < 3 * most + 100) }
         ensures means { Leads S.accesses (meaning S.accesses) result act.new run.new
-            (term_run S.accesses (meaning S.accesses) act.old levels) run.old }
-        ensures ends { EndsAt result act.new (behind_term act.old levels) };
+            (coded_run S.accesses (meaning S.accesses) place act.old levels) run.old }
+        ensures ends { EndsAt result act.new (behind_coded place act.old levels) };
+
+    /// Accesses a field.
+    fn access(
+        &self,
+        alloc: Global,
+        run: &mut Running<S>,
+        act: &Activation,
+        access: Access,
+    ) -> Result<Next, Refusal>
+        ensures spent { run.new.1 ≤ run.old.1 }
+        ensures falls { IfOk result (λ n. next_weight n < access_weight access) }
+        ensures means { Leads S.accesses (meaning S.accesses) result act.now run.new
+            (access_run S.accesses (meaning S.accesses) access) run.old }
+        ensures ends { EndsAt result act.now act.now };
+}
+
+/// Begins the term that stands next, with so many levels: it costs a step.
+#[tactic(auto, using(crate::proofs::Using::beginning_terms), unfolding(aml_meaning::specs::Evaluation::rule))]
+pub(crate) fn begin_term<S: Space, T: Terms<S>>(
+    alloc: Global,
+    terms: &T,
+    run: &mut Running<S>,
+    act: &mut Activation,
+    levels: u8,
+) -> Result<Next, Refusal>
+    ensures paid { OnOk result (run.new.1 < run.old.1) }
+    ensures falls { IfOk result (λ n. next_weight n < 3 * most + 100) }
+    ensures means { Leads S.accesses (meaning S.accesses) result act.new run.new
+        (term_run S.accesses (meaning S.accesses) act.old levels) run.old }
+    ensures ends { EndsAt result act.new (behind_term act.old levels) }
+{
+    run.charge()?;
+    begin_paid(alloc, terms, run, act, levels)
+}
+
+/// A term whose step is paid.
+#[tactic(auto, using(crate::proofs::Using::beginning_terms, crate::proofs::Stepping::coding))]
+fn begin_paid<S: Space, T: Terms<S>>(
+    alloc: Global,
+    terms: &T,
+    run: &mut Running<S>,
+    act: &mut Activation,
+    levels: u8,
+) -> Result<Next, Refusal>
+    ensures spent { run.new.1 ≤ run.old.1 }
+    ensures falls { IfOk result (λ n. next_weight n < 3 * most + 100) }
+    ensures means { Leads S.accesses (meaning S.accesses) result act.new run.new
+        (begun_run S.accesses (meaning S.accesses) act.old levels) run.old }
+    ensures ends { EndsAt result act.new (behind_term act.old levels) }
+{
+    match act.take_opcode(levels) {
+        Some(place) => begin_coded(alloc, terms, run, act, levels - 1, place),
+        None => begin_uncoded(alloc, run, act, levels),
+    }
+}
+
+/// A term without an opcode: a name with its arguments. Nothing else is evaluated.
+#[tactic(auto, using(crate::proofs::Using::beginning_terms))]
+fn begin_uncoded<S: Space>(
+    alloc: Global,
+    run: &mut Running<S>,
+    act: &mut Activation,
+    levels: u8,
+) -> Result<Next, Refusal>
+    requires { (opcode : Opcode) → code_of (next_term act.old levels) ≢ codes.Opcode opcode }
+    ensures spent { run.new.1 ≤ run.old.1 }
+    ensures falls { IfOk result (λ n. next_weight n < 3 * most + 100) }
+    ensures means { Leads S.accesses (meaning S.accesses) result act.new run.new
+        (begun_run S.accesses (meaning S.accesses) act.old levels) run.old }
+    ensures ends { EndsAt result act.new (behind_term act.old levels) }
+{
+    if act.is_at_call(levels) {
+        return begin_name(alloc, run, act, levels - 1);
+    }
+    Err(Refusal::Name(NameFault::BadName))
+}
+
+/// A term whose opcode was read, by the place of its row: its operands stand next.
+#[tactic(auto, using(crate::proofs::Using::beginning_terms, crate::proofs::Stepping::coding))]
+fn begin_coded<S: Space, T: Terms<S>>(
+    alloc: Global,
+    terms: &T,
+    run: &mut Running<S>,
+    act: &mut Activation,
+    levels: u8,
+    place: RowPlace,
+) -> Result<Next, Refusal>
+    ensures spent { run.new.1 ≤ run.old.1 }
+    ensures falls { IfOk result (λ n. next_weight n < 3 * most + 100) }
+    ensures means { Leads S.accesses (meaning S.accesses) result act.new run.new
+        (coded_run S.accesses (meaning S.accesses) place act.old levels) run.old }
+    ensures ends { EndsAt result act.new (behind_coded place act.old levels) }
+{
+    match kind_of(place.row().0) {
+        TermKind::Operator(kind) => begin_operator(alloc, run, act, levels, kind),
+        TermKind::Statement(kind) => begin_statement(alloc, run, act, levels, kind),
+        TermKind::Data(_) => terms.begin(alloc, run, act, levels, place),
+        TermKind::Declaration(_) => terms.begin(alloc, run, act, levels, place),
+        TermKind::Region(_) => terms.begin(alloc, run, act, levels, place),
+        TermKind::Unsupported => {
+            Err(Refusal::Evaluation(EvaluationFault::Unsupported(place.row().0.number())))
+        }
+    }
 }

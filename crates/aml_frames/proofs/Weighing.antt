@@ -1,0 +1,68 @@
+-- What steps pay for, and what accesses ask for.
+use Rattle.std.specs.Prelude.{◌≡◌, ◌≤◌, ◌<◌, ◌+◌, ◌*◌, ◌-◌, ℕ, zero, suc, Ok, Err, IfOk, refl}
+use Rattle.std.proofs.Common.{arith, subst}
+use Rattle.ar_space.specs.Outcome.{Outcome}
+use Rattle.aml_frames.specs.declared.frames.Control.{Control}
+use Rattle.aml_frames.specs.Stack.{control_weight}
+use Rattle.aml_frames.specs.Weights.{region_weight, field_weight, most, step_weight, charged}
+
+times_up : (k a b : ℕ) → a ≤ b → k * a ≤ k * b
+times_up zero a b h = omega arith
+times_up (suc k) a b h = let i = times_up k a b h in omega (arith, i, h)
+
+times_paid : (k a b : ℕ) → a < b → k * a + k ≤ k * b
+times_paid zero a b h = omega arith
+times_paid (suc k) a b h = let i = times_paid k a b h in omega (arith, i, h)
+
+pub charged_less : (a b : ℕ) → a ≤ b → charged a ≤ charged b
+unfolding charged
+charged_less a b h = times_up step_weight a b h
+
+pub charged_paid : (a b : ℕ) → a < b → charged a + (3 * most + 100) ≤ charged b
+unfolding charged step_weight
+charged_paid a b h = times_paid (3 * most + 100) a b h
+
+-- an access with fewer calls left asks for less
+region_more : (n : ℕ) → region_weight n ≤ region_weight (suc n)
+unfolding region_weight
+region_more zero = omega arith
+region_more (suc n) = let i = region_more n in omega (arith, i)
+
+region_up : (n k m : ℕ) → m ≡ k + n → region_weight n ≤ region_weight m
+region_up n zero m e = let same : n ≡ m = omega (arith, e) in subst (λ x. region_weight n ≤ region_weight x) same (omega arith)
+region_up n (suc k) m e =
+    let i = region_up n k (k + n) refl in
+    let j = region_more (k + n) in
+    let same : suc (k + n) ≡ m = omega (arith, e) in
+    subst (λ x. region_weight n ≤ region_weight x) same (omega (arith, i, j))
+
+pub few_calls : (depth : ℕ) → field_weight (32 - depth) ≤ most
+unfolding field_weight most
+few_calls depth =
+    let k = 32 - (32 - depth) in
+    let i = region_up (32 - depth) k 32 (omega arith) in
+    omega (arith, i)
+
+-- ---- the sum falls: what is left weighs w, and what was taken from the stack v
+
+-- with a step that is paid
+pub falls_paid : (r : Outcome Control) (a n b w x y : ℕ) → a < b → n ≡ a → w < 3 * most + 100 → IfOk r (λ c. x + control_weight c ≡ y + w) → IfOk r (λ c. charged n + (x + control_weight c) < charged b + y)
+falls_paid (Ok c) a n b w x y h e i j = let p = charged_paid a b h in rw (e, j) (omega (arith, p, i))
+falls_paid (Err z) a n b w x y h e i j = tt
+
+-- without one
+pub falls_free : (r : Outcome Control) (a n b w v x y : ℕ) → a ≤ b → n ≡ a → w < v → IfOk r (λ c. x + control_weight c ≡ y + w) → IfOk r (λ c. charged n + (x + control_weight c) < charged b + (y + v))
+falls_free (Ok c) a n b w v x y h e i j = let p = charged_less a b h in rw (e, j) (omega (arith, p, i))
+falls_free (Err z) a n b w v x y h e i j = tt
+
+-- a frame that meets a flow
+pub falls_met : (r : Outcome Control) (a n b w u x y : ℕ) → a ≤ b → n ≡ a → w < u + 3 → IfOk r (λ c. x + control_weight c ≡ y + w) → IfOk r (λ c. charged n + (x + control_weight c) < charged b + (y + u + 3))
+falls_met (Ok c) a n b w u x y h e i j = let p = charged_less a b h in rw (e, j) (omega (arith, p, i))
+falls_met (Err z) a n b w u x y h e i j = tt
+
+-- a target that costs a step or weighs less
+pub falls_found : (r : Outcome Control) (a n b w v x y : ℕ) → charged a + w < charged b + v → n ≡ a → IfOk r (λ c. x + control_weight c ≡ y + w) → IfOk r (λ c. charged n + (x + control_weight c) < charged b + (y + v))
+falls_found (Ok c) a n b w v x y h e j = rw (e, j) (omega (arith, h))
+falls_found (Err z) a n b w v x y h e j = tt
+
+pub ruleset falling = (falls_paid, falls_free, falls_met, falls_found)

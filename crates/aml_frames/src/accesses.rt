@@ -1,0 +1,60 @@
+//! Accesses of fields by terms: what is asked for, and what waits for it (ACPI 6.5, 5.5.2.4).
+ghost use Rattle.std.specs.Prelude.{◌≡◌, ◌≤◌, ◌<◌, ◌+◌, ◌-◌, IfOk, Ok};
+ghost use Rattle.aml_meaning.specs.Meaning.{meaning};
+ghost use Rattle.aml_frames.specs.declared.uses.Accessed.TheVariants as object;
+ghost use Rattle.aml_frames.specs.declared.uses.Doing.TheVariants as doing;
+ghost use Rattle.aml_frames.specs.Follow.{Leads, EndsAt};
+ghost use Rattle.aml_frames.specs.Uses.{field_put};
+ghost use Rattle.aml_frames.specs.Weights.{most, next_weight};
+
+use crate::activation::Activation;
+use crate::frames::{Frame, Next};
+use crate::uses::{Access, Accessed, Doing, Reading};
+use aml_meaning::Running;
+use aml_objects::{Field, Value};
+use ar_space::{Refusal, Space};
+use std::alloc::Global;
+
+/// How many control methods may be called one inside another.
+const MAX_DEPTH: usize = 32;
+
+/// How many calls may still be made, one inside another, where so many control methods are being called.
+pub(crate) fn calls_left(depth: usize) -> usize
+    ensures { result ≡ 32 - depth }
+{
+    MAX_DEPTH.saturating_sub(depth)
+}
+
+/// A read of a field by a term.
+pub(crate) fn begin_read(act: &Activation, field: Field, reading: Reading) -> Access
+    ensures { result ≡ record { calls = 32 - act.now.depth; object = object.Field field; doing = doing.Read reading } }
+{
+    Access {
+        calls: calls_left(act.depth()),
+        object: Accessed::Field(field),
+        doing: Doing::Read(reading),
+    }
+}
+
+/// A value is written to a field by a term, which has a value then.
+#[tactic(auto, using(crate::proofs::Using::using_targets), unfolding(aml_meaning::specs::Fields::field_stored))]
+pub(crate) fn begin_write<S: Space>(
+    alloc: Global,
+    run: &Running<S>,
+    act: &Activation,
+    field: Field,
+    value: Value,
+) -> Result<Next, Refusal>
+    ensures falls { IfOk result (λ n. next_weight n < most + 4) }
+    ensures means { Leads S.accesses (meaning S.accesses) result act.now run.now
+        (field_put S.accesses (meaning S.accesses) field value act.now) run.now }
+    ensures ends { EndsAt result act.now act.now }
+{
+    let bytes = run.world.bytes_in(alloc, value)?;
+    let access = Access {
+        calls: calls_left(act.depth()),
+        object: Accessed::Field(field),
+        doing: Doing::Write(bytes),
+    };
+    Ok(Next::AccessThen(access, Frame::Give(value)))
+}

@@ -1,0 +1,101 @@
+//! Names where values stand (ACPI 6.5, 5.5.2 and 20.2.5: MethodInvocation).
+ghost use Rattle.std.specs.Prelude.{◌≡◌, ◌≤◌, ◌<◌, ◌+◌, ◌*◌, false, IfOk};
+ghost use Rattle.ar_space.specs.Change.{Does};
+ghost use Rattle.aml_grammar.specs.Shape.{trees_of};
+ghost use Rattle.aml_marked.specs.Marked.{a_name, turns_of};
+ghost use Rattle.aml_meaning.specs.Meaning.{meaning};
+ghost use Rattle.aml_meaning.specs.Invocations.{invocation_found};
+ghost use Rattle.aml_meaning.specs.InvocationTerms.{invocation_rule};
+ghost use Rattle.aml_frames.specs.Places.{at_place, terms};
+ghost use Rattle.aml_frames.specs.Follow.{name_run, behind_name_at, Leads, EndsAt};
+ghost use Rattle.aml_frames.specs.Weights.{most, next_weight};
+
+use crate::accesses::begin_read;
+use crate::activation::Activation;
+use crate::calls::begin_call;
+use crate::frames::{Call, Callee, Next};
+use crate::uses::Reading;
+use aml_meaning::{Flow, Invocation, Running, WorldState};
+use ar_space::{Refusal, Space};
+use std::alloc::Global;
+
+/// A name where a value stands: what it is, with as many arguments as stand behind it.
+#[tactic(auto, using(crate::proofs::Using::using_targets), unfolding(crate::specs::Follow::name_run, aml_marked::specs::Marked::a_name))]
+pub fn begin_name<S: Space>(
+    alloc: Global,
+    run: &mut Running<S>,
+    act: &mut Activation,
+    levels: u8,
+) -> Result<Next, Refusal>
+    ensures spent { run.new.1 ≤ run.old.1 }
+    ensures falls { IfOk result (λ n. next_weight n < 3 * most + 100) }
+    ensures means { Leads S.accesses (meaning S.accesses) result act.new run.new
+        (name_run S.accesses (meaning S.accesses) act.old levels) run.old }
+    ensures ends { EndsAt result act.new (behind_name_at act.old levels) }
+{
+    let count = act.argument_count();
+    let invocation = name_used(alloc, &run.world, act, count)?;
+    act.over_name();
+    begin_invocation(alloc, run, act, levels, count, invocation)
+}
+
+/// What the name is that stands next, used with so many arguments.
+fn name_used<S: Space>(
+    alloc: Global,
+    world: &WorldState<S>,
+    act: &Activation,
+    count: u8,
+) -> Result<Invocation, Refusal>
+    ensures { Does result world.now (invocation_found act.now.scope (a_name act.now.place).0 count) world.now }
+{
+    match act.name(alloc) {
+        Ok(name) => world.invocation(alloc, act.scope(), &name, usize::from(count)),
+        Err(refusal) => Err(refusal),
+    }
+}
+
+/// What a name was found to be, with the arguments that stand next.
+#[tactic(auto, using(crate::proofs::Using::using_targets), unfolding(aml_meaning::specs::InvocationTerms::call_rule, aml_meaning::specs::InvocationTerms::osi_rule, aml_meaning::specs::InvocationTerms::field_rule))]
+fn begin_invocation<S: Space>(
+    alloc: Global,
+    run: &mut Running<S>,
+    act: &mut Activation,
+    levels: u8,
+    count: u8,
+    invocation: Invocation,
+) -> Result<Next, Refusal>
+    ensures spent { run.new.1 ≤ run.old.1 }
+    ensures falls { IfOk result (λ n. next_weight n < 3 * most + 100) }
+    ensures means { Leads S.accesses (meaning S.accesses) result act.new run.new
+        (invocation_rule S.accesses (meaning S.accesses) act.old.scope act.old.depth (trees_of (turns_of (terms act.old levels false) count act.old.place).0) invocation) run.old }
+    ensures ends { EndsAt result act.new (at_place act.old (turns_of (terms act.old levels false) count act.old.place).1) }
+{
+    match invocation {
+        Invocation::Value(value) => {
+            act.over_arguments(levels, count);
+            Ok(Next::Flow(Flow::Value(value)))
+        }
+        Invocation::Field(field) => {
+            act.over_arguments(levels, count);
+            Ok(Next::Access(begin_read(act, field, Reading::Value)))
+        }
+        Invocation::Method(path, body) => {
+            let call = Call {
+                callee: Callee::Method(path, body),
+                left: count,
+                levels,
+                done: Vec::new(alloc),
+            };
+            begin_call(alloc, run, act, call)
+        }
+        Invocation::Osi => {
+            let call = Call {
+                callee: Callee::Osi,
+                left: count,
+                levels,
+                done: Vec::new(alloc),
+            };
+            begin_call(alloc, run, act, call)
+        }
+    }
+}

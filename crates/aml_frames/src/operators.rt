@@ -1,0 +1,296 @@
+//! Operators: terms that evaluate operands, form a value and store it to targets (ACPI 6.5, 19.6 and 20.2.5.4). The operands stand next.
+ghost use Rattle.std.specs.Prelude.{◌≡◌, ◌≤◌, ◌<◌, ◌+◌, ◌*◌, IfOk};
+ghost use Rattle.aml_meaning.specs.Meaning.{meaning};
+ghost use Rattle.aml_frames.specs.declared.frames.Frame.TheVariants as frames;
+ghost use Rattle.aml_frames.specs.Follow.{operator_run, behind_operator_at, resumed, ends, Leads, EndsAt};
+ghost use Rattle.aml_frames.specs.Uses.{held_given, monadic_done, monadic_ends, dyadic_done, dyadic_ends};
+ghost use Rattle.aml_frames.specs.Weights.{most, weight, next_weight};
+
+use crate::accesses::begin_read;
+use crate::activation::Activation;
+use crate::frames::{Frame, Next};
+use crate::references::{begin_conditional, begin_inquiry};
+use crate::targets::begin_target;
+use crate::uses::{Dyadic, Inquiry, Monadic, Reading, SecondOperand, Target, TargetUse};
+use aml_meaning::{Flow, Held, OperatorKind, Running, reference_in};
+use aml_objects::Value;
+use ar_space::{Refusal, Space};
+use std::alloc::Global;
+
+/// An operator: its first operand is evaluated, or the target is found that it stands for.
+#[tactic(auto, using(crate::proofs::Using::operating), unfolding(aml_meaning::specs::OperatorTerms::slot_rule))]
+pub fn begin_operator<S: Space>(
+    alloc: Global,
+    run: &mut Running<S>,
+    act: &mut Activation,
+    levels: u8,
+    kind: OperatorKind,
+) -> Result<Next, Refusal>
+    ensures spent { run.new.1 ≤ run.old.1 }
+    ensures falls { IfOk result (λ n. next_weight n < 3 * most + 100) }
+    ensures means { Leads S.accesses (meaning S.accesses) result act.new run.new
+        (operator_run S.accesses (meaning S.accesses) kind act.old levels) run.old }
+    ensures ends { EndsAt result act.new (behind_operator_at kind act.old levels) }
+{
+    match kind {
+        OperatorKind::Slot(slot) => {
+            let value = run.world.slot_read(slot)?;
+            Ok(Next::Flow(Flow::Value(value)))
+        }
+        OperatorKind::Store => Ok(Next::Term(levels, Frame::Operand(Monadic::Store, levels))),
+        OperatorKind::CopyObject => {
+            Ok(Next::Term(levels, Frame::Operand(Monadic::CopyObject, levels)))
+        }
+        OperatorKind::Two(two) => Ok(Next::Term(levels, Frame::First(Dyadic::Two(two), levels))),
+        OperatorKind::Divide => Ok(Next::Term(levels, Frame::First(Dyadic::Divide, levels))),
+        OperatorKind::One(one) => {
+            Ok(Next::Term(levels, Frame::Operand(Monadic::One(one), levels)))
+        }
+        OperatorKind::Test(test) => {
+            Ok(Next::Term(levels, Frame::First(Dyadic::Test(test), levels)))
+        }
+        OperatorKind::LogicalNot => {
+            Ok(Next::Term(levels, Frame::Operand(Monadic::LogicalNot, levels)))
+        }
+        OperatorKind::Count(count) => {
+            begin_target(
+                alloc,
+                run,
+                act,
+                Target::super_name(levels),
+                TargetUse::Count(count),
+            )
+        }
+        OperatorKind::SizeOf => begin_inquiry(alloc, run, act, levels, Inquiry::SizeOf),
+        OperatorKind::ObjectType => begin_inquiry(alloc, run, act, levels, Inquiry::ObjectType),
+        OperatorKind::Acquire => {
+            begin_target(
+                alloc,
+                run,
+                act,
+                Target::super_name(levels),
+                TargetUse::Acquire,
+            )
+        }
+        OperatorKind::RefOf => {
+            begin_target(
+                alloc,
+                run,
+                act,
+                Target::super_name(levels),
+                TargetUse::RefOf,
+            )
+        }
+        OperatorKind::CondRefOf => begin_conditional(alloc, run, act, levels),
+        OperatorKind::DerefOf => {
+            Ok(Next::Term(levels, Frame::Operand(Monadic::DerefOf, levels)))
+        }
+    }
+}
+
+/// An operator whose only operand was evaluated.
+#[tactic(auto, using(crate::proofs::Using::using_targets))]
+pub(crate) fn resume_operand<S: Space>(
+    alloc: Global,
+    run: &mut Running<S>,
+    act: &mut Activation,
+    kind: Monadic,
+    levels: u8,
+    flow: Flow,
+) -> Result<Next, Refusal>
+    ensures spent { run.new.1 ≤ run.old.1 }
+    ensures falls { IfOk result (λ n. next_weight n < most + 15) }
+    ensures means { Leads S.accesses (meaning S.accesses) result act.new run.new
+        (resumed S.accesses (meaning S.accesses) (frames.Operand kind levels) act.old flow) run.old }
+    ensures ends { EndsAt result act.new (ends (frames.Operand kind levels) act.old) }
+{
+    let value = flow.value()?;
+    finish_monadic(alloc, run, act, kind, levels, value)
+}
+
+/// What an operator does with the value of its only operand.
+#[tactic(auto, using(crate::proofs::Using::using_targets))]
+fn finish_monadic<S: Space>(
+    alloc: Global,
+    run: &mut Running<S>,
+    act: &mut Activation,
+    kind: Monadic,
+    levels: u8,
+    value: Value,
+) -> Result<Next, Refusal>
+    ensures spent { run.new.1 ≤ run.old.1 }
+    ensures falls { IfOk result (λ n. next_weight n < most + 15) }
+    ensures means { Leads S.accesses (meaning S.accesses) result act.new run.new
+        (monadic_done S.accesses (meaning S.accesses) kind levels value act.old) run.old }
+    ensures ends { EndsAt result act.new (monadic_ends kind levels act.old) }
+{
+    match kind {
+        Monadic::Store => {
+            begin_target(
+                alloc,
+                run,
+                act,
+                Target::super_name(levels),
+                TargetUse::Store(value),
+            )
+        }
+        Monadic::CopyObject => {
+            begin_target(
+                alloc,
+                run,
+                act,
+                Target::super_name(levels),
+                TargetUse::CopyObject(value),
+            )
+        }
+        Monadic::One(one) => {
+            let result = run.world.operate_on_one(alloc, one, value)?;
+            begin_target(
+                alloc,
+                run,
+                act,
+                Target::optional(levels),
+                TargetUse::Store(result),
+            )
+        }
+        Monadic::LogicalNot => {
+            let result = run.world.logical_not(value)?;
+            Ok(Next::Flow(Flow::Value(result)))
+        }
+        Monadic::DerefOf => {
+            let reference = reference_in(value)?;
+            let held = run.world.dereference(reference)?;
+            read_held(run, act, held)
+        }
+    }
+}
+
+/// The value that a target holds: that of a field is read.
+#[tactic(auto, using(crate::proofs::Using::using_targets))]
+fn read_held<S: Space>(run: &Running<S>, act: &Activation, held: Held) -> Result<Next, Refusal>
+    ensures falls { IfOk result (λ n. next_weight n < most + 4) }
+    ensures means { Leads S.accesses (meaning S.accesses) result act.now run.now
+        (held_given S.accesses (meaning S.accesses) held act.now) run.now }
+    ensures ends { EndsAt result act.now act.now }
+{
+    match held {
+        Held::Value(value) => Ok(Next::Flow(Flow::Value(value))),
+        Held::Field(field) => Ok(Next::Access(begin_read(act, field, Reading::Value))),
+    }
+}
+
+/// An operator whose first operand was evaluated: the second one is.
+#[tactic(auto, using(crate::proofs::Using::using_targets))]
+pub(crate) fn resume_first<S: Space>(
+    run: &mut Running<S>,
+    act: &mut Activation,
+    kind: Dyadic,
+    levels: u8,
+    flow: Flow,
+) -> Result<Next, Refusal>
+    ensures spent { run.new.1 ≤ run.old.1 }
+    ensures falls { IfOk result (λ n. next_weight n < 2 * most + 25) }
+    ensures means { Leads S.accesses (meaning S.accesses) result act.new run.new
+        (resumed S.accesses (meaning S.accesses) (frames.First kind levels) act.old flow) run.old }
+    ensures ends { EndsAt result act.new (ends (frames.First kind levels) act.old) }
+{
+    let value = flow.value()?;
+    Ok(Next::Term(
+        levels,
+        Frame::Second(SecondOperand {
+            kind,
+            levels,
+            first: value,
+        }),
+    ))
+}
+
+/// An operator whose second operand was evaluated.
+#[tactic(auto, using(crate::proofs::Using::using_targets))]
+pub(crate) fn resume_second<S: Space>(
+    alloc: Global,
+    run: &mut Running<S>,
+    act: &mut Activation,
+    operator: SecondOperand,
+    flow: Flow,
+) -> Result<Next, Refusal>
+    ensures spent { run.new.1 ≤ run.old.1 }
+    ensures falls { IfOk result (λ n. next_weight n < 2 * most + 25) }
+    ensures means { Leads S.accesses (meaning S.accesses) result act.new run.new
+        (resumed S.accesses (meaning S.accesses) (frames.Second operator) act.old flow) run.old }
+    ensures ends { EndsAt result act.new (ends (frames.Second operator) act.old) }
+{
+    let second = flow.value()?;
+    finish_dyadic(alloc, run, act, operator, second)
+}
+
+/// What an operator does with the values of its two operands.
+#[tactic(auto, using(crate::proofs::Using::using_targets))]
+fn finish_dyadic<S: Space>(
+    alloc: Global,
+    run: &mut Running<S>,
+    act: &mut Activation,
+    operator: SecondOperand,
+    second: Value,
+) -> Result<Next, Refusal>
+    ensures spent { run.new.1 ≤ run.old.1 }
+    ensures falls { IfOk result (λ n. next_weight n < 2 * most + 25) }
+    ensures means { Leads S.accesses (meaning S.accesses) result act.new run.new
+        (dyadic_done S.accesses (meaning S.accesses) operator second act.old) run.old }
+    ensures ends { EndsAt result act.new (dyadic_ends operator.kind operator.levels act.old) }
+{
+    let SecondOperand {
+        kind,
+        levels,
+        first,
+    } = operator;
+    match kind {
+        Dyadic::Two(two) => {
+            let result = run.world.operate_on_two(alloc, two, first, second)?;
+            begin_target(
+                alloc,
+                run,
+                act,
+                Target::optional(levels),
+                TargetUse::Store(result),
+            )
+        }
+        Dyadic::Divide => {
+            let division = run.world.divide(first, second)?;
+            Ok(Next::TargetThen(
+                Target::optional(levels),
+                TargetUse::Store(Value::Integer(division.remainder)),
+                Frame::Quotient(levels, Value::Integer(division.quotient)),
+            ))
+        }
+        Dyadic::Test(test) => {
+            let result = run.world.test(alloc, test, first, second)?;
+            Ok(Next::Flow(Flow::Value(result)))
+        }
+    }
+}
+
+/// A Divide whose remainder is stored: its quotient is stored to the target that stands next.
+#[tactic(auto, using(crate::proofs::Using::using_targets))]
+pub(crate) fn resume_quotient<S: Space>(
+    alloc: Global,
+    run: &mut Running<S>,
+    act: &mut Activation,
+    levels: u8,
+    quotient: Value,
+    flow: Flow,
+) -> Result<Next, Refusal>
+    ensures spent { run.new.1 ≤ run.old.1 }
+    ensures falls { IfOk result (λ n. next_weight n < most + 13) }
+    ensures means { Leads S.accesses (meaning S.accesses) result act.new run.new
+        (resumed S.accesses (meaning S.accesses) (frames.Quotient levels quotient) act.old flow) run.old }
+    ensures ends { EndsAt result act.new (ends (frames.Quotient levels quotient) act.old) }
+{
+    begin_target(
+        alloc,
+        run,
+        act,
+        Target::optional(levels),
+        TargetUse::Store(quotient),
+    )
+}

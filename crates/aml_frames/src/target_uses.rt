@@ -1,0 +1,227 @@
+//! What is done with a target that was found (ACPI 6.5, 19.6).
+ghost use Rattle.std.specs.Prelude.{◌≡◌, ◌≤◌, ◌<◌, ◌+◌, ◌*◌, IfOk};
+ghost use Rattle.ar_space.specs.Change.{Does};
+ghost use Rattle.ar_space.specs.Outcome.{NotMemory};
+ghost use Rattle.aml_meaning.specs.Meaning.{meaning};
+ghost use Rattle.aml_frames.specs.declared.frames.Frame.TheVariants as frames;
+ghost use Rattle.aml_frames.specs.declared.uses.TargetUse.TheVariants as uses;
+ghost use Rattle.aml_frames.specs.Follow.{resumed, Leads, EndsAt};
+ghost use Rattle.aml_frames.specs.Uses.{told, inquired, put_complete, put_back, stored_at, used, use_ends};
+ghost use Rattle.aml_frames.specs.Weights.{most, use_weight, next_weight};
+
+use crate::accesses::{begin_read, begin_write};
+use crate::activation::Activation;
+use crate::frames::{Frame, Next};
+use crate::references::begin_found;
+use crate::uses::{Inquiry, Reading, TargetUse};
+use crate::values::integer_of;
+use aml_meaning::{Count, Flow, Held, Referent, Running, StoreTarget, Stored, WorldState};
+use aml_objects::{Field, Value};
+use ar_space::{Refusal, Space};
+use std::alloc::Global;
+
+/// How many bytes the timeout of Acquire takes.
+const TIMEOUT_LENGTH: usize = 2;
+
+/// What is done with a target.
+#[tactic(auto, using(crate::proofs::Using::using_targets))]
+pub(crate) fn use_target<S: Space>(
+    alloc: Global,
+    run: &mut Running<S>,
+    act: &mut Activation,
+    target: StoreTarget,
+    target_use: TargetUse,
+) -> Result<Next, Refusal>
+    ensures spent { run.new.1 ≤ run.old.1 }
+    ensures falls { IfOk result (λ n. next_weight n < use_weight target_use) }
+    ensures means { Leads S.accesses (meaning S.accesses) result act.new run.new
+        (used S.accesses (meaning S.accesses) target_use act.old target) run.old }
+    ensures ends { EndsAt result act.new (use_ends target_use act.old) }
+{
+    match target_use {
+        TargetUse::Store(value) => store_value(alloc, run, act, &target, value),
+        TargetUse::CopyObject(value) => {
+            let stored = run.world.copy_to(alloc, &target, value)?;
+            complete(alloc, run, act, stored, value)
+        }
+        TargetUse::Count(count) => count_target(alloc, run, act, target, count),
+        TargetUse::Inquire(inquiry) => {
+            let referent = run.world.target_referent(&target)?;
+            inquire(run, act, inquiry, referent)
+        }
+        TargetUse::Acquire => {
+            run.world.acquire(alloc, &target)?;
+            act.over(TIMEOUT_LENGTH);
+            Ok(Next::Flow(Flow::Value(Value::Integer(0))))
+        }
+        TargetUse::Release => {
+            run.world.release(alloc, &target)?;
+            Ok(Next::Flow(Flow::Next))
+        }
+        TargetUse::RefOf => {
+            let reference = run.world.reference_of(&target)?;
+            Ok(Next::Flow(Flow::Value(Value::Reference(reference))))
+        }
+        TargetUse::CondRefOf(levels) => {
+            let reference = run.world.reference_of(&target)?;
+            let found = run.world.if_initialized(reference)?;
+            begin_found(run, act, levels, found)
+        }
+        TargetUse::Notify(levels) => Ok(Next::Term(levels, Frame::Pause)),
+    }
+}
+
+/// A value is stored to a target, and is the value of the term.
+#[tactic(auto, using(crate::proofs::Using::using_targets), unfolding(crate::specs::Uses::stored_at, aml_meaning::specs::FieldCalls::stored_to))]
+fn store_value<S: Space>(
+    alloc: Global,
+    run: &mut Running<S>,
+    act: &Activation,
+    target: &StoreTarget,
+    value: Value,
+) -> Result<Next, Refusal>
+    ensures spent { run.new.1 ≤ run.old.1 }
+    ensures falls { IfOk result (λ n. next_weight n < most + 4) }
+    ensures means { Leads S.accesses (meaning S.accesses) result act.now run.new
+        (stored_at S.accesses (meaning S.accesses) value act.now target.now) run.old }
+    ensures ends { EndsAt result act.now act.now }
+{
+    let stored = run.world.store(alloc, target, value)?;
+    complete(alloc, run, act, stored, value)
+}
+
+/// A store is done, or a field is written next.
+#[tactic(auto, using(crate::proofs::Using::using_targets))]
+fn complete<S: Space>(
+    alloc: Global,
+    run: &Running<S>,
+    act: &Activation,
+    stored: Stored,
+    value: Value,
+) -> Result<Next, Refusal>
+    ensures falls { IfOk result (λ n. next_weight n < most + 4) }
+    ensures means { Leads S.accesses (meaning S.accesses) result act.now run.now
+        (put_complete S.accesses (meaning S.accesses) stored value act.now) run.now }
+    ensures ends { EndsAt result act.now act.now }
+{
+    match stored {
+        Stored::Done => Ok(Next::Flow(Flow::Value(value))),
+        Stored::Field(field) => begin_write(alloc, run, act, field, value),
+    }
+}
+
+/// Increment and Decrement: what the target holds is read; that of a field is waited for.
+#[tactic(auto, using(crate::proofs::Using::using_targets), unfolding(crate::specs::Uses::counted_back))]
+fn count_target<S: Space>(
+    alloc: Global,
+    run: &mut Running<S>,
+    act: &Activation,
+    target: StoreTarget,
+    count: Count,
+) -> Result<Next, Refusal>
+    ensures spent { run.new.1 ≤ run.old.1 }
+    ensures falls { IfOk result (λ n. next_weight n < 2 * most + 12) }
+    ensures means { Leads S.accesses (meaning S.accesses) result act.now run.new
+        (used S.accesses (meaning S.accesses) (uses.Count count) act.now target) run.old }
+    ensures ends { EndsAt result act.now act.now }
+{
+    let held = run.world.target_read(&target)?;
+    match held {
+        Held::Value(value) => {
+            let number = integer_of(&run.world, value)?;
+            let result = run.world.count(count, number)?;
+            store_back(alloc, run, act, &target, held, result)
+        }
+        Held::Field(field) => Ok(Next::AccessThen(
+            begin_read(act, field, Reading::Integer),
+            Frame::Counted(count, target, field),
+        )),
+    }
+}
+
+/// Increment or Decrement of a field that was read.
+#[tactic(auto, using(crate::proofs::Using::using_targets), unfolding(crate::specs::Uses::counted_back))]
+pub(crate) fn resume_counted<S: Space>(
+    alloc: Global,
+    run: &mut Running<S>,
+    act: &Activation,
+    counted: (Count, StoreTarget, Field),
+    flow: Flow,
+) -> Result<Next, Refusal>
+    ensures spent { run.new.1 ≤ run.old.1 }
+    ensures falls { IfOk result (λ n. next_weight n < most + 4) }
+    ensures means { Leads S.accesses (meaning S.accesses) result act.now run.new
+        (resumed S.accesses (meaning S.accesses) (frames.Counted counted.0 counted.1 counted.2) act.now flow) run.old }
+    ensures ends { EndsAt result act.now act.now }
+{
+    let value = flow.value()?;
+    let number = integer_of(&run.world, value)?;
+    let result = run.world.count(counted.0, number)?;
+    store_back(alloc, run, act, &counted.1, Held::Field(counted.2), result)
+}
+
+/// A store to a target whose value was read before; a field that was read is the one that is written, unless an element of a
+/// package named it: then the element is replaced.
+#[tactic(auto, using(crate::proofs::Using::using_targets), unfolding(crate::specs::Uses::stored_at))]
+fn store_back<S: Space>(
+    alloc: Global,
+    run: &mut Running<S>,
+    act: &Activation,
+    target: &StoreTarget,
+    held: Held,
+    value: Value,
+) -> Result<Next, Refusal>
+    ensures spent { run.new.1 ≤ run.old.1 }
+    ensures falls { IfOk result (λ n. next_weight n < most + 4) }
+    ensures means { Leads S.accesses (meaning S.accesses) result act.now run.new
+        (put_back S.accesses (meaning S.accesses) held target.now value act.now) run.old }
+    ensures ends { EndsAt result act.now act.now }
+{
+    if target.is_element() {
+        return store_value(alloc, run, act, target, value);
+    }
+    match held {
+        Held::Value(_) => store_value(alloc, run, act, target, value),
+        Held::Field(field) => begin_write(alloc, run, act, field, value),
+    }
+}
+
+/// What SizeOf and ObjectType tell of a referent; a field that an element of a package names is read first.
+#[tactic(auto, using(crate::proofs::Using::using_targets), unfolding(crate::specs::Uses::inquired))]
+pub(crate) fn inquire<S: Space>(
+    run: &Running<S>,
+    act: &Activation,
+    inquiry: Inquiry,
+    referent: Referent,
+) -> Result<Next, Refusal>
+    ensures falls { IfOk result (λ n. next_weight n < most + 4) }
+    ensures means { Leads S.accesses (meaning S.accesses) result act.now run.now
+        (inquired S.accesses (meaning S.accesses) inquiry act.now referent) run.now }
+    ensures ends { EndsAt result act.now act.now }
+{
+    match referent {
+        Referent::Field(field) => {
+            Ok(Next::Access(begin_read(act, field, Reading::Inquire(inquiry))))
+        }
+        Referent::Value(_) | Referent::Object(_) | Referent::Bytes(_) => {
+            let value = tell(&run.world, inquiry, referent)?;
+            Ok(Next::Flow(Flow::Value(value)))
+        }
+    }
+}
+
+/// What SizeOf and ObjectType tell of a referent that is no field.
+#[tactic(auto, using(aml_meaning::proofs::Runs::running))]
+pub(crate) fn tell<S>(
+    world: &WorldState<S>,
+    inquiry: Inquiry,
+    referent: Referent,
+) -> Result<Value, Refusal>
+    ensures answer { Does result world.now (told inquiry referent) world.now }
+    ensures memory { NotMemory result }
+{
+    match inquiry {
+        Inquiry::SizeOf => world.size(referent),
+        Inquiry::ObjectType => Ok(Value::Integer(referent.object_type().number())),
+    }
+}
