@@ -3,6 +3,11 @@ pub mod Levels
 pub mod Sorted
 pub mod Busiest
 pub mod Numbered
+pub mod Found
+pub mod Arranged
+pub mod Ranks
+pub mod Chains
 pub mod Turns
 pub mod Moves
 pub mod Shared
+pub mod Improved

@@ -20,8 +20,8 @@ placed_set places a l i b o placed k bk = go (cases_eq k l)
     go (inl e) = let h = get_or-set_same a l i 0 b in rw (e, h) o
     go (inr ne) = let h = get_or-set_other a l k i 0 ne in rw h (placed k (let e = length-set a l i in omega arith))
 
-pub moving_none : (places : List (List ℕ)) (choice loads : List ℕ) (raised : List Bool) (turn : List ℕ) (target link : ℕ) → ArePlaced places choice → IsWay places choice loads raised link target → IsMoving places choice choice loads raised turn target link target
-moving_none places choice loads raised turn target link placed way = record {
+pub moving_none : (places : List (List ℕ)) (choice loads : List ℕ) (raised : List Bool) (ranks : List ℕ) (target link : ℕ) → ArePlaced places choice → IsWay places choice loads raised link target → IsMoving places choice choice loads raised ranks target link target
+moving_none places choice loads raised ranks target link placed way = record {
   within = way.within;
   same = λ k b le. refl;
   placed = placed;
@@ -30,7 +30,7 @@ moving_none places choice loads raised turn target link placed way = record {
   high = way.lower;
 }
 
-module _ (places : List (List ℕ)) (start choice loads : List ℕ) (raised : List Bool) (from turn : List ℕ) (target link to : ℕ) (long : length choice ≡ length start) (chained : IsChained places start loads raised from turn) (moving : IsMoving places start choice loads raised turn target link to) where
+module _ (places : List (List ℕ)) (start choice loads : List ℕ) (raised : List Bool) (from ranks : List ℕ) (target link to : ℕ) (long : length choice ≡ length start) (chained : IsChained places start loads raised from ranks) (moving : IsMoving places start choice loads raised ranks target link to) where
   -- the interrupt that the link leaves is the one that it began with
   pub leaves : at choice link ≡ at start link
   leaves = moving.same link moving.within (omega arith)
@@ -38,10 +38,10 @@ module _ (places : List (List ℕ)) (start choice loads : List ℕ) (raised : Li
   pub moved_on : (x : ℕ) → given (set choice link to) x + one_if (at choice link == x) ≡ given start x + one_if (target == x)
   moved_on x = let s = given_set choice link to x moving.within in let m = moving.moved x in omega arith
 
-  pub earlier_turn : is_raised raised (at choice link) ≡ true → at turn (at from (at choice link)) < at turn link
-  earlier_turn up = chained.before (at choice link) link up (let w = moving.within in omega arith) (sym leaves)
+  pub earlier_rank : is_raised raised (at choice link) ≡ true → at ranks (at start (at from (at choice link))) < at ranks (at start link)
+  earlier_rank up = let b = chained.before (at choice link) up in let e = ap (at ranks) leaves in omega arith
 
-  pub moving_more : is_raised raised (at choice link) ≡ true → IsMoving places start (set choice link to) loads raised turn target (at from (at choice link)) (at choice link)
+  pub moving_more : is_raised raised (at choice link) ≡ true → IsMoving places start (set choice link to) loads raised ranks target (at from (at choice link)) (at choice link)
   moving_more up = record {
     within = let w = linked in omega (arith, length-set choice link to);
     same = same;
@@ -59,11 +59,11 @@ module _ (places : List (List ℕ)) (start choice loads : List ℕ) (raised : Li
       linked : at from (at choice link) < length choice
       linked = let w = chained.linked (at choice link) up in omega arith
 
-      other : (k : ℕ) → at turn k ≤ at turn (at from (at choice link)) → k ≢ link
-      other k le e = let m = earlier_turn up in let f = ap (at turn) e in omega arith
+      other : (k : ℕ) → at ranks (at start k) ≤ at ranks (at start (at from (at choice link))) → k ≢ link
+      other k le e = let m = earlier_rank up in let f = ap (λ j. at ranks (at start j)) e in omega arith
 
-      same : (k : ℕ) → k < length (set choice link to) → at turn k ≤ at turn (at from (at choice link)) → at (set choice link to) k ≡ at start k
-      same k b le = get_or-set_other choice link k to 0 (other k le) ∙ moving.same k (omega (arith, length-set choice link to)) (let m = earlier_turn up in omega arith)
+      same : (k : ℕ) → k < length (set choice link to) → at ranks (at start k) ≤ at ranks (at start (at from (at choice link))) → at (set choice link to) k ≡ at start k
+      same k b le = get_or-set_other choice link k to 0 (other k le) ∙ moving.same k (omega (arith, length-set choice link to)) (let m = earlier_rank up in omega arith)
 
       there : at (set choice link to) (at from (at choice link)) ≡ at start (at from (at choice link))
       there = same (at from (at choice link)) (omega (arith, length-set choice link to, linked)) (omega arith)
@@ -169,15 +169,43 @@ module _ (loads : List ℕ) (root target : ℕ) (br : root < length loads) (bt :
   }
 
 -- the last link of a way moves
-pub shifted_last : (places : List (List ℕ)) (start choice loads : List ℕ) (raised : List Bool) (from turn : List ℕ) (target link to : ℕ) → length choice ≡ length start → target < length loads → at choice link < length loads → IsMoving places start choice loads raised turn target link to → is_raised raised (at choice link) ≡ false → IsChained places start loads raised from turn → IsShifted places start (set choice link to) loads (set (set loads (at choice link) (at loads (at choice link) - 1)) target (at loads target + 1))
-shifted_last places start choice loads raised from turn target link to long bt br moving down chained =
+pub shifted_last : (places : List (List ℕ)) (start choice loads : List ℕ) (raised : List Bool) (from ranks : List ℕ) (target link to : ℕ) → length choice ≡ length start → target < length loads → at choice link < length loads → IsMoving places start choice loads raised ranks target link to → is_raised raised (at choice link) ≡ false → IsChained places start loads raised from ranks → IsShifted places start (set choice link to) loads (set (set loads (at choice link) (at loads (at choice link) - 1)) target (at loads target + 1))
+shifted_last places start choice loads raised from ranks target link to long bt br moving down chained =
     let h = moving.high in
     let r = ap (λ b. at loads (at choice link) + cond b 1 0) down in
     shifted loads (at choice link) target br bt (omega arith) places start (set choice link to)
     (placed_set places choice link to moving.within moving.next moving.placed)
-    (moved_on places start choice loads raised from turn target link to long chained moving)
+    (moved_on places start choice loads raised from ranks target link to long chained moving)
 
 -- once links were moved, the loads stay less uneven
 pub less_still : (places : List (List ℕ)) (choice choice' choice'' loads loads' loads'' : List ℕ) → IsSameOrLess choice choice' loads loads' → IsShifted places choice' choice'' loads' loads'' → IsSameOrLess choice choice'' loads loads''
 less_still places choice choice' choice'' loads loads' loads'' (inl same) shifted = inr (subst (λ (xs : List ℕ). HasLess xs loads'') same.1 shifted.some_less)
 less_still places choice choice' choice'' loads loads' loads'' (inr more) shifted = inr (record { above = more.above; less = let a = more.less in let b = shifted.no_more more.above in omega arith })
+
+-- the interrupt of the link and the link for which it was raised, by other names
+pub moving_step : (places : List (List ℕ)) (start choice loads : List ℕ) (raised : List Bool) (from ranks : List ℕ) (target link to interrupt next : ℕ) → length choice ≡ length start → IsChained places start loads raised from ranks → IsMoving places start choice loads raised ranks target link to → interrupt ≡ at choice link → next ≡ at from interrupt → is_raised raised (at choice link) ≡ true → IsMoving places start (set choice link to) loads raised ranks target next interrupt
+moving_step places start choice loads raised from ranks target link to interrupt next long chained moving ei en up = rw (en, ei) (moving_more places start choice loads raised from ranks target link to long chained moving up)
+
+pub nearer : (places : List (List ℕ)) (start choice loads : List ℕ) (raised : List Bool) (from ranks : List ℕ) (target link to interrupt next : ℕ) → length choice ≡ length start → IsChained places start loads raised from ranks → IsMoving places start choice loads raised ranks target link to → interrupt ≡ at choice link → next ≡ at from interrupt → is_raised raised (at choice link) ≡ true → at ranks (at (set choice link to) next) < at ranks (at choice link)
+nearer places start choice loads raised from ranks target link to interrupt next long chained moving ei en up =
+    let step = moving_step places start choice loads raised from ranks target link to interrupt next long chained moving ei en up in
+    let same = step.same next step.within (omega arith) in
+    let e : at ranks (at (set choice link to) next) ≡ at ranks (at start next) = ap (at ranks) same in
+    let f : at ranks (at start next) ≡ at ranks (at start (at from (at choice link))) = ap (λ j. at ranks (at start j)) (en ∙ ap (at from) ei) in
+    let g : at ranks (at choice link) ≡ at ranks (at start link) = ap (at ranks) (leaves places start choice loads raised from ranks target link to long chained moving) in
+    let r = earlier_rank places start choice loads raised from ranks target link to long chained moving up in
+    omega arith
+
+-- the last link of a way moves, and the loads change as the code counts them
+pub shifted_end : (places : List (List ℕ)) (start choice loads : List ℕ) (raised : List Bool) (from ranks : List ℕ) (target link to root taken has : ℕ) → length choice ≡ length start → target < length loads → at choice link < length loads → IsMoving places start choice loads raised ranks target link to → is_raised raised (at choice link) ≡ false → IsChained places start loads raised from ranks → root ≡ at choice link → taken ≡ at loads root → has ≡ at (set loads root (taken - 1)) target → IsShifted places start (set choice link to) loads (set (set loads root (taken - 1)) target (has + 1))
+shifted_end places start choice loads raised from ranks target link to root taken has long bt br moving down chained er et eh = rw eg (rw et (rw er (shifted_last places start choice loads raised from ranks target link to long bt br moving down chained)))
+  where
+    far : at loads target + 2 ≤ at loads root
+    far = let h = moving.high in let r = ap (λ b. at loads (at choice link) + cond b 1 0) down in let e = ap (at loads) er in omega arith
+
+    eg : has ≡ at loads target
+    eg = eh ∙ get_or-set_other loads root target (taken - 1) 0 (λ e. absurd (let f = ap (at loads) e in let g = far in omega arith))
+
+-- the target is lower than the interrupt that loses a source
+pub target_low : (places : List (List ℕ)) (start choice loads : List ℕ) (raised : List Bool) (ranks : List ℕ) (target link to root : ℕ) → IsMoving places start choice loads raised ranks target link to → is_raised raised (at choice link) ≡ false → root ≡ at choice link → at loads target + 2 ≤ at loads root
+target_low places start choice loads raised ranks target link to root moving down er = let h = moving.high in let r = ap (λ b. at loads (at choice link) + cond b 1 0) down in let e = ap (at loads) er in omega arith

@@ -1,16 +1,13 @@
--- One more link has its turn in the marking.
-use Rattle.std.proofs.Common.{◌≡◌, ◌≢◌, ℕ, ◌+◌, ◌<◌, ◌≤◌, Bool, true, false, cond, List, [], length, set, refl, sym, ◌∙◌, ap, subst, arith, get_or, get_or-set_same, get_or-set_other, inl, inr}
-use Rattle.std.specs.Prelude.{◌⊎◌, ◌==◌, Contains, count_by}
-use Rattle.std.proofs.lemmas.Bool.{false≢true, cases_eq, eq-eqb, ne_eqb}
-use Rattle.std.proofs.lemmas.List.{length-set}
-use Rattle.std.proofs.lemmas.List.Sums.{sum_by-set, get_or-le-sum_by}
+-- What raising interrupts does to their heights, and how far a marking comes by it.
+use Rattle.std.proofs.Common.{◌≡◌, ◌≢◌, ℕ, ◌+◌, ◌<◌, ◌≤◌, Bool, true, false, cond, List, [], length, sym, ◌∙◌, ap, arith, get_or, inl, inr, refl}
+use Rattle.std.specs.Prelude.{◌⊎◌, Contains}
+use Rattle.std.proofs.lemmas.Bool.{false≢true, cases_eq, cases_lt, cases_order}
 use Rattle.route_model.specs.Placement.{Offers}
-use Rattle.route_model.proofs.Counting.{one_if}
-use Rattle.route_spread.specs.Marks.{at, is_raised, height_at, IsNew, AreRaised, IsChained, AreLevelled, IsWay, IsHighest, IsMarking}
+use Rattle.route_spread.specs.Marks.{at, is_raised, height_at, IsNew, AreRaised, IsChained, AreLevelled, IsWay, IsArranged, IsBetween, IsLater, IsListed, IsMarked}
 
 module _ (loads : List ℕ) (before after : List Bool) (from from' : List ℕ) (link top : ℕ) (Among : ℕ → Type 0) (raised : AreRaised loads before after from from' link top Among) where
   -- an interrupt stays as high as it was, or is raised to the top
-  same_or_new : (x : ℕ) → (height_at loads after x ≡ height_at loads before x) ⊎ (Among x × IsNew loads before from' link top x × (height_at loads after x ≡ top))
+  pub same_or_new : (x : ℕ) → (height_at loads after x ≡ height_at loads before x) ⊎ (Among x × IsNew loads before from' link top x × (height_at loads after x ≡ top))
   same_or_new x = go (is_raised after x) (is_raised before x) refl refl
     where
       go : (s t : Bool) → is_raised after x ≡ s → is_raised before x ≡ t → (height_at loads after x ≡ height_at loads before x) ⊎ (Among x × IsNew loads before from' link top x × (height_at loads after x ≡ top))
@@ -23,10 +20,10 @@ module _ (loads : List ℕ) (before after : List Bool) (from from' : List ℕ) (
           new (inl old) = absurd (false≢true (sym f ∙ old))
           new (inr n) = let h = ap (λ b. at loads x + cond b 1 0) e in let b = n.1.below in inr (n.0, n.1, omega arith)
 
-  new_below : (x : ℕ) → IsNew loads before from' link top x → height_at loads before x + 1 ≡ top
+  pub new_below : (x : ℕ) → IsNew loads before from' link top x → height_at loads before x + 1 ≡ top
   new_below x n = let h = ap (λ b. at loads x + cond b 1 0) n.low in let b = n.below in omega arith
 
-  no_lower : (x : ℕ) → height_at loads before x ≤ height_at loads after x
+  pub no_lower : (x : ℕ) → height_at loads before x ≤ height_at loads after x
   no_lower x = go (same_or_new x)
     where
       go : (height_at loads after x ≡ height_at loads before x) ⊎ (Among x × IsNew loads before from' link top x × (height_at loads after x ≡ top)) → height_at loads before x ≤ height_at loads after x
@@ -34,196 +31,192 @@ module _ (loads : List ℕ) (before after : List Bool) (from from' : List ℕ) (
       go (inr n) = let b = new_below x n.1 in let e = n.2 in omega arith
 
   -- what was as high as the top stays
-  still : (x : ℕ) → top ≤ height_at loads before x → height_at loads after x ≡ height_at loads before x
+  pub still : (x : ℕ) → top ≤ height_at loads before x → height_at loads after x ≡ height_at loads before x
   still x high = go (same_or_new x)
     where
       go : (height_at loads after x ≡ height_at loads before x) ⊎ (Among x × IsNew loads before from' link top x × (height_at loads after x ≡ top)) → height_at loads after x ≡ height_at loads before x
       go (inl e) = e
       go (inr n) = absurd (let b = new_below x n.1 in omega arith)
 
-  -- what was no higher than the top is no higher
-  within_top : (x : ℕ) → height_at loads before x ≤ top → height_at loads after x ≤ top
-  within_top x low = go (same_or_new x)
+-- A link has raised what it offers.
+module _ (places : List (List ℕ)) (choice loads : List ℕ) (before after : List Bool) (from from' interrupts interrupts' ranks ranks' : List ℕ) (high high' top i l : ℕ) (known : (k : ℕ) → k < length choice → at choice k < length ranks) (below : (k x : ℕ) → Offers places k x → x < length ranks) (same_length : length ranks' ≡ length ranks) (arranged : IsArranged loads before interrupts ranks high top) (arranged' : IsArranged loads after interrupts' ranks' high' top) (later : IsLater high high' ranks ranks') (passed : i < high) (marked : IsMarked places choice loads before from ranks high i l) (bl : l < length choice) (here : at ranks (at choice l) ≡ i) (is_top : height_at loads before (at choice l) ≡ top) (raised : AreRaised loads before after from from' l top (λ x. Contains (get_or places l []) x)) where
+  -- what is raised anew was lower than the top
+  new_behind : (x : ℕ) → x < length ranks → IsNew loads before from' l top x → high ≤ at ranks x
+  new_behind x b n = go (cases_lt (at ranks x) high)
     where
-      go : (height_at loads after x ≡ height_at loads before x) ⊎ (Among x × IsNew loads before from' link top x × (height_at loads after x ≡ top)) → height_at loads after x ≤ top
-      go (inl e) = omega arith
-      go (inr n) = let e = n.2 in omega arith
+      go : (at ranks x < high) ⊎ (high ≤ at ranks x) → high ≤ at ranks x
+      go (inl less) = absurd (let h = arranged.above x b less in let f = new_below loads before after from from' l top (λ y. Contains (get_or places l []) y) raised x n in omega arith)
+      go (inr more) = more
 
-module _ (places : List (List ℕ)) (choice loads : List ℕ) (before after : List Bool) (from from' turn : List ℕ) (t l : ℕ) (long : length turn ≡ length choice) (soon : t < length choice) (marking : IsMarking places choice loads before from turn t) (highest : IsHighest choice loads before turn l) (raised : AreRaised loads before after from from' l (height_at loads before (at choice l)) (λ x. Contains (get_or places l []) x)) where
-  turn' : List ℕ
-  turn' = set turn l t
+  up : (x : ℕ) → height_at loads before x ≤ height_at loads after x
+  up = no_lower loads before after from from' l top (λ y. Contains (get_or places l []) y) raised
 
-  abbrev top : ℕ
-  top = height_at loads before (at choice l)
+  -- an interrupt that was as high as the top keeps its height and its rank
+  kept_height : (x : ℕ) → x < length ranks → at ranks x < high → height_at loads after x ≡ height_at loads before x
+  kept_height x b less = still loads before after from from' l top (λ y. Contains (get_or places l []) y) raised x (arranged.above x b less)
 
-  turn_here : at (set turn l t) l ≡ t
-  turn_here = let w = highest.within in get_or-set_same turn l t 0 (omega arith)
-
-  turn_other : (k : ℕ) → k ≢ l → at (set turn l t) k ≡ at turn k
-  turn_other k ne = get_or-set_other turn l k t 0 ne
-
-  turns : length (set turn l t) ≡ length turn
-  turns = length-set turn l t
-
-  -- a link whose turn has come: this one, or one before
-  came : (k : ℕ) → at (set turn l t) k ≢ length turn → (k ≡ l) ⊎ (at turn k ≢ length turn)
-  came k ne = go (cases_eq k l)
+  -- raised interrupts are among the first
+  raised_early : (x : ℕ) → is_raised after x ≡ true → (x < length ranks') × (at ranks' x < high')
+  raised_early x r = go (raised.new x r)
     where
-      go : (k ≡ l) ⊎ (k ≢ l) → (k ≡ l) ⊎ (at turn k ≢ length turn)
-      go (inl e) = inl e
-      go (inr other) = inr (λ e. ne (turn_other k other ∙ e))
+      go : (is_raised before x ≡ true) ⊎ (Contains (get_or places l []) x × IsNew loads before from' l top x) → (x < length ranks') × (at ranks' x < high')
+      go (inl old) = let e = marked.early x old in let s = later.still x e.0 e.1 in let m = later.more in let z = same_length in let lt = e.1 in let b = e.0 in (omega arith, omega arith)
+      go (inr new) = (let b = below l x new.0 in let z = same_length in omega arith, early (cases_lt (at ranks' x) high'))
+        where
+          early : (at ranks' x < high') ⊎ (high' ≤ at ranks' x) → at ranks' x < high'
+          early (inl less) = less
+          early (inr more) = absurd (let b : x < length ranks' = (let b = below l x new.0 in let z = same_length in omega arith) in let h = arranged'.below x b more in let f = ap (λ b. at loads x + cond b 1 0) r in let g = new.1.below in omega arith)
 
-  -- one whose turn has not come
-  waits : (k : ℕ) → at (set turn l t) k ≡ length turn → at turn k ≡ length turn
-  waits k e = go (cases_eq k l)
-    where
-      go : (k ≡ l) ⊎ (k ≢ l) → at turn k ≡ length turn
-      go (inl is) = absurd (let h = turn_here in let f : at (set turn l t) k ≡ at (set turn l t) l = ap (at (set turn l t)) is in omega arith)
-      go (inr other) = sym (turn_other k other) ∙ e
+  abbrev Chain : ℕ → Type 0
+  Chain x = (at from' x < length choice) × Offers places (at from' x) x × (at loads x + 1 ≤ height_at loads after (at choice (at from' x))) × (at ranks' (at choice (at from' x)) < at ranks' x)
 
-  chained_old : (x : ℕ) → is_raised before x ≡ true → (at from' x < length choice) × Offers places (at from' x) x × (at loads x + 1 ≤ height_at loads after (at choice (at from' x))) × ((k : ℕ) → k < length choice → at choice k ≡ x → at (set turn l t) (at from' x) < at (set turn l t) k)
+  chained_old : (x : ℕ) → is_raised before x ≡ true → Chain x
   chained_old x was =
       let same = raised.same x was in
-      let linked = marking.chained.linked x was in
-      let offered = marking.chained.offered x was in
-      let higher = marking.chained.higher x was in
-      let up = no_lower loads before after from from' l top (λ y. Contains (get_or places l []) y) raised (at choice (at from x)) in
-      rw same (linked, offered, omega arith, order)
-    where
-      order : (k : ℕ) → k < length choice → at choice k ≡ x → at (set turn l t) (at from x) < at (set turn l t) k
-      order k b e = go (cases_eq (at from x) l) (cases_eq k l) (cases_eq (at turn k) (length turn))
-        where
-          less : at turn (at from x) < at turn k
-          less = marking.chained.before x k was b e
+      let c = marked.chained in
+      let linked = c.linked x was in
+      let offered = c.offered x was in
+      let higher = c.higher x was in
+      let first = c.before x was in
+      let e = marked.early x was in
+      let sx = later.still x e.0 e.1 in
+      let rank_less : at ranks (at choice (at from x)) < high = (let lt = e.1 in omega arith) in
+      let sy = later.still (at choice (at from x)) (known (at from x) linked) rank_less in
+      let u = up (at choice (at from x)) in
+      rw same (linked, offered, omega arith, omega arith)
 
-          go : (at from x ≡ l) ⊎ (at from x ≢ l) → (k ≡ l) ⊎ (k ≢ l) → (at turn k ≡ length turn) ⊎ (at turn k ≢ length turn) → at (set turn l t) (at from x) < at (set turn l t) k
-          go (inl is) other (inl f) = absurd (let w = highest.waits in let m = less in let g = ap (at turn) is in omega arith)
-          go (inl is) other (inr f) = absurd (let w = highest.waits in let m = less in let g = ap (at turn) is in let h = marking.earlier k b f in omega arith)
-          go (inr ne) (inr other) f = let m = less in let g = turn_other (at from x) ne in let h = turn_other k other in omega arith
-          go (inr ne) (inl is) f =
-              let m = less in
-              let w = highest.waits in
-              let g = turn_other (at from x) ne in
-              let kl = ap (at turn) is in
-              let h = ap (at (set turn l t)) is ∙ turn_here in
-              let early = marking.earlier (at from x) (marking.chained.linked x was) (λ z. absurd (omega arith)) in
-              omega arith
-
-  chained_new : (x : ℕ) → Contains (get_or places l []) x → IsNew loads before from' l top x → (at from' x < length choice) × Offers places (at from' x) x × (at loads x + 1 ≤ height_at loads after (at choice (at from' x))) × ((k : ℕ) → k < length choice → at choice k ≡ x → at (set turn l t) (at from' x) < at (set turn l t) k)
+  chained_new : (x : ℕ) → Contains (get_or places l []) x → IsNew loads before from' l top x → Chain x
   chained_new x among new =
       let noted = new.noted in
-      let below = new.below in
-      let up = no_lower loads before after from from' l top (λ y. Contains (get_or places l []) y) raised (at choice l) in
-      rw noted (highest.within, among, omega arith, order)
+      let low = new.below in
+      let b = below l x among in
+      let u = up (at choice l) in
+      let far = new_behind x b new in
+      let sx = later.behind x b far in
+      let sy = later.still (at choice l) (known l bl) (omega arith) in
+      rw noted (bl, among, omega arith, omega arith)
+
+  chain_at : (x : ℕ) → is_raised after x ≡ true → Chain x
+  chain_at x h = go (raised.new x h)
     where
-      low : height_at loads before x + 1 ≡ top
-      low = new_below loads before after from from' l top (λ y. Contains (get_or places l []) y) raised x new
-
-      order : (k : ℕ) → k < length choice → at choice k ≡ x → at (set turn l t) l < at (set turn l t) k
-      order k b e = go (cases_eq k l) (cases_eq (at turn k) (length turn))
-        where
-          here : height_at loads before (at choice k) ≡ height_at loads before x
-          here = ap (height_at loads before) e
-
-          go : (k ≡ l) ⊎ (k ≢ l) → (at turn k ≡ length turn) ⊎ (at turn k ≢ length turn) → at (set turn l t) l < at (set turn l t) k
-          go (inl is) f = absurd (let h = here in let w = low in let g : height_at loads before (at choice k) ≡ top = ap (λ j. height_at loads before (at choice j)) is in omega arith)
-          go (inr other) (inl f) = let h = turn_here in let g = turn_other k other in omega arith
-          go (inr other) (inr f) = absurd (let h = here in let w = low in let m = marking.highest k l b highest.within f highest.waits in omega arith)
-
-  chained_at : (x : ℕ) → is_raised after x ≡ true → (at from' x < length choice) × Offers places (at from' x) x × (at loads x + 1 ≤ height_at loads after (at choice (at from' x))) × ((k : ℕ) → k < length choice → at choice k ≡ x → at (set turn l t) (at from' x) < at (set turn l t) k)
-  chained_at x h = go (raised.new x h)
-    where
-      go : (is_raised before x ≡ true) ⊎ (Contains (get_or places l []) x × IsNew loads before from' l top x) → (at from' x < length choice) × Offers places (at from' x) x × (at loads x + 1 ≤ height_at loads after (at choice (at from' x))) × ((k : ℕ) → k < length choice → at choice k ≡ x → at (set turn l t) (at from' x) < at (set turn l t) k)
+      go : (is_raised before x ≡ true) ⊎ (Contains (get_or places l []) x × IsNew loads before from' l top x) → Chain x
       go (inl old) = chained_old x old
       go (inr new) = chained_new x new.0 new.1
 
-  pub chained_more : IsChained places choice loads after from' (set turn l t)
+  pub chained_more : IsChained places choice loads after from' ranks'
   chained_more = record {
-    linked = λ x h. (chained_at x h).0;
-    offered = λ x h. (chained_at x h).1;
-    higher = λ x h. (chained_at x h).2;
-    before = λ x k h b e. (chained_at x h).3 k b e;
+    linked = λ x h. (chain_at x h).0;
+    offered = λ x h. (chain_at x h).1;
+    higher = λ x h. (chain_at x h).2;
+    before = λ x h. (chain_at x h).3;
   }
 
   -- the link itself stands as high as before
-  pub way_there : (i : ℕ) → Contains (get_or places l []) i → at loads i + 2 ≤ top → IsWay places choice loads after l i
-  way_there i offered far =
-      let up = no_lower loads before after from from' l top (λ y. Contains (get_or places l []) y) raised (at choice l) in
-      record { within = highest.within; offered = offered; lower = omega arith }
+  pub way_there : (x : ℕ) → Contains (get_or places l []) x → at loads x + 2 ≤ top → IsWay places choice loads after l x
+  way_there x offered far = let u = up (at choice l) in record { within = bl; offered = offered; lower = omega arith }
 
-  counted_less : t + 1 + count_by (λ x. x == length turn) (set turn l t) ≡ length turn
-  counted_less =
-      let w = highest.within in
-      let s = sum_by-set (λ x. cond (x == length turn) 1 0) turn l t 0 (omega arith) in
-      let yes = ap one_if (eq-eqb (at turn l) (length turn) highest.waits) in
-      let no = ap one_if (ne_eqb t (length turn) (λ e. omega arith)) in
-      let c = marking.counted in
-      omega arith
+  -- the interrupts up to this one keep their ranks
+  rank_back : (k : ℕ) → k < length choice → at ranks' (at choice k) ≤ i → at ranks' (at choice k) ≡ at ranks (at choice k)
+  rank_back k b le = go (cases_lt (at ranks (at choice k)) high)
+    where
+      go : (at ranks (at choice k) < high) ⊎ (high ≤ at ranks (at choice k)) → at ranks' (at choice k) ≡ at ranks (at choice k)
+      go (inl less) = later.still (at choice k) (known k b) less
+      go (inr more) = absurd (let s = later.behind (at choice k) (known k b) more in omega arith)
 
-  pub marking_more : ((i : ℕ) → Contains (get_or places l []) i → top ≤ height_at loads after i) → IsMarking places choice loads after from' (set turn l t) (t + 1)
-  marking_more done = record {
-    earlier = λ k b ne. earlier k b (λ e. ne (e ∙ sym turns));
-    counted = let c = counted_less in rw turns c;
-    highest = λ d u bd bu ne e. highest_more d u bd bu (came d (λ f. ne (f ∙ sym turns))) (waits u (e ∙ turns));
-    levelled = λ k i b ne o. levelled_more k i b (came k (λ f. ne (f ∙ sym turns))) o;
+  pub here_still : at ranks' (at choice l) ≡ i
+  here_still = later.still (at choice l) (known l bl) (omega arith) ∙ here
+
+  pub top_still : height_at loads after (at choice l) ≡ top
+  top_still = kept_height (at choice l) (known l bl) (omega arith) ∙ is_top
+
+  -- all that the link offers is as high: the next link of the interrupt comes next
+  pub marked_more : ((x : ℕ) → Contains (get_or places l []) x → top ≤ height_at loads after x) → (next : ℕ) → l < next → ((k : ℕ) → l < k → k < next → k < length choice → at choice k ≢ at choice l) → (one : (x y : ℕ) → x < length ranks → y < length ranks → at ranks x ≡ at ranks y → x ≡ y) → IsMarked places choice loads after from' ranks' high' i next
+  marked_more done next after_l none one = record {
     chained = chained_more;
+    early = raised_early;
+    levelled = levelled_more;
   }
     where
-      earlier : (k : ℕ) → k < length choice → at (set turn l t) k ≢ length turn → at (set turn l t) k < t + 1
-      earlier k b ne = go (cases_eq k l)
+      levelled_more : (k x : ℕ) → k < length choice → at ranks' (at choice k) ≤ i → (at ranks' (at choice k) ≡ i → k < next) → Offers places k x → height_at loads after (at choice k) ≤ height_at loads after x
+      levelled_more k x b le before_next o = go (cases_order k l)
         where
-          go : (k ≡ l) ⊎ (k ≢ l) → at (set turn l t) k < t + 1
-          go (inl is) = let h = ap (at (set turn l t)) is ∙ turn_here in omega arith
-          go (inr other) = let f = turn_other k other in let m = marking.earlier k b (λ e. ne (f ∙ e)) in omega arith
+          back : at ranks' (at choice k) ≡ at ranks (at choice k)
+          back = rank_back k b le
 
-      highest_more : (d u : ℕ) → d < length choice → u < length choice → (d ≡ l) ⊎ (at turn d ≢ length turn) → at turn u ≡ length turn → height_at loads after (at choice u) ≤ height_at loads after (at choice d)
-      highest_more d u bd bu which e = go which
-        where
-          low : height_at loads after (at choice u) ≤ top
-          low = within_top loads before after from from' l top (λ y. Contains (get_or places l []) y) raised (at choice u) (highest.top u bu e)
+          old : (at ranks (at choice k) ≡ i → k < l) → height_at loads after (at choice k) ≤ height_at loads after x
+          old h =
+              let m = marked.levelled k x b (let e = back in omega arith) h o in
+              let s = kept_height (at choice k) (known k b) (let e = back in omega arith) in
+              let u = up x in
+              omega arith
 
-          up : (x : ℕ) → height_at loads before x ≤ height_at loads after x
-          up = no_lower loads before after from from' l top (λ y. Contains (get_or places l []) y) raised
+          go : (k ≡ l) ⊎ ((k < l) ⊎ (l < k)) → height_at loads after (at choice k) ≤ height_at loads after x
+          go (inl is) =
+              let d = done x (rw (sym is) o) in
+              let t = top_still in
+              let e : height_at loads after (at choice k) ≡ height_at loads after (at choice l) = ap (λ (j : ℕ). height_at loads after (at choice j)) is in
+              omega arith
+          go (inr (inl less)) = old (λ e. less)
+          go (inr (inr more)) = old (λ e. absurd (none k more (before_next (back ∙ e)) b (one (at choice k) (at choice l) (known k b) (known l bl) (e ∙ sym here))))
 
-          go : (d ≡ l) ⊎ (at turn d ≢ length turn) → height_at loads after (at choice u) ≤ height_at loads after (at choice d)
-          go (inl is) = let a = low in let b = up (at choice l) in rw is (omega arith)
-          go (inr ne) = let a = low in let b = up (at choice d) in let m = marking.highest d l bd highest.within ne highest.waits in omega arith
+-- the first link of the next interrupt
+pub marked_begins : (places : List (List ℕ)) (choice loads : List ℕ) (raised raised' : List Bool) (from from' ranks ranks' : List ℕ) (high high' i first : ℕ) → raised' ≡ raised → from' ≡ from → ranks' ≡ ranks → high ≤ high' → IsMarked places choice loads raised from ranks high i 0 → ((k : ℕ) → k < length choice → at ranks (at choice k) ≡ i → first ≤ k) → IsMarked places choice loads raised' from' ranks' high' i first
+marked_begins places choice loads raised raised' from from' ranks ranks' high high' i first er ef ek more marked none = rw (er, ef, ek) record {
+  chained = marked.chained;
+  early = λ x h. let e = marked.early x h in (e.0, let l = e.1 in omega arith);
+  levelled = λ k x b le before_first o. marked.levelled k x b le (λ e. absurd (let f = before_first e in let n = none k b e in omega arith)) o;
+}
 
-      levelled_more : (k i : ℕ) → k < length choice → (k ≡ l) ⊎ (at turn k ≢ length turn) → Offers places k i → height_at loads after (at choice k) ≤ height_at loads after i
-      levelled_more k i b (inl is) o =
-          let low = within_top loads before after from from' l top (λ y. Contains (get_or places l []) y) raised (at choice l) (omega arith) in
-          let d = done i (subst (λ (j : ℕ). Offers places j i) is o) in
-          rw is (omega arith)
-      levelled_more k i b (inr ne) o =
-          let m = marking.highest k l b highest.within ne highest.waits in
-          let s = still loads before after from from' l top (λ y. Contains (get_or places l []) y) raised (at choice k) m in
-          let v = marking.levelled k i b ne o in
-          let up = no_lower loads before after from from' l top (λ y. Contains (get_or places l []) y) raised i in
-          omega arith
+-- no link of the interrupt is left: the next interrupt comes
+pub marked_past : (places : List (List ℕ)) (choice loads : List ℕ) (raised : List Bool) (from ranks : List ℕ) (high i l : ℕ) → length choice ≤ l → IsMarked places choice loads raised from ranks high i l → IsMarked places choice loads raised from ranks high (i + 1) 0
+marked_past places choice loads raised from ranks high i l past marked = record {
+  chained = marked.chained;
+  early = marked.early;
+  levelled = λ k x b le nothing o. marked.levelled k x b (within k le nothing (cases_eq (at ranks (at choice k)) (i + 1))) (λ e. omega arith) o;
+}
+  where
+    within : (k : ℕ) → at ranks (at choice k) ≤ i + 1 → (at ranks (at choice k) ≡ i + 1 → k < 0) → (at ranks (at choice k) ≡ i + 1) ⊎ (at ranks (at choice k) ≢ i + 1) → at ranks (at choice k) ≤ i
+    within k le nothing (inl e) = absurd (let f = nothing e in omega arith)
+    within k le nothing (inr ne) = omega arith
+
+pub between_past : (loads : List ℕ) (raised : List Bool) (interrupts ranks : List ℕ) (high top i x : ℕ) → IsArranged loads raised interrupts ranks high top → i < high → x < length ranks → at ranks x ≡ i → height_at loads raised x ≡ top → IsBetween loads raised interrupts ranks high (i + 1)
+between_past loads raised interrupts ranks high top i x arranged passed bx here is = record {
+  listed = arranged.listed;
+  falling = arranged.falling;
+  begun = omega arith;
+  even = λ y z by bz less more. let a = arranged.above y by less in let f = arranged.falling x z bx bz (omega arith) in omega arith;
+}
 
 -- nothing is marked
-pub marking_none : (places : List (List ℕ)) (choice loads : List ℕ) (raised : List Bool) (from turn : List ℕ) → length turn ≡ length choice → ((x : ℕ) → is_raised raised x ≡ false) → ((k : ℕ) → k < length turn → at turn k ≡ length turn) → count_by (λ x. x == length turn) turn ≡ length turn → IsMarking places choice loads raised from turn 0
-marking_none places choice loads raised from turn long none all whole = record {
-  earlier = λ k b ne. absurd (ne (all k (omega arith)));
-  counted = omega (arith, whole);
-  highest = λ d u bd bu ne e. absurd (ne (all d (omega arith)));
-  levelled = λ k i b ne o. absurd (ne (all k (omega arith)));
+pub marked_none : (places : List (List ℕ)) (choice loads : List ℕ) (raised : List Bool) (from ranks : List ℕ) (high : ℕ) → ((x : ℕ) → is_raised raised x ≡ false) → IsMarked places choice loads raised from ranks high 0 0
+marked_none places choice loads raised from ranks high none = record {
   chained = record {
     linked = λ x h. absurd (false≢true (sym (none x) ∙ h));
     offered = λ x h. absurd (false≢true (sym (none x) ∙ h));
     higher = λ x h. absurd (false≢true (sym (none x) ∙ h));
-    before = λ x k h b e. absurd (false≢true (sym (none x) ∙ h));
+    before = λ x h. absurd (false≢true (sym (none x) ∙ h));
   };
+  early = λ x h. absurd (false≢true (sym (none x) ∙ h));
+  levelled = λ k x b le nothing o. absurd (let f = nothing (omega arith) in omega arith);
 }
 
--- no link waits: no link offers an interrupt that is lower
-pub levelled_all : (places : List (List ℕ)) (choice loads : List ℕ) (raised : List Bool) (from turn : List ℕ) (t : ℕ) → IsMarking places choice loads raised from turn t → ((k : ℕ) → k < length choice → at turn k ≢ length turn) → AreLevelled places choice loads raised
-levelled_all places choice loads raised from turn t marking none l i b o = marking.levelled l i b (none l b) o
+pub between_none : (loads : List ℕ) (raised : List Bool) (interrupts ranks : List ℕ) → IsListed interrupts ranks → ((x : ℕ) → is_raised raised x ≡ false) → ((i j : ℕ) → i ≤ j → j < length interrupts → at loads (at interrupts j) ≤ at loads (at interrupts i)) → IsBetween loads raised interrupts ranks 0 0
+between_none loads raised interrupts ranks listed none falling = record {
+  listed = listed;
+  falling = λ x y bx by le.
+      let l = listed.long in
+      let f = falling (at ranks x) (at ranks y) le (listed.rank y (omega arith)) in
+      let ex : at loads (at interrupts (at ranks x)) ≡ at loads x = ap (at loads) (listed.there x (omega arith)) in
+      let ey : at loads (at interrupts (at ranks y)) ≡ at loads y = ap (at loads) (listed.there y (omega arith)) in
+      let hx = ap (λ b. at loads x + cond b 1 0) (none x) in
+      let hy = ap (λ b. at loads y + cond b 1 0) (none y) in
+      omega arith;
+  begun = omega arith;
+  even = λ x y bx by less more. absurd (omega arith);
+}
 
--- after as many turns as links none waits
-pub none_waits : (places : List (List ℕ)) (choice loads : List ℕ) (raised : List Bool) (from turn : List ℕ) (t : ℕ) → length turn ≡ length choice → IsMarking places choice loads raised from turn t → length choice ≤ t → (k : ℕ) → k < length choice → at turn k ≢ length turn
-none_waits places choice loads raised from turn t long marking whole k b e =
-    let one = get_or-le-sum_by (λ x. cond (x == length turn) 1 0) turn k 0 (omega arith) in
-    let yes = ap one_if (eq-eqb (at turn k) (length turn) e) in
-    let c = marking.counted in
-    omega arith
+-- the links of all interrupts are marked: no link offers an interrupt that is lower
+pub levelled_all : (places : List (List ℕ)) (choice loads : List ℕ) (raised : List Bool) (from interrupts ranks : List ℕ) (high count : ℕ) → IsListed interrupts ranks → length interrupts ≡ count → ((k : ℕ) → k < length choice → at choice k < count) → IsMarked places choice loads raised from ranks high count 0 → AreLevelled places choice loads raised
+levelled_all places choice loads raised from interrupts ranks high count listed long known marked k x b o =
+    let r = listed.rank (at choice k) (let n = known k b in omega arith) in
+    marked.levelled k x b (omega arith) (λ e. absurd (omega arith)) o

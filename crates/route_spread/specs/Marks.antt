@@ -1,5 +1,5 @@
 -- The interrupts that links lead to, marked from the highest down. Links and interrupts are known by their places.
-use Rattle.std.specs.Prelude.{◌≡◌, ◌≢◌, ◌==◌, ◌⊎◌, ℕ, ◌+◌, ◌-◌, ◌*◌, ◌<◌, ◌≤◌, Bool, true, false, List, length, cond, sum_by, count_by, slice_index_or}
+use Rattle.std.specs.Prelude.{◌≡◌, ◌==◌, ◌⊎◌, ℕ, ◌+◌, ◌-◌, ◌*◌, ◌<◌, ◌≤◌, Bool, true, false, List, length, cond, sum_by, slice_index_or, slice_set}
 use Rattle.route_model.specs.Routing.{given}
 use Rattle.route_model.specs.Placement.{Offers}
 
@@ -26,12 +26,57 @@ pub record AreRaised (loads : List ℕ) (before after : List Bool) (from from' :
   pub same : (x : ℕ) → is_raised before x ≡ true → at from' x ≡ at from x
   pub new : (x : ℕ) → is_raised after x ≡ true → (is_raised before x ≡ true) ⊎ (Among x × IsNew loads before from' link top x)
 
--- Why each interrupt is raised: a link offers it that stands as high at least, and whose turn was before that of all links there.
-pub record IsChained (places : List (List ℕ)) (choice loads : List ℕ) (raised : List Bool) (from turn : List ℕ) : Type 0 where
+-- The interrupts in some order, and the rank of each: its place in that order.
+pub record IsListed (interrupts ranks : List ℕ) : Type 0 where
+  pub long : length ranks ≡ length interrupts
+  pub known : (j : ℕ) → j < length interrupts → at interrupts j < length interrupts
+  pub ranked : (j : ℕ) → j < length interrupts → at ranks (at interrupts j) ≡ j
+  pub rank : (x : ℕ) → x < length interrupts → at ranks x < length interrupts
+  pub there : (x : ℕ) → x < length interrupts → at interrupts (at ranks x) ≡ x
+
+-- An interrupt was put in place of the first of those that are lower, which has its place then.
+pub record IsPromoted (i high : ℕ) (interrupts interrupts' ranks ranks' : List ℕ) : Type 0 where
+  pub put : interrupts' ≡ slice_set (slice_set interrupts (at ranks i) (at interrupts high)) high i
+  pub ranked : ranks' ≡ slice_set (slice_set ranks (at interrupts high) (at ranks i)) i high
+
+-- The interrupts stand in the order of their heights, from the greatest down.
+abbrev pub AreFalling : List ℕ → List Bool → List ℕ → Type 0
+AreFalling loads raised ranks = (x y : ℕ) → x < length ranks → y < length ranks → at ranks x ≤ at ranks y → height_at loads raised y ≤ height_at loads raised x
+
+-- They do, and so many of them, from the first on, are as high as a number.
+pub record IsArranged (loads : List ℕ) (raised : List Bool) (interrupts ranks : List ℕ) (high top : ℕ) : Type 0 where
+  pub listed : IsListed interrupts ranks
+  pub falling : AreFalling loads raised ranks
+  pub above : (x : ℕ) → x < length ranks → at ranks x < high → top ≤ height_at loads raised x
+  pub below : (x : ℕ) → x < length ranks → high ≤ at ranks x → height_at loads raised x < top
+
+-- They do, and so many of them, from the first on, are as high as all from the i-th on.
+pub record IsBetween (loads : List ℕ) (raised : List Bool) (interrupts ranks : List ℕ) (high i : ℕ) : Type 0 where
+  pub listed : IsListed interrupts ranks
+  pub falling : AreFalling loads raised ranks
+  pub begun : i ≤ high
+  pub even : (x y : ℕ) → x < length ranks → y < length ranks → at ranks x < high → i ≤ at ranks y → height_at loads raised y ≤ height_at loads raised x
+
+-- The first so many interrupts have kept their places.
+pub record IsLater (high high' : ℕ) (ranks ranks' : List ℕ) : Type 0 where
+  pub more : high ≤ high'
+  pub still : (x : ℕ) → x < length ranks → at ranks x < high → at ranks' x ≡ at ranks x
+  pub behind : (x : ℕ) → x < length ranks → high ≤ at ranks x → high ≤ at ranks' x
+
+-- The links of each interrupt: the first of them, and the one behind each; the number of links where there is none.
+pub record AreHolders (choice first next : List ℕ) : Type 0 where
+  pub found : (k : ℕ) → k < length choice → at first (at choice k) ≤ k
+  pub has : (x : ℕ) → x < length first → at first x < length choice → at choice (at first x) ≡ x
+  pub after : (l : ℕ) → l < length choice → l < at next l
+  pub same : (l : ℕ) → l < length choice → at next l < length choice → at choice (at next l) ≡ at choice l
+  pub none : (l k : ℕ) → l < k → k < length choice → at choice k ≡ at choice l → at next l ≤ k
+
+-- Why each interrupt is raised: a link offers it that stands as high at least, on an interrupt that comes before it in order.
+pub record IsChained (places : List (List ℕ)) (choice loads : List ℕ) (raised : List Bool) (from ranks : List ℕ) : Type 0 where
   pub linked : (x : ℕ) → is_raised raised x ≡ true → at from x < length choice
   pub offered : (x : ℕ) → is_raised raised x ≡ true → Offers places (at from x) x
   pub higher : (x : ℕ) → is_raised raised x ≡ true → at loads x + 1 ≤ height_at loads raised (at choice (at from x))
-  pub before : (x k : ℕ) → is_raised raised x ≡ true → k < length choice → at choice k ≡ x → at turn (at from x) < at turn k
+  pub before : (x : ℕ) → is_raised raised x ≡ true → at ranks (at choice (at from x)) < at ranks x
 
 -- No link offers an interrupt that is lower than the one that it has.
 abbrev pub AreLevelled : List (List ℕ) → List ℕ → List ℕ → List Bool → Type 0
@@ -69,25 +114,18 @@ pub record IsShifted (places : List (List ℕ)) (choice choice' loads loads' : L
   pub no_more : (k : ℕ) → sum_by (λ x. x - k) loads' ≤ sum_by (λ x. x - k) loads
   pub bounded : (c : ℕ) → ((x : ℕ) → at loads x ≤ c) → (x : ℕ) → at loads' x ≤ c
 
--- The highest of the links whose turn has not come.
-pub record IsHighest (choice loads : List ℕ) (raised : List Bool) (turn : List ℕ) (l : ℕ) : Type 0 where
-  pub within : l < length choice
-  pub waits : at turn l ≡ length turn
-  pub top : (k : ℕ) → k < length choice → at turn k ≡ length turn → height_at loads raised (at choice k) ≤ height_at loads raised (at choice l)
-
--- How far the marking has come: the links whose turn has come are the highest, and offer nothing lower.
-pub record IsMarking (places : List (List ℕ)) (choice loads : List ℕ) (raised : List Bool) (from turn : List ℕ) (t : ℕ) : Type 0 where
-  pub earlier : (k : ℕ) → k < length choice → at turn k ≢ length turn → at turn k < t
-  pub counted : t + count_by (λ x. x == length turn) turn ≡ length turn
-  pub highest : (d u : ℕ) → d < length choice → u < length choice → at turn d ≢ length turn → at turn u ≡ length turn → height_at loads raised (at choice u) ≤ height_at loads raised (at choice d)
-  pub levelled : (l i : ℕ) → l < length choice → at turn l ≢ length turn → Offers places l i → height_at loads raised (at choice l) ≤ height_at loads raised i
-  pub chained : IsChained places choice loads raised from turn
+-- How far the marking has come: to the links before the l-th of the i-th interrupt, and to all of the interrupts before it. These
+-- offer nothing that is lower, and only the first so many interrupts are raised.
+pub record IsMarked (places : List (List ℕ)) (choice loads : List ℕ) (raised : List Bool) (from ranks : List ℕ) (high i l : ℕ) : Type 0 where
+  pub chained : IsChained places choice loads raised from ranks
+  pub early : (x : ℕ) → is_raised raised x ≡ true → (x < length ranks) × (at ranks x < high)
+  pub levelled : (k x : ℕ) → k < length choice → at ranks (at choice k) ≤ i → (at ranks (at choice k) ≡ i → k < l) → Offers places k x → height_at loads raised (at choice k) ≤ height_at loads raised x
 
 -- Links were moved back from the target of a way, and this link is next: its interrupt loses it, which stands for the one that
 -- the target gains.
-pub record IsMoving (places : List (List ℕ)) (start choice loads : List ℕ) (raised : List Bool) (turn : List ℕ) (target link to : ℕ) : Type 0 where
+pub record IsMoving (places : List (List ℕ)) (start choice loads : List ℕ) (raised : List Bool) (ranks : List ℕ) (target link to : ℕ) : Type 0 where
   pub within : link < length choice
-  pub same : (k : ℕ) → k < length choice → at turn k ≤ at turn link → at choice k ≡ at start k
+  pub same : (k : ℕ) → k < length choice → at ranks (at start k) ≤ at ranks (at start link) → at choice k ≡ at start k
   pub placed : ArePlaced places choice
   pub next : Offers places link to
   pub moved : (x : ℕ) → given choice x + cond (to == x) 1 0 ≡ given start x + cond (target == x) 1 0

@@ -1,33 +1,180 @@
 //! Marks the interrupts that links lead to, from the highest down: each is raised by one at most, or a link can move to it.
-ghost use Rattle.std.specs.Prelude.{◌≡◌, ◌≢◌, ◌≤◌, ◌<◌, ◌+◌, ◌^◌, ◌↔◌, ℕ, Contains, IsTrue, MatchOption, replicate, true, false, length, [], slice_index_or, slice_set};
-ghost use Rattle.route_model.specs.Placement.{Offers};
-ghost use Rattle.route_spread.specs.Numbers.{lists_of};
-ghost use Rattle.route_spread.specs.Marks.{at, is_raised, height_at, AreRaised, AreLevelled, IsChained, IsHighest, IsWay};
+ghost use Rattle.std.specs.Prelude.{◌≡◌, ◌≤◌, ◌<◌, ◌+◌, ◌^◌, ◌↔◌, ℕ, Contains, IsTrue, IfOk, MatchOption, length, false};
+ghost use Rattle.route_spread.specs.Marks.{at, height_at, is_raised};
+ghost use Rattle.route_spread.specs.Markings.{AreArrangedAt, AreArrangedFor, AreLater, CanBeMarked, HasRoomFor, HaveLevelled, HaveMarked, HaveRaised, HaveWay, IsCounted, KnowsHolders};
 
-/// The load of an interrupt, and one more where it is raised.
-fn height(loads: &[u128], raised: &[bool], i: usize) -> u128
-    requires within { i < length loads.now }
-    requires long { length raised.now ≡ length loads.now }
-    requires small { (x : ℕ) → at loads.now x ≤ 2 ^ 100 }
-    ensures { result ≡ height_at loads.now raised.now i }
-{
-    if raised[i] { loads[i] + 1 } else { loads[i] }
+use crate::assignment::Assignment;
+use crate::order::Order;
+use std::alloc::{AllocError, Global};
+
+/// A link, and an interrupt that it offers and that is lower by two at least than the link stands.
+#[derive(Clone, Copy)]
+pub(crate) struct Way {
+    pub link: usize,
+    pub target: usize,
 }
 
-/// Raises an interrupt that is lower than a link which offers it, and notes the link.
-fn lift(loads: &[u128], raised: &mut [bool], from: &mut [usize], link: usize, top: u128, i: usize)
-    requires within { i < length loads.now }
-    requires long { length raised.old ≡ length loads.now }
-    requires from { length from.old ≡ length loads.now }
-    requires near { top ≤ at loads.now i + 1 }
-    ensures lifted { top ≤ height_at loads.now raised.new i }
-    ensures only { AreRaised loads.now raised.old raised.new from.old from.new link top (λ x. x ≡ i) }
-{
-    if loads[i] >= top || raised[i] {
-        return;
+/// What a marking found: the interrupts that are raised, and why.
+#[derive(Drop)]
+pub(crate) struct Marks {
+    /// Whether each interrupt is raised.
+    pub raised: Vec<bool>,
+    /// For each interrupt that is raised the link that offers it.
+    pub from: Vec<usize>,
+    /// The interrupts, the highest first.
+    pub order: Order,
+}
+
+impl Marks {
+    /// Marks of so many interrupts, none of them raised.
+    pub(crate) fn new(alloc: Global, count: usize) -> Result<Marks, AllocError>
+        ensures { IfOk result (λ marks. HasRoomFor count marks) }
+    {
+        let raised = vec![in alloc; false; count]?;
+        let from = vec![in alloc; 0; count]?;
+        let order = Order::new(alloc, count)?;
+        Ok(Marks {
+            raised,
+            from,
+            order,
+        })
     }
-    raised[i] = true;
-    from[i] = link;
+
+    /// The load of an interrupt, and one more where it is raised.
+    fn height(&self, loads: &[u128], i: usize) -> u128
+        requires within { i < length loads.now }
+        requires long { length self.now.raised.items ≡ length loads.now }
+        requires small { (x : ℕ) → at loads.now x ≤ 2 ^ 100 }
+        ensures { result ≡ height_at loads.now self.now.raised.items i }
+    {
+        if self.raised[i] {
+            loads[i] + 1
+        } else {
+            loads[i]
+        }
+    }
+
+    /// Raises an interrupt that is lower than a link which offers it, and notes the link.
+    fn lift(&mut self, loads: &[u128], link: usize, top: u128, i: usize)
+        requires within { i < length loads.now }
+        requires room { HasRoomFor (length loads.now) self.old }
+        requires arranged { AreArrangedAt loads.now self.old top }
+        requires near { top ≤ at loads.now i + 1 }
+        ensures room { HasRoomFor (length loads.now) self.new }
+        ensures lifted { top ≤ height_at loads.now self.new.raised.items i }
+        ensures only { HaveRaised loads.now self.old self.new link top (λ x. x ≡ i) }
+        ensures arranged { AreArrangedAt loads.now self.new top }
+        ensures later { AreLater self.old self.new }
+    {
+        if loads[i] >= top || self.raised[i] {
+            return;
+        }
+        self.raised[i] = true;
+        self.from[i] = link;
+        self.order.promote(i);
+    }
+
+    /// Raises what a link offers to its height, up to an interrupt that is lower by two at least.
+    fn lift_all(
+        &mut self,
+        loads: &[u128],
+        offers: &[usize],
+        link: usize,
+        top: u128,
+    ) -> Option<usize>
+        requires known { (i : ℕ) → Contains offers.now i → i < length loads.now }
+        requires room { HasRoomFor (length loads.now) self.old }
+        requires arranged { AreArrangedAt loads.now self.old top }
+        requires small { (x : ℕ) → at loads.now x ≤ 2 ^ 100 }
+        ensures room { HasRoomFor (length loads.now) self.new }
+        ensures found { MatchOption result ((i : ℕ) → Contains offers.now i → top ≤ height_at loads.now self.new.raised.items i) (λ i. Contains offers.now i × (at loads.now i + 2 ≤ top)) }
+        ensures only { HaveRaised loads.now self.old self.new link top (λ x. Contains offers.now x) }
+        ensures arranged { AreArrangedAt loads.now self.new top }
+        ensures later { AreLater self.old self.new }
+    {
+        for i in offers {
+            if is_far(loads, *i, top) {
+                return Some(*i);
+            }
+            self.lift(loads, link, top, *i);
+        }
+        None
+    }
+
+    /// Counts the interrupts that are as high as the i-th.
+    fn count_high(&mut self, loads: &[u128], top: u128, i: usize)
+        requires room { HasRoomFor (length loads.now) self.old }
+        requires arranged { AreArrangedFor loads.now self.old i }
+        requires within { i < length loads.now }
+        requires top { top ≡ height_at loads.now self.old.raised.items (at self.old.order.interrupts.items i) }
+        requires small { (x : ℕ) → at loads.now x ≤ 2 ^ 100 }
+        ensures room { HasRoomFor (length loads.now) self.new }
+        ensures counted { IsCounted loads.now self.old self.new top i }
+    {
+        let mut high = self.order.high;
+        while high < self.order.interrupts.len()
+            && self.height(loads, self.order.interrupts[high]) >= top
+        {
+            high += 1;
+        }
+        self.order.high = high;
+    }
+
+    /// Raises what the links of the i-th interrupt offer, up to a way.
+    fn mark_links(&mut self, assignment: &Assignment, i: usize) -> Option<Way>
+        requires assigned { CanBeMarked assignment.now }
+        requires holders { KnowsHolders assignment.now }
+        requires room { HasRoomFor (length assignment.now.loads.items) self.old }
+        requires within { i < length assignment.now.loads.items }
+        requires marked { HaveMarked assignment.now self.old i }
+        ensures room { HasRoomFor (length assignment.now.loads.items) self.new }
+        ensures found { MatchOption result (HaveMarked assignment.now self.new (i + 1)) (λ way. HaveWay assignment.now self.new way) }
+    {
+        let loads: &[u128] = &assignment.loads;
+        let interrupt = self.order.interrupts[i];
+        let top = self.height(loads, interrupt);
+        self.count_high(loads, top, i);
+        let mut link = assignment.holders.first[interrupt];
+        while link < assignment.choice.len() {
+            let offers: &[usize] = &assignment.offers[link];
+            match self.lift_all(loads, offers, link, top) {
+                Some(target) => return Some(Way { link, target }),
+                None => {}
+            }
+            link = assignment.holders.next[link];
+        }
+        None
+    }
+
+    /// Begins: the interrupts are in the order of their loads, and none is raised.
+    fn begin(&mut self, loads: &[u128])
+        requires { HasRoomFor (length loads.now) self.old }
+        ensures room { HasRoomFor (length loads.now) self.new }
+        ensures arranged { AreArrangedFor loads.now self.new 0 }
+        ensures none { (x : ℕ) → is_raised self.new.raised.items x ≡ false }
+    {
+        self.raised.fill(false);
+        self.order.arrange(loads);
+    }
+
+    /// Marks what links lead to from the highest interrupts down, up to a way. Where there is none, no link offers an interrupt that
+    /// is lower.
+    pub(crate) fn mark(&mut self, assignment: &Assignment) -> Option<Way>
+        requires assigned { CanBeMarked assignment.now }
+        requires holders { KnowsHolders assignment.now }
+        requires room { HasRoomFor (length assignment.now.loads.items) self.old }
+        ensures room { HasRoomFor (length assignment.now.loads.items) self.new }
+        ensures found { MatchOption result (HaveLevelled assignment.now self.new) (λ way. HaveWay assignment.now self.new way) }
+    {
+        self.begin(&assignment.loads);
+        for i in 0..assignment.loads.len() {
+            match self.mark_links(assignment, i) {
+                Some(way) => return Some(way),
+                None => {}
+            }
+        }
+        None
+    }
 }
 
 /// Whether an interrupt is lower than a link by two at least.
@@ -37,121 +184,4 @@ fn is_far(loads: &[u128], i: usize, top: u128) -> bool
     ensures { IsTrue result ↔ (at loads.now i + 2 ≤ top) }
 {
     loads[i] + 2 <= top
-}
-
-/// Raises what a link offers to its height, up to an interrupt that is lower by two at least.
-fn lift_all(
-    offers: &[usize],
-    loads: &[u128],
-    raised: &mut [bool],
-    from: &mut [usize],
-    link: usize,
-    top: u128,
-) -> Option<usize>
-    requires known { (i : ℕ) → Contains offers.now i → i < length loads.now }
-    requires long { length raised.old ≡ length loads.now }
-    requires from { length from.old ≡ length loads.now }
-    requires small { (x : ℕ) → at loads.now x ≤ 2 ^ 100 }
-    ensures found { MatchOption result ((i : ℕ) → Contains offers.now i → top ≤ height_at loads.now raised.new i) (λ i. Contains offers.now i × (at loads.now i + 2 ≤ top)) }
-    ensures only { AreRaised loads.now raised.old raised.new from.old from.new link top (λ x. Contains offers.now x) }
-{
-    for i in offers {
-        if is_far(loads, *i, top) {
-            return Some(*i);
-        }
-        lift(loads, raised, from, link, top, *i);
-    }
-    None
-}
-
-/// Whether the turn of a link has not come.
-fn is_open(turn: &[usize], l: usize) -> bool
-    requires { l < length turn.now }
-    ensures { IsTrue result ↔ (at turn.now l ≡ length turn.now) }
-{
-    turn[l] == turn.len()
-}
-
-/// Whether a link stands no higher than another.
-fn is_no_higher(choice: &[usize], loads: &[u128], raised: &[bool], l: usize, best: usize) -> bool
-    requires l { l < length choice.now }
-    requires best { best < length choice.now }
-    requires known { (k : ℕ) → k < length choice.now → at choice.now k < length loads.now }
-    requires long { length raised.now ≡ length loads.now }
-    requires small { (x : ℕ) → at loads.now x ≤ 2 ^ 100 }
-    ensures { IsTrue result ↔ (height_at loads.now raised.now (at choice.now l) ≤ height_at loads.now raised.now (at choice.now best)) }
-{
-    height(loads, raised, choice[l]) <= height(loads, raised, choice[best])
-}
-
-/// The highest of the links whose turn has not come.
-fn highest_open(choice: &[usize], loads: &[u128], raised: &[bool], turn: &[usize]) -> Option<usize>
-    requires known { (k : ℕ) → k < length choice.now → at choice.now k < length loads.now }
-    requires long { length raised.now ≡ length loads.now }
-    requires turns { length turn.now ≡ length choice.now }
-    requires small { (x : ℕ) → at loads.now x ≤ 2 ^ 100 }
-    ensures { MatchOption result ((k : ℕ) → k < length choice.now → at turn.now k ≢ length turn.now) (λ l. IsHighest choice.now loads.now raised.now turn.now l) }
-{
-    let mut best = choice.len();
-    for l in 0..choice.len() {
-        if !is_open(turn, l) {
-            continue;
-        }
-        if best < choice.len() && is_no_higher(choice, loads, raised, l, best) {
-            continue;
-        }
-        best = l;
-    }
-    if best < choice.len() {
-        Some(best)
-    } else {
-        None
-    }
-}
-
-/// Begins a marking: nothing is raised, and the turn of no link has come.
-fn clear(raised: &mut [bool], turn: &mut [usize])
-    ensures raised { (x : ℕ) → is_raised raised.new x ≡ false }
-    ensures turn { turn.new ≡ replicate (length turn.old) (length turn.old) }
-{
-    raised.fill(false);
-    let none = turn.len();
-    turn.fill(none);
-}
-
-/// Gives the links their turns, the highest first, and raises what they offer, up to a way on which a link can move to an
-/// interrupt that is lower by two at least: the link, and the interrupt. Where there is no such way, no link offers an interrupt
-/// that is lower.
-pub(crate) fn mark(
-    offers: &[Vec<usize>],
-    choice: &[usize],
-    loads: &[u128],
-    raised: &mut [bool],
-    from: &mut [usize],
-    turn: &mut [usize],
-) -> Option<(usize, usize)>
-    requires links { length offers.now ≡ length choice.now }
-    requires below { (l i : ℕ) → Offers (lists_of offers.now) l i → i < length loads.now }
-    requires known { (k : ℕ) → k < length choice.now → at choice.now k < length loads.now }
-    requires long { length raised.old ≡ length loads.now }
-    requires from { length from.old ≡ length loads.now }
-    requires turns { length turn.old ≡ length choice.now }
-    requires small { (x : ℕ) → at loads.now x ≤ 2 ^ 100 }
-    ensures found { MatchOption result (AreLevelled (lists_of offers.now) choice.now loads.now raised.new) (λ w. IsWay (lists_of offers.now) choice.now loads.now raised.new w.0 w.1 × IsChained (lists_of offers.now) choice.now loads.now raised.new from.new turn.new) }
-{
-    clear(raised, turn);
-    for t in 0..choice.len() {
-        let link = match highest_open(choice, loads, raised, turn) {
-            Some(link) => link,
-            None => return None,
-        };
-        turn[link] = t;
-        let top = height(loads, raised, choice[link]);
-        let items: &[usize] = &offers[link];
-        match lift_all(items, loads, raised, from, link, top) {
-            Some(target) => return Some((link, target)),
-            None => {}
-        }
-    }
-    None
 }

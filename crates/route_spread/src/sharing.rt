@@ -1,14 +1,18 @@
 //! The public calls: a solver, and a check of any choice.
 ghost use Rattle.std.specs.Prelude.{◌≡◌, ◌↔◌, ◌<◌, ◌≤◌, ◌+◌, ◌^◌, ℕ, Contains, IfOk, IsTrue, length};
+ghost use Rattle.std.specs.Bool.{OnTrue, OnFalse};
 ghost use Rattle.std.specs.List.Sorted.{IsStrictlyIncreasing};
 ghost use Rattle.route_model.specs.Links.{offers_of};
 ghost use Rattle.route_model.specs.Routing.{given, wired_to, IsAssignment};
 ghost use Rattle.route_spread.specs.Marks.{at};
-ghost use Rattle.route_spread.specs.Numbers.{lists_of, number_at};
+ghost use Rattle.route_spread.specs.Numbers.{number_at};
 ghost use Rattle.route_spread.specs.Sharing.{IsLeastShared};
-ghost use Rattle.route_spread.specs.Sharings.{IsSharing, HasRoom};
+ghost use Rattle.route_spread.specs.Markings.{HaveLevelled, WereMoved};
+ghost use Rattle.route_spread.specs.Improving.{CanBeImproved, HasSameOffers, IsImproved, IsSharingOf, WereLevelled};
 
-use crate::moving::{improve, level};
+use crate::assignment::Assignment;
+use crate::holders::Holders;
+use crate::marking::Marks;
 use crate::numbers::{all_numbers, all_offered, all_places, all_places_offered};
 use crate::sources::{add_links, add_wired};
 use route_model::Link;
@@ -17,20 +21,12 @@ use std::alloc::{AllocError, Global};
 /// Links on interrupts that they offer, and all the memory that moving them takes.
 #[derive(Drop)]
 struct Sharing {
-    /// The interrupts that links offer, ascending.
+    /// The interrupts that links offer, ascending: each is known by its place among them.
     numbers: Vec<u32>,
-    /// For each link the places of what it offers.
-    offers: Vec<Vec<usize>>,
-    /// For each link the place of the interrupt that it has.
-    choice: Vec<usize>,
-    /// How many sources each interrupt serves.
-    loads: Vec<u128>,
-    /// Whether each interrupt is raised.
-    raised: Vec<bool>,
-    /// The link for which each was raised.
-    from: Vec<usize>,
-    /// When the turn of each link was.
-    turn: Vec<usize>,
+    /// Which of them the links have.
+    assignment: Assignment,
+    /// What the search for a better one has marked.
+    marks: Marks,
 }
 
 /// How many sources each interrupt serves.
@@ -61,24 +57,53 @@ impl Sharing {
         choice: &[u32],
     ) -> Result<Sharing, AllocError>
         requires { IsAssignment (offers_of links.now) choice.now }
-        ensures sharing { IfOk result (λ s. IsSharing (offers_of links.now) wired.now choice.now s.numbers.items (lists_of s.offers.items) s.choice.items s.loads.items) }
-        ensures room { IfOk result (λ s. HasRoom s.choice.items s.loads.items s.raised.items s.from.items s.turn.items) }
+        ensures { IfOk result (λ s. IsSharingOf (offers_of links.now) wired.now choice.now s) }
     {
         let numbers = all_offered(alloc, links)?;
         let offers = all_places_offered(alloc, &numbers, links)?;
         let choice = all_places(alloc, &numbers, choice)?;
         let loads = all_loads(alloc, &numbers, wired, &choice)?;
-        let m = numbers.len();
-        let n = choice.len();
+        let holders = Holders::new(alloc, numbers.len(), choice.len())?;
+        let marks = Marks::new(alloc, numbers.len())?;
         Ok(Sharing {
             numbers,
-            offers,
-            choice,
-            loads,
-            raised: vec![in alloc; false; m]?,
-            from: vec![in alloc; 0; m]?,
-            turn: vec![in alloc; 0; n]?,
+            assignment: Assignment {
+                offers,
+                choice,
+                loads,
+                holders,
+            },
+            marks,
         })
+    }
+
+    /// Makes the loads less uneven where links can be moved for it. Else no link offers an interrupt that is lower, with those
+    /// raised that are marked.
+    fn improve(&mut self) -> bool
+        requires { CanBeImproved self.old }
+        ensures can { CanBeImproved self.new }
+        ensures same { HasSameOffers self.old self.new }
+        ensures yes { OnTrue result (WereMoved self.old.assignment self.new.assignment) }
+        ensures no { OnFalse result (WereLevelled self.old self.new) }
+    {
+        self.assignment.holders.gather(&self.assignment.choice);
+        match self.marks.mark(&self.assignment) {
+            Some(way) => {
+                self.assignment.shift(&self.marks, way);
+                true
+            }
+            None => false,
+        }
+    }
+
+    /// Moves links until no link offers an interrupt that is lower, with those raised that are marked.
+    fn level(&mut self)
+        requires { CanBeImproved self.old }
+        ensures same { HasSameOffers self.old self.new }
+        ensures improved { IsImproved self.old.assignment self.new.assignment }
+        ensures levelled { HaveLevelled self.new.assignment self.new.marks }
+    {
+        while self.improve() {}
     }
 }
 
@@ -117,24 +142,8 @@ pub fn is_least_shared(
     if !is_assignment(links, choice) {
         return Ok(false);
     }
-    let Sharing {
-        numbers: _,
-        offers,
-        mut choice,
-        mut loads,
-        mut raised,
-        mut from,
-        mut turn,
-    } = Sharing::new(alloc, links, wired, choice)?;
-    let moved = improve(
-        &offers,
-        &mut choice,
-        &mut loads,
-        &mut raised,
-        &mut from,
-        &mut turn,
-    );
-    Ok(!moved)
+    let mut sharing = Sharing::new(alloc, links, wired, choice)?;
+    Ok(!sharing.improve())
 }
 
 /// An assignment under which links share interrupts as little as they can: from a first one, links are moved until that is so.
@@ -149,23 +158,7 @@ pub fn solve_spread(
     ensures least { IfOk result (λ choice. IsLeastShared (offers_of links.now) wired.now choice.items) }
     ensures stays { IfOk result (λ choice. IsLeastShared (offers_of links.now) wired.now first.now → choice.items ≡ first.now) }
 {
-    let Sharing {
-        numbers,
-        offers,
-        mut choice,
-        mut loads,
-        mut raised,
-        mut from,
-        mut turn,
-    } = Sharing::new(alloc, links, wired, first)?;
-    let given: &mut [usize] = &mut choice;
-    level(
-        &offers,
-        given,
-        &mut loads,
-        &mut raised,
-        &mut from,
-        &mut turn,
-    );
-    all_numbers(alloc, &numbers, given)
+    let mut sharing = Sharing::new(alloc, links, wired, first)?;
+    sharing.level();
+    all_numbers(alloc, &sharing.numbers, &sharing.assignment.choice)
 }
