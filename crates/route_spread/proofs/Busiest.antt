@@ -41,11 +41,11 @@ once_count (x ∷ xs) n = go (any_is xs x) (x == n) refl refl (once_count xs n)
         omega (arith, ih, c, o)
 
 -- all that is offered
-flat : List (List ℕ) → List ℕ
+pub flat : List (List ℕ) → List ℕ
 flat [] = []
 flat (o ∷ os) = o ++ flat os
 
-in_flat : (offers : List (List ℕ)) (l n : ℕ) → Offers offers l n → Contains (flat offers) n
+pub in_flat : (offers : List (List ℕ)) (l n : ℕ) → Offers offers l n → Contains (flat offers) n
 unfolding flat
 in_flat [] l n c = absurd (let b = c.1 in omega arith)
 in_flat (o ∷ os) zero n c = Contains-append_left o (flat os) n c

@@ -11,3 +11,6 @@ pub mod Turns
 pub mod Moves
 pub mod Shared
 pub mod Improved
+pub mod Turned
+pub mod Ways
+pub mod Existence

@@ -13,7 +13,7 @@ one_level k x = go (ltb k x) refl
     go true e = omega (arith, ltb-true k x e)
     go false e = omega (arith, ltb-false k x e)
 
-step : (wired : List (ℕ × ℕ)) (a : List ℕ) (k : ℕ) (ns : List ℕ) → excess wired ns a k ≡ excess wired ns a (k + 1) + busier wired ns a k
+pub step : (wired : List (ℕ × ℕ)) (a : List ℕ) (k : ℕ) (ns : List ℕ) → excess wired ns a k ≡ excess wired ns a (k + 1) + busier wired ns a k
 step wired a k [] = refl
 step wired a k (n ∷ ns) =
     let s1 = sum_by-cons (λ m. load wired a m - k) n ns in
@@ -24,7 +24,7 @@ step wired a k (n ∷ ns) =
     omega (arith, s1, s2, c, o, ih)
 
 -- nothing is above all sources together
-ends : (wired : List (ℕ × ℕ)) (a : List ℕ) (k : ℕ) (ns : List ℕ) → excess wired ns a k ≤ excess wired ns a 0 - k
+pub ends : (wired : List (ℕ × ℕ)) (a : List ℕ) (k : ℕ) (ns : List ℕ) → excess wired ns a k ≤ excess wired ns a 0 - k
 ends wired a k [] = omega arith
 ends wired a k (n ∷ ns) =
     let s1 = sum_by-cons (λ m. load wired a m - k) n ns in
@@ -32,7 +32,7 @@ ends wired a k (n ∷ ns) =
     let ih = ends wired a k ns in
     omega (arith, s1, s2, ih)
 
-alike : (wired : List (ℕ × ℕ)) (ns a b : List ℕ) (d k : ℕ) → excess wired ns a 0 ≤ d + k → excess wired ns b 0 ≤ d + k → ((m : ℕ) → k ≤ m → busier wired ns a m ≡ busier wired ns b m) → excess wired ns a k ≡ excess wired ns b k
+pub alike : (wired : List (ℕ × ℕ)) (ns a b : List ℕ) (d k : ℕ) → excess wired ns a 0 ≤ d + k → excess wired ns b 0 ≤ d + k → ((m : ℕ) → k ≤ m → busier wired ns a m ≡ busier wired ns b m) → excess wired ns a k ≡ excess wired ns b k
 alike wired ns a b zero k x y h = let p = ends wired a k ns in let q = ends wired b k ns in omega (arith, x, y, p, q)
 alike wired ns a b (suc d) k x y h =
     let ih = alike wired ns a b d (k + 1) (omega (arith, x)) (omega (arith, y)) (λ m l. h m (omega (arith, l))) in

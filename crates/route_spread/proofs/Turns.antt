@@ -38,6 +38,14 @@ module _ (loads : List ℕ) (before after : List Bool) (from from' : List ℕ) (
       go (inl e) = e
       go (inr n) = absurd (let b = new_below x n.1 in omega arith)
 
+  -- what was no higher than the top is no higher
+  pub within_top : (x : ℕ) → height_at loads before x ≤ top → height_at loads after x ≤ top
+  within_top x low = go (same_or_new x)
+    where
+      go : (height_at loads after x ≡ height_at loads before x) ⊎ (Among x × IsNew loads before from' link top x × (height_at loads after x ≡ top)) → height_at loads after x ≤ top
+      go (inl e) = omega arith
+      go (inr n) = let e = n.2 in omega arith
+
 -- A link has raised what it offers.
 module _ (places : List (List ℕ)) (choice loads : List ℕ) (before after : List Bool) (from from' interrupts interrupts' ranks ranks' : List ℕ) (high high' top i l : ℕ) (known : (k : ℕ) → k < length choice → at choice k < length ranks) (below : (k x : ℕ) → Offers places k x → x < length ranks) (same_length : length ranks' ≡ length ranks) (arranged : IsArranged loads before interrupts ranks high top) (arranged' : IsArranged loads after interrupts' ranks' high' top) (later : IsLater high high' ranks ranks') (passed : i < high) (marked : IsMarked places choice loads before from ranks high i l) (bl : l < length choice) (here : at ranks (at choice l) ≡ i) (is_top : height_at loads before (at choice l) ≡ top) (raised : AreRaised loads before after from from' l top (λ x. Contains (get_or places l []) x)) where
   -- what is raised anew was lower than the top

@@ -1,5 +1,5 @@
 //! The public calls: a solver, and a check of any choice.
-ghost use Rattle.std.specs.Prelude.{◌≡◌, ◌↔◌, ◌<◌, ◌≤◌, ◌+◌, ◌^◌, ℕ, Contains, IfOk, IsTrue, length};
+ghost use Rattle.std.specs.Prelude.{◌≡◌, ◌↔◌, ◌<◌, ◌≤◌, ◌+◌, ◌^◌, ℕ, Contains, IfOk, IsTrue, Ok, false, length};
 ghost use Rattle.std.specs.Bool.{OnTrue, OnFalse};
 ghost use Rattle.std.specs.List.Sorted.{IsStrictlyIncreasing};
 ghost use Rattle.route_model.specs.Links.{offers_of};
@@ -130,14 +130,15 @@ fn is_assignment(links: &[Link], choice: &[u32]) -> bool
 }
 
 /// Whether links share interrupts as little as they can under a choice, from their offers, the wired counts and the choice alone.
-/// No to a choice that is no assignment. An error means that memory ran out.
+/// No to a choice that is no assignment, for which no memory is taken. An error means that memory ran out.
 pub fn is_least_shared(
     alloc: Global,
     links: &[Link],
     wired: &[(u32, u32)],
     choice: &[u32],
 ) -> Result<bool, AllocError>
-    ensures { IfOk result (λ yes. IsTrue yes ↔ IsLeastShared (offers_of links.now) wired.now choice.now) }
+    ensures answer { IfOk result (λ yes. IsTrue yes ↔ IsLeastShared (offers_of links.now) wired.now choice.now) }
+    ensures no { (IsAssignment (offers_of links.now) choice.now → ⊥) → result ≡ Ok false }
 {
     if !is_assignment(links, choice) {
         return Ok(false);

@@ -6,8 +6,8 @@ use Rattle.route_spread.specs.Numbers.{lists_of}
 use Rattle.route_spread.proofs.Shared.{none_moved}
 use Rattle.route_spread.proofs.sharing.is_least_shared.Goals as goal
 
-pub returns : goal.returns
-returns c =
+pub returns-clause-answer : goal.returns-clause-answer
+returns-clause-answer c =
     let s = c.in_ok-sharing.sharing in
     let new = c.improve.new.self in
     let same = c.improve.ensures.same in
