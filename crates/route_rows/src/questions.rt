@@ -23,10 +23,11 @@ enum Ask {
     Third,
     SciLine,
     AvoidLine,
+    OptionLine,
 }
 
 /// The questions, by their first words.
-const QUESTIONS: [(&str, Ask); 34] = [
+const QUESTIONS: [(&str, Ask); 35] = [
     ("link", Ask::Claim(claims::Ask::Link)),
     ("links", Ask::Claim(claims::Ask::Links)),
     ("wired", Ask::Claim(claims::Ask::Wired)),
@@ -61,6 +62,7 @@ const QUESTIONS: [(&str, Ask); 34] = [
     ("third", Ask::Third),
     ("sci-line", Ask::SciLine),
     ("avoid-line", Ask::AvoidLine),
+    ("option-line", Ask::OptionLine),
 ];
 
 /// Answers a question: its first word says which it is.
@@ -80,5 +82,6 @@ pub fn answer(row: &mut RouteRow, asked: &mut Exchange) {
         Ask::Third => texts::read_third(asked, &mut row.claim),
         Ask::SciLine => texts::read_sci_line(asked, &mut row.claim),
         Ask::AvoidLine => texts::read_avoid_line(asked, &mut row.claim),
+        Ask::OptionLine => texts::read_option_line(asked, &mut row.claim),
     }
 }

@@ -1,4 +1,5 @@
 //! Reports that are put together line by line, each line in the words in which it is printed.
+use crate::option_lines::{self, add_option};
 use crate::pins::{add_after, add_pin, add_set};
 use crate::words::{
     add, add_give, add_wired, named, number, numbers, numbers_of, pass, path, set_bound, source,
@@ -24,6 +25,7 @@ pub fn empty_report(alloc: Global) -> Report {
         overrides: Vec::new(alloc),
         sci: None,
         avoid: Vec::new(alloc),
+        options: None,
         links: Vec::new(alloc),
         wired: Vec::new(alloc),
         pins: Vec::new(alloc),
@@ -106,6 +108,7 @@ enum Line {
     Override,
     Sci,
     Avoid,
+    Option(option_lines::Ask),
     Link,
     Wired,
     Pin,
@@ -117,12 +120,15 @@ enum Line {
 }
 
 /// The lines of a report, by their first words.
-const LINES: [(&str, Line); 13] = [
+const LINES: [(&str, Line); 16] = [
     ("mode", Line::Mode),
     ("ioapic", Line::IoApic),
     ("override", Line::Override),
     ("sci", Line::Sci),
     ("avoid", Line::Avoid),
+    ("spared", Line::Option(option_lines::Ask::Spared)),
+    ("unread", Line::Option(option_lines::Ask::Unread)),
+    ("first", Line::Option(option_lines::Ask::First)),
     ("link", Line::Link),
     ("wired", Line::Wired),
     ("pin", Line::Pin),
@@ -152,6 +158,7 @@ pub fn add_line(asked: &mut Exchange, report: &mut Report) {
         Line::Give => add_give(asked, &mut report.gives),
         Line::Sci => report.sci = source(asked),
         Line::Avoid => report.avoid = numbers(asked),
+        Line::Option(ask) => add_option(asked, report, ask),
         Line::Busiest => report.busiest = number(asked),
         Line::Bound => set_bound(asked, &mut report.bound),
         Line::Set => add_set(asked, report),

@@ -66,6 +66,11 @@ pub fn read_avoid_line(asked: &mut Exchange, claim: &mut Claim) {
     read_between(asked, claim, b"acpiroute 2\nsci none\n");
 }
 
+/// `option-line BYTES`: reads a report of version 3 that has seven lines, of which the fourth is these bytes.
+pub fn read_option_line(asked: &mut Exchange, claim: &mut Claim) {
+    read_between(asked, claim, b"acpiroute 3\nsci none\navoid -\n");
+}
+
 /// How many line feeds a text has.
 fn lines(text: &[u8]) -> u64 {
     let mut lines = 0u64;
