@@ -83,7 +83,7 @@ fn offers(asked: &mut Exchange, count: usize, bits: u64, sure: usize) -> Vec<u32
 }
 
 /// Adds a link that offers an interrupt and others: `\L000`, `\L001` and so on.
-fn add_link(asked: &mut Exchange, links: &mut Vec<Link>, offers: Vec<u32>) {
+pub fn add_link(asked: &mut Exchange, links: &mut Vec<Link>, offers: Vec<u32>) {
     let number = links.len();
     match format!(in asked.alloc(); "\\L{number:03}") {
         Ok(name) => {

@@ -7,6 +7,7 @@ mod claims;
 mod earlier_solver;
 mod generated;
 mod generated_problems;
+mod large_problems;
 mod option_lines;
 mod pins;
 mod problems;

@@ -17,6 +17,7 @@ enum Ask {
     Generated,
     SpreadSmall,
     SpreadGenerated,
+    SpreadLarge,
     Report,
     Print,
     Read,
@@ -27,7 +28,7 @@ enum Ask {
 }
 
 /// The questions, by their first words.
-const QUESTIONS: [(&str, Ask); 35] = [
+const QUESTIONS: [(&str, Ask); 36] = [
     ("link", Ask::Claim(claims::Ask::Link)),
     ("links", Ask::Claim(claims::Ask::Links)),
     ("wired", Ask::Claim(claims::Ask::Wired)),
@@ -56,6 +57,7 @@ const QUESTIONS: [(&str, Ask); 35] = [
     ("generated", Ask::Generated),
     ("spread-small", Ask::SpreadSmall),
     ("spread-generated", Ask::SpreadGenerated),
+    ("spread-large", Ask::SpreadLarge),
     ("report", Ask::Report),
     ("print", Ask::Print),
     ("read", Ask::Read),
@@ -76,6 +78,7 @@ pub fn answer(row: &mut RouteRow, asked: &mut Exchange) {
         Ask::Generated => on_generated(asked),
         Ask::SpreadSmall => sharings::on_small(asked),
         Ask::SpreadGenerated => sharings::on_generated(asked),
+        Ask::SpreadLarge => sharings::on_large(asked),
         Ask::Report => reports::add_line(asked, &mut row.report),
         Ask::Print => texts::print_report(asked, &mut row.text, &row.report),
         Ask::Read => texts::read_text(asked, &mut row.claim, row.text.as_slice()),

@@ -1,5 +1,6 @@
 //! Links that share as little as they can: what `route_spread` says of a row's links, and beside other code on generated problems.
 use crate::generated_problems::{Kind, generated};
+use crate::large_problems::large;
 use crate::problems::{given, say_choice};
 use crate::small_problems::{small_links, small_wired};
 use crate::words::{named, number, numbers};
@@ -129,6 +130,22 @@ pub fn on_generated(asked: &mut Exchange) {
     for seed in 0..count {
         let problem = generated(asked, kind, u64::from(seed));
         if !agree_on(asked, &problem, beside) {
+            asked.say("differ at");
+            asked.say_number(u64::from(seed));
+            return;
+        }
+    }
+    asked.say("agree");
+}
+
+/// `spread-large OFFERS SOURCES COUNT`: `agree`, or the seed of the first problem on which they don't.
+pub fn on_large(asked: &mut Exchange) {
+    let many = number(asked) as usize;
+    let most = number(asked) as usize;
+    let count = number(asked);
+    for seed in 0..count {
+        let problem = large(asked, many, most, u64::from(seed));
+        if !agree_on(asked, &problem, Beside::Ways) {
             asked.say("differ at");
             asked.say_number(u64::from(seed));
             return;
