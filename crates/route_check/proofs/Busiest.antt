@@ -1,5 +1,5 @@
 -- Links are counted at the interrupts that are given, and wired sources alone at all others.
-use Rattle.std.proofs.Common.{◌≡◌, ℕ, ◌<◌, ◌≤◌, List, [], ◌∷◌, ◌++◌, map, max, refl, sym, ◌∙◌, ap, arith, get_or, eqb-true, inl, inr}
+use Rattle.std.proofs.Common.{◌≡◌, ℕ, ◌<◌, ◌≤◌, List, [], ◌∷◌, ◌++◌, map, max, refl, ◌∙◌, ap, arith, get_or, eqb-true, inl, inr}
 use Rattle.std.specs.Prelude.{◌==◌, ◌⊎◌}
 use Rattle.std.proofs.lemmas.List.{get_or-map}
 use Rattle.route_model.specs.Routing.{greatest, wired_to, given, load}

@@ -8,3 +8,4 @@ pub mod Aligned
 pub mod Busiest
 pub mod Counts
 pub mod FirstVersion
+pub mod Shares

@@ -1,5 +1,5 @@
 -- A claim, as contracts see it.
-use Rattle.std.specs.Prelude.{ℕ, List, [], Option, Some, None}
+use Rattle.std.specs.Prelude.{ℕ, Bool, List, [], Option, Some, None}
 use Rattle.aml_path.specs.declared.segment.Seg.{Seg}
 use Rattle.route_model.specs.Links.{OfferingLink}
 
@@ -10,7 +10,7 @@ pub record BoundingSet : Type 0 where
 
 -- links with their offers, counts of wired pins by interrupt, the interrupt that the System Control Interrupt is wired to, if
 -- there is one, the interrupts that no link is to be given, what each link is given, how many sources the busiest interrupt
--- serves, and why no assignment has a less busy one
+-- serves, why no assignment has a less busy one, and whether it is claimed that links share interrupts as little as they can
 pub record RoutingClaim : Type 0 where
   pub links : List OfferingLink
   pub wired : List (ℕ × ℕ)
@@ -19,6 +19,7 @@ pub record RoutingClaim : Type 0 where
   pub gives : List (List Seg × ℕ)
   pub busiest : ℕ
   pub bound : Option BoundingSet
+  pub spread : Bool
 
 abbrev pub links_of_bound : Option BoundingSet → List (List Seg)
 links_of_bound None = []

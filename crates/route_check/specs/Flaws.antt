@@ -1,9 +1,10 @@
 -- The first test that a claim fails, and the numbers of the flaws.
-use Rattle.std.specs.Prelude.{ℕ, ◌<◌}
+use Rattle.std.specs.Prelude.{◌≡◌, true, ℕ, ◌<◌}
 use Rattle.route_check.specs.Claims.{RoutingClaim}
-use Rattle.route_check.specs.Valid.{NoneRepeated, NoneMissing, AllOffered, IsBusiestRight, SomeInterrupt, OffersInside, IsCrowded}
+use Rattle.route_check.specs.Valid.{NoneRepeated, NoneMissing, AllOffered, IsBusiestRight, SomeInterrupt, OffersInside, IsCrowded, Valid}
+use Rattle.route_check.specs.Shared.{IsClaimShared}
 use Rattle.route_check.specs.declared.flaw.Flaw.{Flaw}
-use Rattle.route_check.specs.declared.flaw.Flaw.TheVariants.{Repeated, LinkMissing, NotOffered, BusiestWrong, SetEmpty, OfferOutsideSet, CountTooSmall}
+use Rattle.route_check.specs.declared.flaw.Flaw.TheVariants.{Repeated, LinkMissing, NotOffered, BusiestWrong, SetEmpty, OfferOutsideSet, CountTooSmall, NotLeastShared}
 
 abbrev pub number_of : Flaw → ℕ
 number_of NotOffered = 1
@@ -13,6 +14,7 @@ number_of BusiestWrong = 4
 number_of OfferOutsideSet = 5
 number_of CountTooSmall = 6
 number_of SetEmpty = 7
+number_of NotLeastShared = 8
 
 -- the tests before it hold, and this one doesn't
 abbrev pub IsFirstFlaw : RoutingClaim → Flaw → Type 0
@@ -23,3 +25,4 @@ IsFirstFlaw c BusiestWrong = NoneRepeated c × NoneMissing c × AllOffered c × 
 IsFirstFlaw c SetEmpty = NoneRepeated c × NoneMissing c × AllOffered c × IsBusiestRight c × (0 < c.busiest) × (SomeInterrupt c → ⊥)
 IsFirstFlaw c OfferOutsideSet = NoneRepeated c × NoneMissing c × AllOffered c × IsBusiestRight c × (0 < c.busiest) × SomeInterrupt c × (OffersInside c → ⊥)
 IsFirstFlaw c CountTooSmall = NoneRepeated c × NoneMissing c × AllOffered c × IsBusiestRight c × (0 < c.busiest) × SomeInterrupt c × OffersInside c × (IsCrowded c → ⊥)
+IsFirstFlaw c NotLeastShared = Valid c × (c.spread ≡ true) × (IsClaimShared c → ⊥)

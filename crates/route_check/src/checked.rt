@@ -1,7 +1,8 @@
 //! The tests of a claim, one after the other.
-ghost use Rattle.std.specs.Prelude.{◌↔◌, IsOk, IfErr, OnOk};
+ghost use Rattle.std.specs.Prelude.{◌↔◌, IsOk, IfOk, IfErr, OnOk};
 ghost use Rattle.route_check.specs.Valid.{Valid, IsProved};
 ghost use Rattle.route_check.specs.Flaws.{IsFirstFlaw};
+ghost use Rattle.route_check.specs.Shared.{Holds};
 
 use crate::bound::{has_interrupt, is_crowded, offers_inside};
 use crate::claim::Claim;
@@ -10,6 +11,8 @@ use crate::known::none_missing;
 use crate::loads::is_busiest_right;
 use crate::offered::all_offered;
 use crate::repeated::none_repeated;
+use crate::shared::is_shared;
+use std::alloc::{AllocError, Global};
 
 /// Whether a claim is valid, or else its first flaw. It takes no memory.
 ///
@@ -58,4 +61,24 @@ pub fn check(claim: &Claim) -> Result<(), Flaw>
         return Err(Flaw::CountTooSmall);
     }
     Ok(())
+}
+
+/// Whether a claim holds: whether it is valid, as `check` says, and where it claims so, whether its links share interrupts as little as
+/// they can; or else its first flaw. That last test, `NotLeastShared`, takes memory: an error means that memory ran out.
+///
+/// ```
+/// let claim = route_report::read(alloc, text)?;
+/// let verdict = check_all(alloc, &claim)?;
+/// ```
+pub fn check_all(alloc: Global, claim: &Claim) -> Result<Result<(), Flaw>, AllocError>
+    ensures ok { IfOk result (λ verdict. IsOk verdict ↔ Holds claim.now) }
+    ensures flaw { IfOk result (λ verdict. IfErr verdict (λ f. IsFirstFlaw claim.now f)) }
+{
+    if let Err(flaw) = check(claim) {
+        return Ok(Err(flaw));
+    }
+    if claim.spread() && !is_shared(alloc, claim)? {
+        return Ok(Err(Flaw::NotLeastShared));
+    }
+    Ok(Ok(()))
 }

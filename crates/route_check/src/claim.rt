@@ -55,6 +55,8 @@ pub struct Claim {
     pub busiest: u32,
     /// Why no assignment has a less busy one. None is needed where the busiest serves no source.
     pub bound: Option<Bound>,
+    /// Whether it is claimed that links share interrupts as little as they can.
+    pub spread: bool,
 }
 
 impl Model for Claim {
@@ -62,7 +64,7 @@ impl Model for Claim {
 
     ghost Value = { RoutingClaim };
 
-    ghost view = { λ c. record { links = c.links.items; wired = c.wired.items; sci = c.sci; avoid = c.avoid.items; gives = c.gives.items; busiest = c.busiest; bound = c.bound } };
+    ghost view = { λ c. record { links = c.links.items; wired = c.wired.items; sci = c.sci; avoid = c.avoid.items; gives = c.gives.items; busiest = c.busiest; bound = c.bound; spread = c.spread } };
 }
 
 impl Claim {
@@ -100,6 +102,12 @@ impl Claim {
         ensures { result ≡ self.now.busiest }
     {
         self.busiest
+    }
+
+    pub(crate) fn spread(&self) -> bool
+        ensures { result ≡ self.now.spread }
+    {
+        self.spread
     }
 
     /// The links of the bound, none where there is no bound.

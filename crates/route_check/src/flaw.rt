@@ -21,6 +21,8 @@ pub enum Flaw {
     CountTooSmall,
     #[error("the set has no interrupt")]
     SetEmpty,
+    #[error("links share interrupts more than they have to")]
+    NotLeastShared,
 }
 
 impl Flaw {
@@ -36,6 +38,7 @@ impl Flaw {
             Flaw::OfferOutsideSet => 5,
             Flaw::CountTooSmall => 6,
             Flaw::SetEmpty => 7,
+            Flaw::NotLeastShared => 8,
         }
     }
 }

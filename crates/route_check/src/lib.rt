@@ -14,8 +14,9 @@ mod loads;
 mod offered;
 mod repeated;
 mod search;
+mod shared;
 mod steps;
 
-pub use checked::check;
+pub use checked::{check, check_all};
 pub use claim::{Bound, Claim};
 pub use flaw::Flaw;

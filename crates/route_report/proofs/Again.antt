@@ -204,3 +204,4 @@ unread_again back n u d ms is small = rw (named_again back n u.device (decimal u
 pub rule_again : (n : ℕ) (r : Rule) (d : Said) → d.rule ≡ None → line n (rule_words r) d ≡ Ok (record d { rule = Some r })
 unfolding line keyed rule_line with_rule ◌>>=◌
 rule_again n rule.First d none = rw none refl
+rule_again n rule.Spread d none = rw none refl

@@ -12,6 +12,7 @@ use Rattle.route_model.proofs.Paths.{path_total}
 use Rattle.route_check.specs.Claims.{BoundingSet, RoutingClaim, links_of_bound, interrupts_of_bound}
 use Rattle.text_words.specs.Words.{words}
 use Rattle.route_report.specs.Lines.{lines}
+use Rattle.route_report.specs.Reports.{is_spread}
 use Rattle.route_report.specs.Ordered.{in_order, barred_by, link_order, wired_order, give_order, bound_in_order, claim_in_order, IsInOrder, HasSameElements}
 use Rattle.route_report.specs.Reading.{Said, first_said, here, claimed, line, heading, lines_read, all_read, claim_of_text}
 use Rattle.route_report.proofs.Ascending.{AvoidAscends, here_ascends, first_ascends, line_ascends}
@@ -78,7 +79,7 @@ claims_same c d h =
     let links = permuted link_order link_total link_exact c.links d.links h.links in
     let wired = permuted wired_order wired_total wired_exact c.wired d.wired h.wired in
     let gives = permuted give_order give_total give_exact c.gives d.gives h.gives in
-    rw (links, wired, h.sci, h.avoid, gives, h.busiest, bound_same c.bound d.bound h.set h.interrupts h.bound) refl
+    rw (links, wired, h.sci, h.avoid, gives, h.busiest, bound_same c.bound d.bound h.set h.interrupts h.bound, h.spread) refl
 
 pub claim_elements : (c : RoutingClaim) → HasSameElements c (claim_in_order c)
 claim_elements c = record {
@@ -91,6 +92,7 @@ claim_elements c = record {
   interrupts = interrupt_elements c.bound;
   busiest = refl;
   bound = same_presence c.bound;
+  spread = refl;
 }
 
 -- what is claimed of what was said
@@ -106,7 +108,7 @@ said_in_order n d c up e =
     let r = went_on (here n d.rule) _ c ns.2 in
     let k = went_on (here n d.busiest) _ c r.2 in
     let b = went_on (here n d.bound) _ c k.2 in
-    let raw : RoutingClaim = record { links = d.links; wired = d.wired; sci = s.0; avoid = barred_by ns.0 d.spared; gives = d.gives; busiest = k.0; bound = b.0 } in
+    let raw : RoutingClaim = record { links = d.links; wired = d.wired; sci = s.0; avoid = barred_by ns.0 d.spared; gives = d.gives; busiest = k.0; bound = b.0; spread = is_spread r.0 } in
     let is : claim_in_order raw ≡ c = cc (b.2) in
     subst IsInOrder is (claim_sorted raw (barred_ascends ns.0 d.spared (here_ascends n d.avoid ns.0 up ns.1)))
 

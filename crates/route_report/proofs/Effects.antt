@@ -55,6 +55,7 @@ keyed_effect key ws =
     else if bytes_eq key (codes "spared") then read_as says_spared (spared 0 ws)
     else if bytes_eq key (codes "unread") then read_as (λ _. says_unread) (unread 0 ws)
     else if bytes_eq key (codes "first") then read_as (λ _. says_rule rule.First) (ended 0 ws)
+    else if bytes_eq key (codes "spread") then read_as (λ _. says_rule rule.Spread) (ended 0 ws)
     else if bytes_eq key (codes "give") then read_as says_give (give 0 ws)
     else if bytes_eq key (codes "busiest") then read_as says_busiest (busiest 0 ws)
     else if bytes_eq key (codes "bound") then read_as says_bound (bound 0 ws)
@@ -87,10 +88,11 @@ module _ (n : ℕ) (d : Said) where
       (either_gives (bytes_eq key (codes "spared")) _ _ _ _ (read_gives says_spared (spared n ws) (spared 0 ws) (spared_alike n 0 ws))
       (either_gives (bytes_eq key (codes "unread")) _ _ _ _ (read_gives (λ _. says_unread) (unread n ws) (unread 0 ws) (unread_alike n 0 ws))
       (either_gives (bytes_eq key (codes "first")) _ _ _ _ (read_gives (λ _. says_rule rule.First) (ended n ws) (ended 0 ws) (ended_alike n 0 ws))
+      (either_gives (bytes_eq key (codes "spread")) _ _ _ _ (read_gives (λ _. says_rule rule.Spread) (ended n ws) (ended 0 ws) (ended_alike n 0 ws))
       (either_gives (bytes_eq key (codes "give")) _ _ _ _ (read_gives says_give (give n ws) (give 0 ws) (give_alike n 0 ws))
       (either_gives (bytes_eq key (codes "busiest")) _ _ _ _ (read_gives says_busiest (busiest n ws) (busiest 0 ws) (busiest_alike n 0 ws))
       (either_gives (bytes_eq key (codes "bound")) _ _ _ _ (read_gives says_bound (bound n ws) (bound 0 ws) (bound_alike n 0 ws))
-      (either_gives (is_passed_over key) _ _ _ _ refl refl))))))))))
+      (either_gives (is_passed_over key) _ _ _ _ refl refl)))))))))))
 
   pub line_gives : (ws : List (List ℕ)) → Alike (line n ws d) (after n (effect ws) d)
   unfolding line ◌>>=◌

@@ -47,10 +47,11 @@ module _ (P : Option (Option ℕ) → Option (List ℕ) → Option (List ℕ) �
         (λ _. if_keeps (bytes_eq key (codes "spared")) _ _ (λ _. step_keeps (spared n ws) _ (λ ns _. told_keeps d.spared _ refl (λ ms is. said_keeps _ (of_spared ms ns is))))
         (λ _. if_keeps (bytes_eq key (codes "unread")) _ _ (λ _. step_keeps (unread n ws) _ (λ _ _. room_keeps _ d holds))
         (λ _. if_keeps (bytes_eq key (codes "first")) _ _ (λ _. step_keeps (ended n ws) _ (λ _ _. unless_keeps _ _ (λ _. holds)))
+        (λ _. if_keeps (bytes_eq key (codes "spread")) _ _ (λ _. step_keeps (ended n ws) _ (λ _ _. unless_keeps _ _ (λ _. holds)))
         (λ _. if_keeps (bytes_eq key (codes "give")) _ _ (λ _. step_keeps (give n ws) _ (λ g _. said_keeps _ holds))
         (λ _. if_keeps (bytes_eq key (codes "busiest")) _ _ (λ _. step_keeps (busiest n ws) _ (λ k _. unless_keeps _ _ (λ _. holds)))
         (λ _. if_keeps (bytes_eq key (codes "bound")) _ _ (λ _. step_keeps (bound n ws) _ (λ b _. unless_keeps _ _ (λ _. holds)))
-        (λ _. room_keeps _ d holds))))))))))
+        (λ _. room_keeps _ d holds)))))))))))
 
     pub line_keeps : (ws : List (List ℕ)) → Keeps (line n ws d)
     unfolding line ◌>>=◌

@@ -16,6 +16,7 @@ use Rattle.text_words.specs.Words.{words}
 use Rattle.route_report.specs.Lines.{lines}
 use Rattle.route_report.specs.declared.version.Version.{Version}
 use Rattle.route_report.specs.declared.version.Version.TheVariants as version
+use Rattle.route_report.specs.Reports.{is_spread}
 use Rattle.route_report.specs.Ordered.{among, in_order, barred, barred_by, link_order, wired_order, give_order, bound_in_order, claim_in_order}
 use Rattle.route_report.specs.declared.report.Rule.{Rule}
 use Rattle.route_report.specs.Counting.{counts}
@@ -204,7 +205,7 @@ module _ (sp : Option (List ℕ)) (ls : List OfferingLink) (ws : List (ℕ × �
   claim_from (Some s) (Some ns) None k b = None
   claim_from (Some s) (Some ns) (Some r) None b = None
   claim_from (Some s) (Some ns) (Some r) (Some k) None = None
-  claim_from (Some s) (Some ns) (Some r) (Some k) (Some b) = Some (record { links = ls; wired = ws; sci = s; avoid = barred_by ns sp; gives = gs; busiest = k; bound = bound_in_order b })
+  claim_from (Some s) (Some ns) (Some r) (Some k) (Some b) = Some (record { links = ls; wired = ws; sci = s; avoid = barred_by ns sp; gives = gs; busiest = k; bound = bound_in_order b; spread = is_spread r })
 
   no_avoid : (s : Option (Option ℕ)) (r : Option Rule) (k : Option ℕ) (b : Option (Option BoundingSet)) → claim_from s None r k b ≡ None
   no_avoid None r k b = refl
@@ -326,7 +327,7 @@ unfolding claimed ◌>>=◌
 claimed_is n d = go d.sci d.avoid d.rule d.busiest d.bound
   where
     go : (q : Option (Option ℕ)) (r : Option (List ℕ)) (u : Option Rule) (o : Option ℕ) (p : Option (Option BoundingSet))
-        → result_ok (here n q >>= (λ s. here n r >>= (λ ns. here n u >>= (λ v. here n o >>= (λ k. here n p >>= (λ b. Ok (claim_in_order (record { links = d.links; wired = d.wired; sci = s; avoid = barred_by ns d.spared; gives = d.gives; busiest = k; bound = b }))))))))
+        → result_ok (here n q >>= (λ s. here n r >>= (λ ns. here n u >>= (λ v. here n o >>= (λ k. here n p >>= (λ b. Ok (claim_in_order (record { links = d.links; wired = d.wired; sci = s; avoid = barred_by ns d.spared; gives = d.gives; busiest = k; bound = b; spread = is_spread v }))))))))
         ≡ claim_from (spared_in_all d.spared []) (in_order link_order d.links) (in_order wired_order d.wired) (in_order give_order d.gives) q r u o p
     go None r u o p = refl
     go (Some s) None u o p = refl
@@ -334,7 +335,7 @@ claimed_is n d = go d.sci d.avoid d.rule d.busiest d.bound
     go (Some s) (Some ns) (Some v) None p = refl
     go (Some s) (Some ns) (Some v) (Some k) None = refl
     go (Some s) (Some ns) (Some v) (Some k) (Some b) =
-        ap (λ (ms : List ℕ). Some (record { links = in_order link_order d.links; wired = in_order wired_order d.wired; sci = s; avoid = ms; gives = in_order give_order d.gives; busiest = k; bound = bound_in_order b })) (barred_alike ns d.spared)
+        ap (λ (ms : List ℕ). Some (record { links = in_order link_order d.links; wired = in_order wired_order d.wired; sci = s; avoid = ms; gives = in_order give_order d.gives; busiest = k; bound = bound_in_order b; spread = is_spread v })) (barred_alike ns d.spared)
 
 no_tale : (o : Option (List ℕ)) → is_mute o && false ≡ false
 no_tale None = refl

@@ -32,7 +32,7 @@ use Rattle.route_report.specs.declared.report.Rule.{Rule}
 use Rattle.route_report.specs.declared.report.Rule.TheVariants as rule
 use Rattle.route_report.specs.Reports.{ReportedLink, AfterState, Now, Refused, ReportedAfter, SparedDevice, ReportedOptions, RoutingReport}
 use Rattle.route_report.specs.Printing.{Words, mode_word, form_word, polarity_word, pin_word, number_words, path_words, now_words, version_word, heading_words, mode_words, io_apic_words, override_words, source_words, sci_words, avoid_words, spared_words, unread_words, rule_words, option_lines, link_words, wired_words, route_words, pin_words, give_words, busiest_words, set_of_bound, bound_words, outcome_words, set_words, state_words, after_words, found_lines, chosen_lines, text_of_report}
-use Rattle.route_report.specs.Readable.{link_of, spared_numbers, spared_by, spared_devices, unread_devices, claim_of_report, IsReadableOffer, IsReadable, IsSmall}
+use Rattle.route_report.specs.Readable.{link_of, spared_numbers, spared_by, spared_devices, unread_devices, claim_of_report, IsReadableOffer, IsReadable, IsSmall, rule_by}
 use Rattle.route_report.proofs.Plain.{Plain, PlainWords, literal, decimal_plain, upper_plain, path_plain, words_again, lines_again}
 use Rattle.route_report.proofs.Again.{PathsAreReadBack, link_again, wired_again, sci_again, avoid_again, spared_again, unread_again, rule_again, give_again, busiest_again, bound_again}
 
@@ -195,6 +195,7 @@ unread_plain u =
 
 rule_plain : (r : Rule) → PlainWords (rule_words r)
 rule_plain rule.First = key (codes "first") [] (literal (codes "first") refl) none
+rule_plain rule.Spread = key (codes "spread") [] (literal (codes "spread") refl) none
 
 options_plain : (o : Option ReportedOptions) → All PlainWords (option_lines o)
 options_plain None = All-nil PlainWords
@@ -311,12 +312,7 @@ all_gives back n (g ∷ gs) rest d small =
 next : (n : ℕ) (ls : List Words) (d : Said) (rest : List Words) (e : Said) (last : List Words) (f : Said) → Reaches n ls d rest e → ((m : ℕ) → Reaches m rest e last f) → Reaches n ls d last f
 next n ls d rest e last f r go = let s = go r.0 in (s.0, r.1 ∙ s.1)
 
--- the lines of options, where there are any
-abbrev rule_by : Option ReportedOptions → Rule
-rule_by None = rule.First
-rule_by (Some o) = o.rule
-
--- what the first line says of them
+-- what the first line says of options
 abbrev spared_at_first : Option ReportedOptions → Option (List ℕ)
 spared_at_first None = None
 spared_at_first (Some o) = Some []
@@ -344,6 +340,7 @@ all_unread back n (u ∷ us) rest d ms is small =
 
 rule_read : (n : ℕ) (r : Rule) (rest : List Words) (d : Said) → d.rule ≡ None → Reaches n (rule_words r ∷ rest) d rest (record d { rule = Some r })
 rule_read n rule.First rest d none = let e : Said = record d { rule = Some rule.First } in reach n (codes "first") [] rest d e rest e (rule_plain rule.First) (rule_again n rule.First d none) (n + 1, refl)
+rule_read n rule.Spread rest d none = let e : Said = record d { rule = Some rule.Spread } in reach n (codes "spread") [] rest d e rest e (rule_plain rule.Spread) (rule_again n rule.Spread d none) (n + 1, refl)
 
 options_read : (back : PathsAreReadBack) (n : ℕ) (o : Option ReportedOptions) (rest : List Words) (d : Said) → d.spared ≡ spared_at_first o → d.rule ≡ rule_at_first o
     → All (λ s. 0 < length s.interrupts) (spared_devices o) → All (λ s. All (λ m. m < 2 ^ 32) s.interrupts) (spared_devices o) → All (λ u. u.refusal < 2 ^ 32) (unread_devices o)

@@ -55,6 +55,7 @@ claim_in_order c = record {
   gives = in_order give_order c.gives;
   busiest = c.busiest;
   bound = bound_in_order c.bound;
+  spread = c.spread;
 }
 
 -- no element stands after one that comes before it, and no interrupt is avoided twice
@@ -77,3 +78,4 @@ pub record HasSameElements (c d : RoutingClaim) : Type 0 where
   pub interrupts : IsPermutation (interrupts_of_bound c.bound) (interrupts_of_bound d.bound)
   pub busiest : c.busiest ≡ d.busiest
   pub bound : is_some c.bound ≡ is_some d.bound
+  pub spread : c.spread ≡ d.spread

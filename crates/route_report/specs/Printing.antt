@@ -104,9 +104,10 @@ spared_words s = codes "spared" ∷ text_of s.device ∷ map decimal s.interrupt
 abbrev pub unread_words : UnreadLine → Words
 unread_words u = codes "unread" ∷ text_of u.device ∷ decimal u.refusal ∷ []
 
--- `first`
+-- `first` or `spread`
 abbrev pub rule_words : Rule → Words
 rule_words rule.First = codes "first" ∷ []
+rule_words rule.Spread = codes "spread" ∷ []
 
 -- the lines of version 3 alone
 abbrev pub option_lines : Option ReportedOptions → List Words

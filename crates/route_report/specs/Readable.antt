@@ -4,8 +4,10 @@ use Rattle.std.specs.List.Sorted.{IsStrictlyIncreasing}
 use Rattle.route_model.specs.Links.{OfferingLink}
 use Rattle.route_check.specs.Claims.{RoutingClaim, interrupts_of_bound}
 use Rattle.route_report.specs.Ordered.{barred_by, claim_in_order}
+use Rattle.route_report.specs.declared.report.Rule.{Rule}
+use Rattle.route_report.specs.declared.report.Rule.TheVariants as rule
 use Rattle.route_report.specs.declared.report.UnreadLine.{UnreadLine}
-use Rattle.route_report.specs.Reports.{ReportedLink, SparedDevice, ReportedOptions, RoutingReport}
+use Rattle.route_report.specs.Reports.{is_spread, ReportedLink, SparedDevice, ReportedOptions, RoutingReport}
 
 abbrev pub link_of : ReportedLink → OfferingLink
 link_of l = record { path = l.path; offers = l.offers }
@@ -20,6 +22,11 @@ abbrev pub spared_by : Option ReportedOptions → Option (List ℕ)
 spared_by None = None
 spared_by (Some o) = Some (spared_numbers o.spared)
 
+-- the rule of the choice: the first one, where no options say another
+abbrev pub rule_by : Option ReportedOptions → Rule
+rule_by None = rule.First
+rule_by (Some o) = o.rule
+
 -- the devices whose interrupts are spared, and those whose interrupts couldn't be read
 abbrev pub spared_devices : Option ReportedOptions → List SparedDevice
 spared_devices None = []
@@ -31,7 +38,7 @@ unread_devices (Some o) = o.unread
 
 -- what the report claims, each list in order
 abbrev pub claim_of_report : RoutingReport → RoutingClaim
-claim_of_report r = claim_in_order (record { links = map link_of r.links; wired = r.wired; sci = r.sci; avoid = barred_by r.avoid (spared_by r.options); gives = r.gives; busiest = r.busiest; bound = r.bound })
+claim_of_report r = claim_in_order (record { links = map link_of r.links; wired = r.wired; sci = r.sci; avoid = barred_by r.avoid (spared_by r.options); gives = r.gives; busiest = r.busiest; bound = r.bound; spread = is_spread (rule_by r.options) })
 
 -- an offer that a line can show
 pub record IsReadableOffer (offers : List ℕ) : Type 0 where

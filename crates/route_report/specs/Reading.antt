@@ -15,6 +15,7 @@ use Rattle.route_report.specs.declared.version.Version.TheVariants as version
 use Rattle.route_report.specs.declared.report.Rule.{Rule}
 use Rattle.route_report.specs.declared.report.Rule.TheVariants as rule
 use Rattle.route_report.specs.Ordered.{barred_by, claim_in_order}
+use Rattle.route_report.specs.Reports.{is_spread}
 
 -- what the lines have said so far; of a bound, and of the interrupt that the System Control Interrupt is wired to, that there is
 -- none is said too; of devices whose interrupts are spared, that lines may tell of them
@@ -354,6 +355,7 @@ module _ (n : ℕ) where
       else if bytes_eq key (codes "spared") then spared_line ws d
       else if bytes_eq key (codes "unread") then unread_line ws d
       else if bytes_eq key (codes "first") then rule_line rule.First ws d
+      else if bytes_eq key (codes "spread") then rule_line rule.Spread ws d
       else if bytes_eq key (codes "give") then give_line ws d
       else if bytes_eq key (codes "busiest") then busiest_line ws d
       else if bytes_eq key (codes "bound") then bound_line ws d
@@ -389,7 +391,7 @@ module _ (n : ℕ) where
     r ← here d.rule
     k ← here d.busiest
     b ← here d.bound
-    Ok (claim_in_order (record { links = d.links; wired = d.wired; sci = s; avoid = barred_by ns d.spared; gives = d.gives; busiest = k; bound = b }))
+    Ok (claim_in_order (record { links = d.links; wired = d.wired; sci = s; avoid = barred_by ns d.spared; gives = d.gives; busiest = k; bound = b; spread = is_spread r }))
 
 -- the lines from the n-th on, and what was said before them
 unfoldable pub lines_read : ℕ → List (List ℕ) → Said → Outcome RoutingClaim

@@ -1,5 +1,5 @@
 -- A report, as contracts see it: each kind of line is a plain list.
-use Rattle.std.specs.Prelude.{ℕ, List, Option, option_map}
+use Rattle.std.specs.Prelude.{ℕ, Bool, true, false, List, Option, option_map}
 use Rattle.aml_path.specs.declared.segment.Seg.{Seg}
 use Rattle.route_check.specs.Claims.{BoundingSet}
 use Rattle.ar_tables.specs.declared.mode.Mode.{Mode}
@@ -11,6 +11,7 @@ use Rattle.route_report.specs.declared.report.PinLine.{PinLine}
 use Rattle.route_report.specs.declared.report.SetLine.{SetLine}
 use Rattle.route_report.specs.declared.report.UnreadLine.{UnreadLine}
 use Rattle.route_report.specs.declared.report.Rule.{Rule}
+use Rattle.route_report.specs.declared.report.Rule.TheVariants as rule
 use Rattle.route_report.specs.declared.report.After.{After}
 use Rattle.route_report.specs.declared.report.After.TheVariants as after
 
@@ -38,6 +39,11 @@ pub record ReportedAfter : Type 0 where
 pub record SparedDevice : Type 0 where
   pub device : List Seg
   pub interrupts : List ℕ
+
+-- whether links are said to share interrupts as little as they can
+abbrev pub is_spread : Rule → Bool
+is_spread rule.First = false
+is_spread rule.Spread = true
 
 -- what options of a run add to its report
 pub record ReportedOptions : Type 0 where

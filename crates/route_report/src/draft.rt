@@ -194,7 +194,7 @@ impl Draft {
     {
         let sci = sci_here(n, self.sci)?;
         let avoid = numbers_here(n, self.avoid)?;
-        rule_here(n, self.rule)?;
+        let rule = rule_here(n, self.rule)?;
         let busiest = busiest_here(n, self.busiest)?;
         let bound = bound_here(n, self.bound)?;
         let avoid = barred_by(avoid, self.spared)?;
@@ -206,6 +206,7 @@ impl Draft {
             gives: gives_in_order(self.gives),
             busiest,
             bound: bound_in_order(bound),
+            spread: rule.is_spread(),
         })
     }
 }

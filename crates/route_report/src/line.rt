@@ -446,6 +446,8 @@ fn keyed(
         unread_line(alloc, n, words, draft)
     } else if key == b"first".as_slice() {
         rule_line(n, Rule::First, words, draft)
+    } else if key == b"spread".as_slice() {
+        rule_line(n, Rule::Spread, words, draft)
     } else if key == b"give".as_slice() {
         give_line(alloc, n, words, draft)
     } else if key == b"busiest".as_slice() {

@@ -176,12 +176,13 @@ impl Line for UnreadLine {
     }
 }
 
-/// `first`
+/// `first` or `spread`
 fn put_rule(text: &mut Vec<u8>, rule: Rule) -> Result<(), AllocError>
     ensures { OnOk result (text.new.items ≡ text.old.items ++ line_text (rule_words rule)) }
 {
     match rule {
         Rule::First => text.extend_from_slice(b"first\n"),
+        Rule::Spread => text.extend_from_slice(b"spread\n"),
     }
 }
 

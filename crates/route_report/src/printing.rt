@@ -64,7 +64,7 @@ fn put_chosen(alloc: Global, text: &mut Vec<u8>, report: &Report) -> Result<(), 
 /// - `sci N`, the interrupt that the System Control Interrupt is wired to, or `sci none`.
 /// - `avoid N..`, the interrupts that no link is given, or `avoid -`.
 /// - In version 3, `spared D N..` for each device whose interrupts no link is given, `unread D R` for each whose interrupts couldn't be
-///   read, and `first`, the rule of the choice.
+///   read, and `first` or `spread`, the rule of the choice.
 /// - `link P small low offers N.. now V` for each present link: `small` or `extended`, `low` or `high`; the offers are the whole
 ///   offer, avoided interrupts among them; V is the numbers that it is set to, `-` for no number, `none` without `_CRS`.
 /// - `wired N C` for each interrupt with the number of pins that are wired to it.

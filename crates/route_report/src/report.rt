@@ -143,6 +143,24 @@ pub struct UnreadLine {
 pub enum Rule {
     /// The first one: links in path order, the smaller interrupt first.
     First,
+    /// One under which links share interrupts as little as they can: first the busiest interrupt serves as few sources as possible,
+    /// then as few interrupts as possible serve that many, and so on.
+    Spread,
+}
+
+impl Rule {
+    ghost use Rattle.std.specs.Prelude.{◌≡◌};
+    ghost use Rattle.route_report.specs.Reports.{is_spread};
+
+    /// Whether links are said to share interrupts as little as they can.
+    pub fn is_spread(self) -> bool
+        ensures { result ≡ is_spread self }
+    {
+        match self {
+            Rule::First => false,
+            Rule::Spread => true,
+        }
+    }
 }
 
 /// The lines that a report has in version 3 alone.
