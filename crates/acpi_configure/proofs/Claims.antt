@@ -1,5 +1,5 @@
 -- What a report claims: the answer to its problem, and rightly so.
-use Rattle.std.proofs.Common.{◌≡◌, ◌∙◌, ap, sym, subst, refl, ℕ, ◌+◌, ◌<◌, ◌≤◌, List, [], ◌∷◌, Option, length, map, arith, inl, inr}
+use Rattle.std.proofs.Common.{◌≡◌, ◌∙◌, ap, sym, subst, refl, ℕ, ◌+◌, ◌<◌, ◌≤◌, false, List, [], ◌∷◌, Option, length, map, arith, inl, inr}
 use Rattle.std.specs.Prelude.{◌⊎◌, ◌==◌, All, count_by, option_to_list, slice_index_or}
 use Rattle.std.specs.List.Sorted.{IsStrictlyIncreasing, IsStrictlySortedBy}
 use Rattle.std.proofs.lemmas.List.{length-map}
@@ -126,6 +126,7 @@ module _ {S : Type 0} (after : MachineState S) (sci : Option ℕ) (avoid : List 
     gives = gives;
     busiest = a.busiest;
     bound = bound_for a.busiest (record { links = set; interrupts = a.interrupts });
+    spread = false;
   }
 
   claim_alike : claim_with (map link_of (map row_of g.links)) (gives_of g.problem.links a.choice) (paths_at g.problem.links a.links) ≡ claim_of_answer sci avoid g a
@@ -186,4 +187,4 @@ module _ {S : Type 0} (after : MachineState S) (sci : Option ℕ) (avoid : List 
         omega arith
 
     pub is_readable : length (pin_counts g.pins) ≤ 4096 → All (λ l. IsReadableOffer l.offers) (map row_of g.links) → IsReadable (report_of after sci avoid g a)
-    is_readable few offers = record { few_links = few_links; few_wired = few; offers = offers; avoid = laws.sets avoid }
+    is_readable few offers = record { few_links = few_links; few_wired = few; offers = offers; avoid = laws.sets avoid; spared = λ j d l. absurd (omega arith) }

@@ -71,4 +71,4 @@ module _ {S : Type 0} (accesses : Accesses S) (avoid : List ℕ) (before after :
       }
     where
       with_readable : IsReadable (report_of middle (sci_of before) avoid g a) → IsReadable (with_settings (report_of middle (sci_of before) avoid g a) x)
-      with_readable h = record { few_links = h.few_links; few_wired = h.few_wired; offers = h.offers; avoid = h.avoid }
+      with_readable h = record { few_links = h.few_links; few_wired = h.few_wired; offers = h.offers; avoid = h.avoid; spared = h.spared }

@@ -1,5 +1,5 @@
 -- The report of a run.
-use Rattle.std.specs.Prelude.{◌≡◌, ℕ, Bool, List, [], Option, map, Ok}
+use Rattle.std.specs.Prelude.{◌≡◌, ℕ, Bool, List, [], Option, None, map, Ok}
 use Rattle.ar_space.specs.Accesses.{Accesses}
 use Rattle.acpi_machine.specs.MachineStates.{MachineState, sci_of}
 use Rattle.acpi_resources.specs.Numbers.{set_of}
@@ -41,6 +41,7 @@ report_of s sci avoid g a = record {
   overrides = overrides_of s.tables.madt;
   sci = sci;
   avoid = set_of avoid;
+  options = None;
   links = map row_of g.links;
   wired = pin_counts g.pins;
   pins = map (pin_line (gives_of g.problem.links a.choice)) g.pins;

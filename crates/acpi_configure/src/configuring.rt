@@ -145,6 +145,7 @@ fn report_of<S: Space>(
         overrides,
         sci,
         avoid,
+        options: None,
         links,
         wired,
         pins,
