@@ -5,12 +5,12 @@ use Rattle.ar_space.specs.Outcome.{Outcome, Answers, NotMemory, ◌>>=◌}
 use Rattle.ar_space.specs.declared.refusal.Refusal.{Refusal}
 use Rattle.route_check.specs.Claims.{RoutingClaim}
 use Rattle.route_check.specs.Flaws.{IsFirstFlaw}
-use Rattle.route_check.specs.Valid.{Valid}
+use Rattle.route_check.specs.Shared.{Holds}
 use Rattle.route_report.specs.Reading.{claim_of_text}
 use Rattle.acpiroute_words.specs.Written.{Written}
 use Rattle.acpiroute_words.specs.CheckCommand.{Verdict, IsVerdict, IsCheckAnswer, check_answer, verdict_answer}
 
-pub verdict_is : (claim : RoutingClaim) (verdict : Verdict) → (IsOk verdict ↔ Valid claim) → IfErr verdict (λ f. IsFirstFlaw claim f) → IsVerdict claim verdict
+pub verdict_is : (claim : RoutingClaim) (verdict : Verdict) → (IsOk verdict ↔ Holds claim) → IfErr verdict (λ f. IsFirstFlaw claim f) → IsVerdict claim verdict
 verdict_is claim (Ok u) ok flaw = ok.0 refl
 verdict_is claim (Err f) ok flaw = flaw
 

@@ -3,18 +3,18 @@ use Rattle.std.specs.Prelude.{◌≡◌, ℕ, List, ◌++◌, Result, Ok, Err, c
 use Rattle.ar_space.specs.Outcome.{Outcome, ◌>>=◌}
 use Rattle.route_check.specs.Claims.{RoutingClaim}
 use Rattle.route_check.specs.Flaws.{number_of, IsFirstFlaw}
-use Rattle.route_check.specs.Valid.{Valid}
+use Rattle.route_check.specs.Shared.{Holds}
 use Rattle.route_check.specs.declared.flaw.Flaw.{Flaw}
 use Rattle.route_report.specs.Reading.{claim_of_text}
 use Rattle.acpiroute_words.specs.declared.completion.Completion.TheVariants.{Done, ClaimInvalid}
 use Rattle.acpiroute_words.specs.Written.{Written}
 
--- that a claim is valid, or its first flaw
+-- that a claim holds, or its first flaw
 abbrev pub Verdict : Type 0
 Verdict = Result (Unit {0}) Flaw
 
 abbrev pub IsVerdict : RoutingClaim → Verdict → Type 0
-IsVerdict claim (Ok u) = Valid claim
+IsVerdict claim (Ok u) = Holds claim
 IsVerdict claim (Err flaw) = IsFirstFlaw claim flaw
 
 -- the verdict on what was read; a report that is refused has none

@@ -6,7 +6,7 @@ ghost use Rattle.acpiroute_words.specs.CheckCommand.{verdict_answer, IsCheckAnsw
 use crate::answer::Answer;
 use crate::completion::Completion;
 use ar_space::Refusal;
-use route_check::{Flaw, check};
+use route_check::{Flaw, check_all};
 use route_report::read;
 use std::alloc::Global;
 
@@ -29,11 +29,12 @@ fn verdict_answer(alloc: Global, verdict: Result<(), Flaw>) -> Result<Answer, Re
     }
 }
 
-/// What `check` answers: whether the claim of a report is valid, or else the number of its first flaw. A refusal of the
+/// What `check` answers: whether the claim of a report holds, or else the number of its first flaw. A refusal of the
 /// report is the answer's.
 pub fn check_answer(alloc: Global, report: &[u8]) -> Result<Answer, Refusal>
     ensures { NotMemory result → IsCheckAnswer report.now result }
 {
     let claim = read(alloc, report)?;
-    verdict_answer(alloc, check(&claim))
+    let verdict = check_all(alloc, &claim)?;
+    verdict_answer(alloc, verdict)
 }
