@@ -3,7 +3,7 @@
 //! where no number is given, and prints how many sources the busiest interrupt of its first least assignment serves;
 //! `timing earlier-solver TIMES` does the same by the earlier solver, which is there for tests; `timing spread TIMES` moves links so
 //! often from that assignment to one under which they share as little as they can, and `timing spread-check TIMES` tests that one so
-//! often.
+//! often; `timing spread-first TIMES` tests so often the assignment that gives each link its first offer, of any number of links.
 #![tactic(auto)]
 
 mod links;
@@ -78,6 +78,20 @@ fn spread_check_line(alloc: Global, text: &[u8], times: u32) -> anyhow::Result<S
     Ok(format!(in alloc; "least {least}")?)
 }
 
+/// Whether links share as little as they can where each is given its first offer, tested so many times.
+fn spread_first_line(alloc: Global, text: &[u8], times: u32) -> anyhow::Result<String> {
+    let problem = problem(alloc, text)?;
+    let mut choice: Vec<u32> = Vec::new(alloc);
+    for link in &problem.links {
+        choice.push(link.offers().first().copied().unwrap_or(0))?;
+    }
+    let mut least = true;
+    for _ in 0..times {
+        least = is_least_shared(alloc, &problem.links, &problem.wired, &choice)?;
+    }
+    Ok(format!(in alloc; "least {least}")?)
+}
+
 /// What links come to, solved so many times.
 fn solver_line(alloc: Global, text: &[u8], which: Which, times: u32) -> anyhow::Result<String> {
     let problem = problem(alloc, text)?;
@@ -102,7 +116,12 @@ fn line(alloc: Global, words: &[String], text: &[u8]) -> anyhow::Result<String> 
         "earlier-solver" => solver_line(alloc, text, Which::Earlier, times),
         "spread" => spread_line(alloc, text, times),
         "spread-check" => spread_check_line(alloc, text, times),
-        _ => Ok("machine-text, solver, earlier-solver, spread or spread-check?".to_string(alloc)?),
+        "spread-first" => spread_first_line(alloc, text, times),
+        _ => Ok(
+            "machine-text, solver, earlier-solver, spread, spread-check or spread-first?".to_string(
+                alloc,
+            )?,
+        ),
     }
 }
 
