@@ -20,24 +20,35 @@ struct Reach {
     queue: Vec<usize>,
     /// For each of these the link that offers what it has.
     from: Vec<usize>,
-    /// The interrupts that were seen.
-    seen: Vec<u32>,
+    /// Whether each of the offered interrupts was seen.
+    seen: Vec<bool>,
     /// The interrupt with the fewest sources, the link that offers it, and the number of its sources.
     best: Option<(u32, usize, usize)>,
+}
+
+/// Whether an interrupt is seen for the first time.
+fn is_new(numbers: &[u32], seen: &mut [bool], n: u32) -> bool {
+    match numbers.binary_search(&n) {
+        Ok(at) if at < seen.len() && !seen[at] => {
+            seen[at] = true;
+            true
+        }
+        _ => false,
+    }
 }
 
 /// Sees an interrupt that a link offers, and reaches the links that have it.
 fn see(
     problem: &Problem,
+    numbers: &[u32],
     choice: &[Option<u32>],
     reach: &mut Reach,
     link: usize,
     n: u32,
 ) -> Result<(), AllocError> {
-    if reach.seen.contains(&n) {
+    if !is_new(numbers, &mut reach.seen, n) {
         return Ok(());
     }
-    reach.seen.push(n)?;
     let sources = load(&problem.wired, choice, n);
     let better = match reach.best {
         Some((_, _, fewest)) => sources < fewest,
@@ -59,13 +70,14 @@ fn see(
 fn reach_from(
     alloc: Global,
     problem: &Problem,
+    numbers: &[u32],
     choice: &[Option<u32>],
     link: usize,
 ) -> Result<Reach, AllocError> {
     let mut reach = Reach {
         queue: vec![in alloc; link]?,
         from: vec![in alloc; link]?,
-        seen: Vec::new(alloc),
+        seen: vec![in alloc; false; numbers.len()]?,
         best: None,
     };
     for at in 0..choice.len() {
@@ -75,7 +87,7 @@ fn reach_from(
         };
         if from < problem.links.len() {
             for n in problem.links[from].offers() {
-                see(problem, choice, &mut reach, from, *n)?;
+                see(problem, numbers, choice, &mut reach, from, *n)?;
             }
         }
     }
@@ -109,11 +121,23 @@ fn apply(choice: &mut [Option<u32>], reach: &Reach) {
     }
 }
 
+/// All interrupts that a link offers, ascending.
+fn offered(alloc: Global, links: &[Link]) -> Result<Vec<u32>, AllocError> {
+    let mut numbers: Vec<u32> = Vec::new(alloc);
+    for link in links {
+        numbers.extend_from_slice(link.offers())?;
+    }
+    numbers.sort()?;
+    numbers.dedup();
+    Ok(numbers)
+}
+
 /// An assignment under which links share interrupts as little as they can.
 pub fn least_sharing(alloc: Global, problem: &Problem) -> Result<Vec<u32>, AllocError> {
+    let numbers = offered(alloc, &problem.links)?;
     let mut choice: Vec<Option<u32>> = vec![in alloc; None; problem.links.len()]?;
     for link in 0..problem.links.len() {
-        let reach = reach_from(alloc, problem, &choice, link)?;
+        let reach = reach_from(alloc, problem, &numbers, &choice, link)?;
         apply(choice.as_mut_slice(), &reach);
     }
     let mut numbers = Vec::with_capacity(alloc, choice.len())?;
