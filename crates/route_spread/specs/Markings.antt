@@ -1,10 +1,11 @@
 -- What holds of an assignment and its marks in memory.
-use Rattle.std.specs.Prelude.{◌≡◌, ℕ, ◌<◌, ◌≤◌, List, length}
+use Rattle.std.specs.Prelude.{◌≡◌, ℕ, ◌+◌, ◌<◌, ◌≤◌, List, Option, Contains, MatchOption, length}
 use Rattle.route_spread.specs.declared.assignment.Assignment.{Assignment}
+use Rattle.route_spread.specs.declared.order.Order.{Order}
 use Rattle.route_spread.specs.declared.marking.Marks.{Marks}
 use Rattle.route_spread.specs.declared.marking.Way.{Way}
 use Rattle.route_spread.specs.Numbers.{lists_of}
-use Rattle.route_spread.specs.Marks.{AreHolders, AreLevelled, AreRaised, IsArranged, IsBetween, IsChained, IsLater, IsMarked, IsShifted, IsWay}
+use Rattle.route_spread.specs.Marks.{at, height_at, AreHolders, AreLevelled, AreRaised, IsArranged, IsBetween, IsChained, IsLater, IsMarked, IsPromoted, IsShifted, IsWay}
 use Rattle.route_spread.specs.Sharings.{HasRoom, IsAssigned}
 
 -- what a marking needs of an assignment
@@ -15,6 +16,9 @@ pub record CanBeMarked (a : Assignment) : Type 0 where
 
 abbrev pub KnowsHolders : Assignment → Type 0
 KnowsHolders a = AreHolders a.choice.items a.holders.first.items a.holders.next.items
+
+abbrev pub WasPromoted : ℕ → Order → Order → Type 0
+WasPromoted i o o' = IsPromoted i o.high o.interrupts.items o'.interrupts.items o.ranks.items o'.ranks.items
 
 abbrev pub HasRoomFor : ℕ → Marks → Type 0
 HasRoomFor count m = HasRoom count m.raised.items m.from.items m.order.interrupts.items m.order.ranks.items
@@ -37,6 +41,10 @@ pub record IsCounted (loads : List ℕ) (m m' : Marks) (top i : ℕ) : Type 0 wh
 
 abbrev pub HaveRaised : List ℕ → Marks → Marks → ℕ → ℕ → (ℕ → Type 0) → Type 0
 HaveRaised loads m m' link top Among = AreRaised loads m.raised.items m'.raised.items m.from.items m'.from.items link top Among
+
+-- some interrupts are as high as a number, or one that was found is lower by two at least
+abbrev pub AreLiftedOrFar : List ℕ → List ℕ → Marks → ℕ → Option ℕ → Type 0
+AreLiftedOrFar loads offers m top found = MatchOption found ((i : ℕ) → Contains offers i → top ≤ height_at loads m.raised.items i) (λ i. Contains offers i × (at loads i + 2 ≤ top))
 
 abbrev pub AreLater : Marks → Marks → Type 0
 AreLater m m' = IsLater m.order.high m'.order.high m.order.ranks.items m'.order.ranks.items

@@ -34,6 +34,10 @@ pub record IsListed (interrupts ranks : List ℕ) : Type 0 where
   pub rank : (x : ℕ) → x < length interrupts → at ranks x < length interrupts
   pub there : (x : ℕ) → x < length interrupts → at interrupts (at ranks x) ≡ x
 
+-- interrupts in the order of their loads, the greatest first
+abbrev pub AreByLoads : List ℕ → List ℕ → Type 0
+AreByLoads loads interrupts = (i j : ℕ) → i ≤ j → j < length interrupts → at loads (at interrupts j) ≤ at loads (at interrupts i)
+
 -- An interrupt was put in place of the first of those that are lower, which has its place then.
 pub record IsPromoted (i high : ℕ) (interrupts interrupts' ranks ranks' : List ℕ) : Type 0 where
   pub put : interrupts' ≡ slice_set (slice_set interrupts (at ranks i) (at interrupts high)) high i

@@ -27,7 +27,8 @@ impl Assignment {
         requires way { HaveWay self.old marks.now way }
         ensures moved { WereMoved self.old self.new }
         ensures same { (self.new.offers ≡ self.old.offers) × (self.new.holders ≡ self.old.holders) }
-        ensures long { (length self.new.choice.items ≡ length self.old.choice.items) × (length self.new.loads.items ≡ length self.old.loads.items) }
+        ensures links { length self.new.choice.items ≡ length self.old.choice.items }
+        ensures interrupts { length self.new.loads.items ≡ length self.old.loads.items }
     {
         let mut next = way.link;
         let mut to = way.target;

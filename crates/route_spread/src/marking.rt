@@ -1,7 +1,8 @@
 //! Marks the interrupts that links lead to, from the highest down: each is raised by one at most, or a link can move to it.
 ghost use Rattle.std.specs.Prelude.{◌≡◌, ◌≤◌, ◌<◌, ◌+◌, ◌^◌, ◌↔◌, ℕ, Contains, IsTrue, IfOk, MatchOption, length, false};
 ghost use Rattle.route_spread.specs.Marks.{at, height_at, is_raised};
-ghost use Rattle.route_spread.specs.Markings.{AreArrangedAt, AreArrangedFor, AreLater, CanBeMarked, HasRoomFor, HaveLevelled, HaveMarked, HaveRaised, HaveWay, IsCounted, KnowsHolders};
+ghost use Rattle.route_spread.specs.Markings.{AreArrangedAt, AreArrangedFor, AreLater, AreLiftedOrFar, CanBeMarked, HasRoomFor};
+ghost use Rattle.route_spread.specs.Markings.{HaveLevelled, HaveMarked, HaveRaised, HaveWay, IsCounted, KnowsHolders};
 
 use crate::assignment::Assignment;
 use crate::order::Order;
@@ -87,7 +88,7 @@ impl Marks {
         requires arranged { AreArrangedAt loads.now self.old top }
         requires small { (x : ℕ) → at loads.now x ≤ 2 ^ 100 }
         ensures room { HasRoomFor (length loads.now) self.new }
-        ensures found { MatchOption result ((i : ℕ) → Contains offers.now i → top ≤ height_at loads.now self.new.raised.items i) (λ i. Contains offers.now i × (at loads.now i + 2 ≤ top)) }
+        ensures found { AreLiftedOrFar loads.now offers.now self.new top result }
         ensures only { HaveRaised loads.now self.old self.new link top (λ x. Contains offers.now x) }
         ensures arranged { AreArrangedAt loads.now self.new top }
         ensures later { AreLater self.old self.new }

@@ -1,7 +1,8 @@
 //! The interrupts in the order in which a marking comes to them: the highest first.
 ghost use Rattle.std.specs.Prelude.{◌≡◌, ◌≤◌, ◌<◌, ◌+◌, ℕ, List, IfOk, length};
 ghost use Rattle.std.specs.Ordering.{nat_cmp};
-ghost use Rattle.route_spread.specs.Marks.{at, IsListed, IsPromoted};
+ghost use Rattle.route_spread.specs.Marks.{at, AreByLoads, IsListed};
+ghost use Rattle.route_spread.specs.Markings.{WasPromoted};
 
 use std::alloc::{AllocError, Global};
 use std::cmp::Ordering;
@@ -75,7 +76,7 @@ impl Order {
         requires { IsListed self.old.interrupts.items self.old.ranks.items }
         ensures listed { IsListed self.new.interrupts.items self.new.ranks.items }
         ensures long { length self.new.interrupts.items ≡ length self.old.interrupts.items }
-        ensures falling { (i j : ℕ) → i ≤ j → j < length self.new.interrupts.items → at loads.now (at self.new.interrupts.items j) ≤ at loads.now (at self.new.interrupts.items i) }
+        ensures falling { AreByLoads loads.now self.new.interrupts.items }
         ensures none { self.new.high ≡ 0 }
     {
         self.interrupts
@@ -89,7 +90,7 @@ impl Order {
         requires listed { IsListed self.old.interrupts.items self.old.ranks.items }
         requires within { i < length self.old.interrupts.items }
         requires lower { self.old.high ≤ at self.old.ranks.items i }
-        ensures promoted { IsPromoted i self.old.high self.old.interrupts.items self.new.interrupts.items self.old.ranks.items self.new.ranks.items }
+        ensures promoted { WasPromoted i self.old self.new }
         ensures higher { self.new.high ≡ self.old.high + 1 }
     {
         let rank = self.ranks[i];
