@@ -1,5 +1,5 @@
 -- The answer of `route`, from the machine and its report.
-use Rattle.std.proofs.Common.{◌≡◌, ◌≢◌, ◌∙◌, ◌<◌, Bool, ap, sym, subst, refl, arith, inl, inr}
+use Rattle.std.proofs.Common.{◌≡◌, ◌≢◌, ◌∙◌, ◌<◌, Bool, ap, sym, subst, refl, true, arith, inl, inr}
 use Rattle.std.specs.Prelude.{◌⊎◌, ℕ, List, Ok, Err, IfOk, IsErr, IsErrAnd}
 use Rattle.ar_space.specs.declared.refusal.Refusal.{Refusal}
 use Rattle.ar_space.specs.declared.refusal.Refusal.TheVariants.{OutOfMemory}
@@ -11,6 +11,7 @@ use Rattle.acpi_configure.specs.Configured.{IsReport}
 use Rattle.ar_tables.specs.declared.mode.Mode.{Mode}
 use Rattle.route_check.specs.Claims.{RoutingClaim}
 use Rattle.route_check.specs.Flaws.{IsFirstFlaw}
+use Rattle.route_check.specs.Shared.{IsClaimShared, Holds}
 use Rattle.route_check.specs.Valid.{Valid, SomeInterrupt, OffersInside, IsCrowded}
 use Rattle.route_check.specs.declared.flaw.Flaw.{Flaw}
 use Rattle.route_check.specs.declared.flaw.Flaw.TheVariants as flaw
@@ -22,36 +23,41 @@ use Rattle.acpiroute_lib.specs.Machines.{machine_of_text_in}
 use Rattle.acpiroute_lib.specs.RouteCommand.{printed, IsRouted, IsRouteAnswer}
 use Rattle.acpiroute_words.specs.Written.{Written}
 
--- a valid claim has no flaw
-no_flaw : (c : RoutingClaim) (f : Flaw) → Valid c → IsFirstFlaw c f → ⊥
-no_flaw c flaw.Repeated v h = h v.none_repeated
-no_flaw c flaw.LinkMissing v h = h.1 v.none_missing
-no_flaw c flaw.NotOffered v h = h.2 v.all_offered
-no_flaw c flaw.BusiestWrong v h = h.3 v.busiest_right
-no_flaw c flaw.SetEmpty v h = go v.bound
+-- a claim that holds has no flaw
+no_flaw : (c : RoutingClaim) (f : Flaw) → Valid c → (c.spread ≡ true → IsClaimShared c) → IsFirstFlaw c f → ⊥
+no_flaw c flaw.Repeated v s h = h v.none_repeated
+no_flaw c flaw.LinkMissing v s h = h.1 v.none_missing
+no_flaw c flaw.NotOffered v s h = h.2 v.all_offered
+no_flaw c flaw.BusiestWrong v s h = h.3 v.busiest_right
+no_flaw c flaw.SetEmpty v s h = go v.bound
   where
     go : (c.busiest ≡ 0) ⊎ (SomeInterrupt c × OffersInside c × IsCrowded c) → ⊥
     go (inl is) = absurd (let some = h.4 in omega arith)
     go (inr b) = h.5 b.0
-no_flaw c flaw.OfferOutsideSet v h = go v.bound
+no_flaw c flaw.OfferOutsideSet v s h = go v.bound
   where
     go : (c.busiest ≡ 0) ⊎ (SomeInterrupt c × OffersInside c × IsCrowded c) → ⊥
     go (inl is) = absurd (let some = h.4 in omega arith)
     go (inr b) = h.6 b.1
-no_flaw c flaw.CountTooSmall v h = go v.bound
+no_flaw c flaw.NotLeastShared v s h = h.2 (s h.1)
+no_flaw c flaw.CountTooSmall v s h = go v.bound
   where
     go : (c.busiest ≡ 0) ⊎ (SomeInterrupt c × OffersInside c × IsCrowded c) → ⊥
     go (inl is) = absurd (let some = h.4 in omega arith)
     go (inr b) = h.7 b.2
 
--- `check` says yes to a text whose claim is valid
-verdict_yes : (c : RoutingClaim) (text : List ℕ) (o : Outcome RoutingClaim) (verdict : Verdict) → o ≡ Ok c → claim_of_text text ≡ o → Valid c → IsVerdictOn o verdict → check_answer verdict text ≡ Ok (verdict_answer (Ok tt))
+-- `check` says yes to a text whose claim holds
+verdict_yes : (c : RoutingClaim) (text : List ℕ) (o : Outcome RoutingClaim) (verdict : Verdict) → o ≡ Ok c → claim_of_text text ≡ o → Holds c → IsVerdictOn o verdict → check_answer verdict text ≡ Ok (verdict_answer (Ok tt))
 unfolding check_answer ◌>>=◌
 verdict_yes c text o (Ok u) is at v h = rw (at, is) refl
-verdict_yes c text o (Err f) is at v h = absurd (no_flaw c f v (subst (λ o. IsVerdictOn o (Err f)) is h))
+verdict_yes c text o (Err f) is at v h = absurd (no_flaw c f v.valid v.shared (subst (λ o. IsVerdictOn o (Err f)) is h))
 
-checked : (c : RoutingClaim) (text : List ℕ) → claim_of_text text ≡ Ok c → Valid c → (r : Outcome Written) → IsCheckAnswer text r → r ≡ Ok (verdict_answer (Ok tt))
+checked : (c : RoutingClaim) (text : List ℕ) → claim_of_text text ≡ Ok c → Holds c → (r : Outcome Written) → IsCheckAnswer text r → r ≡ Ok (verdict_answer (Ok tt))
 checked c text at v r h = h.2 ∙ verdict_yes c text (claim_of_text text) h.0 at refl v h.1
+
+-- where it isn't claimed that links share as little as they can, nothing has to hold of it
+plain : {m after : MachineState Bytes} (dry : Bool) (avoid : List ℕ) (report : RoutingReport) → IsReport byte_accesses dry avoid m after report → Holds (claim_of_report report)
+plain dry avoid report is = record { valid = is.valid; shared = λ e. absurd (cc (sym (ap (λ (c : RoutingClaim). c.spread) is.claims) ∙ e)) }
 
 pub reported : {m after : MachineState Bytes} (dry : Bool) (avoid : List ℕ) (report : RoutingReport) (r : Outcome Written) → IsReport byte_accesses dry avoid m after report → Answers r (Ok (printed report))
     → IfOk r (λ w. IsReadable report → claim_of_text w.text ≡ Ok (claim_of_report report)) → NotMemory r → IsRouted dry avoid m r
@@ -62,7 +68,7 @@ reported {after = after} dry avoid report (Ok w) is h back ne =
       is_report = is;
       is_text = sym (cc (h.is ne));
       is_read_back = back is.readable;
-      is_checked = checked (claim_of_report report) w.text (back is.readable) is.valid;
+      is_checked = checked (claim_of_report report) w.text (back is.readable) (plain dry avoid report is);
     }
 reported dry avoid report (Err e) is h back ne = absurd (cc (h.is ne))
 

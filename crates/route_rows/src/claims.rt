@@ -18,6 +18,7 @@ pub fn empty_claim(alloc: Global) -> Claim {
         gives: Vec::new(alloc),
         busiest: 0,
         bound: None,
+        spread: false,
     }
 }
 
@@ -39,6 +40,7 @@ fn flaw_word(flaw: Flaw) -> &'static str {
         Flaw::OfferOutsideSet => "offer outside set",
         Flaw::CountTooSmall => "count too small",
         Flaw::SetEmpty => "set empty",
+        Flaw::NotLeastShared => "not least shared",
     }
 }
 
