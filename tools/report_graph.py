@@ -34,6 +34,7 @@ LINES = {word: re.compile(f"{word} {rest}" if rest else word) for word, rest in 
     "spared": rf"({PATH}) ({NUMBERS})",
     "unread": rf"({PATH}) ({NUMBER})",
     "first": r"",
+    "spread": r"",
     "link": rf"({PATH}) (small|extended) (low|high) offers ({NUMBERS}) now ({STATE})",
     "wired": rf"({NUMBER}) ({NUMBER})",
     "pin": rf"({PATH}) ({NUMBER}) ([A-D]) (?:({NUMBER}) wired|({NUMBER}|absent) ({PATH}))",
@@ -44,7 +45,7 @@ LINES = {word: re.compile(f"{word} {rest}" if rest else word) for word, rest in 
     "after": rf"({PATH}) (?:({STATE})|refused ({NUMBER}))",
 }.items()}
 # The lines that stand from a version on, and those of them that stand there once.
-SINCE = {"sci": 2, "avoid": 2, "spared": 3, "unread": 3, "first": 3}
+SINCE = {"sci": 2, "avoid": 2, "spared": 3, "unread": 3, "first": 3, "spread": 3}
 ONCE = ("sci", "avoid", "first")
 
 
@@ -120,6 +121,9 @@ class Report:
     def add_first(self):
         self.rule = "first"
 
+    def add_spread(self):
+        self.rule = "spread"
+
     def add_link(self, path, form, polarity, offers, now):
         if path in self.links:
             raise Fault(f"{path} has a second line 'link'")
@@ -156,9 +160,11 @@ class Report:
         word = line.split(" ", 1)[0]
         if word not in LINES or self.version < SINCE.get(word, 1):
             raise Fault(f"no line of a report of version {self.version} begins with '{word[:40]}'")
-        if word in self.added:
+        # a report says one rule of its choice
+        once = "first" if word == "spread" else word
+        if once in self.added:
             raise Fault(f"a second line '{word}'")
-        self.added |= {word} & set(ONCE)
+        self.added |= {once} & set(ONCE)
         found = LINES[word].fullmatch(line)
         if not found:
             raise Fault(f"not a line '{word}' of a report: '{line[:120]}'")
