@@ -12,4 +12,4 @@ returns c =
     (ap offers_of c.deref.ensures.value ∙ (c.in_ok-links.ensures ∙ ap₂ (λ (avoid : List ℕ) (links : List OfferingLink). map (λ l. without avoid l.offers) links) c.by.ensures c.links.ensures))
     (c.deref-2.ensures.value ∙ c.in_ok-wired.ensures)
     (c.deref-3.ensures.value ∙ (c.in_ok-choice.ensures ∙ ap₂ (λ (links : List OfferingLink) (gives : List (List Seg × ℕ)). choice_of links gives) c.links-2.ensures c.gives.ensures))
-    c.is_least_shared.ensures
+    c.is_least_shared.ensures.answer
