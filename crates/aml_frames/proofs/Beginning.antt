@@ -1,5 +1,5 @@
 -- Terms that begin: by their opcodes, as calls, or refused.
-use Rattle.std.specs.Prelude.{◌≡◌, ◌≢◌, ◌-◌, ℕ, zero, suc, List, false, Some, Ok, Err, refl}
+use Rattle.std.specs.Prelude.{◌≡◌, ◌≢◌, ◌-◌, ℕ, zero, suc, List, false, Some, Err, refl}
 use Rattle.std.proofs.Common.{◌∙◌, ap, sym, subst}
 use Rattle.ar_space.specs.Accesses.{Accesses}
 use Rattle.ar_space.specs.Outcome.{Outcome}
@@ -25,7 +25,7 @@ use Rattle.aml_meaning.specs.declared.flow.Flow.{Flow}
 use Rattle.aml_meaning.specs.declared.term_kind.TermKind.TheVariants as kinds
 use Rattle.aml_meaning.specs.State.{State}
 use Rattle.aml_meaning.specs.Run.{Run, lift}
-use Rattle.aml_meaning.specs.Terms.{kind_of, count_of, list_of}
+use Rattle.aml_meaning.specs.Terms.{kind_of, count_of}
 use Rattle.aml_meaning.specs.Tasks.{Task}
 use Rattle.aml_meaning.specs.Invocations.{invocation_found}
 use Rattle.aml_meaning.specs.InvocationTerms.{name_value, invocation_rule}
@@ -33,7 +33,6 @@ use Rattle.aml_meaning.specs.Evaluation.{kind_rule, code_rule}
 use Rattle.aml_meaning.specs.Meaning.{meaning}
 use Rattle.aml_frames.specs.declared.frames.Next.{Next}
 use Rattle.aml_frames.specs.Places.{Site, at_place, terms, next_term, behind_term}
-use Rattle.aml_frames.specs.Operands.{row_kind}
 use Rattle.aml_frames.specs.Follow.{name_run, behind_name_at, begun_run, coded_run, Leads, EndsAt}
 use Rattle.aml_frames.proofs.OperandShapes.{code_stands}
 

@@ -7,3 +7,4 @@ pub mod Weighing
 pub mod Targeting
 pub mod Using
 pub mod Beginning
+pub mod Addressing

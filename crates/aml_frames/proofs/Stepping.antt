@@ -19,6 +19,7 @@ use Rattle.aml_convert.specs.Operators.{is_true}
 use Rattle.aml_objects.specs.declared.value.Value.{Value}
 use Rattle.aml_meaning.specs.declared.flow.Flow.{Flow}
 use Rattle.aml_meaning.specs.declared.flow.Flow.TheVariants as flow
+use Rattle.aml_meaning.specs.declared.term_kind.TermKind.{TermKind}
 use Rattle.aml_meaning.specs.declared.term_kind.TermKind.TheVariants as kinds
 use Rattle.aml_meaning.specs.declared.term_kind.OperatorKind.{OperatorKind}
 use Rattle.aml_meaning.specs.declared.term_kind.StatementKind.{StatementKind}
@@ -30,7 +31,7 @@ use Rattle.aml_meaning.specs.Terms.{inner_of, else_of, kind_of}
 use Rattle.aml_meaning.specs.Tasks.{Task, operand_value, operand_integer, value_at, in_turn, goes_on, after_item}
 use Rattle.aml_grammar.specs.declared.marks.Mark.{Mark}
 use Rattle.aml_meaning.specs.InvocationTerms.{arguments_in_turn}
-use Rattle.aml_meaning.specs.Invocations.{leaving, invoked}
+use Rattle.aml_meaning.specs.Invocations.{leaving}
 use Rattle.aml_meaning.specs.Meaning.{meaning}
 use Rattle.aml_meaning.specs.Evaluation.{rule, code_rule}
 use Rattle.aml_meaning.specs.OperatorTerms.{operator_rule}
@@ -48,7 +49,7 @@ use Rattle.aml_frames.specs.declared.frames.Loop.{Loop}
 use Rattle.aml_frames.specs.declared.frames.Next.{Next}
 use Rattle.aml_frames.specs.declared.frames.Next.TheVariants as next
 use Rattle.aml_frames.specs.Places.{Site, at_place, terms, next_term, behind_term}
-use Rattle.aml_frames.specs.Operands.{inside_at, outside_at, behind_one, items_at, row_kind, operator_tree, statement_tree}
+use Rattle.aml_frames.specs.Operands.{inside_at, outside_at, behind_one, items_at, row_kind, forms_or_declares, operator_tree, statement_tree}
 use Rattle.aml_frames.specs.Follow.{called, arguments_left, behind_arguments, place_of, branch_at, statement_run, behind_statement_at, behind_operator_at, behind_coded, term_run, items_run, loop_site, loop_list, loop_again, turn_left, resumed, ends, Leads, EndsAt}
 use Rattle.aml_frames.proofs.RuleShapes.{operator_is, statement_is, behind_operator_is, behind_statement_is}
 
@@ -102,7 +103,11 @@ ends_statement r e c levels k o h l = subst (EndsAt r e) (ap (at_place c) (sym (
 pub kind_there : (o : RowPlace) (row : Row) → Some row ≡ row_at o → row_kind (row_at o) ≡ kind_of row.0
 kind_there o row e = rw (← e) refl
 
-pub ruleset coding = (kind_there, ends_begun, ends_operator, ends_statement)
+-- a row whose kind is one of those
+pub forms_there : (o : RowPlace) (row : Row) (k : TermKind) → Some row ≡ row_at o → kind_of row.0 ≡ k → forms_or_declares k ≡ true → forms_or_declares (row_kind (row_at o)) ≡ true
+forms_there o row k e i h = rw (← e, i) h
+
+pub ruleset coding = (forms_there, kind_there, ends_begun, ends_operator, ends_statement)
 
 -- ---- where calls end
 

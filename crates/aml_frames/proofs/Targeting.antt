@@ -1,9 +1,9 @@
 -- Targets that stand next, and what their rules come to.
-use Rattle.std.specs.Prelude.{◌≡◌, ◌≢◌, ◌-◌, ◌==◌, ℕ, zero, suc, List, Bool, true, false, Some, Ok, Err, refl}
+use Rattle.std.specs.Prelude.{◌≡◌, ◌≢◌, ◌-◌, ◌==◌, ℕ, zero, suc, List, true, false, Some, Ok, Err, refl}
 use Rattle.std.proofs.Common.{◌∙◌, ap, sym, subst}
 use Rattle.ar_space.specs.Accesses.{Accesses}
 use Rattle.ar_space.specs.Outcome.{Outcome}
-use Rattle.ar_space.specs.Change.{Change, Does, give, settle, stop, go_on, ◌>>=◌, ◌>>◌}
+use Rattle.ar_space.specs.Change.{Change, Does, give, settle, stop, go_on, ◌>>=◌}
 use Rattle.aml_path.specs.declared.segment.Seg.{Seg}
 use Rattle.aml_grammar.specs.Names.{starts_name}
 use Rattle.aml_grammar.specs.declared.opcode.TermCode.{TermCode}
@@ -31,15 +31,14 @@ use Rattle.aml_meaning.specs.Terms.{target_kind}
 use Rattle.aml_meaning.specs.Meaning.{meaning}
 use Rattle.aml_meaning.proofs.Agree.{not_zero}
 use Rattle.aml_meaning.specs.StoreTargets.{tested}
-use Rattle.aml_meaning.specs.TargetTerms.{reference_in, target_named, name_target, target_by_kind, target_of, first_target, part_target, target_by, target_at, indexed_target, dereferenced_target, operand_target}
+use Rattle.aml_meaning.specs.TargetTerms.{reference_in, target_named, name_target, target_by_kind, target_of, first_target, part_target, target_at, indexed_target, dereferenced_target}
 use Rattle.aml_frames.specs.declared.frames.Frame.TheVariants as frames
-use Rattle.aml_frames.specs.declared.frames.Next.{Next}
 use Rattle.aml_frames.specs.declared.frames.Next.TheVariants as next
 use Rattle.aml_frames.specs.declared.uses.TargetUse.{TargetUse}
 use Rattle.aml_frames.specs.Places.{Site, at_place, terms, next_term, behind_term}
 use Rattle.aml_frames.specs.Operands.{behind_one}
-use Rattle.aml_frames.specs.Uses.{super, optional, operand_used, dereferenced_used, target_run, target_ends, use_ends, used, behind_target}
-use Rattle.aml_frames.specs.Follow.{resumed, Leads, EndsAt}
+use Rattle.aml_frames.specs.Uses.{super, optional, operand_used, dereferenced_used, target_run, target_ends, use_ends, used}
+use Rattle.aml_frames.specs.Follow.{Leads, EndsAt}
 use Rattle.aml_frames.proofs.OperandShapes.{refers, a_super, an_argument}
 use Rattle.aml_frames.proofs.Stepping.{bind_bind, leads_ok, leads_value}
 
@@ -152,9 +151,9 @@ module _ {S : Type 0} {ac : Accesses S} where
   leads_as : {A : Type 0} {r : _} {d : Site} {s s1 : State S × ℕ} (m n : Run S A) (k : A → Run S Flow) → m ≡ n → Leads ac (meaning ac) r d s1 (n >>= k) s → Leads ac (meaning ac) r d s1 (m >>= k) s
   leads_as {r = r} {d = d} {s = s} {s1 = s1} m n k e h = subst (λ (x : Run S _). Leads ac (meaning ac) r d s1 (x >>= k) s) (sym e) h
 
-  stopped_first : {A : Type 0} {d : Site} {s : State S × ℕ} (x : Refusal) (k : A → Run S Flow) → Leads ac (meaning ac) (Err x) d s (stop x >>= k) s
+  pub leads_stopped : {A : Type 0} {d : Site} {s : State S × ℕ} (x : Refusal) (k : A → Run S Flow) → Leads ac (meaning ac) (Err x) d s (stop x >>= k) s
   unfolding stop ◌>>=◌ go_on
-  stopped_first x k = record { is = λ _. refl }
+  leads_stopped x k = record { is = λ _. refl }
 
   pub leads_named : {r : _} {d : Site} {s s1 : State S × ℕ} (c : Site) (levels : ℕ) (u : TargetUse) → starts_name (first c.place.rest) ≡ true → Leads ac (meaning ac) r d s1 (lift (target_named c.scope (a_name c.place).0) >>= used ac (meaning ac) u (at_place c (a_name c.place).1)) s → Leads ac (meaning ac) r d s1 (target_run ac (meaning ac) (super levels) u c) s
   leads_named {r = r} {d = d} {s = s} {s1 = s1} c levels u e h =
@@ -205,7 +204,7 @@ module _ {S : Type 0} {ac : Accesses S} where
   leads_indexed c levels u k e i j = leads_by_kind c levels u kinds.Index e (sym j ∙ i) (leads_index levels u)
 
   pub leads_no_target : {d : Site} {s : State S × ℕ} (c : Site) (levels : ℕ) (u : TargetUse) (k : TargetKind) → starts_name (first c.place.rest) ≡ false → k ≡ target_kind (code_of (next_term c levels)) → k ≡ kinds.Other → Leads ac (meaning ac) (Err (refusal.Name BadName)) d s (target_run ac (meaning ac) (super levels) u c) s
-  leads_no_target {s = s} c levels u k e i j = leads_by_kind c levels u kinds.Other e (sym j ∙ i) (stopped_first _ _)
+  leads_no_target {s = s} c levels u k e i j = leads_by_kind c levels u kinds.Other e (sym j ∙ i) (leads_stopped _ _)
 
 -- a term that refers to a target has an opcode
 no_other_ref : kinds.Other ≢ kinds.RefOf

@@ -1,16 +1,16 @@
 -- Operators, what is done with targets, and accesses of fields: steps keep what their rules mean.
-use Rattle.std.specs.Prelude.{◌≡◌, ◌≤◌, ◌<◌, ◌+◌, ◌*◌, ◌-◌, ℕ, List, Bool, true, false, Option, Some, None, Ok, Err, refl}
+use Rattle.std.specs.Prelude.{◌≡◌, ℕ, List, Bool, true, false, Option, Some, None, Ok, Err, refl}
 use Rattle.std.proofs.Common.{◌∙◌, ap, sym, subst}
 use Rattle.ar_space.specs.Accesses.{Accesses}
 use Rattle.ar_space.specs.Outcome.{Outcome}
-use Rattle.ar_space.specs.Change.{Change, give, settle, stop, go_on, ◌>>=◌}
+use Rattle.ar_space.specs.Change.{give, settle, stop, go_on, ◌>>=◌}
 use Rattle.aml_path.specs.declared.segment.Seg.{Seg}
 use Rattle.aml_path.specs.Paths.{Name}
 use Rattle.aml_grammar.specs.Names.{starts_name}
 use Rattle.aml_grammar.specs.declared.opcode.TermCode.TheVariants as codes
 use Rattle.aml_grammar.specs.Apart.{code_of}
 use Rattle.aml_grammar.specs.Tree.{Tree, term, Part, name, inner, no_parts, part}
-use Rattle.aml_marked.specs.Marked.{Place, Below, first, a_name, a_super_name, a_target}
+use Rattle.aml_marked.specs.Marked.{Place, first, a_name, a_super_name, a_target}
 use Rattle.aml_objects.specs.declared.entry.Field.{Field}
 use Rattle.aml_objects.specs.declared.value.Reference.{Reference}
 use Rattle.aml_objects.specs.declared.value.Value.{Value}
@@ -30,7 +30,7 @@ use Rattle.aml_meaning.specs.declared.term_kind.StatementKind.TheVariants as sta
 use Rattle.aml_meaning.specs.State.{State}
 use Rattle.aml_meaning.specs.Run.{Run, lift}
 use Rattle.aml_meaning.specs.Readings.{integer_in, value_in}
-use Rattle.aml_meaning.specs.Tasks.{Task, operand_value, value_at, two_values}
+use Rattle.aml_meaning.specs.Tasks.{operand_value, value_at, two_values}
 use Rattle.aml_meaning.specs.Terms.{target_kind}
 use Rattle.aml_meaning.specs.Meaning.{meaning}
 use Rattle.aml_meaning.specs.Regions.{integer_of_bits, value_of_bits, referent_of_bits}
@@ -55,10 +55,9 @@ use Rattle.aml_frames.specs.declared.uses.Reading.{Reading}
 use Rattle.aml_frames.specs.declared.uses.Reading.TheVariants as reading
 use Rattle.aml_frames.specs.declared.uses.TargetUse.TheVariants as uses
 use Rattle.aml_frames.specs.Places.{Site, at_place, terms, next_term, behind_term}
-use Rattle.aml_frames.specs.Operands.{behind_one, behind_two, operator_tree, statement_tree, argument_super_at, argument_target_at, arguments_target_at, arguments_targets_at, super_at, super_word_at, super_target_at, super_argument_at}
-use Rattle.aml_frames.specs.Uses.{super, optional, behind_target, target_run, access_run, read_as, told, stored_at, inquired, counted_back, found_next, used}
-use Rattle.aml_frames.specs.Weights.{most, charged}
-use Rattle.aml_frames.specs.Follow.{operator_run, statement_run, behind_operator_at, inquiry_kind, resumed, Leads, EndsAt}
+use Rattle.aml_frames.specs.Operands.{behind_one, behind_two, operator_tree, argument_super_at, argument_target_at, arguments_target_at, arguments_targets_at, super_at, super_word_at, super_argument_at}
+use Rattle.aml_frames.specs.Uses.{super, optional, behind_target, target_run, read_as, told, stored_at, inquired, counted_back, found_next, used}
+use Rattle.aml_frames.specs.Follow.{operator_run, statement_run, behind_operator_at, inquiry_kind, Leads, EndsAt}
 use Rattle.aml_frames.proofs.Stepping.{bind_bind, leads_value, leads_value_at, stepping}
 use Rattle.aml_frames.proofs.Targeting.{target_part_is, named_part, term_part, bind_as, bind_same, leads_nested, leads_given, aiming, names_of_targets, kinds_of_targets, operands_of_targets}
 use Rattle.aml_frames.proofs.Beginning.{leads_call, ends_call, leads_no_term, leads_unsupported}
@@ -71,7 +70,7 @@ reads calls f how = record { calls = calls; object = object.Field f; doing = doi
 abbrev writes : ℕ → Field → List ℕ → Access
 writes calls f bytes = record { calls = calls; object = object.Field f; doing = doing.Write bytes }
 
-given_one : {S A B : Type 0} (x : A) (k : A → Run S B) (s : State S × ℕ) → (give x >>= k) s ≡ k x s
+pub given_one : {S A B : Type 0} (x : A) (k : A → Run S B) (s : State S × ℕ) → (give x >>= k) s ≡ k x s
 unfolding give ◌>>=◌ go_on
 given_one x k s = refl
 
@@ -80,7 +79,7 @@ unfolding lift give ◌>>=◌ go_on
 told_type x k s = refl
 
 -- an integer that is handed on as the value of a flow
-integer_told : {S : Type 0} (o : Outcome ℕ) (s : State S × ℕ) (k : ℕ → Run S Flow) → go_on o s k ≡ go_on (go_on o s (λ x. give (flow.Value (value.Integer x)))).0 (go_on o s (λ x. give (flow.Value (value.Integer x)))).1 (λ f. settle (value_in f) >>= (λ v. lift (integer_in v) >>= k))
+pub integer_told : {S : Type 0} (o : Outcome ℕ) (s : State S × ℕ) (k : ℕ → Run S Flow) → go_on o s k ≡ go_on (go_on o s (λ x. give (flow.Value (value.Integer x)))).0 (go_on o s (λ x. give (flow.Value (value.Integer x)))).1 (λ f. settle (value_in f) >>= (λ v. lift (integer_in v) >>= k))
 unfolding go_on give settle stop lift ◌>>=◌ integer_in
 integer_told (Ok x) s k = refl
 integer_told (Err e) s k = refl

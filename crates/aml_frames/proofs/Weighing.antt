@@ -4,7 +4,7 @@ use Rattle.std.proofs.Common.{arith, subst}
 use Rattle.ar_space.specs.Outcome.{Outcome}
 use Rattle.aml_frames.specs.declared.frames.Control.{Control}
 use Rattle.aml_frames.specs.Stack.{control_weight}
-use Rattle.aml_frames.specs.Weights.{region_weight, field_weight, most, step_weight, charged}
+use Rattle.aml_frames.specs.Weights.{part_weight, field_weight, most, step_weight, charged}
 
 times_up : (k a b : ℕ) → a ≤ b → k * a ≤ k * b
 times_up zero a b h = omega arith
@@ -23,25 +23,22 @@ unfolding charged step_weight
 charged_paid a b h = times_paid (3 * most + 100) a b h
 
 -- an access with fewer calls left asks for less
-region_more : (n : ℕ) → region_weight n ≤ region_weight (suc n)
-unfolding region_weight
-region_more zero = omega arith
-region_more (suc n) = let i = region_more n in omega (arith, i)
+part_more : (n : ℕ) → part_weight n ≤ part_weight (suc n)
+unfolding part_weight
+part_more zero = omega arith
+part_more (suc n) = let i = part_more n in omega (arith, i)
 
-region_up : (n k m : ℕ) → m ≡ k + n → region_weight n ≤ region_weight m
-region_up n zero m e = let same : n ≡ m = omega (arith, e) in subst (λ x. region_weight n ≤ region_weight x) same (omega arith)
-region_up n (suc k) m e =
-    let i = region_up n k (k + n) refl in
-    let j = region_more (k + n) in
+part_up : (n k m : ℕ) → m ≡ k + n → part_weight n ≤ part_weight m
+part_up n zero m e = let same : n ≡ m = omega (arith, e) in subst (λ x. part_weight n ≤ part_weight x) same (omega arith)
+part_up n (suc k) m e =
+    let i = part_up n k (k + n) refl in
+    let j = part_more (k + n) in
     let same : suc (k + n) ≡ m = omega (arith, e) in
-    subst (λ x. region_weight n ≤ region_weight x) same (omega (arith, i, j))
+    subst (λ x. part_weight n ≤ part_weight x) same (omega (arith, i, j))
 
 pub few_calls : (depth : ℕ) → field_weight (32 - depth) ≤ most
-unfolding field_weight most
-few_calls depth =
-    let k = 32 - (32 - depth) in
-    let i = region_up (32 - depth) k 32 (omega arith) in
-    omega (arith, i)
+unfolding most
+few_calls depth = part_up (suc (32 - depth)) (32 - (32 - depth)) 33 (omega arith)
 
 -- ---- the sum falls: what is left weighs w, and what was taken from the stack v
 

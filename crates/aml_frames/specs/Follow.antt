@@ -5,6 +5,7 @@ use Rattle.ar_space.specs.Outcome.{Outcome, NotMemory}
 use Rattle.ar_space.specs.Change.{give, stop, settle, ◌>>=◌}
 use Rattle.ar_space.specs.declared.refusal.Refusal.TheVariants as refusal
 use Rattle.ar_space.specs.declared.refusal.EvaluationFault.TheVariants.{Fatal}
+use Rattle.aml_path.specs.declared.segment.Seg.{Seg}
 use Rattle.aml_grammar.specs.Apart.{code_of}
 use Rattle.aml_grammar.specs.Shape.{trees_of}
 use Rattle.aml_grammar.specs.Tree.{Trees}
@@ -13,7 +14,6 @@ use Rattle.aml_scan.specs.RowsAt.{row_at}
 use Rattle.aml_scan.specs.declared.row_places.RowPlace.{RowPlace}
 use Rattle.aml_convert.specs.Operators.{is_true}
 use Rattle.aml_objects.specs.declared.value.Value.{Value}
-use Rattle.aml_objects.specs.declared.value.Value.TheVariants as value
 use Rattle.aml_meaning.specs.declared.flow.Flow.{Flow}
 use Rattle.aml_meaning.specs.declared.flow.Flow.TheVariants as flow
 use Rattle.aml_meaning.specs.declared.term_kind.OperatorKind.{OperatorKind}
@@ -49,6 +49,7 @@ use Rattle.aml_frames.specs.Places.{Site, place_between, at_place, terms, next_t
 use Rattle.aml_frames.specs.declared.uses.Inquiry.{Inquiry}
 use Rattle.aml_frames.specs.declared.uses.Inquiry.TheVariants as inquiry
 use Rattle.aml_frames.specs.declared.uses.TargetUse.TheVariants as uses
+use Rattle.aml_frames.specs.Addresses.{part_met}
 use Rattle.aml_frames.specs.Uses.{optional, behind_target, use_ends, target_ends, monadic_ends, dyadic_ends, access_run, inquired, counted_back, used, target_run, monadic_done, dyadic_by, dyadic_done}
 use Rattle.aml_frames.specs.Operands.{operator_tree, statement_tree, behind_operator, behind_statement}
 
@@ -119,6 +120,7 @@ ends (frames.IndexTarget u) c = use_ends u c
 ends (frames.DerefTarget u) c = use_ends u c
 ends (frames.Referent i) c = c
 ends (frames.Counted k p h) c = c
+ends (frames.Address x) c = c
 
 -- and when all that a step leaves is done
 abbrev pub next_ends : Next → Site → Site
@@ -253,6 +255,11 @@ module _ {S : Type 0} (accesses : Accesses S) (ev : Task → Run S Flow) where
     v ← settle (value_in f)
     n ← lift (integer_in v)
     counted_back accesses ev k p (held.Field h) c n
+  resumed (frames.Address x) c f = part_met accesses ev x f
+
+  -- the body of a control method that takes no arguments, and then a frame
+  abbrev pub entered_then : ℕ → List Seg → List ℕ → Frame → Site → Run S Flow
+  entered_then depth p body x c = invoked ev depth p body [] >>= resumed x c
 
   -- what is left to do
   abbrev pub next_run : Next → Site → Run S Flow

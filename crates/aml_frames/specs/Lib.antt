@@ -1,3 +1,4 @@
+pub mod Addresses
 pub mod Follow
 pub mod Operands
 pub mod Places

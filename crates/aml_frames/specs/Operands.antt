@@ -1,5 +1,5 @@
 -- The operands of a term, where they stand one behind another.
-use Rattle.std.specs.Prelude.{Option, Some, None, false, true, take}
+use Rattle.std.specs.Prelude.{Bool, Option, Some, None, false, true, take}
 use Rattle.aml_grammar.specs.declared.opcode.TermCode.TheVariants as codes
 use Rattle.aml_grammar.specs.declared.kinds.Row.{Row}
 use Rattle.aml_grammar.specs.Tree.{Tree, term, number, inner, list, Parts, no_parts, part, Trees}
@@ -38,6 +38,15 @@ elements_at b p = trees_of (all_items b true p).0
 abbrev pub row_kind : Option Row → TermKind
 row_kind None = kinds.Unsupported
 row_kind (Some row) = kind_of row.0
+
+-- whether a term forms data, declares something, or declares a region or fields
+abbrev pub forms_or_declares : TermKind → Bool
+forms_or_declares (kinds.Data k) = true
+forms_or_declares (kinds.Declaration k) = true
+forms_or_declares (kinds.Region k) = true
+forms_or_declares (kinds.Operator k) = false
+forms_or_declares (kinds.Statement k) = false
+forms_or_declares kinds.Unsupported = false
 
 module _ (b : Below) where
   -- ---- operands that terms have

@@ -1,10 +1,10 @@
 -- What is done with targets, with the values of operands, and with the bits of fields: what of a rule is left behind the part that is
 -- evaluated (ACPI 6.5, 19.6 and 20.2.2).
-use Rattle.std.specs.Prelude.{ℕ, ◌-◌, List, Option, Some, None}
+use Rattle.std.specs.Prelude.{ℕ, List, Option, Some, None}
 use Rattle.ar_space.specs.Accesses.{Accesses}
 use Rattle.ar_space.specs.Change.{Change, give, settle, ◌>>=◌}
 use Rattle.aml_path.specs.declared.segment.Seg.{Seg}
-use Rattle.aml_marked.specs.Marked.{Place, Below, Walk, over, a_super_name, a_target}
+use Rattle.aml_marked.specs.Marked.{Below, Walk, over, a_super_name, a_target}
 use Rattle.aml_grammar.specs.Tree.{Part}
 use Rattle.aml_objects.specs.declared.entry.Field.{Field}
 use Rattle.aml_objects.specs.Fields.{bits_of_field}

@@ -4,6 +4,12 @@ use Rattle.aml_frames.specs.declared.frames.Frame.{Frame}
 use Rattle.aml_frames.specs.declared.frames.Frame.TheVariants as frames
 use Rattle.aml_frames.specs.declared.frames.Next.{Next}
 use Rattle.aml_frames.specs.declared.frames.Next.TheVariants as next
+use Rattle.aml_frames.specs.declared.addresses.AddressPart.{AddressPart}
+use Rattle.aml_frames.specs.declared.addresses.AddressPart.TheVariants as parts
+use Rattle.aml_frames.specs.declared.addresses.Asked.{Asked}
+use Rattle.aml_frames.specs.declared.addresses.Asked.TheVariants as answers
+use Rattle.aml_frames.specs.declared.addresses.Waited.{Waited}
+use Rattle.aml_frames.specs.declared.addresses.Waited.TheVariants as waits
 use Rattle.aml_frames.specs.declared.uses.Access.{Access}
 use Rattle.aml_frames.specs.declared.uses.Accessed.{Accessed}
 use Rattle.aml_frames.specs.declared.uses.Accessed.TheVariants as object
@@ -16,12 +22,17 @@ use Rattle.aml_frames.specs.declared.uses.TargetUse.TheVariants as uses
 abbrev pub most_units : ℕ
 most_units = 4294967296
 
-unfoldable pub region_weight : ℕ → ℕ
-region_weight zero = 40
-region_weight (suc n) = 3 * (most_units * (4 * region_weight n + 20) + 40) + 40
+-- a field that is a part of an address, where fewer than so many calls are left
+unfoldable pub part_weight : ℕ → ℕ
+part_weight zero = 0
+part_weight (suc n) = most_units * (4 * (3 * part_weight n + 40) + 20) + 40
 
-unfoldable pub field_weight : ℕ → ℕ
-field_weight n = most_units * (4 * region_weight n + 20) + 40
+-- a field of a region, and any field, with so many calls left
+abbrev pub region_weight : ℕ → ℕ
+region_weight calls = 3 * part_weight calls + 40
+
+abbrev pub field_weight : ℕ → ℕ
+field_weight calls = part_weight (suc calls)
 
 abbrev pub accessed_weight : ℕ → Accessed → ℕ
 accessed_weight calls (object.Field f) = field_weight calls
@@ -50,6 +61,21 @@ use_weight (uses.Notify levels) = 4
 abbrev pub target_weight : TargetUse → ℕ
 target_weight u = use_weight u + 8
 
+-- ---- parts of an address: those that are left behind one that is asked for, each of which may be a field
+
+abbrev pub address_weight : AddressPart → ℕ → ℕ
+address_weight parts.Segment calls = 2 * (part_weight calls + 10) + 4
+address_weight (parts.Bus seg) calls = part_weight calls + 14
+address_weight (parts.Function seg bus) calls = 4
+
+abbrev pub waited_weight : Waited → ℕ
+waited_weight (waits.Method depth p body) = 0
+waited_weight (waits.Field calls f) = field_weight calls
+
+abbrev pub asked_weight : Asked → ℕ
+asked_weight (answers.Known n) = 0
+asked_weight (answers.Waits w) = waited_weight w
+
 -- ---- frames: one that waits for a list weighs 1, and one that waits for a term 3 and what it asks for then
 
 abbrev pub weight : Frame → ℕ
@@ -62,6 +88,7 @@ weight (frames.IndexTarget u) = use_weight u + 5
 weight (frames.DerefTarget u) = use_weight u + 5
 weight (frames.Referent i) = most + 1
 weight (frames.Counted k p h) = most + 8
+weight (frames.Address x) = address_weight x.part x.access.calls
 weight _ = 3
 
 abbrev pub next_weight : Next → ℕ

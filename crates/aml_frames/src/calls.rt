@@ -5,8 +5,8 @@ ghost use Rattle.aml_objects.specs.declared.value.Value.TheVariants.{Uninitializ
 ghost use Rattle.aml_meaning.specs.Meaning.{meaning};
 ghost use Rattle.aml_meaning.specs.Invocations.{shallow, frame_arguments, invoked};
 ghost use Rattle.aml_frames.specs.declared.frames.Frame.TheVariants as frames;
-ghost use Rattle.aml_frames.specs.Follow.{called, arguments_left, behind_arguments, resumed, ends, Leads, EndsAt};
-ghost use Rattle.aml_frames.specs.Weights.{next_weight};
+ghost use Rattle.aml_frames.specs.Follow.{called, entered_then, arguments_left, behind_arguments, resumed, ends, Leads, EndsAt};
+ghost use Rattle.aml_frames.specs.Weights.{weight, next_weight};
 
 use crate::activation::{Activation, MethodPath};
 use crate::frames::{Call, Callee, Frame, Next};
@@ -115,6 +115,32 @@ fn begin_body<S: Space>(
     let body = Activation::new(body, marks, method, node, act.depth() + 1);
     run.world.open_frame(frame_arguments(arguments))?;
     Ok(Next::Body(body))
+}
+
+/// The body of a control method that takes no arguments, where so many are being called, and then a frame.
+#[tactic(auto, using(crate::proofs::Addressing::entering), unfolding(aml_meaning::specs::Invocations::invoked))]
+pub(crate) fn enter_then<S: Space>(
+    alloc: Global,
+    run: &mut Running<S>,
+    act: &Activation,
+    depth: usize,
+    called: (Path, Body),
+    frame: Frame,
+) -> Result<Next, Refusal>
+    ensures spent { run.new.1 ≤ run.old.1 }
+    ensures falls { IfOk result (λ n. next_weight n ≤ 5 + weight frame) }
+    ensures means { Leads S.accesses (meaning S.accesses) result act.now run.new
+        (entered_then S.accesses (meaning S.accesses) depth called.0 called.1 frame act.now) run.old }
+    ensures ends { EndsAt result act.now (ends frame act.now) }
+{
+    let (path, body) = called;
+    shallow(depth)?;
+    let marks = run.world.body_marks(alloc, &path, &body)?;
+    let node = run.world.scope(&path).node;
+    let method = MethodPath::new(alloc, path)?;
+    let body = Activation::new(body, marks, method, node, depth + 1);
+    run.world.open_frame(frame_arguments(&[]))?;
+    Ok(Next::BodyThen(body, frame))
 }
 
 fn shallow(depth: usize) -> Result<(), Refusal>

@@ -1,6 +1,7 @@
 //! What a step of evaluation leaves to do, and what waits for it in memory.
 
 use crate::activation::{Activation, MethodPath, Position};
+use crate::addresses::PciAccess;
 use crate::uses::{Access, Dyadic, Inquiry, Monadic, SecondOperand, Target, TargetUse};
 use aml_meaning::{Count, Flow, StoreTarget};
 use aml_objects::{Body, Field, Value};
@@ -63,7 +64,7 @@ pub enum Frame {
     Turn(Loop),
     /// A Return, while its argument is evaluated.
     Return,
-    /// A Stall or a Sleep, while its time is evaluated.
+    /// A Stall or a Sleep, while its time is evaluated, and a Notify, while its value is.
     Pause,
     /// A Fatal, while its argument is evaluated.
     Fatal,
@@ -75,11 +76,11 @@ pub enum Frame {
     First(Dyadic, u8),
     /// The same, while the second one is.
     Second(SecondOperand),
-    /// A term whose value this is, while it is stored.
+    /// A term whose value this is, while a field is written with it.
     Give(Value),
     /// A Divide with so many levels below it, while its remainder is stored: its quotient.
     Quotient(u8, Value),
-    /// A CondRefOf that found a name, while the reference is stored.
+    /// A CondRefOf that found something, while the reference is stored.
     Found,
     /// A target that is an Index, while its value is evaluated.
     IndexTarget(TargetUse),
@@ -89,6 +90,8 @@ pub enum Frame {
     Referent(Inquiry),
     /// Increment or Decrement of a field that the target leads to, while it is read.
     Counted(Count, StoreTarget, Field),
+    /// An access of a field of PCI_Config, while a part of its address is asked for.
+    Address(PciAccess),
 }
 
 /// What a step leaves to do.

@@ -1,16 +1,21 @@
 //! The frames of evaluation: what waits, in memory and not on the processor's stack, for a term that is being evaluated.
 //!
-//! Begin with `evaluate`, which evaluates the body of a control method in one loop, over any way in which terms begin (`Terms`). A
+//! Begin with `evaluate`, which evaluates the body of a control method in one loop, and leaves to its caller how data, declarations and fields behind
+//! an index field begin (`Terms`). A
 //! step of a term takes it up to the first part that is evaluated, and leaves what is to be done then (`Next`).
 #![tactic(auto)]
 
 mod accesses;
 mod activation;
+mod addresses;
+mod asking;
 mod calls;
+mod field_access;
 mod frames;
 mod lists;
 mod names;
 mod operators;
+mod pci;
 mod references;
 mod resuming;
 mod stack;
@@ -22,7 +27,9 @@ mod uses;
 mod values;
 
 pub use activation::{Activation, MethodPath, Position};
+pub use addresses::{AddressPart, PciAccess, RegionAccess};
 pub use calls::begin_call;
+pub use field_access::begin_region;
 pub use frames::{Call, Callee, Control, Entry, Frame, Items, Loop, Next};
 pub use lists::begin_items;
 pub use names::begin_name;
@@ -32,5 +39,6 @@ pub use stack::evaluate;
 pub use statements::begin_statement;
 pub use terms::Terms;
 pub use uses::{
-    Access, Accessed, Doing, Dyadic, Inquiry, Monadic, Reading, Target, TargetForm, TargetUse,
+    Access, Accessed, Doing, Dyadic, Inquiry, Monadic, Reading, SecondOperand, Target, TargetForm,
+    TargetUse,
 };

@@ -1,5 +1,6 @@
 //! Operators: terms that evaluate operands, form a value and store it to targets (ACPI 6.5, 19.6 and 20.2.5.4). The operands stand next.
 ghost use Rattle.std.specs.Prelude.{◌≡◌, ◌≤◌, ◌<◌, ◌+◌, ◌*◌, IfOk};
+ghost use Rattle.ar_space.specs.Outcome.{NotMemory};
 ghost use Rattle.aml_meaning.specs.Meaning.{meaning};
 ghost use Rattle.aml_frames.specs.declared.frames.Frame.TheVariants as frames;
 ghost use Rattle.aml_frames.specs.Follow.{operator_run, behind_operator_at, resumed, ends, Leads, EndsAt};
@@ -169,6 +170,7 @@ fn finish_monadic<S: Space>(
 #[tactic(auto, using(crate::proofs::Using::using_targets))]
 fn read_held<S: Space>(run: &Running<S>, act: &Activation, held: Held) -> Result<Next, Refusal>
     ensures falls { IfOk result (λ n. next_weight n < most + 4) }
+    ensures memory { NotMemory result }
     ensures means { Leads S.accesses (meaning S.accesses) result act.now run.now
         (held_given S.accesses (meaning S.accesses) held act.now) run.now }
     ensures ends { EndsAt result act.now act.now }
@@ -190,6 +192,7 @@ pub(crate) fn resume_first<S: Space>(
 ) -> Result<Next, Refusal>
     ensures spent { run.new.1 ≤ run.old.1 }
     ensures falls { IfOk result (λ n. next_weight n < 2 * most + 25) }
+    ensures memory { NotMemory result }
     ensures means { Leads S.accesses (meaning S.accesses) result act.new run.new
         (resumed S.accesses (meaning S.accesses) (frames.First kind levels) act.old flow) run.old }
     ensures ends { EndsAt result act.new (ends (frames.First kind levels) act.old) }

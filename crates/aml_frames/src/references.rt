@@ -4,6 +4,7 @@ ghost use Rattle.ar_space.specs.Change.{Does};
 ghost use Rattle.aml_grammar.specs.Names.{starts_name};
 ghost use Rattle.aml_marked.specs.Marked.{first, a_name};
 ghost use Rattle.aml_meaning.specs.Run.{lift};
+ghost use Rattle.ar_space.specs.Outcome.{NotMemory};
 ghost use Rattle.aml_meaning.specs.Meaning.{meaning};
 ghost use Rattle.aml_meaning.specs.StoreTargets.{reference_if_found};
 ghost use Rattle.aml_meaning.specs.declared.term_kind.OperatorKind.TheVariants as operators;
@@ -71,6 +72,7 @@ pub(crate) fn resume_referent<S: Space>(
     flow: Flow,
 ) -> Result<Next, Refusal>
     ensures falls { IfOk result (λ n. next_weight n < most + 4) }
+    ensures memory { NotMemory result }
     ensures means { Leads S.accesses (meaning S.accesses) result act.now run.now
         (resumed S.accesses (meaning S.accesses) (frames.Referent inquiry) act.now flow) run.now }
     ensures ends { EndsAt result act.now act.now }
@@ -148,6 +150,7 @@ pub(crate) fn begin_found<S: Space>(
     found: Option<Reference>,
 ) -> Result<Next, Refusal>
     ensures falls { IfOk result (λ n. next_weight n < most + 20) }
+    ensures memory { NotMemory result }
     ensures means { Leads S.accesses (meaning S.accesses) result act.new run.now
         (found_next S.accesses (meaning S.accesses) levels found act.old) run.now }
     ensures ends { EndsAt result act.new (behind_target (optional levels) act.old) }
@@ -173,6 +176,7 @@ pub(crate) fn resume_found<S: Space>(
     flow: Flow,
 ) -> Result<Next, Refusal>
     ensures falls { IfOk result (λ n. next_weight n < 6) }
+    ensures memory { NotMemory result }
     ensures means { Leads S.accesses (meaning S.accesses) result act.now run.now
         (resumed S.accesses (meaning S.accesses) frames.Found act.now flow) run.now }
     ensures ends { EndsAt result act.now act.now }

@@ -1,5 +1,6 @@
 //! What frames do with the flows that they wait for.
 ghost use Rattle.std.specs.Prelude.{◌≡◌, ◌≤◌, ◌<◌, ◌+◌, Ok, IfOk};
+ghost use Rattle.ar_space.specs.Outcome.{NotMemory};
 ghost use Rattle.aml_meaning.specs.Meaning.{meaning};
 ghost use Rattle.aml_frames.specs.declared.frames.Frame.TheVariants as frames;
 ghost use Rattle.aml_frames.specs.Follow.{at_position, turn_left, resumed, ends, next_ends, Leads, EndsAt};
@@ -9,6 +10,7 @@ use crate::activation::{Activation, Position};
 use crate::calls::resume_argument;
 use crate::frames::{Frame, Items, Loop, Next};
 use crate::operators::{resume_first, resume_operand, resume_quotient, resume_second};
+use crate::pci::resume_address;
 use crate::references::{resume_found, resume_referent};
 use crate::statements::next_branch;
 use crate::target_uses::resume_counted;
@@ -46,6 +48,7 @@ fn resume_if<S: Space>(
 ) -> Result<Next, Refusal>
     ensures spent { run.new.1 ≤ run.old.1 }
     ensures falls { IfOk result (λ n. next_weight n < 6) }
+    ensures memory { NotMemory result }
     ensures means { Leads S.accesses (meaning S.accesses) result act.new run.new
         (resumed S.accesses (meaning S.accesses) (frames.If levels outer) act.old flow) run.old }
     ensures ends { EndsAt result act.new (ends (frames.If levels outer) act.old) }
@@ -65,6 +68,7 @@ fn resume_predicate<S: Space>(
 ) -> Result<Next, Refusal>
     ensures spent { run.new.1 ≤ run.old.1 }
     ensures falls { IfOk result (λ n. next_weight n < 6) }
+    ensures memory { NotMemory result }
     ensures means { Leads S.accesses (meaning S.accesses) result act.new run.new
         (resumed S.accesses (meaning S.accesses) (frames.Predicate turn) act.old flow) run.old }
     ensures ends { EndsAt result act.new (ends (frames.Predicate turn) act.old) }
@@ -119,6 +123,7 @@ fn resume_return<S: Space>(
 ) -> Result<Next, Refusal>
     ensures spent { run.new.1 ≤ run.old.1 }
     ensures falls { IfOk result (λ n. next_weight n < 6) }
+    ensures memory { NotMemory result }
     ensures means { Leads S.accesses (meaning S.accesses) result act.new run.new
         (resumed S.accesses (meaning S.accesses) frames.Return act.old flow) run.old }
     ensures ends { EndsAt result act.new act.old }
@@ -136,6 +141,7 @@ fn resume_pause<S: Space>(
 ) -> Result<Next, Refusal>
     ensures spent { run.new.1 ≤ run.old.1 }
     ensures falls { IfOk result (λ n. next_weight n < 6) }
+    ensures memory { NotMemory result }
     ensures means { Leads S.accesses (meaning S.accesses) result act.new run.new
         (resumed S.accesses (meaning S.accesses) frames.Pause act.old flow) run.old }
     ensures ends { EndsAt result act.new act.old }
@@ -153,6 +159,7 @@ fn resume_fatal<S: Space>(
 ) -> Result<Next, Refusal>
     ensures spent { run.new.1 ≤ run.old.1 }
     ensures falls { IfOk result (λ n. next_weight n < 6) }
+    ensures memory { NotMemory result }
     ensures means { Leads S.accesses (meaning S.accesses) result act.new run.new
         (resumed S.accesses (meaning S.accesses) frames.Fatal act.old flow) run.old }
     ensures ends { EndsAt result act.new act.old }
@@ -197,6 +204,7 @@ pub fn resume<S: Space>(
         Frame::IndexTarget(target_use) => resume_index_target(alloc, run, act, target_use, flow),
         Frame::DerefTarget(target_use) => resume_dereferenced(alloc, run, act, target_use, flow),
         Frame::Referent(inquiry) => resume_referent(run, act, inquiry, flow),
+        Frame::Address(pci) => resume_address(alloc, run, act, pci, flow),
         Frame::Counted(count, target, field) => {
             resume_counted(alloc, run, act, (count, target, field), flow)
         }

@@ -12,6 +12,7 @@ ghost use Rattle.aml_frames.specs.Stack.{whole, then_all, machine, Goes, stack_w
 ghost use Rattle.aml_frames.specs.Weights.{next_weight, target_weight, access_weight, charged};
 
 use crate::activation::{Activation, Position};
+use crate::field_access::begin_access;
 use crate::frames::{Control, Entry, Frame, Items, Next};
 use crate::lists::begin_items;
 use crate::resuming::resume;
@@ -216,7 +217,7 @@ fn step_access<S: Space, T: Terms<S>>(
     ensures means { Goes S.accesses (meaning S.accesses) result stack.new.act stack.new.entries.items run.new
         (machine S.accesses (meaning S.accesses) (control.Access access) stack.old.act stack.old.entries.items) run.old }
 {
-    let next = terms.access(alloc, run, &stack.act, access)?;
+    let next = begin_access(alloc, terms, run, &stack.act, access)?;
     follow(run, stack, next)
 }
 

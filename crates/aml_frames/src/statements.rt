@@ -1,6 +1,7 @@
 //! Statements: what is done before their first part is evaluated (ACPI 6.5, 19.6 and 20.2.5.3). The operands stand next.
 ghost use Rattle.std.specs.Prelude.{◌≡◌, ◌≤◌, ◌<◌, ◌+◌, ◌*◌, Ok, Some, IfOk};
 ghost use Rattle.aml_marked.specs.Marked.{maybe_else};
+ghost use Rattle.ar_space.specs.Outcome.{NotMemory};
 ghost use Rattle.aml_meaning.specs.Meaning.{meaning};
 ghost use Rattle.aml_meaning.specs.StatementTerms.{otherwise};
 ghost use Rattle.aml_meaning.specs.Terms.{else_of};
@@ -73,6 +74,7 @@ fn begin_return<S: Space>(
 ) -> Result<Next, Refusal>
     ensures spent { run.new.1 ≤ run.old.1 }
     ensures falls { IfOk result (λ n. next_weight n < 6) }
+    ensures memory { NotMemory result }
     ensures means { Leads S.accesses (meaning S.accesses) result act.new run.new
         (statement_run S.accesses (meaning S.accesses) statements.Return act.old levels) run.old }
     ensures ends { EndsAt result act.new (behind_statement_at statements.Return act.old levels) }
@@ -89,6 +91,7 @@ fn begin_pause<S: Space>(
 ) -> Result<Next, Refusal>
     ensures spent { run.new.1 ≤ run.old.1 }
     ensures falls { IfOk result (λ n. next_weight n < 6) }
+    ensures memory { NotMemory result }
     ensures means { Leads S.accesses (meaning S.accesses) result act.new run.new
         (statement_run S.accesses (meaning S.accesses) statements.Pause act.old levels) run.old }
     ensures ends { EndsAt result act.new (behind_statement_at statements.Pause act.old levels) }
@@ -105,6 +108,7 @@ fn begin_fatal<S: Space>(
 ) -> Result<Next, Refusal>
     ensures spent { run.new.1 ≤ run.old.1 }
     ensures falls { IfOk result (λ n. next_weight n < 6) }
+    ensures memory { NotMemory result }
     ensures means { Leads S.accesses (meaning S.accesses) result act.new run.new
         (statement_run S.accesses (meaning S.accesses) statements.Fatal act.old levels) run.old }
     ensures ends { EndsAt result act.new (behind_statement_at statements.Fatal act.old levels) }
@@ -123,6 +127,7 @@ fn begin_if<S: Space>(
 ) -> Result<Next, Refusal>
     ensures spent { run.new.1 ≤ run.old.1 }
     ensures falls { IfOk result (λ n. next_weight n < 6) }
+    ensures memory { NotMemory result }
     ensures means { Leads S.accesses (meaning S.accesses) result act.new run.new
         (statement_run S.accesses (meaning S.accesses) statements.If act.old levels) run.old }
     ensures ends { EndsAt result act.new (behind_statement_at statements.If act.old levels) }
@@ -142,6 +147,7 @@ pub(crate) fn next_branch<S: Space>(
 ) -> Result<Next, Refusal>
     ensures spent { run.new.1 ≤ run.old.1 }
     ensures falls { IfOk result (λ n. next_weight n < 6) }
+    ensures memory { NotMemory result }
     ensures means { Leads S.accesses (meaning S.accesses) result act.new run.new
         (branch_at S.accesses (meaning S.accesses) act.old levels outer holds) run.old }
     ensures ends { EndsAt result act.new (behind_else act.old levels outer) }
@@ -164,6 +170,7 @@ fn next_otherwise<S: Space>(
 ) -> Result<Next, Refusal>
     ensures spent { run.new.1 ≤ run.old.1 }
     ensures falls { IfOk result (λ n. next_weight n < 6) }
+    ensures memory { NotMemory result }
     ensures means { Leads S.accesses (meaning S.accesses) result act.new run.new
         (otherwise (meaning S.accesses) act.old.scope act.old.depth (else_of (Some (maybe_else (terms act.old levels) act.old.place).0))) run.old }
     ensures ends { EndsAt result act.new (at_place act.old (maybe_else (terms act.old levels) act.old.place).1) }
@@ -198,6 +205,7 @@ fn begin_while<S: Space>(
 ) -> Result<Next, Refusal>
     ensures spent { run.new.1 ≤ run.old.1 }
     ensures falls { IfOk result (λ n. next_weight n < 6) }
+    ensures memory { NotMemory result }
     ensures means { Leads S.accesses (meaning S.accesses) result act.new run.new
         (statement_run S.accesses (meaning S.accesses) statements.While act.old levels) run.old }
     ensures ends { EndsAt result act.new (behind_statement_at statements.While act.old levels) }

@@ -195,6 +195,7 @@ pub(crate) fn inquire<S: Space>(
     referent: Referent,
 ) -> Result<Next, Refusal>
     ensures falls { IfOk result (λ n. next_weight n < most + 4) }
+    ensures memory { NotMemory result }
     ensures means { Leads S.accesses (meaning S.accesses) result act.now run.now
         (inquired S.accesses (meaning S.accesses) inquiry act.now referent) run.now }
     ensures ends { EndsAt result act.now act.now }

@@ -19,15 +19,18 @@ use aml_terms::RowPlace;
 use ar_space::{EvaluationFault, NameFault, Refusal, Space};
 use std::alloc::Global;
 
-/// The terms that form data or declare something, and accesses of fields: they have no steps of this crate.
+/// The terms that form data or declare something, and accesses of fields behind an index field: they have no steps of this crate.
 pub trait Terms<S: Space> {
-    ghost use Rattle.std.specs.Prelude.{◌≤◌, ◌<◌, ◌+◌, ◌*◌, IfOk};
+    ghost use Rattle.std.specs.Prelude.{◌≡◌, ◌≤◌, ◌<◌, ◌+◌, ◌*◌, true, IfOk};
+    ghost use Rattle.aml_scan.specs.RowsAt.{row_at};
+    ghost use Rattle.aml_frames.specs.Operands.{row_kind, forms_or_declares};
     ghost use Rattle.aml_meaning.specs.Meaning.{meaning};
     ghost use Rattle.aml_frames.specs.Follow.{coded_run, behind_coded, Leads, EndsAt};
     ghost use Rattle.aml_frames.specs.Uses.{access_run};
     ghost use Rattle.aml_frames.specs.Weights.{most, next_weight, access_weight};
 
-    /// Begins a term whose operands stand next, by the place of its row, with so many levels.
+    /// Begins a term that forms data, declares something, or declares a region or fields: its operands stand next, by the place of its row,
+    /// with so many levels.
     fn begin(
         &self,
         alloc: Global,
@@ -36,13 +39,14 @@ pub trait Terms<S: Space> {
         levels: u8,
         place: RowPlace,
     ) -> Result<Next, Refusal>
+        requires { forms_or_declares (row_kind (row_at place)) ≡ true }
         ensures spent { run.new.1 ≤ run.old.1 }
         ensures falls { IfOk result (λ n. next_weight n < 3 * most + 100) }
         ensures means { Leads S.accesses (meaning S.accesses) result act.new run.new
             (coded_run S.accesses (meaning S.accesses) place act.old levels) run.old }
         ensures ends { EndsAt result act.new (behind_coded place act.old levels) };
 
-    /// Accesses a field.
+    /// Accesses a field behind an index field and a data field.
     fn access(
         &self,
         alloc: Global,

@@ -11,7 +11,7 @@ use ar_space::Width;
 pub enum Monadic {
     /// Store: the operand is stored to what a SuperName names.
     Store,
-    /// CopyObject: the same, without a conversion.
+    /// CopyObject: the operand is stored to what a SimpleName names, without a conversion.
     CopyObject,
     /// An operand and a target.
     One(OneOperand),

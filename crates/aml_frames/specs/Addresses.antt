@@ -1,0 +1,116 @@
+-- Accesses of fields of regions, and the addresses that they ask for (ACPI 6.5, 5.5.2.4, 6.1.1, 6.5.5 and 6.5.6): a region of PCI_Config
+-- lies in the registers of a function, whose segment group, bus and address are asked for in this order.
+use Rattle.std.specs.Prelude.{◌≡◌, ℕ, List, [], ◌∷◌, ◌++◌, Ok, Err}
+use Rattle.ar_space.specs.Accesses.{Accesses}
+use Rattle.ar_space.specs.Outcome.{Outcome, NotMemory}
+use Rattle.ar_space.specs.Change.{give, stop, settle, ◌>>=◌}
+use Rattle.aml_path.specs.declared.segment.Seg.{Seg}
+use Rattle.aml_fields.specs.declared.region.AddressSpace.{AddressSpace}
+use Rattle.aml_fields.specs.declared.region.Region.{Region}
+use Rattle.aml_fields.specs.Regions.{read_field, write_field}
+use Rattle.aml_meaning.specs.declared.flow.Flow.{Flow}
+use Rattle.aml_meaning.specs.declared.flow.Flow.TheVariants as flow
+use Rattle.aml_meaning.specs.declared.regions.RegionField.{RegionField}
+use Rattle.aml_meaning.specs.declared.regions.RegionSpace.{RegionSpace}
+use Rattle.aml_meaning.specs.State.{State, on_space}
+use Rattle.aml_meaning.specs.Run.{Run, lift}
+use Rattle.aml_meaning.specs.Tasks.{Task}
+use Rattle.aml_meaning.specs.PciFunctions.{adr, segment_group, base_bus}
+use Rattle.aml_meaning.specs.Regions.{integer_only, pci_space}
+use Rattle.aml_meaning.specs.Fields.{inherited, pci_address, space_at, field_part}
+use Rattle.aml_meaning.specs.Invocations.{value_of_call}
+use Rattle.aml_meaning.specs.FieldCalls.{method_integer}
+use Rattle.aml_frames.specs.declared.addresses.AddressPart.{AddressPart}
+use Rattle.aml_frames.specs.declared.addresses.AddressPart.TheVariants as parts
+use Rattle.aml_frames.specs.declared.addresses.Asked.{Asked}
+use Rattle.aml_frames.specs.declared.addresses.Asked.TheVariants as answers
+use Rattle.aml_frames.specs.declared.addresses.Waited.{Waited}
+use Rattle.aml_frames.specs.declared.addresses.Waited.TheVariants as waits
+use Rattle.aml_frames.specs.declared.addresses.PciAccess.{PciAccess}
+use Rattle.aml_frames.specs.declared.addresses.RegionAccess.{RegionAccess}
+use Rattle.aml_frames.specs.declared.uses.Doing.{Doing}
+use Rattle.aml_frames.specs.declared.uses.Doing.TheVariants as doing
+use Rattle.aml_frames.specs.Uses.{asking, read_as}
+
+module _ {S : Type 0} (accesses : Accesses S) where
+  -- what is done with a field of a region that was found
+  abbrev pub done_in : Doing → RegionField → Region → Run S Flow
+  done_in (doing.Read r) f x = do
+    bytes ← lift (on_space (read_field accesses x f.unit))
+    read_as r f.unit.bits bytes
+  done_in (doing.Write bytes) f x = do
+    done ← lift (on_space (write_field accesses x f.unit bytes))
+    give flow.Next
+
+  -- the address space of the region is known
+  abbrev pub space_known : RegionAccess → AddressSpace → Run S Flow
+  space_known a space = done_in a.doing a.field (record { space = space; offset = a.offset; length = a.length })
+
+module _ {S : Type 0} (accesses : Accesses S) (ev : Task → Run S Flow) where
+  -- an access, with the device in whose registers its region lies
+  unfoldable pub function_known : RegionAccess → ℕ → ℕ → ℕ → Run S Flow
+  function_known a seg bus address = do
+    space ← settle (pci_space seg bus address)
+    space_known accesses a space
+
+  unfoldable pub bus_known : RegionAccess → List Seg → ℕ → ℕ → Run S Flow
+  bus_known a device seg bus = do
+    address ← asking accesses ev a.calls (device ++ adr ∷ [])
+    function_known a seg bus address
+
+  unfoldable pub segment_known : RegionAccess → List Seg → ℕ → Run S Flow
+  segment_known a device seg = do
+    bus ← inherited accesses (asking accesses ev a.calls) base_bus device
+    bus_known a device seg bus
+
+  unfoldable pub device_known : RegionAccess → List Seg → Run S Flow
+  device_known a device = do
+    seg ← inherited accesses (asking accesses ev a.calls) segment_group device
+    segment_known a device seg
+
+  -- an access of a field of a region of a kind that was declared in a scope, and of one of PCI_Config
+  abbrev pub space_run : RegionAccess → RegionSpace → List Seg → Run S Flow
+  space_run a kind scope = do
+    space ← space_at accesses (asking accesses ev a.calls) kind scope
+    space_known accesses a space
+
+  abbrev pub pci_run : RegionAccess → List Seg → Run S Flow
+  pci_run a scope = do
+    space ← pci_address accesses (asking accesses ev a.calls) scope
+    space_known accesses a space
+
+  -- the part of the address that was asked for is known
+  abbrev pub part_by : AddressPart → RegionAccess → List Seg → ℕ → Run S Flow
+  part_by parts.Segment a device n = segment_known a device n
+  part_by (parts.Bus seg) a device n = bus_known a device seg n
+  part_by (parts.Function seg bus) a device n = function_known a seg bus n
+
+  abbrev pub part_known : PciAccess → ℕ → Run S Flow
+  part_known x n = part_by x.part x.access x.device n
+
+  -- what gives a part of an address that isn't known: a control method, where so many are being called, or a field
+  abbrev pub waited_run : Waited → Run S ℕ
+  waited_run (waits.Method depth p body) = method_integer accesses ev depth p body
+  waited_run (waits.Field calls f) = field_part accesses (asking accesses ev calls) f
+
+  abbrev pub asked_run : Asked → Run S ℕ
+  asked_run (answers.Known n) = give n
+  asked_run (answers.Waits w) = waited_run w
+
+  abbrev pub asked_left : Outcome Asked → Run S ℕ
+  asked_left (Ok a) = asked_run a
+  asked_left (Err e) = stop e
+
+  -- what is asked for is known, or is what is waited for, unless memory ran out
+  pub record Asks (r : Outcome Asked) (after : State S × ℕ) (m : Run S ℕ) (before : State S × ℕ) : Type 0 where
+    pub is : NotMemory r → m before ≡ asked_left r after
+
+  -- what is waited for, and what is left to do behind it
+  abbrev pub waited_met : Waited → PciAccess → Run S Flow
+  waited_met w x = waited_run w >>= part_known x
+
+  -- a part of an address is what a control method gives, or the bits of a field
+  abbrev pub part_met : PciAccess → Flow → Run S Flow
+  part_met x f = do
+    n ← settle (integer_only (value_of_call f))
+    part_known x n

@@ -1,0 +1,101 @@
+//! What an object answers that is a part of an address (ACPI 6.5, 5.5.2.4): one more call is made, of those that may be made one inside
+//! another.
+ghost use Rattle.std.specs.Prelude.{◌≡◌, ◌≤◌, [], IfOk, Ok};
+ghost use Rattle.ar_space.specs.Change.{Does, settle};
+ghost use Rattle.ar_space.specs.Outcome.{Answers};
+ghost use Rattle.aml_meaning.specs.Meaning.{meaning};
+ghost use Rattle.aml_meaning.specs.Readings.{absolute};
+ghost use Rattle.aml_meaning.specs.Invocations.{invocation_found};
+ghost use Rattle.aml_meaning.specs.FieldCalls.{answer_within};
+ghost use Rattle.aml_meaning.specs.Regions.{integer_only};
+ghost use Rattle.aml_frames.specs.Addresses.{Asks};
+ghost use Rattle.aml_frames.specs.Uses.{asking};
+ghost use Rattle.aml_frames.specs.Weights.{part_weight, asked_weight};
+
+use crate::accesses::calls_left;
+use crate::addresses::{Asked, Waited};
+use aml_meaning::{Invocation, Running, WorldState, integer_only};
+use aml_objects::Value;
+use aml_path::{NameString, Path, Prefix};
+use ar_space::{EvaluationFault, Refusal, Space, ValueFault};
+use std::alloc::Global;
+
+/// The integer that the object at a path answers, where so many calls may still be made, or what gives it.
+#[tactic(auto, using(crate::proofs::Addressing::answering), unfolding(aml_meaning::specs::FieldCalls::asked))]
+pub(crate) fn ask<S: Space>(
+    alloc: Global,
+    run: &mut Running<S>,
+    calls: usize,
+    path: &Path,
+) -> Result<Asked, Refusal>
+    ensures spent { run.new.1 ≤ run.old.1 }
+    ensures few { IfOk result (λ a. asked_weight a ≤ part_weight calls) }
+    ensures means { Asks S.accesses (meaning S.accesses) result run.new (asking S.accesses (meaning S.accesses) calls path.now) run.old }
+{
+    let found = invocation(alloc, &run.world, path)?;
+    answer(run, calls, found)
+}
+
+/// What was found answers, where so many calls may still be made, this one among them.
+#[tactic(auto, using(crate::proofs::Addressing::answering))]
+fn answer<S: Space>(run: &Running<S>, calls: usize, found: Invocation) -> Result<Asked, Refusal>
+    ensures few { IfOk result (λ a. asked_weight a ≤ part_weight calls) }
+    ensures means { Asks S.accesses (meaning S.accesses) result run.now (answer_within S.accesses (meaning S.accesses) calls found) run.now }
+{
+    if calls == 0 {
+        return Err(Refusal::Evaluation(EvaluationFault::CallDepth));
+    }
+    match found {
+        Invocation::Value(value) => known(run, value),
+        Invocation::Field(field) => Ok(Asked::Waits(Waited::Field(calls - 1, field))),
+        Invocation::Method(path, body) => {
+            Ok(Asked::Waits(Waited::Method(calls_left(calls), path, body)))
+        }
+        Invocation::Osi => Err(Refusal::Value(ValueFault::WrongType)),
+    }
+}
+
+/// A value answers where it is an integer.
+#[tactic(auto, using(crate::proofs::Addressing::answering))]
+fn known<S: Space>(run: &Running<S>, value: Value) -> Result<Asked, Refusal>
+    ensures few { IfOk result (λ a. asked_weight a ≤ 0) }
+    ensures means { Asks S.accesses (meaning S.accesses) result run.now (settle (integer_only value)) run.now }
+{
+    match integer_only(value) {
+        Ok(number) => Ok(Asked::Known(number)),
+        Err(refusal) => Err(refusal),
+    }
+}
+
+/// What the object at a path is that is asked for without arguments.
+fn invocation<S: Space>(
+    alloc: Global,
+    world: &WorldState<S>,
+    path: &Path,
+) -> Result<Invocation, Refusal>
+    ensures { Does result world.now (invocation_found [] (absolute path.now) 0) world.now }
+{
+    match absolute(alloc, path) {
+        Ok(name) => from_root(alloc, world, &name),
+        Err(refusal) => Err(refusal),
+    }
+}
+
+/// What the object is that a name finds from the root and that is asked for without arguments.
+fn from_root<S: Space>(
+    alloc: Global,
+    world: &WorldState<S>,
+    name: &NameString,
+) -> Result<Invocation, Refusal>
+    ensures { Does result world.now (invocation_found [] name.now 0) world.now }
+{
+    let root = Path::root(alloc);
+    world.invocation(alloc, world.scope(&root), name, 0)
+}
+
+/// A path, as a name that stands for it anywhere.
+fn absolute(alloc: Global, path: &Path) -> Result<NameString, Refusal>
+    ensures { Answers result (Ok (absolute path.now)) }
+{
+    Ok(NameString::new(Prefix::Root, path.copy(alloc)?.into_vec()))
+}

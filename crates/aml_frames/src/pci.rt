@@ -1,0 +1,269 @@
+//! The address of a function of PCI_Config: its segment group, its bus and its address are asked for, in this order (ACPI 6.5, 5.5.2.4,
+//! 6.1.1, 6.5.5 and 6.5.6). A control method or a field that gives one of them is waited for.
+ghost use Rattle.std.specs.Prelude.{◌≡◌, ◌≤◌, ◌<◌, ◌+◌, ◌*◌, ◌++◌, ◌∷◌, [], IfOk};
+ghost use Rattle.aml_meaning.specs.Meaning.{meaning};
+ghost use Rattle.aml_meaning.specs.Fields.{inherited};
+ghost use Rattle.aml_meaning.specs.PciFunctions.{adr};
+ghost use Rattle.aml_meaning.specs.Invocations.{value_of_call};
+ghost use Rattle.aml_frames.specs.Addresses.{pci_run, device_known, segment_known, bus_known, function_known, waited_met, part_met, Asks};
+ghost use Rattle.aml_frames.specs.Follow.{Leads, EndsAt};
+ghost use Rattle.aml_frames.specs.Uses.{asking};
+ghost use Rattle.aml_frames.specs.Weights.{part_weight, region_weight, address_weight, asked_weight, waited_weight, next_weight};
+
+use crate::activation::Activation;
+use crate::addresses::{AddressPart, Asked, FunctionAddress, PciAccess, RegionAccess, Waited};
+use crate::asking::ask;
+use crate::calls::enter_then;
+use crate::field_access::access_space;
+use crate::frames::{Frame, Next};
+use crate::uses::{Access, Accessed, Doing, Reading};
+use aml_meaning::{Flow, Running, Sought, adr, base_bus, integer_only, pci_space, segment_group};
+use aml_objects::Value;
+use aml_path::{Path, Seg};
+use ar_space::{Refusal, Space};
+use std::alloc::Global;
+
+/// The function that a scope belongs to is found, and its segment group is asked for.
+#[tactic(auto, using(crate::proofs::Addressing::regions))]
+pub(crate) fn begin_pci<S: Space>(
+    alloc: Global,
+    run: &mut Running<S>,
+    act: &Activation,
+    access: RegionAccess,
+    scope: &Path,
+) -> Result<Next, Refusal>
+    ensures spent { run.new.1 ≤ run.old.1 }
+    ensures falls { IfOk result (λ n. next_weight n < region_weight access.calls) }
+    ensures means { Leads S.accesses (meaning S.accesses) result act.now run.new
+        (pci_run S.accesses (meaning S.accesses) access scope.now) run.old }
+    ensures ends { EndsAt result act.now act.now }
+{
+    let device = run.world.pci_function(alloc, scope)?;
+    let pci = PciAccess {
+        access,
+        device,
+        part: AddressPart::Segment,
+    };
+    begin_segment(alloc, run, act, pci)
+}
+
+/// The segment group is asked for.
+#[tactic(auto, using(crate::proofs::Addressing::parts_known), unfolding(crate::specs::Addresses::device_known))]
+fn begin_segment<S: Space>(
+    alloc: Global,
+    run: &mut Running<S>,
+    act: &Activation,
+    pci: PciAccess,
+) -> Result<Next, Refusal>
+    ensures spent { run.new.1 ≤ run.old.1 }
+    ensures falls { IfOk result (λ n. next_weight n < region_weight pci.access.calls) }
+    ensures means { Leads S.accesses (meaning S.accesses) result act.now run.new
+        (device_known S.accesses (meaning S.accesses) pci.access pci.device) run.old }
+    ensures ends { EndsAt result act.now act.now }
+{
+    let asked = ask_inherited(alloc, run, pci.access.calls, segment_group(), &pci.device)?;
+    match asked {
+        Asked::Known(segment) => begin_bus(alloc, run, act, pci, segment),
+        Asked::Waits(waited) => {
+            let pci = PciAccess {
+                part: AddressPart::Segment,
+                ..pci
+            };
+            wait(alloc, run, act, pci, waited)
+        }
+    }
+}
+
+/// The segment group is known: the bus is asked for.
+#[tactic(auto, using(crate::proofs::Addressing::parts_known), unfolding(crate::specs::Addresses::segment_known))]
+fn begin_bus<S: Space>(
+    alloc: Global,
+    run: &mut Running<S>,
+    act: &Activation,
+    pci: PciAccess,
+    segment: u64,
+) -> Result<Next, Refusal>
+    ensures spent { run.new.1 ≤ run.old.1 }
+    ensures falls { IfOk result (λ n. next_weight n < 2 * part_weight pci.access.calls + 25) }
+    ensures means { Leads S.accesses (meaning S.accesses) result act.now run.new
+        (segment_known S.accesses (meaning S.accesses) pci.access pci.device segment) run.old }
+    ensures ends { EndsAt result act.now act.now }
+{
+    let asked = ask_inherited(alloc, run, pci.access.calls, base_bus(), &pci.device)?;
+    match asked {
+        Asked::Known(bus) => begin_function(alloc, run, act, pci, segment, bus),
+        Asked::Waits(waited) => {
+            let pci = PciAccess {
+                part: AddressPart::Bus(segment),
+                ..pci
+            };
+            wait(alloc, run, act, pci, waited)
+        }
+    }
+}
+
+/// The bus is known: the address is asked for.
+#[tactic(auto, using(crate::proofs::Addressing::parts_known), unfolding(crate::specs::Addresses::bus_known))]
+fn begin_function<S: Space>(
+    alloc: Global,
+    run: &mut Running<S>,
+    act: &Activation,
+    pci: PciAccess,
+    segment: u64,
+    bus: u64,
+) -> Result<Next, Refusal>
+    ensures spent { run.new.1 ≤ run.old.1 }
+    ensures falls { IfOk result (λ n. next_weight n < part_weight pci.access.calls + 14) }
+    ensures means { Leads S.accesses (meaning S.accesses) result act.now run.new
+        (bus_known S.accesses (meaning S.accesses) pci.access pci.device segment bus) run.old }
+    ensures ends { EndsAt result act.now act.now }
+{
+    let asked = ask_address(alloc, run, pci.access.calls, &pci.device)?;
+    match asked {
+        Asked::Known(address) => {
+            let function = FunctionAddress {
+                segment,
+                bus,
+                address,
+            };
+            access_function(alloc, run, act, pci.access, function)
+        }
+        Asked::Waits(waited) => {
+            let pci = PciAccess {
+                part: AddressPart::Function(segment, bus),
+                ..pci
+            };
+            wait(alloc, run, act, pci, waited)
+        }
+    }
+}
+
+/// The address is known: the registers of the function are accessed.
+#[tactic(auto, using(crate::proofs::Addressing::parts_known), unfolding(crate::specs::Addresses::function_known))]
+fn access_function<S: Space>(
+    alloc: Global,
+    run: &mut Running<S>,
+    act: &Activation,
+    access: RegionAccess,
+    function: FunctionAddress,
+) -> Result<Next, Refusal>
+    ensures spent { run.new.1 ≤ run.old.1 }
+    ensures falls { IfOk result (λ n. next_weight n < 4) }
+    ensures means { Leads S.accesses (meaning S.accesses) result act.now run.new
+        (function_known S.accesses (meaning S.accesses) access function.segment function.bus function.address) run.old }
+    ensures ends { EndsAt result act.now act.now }
+{
+    let space = pci_space(function.segment, function.bus, function.address)?;
+    access_space(alloc, run, act, access, space)
+}
+
+/// The address of a device answers.
+#[tactic(auto, using(crate::proofs::Addressing::answering))]
+fn ask_address<S: Space>(
+    alloc: Global,
+    run: &mut Running<S>,
+    calls: usize,
+    device: &Path,
+) -> Result<Asked, Refusal>
+    ensures spent { run.new.1 ≤ run.old.1 }
+    ensures few { IfOk result (λ a. asked_weight a ≤ part_weight calls) }
+    ensures means { Asks S.accesses (meaning S.accesses) result run.new (asking S.accesses (meaning S.accesses) calls (device.now ++ adr ∷ [])) run.old }
+{
+    let object = device.child(alloc, adr())?;
+    ask(alloc, run, calls, &object)
+}
+
+/// What gives a part of the address is waited for.
+#[tactic(auto, using(crate::proofs::Addressing::waiting))]
+fn wait<S: Space>(
+    alloc: Global,
+    run: &mut Running<S>,
+    act: &Activation,
+    pci: PciAccess,
+    waited: Waited,
+) -> Result<Next, Refusal>
+    ensures spent { run.new.1 ≤ run.old.1 }
+    ensures falls { IfOk result (λ n. next_weight n ≤ waited_weight waited + address_weight pci.part pci.access.calls + 6) }
+    ensures means { Leads S.accesses (meaning S.accesses) result act.now run.new
+        (waited_met S.accesses (meaning S.accesses) waited pci) run.old }
+    ensures ends { EndsAt result act.now act.now }
+{
+    match waited {
+        Waited::Method(depth, path, body) => {
+            enter_then(alloc, run, act, depth, (path, body), Frame::Address(pci))
+        }
+        Waited::Field(calls, field) => {
+            let access = Access {
+                calls,
+                object: Accessed::Field(field),
+                doing: Doing::Read(Reading::Part),
+            };
+            Ok(Next::AccessThen(access, Frame::Address(pci)))
+        }
+    }
+}
+
+/// A part of the address that was waited for is there.
+#[tactic(auto, using(crate::proofs::Addressing::parts_known))]
+pub(crate) fn resume_address<S: Space>(
+    alloc: Global,
+    run: &mut Running<S>,
+    act: &Activation,
+    pci: PciAccess,
+    flow: Flow,
+) -> Result<Next, Refusal>
+    ensures spent { run.new.1 ≤ run.old.1 }
+    ensures falls { IfOk result (λ n. next_weight n < address_weight pci.part pci.access.calls + 3) }
+    ensures means { Leads S.accesses (meaning S.accesses) result act.now run.new
+        (part_met S.accesses (meaning S.accesses) pci flow) run.old }
+    ensures ends { EndsAt result act.now act.now }
+{
+    let number = integer_only(value_of_call(flow))?;
+    match pci.part {
+        AddressPart::Segment => begin_bus(alloc, run, act, pci, number),
+        AddressPart::Bus(segment) => begin_function(alloc, run, act, pci, segment, number),
+        AddressPart::Function(segment, bus) => {
+            let function = FunctionAddress {
+                segment,
+                bus,
+                address: number,
+            };
+            access_function(alloc, run, act, pci.access, function)
+        }
+    }
+}
+
+/// The value of a call.
+fn value_of_call(flow: Flow) -> Value
+    ensures { result ≡ value_of_call flow }
+{
+    match flow {
+        Flow::Value(value) => value,
+        Flow::Next => Value::Uninitialized,
+        Flow::Break => Value::Uninitialized,
+        Flow::Continue => Value::Uninitialized,
+        Flow::Return(_) => Value::Uninitialized,
+    }
+}
+
+/// What the nearest object of a name answers, from a device on upward; 0 where there is none.
+#[tactic(auto, using(crate::proofs::Addressing::answering), unfolding(aml_meaning::specs::Fields::inherited))]
+fn ask_inherited<S: Space>(
+    alloc: Global,
+    run: &mut Running<S>,
+    calls: usize,
+    name: Seg,
+    device: &Path,
+) -> Result<Asked, Refusal>
+    ensures spent { run.new.1 ≤ run.old.1 }
+    ensures few { IfOk result (λ a. asked_weight a ≤ part_weight calls) }
+    ensures means { Asks S.accesses (meaning S.accesses) result run.new (inherited S.accesses (asking S.accesses (meaning S.accesses) calls) name device.now) run.old }
+{
+    match run.world.nearest(alloc, Sought::Parent(name), device)? {
+        None => Ok(Asked::Known(0)),
+        Some(scope) => {
+            let object = scope.child(alloc, name)?;
+            ask(alloc, run, calls, &object)
+        }
+    }
+}
