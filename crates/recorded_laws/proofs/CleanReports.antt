@@ -7,7 +7,9 @@ use Rattle.aml_path.specs.declared.segment.Seg.{Seg}
 use Rattle.aml_path.specs.Text.{text_of, seg_of_text, segments_of_text, path_of_text}
 use Rattle.text_words.specs.Words.{words}
 use Rattle.route_report.specs.Lines.{lines}
-use Rattle.route_report.specs.Reading.{Said, first_said, ascends, is_passed_over, here, in_line, word, ended, expected, one_of, path_here, numbered, named, with_next, until, offers, offered, link, wired, sci, ascending_after, avoid, give, busiest, with_path, set_links, with_number, numbers_after, set, bound, with_link, with_wired, with_give, with_sci, with_avoid, with_busiest, with_bound, link_line, wired_line, sci_line, avoid_line, give_line, busiest_line, bound_line, keyed, line, version_here, heading, claimed, lines_read, all_read, claim_of_text}
+use Rattle.route_report.specs.declared.report.Rule.{Rule}
+use Rattle.route_report.specs.declared.report.Rule.TheVariants as rule
+use Rattle.route_report.specs.Reading.{Said, first_said, ascends, is_passed_over, here, in_line, word, ended, expected, one_of, path_here, numbered, named, with_next, until, offers, offered, link, wired, sci, ascending_after, avoid, give, busiest, with_path, set_links, with_number, numbers_after, some_numbers, spared, unread, set, bound, with_link, with_wired, with_give, with_sci, with_avoid, with_spared, with_unread, with_rule, with_busiest, with_bound, link_line, wired_line, sci_line, avoid_line, spared_line, unread_line, rule_line, give_line, busiest_line, bound_line, keyed, line, version_here, heading, claimed, lines_read, all_read, claim_of_text}
 use Rattle.aml_laws.proofs.CleanOutcomes.{Clean, followed_clean, if_clean}
 use Rattle.aml_laws.proofs.CleanValues.{seg_of_clean}
 use Rattle.machine_laws.proofs.CleanLinks.{ok_or_clean}
@@ -132,6 +134,18 @@ module _ (n : ℕ) where
   numbers_after_clean is [] = tt
   numbers_after_clean is (w ∷ ws) = followed_clean _ _ (with_number_clean is w) (λ more. numbers_after_clean more ws)
 
+  some_numbers_clean : (ws : List (List ℕ)) → Clean (some_numbers n ws)
+  unfolding some_numbers
+  some_numbers_clean ws = followed_clean _ _ (word_clean ws) (λ w. followed_clean _ _ (with_number_clean [] w.0) (λ first. numbers_after_clean first w.1))
+
+  spared_clean : (ws : List (List ℕ)) → Clean (spared n ws)
+  unfolding spared
+  spared_clean ws = followed_clean _ _ (named_clean ws) (λ p. some_numbers_clean p.1)
+
+  unread_clean : (ws : List (List ℕ)) → Clean (unread n ws)
+  unfolding unread
+  unread_clean ws = followed_clean _ _ (named_clean ws) (λ p. followed_clean _ _ (numbered_clean p.1) (λ r. ended_clean r.1))
+
   set_clean : (w : List ℕ) (ws : List (List ℕ)) → Clean (set n w ws)
   unfolding set
   set_clean w ws = followed_clean _ _ (set_links_clean w ws) (λ ps. followed_clean _ _ (numbers_after_clean [] ps.1) (λ is. tt))
@@ -159,6 +173,18 @@ module _ (n : ℕ) where
   unfolding avoid_line with_avoid
   avoid_line_clean ws d = followed_clean _ _ (avoid_clean ws) (λ ns. if_clean (is_some d.avoid) _ _ tt tt)
 
+  spared_line_clean : (ws : List (List ℕ)) (d : Said) → Clean (spared_line n ws d)
+  unfolding spared_line with_spared
+  spared_line_clean ws d = followed_clean _ _ (spared_clean ws) (λ ns. followed_clean _ _ (here_clean d.spared) (λ ms. tt))
+
+  unread_line_clean : (ws : List (List ℕ)) (d : Said) → Clean (unread_line n ws d)
+  unfolding unread_line with_unread
+  unread_line_clean ws d = followed_clean _ _ (unread_clean ws) (λ u. if_clean (is_some d.spared) _ _ tt tt)
+
+  rule_line_clean : (r : Rule) (ws : List (List ℕ)) (d : Said) → Clean (rule_line n r ws d)
+  unfolding rule_line with_rule
+  rule_line_clean r ws d = followed_clean _ _ (ended_clean ws) (λ u. if_clean (is_some d.rule) _ _ tt tt)
+
   give_line_clean : (ws : List (List ℕ)) (d : Said) → Clean (give_line n ws d)
   unfolding give_line with_give
   give_line_clean ws d = followed_clean _ _ (give_clean ws) (λ g. tt)
@@ -178,17 +204,21 @@ module _ (n : ℕ) where
       (if_clean (bytes_eq key (codes "wired")) _ _ (wired_line_clean ws d)
       (if_clean (bytes_eq key (codes "sci")) _ _ (sci_line_clean ws d)
       (if_clean (bytes_eq key (codes "avoid")) _ _ (avoid_line_clean ws d)
+      (if_clean (bytes_eq key (codes "spared")) _ _ (spared_line_clean ws d)
+      (if_clean (bytes_eq key (codes "unread")) _ _ (unread_line_clean ws d)
+      (if_clean (bytes_eq key (codes "first")) _ _ (rule_line_clean rule.First ws d)
+      (if_clean (bytes_eq key (codes "spread")) _ _ (rule_line_clean rule.Spread ws d)
       (if_clean (bytes_eq key (codes "give")) _ _ (give_line_clean ws d)
       (if_clean (bytes_eq key (codes "busiest")) _ _ (busiest_line_clean ws d)
       (if_clean (bytes_eq key (codes "bound")) _ _ (bound_line_clean ws d)
-      (if_clean (is_passed_over key) _ _ tt tt)))))))
+      (if_clean (is_passed_over key) _ _ tt tt)))))))))))
 
   line_clean : (ws : List (List ℕ)) (d : Said) → Clean (line n ws d)
   unfolding line
   line_clean ws d = followed_clean _ _ (word_clean ws) (λ w. keyed_clean w.0 w.1 d)
 
   version_here_clean : (w : List ℕ) → Clean (version_here n w)
-  version_here_clean w = if_clean (bytes_eq w (codes "1")) _ _ tt (if_clean (bytes_eq w (codes "2")) _ _ tt tt)
+  version_here_clean w = if_clean (bytes_eq w (codes "1")) _ _ tt (if_clean (bytes_eq w (codes "2")) _ _ tt (if_clean (bytes_eq w (codes "3")) _ _ tt tt))
 
   heading_clean : (ws : List (List ℕ)) → Clean (heading n ws)
   unfolding heading
@@ -198,7 +228,8 @@ module _ (n : ℕ) where
   claimed_clean : (d : Said) → Clean (claimed n d)
   unfolding claimed
   claimed_clean d =
-      followed_clean _ _ (here_clean d.sci) (λ s. followed_clean _ _ (here_clean d.avoid) (λ ns. followed_clean _ _ (here_clean d.busiest) (λ k. followed_clean _ _ (here_clean d.bound) (λ b. tt))))
+      followed_clean _ _ (here_clean d.sci) (λ s. followed_clean _ _ (here_clean d.avoid)
+      (λ ns. followed_clean _ _ (here_clean d.rule) (λ r. followed_clean _ _ (here_clean d.busiest) (λ k. followed_clean _ _ (here_clean d.bound) (λ b. tt)))))
 
 -- ---- a report
 
