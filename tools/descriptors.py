@@ -7,15 +7,14 @@ definitions and the code of crates/acpi_resources.
 
 With --check it writes nothing, and fails (status 1) where the page differs. In both cases it fails where a row of the table is wrong, or
 where the definition, the constants of the code and the table don't agree on a first byte, on what it means, or on its section."""
-import os
 import re
 import sys
 
+import generated_page
 import opcode_table
 import refusals
-import usage
+from generated_page import Wrong, four_cells, text_of
 
-TOP = os.path.dirname(os.path.dirname(os.path.abspath(__file__)))
 TABLE, PAGE = "tables/descriptors.txt", "docs/DESCRIPTORS.md"
 # What an expression of the definition or of the code has, and the kind of descriptor that it gives then.
 KINDS = {
@@ -39,18 +38,11 @@ One row for each resource descriptor of the ACPI Specification 6.5 (6.4), by its
 """
 
 
-class Wrong(Exception):
-    """A row that can't stand, or sources that don't agree with it."""
-
-
 class Row:
     """One descriptor: its first bytes, and what the table says of it."""
 
     def __init__(self, line, number):
-        cells = [it.strip() for it in line.split("|")]
-        if len(cells) != 4:
-            raise Wrong(f"{TABLE}:{number}: four columns are wanted")
-        self.bytes, self.name, self.section, self.meaning = cells
+        self.bytes, self.name, self.section, self.meaning = four_cells(line, f"{TABLE}:{number}")
         if not re.fullmatch(r"[0-9A-F]{2}(?:-[0-9A-F]{2})?", self.bytes):
             raise Wrong(f"{TABLE}:{number}: {self.bytes} is no first byte")
         ends = [int(it, 16) for it in self.bytes.split("-")]
@@ -59,11 +51,6 @@ class Row:
             raise Wrong(f"{TABLE}:{number}: {self.section} is no section of such a descriptor")
         if not opcode_table.is_sentence(self.meaning):
             raise Wrong(f"{TABLE}:{number}: the meaning is no sentence")
-
-
-def text_of(file):
-    with open(f"{TOP}/{file}", encoding="utf-8") as it:
-        return it.read()
 
 
 def table_rows(text):
@@ -220,26 +207,14 @@ def page(rows):
     return HEAD.format(no_end=numbers()["NoEnd"]) + "\n".join(page_row(it) for it in rows) + "\n"
 
 
+def made():
+    rows = table_rows(text_of(TABLE))
+    check(rows)
+    return page(rows)
+
+
 def main(words):
-    usage.answer_help(__doc__)
-    if words not in ([], ["--check"]):
-        print(__doc__, file=sys.stderr)
-        return 2
-    try:
-        rows = table_rows(text_of(TABLE))
-        check(rows)
-        text = page(rows)
-    except Wrong as wrong:
-        print(f"descriptors.py: {wrong}", file=sys.stderr)
-        return 1
-    if os.path.exists(f"{TOP}/{PAGE}") and text_of(PAGE) == text:
-        return 0
-    if words:
-        print(f"descriptors.py: {PAGE} is stale: run tools/descriptors.py", file=sys.stderr)
-        return 1
-    with open(f"{TOP}/{PAGE}", "w", encoding="utf-8") as it:
-        it.write(text)
-    return 0
+    return generated_page.make("descriptors.py", __doc__, words, PAGE, made)
 
 
 if __name__ == "__main__":

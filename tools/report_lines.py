@@ -12,12 +12,12 @@ import os
 import re
 import sys
 
+import generated_page
 import opcode_table
 import refusals
 import report_graph
-import usage
+from generated_page import TOP, Wrong, four_cells, text_of
 
-TOP = os.path.dirname(os.path.dirname(os.path.abspath(__file__)))
 TABLE, PAGE = "tables/report_lines.txt", "docs/REPORT.md"
 CRATE = "crates/route_report"
 HEADING = "acpiroute"
@@ -47,18 +47,11 @@ one in any order. `README.md` shows a report, and says what each line means for 
 """
 
 
-class Wrong(Exception):
-    """A row that can't stand, or sources that don't agree with it."""
-
-
 class Row:
     """One kind of line: what the table says of it."""
 
     def __init__(self, line, number):
-        cells = [it.strip() for it in line.split("|")]
-        if len(cells) != 4:
-            raise Wrong(f"{TABLE}:{number}: four columns are wanted")
-        self.word, forms, self.meaning, source = cells
+        self.word, forms, self.meaning, source = four_cells(line, f"{TABLE}:{number}")
         self.forms = forms.split(", ")
         self.source = re.fullmatch(r"(\w+/specs/\w+\.antt): (\w+)", source)
         self.where = f"{TABLE}:{number}"
@@ -68,11 +61,6 @@ class Row:
             raise Wrong(f"{self.where}: the meaning is no sentence")
         if not self.source:
             raise Wrong(f"{self.where}: the source is no `crate/specs/File.antt: definition`")
-
-
-def text_of(file):
-    with open(f"{TOP}/{file}", encoding="utf-8") as it:
-        return it.read()
 
 
 def table_rows(text):
@@ -238,23 +226,7 @@ def page(rows):
 
 
 def main(words):
-    usage.answer_help(__doc__)
-    if words not in ([], ["--check"]):
-        print(__doc__, file=sys.stderr)
-        return 2
-    try:
-        text = page(table_rows(text_of(TABLE)))
-    except Wrong as wrong:
-        print(f"report_lines.py: {wrong}", file=sys.stderr)
-        return 1
-    if os.path.exists(f"{TOP}/{PAGE}") and text_of(PAGE) == text:
-        return 0
-    if words:
-        print(f"report_lines.py: {PAGE} is stale: run tools/report_lines.py", file=sys.stderr)
-        return 1
-    with open(f"{TOP}/{PAGE}", "w", encoding="utf-8") as it:
-        it.write(text)
-    return 0
+    return generated_page.make("report_lines.py", __doc__, words, PAGE, lambda: page(table_rows(text_of(TABLE))))
 
 
 if __name__ == "__main__":
