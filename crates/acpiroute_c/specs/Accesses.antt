@@ -12,7 +12,9 @@ use Rattle.space_trace.specs.declared.access.Access.TheVariants as access
 use Rattle.recorded_space.specs.declared.exchange.Exchange.{Exchange}
 use Rattle.recorded_space.specs.declared.exchange.Exchange.TheVariants as exchange
 use Rattle.recorded_space.specs.Exchanges.{kept}
+use Rattle.recorded_route.specs.declared.ending.WantedAccess.{WantedAccess}
 use Rattle.acpiroute_c.specs.declared.call_access.CallAccess.{CallAccess}
+use Rattle.acpiroute_c.specs.declared.call_access.CallWanted.{CallWanted}
 
 abbrev pub port_at : ℕ → Option Place
 port_at address = if nat_lt address 0x10000 then Some (Io address) else None
@@ -79,6 +81,9 @@ place_form (Pci seg bus dev func reg) width kind value =
 abbrev pub access_form : Access → CallAccess
 access_form (access.Read place width) = place_form place width 0 0
 access_form (access.Write place width value) = place_form place width 1 value
+
+abbrev pub wanted_form : WantedAccess → CallWanted
+wanted_form w = record { access = access_form w.access; entry = w.entry }
 
 -- a port and a register have 16 bits, as their types do
 abbrev pub IsPlace : Place → Type 0

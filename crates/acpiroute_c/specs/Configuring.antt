@@ -11,9 +11,10 @@ use Rattle.recorded_route.specs.Endings.{IsEnding, NotOutOfMemory}
 use Rattle.acpiroute_words.specs.Deliveries.{Reply, reply_of, IsToldAs}
 use Rattle.acpiroute_words.specs.Written.{Written}
 use Rattle.acpiroute_lib.specs.RouteCommand.{printed}
-use Rattle.acpiroute_c.specs.Accesses.{exchange_of, access_form, IsEntry}
+use Rattle.acpiroute_c.specs.Accesses.{exchange_of, wanted_form, IsEntry}
 use Rattle.acpiroute_c.specs.Calls.{Filled, code_of, filled_by}
 use Rattle.acpiroute_c.specs.declared.call_access.CallAccess.{CallAccess}
+use Rattle.acpiroute_c.specs.declared.call_access.CallWanted.{CallWanted}
 use Rattle.acpiroute_c.specs.declared.call_access.Unmade.{Unmade}
 use Rattle.acpiroute_c.specs.declared.call_access.Unmade.TheVariants.{OutOfMemory, Malformed}
 use Rattle.acpiroute_c.specs.declared.call_settings.CallSettings.{CallSettings}
@@ -62,7 +63,7 @@ pub record IsToldReply (outcome : Outcome Written) (reply : Reply) : Type 0 wher
 abbrev pub IsOutcomeOf : Ending → Outcome Written → Type 0
 IsOutcomeOf (ends.Reported report) outcome = Answers outcome (Ok (printed report))
 IsOutcomeOf (ends.Refused e) outcome = outcome ≡ Err e
-IsOutcomeOf (ends.Wanted access) outcome = ⊥
+IsOutcomeOf (ends.Wanted wanted) outcome = ⊥
 
 pub record IsReplyTo (ending : Ending) (reply : Reply) : Type 0 where
   pub outcome : Outcome Written
@@ -71,7 +72,7 @@ pub record IsReplyTo (ending : Ending) (reply : Reply) : Type 0 where
 
 abbrev pub IsSaidOf : Ending → Said → Type 0
 IsSaidOf ending (says.Reply reply) = IsReplyTo ending reply
-IsSaidOf ending (says.Wanted access) = ending ≡ ends.Wanted access
+IsSaidOf ending (says.Wanted wanted) = ending ≡ ends.Wanted wanted
 
 pub record IsSaid (s : CallSettings) (avoid machine : List ℕ) (accesses : List CallAccess) (said : Said) : Type 0 where
   pub ending : Ending
@@ -83,16 +84,16 @@ pub record IsSaid (s : CallSettings) (avoid machine : List ℕ) (accesses : List
 -- what the caller gives to be filled
 pub record Places : Type 0 where
   pub filled : Filled
-  pub wanted : CallAccess
+  pub wanted : CallWanted
 
--- what is said, in the caller's places: a reply as in any other call, or the access that is wanted alone
+-- what is said, in the caller's places: a reply as in any other call, or alone the access that is wanted, with its place in the record
 abbrev pub code_of_said : Said → Places → ℕ
 code_of_said (says.Reply reply) before = code_of reply before.filled
-code_of_said (says.Wanted access) before = 4
+code_of_said (says.Wanted wanted) before = 4
 
 abbrev pub filled_by_said : Said → Places → Places
 filled_by_said (says.Reply reply) before = record before { filled = filled_by reply before.filled }
-filled_by_said (says.Wanted access) before = record before { wanted = access_form access }
+filled_by_said (says.Wanted wanted) before = record before { wanted = wanted_form wanted }
 
 pub record IsConfigured (s : CallSettings) (avoid machine : List ℕ) (accesses : List CallAccess) (code : ℕ) (before after : Places) : Type 0 where
   pub said : Said

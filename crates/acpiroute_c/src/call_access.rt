@@ -2,11 +2,12 @@
 ghost use Rattle.std.specs.Prelude.{◌≡◌, ◌^◌, nat_lt, All, IfOk, IfErr, Some, map};
 ghost use Rattle.ar_space.specs.Accesses.{bit_count};
 ghost use Rattle.recorded_space.specs.Exchanges.{kept};
-ghost use Rattle.acpiroute_c.specs.Accesses.{port_at, register_at, place_of, width_of, answer_of, done, read_with, exchange_with, exchange_of, place_form, access_form, IsEntry};
+ghost use Rattle.acpiroute_c.specs.Accesses.{port_at, register_at, place_of, width_of, answer_of, done, read_with};
+ghost use Rattle.acpiroute_c.specs.Accesses.{exchange_with, exchange_of, place_form, access_form, wanted_form, IsEntry};
 ghost use Rattle.acpiroute_c.specs.declared.call_access.Unmade.TheVariants.{Malformed};
 
 use ar_space::{Place, SpaceFault, Width};
-use recorded_route::{Access, Exchange};
+use recorded_route::{Access, Exchange, WantedAccess};
 use std::alloc::Global;
 
 /// An access of a register, and in a record what was answered.
@@ -33,6 +34,16 @@ pub struct CallAccess {
     pub kind: u8,
     /// 0 it was answered, 1 there is no register, 2 the device failed.
     pub answer: u8,
+}
+
+/// An access that is wanted, and where in the record.
+#[repr(C)]
+#[derive(Clone, Copy, Debug)]
+pub struct CallWanted {
+    /// The access.
+    pub access: CallAccess,
+    /// The entry of the record at which it is made, counted from 0: the record's length, where the record is of this run.
+    pub entry: usize,
 }
 
 /// Why a call over a record is not made.
@@ -241,11 +252,21 @@ fn place_form(place: Place, width: Width, kind: u8, value: u64) -> CallAccess
 }
 
 /// An access that is wanted.
-pub(crate) fn access_form(access: Access) -> CallAccess
+fn access_form(access: Access) -> CallAccess
     ensures { result ≡ access_form access }
 {
     match access {
         Access::Read(place, width) => place_form(place, width, 0, 0),
         Access::Write(place, width, value) => place_form(place, width, 1, value),
+    }
+}
+
+/// An access that is wanted, with its place in the record.
+pub(crate) fn wanted_form(wanted: WantedAccess) -> CallWanted
+    ensures { result ≡ wanted_form wanted }
+{
+    CallWanted {
+        access: access_form(wanted.access),
+        entry: wanted.entry,
     }
 }

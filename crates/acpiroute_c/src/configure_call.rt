@@ -3,20 +3,20 @@ ghost use Rattle.std.specs.Prelude.{◌≡◌, IfOk, IfErr};
 ghost use Rattle.acpiroute_c.specs.Configuring.{IsEndingOf, IsToldReply, IsSaidOf, IsSaid, IsMalformed, IsConfigureCall, code_of_unmade};
 ghost use Rattle.acpiroute_c.specs.declared.call_access.Unmade.TheVariants.{Malformed};
 
-use crate::call_access::{CallAccess, Unmade, access_form, exchanges_of};
+use crate::call_access::{CallAccess, CallWanted, Unmade, exchanges_of, wanted_form};
 use crate::call_reply::{CallReply, give};
 use crate::call_settings::{CallSettings, settings_of};
 use acpiroute_lib::{Growing, Reply, report_answer};
 use acpiroute_words::{Answer, deliver_outcome};
 use ar_space::Refusal;
-use recorded_route::{Access, Ending, configure_recorded};
+use recorded_route::{Ending, WantedAccess, configure_recorded};
 use std::alloc::{AllocError, Global};
 
 /// What a call over a record has to say.
 #[derive(Drop)]
 pub(crate) enum Said {
     Reply(Reply),
-    Wanted(Access),
+    Wanted(WantedAccess),
 }
 
 /// How the run over the record ends.
@@ -67,7 +67,7 @@ fn said_of(alloc: Global, ending: Ending) -> Result<Said, AllocError>
     ensures { IfOk result (λ said. IsSaidOf ending said) }
 {
     let outcome = match ending {
-        Ending::Wanted(access) => return Ok(Said::Wanted(access)),
+        Ending::Wanted(wanted) => return Ok(Said::Wanted(wanted)),
         Ending::Reported(report) => report_answer(alloc, &report),
         Ending::Refused(refusal) => Err(refusal),
     };
@@ -113,14 +113,14 @@ pub(crate) fn configure_call(
     text: &mut [u8],
     line: &mut [u8],
     reply: &mut CallReply,
-    wanted: &mut CallAccess,
+    wanted: &mut CallWanted,
 ) -> u32
     ensures { IsConfigureCall settings.now avoid.now machine.now accesses.now result (record { filled = record { text = text.old; line = line.old; reply = reply.old }; wanted = wanted.old }) (record { filled = record { text = text.new; line = line.new; reply = reply.new }; wanted = wanted.new }) }
 {
     match configured(alloc, settings, avoid, machine, accesses) {
         Ok(Said::Reply(said)) => give(&said, text, line, reply),
-        Ok(Said::Wanted(access)) => {
-            *wanted = access_form(access);
+        Ok(Said::Wanted(missing)) => {
+            *wanted = wanted_form(missing);
             4
         }
         Err(unmade) => code_of_unmade(unmade),

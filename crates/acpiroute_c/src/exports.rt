@@ -4,7 +4,7 @@ ghost use Rattle.acpiroute_c.specs.Calls.{IsCall};
 ghost use Rattle.acpiroute_c.specs.Configuring.{IsConfigureCall};
 
 use crate::call::call;
-use crate::call_access::CallAccess;
+use crate::call_access::{CallAccess, CallWanted};
 use crate::call_reply::CallReply;
 use crate::call_settings::CallSettings;
 use crate::configure_call::configure_call;
@@ -81,7 +81,7 @@ pub extern "C" fn acpiroute_configure(
     text: &mut [u8],
     line: &mut [u8],
     reply: &mut CallReply,
-    wanted: &mut CallAccess,
+    wanted: &mut CallWanted,
 ) -> u32
     ensures { IsConfigureCall settings.now avoid.now machine.now accesses.now result (record { filled = record { text = text.old; line = line.old; reply = reply.old }; wanted = wanted.old }) (record { filled = record { text = text.new; line = line.new; reply = reply.new }; wanted = wanted.new }) }
 {

@@ -11,6 +11,6 @@ mod configure_call;
 mod exports;
 pub mod laws;
 
-pub use call_access::CallAccess;
+pub use call_access::{CallAccess, CallWanted};
 pub use call_reply::CallReply;
 pub use call_settings::CallSettings;

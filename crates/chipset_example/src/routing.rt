@@ -71,7 +71,8 @@ pub fn report_by_record(alloc: Global, text: &[u8]) -> anyhow::Result<String> {
     let mut record = Vec::new(alloc);
     for _ in 0..MAX_ACCESSES {
         match configure_recorded(alloc, text, &SETTINGS, &[], record.as_slice()) {
-            Ending::Wanted(access) => record.push(made(&mut chipset, access))?,
+            Ending::Wanted(wanted) if wanted.entry < record.len() => break,
+            Ending::Wanted(wanted) => record.push(made(&mut chipset, wanted.access))?,
             Ending::Reported(report) => return text_of(alloc, &report),
             Ending::Refused(refusal) => return Err(refusal.into()),
         }

@@ -6,32 +6,41 @@ use Rattle.space_trace.specs.declared.access.Access.{Access}
 use Rattle.recorded_space.specs.declared.exchange.Exchange.{Exchange}
 use Rattle.recorded_space.specs.Recordings.{Recording, begun, recorded}
 use Rattle.route_report.specs.Reports.{RoutingReport}
+use Rattle.recorded_route.specs.declared.ending.WantedAccess.{WantedAccess}
 use Rattle.recorded_route.specs.declared.ending.Ending.{Ending}
 use Rattle.recorded_route.specs.declared.ending.Ending.TheVariants.{Reported, Refused, Wanted}
 use Rattle.recorded_route.specs.declared.settings.Settings.{Settings}
 use Rattle.recorded_route.specs.Runs.{IsRun}
 
+-- the access that a record lacks, and how many of its entries a run used before it
+abbrev pub wanted_at : Option Access → ℕ → Option WantedAccess
+wanted_at (Some access) used = Some (record { access = access; entry = used })
+wanted_at None used = None
+
+abbrev pub wanted_of : Recording → Option WantedAccess
+wanted_of r = wanted_at r.missing r.used
+
 -- a missing access is wanted, whatever came out without its answer
-abbrev pub ending_of : Outcome RoutingReport → Option Access → Ending
+abbrev pub ending_of : Outcome RoutingReport → Option WantedAccess → Ending
 ending_of (Ok report) None = Reported report
 ending_of (Err e) None = Refused e
-ending_of outcome (Some access) = Wanted access
+ending_of outcome (Some wanted) = Wanted wanted
 
 -- memory didn't run out
 abbrev pub NotOutOfMemory : Ending → Type 0
 NotOutOfMemory (Reported report) = Unit {0}
 NotOutOfMemory (Refused e) = e ≢ OutOfMemory
-NotOutOfMemory (Wanted access) = Unit {0}
+NotOutOfMemory (Wanted wanted) = Unit {0}
 
--- the record after a run, of which this access is missing
-pub record Leaves (run : Recording → Type 0) (missing : Option Access) : Type 0 where
+-- the record after a run, which lacks this access
+pub record Leaves (run : Recording → Type 0) (wanted : Option WantedAccess) : Type 0 where
   pub after : Recording
   pub is_run : run after
-  pub is_missing : missing ≡ after.missing
+  pub is_wanted : wanted ≡ wanted_of after
 
 -- A run over a record, from its first entry on, ends like this.
 pub record IsEnding (settings : Settings) (avoid text : List ℕ) (entries : List Exchange) (ending : Ending) : Type 0 where
   pub outcome : Outcome RoutingReport
   pub after : Recording
   pub is_run : IsRun recorded settings avoid text (begun entries) outcome after
-  pub is_told : ending ≡ ending_of outcome after.missing
+  pub is_told : ending ≡ ending_of outcome (wanted_of after)

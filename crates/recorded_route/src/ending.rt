@@ -1,11 +1,32 @@
 //! How a run over a record ends.
 ghost use Rattle.std.specs.Prelude.{◌≡◌, Ok, Err};
 ghost use Rattle.ar_space.specs.Outcome.{NotMemory};
-ghost use Rattle.recorded_route.specs.Endings.{ending_of, NotOutOfMemory};
+ghost use Rattle.recorded_route.specs.Endings.{ending_of, wanted_of, NotOutOfMemory};
 
 use ar_space::Refusal;
-use recorded_space::Access;
+use recorded_space::{Access, Recorded};
 use route_report::Report;
+
+/// The access that a record lacks, and where.
+#[derive(Clone, Copy, Debug)]
+pub struct WantedAccess {
+    /// The access.
+    pub access: Access,
+    /// The entry of the record at which it is made, counted from 0. Behind the last entry, at the record's length, it is the next
+    /// access of the run. Before that, the entry there is of another access: the record is not of this run.
+    pub entry: usize,
+}
+
+/// The access that a record lacks, if it lacks one.
+pub(crate) fn wanted_of(record: &Recorded) -> Option<WantedAccess>
+    ensures { result ≡ wanted_of record.now }
+{
+    let entry = record.used();
+    match record.missing() {
+        Some(access) => Some(WantedAccess { access, entry }),
+        None => None,
+    }
+}
 
 /// How a run over a record ends.
 #[derive(Debug, Drop)]
@@ -15,11 +36,11 @@ pub enum Ending {
     /// The record held every access, and the machine is refused; or memory ran out.
     Refused(Refusal),
     /// This access is the first one that the record does not hold.
-    Wanted(Access),
+    Wanted(WantedAccess),
 }
 
 /// How a run ends that came out like this, where this access was missing. Want of memory ends it whatever was missing.
-pub(crate) fn ending_of(outcome: Result<Report, Refusal>, missing: Option<Access>) -> Ending
+pub(crate) fn ending_of(outcome: Result<Report, Refusal>, missing: Option<WantedAccess>) -> Ending
     ensures told { NotOutOfMemory result → NotMemory outcome × (result ≡ ending_of outcome missing) }
     ensures memory { NotMemory outcome → NotOutOfMemory result }
 {
@@ -30,20 +51,20 @@ pub(crate) fn ending_of(outcome: Result<Report, Refusal>, missing: Option<Access
     }
 }
 
-fn reported(report: Report, missing: Option<Access>) -> Ending
+fn reported(report: Report, missing: Option<WantedAccess>) -> Ending
     ensures { result ≡ ending_of (Ok report) missing }
 {
     match missing {
-        Some(access) => Ending::Wanted(access),
+        Some(wanted) => Ending::Wanted(wanted),
         None => Ending::Reported(report),
     }
 }
 
-fn refused(refusal: Refusal, missing: Option<Access>) -> Ending
+fn refused(refusal: Refusal, missing: Option<WantedAccess>) -> Ending
     ensures { result ≡ ending_of (Err refusal) missing }
 {
     match missing {
-        Some(access) => Ending::Wanted(access),
+        Some(wanted) => Ending::Wanted(wanted),
         None => Ending::Refused(refusal),
     }
 }

@@ -7,7 +7,7 @@ mod ending;
 mod run;
 mod settings;
 
-pub use ending::Ending;
+pub use ending::{Ending, WantedAccess};
 pub use recorded_space::{Access, Exchange};
 pub use run::configure_recorded;
 pub use settings::Settings;

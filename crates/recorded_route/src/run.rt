@@ -5,17 +5,17 @@ ghost use Rattle.recorded_route.specs.Endings.{IsEnding, Leaves, NotOutOfMemory}
 ghost use Rattle.recorded_route.specs.Runs.{IsStarted, IsMachineRun, IsRunOver, IsRun};
 
 use crate::description::{Description, described};
-use crate::ending::{Ending, ending_of};
+use crate::ending::{Ending, WantedAccess, ending_of, wanted_of};
 use crate::settings::Settings;
 use acpi_configure::configure;
 use acpi_machine::{Machine, load_tables};
 use ar_space::{Refusal, Space};
-use recorded_space::{Access, Exchange, Recorded};
+use recorded_space::{Exchange, Recorded};
 use route_report::Report;
 use std::alloc::Global;
 
 /// How a run came out, and which access was missing.
-type Outcome = (Result<Report, Refusal>, Option<Access>);
+type Outcome = (Result<Report, Refusal>, Option<WantedAccess>);
 
 /// Initializes a machine, and configures its links.
 #[tactic(auto, using(crate::proofs::Starting::starting))]
@@ -42,7 +42,7 @@ fn machine_run(
 {
     let mut machine = machine;
     let outcome = start(alloc, &mut machine, settings, avoid);
-    (outcome, machine.space().missing())
+    (outcome, wanted_of(machine.space()))
 }
 
 /// Loads what is described over a record, and starts the machine.
@@ -58,7 +58,7 @@ fn run_over(
     let (tables, osi) = description;
     match load_tables(alloc, tables, space, settings.steps, osi) {
         Ok(machine) => machine_run(alloc, machine, settings, avoid),
-        Err((refusal, space)) => (Err(refusal), space.missing()),
+        Err((refusal, space)) => (Err(refusal), wanted_of(&space)),
     }
 }
 
@@ -68,7 +68,7 @@ fn run(alloc: Global, text: &[u8], settings: &Settings, avoid: &[u32], space: Re
 {
     match described(alloc, text) {
         Ok(description) => run_over(alloc, description, settings, avoid, space),
-        Err(refusal) => (Err(refusal), space.missing()),
+        Err(refusal) => (Err(refusal), wanted_of(&space)),
     }
 }
 
@@ -77,7 +77,8 @@ fn run(alloc: Global, text: &[u8], settings: &Settings, avoid: &[u32], space: Re
 /// texts of `_OSI`: its registers are passed over, and accesses of memory are answered from the record too.
 ///
 /// A caller begins with an empty record. It makes each access that is wanted on its hardware, appends the access with what the
-/// hardware answered, and asks again, until no access is wanted. Then the links are set.
+/// hardware answered, and asks again, until no access is wanted. Then the links are set. An access that is wanted before the end of
+/// the record shows that the record is not of this run: the text, the settings or an entry was another one.
 ///
 /// Refused are the machine text, its tables, their loading, initializing, and then what the report has to find, but only where the
 /// record held every access until then. `Refused(OutOfMemory)` where memory ran out; a call with the same record may then be made again.
@@ -86,7 +87,8 @@ fn run(alloc: Global, text: &[u8], settings: &Settings, avoid: &[u32], space: Re
 /// let mut record = Vec::new(alloc);
 /// loop {
 ///     match configure_recorded(alloc, text, &settings, &[], record.as_slice()) {
-///         Ending::Wanted(access) => record.push(made_on_the_hardware(access))?,
+///         Ending::Wanted(wanted) if wanted.entry < record.len() => return Err(another_record()),
+///         Ending::Wanted(wanted) => record.push(made_on_the_hardware(wanted.access))?,
 ///         Ending::Reported(report) => return Ok(report),
 ///         Ending::Refused(refusal) => return Err(refusal),
 ///     }

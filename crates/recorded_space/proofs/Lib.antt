@@ -1,2 +1,3 @@
 pub mod Entries
 mod Runs
+mod Stops

@@ -15,7 +15,7 @@ use Rattle.recorded_space.specs.Recordings.{Recording, begun, recorded, said_by}
 use Rattle.recorded_space.specs.Deciding.{Deciding, ends, reads, writes, outcome, made, Gives}
 use Rattle.recorded_space.proofs.Entries.{got_behind, found_read, found_write}
 
-abbrev standing : List Exchange → ℕ → Recording
+abbrev pub standing : List Exchange → ℕ → Recording
 standing entries used = record { entries = entries; used = used; missing = None }
 
 abbrev stopped : List Exchange → ℕ → Access → Recording
@@ -34,22 +34,22 @@ stands now what access is =
     subst (λ (r : Recording). (outcome recorded what r).1 ≡ r) (sym same) (stays what now.entries now.used access)
 
 module _ {A : Type 0} (entries : List Exchange) (used : ℕ) where
-  read_stops : (place : Place) (width : Width) (next : Result ℕ SpaceFault → Deciding A) → said_by (slice_get entries used) (read_answer place width) ≡ None
+  pub read_stops : (place : Place) (width : Width) (next : Result ℕ SpaceFault → Deciding A) → said_by (slice_get entries used) (read_answer place width) ≡ None
       → (outcome recorded (reads place width next) (standing entries used)).1 ≡ stopped entries used (Read place width)
   unfolding outcome
   read_stops place width next is = rw (outcome, is) (stays (next (Err Device)) entries used (Read place width))
 
-  write_stops : (place : Place) (width : Width) (value : ℕ) (next : Result (Unit {0}) SpaceFault → Deciding A) → said_by (slice_get entries used) (write_answer place width value) ≡ None
+  pub write_stops : (place : Place) (width : Width) (value : ℕ) (next : Result (Unit {0}) SpaceFault → Deciding A) → said_by (slice_get entries used) (write_answer place width value) ≡ None
       → (outcome recorded (writes place width value next) (standing entries used)).1 ≡ stopped entries used (Write place width value)
   unfolding outcome
   write_stops place width value next is = rw (outcome, is) (stays (next (Err Device)) entries used (Write place width value))
 
-  read_goes : (place : Place) (width : Width) (next : Result ℕ SpaceFault → Deciding A) (answer : Result ℕ SpaceFault) → said_by (slice_get entries used) (read_answer place width) ≡ Some answer
+  pub read_goes : (place : Place) (width : Width) (next : Result ℕ SpaceFault → Deciding A) (answer : Result ℕ SpaceFault) → said_by (slice_get entries used) (read_answer place width) ≡ Some answer
       → outcome recorded (reads place width next) (standing entries used) ≡ outcome recorded (next answer) (standing entries (used + 1))
   unfolding outcome
   read_goes place width next answer is = rw (outcome, is) refl
 
-  write_goes : (place : Place) (width : Width) (value : ℕ) (next : Result (Unit {0}) SpaceFault → Deciding A) (answer : Result (Unit {0}) SpaceFault) → said_by (slice_get entries used) (write_answer place width value) ≡ Some answer
+  pub write_goes : (place : Place) (width : Width) (value : ℕ) (next : Result (Unit {0}) SpaceFault → Deciding A) (answer : Result (Unit {0}) SpaceFault) → said_by (slice_get entries used) (write_answer place width value) ≡ Some answer
       → outcome recorded (writes place width value next) (standing entries used) ≡ outcome recorded (next answer) (standing entries (used + 1))
   unfolding outcome
   write_goes place width value next answer is = rw (outcome, is) refl

@@ -1,5 +1,5 @@
 -- What an access with its answer says of an access.
-use Rattle.std.specs.Prelude.{ℕ, ◌==◌, ◌^◌, nat_lt, Bool, false, Option, Some, None, Result, Ok, Err, if◌then◌else◌}
+use Rattle.std.specs.Prelude.{◌≢◌, ℕ, ◌==◌, ◌^◌, nat_lt, Bool, false, Option, Some, None, Result, Ok, Err, if◌then◌else◌}
 use Rattle.ar_space.specs.declared.refusal.SpaceFault.{SpaceFault}
 use Rattle.ar_space.specs.declared.space.Width.{Width}
 use Rattle.ar_space.specs.declared.space.Place.{Place}
@@ -31,6 +31,11 @@ is_same_register at wide place width = if is_same_place at place then is_same_wi
 abbrev pub kept : Width → Result ℕ SpaceFault → Option (Result ℕ SpaceFault)
 kept width (Ok value) = if nat_lt value (2 ^ bit_count width) then Some (Ok value) else None
 kept width (Err fault) = Some (Err fault)
+
+-- the value that was read fits the width
+abbrev pub IsKept : Exchange → Type 0
+IsKept (Read place width answer) = kept width answer ≢ None
+IsKept (Write place width value answer) = Unit {0}
 
 -- what an entry says of a read, and of a write: nothing, where it is another access
 abbrev pub read_answer : Place → Width → Exchange → Option (Result ℕ SpaceFault)
