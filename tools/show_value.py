@@ -17,7 +17,10 @@ import struct
 import sys
 import uuid
 
-NAME = "show_value.py"
+sys.dont_write_bytecode = True
+import usage
+from usage import Fault
+
 WORDS = re.compile(r"\S+")
 PLAIN = ("reference", "none")
 DMA_SPEEDS = ("compatibility", "type A", "type B", "type F")
@@ -25,10 +28,6 @@ DMA_SIZES = ("8-bit", "8-bit and 16-bit", "16-bit", "reserved")
 ADDRESS_KINDS = {0: "memory", 1: "I/O", 2: "bus numbers"}
 SHARINGS = ("exclusive", "shared", "exclusive, wakes", "shared, wakes")
 PINS = "ABCD"
-
-
-class Fault(Exception):
-    """Why the input is no value, as a line for the user."""
 
 
 # ---- values
@@ -389,35 +388,12 @@ def lines_of(value):
     return [f"{kind} {what}" if kind == "name" else kind]
 
 
-# ---- the command line
-
-
-def text_of(name):
-    try:
-        if name is None:
-            return sys.stdin.buffer.read().decode("ascii")
-        with open(name, "rb") as it:
-            return it.read().decode("ascii")
-    except OSError as error:
-        raise Fault(f"{name}: {error.strerror}") from error
-    except UnicodeDecodeError as error:
-        raise Fault("the input has bytes that are no ASCII, and so is no value") from error
-
-
 def main(words):
-    parser = argparse.ArgumentParser(prog=NAME, usage=__doc__.split("\n", 1)[0], description=__doc__.split("\n", 2)[2],
-                                     formatter_class=argparse.RawDescriptionHelpFormatter)
+    parser = usage.parser(__doc__)
     parser.add_argument("value", nargs="?", metavar="VALUE", help=argparse.SUPPRESS)
-    words = parser.parse_args(words)
+    name = parser.parse_args(words).value
     sys.setrecursionlimit(10000)
-    try:
-        print("\n".join(lines_of(value_of(text_of(words.value)))), flush=True)
-    except Fault as fault:
-        print(f"{NAME}: {fault}", file=sys.stderr)
-        return 1
-    except BrokenPipeError:
-        return 1
-    return 0
+    return usage.write_out(lambda: "\n".join(lines_of(value_of(usage.ascii_in(name, "value")))) + "\n")
 
 
 if __name__ == "__main__":
