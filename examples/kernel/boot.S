@@ -97,12 +97,10 @@ common:
 
     .data
     .balign 16
-    .globl gdt
 gdt:
     .quad 0
     .quad 0x00AF9A000000FFFF            # code, 64 bits
     .quad 0x00CF92000000FFFF            # data
-    .quad 0, 0                          # the task state segment, filled in C
 gdt_pointer:
     .word . - gdt - 1
     .quad gdt
