@@ -39,7 +39,9 @@ RULES = {
     "OperatorKind": ("operator_rule", "OperatorTerms"),
 }
 # The functions that give an operator's value of those of its operands.
-VALUES = {"integer_operator": "result_of_two", "two_operands": "result_of_two", "one_operand": "result_of_one", "test_kind": "result_of_test"}
+VALUES = {
+    "integer_operator": "result_of_two", "two_operands": "result_of_two", "one_operand": "result_of_one", "test_kind": "result_of_test",
+}
 # The names that ASL has for opcodes which the grammar names otherwise.
 ASL_NAMES = {
     "OpRegion": "OperationRegion", "PowerRes": "PowerResource", "FromBcd": "FromBCD", "ToBcd": "ToBCD", "DataRegion": "DataTableRegion",
@@ -139,7 +141,8 @@ def rule_of(function, kind):
     """The rule of a kind, and the file of the rules."""
     inside, enum = KIND_FUNCTIONS[function]
     chooser, file = RULES[enum]
-    found = re.search(rf"^ *{chooser} \(?kinds\.{inside or kind[0]}\b.*= (.*)$", text_of(f"crates/aml_meaning/specs/{file}.antt"), re.MULTILINE)
+    text = text_of(f"crates/aml_meaning/specs/{file}.antt")
+    found = re.search(rf"^ *{chooser} \(?kinds\.{inside or kind[0]}\b.*= (.*)$", text, re.MULTILINE)
     if not found:
         raise Wrong(f"{file}.antt has no rule for {' '.join(kind)}")
     words = found[1].split()
@@ -170,7 +173,10 @@ def code_of_value(value):
 
 def files_by_name(files, form):
     """What a form finds in these files, each with the name of its file."""
-    return {name: os.path.basename(file).partition(".")[0] for file in files_in(files) for name in re.findall(form, text_of(file), re.MULTILINE)}
+    found = {}
+    for file in files_in(files):
+        found.update(dict.fromkeys(re.findall(form, text_of(file), re.MULTILINE), os.path.basename(file).partition(".")[0]))
+    return found
 
 
 def functions_of_evaluation():

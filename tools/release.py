@@ -4,9 +4,9 @@
 Makes one archive of a tree whose gate has passed (`.ci/run`), in which the static libraries are built too (`tools/kernel_library.py`).
 The tree has to be as it was committed.
 
-The archive has a folder acpiroute-VERSION: the program, the static libraries with their headers, the manual page, the examples with
-their reports, the scripts for users, the licence, the kit's version line, and the checksums of all files. Who unpacks it needs neither the kit
-nor a proof: `./run-examples` there checks the sums and runs every example.
+The archive has a folder acpiroute-VERSION: the program, the static libraries with their headers, the manual page, the examples
+with their reports, the scripts for users, the licence, the kit's version line, and the checksums of all files. Who unpacks it
+needs neither the kit nor a proof: `./run-examples` there checks the sums and runs every example.
 
 The archive's bytes depend on the files alone: the same tree makes the same archive. With --check, the archive is then unpacked into
 a folder of another name, and its examples are run in an empty environment.
@@ -110,7 +110,8 @@ def contents():
 def packed(files, folder):
     """The archive, whose bytes depend on the files alone."""
     packed_bytes = io.BytesIO()
-    with gzip.GzipFile(fileobj=packed_bytes, mode="wb", mtime=0) as zipped, tarfile.open(fileobj=zipped, mode="w", format=tarfile.PAX_FORMAT) as archive:
+    stream = gzip.GzipFile(fileobj=packed_bytes, mode="wb", mtime=0)
+    with stream, tarfile.open(fileobj=stream, mode="w", format=tarfile.PAX_FORMAT) as archive:
         for name, (data, is_run) in sorted(files.items()):
             entry = tarfile.TarInfo(f"{folder}/{name}")
             entry.size, entry.mode = len(data), 0o755 if is_run else 0o644
@@ -181,6 +182,11 @@ def zipped(data):
     return gzip.compress(data, 9, mtime=0)
 
 
+def by_debian(data):
+    """A script that is run by Debian's own Python; any other file as it is."""
+    return data.replace(b"#!/usr/bin/env python3", b"#!/usr/bin/python3", 1)
+
+
 def installed(files):
     """The files of the package by their places: the bytes, and whether it is run."""
     manual, pages = "usr/share/man/man1", "usr/share/doc/acpiroute"
@@ -196,11 +202,11 @@ def installed(files):
     }
     for name, (data, is_run) in files.items():
         if name.startswith("tools/"):
-            found[f"usr/share/acpiroute/{os.path.basename(name)}"] = (data.replace(b"#!/usr/bin/env python3", b"#!/usr/bin/python3", 1), name in TOOLS)
+            found[f"usr/share/acpiroute/{os.path.basename(name)}"] = (by_debian(data), name in TOOLS)
         elif name.endswith(".md") and not name.startswith("examples/"):
             found[f"{pages}/{os.path.basename(name)}"] = (data, False)
         elif name.startswith("examples/"):
-            found[f"{pages}/{name}"] = (data.replace(b"#!/usr/bin/env python3", b"#!/usr/bin/python3", 1), is_run)
+            found[f"{pages}/{name}"] = (by_debian(data), is_run)
     return found
 
 
@@ -248,7 +254,8 @@ def package_runs(package):
         for tool in TOOLS:
             subprocess.run([f"{folder}/usr/bin/{tool_name(tool)}", "--help"], stdout=subprocess.DEVNULL, check=True)
         with open(f"{examples}/two-links.txt", "rb") as text, open(f"{examples}/two-links.report", "rb") as report:
-            if subprocess.run([f"{folder}/usr/bin/acpiroute", "route"], stdin=text, capture_output=True, check=True).stdout != report.read():
+            done = subprocess.run([f"{folder}/usr/bin/acpiroute", "route"], stdin=text, capture_output=True, check=True)
+            if done.stdout != report.read():
                 print("release.py: the program of the package answers another report")
                 return 1
     if not shutil.which("lintian"):

@@ -207,7 +207,8 @@ def report_of(text):
         raise Fault("the report has Windows line ends, which `tr -d '\\r'` takes away")
     lines = text.split("\n")
     if lines[0] not in ("acpiroute 1", "acpiroute 2", "acpiroute 3"):
-        raise Fault("line 1: a report of acpiroute begins with 'acpiroute 1', 'acpiroute 2' or 'acpiroute 3'" if text else "the input is empty")
+        begins = "'acpiroute 1', 'acpiroute 2' or 'acpiroute 3'"
+        raise Fault(f"line 1: a report of acpiroute begins with {begins}" if text else "the input is empty")
     report = Report(int(lines[0][-1]))
     for number, line in enumerate(lines[1:-1] if lines[-1] == "" else lines[1:], 2):
         try:
@@ -378,7 +379,8 @@ def legend(report):
         (any(it["interrupt"] is None for it in report.pins), "dashed box: a link that is not present"),
         (any(it["avoided"] for it in interrupts), "dashed ellipse, grey line: an interrupt that is avoided"),
         (any(it["spared"] for it in interrupts), "dashed ellipse, grey line: an interrupt that is spared"),
-        (any(map(is_faulty, report.links.values())), "red: a link that refused its setting, or is set to another interrupt than it was given"),
+        (any(map(is_faulty, report.links.values())),
+         "red: a link that refused its setting, or is set to another interrupt than it was given"),
     ]
     return [text for is_there, text in said if is_there]
 

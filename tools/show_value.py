@@ -100,7 +100,7 @@ def value_of(text):
 
 
 def eisa_id(number):
-    """The EISA id that a number stands for, or None: three letters of five bits each, the first one highest, and four hexadecimal digits."""
+    """The EISA id that a number stands for, or None: three letters of five bits each, the first one highest, and four digits."""
     if number >= 1 << 32:
         return None
     swapped = int.from_bytes(number.to_bytes(4, "little"), "big")
@@ -200,7 +200,8 @@ def address_space(form, size):
         ends = [("minimum free", "minimum fixed")[general >> 2 & 1], ("maximum free", "maximum fixed")[general >> 3 & 1]]
         ends += ["subtractive"] * (general >> 1 & 1) + ["consumed" if general & 1 else "produced"]
         moved = f", translated by {offset:X}" if offset else ""
-        return f"{kind} {low:X} to {high:X}, length {length:X}, granularity {grain:X}{moved}, {', '.join(ends)}{source_text(data[3 + 5 * size:])}"
+        source = source_text(data[3 + 5 * size:])
+        return f"{kind} {low:X} to {high:X}, length {length:X}, granularity {grain:X}{moved}, {', '.join(ends)}{source}"
 
     return told
 
@@ -238,7 +239,8 @@ def gpio(data):
     what = {0: "interrupt", 1: "I/O"}.get(kind, f"kind {kind}")
     flags = small_number(data, 4, 2)
     told = f", {('level', 'edge')[flags & 1]}, {SHARINGS[flags >> 3 & 3]}" if kind == 0 else ""
-    return f"GPIO {what}, pins {' '.join(map(str, pins)) or '-'}{told}, of {named_source(data, source)}" + (f", {end - source} bytes of path" if end < source else "")
+    path = f", {end - source} bytes of path" if end < source else ""
+    return f"GPIO {what}, pins {' '.join(map(str, pins)) or '-'}{told}, of {named_source(data, source)}{path}"
 
 
 def serial_bus(data):
