@@ -1,12 +1,13 @@
 """The kit's `rt ci`, with the processors shared out so that the run ends sooner.
 
-What is proved, tried and run, and whether it passes, is the kit's own: this script replaces its `in_lanes` alone, which decides in which
-order the tasks begin and with how many processes. With RT_JOBS set, or under a kit whose tasks this script can't plan, the kit's own order is
-used. Under a kit that has no such call, plain `rt ci` runs.
+What is proved, tried and run, and whether it passes, is the kit's own: this script replaces its `in_lanes` alone, which decides
+in which order the tasks begin and with how many processes. With RT_JOBS set, or under a kit whose tasks this script can't plan,
+the kit's own order is used. Under a kit that has no such call, plain `rt ci` runs.
 
-The longest chain of proofs decides how long a run takes. The kit shares the idle processors among all tasks that can begin, and a proof keeps
-what it got, so the chain mostly gets one. Here its proofs get several processes, and other tasks begin beside them at a lower priority:
-as many as memory holds, and at most two tasks for each processor in all. `tools/gate_plan.py` says which they are.
+The longest chain of proofs decides how long a run takes. The kit shares the idle processors among all tasks that can begin, and a
+proof keeps what it got, so the chain mostly gets one. Here its proofs get several processes, and other tasks begin beside them at
+a lower priority: as many as memory holds, and at most two tasks for each processor in all. `tools/gate_plan.py` says which they
+are.
 
 The check of a static library is also written to its out/checked, from which tools/kernel_library.py compiles it without a second proof."""
 import contextlib

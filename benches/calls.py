@@ -23,8 +23,9 @@ TOP = os.path.dirname(HERE)
 
 def built(library, folder):
     host = os.path.join(folder, "calls")
-    subprocess.run(["cc", "-std=gnu11", "-O2", "-Wall", "-Wextra", "-Werror", "-I", os.path.join(TOP, "include"), os.path.join(HERE, "calls.c"),
-                    os.path.join(TOP, "examples/c/bytes.c"), library, "-lpthread", "-Wl,--gc-sections", "-o", host], check=True)
+    sources = [os.path.join(HERE, "calls.c"), os.path.join(TOP, "examples/c/bytes.c")]
+    subprocess.run(["cc", "-std=gnu11", "-O2", "-Wall", "-Wextra", "-Werror", "-I", os.path.join(TOP, "include"), *sources, library,
+                    "-lpthread", "-Wl,--gc-sections", "-o", host], check=True)
     return host
 
 
@@ -32,8 +33,8 @@ def row(host, machine, mode):
     said = subprocess.run([host, "configure", machine, mode], capture_output=True, text=True, check=True).stdout.split()
     accesses, calls, allocations, most, deepest, time = map(int, said[:6])
     name = os.path.splitext(os.path.basename(machine))[0]
-    print(f"| `{name}`, {mode} | {accesses} | {calls} | {time / 1000:.1f} | {time / 1000 / calls:.2f} | {allocations // calls:,} | {most // 1024} | {deepest:,} |",
-          " ".join(said[6:]), flush=True)
+    cells = [f"`{name}`, {mode}", accesses, calls, f"{time / 1000:.1f}", f"{time / 1000 / calls:.2f}", f"{allocations // calls:,}"]
+    print("|", *(f"{it} |" for it in [*cells, most // 1024, f"{deepest:,}"]), " ".join(said[6:]), flush=True)
 
 
 def deepest(host, folder):

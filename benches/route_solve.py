@@ -157,7 +157,8 @@ def main(words):
     answer_help(__doc__)
     measure, unit = (counted, "thousand instructions") if "--count" in words else (fastest, "microseconds")
     program = program_there(next((it for it in words if not it.startswith("--")), PROGRAM))
-    print(f"{unit}: the earlier solver, the solver, and the second in parts of the first; links moved to share as little as they can, and the test")
+    print(f"{unit}: the earlier solver, the solver, and the second in parts of the first; links moved to share as little as they can, "
+          "and the test")
     for kind in KINDS:
         for links in (16, 64, 256):
             text = kind(links, 255).text()
@@ -165,7 +166,8 @@ def main(words):
             same = came.decode().strip() if came == also else f"{came} and {also}"
             (moved, how_many), (test, answer) = (measure(program, it, text) for it in SHARINGS)
             shared = f"{how_many.decode().strip()}, {answer.decode().strip()}"
-            print(f"{links:3} links, {kind.__name__}: {before:.1f} {now:.1f} {now / before:.2f} ({same}); {moved:.1f} {test:.1f} ({shared})", flush=True)
+            both = f"{before:.1f} {now:.1f} {now / before:.2f} ({same})"
+            print(f"{links:3} links, {kind.__name__}: {both}; {moved:.1f} {test:.1f} ({shared})", flush=True)
 
 
 if __name__ == "__main__":

@@ -14,7 +14,8 @@ Runs the examples of this folder over a built acpiroute, for instance build/acpi
 
 Each difference is printed. The last line is `N passed, M failed`, and the exit status is 0 where none failed.
 
-With --tools it needs no program, and leaves out what the program prints. With --rows it runs nothing, and prints the examples as rows for crates/program_rows/data/examples.rows."""
+With --tools it needs no program, and leaves out what the program prints. With --rows it runs nothing, and prints the examples as
+rows for crates/program_rows/data/examples.rows."""
 import ast
 import glob
 import json
@@ -105,13 +106,21 @@ SHOWN = {
     "buffer -": "buffer of 0 bytes",
     "buffer 0102": "buffer of 2 bytes:\n     0  01 02                                            ..",
     "buffer 232004187900": "buffer of 6 bytes, as a resource template:\n     0  IRQ 5 10, level, active-low, shared\n     4  end",
-    "buffer 8906000901140000007900": "buffer of 11 bytes, as a resource template:\n     0  interrupts 20, level, active-high, shared, consumed\n     9  end",
-    "buffer 4701F80CF80C01087900": "buffer of 10 bytes, as a resource template:\n     0  I/O ports CF8 to CF8, 8 of them, alignment 1, decodes 16 bits\n     8  end",
+    "buffer 8906000901140000007900":
+        "buffer of 11 bytes, as a resource template:\n     0  interrupts 20, level, active-high, shared, consumed\n     9  end",
+    "buffer 4701F80CF80C01087900":
+        "buffer of 10 bytes, as a resource template:\n     0  I/O ports CF8 to CF8, 8 of them, alignment 1, decodes 16 bits\n     8  end",
     "package 2 ( integer 1 none )": "package of 2:\n  0: integer 1 (0x1)\n  1: none",
     "package 1 ( package 4 ( integer 131071 integer 1 name \\_SB_.LNKA integer 0 ) )":
         "package of 1, as a _PRT:\n  device  function  pin  leads to\n       1       all    B  \\_SB_.LNKA",
     "name \\_SB_": "name \\_SB_",
 }
+# What is no table: the file, and the word of machine_text.py that says what it is.
+TEXTS = {"two-links.asl": "iasl", "two-links.txt": "machine text", "two-links.report": "report", "q35.lspci": "--pci"}
+WRONG_WORDS = [
+    [], ["--pci", "0:1.0:60=G", "x"], ["--pci", "0:1.0=00", "x"], ["--pci", "0:1.0:FFF=0000", "x"], ["--io", "60"], ["--io", "60=G"],
+    ["--mem", "=00"], ["--osi", "", "x"], ["--unknown", "x"],
+]
 NO_VALUES = ["", "refused 1\n", "acpiroute 2\n", "integer\n", "integer x\n", "buffer 1\n", "package 1 ( integer 1\n", "integer 1 2\n"]
 
 
@@ -282,17 +291,18 @@ def check_machine_texts(check):
 def check_faults(check):
     """Files that are no tables, and wrong usage."""
     dsdt = tables_of("two-links")[0]
-    faults = {"empty": b"", "short": dsdt[:20], "cut": dsdt[:-1], "long": dsdt + b"\0", "text": b"A text.\n" * 9, "no DSDT": b"OEM1" + dsdt[4:]}
+    faults = {"empty": b"", "short": dsdt[:20], "cut": dsdt[:-1], "long": dsdt + b"\0", "text": b"A text.\n" * 9}
+    faults["no DSDT"] = b"OEM1" + dsdt[4:]
     with tempfile.TemporaryDirectory() as folder:
         for name, data in faults.items():
             write(f"{folder}/{name}", data)
             status, output, errors = ran(tool("machine_text.py", f"{folder}/{name}"))
             check.same(f"machine_text.py over a table that is {name}", (status, output, errors.count("\n")), (1, "", 1))
     check.same("machine_text.py over a file that is not there", ran(tool("machine_text.py", "nothing.aml"))[0], 1)
-    for name, word in (("two-links.asl", "iasl"), ("two-links.txt", "machine text"), ("two-links.report", "report"), ("q35.lspci", "--pci")):
+    for name, word in TEXTS.items():
         errors = ran(tool("machine_text.py", name))[2]
         check.same(f"machine_text.py over {name}", ("a text, and no table" in errors, word in errors), (True, True))
-    for words in ([], ["--pci", "0:1.0:60=G", "x"], ["--pci", "0:1.0=00", "x"], ["--pci", "0:1.0:FFF=0000", "x"], ["--io", "60"], ["--io", "60=G"], ["--mem", "=00"], ["--osi", "", "x"], ["--unknown", "x"]):
+    for words in WRONG_WORDS:
         check.same(f"machine_text.py {' '.join(words)}", ran(tool("machine_text.py", *words))[:2], (2, ""))
 
 
@@ -307,11 +317,14 @@ def check_folders(check):
         check.same("registers that are given by themselves", first[1].splitlines()[-1], "pci 0 0 1 0 60 80808080")
         write(f"{folder}/tables/DSDT.dsl", b"DefinitionBlock\n" * 9)
         again = ran(tool("machine_text.py", "--pci", registers, f"{folder}/tables"))
-        check.same("a machine text of these files, and of an ASL source beside them", (again[0], without_remarks(again[1])), (0, without_remarks(first[1])))
+        found, wanted = (again[0], without_remarks(again[1])), (0, without_remarks(first[1]))
+        check.same("a machine text of these files, and of an ASL source beside them", found, wanted)
         check.same("an ASL source in a folder is named", again[2].count("DSDT.dsl"), 1)
-        check.same("files that are there are not replaced", ran(tool("machine_text.py", "--tables", f"{folder}/tables", f"{folder}/memory"))[0], 1)
+        status = ran(tool("machine_text.py", "--tables", f"{folder}/tables", f"{folder}/memory"))[0]
+        check.same("files that are there are not replaced", status, 1)
         write(f"{folder}/tables/other.aml", tables_of("two-links")[0])
-        check.same("two DSDTs are named", [it in ran(tool("machine_text.py", f"{folder}/tables"))[2] for it in ("DSDT.aml", "other.aml")], [True, True])
+        errors = ran(tool("machine_text.py", f"{folder}/tables"))[2]
+        check.same("two DSDTs are named", [it in errors for it in ("DSDT.aml", "other.aml")], [True, True])
 
 
 # ---- the words of scripts

@@ -22,6 +22,9 @@ import subprocess
 import sys
 import tempfile
 
+sys.dont_write_bytecode = True
+from check import Check
+
 HERE = os.path.dirname(os.path.abspath(__file__))
 TOP = os.path.dirname(HERE)
 # The stored reports: each with its machine text and its options.
@@ -91,20 +94,6 @@ def ran(words, stdin=None):
 def text_of(name):
     with open(os.path.join(HERE, name), "rb") as file:
         return file.read()
-
-
-class Check:
-    """What passed and what failed."""
-
-    def __init__(self):
-        self.passed, self.failed = 0, 0
-
-    def same(self, what, found, wanted):
-        if found == wanted:
-            self.passed += 1
-            return
-        self.failed += 1
-        print(f"{what}:\n  wanted {wanted!r}\n  found  {found!r}")
 
 
 def check_host(check, language, host):

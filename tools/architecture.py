@@ -4,21 +4,14 @@
 Each crate of crates.txt has to have its rows there, over libraries that crates.txt names for it; each source file of a crate (without
 lib.rt) and each script of tools/ has to be named once; and no file that is named anywhere on the page may be missing from the tree. What
 is wrong is printed, with the row to add where a file or a crate is missing, and the exit status is then 1."""
-import glob
 import os
 import re
 import sys
 
-import usage
+from pages import TOP, compare, files_in, text_of
 
-TOP = os.path.dirname(os.path.dirname(os.path.abspath(__file__)))
 PAGE = "docs/ARCHITECTURE.md"
 CRATES, BESIDE = "## The crates", "## Beside the crates"
-
-
-def text_of(file):
-    with open(f"{TOP}/{file}", encoding="utf-8") as it:
-        return it.read()
 
 
 def section(text, title):
@@ -63,8 +56,7 @@ def crates():
 
 def sources(crate):
     """The source files of a crate without lib.rt, as the page names them."""
-    files = sorted(glob.glob(f"{TOP}/crates/{crate}/src/**/*.rt", recursive=True))
-    stems = [os.path.relpath(it, f"{TOP}/crates/{crate}/src")[:-3] for it in files]
+    stems = [os.path.relpath(it, f"crates/{crate}/src")[:-3] for it in files_in(f"crates/{crate}/src/**/*.rt")]
     return [it for it in stems if it != "lib"]
 
 
@@ -114,7 +106,7 @@ def faults_of_crates(text):
 
 
 def scripts():
-    return sorted(os.path.relpath(it, TOP) for kind in ("py", "sh") for it in glob.glob(f"{TOP}/tools/*.{kind}"))
+    return files_in("tools/*.py") + files_in("tools/*.sh")
 
 
 def faults_beside(text):
@@ -151,16 +143,5 @@ def faults(text):
     yield from faults_of_paths("\n".join(it for it in text.splitlines() if not it.startswith("    ")))
 
 
-def main():
-    usage.answer_help(__doc__)
-    if sys.argv[1:]:
-        print(__doc__, file=sys.stderr)
-        return 2
-    wrong = list(dict.fromkeys(faults(text_of(PAGE))))
-    for it in wrong:
-        print(f"{PAGE}: {it}")
-    return 1 if wrong else 0
-
-
 if __name__ == "__main__":
-    sys.exit(main())
+    sys.exit(compare(__doc__, PAGE, lambda: faults(text_of(PAGE))))

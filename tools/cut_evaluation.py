@@ -3,12 +3,11 @@
 
     tools/cut_evaluation.py FOLDER keep=MODULE,.. [stub=MODULE::FUNCTION,..] [drop=MODULE::FUNCTION,..]
 
-FOLDER is crates/aml_interp of another copy of this repository; its src, specs and proofs are written anew. The modules after keep= are taken
-whole. A function after stub= answers OutOfMemory, which meets every contract of evaluation: name those that the kept modules call elsewhere,
-and enough of their own that little of the cycle is left. A function after drop= is left out. What is in no cycle there loses its `#[cycle]`, and
-its answers go where those of a function by itself stand. Then `rt check` in FOLDER. What a cut copy does not show: the measure
-(tools/evaluation_ranks.py), and the size of the whole cycle.
-"""
+FOLDER is crates/aml_interp of another copy of this repository; its src, specs and proofs are written anew. The modules after
+keep= are taken whole. A function after stub= answers OutOfMemory, which meets every contract of evaluation: name those that the
+kept modules call elsewhere, and enough of their own that little of the cycle is left. A function after drop= is left out. What is
+in no cycle there loses its `#[cycle]`, and its answers go where those of a function by itself stand. Then `rt check` in FOLDER.
+What a cut copy does not show: the measure (tools/evaluation_ranks.py), and the size of the whole cycle."""
 import collections
 import pathlib
 import re

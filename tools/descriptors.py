@@ -7,13 +7,14 @@ definitions and the code of crates/acpi_resources.
 
 With --check it writes nothing, and fails (status 1) where the page differs. In both cases it fails where a row of the table is wrong, or
 where the definition, the constants of the code and the table don't agree on a first byte, on what it means, or on its section."""
+import functools
 import re
 import sys
 
-import generated_page
 import opcode_table
+import pages
 import refusals
-from generated_page import Wrong, four_cells, text_of
+from pages import Wrong, four_cells, text_of
 
 TABLE, PAGE = "tables/descriptors.txt", "docs/DESCRIPTORS.md"
 # What an expression of the definition or of the code has, and the kind of descriptor that it gives then.
@@ -21,6 +22,7 @@ KINDS = {
     "irq": "Interrupts", "extended_interrupt": "Interrupts", "EndTag": "EndTag", "DependentFunctions": "DependentFunctions",
 }
 SPECS, SRC = "crates/acpi_resources/specs", "crates/acpi_resources/src"
+definition = functools.partial(pages.definition, SPECS)
 HEAD = """# Resource descriptors
 
 <!-- Written by tools/descriptors.py from tables/descriptors.txt and the sources: change those, and run it again. -->
@@ -65,13 +67,6 @@ def table_rows(text):
 
 
 # ---- what the sources say
-
-
-def definition(file, name):
-    found = refusals.block(text_of(f"{SPECS}/{file}.antt"), name)
-    if not found:
-        raise Wrong(f"{SPECS}/{file}.antt has no {name}")
-    return found
 
 
 def kind_of(said):
@@ -210,11 +205,11 @@ def page(rows):
 def made():
     rows = table_rows(text_of(TABLE))
     check(rows)
-    return page(rows)
+    return {PAGE: page(rows)}
 
 
 def main(words):
-    return generated_page.make("descriptors.py", __doc__, words, PAGE, made)
+    return pages.make("descriptors.py", __doc__, words, made)
 
 
 if __name__ == "__main__":

@@ -3,11 +3,10 @@
 
     tools/evaluation_ranks.py
 
-Each function of the cycle has a rank in `crates/aml_interp/proofs/+evaluation/Invariants.antt`: the number that its measure adds. A call
-before the function has taken a step has to go to a function of a lower rank. The proof says so too, but only after a quarter of an hour.
-Prints each call that goes up or stays, and each function without a rank or rank without a function. `eval_answer` is printed always: its measure
-counts calls differently.
-"""
+Each function of the cycle has a rank in `crates/aml_interp/proofs/+evaluation/Invariants.antt`: the number that its measure adds.
+A call before the function has taken a step has to go to a function of a lower rank. The proof says so too, but only after a
+quarter of an hour. Prints each call that goes up or stays, and each function without a rank or rank without a function.
+`eval_answer` is printed always: its measure counts calls differently."""
 import pathlib
 import re
 import sys

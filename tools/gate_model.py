@@ -1,11 +1,12 @@
 #!/usr/bin/env python3
 """gate_model.py [--processors N] [--twice]: how long the gate takes, estimated from the processor seconds of its tasks.
 
-tools/gate_table.txt has a line for each crate: the processor seconds of its proof and of its edits, and the memory of its proof. The order, the
-processes and the priorities are the gate's (tools/gate_plan.py); memory is taken as plentiful. Programs run at the end.
+tools/gate_table.txt has a line for each crate: the processor seconds of its proof and of its edits, and the memory of its proof.
+The order, the processes and the priorities are the gate's (tools/gate_plan.py); memory is taken as plentiful. Programs run at the
+end.
 
---processors N also prints when each task begins and ends. --twice estimates twice the code: each crate once more beside the first, and two of the
-new ones in the longest chain."""
+--processors N also prints when each task begins and ends. --twice estimates twice the code: each crate once more beside the
+first, and two of the new ones in the longest chain."""
 import os
 import sys
 

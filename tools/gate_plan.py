@@ -1,8 +1,9 @@
 """How the gate begins its tasks: in which order, with how many processes, and at which priority.
 
-A task's key is a crate's name, what is done, and in some kits a number. What is done is its `proof`, its `tests`, its `edits` (all of them, or
-the one with the number), the `seed`, which is the check that its edits begin with, or what a kit adds to those. A task is described
-as the kit's `rt ci` does: by what it waits for, its lines, the bytes of memory that it is expected to need, and a call.
+A task's key is a crate's name, what is done, and in some kits a number. What is done is its `proof`, its `tests`, its `edits`
+(all of them, or the one with the number), the `seed`, which is the check that its edits begin with, or what a kit adds to those.
+A task is described as the kit's `rt ci` does: by what it waits for, its lines, the bytes of memory that it is expected to need,
+and a call.
 
 The slack of a task is how many seconds later it could begin without the whole run ending later, if each proof had one process and never
 waited for a processor. What has next to none belongs to the longest chain."""

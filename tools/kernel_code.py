@@ -24,9 +24,10 @@ RELOCATIONS = {"R_X86_64_PC32", "R_X86_64_PLT32", "R_X86_64_64"}
 # prefix `rep` of a bsf as tzcnt, which is the same bytes, and baseline code has it.)
 NEWER = re.compile(
     r"v[a-z]|k[a-z]+[bwdq]$|addsub|hadd|hsub|lddqu|mov(ddup|shdup|sldup|be|ntdqa)|fisttp|monitor|mwait"
-    r"|pabs|palignr|phadd|phsub|pmaddubsw|pmulhrsw|pshufb|psign|blend|dpp[sd]|extractps|insertps|mpsadbw|packusdw|pblend|pcmp(eqq|gtq|[ei]str)"
-    r"|pextr[bdq]|pinsr[bdq]|phminposuw|pmax(sb|sd|ud|uw)|pmin(sb|sd|ud|uw)|pmov[sz]x|pmul(dq|ld)$|ptest|round[ps]|crc32|popcnt|lzcnt"
-    r"|andn$|bextr|bls|bzhi|pdep|pext$|rorx|sarx|shlx|shrx|mulx|adcx|adox|cmpxchg16b|lahf|sahf|aes|pclmul|sha\d|gf2p8|rdrand|rdseed|xsave|xrstor")
+    r"|pabs|palignr|phadd|phsub|pmaddubsw|pmulhrsw|pshufb|psign|blend|dpp[sd]|extractps|insertps|mpsadbw"
+    r"|packusdw|pblend|pcmp(eqq|gtq|[ei]str)|pextr[bdq]|pinsr[bdq]|phminposuw|pmax(sb|sd|ud|uw)|pmin(sb|sd|ud|uw)"
+    r"|pmov[sz]x|pmul(dq|ld)$|ptest|round[ps]|crc32|popcnt|lzcnt|andn$|bextr|bls|bzhi|pdep|pext$|rorx|sarx|shlx|shrx"
+    r"|mulx|adcx|adox|cmpxchg16b|lahf|sahf|aes|pclmul|sha\d|gf2p8|rdrand|rdseed|xsave|xrstor")
 FLOATING = re.compile(r"f[a-z]|emms")
 ACCESS = re.compile(r"(-?0x[0-9a-f]+)?\(%(rsp|rbp)([,)])")
 # An access with an index is one of an array, and where the index is not 0, the place without it may lie a few bytes before the array.
@@ -130,7 +131,8 @@ class Stack:
 
 
 def joined(one, other):
-    return State(max(one.stack, other.stack), one.frame if one.frame == other.frame else None, one.probe if one.probe == other.probe else None)
+    same = lambda left, right: left if left == right else None
+    return State(max(one.stack, other.stack), same(one.frame, other.frame), same(one.probe, other.probe))
 
 
 def moved(step, state):
@@ -221,7 +223,8 @@ def judged(library, archive):
 # Functions in C: what is found in each, where something has to be, and how it is compiled.
 GOOD = ["-O2", "-fno-omit-frame-pointer", "-mno-red-zone", "-fcf-protection=branch", "-fno-asynchronous-unwind-tables", "-fno-jump-tables"]
 SUM = "int acpiroute_configure(int n) { volatile int a[9]; for (int i = 0; i < 9; i++) a[i] = n; return a[n & 7]; }"
-CALL = "void *memcpy(void *, const void *, unsigned long); void acpiroute_configure(char *a, char *b, long n) { memcpy(a, b, n); memcpy(b, a, n); }"
+MEMCPY = "void *memcpy(void *, const void *, unsigned long);"
+CALL = MEMCPY + " void acpiroute_configure(char *a, char *b, long n) { memcpy(a, b, n); memcpy(b, a, n); }"
 SWITCH = "int acpiroute_configure(int n) { switch (n) { " + "".join(f"case {n}: return {n * n % 7};" for n in range(9)) + " } return 9; }"
 TRIALS = [
     ("", SUM, []), ("", CALL, []), ("", "long acpiroute_configure(long n) { char a[n + 9000]; memset(a, 1, n); return a[n - 1]; }", []),
@@ -240,8 +243,8 @@ TRIALS = [
 
 def is_found(wanted, source, flags, folder):
     archive = os.path.join(folder, "tried.o")
-    subprocess.run(["gcc", *GOOD, *flags, "-Wno-implicit-function-declaration", "-c", "-x", "c", "-", "-o", archive], input=source, text=True, check=True,
-                   stderr=subprocess.DEVNULL)
+    words = ["gcc", *GOOD, *flags, "-Wno-implicit-function-declaration", "-c", "-x", "c", "-", "-o", archive]
+    subprocess.run(words, input=source, text=True, check=True, stderr=subprocess.DEVNULL)
     _, faults = judged(Library("tried", ["acpiroute_configure"], True), archive)
     return any(wanted in it for it in faults) if wanted else not faults
 
@@ -250,7 +253,9 @@ def main():
     usage.answer_help(__doc__)
     with tempfile.TemporaryDirectory() as folder:
         missed = [(wanted or "nothing", source) for wanted, source, flags in TRIALS if not is_found(wanted, source, flags, folder)]
-    print("".join(f"not found: {wanted}: {source}\n" for wanted, source in missed) + f"{len(TRIALS) - len(missed)} passed, {len(missed)} failed")
+    for wanted, source in missed:
+        print(f"not found: {wanted}: {source}")
+    print(f"{len(TRIALS) - len(missed)} passed, {len(missed)} failed")
     return 1 if missed else 0
 
 

@@ -40,7 +40,10 @@ import re
 import struct
 import sys
 
-NAME = "machine_text.py"
+sys.dont_write_bytecode = True
+import usage
+from usage import Fault, complain as note
+
 RSDP_AT = 0xE0000
 TABLES_AT = 0x100000
 HEADER_BYTES = 36
@@ -59,16 +62,8 @@ PCI_GIVEN = re.compile(r"(?:([0-9a-fA-F]{1,4}):)?([0-9a-fA-F]{1,2}):([01]?[0-9a-
 PCI_ROW = re.compile(r"([0-9a-fA-F]{2,3}):((?: [0-9a-fA-F]{2}){1,16})\s*$")
 
 
-class Fault(Exception):
-    """What is wrong with a file, as a line for the user."""
-
-
 class NoTable(Fault):
     """A file that isn't meant as a table."""
-
-
-def note(text):
-    print(f"{NAME}: {text}", file=sys.stderr)
 
 
 # ---- files
@@ -496,8 +491,7 @@ def osi_given(text):
 
 
 def parsed(words):
-    parser = argparse.ArgumentParser(prog=NAME, usage=__doc__.split("\n", 1)[0], description=__doc__.split("\n", 2)[2],
-                                     formatter_class=argparse.RawDescriptionHelpFormatter, allow_abbrev=False)
+    parser = usage.parser(__doc__)
     hidden = {"action": "append", "default": [], "help": argparse.SUPPRESS}
     parser.add_argument("--pci", type=pci_given, **hidden)
     parser.add_argument("--io", type=bytes_up_to(LAST_PORT), **hidden)
@@ -512,17 +506,8 @@ def parsed(words):
 
 
 def main(words):
-    words = parsed(words)
-    try:
-        sys.stdout.write(machine_text(words))
-        sys.stdout.flush()
-    except Fault as fault:
-        note(fault)
-        return 1
-    except BrokenPipeError:
-        os.dup2(os.open(os.devnull, os.O_WRONLY), sys.stdout.fileno())
-        return 1
-    return 0
+    asked = parsed(words)
+    return usage.write_out(lambda: machine_text(asked))
 
 
 if __name__ == "__main__":

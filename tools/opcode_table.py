@@ -1,6 +1,8 @@
 """Reads tables/opcodes.txt, and forms the regions of the sources that are written from it (tools/opcodes.py writes or checks them)."""
 import re
 
+from pages import Wrong
+
 TABLE = "tables/opcodes.txt"
 MOST_OPERANDS = 6
 COLUMNS = 7
@@ -18,10 +20,6 @@ SECTIONS = {
 }
 # The bytes of an operand that alone says how long a term is.
 SIZES = {"ByteData": 1, "WordData": 2, "DWordData": 4, "QWordData": 8}
-
-
-class Wrong(Exception):
-    """A row that can't stand, or a file without its region."""
 
 
 class Row:

@@ -8,16 +8,14 @@ the sources.
 
 With --check it writes nothing, and fails (status 1) where a region or the page differs, or where a row's kind isn't that of
 crates/aml_meaning/specs/Terms.antt."""
-import glob
 import os
 import re
 import sys
 
-sys.dont_write_bytecode = True
 import opcode_table
-import usage
+import pages
+from pages import Wrong, files_in, text_of
 
-TOP = os.path.dirname(os.path.dirname(os.path.abspath(__file__)))
 PAGE = "docs/OPCODES.md"
 # Each function that gives a kind: the constructor of its kinds in the rules, and the enum of the code.
 KIND_FUNCTIONS = {
@@ -41,7 +39,9 @@ RULES = {
     "OperatorKind": ("operator_rule", "OperatorTerms"),
 }
 # The functions that give an operator's value of those of its operands.
-VALUES = {"integer_operator": "result_of_two", "two_operands": "result_of_two", "one_operand": "result_of_one", "test_kind": "result_of_test"}
+VALUES = {
+    "integer_operator": "result_of_two", "two_operands": "result_of_two", "one_operand": "result_of_one", "test_kind": "result_of_test",
+}
 # The names that ASL has for opcodes which the grammar names otherwise.
 ASL_NAMES = {
     "OpRegion": "OperationRegion", "PowerRes": "PowerResource", "FromBcd": "FromBCD", "ToBcd": "ToBCD", "DataRegion": "DataTableRegion",
@@ -77,19 +77,6 @@ One row for each opcode of AML.
 """
 
 
-class Missing(Exception):
-    """Something that the sources don't have."""
-
-
-def text_of(file):
-    with open(f"{TOP}/{file}", encoding="utf-8") as it:
-        return it.read()
-
-
-def files_in(pattern):
-    return sorted(os.path.relpath(it, TOP) for it in glob.glob(f"{TOP}/{pattern}", recursive=True))
-
-
 # ---- what the sources say
 
 
@@ -108,10 +95,10 @@ def check_names(rows, sources):
     for it in rows:
         if it.name not in sources["tests"]:
             where = f"{opcode_table.TABLE}:{it.line}"
-            raise Missing(f"{where}: {it.name} is unknown: no row in crates/name_rows/data tests `the opcode {it.name}`")
+            raise Wrong(f"{where}: {it.name} is unknown: no row in crates/name_rows/data tests `the opcode {it.name}`")
     names = {it.name for it in rows}
     for name in sorted({*sources["tests"], *sources["kinds"], *sources["targets"]} - names):
-        raise Missing(f"{opcode_table.TABLE}: {name} has no row")
+        raise Wrong(f"{opcode_table.TABLE}: {name} has no row")
 
 
 def check_kinds(rows, found, targets):
@@ -123,7 +110,7 @@ def check_kinds(rows, found, targets):
         elif it.name in targets:
             kind = f"target.{targets[it.name]}"
         if it.kind != kind:
-            raise Missing(f"{opcode_table.TABLE}:{it.line}: {it.name} has the kind {it.kind}, and Terms.antt says {kind}")
+            raise Wrong(f"{opcode_table.TABLE}:{it.line}: {it.name} has the kind {it.kind}, and Terms.antt says {kind}")
 
 
 def written(rows):
@@ -154,9 +141,10 @@ def rule_of(function, kind):
     """The rule of a kind, and the file of the rules."""
     inside, enum = KIND_FUNCTIONS[function]
     chooser, file = RULES[enum]
-    found = re.search(rf"^ *{chooser} \(?kinds\.{inside or kind[0]}\b.*= (.*)$", text_of(f"crates/aml_meaning/specs/{file}.antt"), re.MULTILINE)
+    text = text_of(f"crates/aml_meaning/specs/{file}.antt")
+    found = re.search(rf"^ *{chooser} \(?kinds\.{inside or kind[0]}\b.*= (.*)$", text, re.MULTILINE)
     if not found:
-        raise Missing(f"{file}.antt has no rule for {' '.join(kind)}")
+        raise Wrong(f"{file}.antt has no rule for {' '.join(kind)}")
     words = found[1].split()
     return file, " ".join(words[:2]) if words[0] in ("give", "new_scope") else words[0]
 
@@ -170,7 +158,7 @@ def value_of(function, kind):
         return None
     found = re.search(rf"^{chooser} \(?\w+\.{word}\b.*= (\w+)", text_of("crates/aml_meaning/specs/OperatorTerms.antt"), re.MULTILINE)
     if not found:
-        raise Missing(f"{chooser} has no clause for {word}")
+        raise Wrong(f"{chooser} has no clause for {word}")
     return found[1]
 
 
@@ -180,16 +168,20 @@ def code_of_value(value):
     for name, contract in re.findall(form, text_of("crates/aml_meaning/src/operations.rt"), re.MULTILINE | re.DOTALL):
         if re.search(rf"\b{value}\b", contract):
             return name
-    raise Missing(f"no function of crates/aml_meaning/src/operations.rt has {value} in its contract")
+    raise Wrong(f"no function of crates/aml_meaning/src/operations.rt has {value} in its contract")
+
+
+def files_by_name(files, form):
+    """What a form finds in these files, each with the name of its file."""
+    found = {}
+    for file in files_in(files):
+        found.update(dict.fromkeys(re.findall(form, text_of(file), re.MULTILINE), os.path.basename(file).partition(".")[0]))
+    return found
 
 
 def functions_of_evaluation():
     """Each function of evaluation, with its file."""
-    found = {}
-    for file in files_in("crates/aml_interp/src/*.rt"):
-        for name in re.findall(r"^(?:pub\(crate\) )?fn (eval_\w+)", text_of(file), re.MULTILINE):
-            found[name] = os.path.basename(file)[:-3]
-    return found
+    return files_by_name("crates/aml_interp/src/*.rt", r"^(?:pub\(crate\) )?fn (eval_\w+)")
 
 
 def code_of(function, kind, functions):
@@ -201,18 +193,15 @@ def code_of(function, kind, functions):
             return found[1]
         if found:
             return re.findall(r"fn (eval_\w+)", text_of(file)[: found.start()])[-1]
-    raise Missing(f"no function evaluates {' '.join(kind)}")
+    raise Wrong(f"no function evaluates {' '.join(kind)}")
 
 
 # ---- tests
 
 
 def grammar_tests():
-    found = {}
-    for file in files_in("crates/name_rows/data/*.rows"):
-        for name in re.findall(r"^row the opcode (\w+), read and refused$", text_of(file), re.MULTILINE):
-            found[name] = os.path.basename(file)[:-5]
-    return found
+    """Each opcode that a row reads and refuses, with its file."""
+    return files_by_name("crates/name_rows/data/*.rows", r"^row the opcode (\w+), read and refused$")
 
 
 def told_lines():
@@ -277,25 +266,13 @@ def page(rows):
     return head(rows) + "\n".join(page_row(it, sources) for it in rows) + "\n"
 
 
+def made():
+    rows = table_rows()
+    return {**written(rows), PAGE: page(rows)}
+
+
 def main(words):
-    usage.answer_help(__doc__)
-    if words not in ([], ["--check"]):
-        print(__doc__, file=sys.stderr)
-        return 2
-    try:
-        rows = table_rows()
-        texts = {**written(rows), PAGE: page(rows)}
-    except (Missing, opcode_table.Wrong) as wrong:
-        print(f"opcodes.py: {wrong}", file=sys.stderr)
-        return 1
-    stale = [file for file, wanted in texts.items() if not os.path.exists(f"{TOP}/{file}") or text_of(file) != wanted]
-    for file in stale:
-        if words:
-            print(f"opcodes.py: {file} is stale: run tools/opcodes.py", file=sys.stderr)
-            continue
-        with open(f"{TOP}/{file}", "w", encoding="utf-8") as it:
-            it.write(texts[file])
-    return 1 if words and stale else 0
+    return pages.make("opcodes.py", __doc__, words, made)
 
 
 if __name__ == "__main__":

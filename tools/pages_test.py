@@ -1,8 +1,9 @@
 #!/usr/bin/env python3
 """pages_test.py
 
-Tries the scripts that hold pages to the sources on a copy of the tree: tools/descriptors.py, tools/report_lines.py, tools/refusals.py,
-tools/architecture.py and tools/words.py each have to refuse a page, a table or a source that was changed, and to say what is wrong."""
+Tries the scripts that hold pages to the sources on a copy of the tree: tools/opcodes.py, tools/descriptors.py, tools/report_lines.py,
+tools/refusals.py, tools/architecture.py and tools/words.py each have to refuse a page, a table or a source that was changed, and to say
+what is wrong."""
 import os
 import shutil
 import subprocess
@@ -10,11 +11,55 @@ import sys
 import tempfile
 
 import usage
+from pages import TOP, text_of
 
-TOP = os.path.dirname(os.path.dirname(os.path.abspath(__file__)))
 RESOURCES, REPORT = "crates/acpi_resources", "crates/route_report"
-# What is tried for each script: the file, its text, what stands in its place, and what the answer must say.
+OPCODES, GRAMMAR = "tables/opcodes.txt", "crates/aml_grammar"
+
+
+def row_of(name):
+    """The row of an opcode, with the end of its line."""
+    return next(it for it in text_of(OPCODES).splitlines(keepends=True) if it.startswith(f"{name} "))
+
+
+ADD, CONCAT = row_of("Add"), row_of("Concat")
+# What is tried of the row of Add: what it has, what stands in its place, and what the answer says behind the line's number.
+OF_A_ROW = [
+    ("Add ", "Sum ", "Sum is unknown"),
+    ("Target ", "Targett", "Targett is no kind of operand"),
+    ("Expression", "Expressive", "Expressive is no class"),
+    ("Target", "Target " * 5, "7 operands"),
+    ("72", "7G", "7G is no code"),
+    ("integer_operator.Add", "integer_operator.Sub", "Add has the kind integer_operator.Sub"),
+    ("20.2.5.4", "20.2.5.5", "20.2.5.5 is no section"),
+    ("20.2.5.4", "19.6.4", "19.6.4 is no section"),
+    ("20.2.5.4 ", "", "integer_operator.Add is no section"),
+    ("|", " ", "fewer than 7 columns, or no meaning behind a bar"),
+    ("Adds two integers.", "", "the meaning is no sentence"),
+    ("Adds", "adds", "the meaning is no sentence"),
+    ("integers.", "integers", "the meaning is no sentence"),
+    ("integers.", "integers. And stores.", "the meaning is no sentence"),
+    ("integers.", "integers | numbers.", "the meaning is no sentence"),
+    ("Adds two integers.", "Sum.", "the meaning is no sentence"),
+]
+# What is tried for each script: the file, its text, what stands in its place, and what the answer must say. LINE is the line of the
+# text, and NEXT the one behind it.
 CASES = {
+    "tools/opcodes.py --check": [
+        (f"{GRAMMAR}/src/opcode.rt", "Add = 0x72", "Add = 0x73", f"{GRAMMAR}/src/opcode.rt is stale"),
+        (f"{GRAMMAR}/specs/Opcodes.antt", "opcodes.Add = 0x72", "opcodes.Add = 0x73", f"{GRAMMAR}/specs/Opcodes.antt is stale"),
+        (f"{GRAMMAR}/specs/Table.antt", "plain opcodes.Zero classes.Data", "plain opcodes.Zero classes.Slot", "Table.antt is stale"),
+        ("crates/aml_scan/src/table.rt", "u8 = 0x70", "u8 = 0x71", "crates/aml_scan/src/table.rt is stale"),
+        ("crates/aml_terms/src/short.rt", "    1, 1, 0,", "    1, 2, 0,", "crates/aml_terms/src/short.rt is stale"),
+        ("docs/OPCODES.md", "| 72 | Add |", "| 72 | Sum |", "docs/OPCODES.md is stale"),
+        ("docs/OPCODES.md", "Adds two integers.", "Adds two numbers.", "docs/OPCODES.md is stale"),
+        ("docs/OPCODES.md", "| 20.2.5.4 | Adds", "| 20.2.5.3 | Adds", "docs/OPCODES.md is stale"),
+        (OPCODES, ADD, "", f"{OPCODES}: Add has no row"),
+        (OPCODES, ADD, ADD.replace("Add ", "Sum ", 1) + ADD, f"{OPCODES}:NEXT: Add or its code is there already"),
+        (OPCODES, ADD, ADD + ADD.replace("72", "9A"), f"{OPCODES}:NEXT: Add or its code is there already"),
+        (OPCODES, ADD + CONCAT, CONCAT + ADD, f"{OPCODES}:NEXT: codes rise from row to row"),
+        *((OPCODES, ADD, ADD.replace(old, new), f"{OPCODES}:LINE: {said}") for old, new, said in OF_A_ROW),
+    ],
     "tools/descriptors.py --check": [
         (f"{RESOURCES}/specs/Descriptors.antt", "item.tag == 0x38", "item.tag == 0x39", "descriptor_of says nothing of the first byte 38"),
         (f"{RESOURCES}/specs/Descriptors.antt", "then Ok EndTag", "then Ok DependentFunctions", "give the first byte 79 another meaning"),
@@ -82,11 +127,6 @@ def copy(to):
         shutil.copyfile(f"{TOP}/{file}", f"{to}/{file}")
 
 
-def read(file):
-    with open(file, encoding="utf-8") as it:
-        return it.read()
-
-
 def write(file, text):
     with open(file, "w", encoding="utf-8") as it:
         it.write(text)
@@ -101,13 +141,15 @@ def answer(top, words):
 
 def is_refused(top, words, file, old, new, said):
     """Whether a script refuses a changed file, and says so."""
-    kept = read(f"{top}/{file}")
+    kept = text_of(file)
     if old not in kept:
         print(f"pages_test.py: {file} doesn't have {old!r}", file=sys.stderr)
         return False
     write(f"{top}/{file}", kept.replace(old, new, 1))
     status, found = answer(top, words)
     write(f"{top}/{file}", kept)
+    line = kept[:kept.index(old)].count("\n") + 1
+    said = said.replace("LINE", str(line)).replace("NEXT", str(line + 1))
     if status != 1 or said not in found:
         print(f"pages_test.py: {words}: {new!r} in {file}: wanted {said!r}, got {status} {found!r}", file=sys.stderr)
         return False

@@ -8,16 +8,10 @@ import os
 import re
 import sys
 
-import usage
+from pages import TOP, block, compare, text_of
 
-TOP = os.path.dirname(os.path.dirname(os.path.abspath(__file__)))
 PAGE = "docs/REFUSALS.md"
 MOST_FILES = 3
-
-
-def text_of(file):
-    with open(f"{TOP}/{file}", encoding="utf-8") as it:
-        return it.read()
 
 
 def in_sources():
@@ -32,18 +26,6 @@ def on_page():
     """The number, the name and the last cell of each row."""
     rows = re.findall(r"^\| (\d+) \| (\w+) \|.*?([^|]*) \|$", text_of(PAGE), re.MULTILINE)
     return [(int(number), name, last.strip()) for number, name, last in rows]
-
-
-def block(text, name):
-    """The lines of a definition, a function or a constant, without remarks; None where the text has none of the name."""
-    lines = [it for it in text.splitlines() if not it.lstrip().startswith(("--", "//"))]
-    begins = re.compile(rf"^\s*(?:\w+ )*(?:pub(?:\(crate\))? )?(?:record |const |fn )?{name}\b *[:(<]|^pub record {name}\b")
-    found = []
-    for place, line in enumerate(lines):
-        if begins.search(line) and not line.startswith("use "):
-            rest = lines[place:]
-            found.extend(rest[:next((it for it, said in enumerate(rest) if not said.strip()), len(rest))])
-    return "\n".join(found) or None
 
 
 def faults_of_row(number, name, cell):
@@ -79,16 +61,5 @@ def faults(refusals, flaws, rows):
             yield from faults_of_row(number, name, cell)
 
 
-def main():
-    usage.answer_help(__doc__)
-    if sys.argv[1:]:
-        print(__doc__, file=sys.stderr)
-        return 2
-    wrong = list(faults(*in_sources(), on_page()))
-    for it in wrong:
-        print(f"{PAGE}: {it}")
-    return 1 if wrong else 0
-
-
 if __name__ == "__main__":
-    sys.exit(main())
+    sys.exit(compare(__doc__, PAGE, lambda: faults(*in_sources(), on_page())))

@@ -79,7 +79,18 @@ def is_promised(found, ample):
 def is_told(found):
     """Whether a run of every call told that what is promised holds, or could not tell anything for want of memory."""
     status, output, errors = found
-    return (status == 0 and output in (b"every call answers\n", b"memory ran out, as promised\n")) or (status > 0 and output == b"" and b"emory" in errors)
+    told = status == 0 and output in (b"every call answers\n", b"memory ran out, as promised\n")
+    return told or (status > 0 and output == b"" and b"emory" in errors)
+
+
+def fail(what, number, count, found):
+    """Ends the script by what a run was that had one of its allocations refused."""
+    status, output, errors = found
+    sys.exit(f"{what}: with allocation {number} of {count} refused: status {status}, output {output[:1000]!r}, errors {errors!r}")
+
+
+def tell(what, count, ended, every, how):
+    print(f"{what}: {count} allocations, {ended} of {len(range(1, count + 1, every))} refused {how}", flush=True)
 
 
 def refuse_calls(runs, every):
@@ -91,9 +102,9 @@ def refuse_calls(runs, every):
     for number in range(1, count + 1, every):
         found = runs.run([], b"", number)
         if not is_told(found):
-            sys.exit(f"every call: with allocation {number} of {count} refused: status {found[0]}, output {found[1]!r}, errors {found[2]!r}")
+            fail("every call", number, count, found)
         ended += found[1] == b"memory ran out, as promised\n"
-    print(f"every call: {count} allocations, {ended} of {len(range(1, count + 1, every))} refused ended one of the calls, as promised", flush=True)
+    tell("every call", count, ended, every, "ended one of the calls, as promised")
 
 
 def refuse_each(runs, words, text, every):
@@ -103,11 +114,11 @@ def refuse_each(runs, words, text, every):
     for number in range(1, count + 1, every):
         found = runs.run(words, text, number)
         if not is_promised(found, ample):
-            sys.exit(f"{' '.join(words)}: with allocation {number} of {count} refused: status {found[0]}, errors {found[2]!r}, {len(found[1])} bytes of output")
+            fail(" ".join(words), number, count, found)
         ended += found[2] == b"refused 99\n"
     if not ended:
         sys.exit(f"{' '.join(words)}: no refused allocation was told; is the program linked to the system's C library?")
-    print(f"{' '.join(words)}: {count} allocations, {ended} of {len(range(1, count + 1, every))} refused ended in 99, as promised the others", flush=True)
+    tell(" ".join(words), count, ended, every, "ended in 99, as promised the others")
 
 
 def read(name):
@@ -134,7 +145,9 @@ def main(words):
     plan = [(["route"], it) for it in machines]
     if not machines:
         two, report = f"{at}/two-links.txt", f"{at}/two-links.report"
-        plan = [(["route"], two), (["names"], two), (["check"], report), (["route"], f"{at}/index.txt"), (["route", "--dry"], f"{at}/i440fx.txt"), (["eval", "\\_SB_.PCI0._PRT"], f"{at}/i440fx.txt"), (["eval", "\\_OSI", "s:Linux"], two), (["eval", "\\_OSI", "b:00FF"], two)]
+        plan = [(["route"], two), (["names"], two), (["check"], report), (["route"], f"{at}/index.txt")]
+        plan += [(["route", "--dry"], f"{at}/i440fx.txt"), (["eval", "\\_SB_.PCI0._PRT"], f"{at}/i440fx.txt")]
+        plan += [(["eval", "\\_OSI", it], two) for it in ("s:Linux", "b:00FF")]
     with tempfile.TemporaryDirectory(prefix="refuse-memory-") as folder:
         runs = Runs(program, folder)
         for arguments, file in plan:

@@ -4,9 +4,9 @@
 Makes one archive of a tree whose gate has passed (`.ci/run`), in which the static libraries are built too (`tools/kernel_library.py`).
 The tree has to be as it was committed.
 
-The archive has a folder acpiroute-VERSION: the program, the static libraries with their headers, the manual page, the examples with
-their reports, the scripts for users, the licence, the kit's version line, and the checksums of all files. Who unpacks it needs neither the kit
-nor a proof: `./run-examples` there checks the sums and runs every example.
+The archive has a folder acpiroute-VERSION: the program, the static libraries with their headers, the manual page, the examples
+with their reports, the scripts for users, the licence, the kit's version line, and the checksums of all files. Who unpacks it
+needs neither the kit nor a proof: `./run-examples` there checks the sums and runs every example.
 
 The archive's bytes depend on the files alone: the same tree makes the same archive. With --check, the archive is then unpacked into
 a folder of another name, and its examples are run in an empty environment.
@@ -30,12 +30,15 @@ import tempfile
 TOP = os.path.dirname(os.path.dirname(os.path.abspath(__file__)))
 PROGRAM = "crates/acpiroute/out/acpiroute"
 LIBRARY = "crates/acpiroute_c/out/libacpiroute_c.a"
+# The scripts for users, which a package has as commands too, and what they share.
+TOOLS = ["tools/machine_text.py", "tools/report_graph.py", "tools/show_value.py"]
+SHARED = "tools/usage.py"
 # The libraries for a kernel, and what was found in them.
 FOR_KERNELS = "crates/acpiroute_c/out/kernel"
 FOUND = f"{FOR_KERNELS}/kernel_library.txt"
 KERNEL_LIBRARIES = ["libacpiroute_kernel.a", "libacpiroute_kernel_no_sse.a", "kernel_library.txt"]
 FOLDERS = ["examples", "include", "man"]
-FILES = ["LICENSE", "CHANGELOG.md", "docs/EMBEDDING.md", "docs/REFUSALS.md", "docs/OPCODES.md", "tools/machine_text.py", "tools/report_graph.py", "tools/show_value.py"]
+FILES = ["LICENSE", "CHANGELOG.md", "docs/EMBEDDING.md", "docs/REFUSALS.md", "docs/OPCODES.md", SHARED, *TOOLS]
 RUN_EXAMPLES = """#!/bin/sh
 # Checks the sums of this folder's files, and runs every example: the program, the tools, and hosts in C and, where rustc is
 # installed, in Rust; and, where QEMU is installed, a kernel. It needs Python 3, and for the hosts and the kernel a C compiler.
@@ -107,7 +110,8 @@ def contents():
 def packed(files, folder):
     """The archive, whose bytes depend on the files alone."""
     packed_bytes = io.BytesIO()
-    with gzip.GzipFile(fileobj=packed_bytes, mode="wb", mtime=0) as zipped, tarfile.open(fileobj=zipped, mode="w", format=tarfile.PAX_FORMAT) as archive:
+    stream = gzip.GzipFile(fileobj=packed_bytes, mode="wb", mtime=0)
+    with stream, tarfile.open(fileobj=stream, mode="w", format=tarfile.PAX_FORMAT) as archive:
         for name, (data, is_run) in sorted(files.items()):
             entry = tarfile.TarInfo(f"{folder}/{name}")
             entry.size, entry.mode = len(data), 0o755 if is_run else 0o644
@@ -178,6 +182,11 @@ def zipped(data):
     return gzip.compress(data, 9, mtime=0)
 
 
+def by_debian(data):
+    """A script that is run by Debian's own Python; any other file as it is."""
+    return data.replace(b"#!/usr/bin/env python3", b"#!/usr/bin/python3", 1)
+
+
 def installed(files):
     """The files of the package by their places: the bytes, and whether it is run."""
     manual, pages = "usr/share/man/man1", "usr/share/doc/acpiroute"
@@ -193,11 +202,11 @@ def installed(files):
     }
     for name, (data, is_run) in files.items():
         if name.startswith("tools/"):
-            found[f"usr/bin/{tool_name(name)}"] = (data.replace(b"#!/usr/bin/env python3", b"#!/usr/bin/python3", 1), True)
+            found[f"usr/share/acpiroute/{os.path.basename(name)}"] = (by_debian(data), name in TOOLS)
         elif name.endswith(".md") and not name.startswith("examples/"):
             found[f"{pages}/{os.path.basename(name)}"] = (data, False)
         elif name.startswith("examples/"):
-            found[f"{pages}/{name}"] = (data.replace(b"#!/usr/bin/env python3", b"#!/usr/bin/python3", 1), is_run)
+            found[f"{pages}/{name}"] = (by_debian(data), is_run)
     return found
 
 
@@ -228,9 +237,9 @@ def make_package(files, package):
     with tempfile.TemporaryDirectory() as folder:
         os.chmod(folder, 0o755)
         lay_out(places, folder, time)
-        for name in FILES:
-            if name.startswith("tools/"):
-                os.symlink("acpiroute.1.gz", f"{folder}/usr/share/man/man1/{tool_name(name)}.1.gz")
+        for name in TOOLS:
+            os.symlink(f"../share/acpiroute/{os.path.basename(name)}", f"{folder}/usr/bin/{tool_name(name)}")
+            os.symlink("acpiroute.1.gz", f"{folder}/usr/share/man/man1/{tool_name(name)}.1.gz")
         size = sum(len(data) for data, _ in places.values())
         lay_out({"DEBIAN/control": (control(size).encode(), False), "DEBIAN/md5sums": (sums.encode(), False)}, folder, time)
         words = ["dpkg-deb", "--root-owner-group", "--build", folder, os.path.abspath(package)]
@@ -242,10 +251,11 @@ def package_runs(package):
     with tempfile.TemporaryDirectory() as folder:
         subprocess.run(["dpkg-deb", "-x", os.path.abspath(package), folder], check=True)
         examples = f"{folder}/usr/share/doc/acpiroute/examples"
-        for tool in ("machine-text", "report-graph", "show-value"):
-            subprocess.run([f"{folder}/usr/bin/acpiroute-{tool}", "--help"], stdout=subprocess.DEVNULL, check=True)
+        for tool in TOOLS:
+            subprocess.run([f"{folder}/usr/bin/{tool_name(tool)}", "--help"], stdout=subprocess.DEVNULL, check=True)
         with open(f"{examples}/two-links.txt", "rb") as text, open(f"{examples}/two-links.report", "rb") as report:
-            if subprocess.run([f"{folder}/usr/bin/acpiroute", "route"], stdin=text, capture_output=True, check=True).stdout != report.read():
+            done = subprocess.run([f"{folder}/usr/bin/acpiroute", "route"], stdin=text, capture_output=True, check=True)
+            if done.stdout != report.read():
                 print("release.py: the program of the package answers another report")
                 return 1
     if not shutil.which("lintian"):

@@ -19,7 +19,10 @@ import json
 import re
 import sys
 
-NAME = "report_graph.py"
+sys.dont_write_bytecode = True
+import usage
+from usage import Fault
+
 PATH = r"\\(?:[A-Z_][A-Z0-9_]{3}(?:\.[A-Z_][A-Z0-9_]{3})*)?"
 NUMBER = r"(?:0|[1-9]\d*)"
 NUMBERS = rf"{NUMBER}(?: {NUMBER})*"
@@ -47,10 +50,6 @@ LINES = {word: re.compile(f"{word} {rest}" if rest else word) for word, rest in 
 # The lines that stand from a version on, and those of them that stand there once.
 SINCE = {"sci": 2, "avoid": 2, "spared": 3, "unread": 3, "first": 3, "spread": 3}
 ONCE = ("sci", "avoid", "first")
-
-
-class Fault(Exception):
-    """What is wrong with the report, as a line for the user."""
 
 
 # ---- the report
@@ -208,7 +207,8 @@ def report_of(text):
         raise Fault("the report has Windows line ends, which `tr -d '\\r'` takes away")
     lines = text.split("\n")
     if lines[0] not in ("acpiroute 1", "acpiroute 2", "acpiroute 3"):
-        raise Fault("line 1: a report of acpiroute begins with 'acpiroute 1', 'acpiroute 2' or 'acpiroute 3'" if text else "the input is empty")
+        begins = "'acpiroute 1', 'acpiroute 2' or 'acpiroute 3'"
+        raise Fault(f"line 1: a report of acpiroute begins with {begins}" if text else "the input is empty")
     report = Report(int(lines[0][-1]))
     for number, line in enumerate(lines[1:-1] if lines[-1] == "" else lines[1:], 2):
         try:
@@ -379,7 +379,8 @@ def legend(report):
         (any(it["interrupt"] is None for it in report.pins), "dashed box: a link that is not present"),
         (any(it["avoided"] for it in interrupts), "dashed ellipse, grey line: an interrupt that is avoided"),
         (any(it["spared"] for it in interrupts), "dashed ellipse, grey line: an interrupt that is spared"),
-        (any(map(is_faulty, report.links.values())), "red: a link that refused its setting, or is set to another interrupt than it was given"),
+        (any(map(is_faulty, report.links.values())),
+         "red: a link that refused its setting, or is set to another interrupt than it was given"),
     ]
     return [text for is_there, text in said if is_there]
 
@@ -390,41 +391,13 @@ def as_graph(report):
     return "\n".join([*lines, "}", ""])
 
 
-# ---- the command line
-
-
-def text_of(name):
-    try:
-        if name is None:
-            return sys.stdin.buffer.read().decode("ascii")
-        with open(name, "rb") as it:
-            return it.read().decode("ascii")
-    except OSError as error:
-        raise Fault(f"{name}: {error.strerror}") from error
-    except UnicodeDecodeError as error:
-        raise Fault("the input has bytes that are no ASCII, and so is no report") from error
-
-
-def parsed(words):
-    parser = argparse.ArgumentParser(prog=NAME, usage=__doc__.split("\n", 1)[0], description=__doc__.split("\n", 2)[2],
-                                     formatter_class=argparse.RawDescriptionHelpFormatter, allow_abbrev=False)
+def main(words):
+    parser = usage.parser(__doc__)
     parser.add_argument("--json", action="store_true", help=argparse.SUPPRESS)
     parser.add_argument("report", nargs="?", metavar="REPORT", help=argparse.SUPPRESS)
-    return parser.parse_args(words)
-
-
-def main(words):
-    words = parsed(words)
-    try:
-        report = report_of(text_of(words.report))
-        sys.stdout.write(as_json(report) if words.json else as_graph(report))
-        sys.stdout.flush()
-    except Fault as fault:
-        print(f"{NAME}: {fault}", file=sys.stderr)
-        return 1
-    except BrokenPipeError:
-        return 1
-    return 0
+    asked = parser.parse_args(words)
+    form = as_json if asked.json else as_graph
+    return usage.write_out(lambda: form(report_of(usage.ascii_in(asked.report, "report"))))
 
 
 if __name__ == "__main__":

@@ -7,19 +7,19 @@ its content comes from. What the table doesn't have is read from the definitions
 
 With --check it writes nothing, and fails (status 1) where the page differs. In both cases it fails where the table, the definitions, the
 code, and tools/report_graph.py don't know the same lines in the same versions, or a form isn't that of the code."""
-import glob
+import functools
 import os
 import re
 import sys
 
-import generated_page
 import opcode_table
-import refusals
+import pages
 import report_graph
-from generated_page import TOP, Wrong, four_cells, text_of
+from pages import TOP, Wrong, block, files_in, four_cells, text_of
 
 TABLE, PAGE = "tables/report_lines.txt", "docs/REPORT.md"
 CRATE = "crates/route_report"
+definition = functools.partial(pages.definition, f"{CRATE}/specs")
 HEADING = "acpiroute"
 # The lines that a version has or not, by the field of the definition `first_said` that says so, and its value where it has them.
 FIELDS = {"sci": ("sci", "None"), "avoid": ("avoid", "None"), "spared": ("spared", "Some []"), "unread": ("spared", "Some []")}
@@ -74,13 +74,6 @@ def table_rows(text):
 # ---- what the sources say
 
 
-def definition(file, name):
-    found = refusals.block(text_of(f"{CRATE}/specs/{file}.antt"), name)
-    if not found:
-        raise Wrong(f"{CRATE}/specs/{file}.antt has no {name}")
-    return found
-
-
 def printed():
     """The first word of each line that is printed, in their order, with the definition of its words."""
     options = definition("Printing", "option_lines")
@@ -95,9 +88,9 @@ def printed():
 def writers():
     """What writes the line of each first word."""
     found = {}
-    for block in re.split(r"\n(?=///|impl |fn |pub)", text_of(f"{CRATE}/src/lines.rt")):
-        head = re.match(r"(?:///.*\n)*(?:pub\(crate\) )?(?:impl Line for (.+) \{|fn (\w+))", re.sub(r"#\[.*\]\n", "", block))
-        for word in re.findall(r'extend_from_slice\(b"(\w+)(?:"| \w|\\n)', block) if head else []:
+    for part in re.split(r"\n(?=///|impl |fn |pub)", text_of(f"{CRATE}/src/lines.rt")):
+        head = re.match(r"(?:///.*\n)*(?:pub\(crate\) )?(?:impl Line for (.+) \{|fn (\w+))", re.sub(r"#\[.*\]\n", "", part))
+        for word in re.findall(r'extend_from_slice\(b"(\w+)(?:"| \w|\\n)', part) if head else []:
             found.setdefault(word, f"`impl Line for {head[1]}`" if head[1] else f"`{head[2]}`")
     return found
 
@@ -149,8 +142,8 @@ def code_of(file, name):
     """The function whose contract has a definition, in its crate or in the one that forms the lines; none where it is a type."""
     found = None
     for crate in (file.split("/")[0], "acpi_configure"):
-        for source in sorted(glob.glob(f"{TOP}/crates/{crate}/src/*.rt")) if not found else []:
-            for name_there, contract in functions(text_of(os.path.relpath(source, TOP))):
+        for source in files_in(f"crates/{crate}/src/*.rt") if not found else []:
+            for name_there, contract in functions(text_of(source)):
                 if os.path.basename(source) != "laws.rt" and re.search(rf"ensures[^\n]*\b{name}\b", contract):
                     found = f"`{crate}/src/{os.path.basename(source)}`: `{name_there}`"
     return found
@@ -200,7 +193,7 @@ def check_row(row):
     if report_graph.SINCE.get(row.word, 1) != since:
         raise Wrong(f"{row.where}: {row.word} stands from version {since} on, and in tools/report_graph.py from another one")
     file, name = row.source.groups()
-    if not os.path.isfile(f"{TOP}/crates/{file}") or not refusals.block(text_of(f"crates/{file}"), name):
+    if not os.path.isfile(f"{TOP}/crates/{file}") or not block(text_of(f"crates/{file}"), name):
         raise Wrong(f"{row.where}: there is no {name} in crates/{file}")
 
 
@@ -226,7 +219,7 @@ def page(rows):
 
 
 def main(words):
-    return generated_page.make("report_lines.py", __doc__, words, PAGE, lambda: page(table_rows(text_of(TABLE))))
+    return pages.make("report_lines.py", __doc__, words, lambda: {PAGE: page(table_rows(text_of(TABLE)))})
 
 
 if __name__ == "__main__":

@@ -17,7 +17,10 @@ import struct
 import sys
 import uuid
 
-NAME = "show_value.py"
+sys.dont_write_bytecode = True
+import usage
+from usage import Fault
+
 WORDS = re.compile(r"\S+")
 PLAIN = ("reference", "none")
 DMA_SPEEDS = ("compatibility", "type A", "type B", "type F")
@@ -25,10 +28,6 @@ DMA_SIZES = ("8-bit", "8-bit and 16-bit", "16-bit", "reserved")
 ADDRESS_KINDS = {0: "memory", 1: "I/O", 2: "bus numbers"}
 SHARINGS = ("exclusive", "shared", "exclusive, wakes", "shared, wakes")
 PINS = "ABCD"
-
-
-class Fault(Exception):
-    """Why the input is no value, as a line for the user."""
 
 
 # ---- values
@@ -101,7 +100,7 @@ def value_of(text):
 
 
 def eisa_id(number):
-    """The EISA id that a number stands for, or None: three letters of five bits each, the first one highest, and four hexadecimal digits."""
+    """The EISA id that a number stands for, or None: three letters of five bits each, the first one highest, and four digits."""
     if number >= 1 << 32:
         return None
     swapped = int.from_bytes(number.to_bytes(4, "little"), "big")
@@ -201,7 +200,8 @@ def address_space(form, size):
         ends = [("minimum free", "minimum fixed")[general >> 2 & 1], ("maximum free", "maximum fixed")[general >> 3 & 1]]
         ends += ["subtractive"] * (general >> 1 & 1) + ["consumed" if general & 1 else "produced"]
         moved = f", translated by {offset:X}" if offset else ""
-        return f"{kind} {low:X} to {high:X}, length {length:X}, granularity {grain:X}{moved}, {', '.join(ends)}{source_text(data[3 + 5 * size:])}"
+        source = source_text(data[3 + 5 * size:])
+        return f"{kind} {low:X} to {high:X}, length {length:X}, granularity {grain:X}{moved}, {', '.join(ends)}{source}"
 
     return told
 
@@ -239,7 +239,8 @@ def gpio(data):
     what = {0: "interrupt", 1: "I/O"}.get(kind, f"kind {kind}")
     flags = small_number(data, 4, 2)
     told = f", {('level', 'edge')[flags & 1]}, {SHARINGS[flags >> 3 & 3]}" if kind == 0 else ""
-    return f"GPIO {what}, pins {' '.join(map(str, pins)) or '-'}{told}, of {named_source(data, source)}" + (f", {end - source} bytes of path" if end < source else "")
+    path = f", {end - source} bytes of path" if end < source else ""
+    return f"GPIO {what}, pins {' '.join(map(str, pins)) or '-'}{told}, of {named_source(data, source)}{path}"
 
 
 def serial_bus(data):
@@ -389,35 +390,12 @@ def lines_of(value):
     return [f"{kind} {what}" if kind == "name" else kind]
 
 
-# ---- the command line
-
-
-def text_of(name):
-    try:
-        if name is None:
-            return sys.stdin.buffer.read().decode("ascii")
-        with open(name, "rb") as it:
-            return it.read().decode("ascii")
-    except OSError as error:
-        raise Fault(f"{name}: {error.strerror}") from error
-    except UnicodeDecodeError as error:
-        raise Fault("the input has bytes that are no ASCII, and so is no value") from error
-
-
 def main(words):
-    parser = argparse.ArgumentParser(prog=NAME, usage=__doc__.split("\n", 1)[0], description=__doc__.split("\n", 2)[2],
-                                     formatter_class=argparse.RawDescriptionHelpFormatter)
+    parser = usage.parser(__doc__)
     parser.add_argument("value", nargs="?", metavar="VALUE", help=argparse.SUPPRESS)
-    words = parser.parse_args(words)
+    name = parser.parse_args(words).value
     sys.setrecursionlimit(10000)
-    try:
-        print("\n".join(lines_of(value_of(text_of(words.value)))), flush=True)
-    except Fault as fault:
-        print(f"{NAME}: {fault}", file=sys.stderr)
-        return 1
-    except BrokenPipeError:
-        return 1
-    return 0
+    return usage.write_out(lambda: "\n".join(lines_of(value_of(usage.ascii_in(name, "value")))) + "\n")
 
 
 if __name__ == "__main__":

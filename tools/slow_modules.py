@@ -1,9 +1,10 @@
 #!/usr/bin/env python3
 """slow_modules.py CRATE [--only PATH]: checks a crate from nothing, with one process, and lists the modules that took longest.
 
-Run it at the top of a checkout in which the libraries are built: by the gate (`.ci/run`, in a fresh clone), or by `rt all check`. Each module of the
-check is saved as it ends, so the time between two of them is what the second took, with what it loads. `F.Lts` is the borrow checker's part of the
-function F: it is long where much is dropped at several exits. `linked-compared` is the loading of the libraries."""
+Run it at the top of a checkout in which the libraries are built: by the gate (`.ci/run`, in a fresh clone), or by `rt all check`.
+Each module of the check is saved as it ends, so the time between two of them is what the second took, with what it loads. `F.Lts`
+is the borrow checker's part of the function F: it is long where much is dropped at several exits. `linked-compared` is the
+loading of the libraries."""
 import os
 import re
 import sys

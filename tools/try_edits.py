@@ -1,9 +1,10 @@
 #!/usr/bin/env python3
 """try_edits.py [--all] [--lanes N] [--check] [NAME..]: tries the must-fail edits of crates that have changed.
 
-Run it at the top of a checkout in which the libraries are built: by the gate (`.ci/run`, in a fresh clone), or by `rt all check`. The edits of a
-crate are its files must-fail/*.edit, which the gate tries too, and those must-fail/*.md that hold lines `old:`, which only this script
-tries. An edit is tried over a copy of the work that one check of the crate keeps, so none costs a whole proof:
+Run it at the top of a checkout in which the libraries are built: by the gate (`.ci/run`, in a fresh clone), or by `rt all check`.
+The edits of a crate are its files must-fail/*.edit, which the gate tries too, and those must-fail/*.md that hold lines `old:`,
+which only this script tries. An edit is tried over a copy of the work that one check of the crate keeps, so none costs a whole
+proof:
 
 - first together with others that change other functions: a function is proved from its own body and from the contracts of those
   that it calls, so an edit counts as refused where the check says that something in the very function which it changes is not
@@ -110,8 +111,8 @@ def built_by(crate):
 
 
 def are_built(crates):
-    """Whether these libraries are built, all of them by the gate or all by the kit's other commands: what was proved over the statements of a
-    library fits no other build of it."""
+    """Whether these libraries are built, all of them by the gate or all by the kit's other commands: what was proved over the
+    statements of a library fits no other build of it."""
     return {built_by(it) for it in crates} in (set(), {"kit"}, {"gate"})
 
 
@@ -141,7 +142,8 @@ def function_at(text, place):
 
 
 def body_at(text, place):
-    """The name of the function whose body holds a place of a source file, if one does. Behind a head and its clauses, a line ends in a brace."""
+    """The name of the function whose body holds a place of a source file, if one does. Behind a head and its clauses, a line ends
+    in a brace."""
     found = function_at(text, place)
     begin = re.compile(r"(?m)\{$").search(text, found[1]) if found else None
     return found[0] if begin and begin.end() <= place else None
@@ -297,7 +299,8 @@ def compiling(crate, group):
 
 
 def try_group(crate, group, kept):
-    """What to say of each edit of a group that one check of them all shows to be refused, by the edit's name, and whether the crate compiled."""
+    """What to say of each edit of a group that one check of them all shows to be refused, by the edit's name, and whether the crate
+    compiled."""
     texts = applied(crate, group)
     if not texts:
         return {}, True
@@ -426,7 +429,8 @@ def main(words):
         return 2
     if "--check" in words:
         old = [it for it in crates if is_old(it)]
-        built = "" if all(are_built(it.below()) for it in crates) else " (some by their own files alone, as a library below them isn't built)"
+        is_whole = all(are_built(it.below()) for it in crates)
+        built = "" if is_whole else " (some by their own files alone, as a library below them isn't built)"
         print(f"{len(old)} of {len(crates)} crates have changed since their edits were tried{built}")
         print("".join(f"{it.name}: {len(edits_of(it))} edits to try\n" for it in old), end="")
         return 1 if old else 0

@@ -7,15 +7,9 @@ import os
 import re
 import sys
 
-import usage
+from pages import TOP, compare, text_of
 
-TOP = os.path.dirname(os.path.dirname(os.path.abspath(__file__)))
 PAGE = "docs/WORDS.md"
-
-
-def text_of(file):
-    with open(f"{TOP}/{file}", encoding="utf-8") as it:
-        return it.read()
 
 
 def table_rows():
@@ -52,16 +46,5 @@ def faults(rows):
         yield from faults_of_row(*row)
 
 
-def main():
-    usage.answer_help(__doc__)
-    if sys.argv[1:]:
-        print(__doc__, file=sys.stderr)
-        return 2
-    wrong = list(faults(table_rows()))
-    for it in wrong:
-        print(f"{PAGE}: {it}")
-    return 1 if wrong else 0
-
-
 if __name__ == "__main__":
-    sys.exit(main())
+    sys.exit(compare(__doc__, PAGE, lambda: faults(table_rows())))

@@ -71,38 +71,24 @@ stubs:
     .endr
 
 common:
-    pushq %rax
-    pushq %rcx
-    pushq %rdx
-    pushq %rsi
-    pushq %rdi
-    pushq %r8
-    pushq %r9
-    pushq %r10
-    pushq %r11
+    .irp register, rax, rcx, rdx, rsi, rdi, r8, r9, r10, r11
+    pushq %\register
+    .endr
     cld
     leaq 72(%rsp), %rdi                 # struct frame
     call interrupt
-    popq %r11
-    popq %r10
-    popq %r9
-    popq %r8
-    popq %rdi
-    popq %rsi
-    popq %rdx
-    popq %rcx
-    popq %rax
+    .irp register, r11, r10, r9, r8, rdi, rsi, rdx, rcx, rax
+    popq %\register
+    .endr
     addq $16, %rsp
     iretq
 
     .data
     .balign 16
-    .globl gdt
 gdt:
     .quad 0
     .quad 0x00AF9A000000FFFF            # code, 64 bits
     .quad 0x00CF92000000FFFF            # data
-    .quad 0, 0                          # the task state segment, filled in C
 gdt_pointer:
     .word . - gdt - 1
     .quad gdt

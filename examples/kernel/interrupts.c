@@ -4,12 +4,9 @@
 struct frame { uint64_t vector, error, ip, cs, flags, sp, ss; };
 
 extern uint8_t stubs[];
-extern uint64_t gdt[];
 volatile uint32_t fired[VECTORS];
 void (*volatile make_quiet)(void);
-static struct { uint16_t low, code, ist_and_kind, middle; uint32_t high, zero; } gates[VECTORS];
-static uint8_t own_stack[65536] __attribute__((aligned(16)));
-static struct { uint32_t zero; uint64_t stacks[3], zero2, ist[7], zero3; uint16_t zero4, io; } __attribute__((packed)) tss;
+static struct { uint16_t low, code, kind, middle; uint32_t high, zero; } gates[VECTORS];
 static volatile uint32_t *const local_apic = (volatile uint32_t *)0xFEE00000;
 static struct { volatile uint32_t *at; uint32_t base, count; } io_apics[8];
 static unsigned io_apic_count;
@@ -136,18 +133,12 @@ void interrupt(struct frame *frame) {
         lines_close();
 }
 
-void interrupts_start(int on_own_stack) {
-    uint64_t at = (uint64_t)&tss;
-    tss.ist[0] = (uint64_t)(own_stack + sizeof own_stack);
-    tss.io = sizeof tss;
-    gdt[3] = (sizeof tss - 1) | (at & 0xFFFFFF) << 16 | 0x89ULL << 40 | (at >> 24 & 0xFF) << 56;
-    gdt[4] = at >> 32;
-    __asm__ volatile("ltr %w0" : : "r"(0x18));
+void interrupts_start(void) {
     for (unsigned i = 0; i < VECTORS; i++) {
         uint64_t stub = (uint64_t)(stubs + 16 * i);
         gates[i].low = (uint16_t)stub;
         gates[i].code = 0x08;
-        gates[i].ist_and_kind = on_own_stack ? 0x8E01 : 0x8E00;
+        gates[i].kind = 0x8E00;                 /* on the stack of what is interrupted */
         gates[i].middle = (uint16_t)(stub >> 16);
         gates[i].high = (uint32_t)(stub >> 32);
     }

@@ -15,25 +15,30 @@ _Noreturn void stop(const char *why);
 /* Ends QEMU, by its device isa-debug-exit. */
 _Noreturn void leave(int is_good);
 
-/* memory.c: the allocator, over which the library's three functions are defined. */
+/* memory.c: the six functions that the library needs, three of them over an allocator. */
 void memory_over(uint8_t *start, uint8_t *end);
-void *allocate(size_t size);
-void *grown(void *old, size_t size);
 /* What it has given out: blocks and bytes now, the most bytes at once, and allocations in all. */
 extern struct memory_use { uint64_t blocks, bytes, most_bytes, allocations; } memory_use;
 void *memcpy(void *to, const void *from, size_t length);
 void *memmove(void *to, const void *from, size_t length);
 void *memset(void *to, int byte, size_t length);
 int is_same(const void *left, const void *right, size_t length);
+int is_same_text(const char *left, const char *right);
 size_t length_of(const char *text);
 
 /* hardware.c: ports, PCI configuration registers, and the power management timer. */
 static inline void out8(uint16_t port, uint8_t value) { __asm__ volatile("outb %0, %1" : : "a"(value), "Nd"(port) : "memory"); }
 static inline void out16(uint16_t port, uint16_t value) { __asm__ volatile("outw %0, %1" : : "a"(value), "Nd"(port) : "memory"); }
 static inline void out32(uint16_t port, uint32_t value) { __asm__ volatile("outl %0, %1" : : "a"(value), "Nd"(port) : "memory"); }
-static inline uint8_t in8(uint16_t port) { uint8_t value; __asm__ volatile("inb %1, %0" : "=a"(value) : "Nd"(port) : "memory"); return value; }
-static inline uint16_t in16(uint16_t port) { uint16_t value; __asm__ volatile("inw %1, %0" : "=a"(value) : "Nd"(port) : "memory"); return value; }
-static inline uint32_t in32(uint16_t port) { uint32_t value; __asm__ volatile("inl %1, %0" : "=a"(value) : "Nd"(port) : "memory"); return value; }
+#define PORT_READ(name, type, code) \
+    static inline type name(uint16_t port) { \
+        type value; \
+        __asm__ volatile(code " %1, %0" : "=a"(value) : "Nd"(port) : "memory"); \
+        return value; \
+    }
+PORT_READ(in8, uint8_t, "inb")
+PORT_READ(in16, uint16_t, "inw")
+PORT_READ(in32, uint32_t, "inl")
 struct pci_place { uint8_t bus, device, function; };
 uint32_t pci_read(struct pci_place place, unsigned at, unsigned width);
 void pci_write(struct pci_place place, unsigned at, unsigned width, uint32_t value);
@@ -49,8 +54,8 @@ struct line { uint32_t interrupt; uint8_t is_level, is_low; };
 /* How often each vector came, and what the handler calls, if it is set, before it ends an interrupt. */
 extern volatile uint32_t fired[VECTORS];
 extern void (*volatile make_quiet)(void);
-/* Interrupts run on a stack of their own where that is asked for, and else on that of whatever they interrupt. */
-void interrupts_start(int on_own_stack);
+/* Interrupts run on the stack of whatever they interrupt, and so on that of the library's calls. */
+void interrupts_start(void);
 /* A timer that interrupts 1,000 times a second, by the 8259. */
 void ticks_start(void);
 uint64_t ticks_stop(void);
@@ -63,7 +68,7 @@ void lines_close(void);
 unsigned vector_of(uint32_t interrupt);
 
 /* tables.c: the machine text of the ACPI tables in memory. */
-struct text { uint8_t *at; size_t length, room; };
+struct text { uint8_t at[1 << 20]; size_t length; };
 /* What the kernel itself takes from the FADT: the ports of the power management timer and of its fixed events. */
 struct fixed_ports { uint16_t timer, events; };
 struct fixed_ports tables_text(struct text *text, uint64_t rsdp);
@@ -71,7 +76,7 @@ struct fixed_ports tables_text(struct text *text, uint64_t rsdp);
 /* routing.c: the run of the library, and what its report says. */
 enum spoil { NOT_SPOILED, SPOILED };
 void routing_run(const struct text *machine, int is_apic, enum spoil spoil);
-struct route { int is_found; struct line line; char by[64]; };
+struct route { int is_found; struct line line; const char *by; };
 /* What it says of a pin (0 for A) of a device on a root bus, and of the System Control Interrupt. */
 struct route route_of(unsigned bus, unsigned device, unsigned pin);
 struct route route_of_sci(void);

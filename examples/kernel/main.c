@@ -2,7 +2,6 @@
  * Boots, routes, and tries on each device that the interrupt of the report is the one that comes. The words of the command line:
  *
  *     apic        the I/O APICs are used, and else the 8259 controllers
- *     own-stack   interrupts run on a stack of their own, and else on that of the library's call
  *     no-sse      SSE instructions are undefined; else they are enabled
  *     wrong       tries the interrupt after that of the report, so everything has to fail
  *     spoil       changes an entry of the record, so the run has to be stopped
@@ -59,8 +58,8 @@ void kernel_main(const struct start_info *given) {
         memcpy(words, (const void *)info.words, sizeof words - 1);
     sse_set(!is_asked("no-sse"));
     memory_find(&info);
-    interrupts_start(is_asked("own-stack"));
-    struct text machine = {0};
+    interrupts_start();
+    static struct text machine;
     struct fixed_ports ports = tables_text(&machine, info.rsdp);
     if (ports.timer == 0)
         stop("no power management timer");

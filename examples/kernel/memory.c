@@ -23,7 +23,7 @@ static unsigned class_of(size_t size) {
 }
 
 /* Memory that is aligned to 16 bytes, or NULL. */
-void *allocate(size_t size) {
+static void *allocate(size_t size) {
     unsigned class = class_of(size);
     struct block *it = waiting[class];
     if (it) {
@@ -50,17 +50,6 @@ static void give_back(void *at) {
     memory_use.bytes -= it->size;
     it->next = waiting[class];
     waiting[class] = it;
-}
-
-void *grown(void *old, size_t size) {
-    void *made = allocate(size);
-    if (!made)
-        stop("no memory");
-    if (old) {
-        memcpy(made, old, ((struct block *)old - 1)->size);
-        give_back(old);
-    }
-    return made;
 }
 
 /* What the library calls. */
@@ -118,6 +107,11 @@ int is_same(const void *left, const void *right, size_t length) {
         if (one[i] != other[i])
             return 0;
     return 1;
+}
+
+int is_same_text(const char *left, const char *right) {
+    size_t length = length_of(left);
+    return length == length_of(right) && is_same(left, right, length);
 }
 
 size_t length_of(const char *text) {

@@ -1,5 +1,5 @@
 #!/usr/bin/env python3
-"""run.py [--show] [--only TEXT] [--jobs N] [--red-zone [--cpu NAME]] LIBRARY
+"""run.py [--show] [--only TEXT] [--jobs N] [--cpu NAME] LIBRARY
 
 Builds the kernel of this folder over a static library of acpiroute, boots it in QEMU on the machines below, in the modes `pic` and
 `apic`, and checks what it says: on each device the interrupt that the report names comes, and no other, and so does the SCI.
@@ -7,15 +7,12 @@ Builds the kernel of this folder over a static library of acpiroute, boots it in
 LIBRARY is one that tools/kernel_library.py makes: libacpiroute_kernel.a, or libacpiroute_kernel_no_sse.a, over which the kernel
 runs with SSE instructions undefined, and without the machines that need `acpiroute_eval`. Interrupts come on the stack of the
 library's calls, a thousand in a second; the kernel's stack is aligned to 8 bytes; and the processor is QEMU's `qemu64`, with what
-every x86-64 processor has.
+every x86-64 processor has, but for two boots on `max`. --cpu names another one.
 
 Boots that have to fail are among them: where the kernel tries the interrupt after that of the report, each device has to fail;
 where it changes an entry of its record, the run has to be stopped; where SSE instructions are undefined under a library that has
 some, there has to be an exception; and on q35 with a second root bus the tables of QEMU 7.2 name other interrupts than its
 hardware raises for that bus, so the device there has to fail, and only it.
-
-With --red-zone LIBRARY may be one for programs, such as lib/libacpiroute.a of a release: interrupts then have a stack of their
-own, the stack is aligned to 16 bytes, and the processor is `Nehalem`, or what --cpu names.
 
 --show prints what the kernel says, and --only takes the boots whose names have this text. It needs gcc for x86-64, and
 qemu-system-x86_64 with SeaBIOS (Debian: qemu-system-x86). The last line is `N passed, M failed`, and the exit status is 0 where
@@ -32,7 +29,7 @@ import tempfile
 HERE = os.path.dirname(os.path.abspath(__file__))
 SOURCES = ["boot.S", "console.c", "devices.c", "hardware.c", "interrupts.c", "main.c", "memory.c", "routing.c", "tables.c"]
 FLAGS = ["-std=gnu11", "-O2", "-Wall", "-Wextra", "-Werror", "-ffreestanding", "-fno-pic", "-mno-red-zone", "-mgeneral-regs-only",
-         "-fno-stack-protector", "-fno-asynchronous-unwind-tables", "-fno-tree-loop-distribute-patterns"]
+         "-mpreferred-stack-boundary=3", "-fno-stack-protector", "-fno-asynchronous-unwind-tables", "-fno-tree-loop-distribute-patterns"]
 # isa-debug-exit ends QEMU with twice the value that is written, and one.
 GOOD, BAD = 0x21, 0x23
 
@@ -70,22 +67,21 @@ def boots(cpu, more_words, has_eval):
                 yield Boot(f"{name}, {mode}", machine, processors, devices, f"{mode}{more_words}", cpu, wanted)
     for machine in ("pc", "q35"):
         for mode in ("pic", "apic"):
-            yield Boot(f"{machine}, {mode}, the interrupt after that of the report", machine, 1, SLOTS, f"{mode} wrong{more_words}", cpu, ALL_BAD)
+            name = f"{machine}, {mode}, the interrupt after that of the report"
+            yield Boot(name, machine, 1, SLOTS, f"{mode} wrong{more_words}", cpu, ALL_BAD)
         yield Boot(f"{machine}, pic, a spoiled record", machine, 1, SLOTS, f"pic spoil{more_words}", cpu, NOT_OF_THIS_RUN)
         yield Boot(f"{machine}, pic, the processor max", machine, 1, SLOTS, f"pic{more_words}", "max", NONE_BAD)
-        if "no-sse" not in more_words:
+        if not more_words:
             yield Boot(f"{machine}, pic, SSE undefined", machine, 1, SLOTS, f"pic no-sse{more_words}", cpu, AN_EXCEPTION)
-        if "own-stack" not in more_words:
-            yield Boot(f"{machine}, pic, interrupts on a stack of their own", machine, 1, SLOTS, f"pic own-stack{more_words}", cpu, NONE_BAD)
 
 
-def built(library, flags, folder):
+def built(library, folder):
     kernel = os.path.join(folder, "kernel")
     include = os.path.join(os.path.dirname(os.path.dirname(HERE)), "include")
     objects = []
     for source in SOURCES:
         objects.append(os.path.join(folder, source + ".o"))
-        subprocess.run(["gcc", *FLAGS, *flags, "-I", HERE, "-I", include, "-c", os.path.join(HERE, source), "-o", objects[-1]], check=True)
+        subprocess.run(["gcc", *FLAGS, "-I", HERE, "-I", include, "-c", os.path.join(HERE, source), "-o", objects[-1]], check=True)
     subprocess.run(["gcc", "-nostdlib", "-static", "-no-pie", f"-Wl,-T,{os.path.join(HERE, 'kernel.ld')}", "-Wl,--build-id=none",
                     "-Wl,--gc-sections", *objects, library, "-o", kernel], check=True)
     return kernel
@@ -140,21 +136,18 @@ def main():
     parser.add_argument("--show", action="store_true")
     parser.add_argument("--only", default="")
     parser.add_argument("--jobs", type=int, default=2)
-    parser.add_argument("--red-zone", action="store_true")
-    parser.add_argument("--cpu", default="")
+    parser.add_argument("--cpu", default="qemu64")
     parser.add_argument("library")
     asked = parser.parse_args()
     library = os.path.abspath(asked.library)
     if not os.path.isfile(library):
         sys.exit(f"run.py: {asked.library}: no such file: tools/kernel_library.py makes the libraries")
     code = instructions(library)
-    more_words = (" own-stack" if asked.red_zone else "") + ("" if "%xmm" in code else " no-sse")
-    flags = [] if asked.red_zone else ["-mpreferred-stack-boundary=3"]
-    cpu = asked.cpu or ("Nehalem" if asked.red_zone else "qemu64")
-    wanted = [it for it in boots(cpu, more_words, "<acpiroute_eval>:" in code) if asked.only in it.name]
+    more_words = "" if "%xmm" in code else " no-sse"
+    wanted = [it for it in boots(asked.cpu, more_words, "<acpiroute_eval>:" in code) if asked.only in it.name]
     passed = 0
     with tempfile.TemporaryDirectory() as folder, concurrent.futures.ThreadPoolExecutor(asked.jobs) as pool:
-        kernel = built(library, flags, folder)
+        kernel = built(library, folder)
         for boot, (status, said) in zip(wanted, pool.map(lambda it: booted(kernel, it), wanted)):
             is_well = is_as_wanted(boot, status, said)
             passed += is_well

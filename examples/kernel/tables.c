@@ -12,8 +12,8 @@ static uint64_t number_at(uint64_t at, unsigned bytes) {
 
 static void add(struct text *text, const char *words) {
     for (; *words; words++) {
-        if (text->length == text->room)
-            text->at = grown(text->at, text->room = text->room > 0 ? 2 * text->room : 16384);
+        if (text->length == sizeof text->at)
+            stop("the tables are too large");
         text->at[text->length++] = (uint8_t)*words;
     }
 }

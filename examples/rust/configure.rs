@@ -6,65 +6,8 @@
 use std::io::Write;
 use std::process::ExitCode;
 
-const REPLIED: u32 = 0;
-const TOO_SMALL: u32 = 1;
-const WANTED: u32 = 4;
-
-const IO: u8 = 1;
-const PCI: u8 = 2;
-const WRITE: u8 = 1;
-const ANSWERED: u8 = 0;
-const NO_REGISTER: u8 = 1;
-const APIC: u8 = 1;
-
-/// What a call has said; `include/acpiroute.h` has the same structures.
-#[repr(C)]
-#[derive(Default)]
-struct Reply {
-    text_length: usize,
-    line_length: usize,
-    status: u8,
-}
-
-#[repr(C)]
-#[derive(Clone, Copy, Default)]
-struct Access {
-    address: u64,
-    value: u64,
-    segment: u16,
-    bus: u8,
-    device: u8,
-    function: u8,
-    space: u8,
-    width: u8,
-    kind: u8,
-    answer: u8,
-}
-
-#[repr(C)]
-struct Settings {
-    steps: u64,
-    mode: u8,
-    dry: u8,
-}
-
-extern "C" {
-    fn acpiroute_configure(
-        settings: *const Settings,
-        avoid: *const u32,
-        avoid_length: usize,
-        machine: *const u8,
-        machine_length: usize,
-        record: *const Access,
-        record_length: usize,
-        text: *mut u8,
-        text_capacity: usize,
-        line: *mut u8,
-        line_capacity: usize,
-        reply: *mut Reply,
-        wanted: *mut Access,
-    ) -> u32;
-}
+mod acpiroute;
+use acpiroute::{acpiroute_configure, Access, Reply, Settings, ANSWERED, APIC, IO, NO_REGISTER, PCI, REPLIED, TOO_SMALL, WANTED, WRITE};
 
 /// A small model of a chipset, in place of hardware: an interrupt router with a register of one byte for each pin, and a few
 /// registers behind an index register.
@@ -165,11 +108,8 @@ fn run() -> Result<u8, String> {
 }
 
 fn main() -> ExitCode {
-    match run() {
-        Ok(status) => ExitCode::from(status),
-        Err(why) => {
-            eprintln!("host: {why}");
-            ExitCode::from(98)
-        }
-    }
+    ExitCode::from(run().unwrap_or_else(|why| {
+        eprintln!("host: {why}");
+        98
+    }))
 }

@@ -7,54 +7,8 @@
 use std::io::Write;
 use std::process::ExitCode;
 
-const REPLIED: u32 = 0;
-const TOO_SMALL: u32 = 1;
-
-/// What a call has said; `include/acpiroute.h` has the same structure.
-#[repr(C)]
-#[derive(Default)]
-struct Reply {
-    text_length: usize,
-    line_length: usize,
-    status: u8,
-}
-
-type Call = unsafe extern "C" fn(
-    *const u8,
-    usize,
-    *const u8,
-    usize,
-    *mut u8,
-    usize,
-    *mut u8,
-    usize,
-    *mut Reply,
-) -> u32;
-
-extern "C" {
-    fn acpiroute_route(
-        options: *const u8,
-        options_length: usize,
-        machine: *const u8,
-        machine_length: usize,
-        text: *mut u8,
-        text_capacity: usize,
-        line: *mut u8,
-        line_capacity: usize,
-        reply: *mut Reply,
-    ) -> u32;
-    fn acpiroute_check(
-        options: *const u8,
-        options_length: usize,
-        report: *const u8,
-        report_length: usize,
-        text: *mut u8,
-        text_capacity: usize,
-        line: *mut u8,
-        line_capacity: usize,
-        reply: *mut Reply,
-    ) -> u32;
-}
+mod acpiroute;
+use acpiroute::{acpiroute_check, acpiroute_route, Command, Reply, REPLIED, TOO_SMALL};
 
 struct Answer {
     text: Vec<u8>,
@@ -63,7 +17,7 @@ struct Answer {
 }
 
 /// Makes a call: with little room at first, and with what it asks for where that is too small.
-fn ask(command: Call, options: &[u8], input: &[u8]) -> Result<Answer, u32> {
+fn ask(command: Command, options: &[u8], input: &[u8]) -> Result<Answer, u32> {
     let mut text = vec![0; 256];
     let mut line = vec![0; 64];
     loop {
@@ -116,11 +70,8 @@ fn run() -> Result<u8, String> {
 }
 
 fn main() -> ExitCode {
-    match run() {
-        Ok(status) => ExitCode::from(status),
-        Err(why) => {
-            eprintln!("host: {why}");
-            ExitCode::from(98)
-        }
-    }
+    ExitCode::from(run().unwrap_or_else(|why| {
+        eprintln!("host: {why}");
+        98
+    }))
 }
