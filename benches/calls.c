@@ -88,7 +88,7 @@ static uint8_t text[1 << 20], line[1 << 16];
 static struct acpiroute_access record[4096];
 static struct acpiroute_reply reply;
 
-static uint32_t configure(size_t length, struct acpiroute_access *wanted) {
+static uint32_t configure(size_t length, struct acpiroute_wanted *wanted) {
     struct acpiroute_settings settings = {1000000, strcmp(words[3], "pic") == 0 ? ACPIROUTE_PIC : ACPIROUTE_APIC, 0};
     uint32_t no_avoid = 0;
     return acpiroute_configure(&settings, &no_avoid, 0, machine.at, machine.length, record, length, text, sizeof text, line, sizeof line,
@@ -114,7 +114,7 @@ static uint64_t stack_used(const uint8_t *top) {
 
 static void *measure(void *unused) {
     uint8_t *top = __builtin_frame_address(0);
-    struct acpiroute_access wanted;
+    struct acpiroute_wanted wanted;
     size_t length = 0;
     (void)unused;
     if (strcmp(words[1], "eval") == 0) {
@@ -125,8 +125,8 @@ static void *measure(void *unused) {
         return NULL;
     }
     while (configure(length, &wanted) == ACPIROUTE_WANTED && length < sizeof record / sizeof *record) {
-        make_access(&wanted);
-        record[length++] = wanted;
+        make_access(&wanted.access);
+        record[length++] = wanted.access;
     }
     uint64_t made = allocations, least = UINT64_MAX, deepest = stack_used(top);
     for (int turn = 0; turn < 20; turn++) {

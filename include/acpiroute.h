@@ -169,6 +169,13 @@ struct acpiroute_access {
     uint8_t answer;
 };
 
+/* An access that is wanted, and where in the record. */
+struct acpiroute_wanted {
+    struct acpiroute_access access;
+    /* The entry of the record at which the call stopped, counted from 0; `record_length`, where the record is of this run. */
+    size_t entry;
+};
+
 /* Which interrupt controllers the machine is told that it uses. */
 enum { ACPIROUTE_PIC = 0, ACPIROUTE_APIC = 1 };
 
@@ -190,18 +197,17 @@ struct acpiroute_settings {
  * refused, which changes nothing outside of the call, and the call answers ACPIROUTE_WANTED with that first access. So a caller
  *
  *  1. calls with an empty record;
- *  2. makes the access that is wanted, appends it with its answer to the record, and calls again, with all else as before;
+ *  2. makes the access that is wanted, appends it with its answer to the record, and calls again, with all else as before, unless
+ *     `wanted->entry` says that the record is not of this run;
  *  3. goes on so until the call answers something else. Where that is ACPIROUTE_REPLIED, the status says how the run came out: 0 the
  *     links are set (none where `dry` is 1), 3 they are set but for those that refused it, as the text says, 1 the machine is refused,
  *     for the reason in the line.
  *
- * A record that grew in this way is of this run, as long as the settings, the text and its entries are as they were. The call
- * doesn't say where in the record it stopped, and the access that is wanted may well be the last entry once more: AML reads a
- * register twice in a row. Whoever doubts a record asks by one call more: it leaves out the entries at the end that are the
- * wanted access, and one entry before them, and calls over what is left. Where that call wants the entry that was left out, the
- * record is of this run; where it wants the same access as before, it is not (other settings, another text, or an entry that was
- * changed), and one has to begin anew with an empty one. If the whole record is that one access, it is of this run. Accesses are
- * the same where all is equal but `answer` and, of reads, `value`.
+ * A record that grew in this way is of this run, as long as the settings, the text and its entries are as they were. Each call checks
+ * that: it tells in `wanted->entry` at which entry it stopped. That is `record_length` where the record is of this run: the access
+ * that is wanted is the next one. Where it is less, the entry there is of another access than the one that is wanted: the record is
+ * not of this run (other settings, another text, or an entry that was changed). Then make no access, and begin anew with an empty
+ * record.
  *
  * That a run ends in all cases is not proved: registers may answer so that its steps run out (70), after as many accesses. A
  * caller sets a limit of its own to the length of its record.
@@ -213,7 +219,7 @@ struct acpiroute_settings {
 uint32_t acpiroute_configure(const struct acpiroute_settings *settings, const uint32_t *avoid, size_t avoid_length,
                              const uint8_t *machine, size_t machine_length, const struct acpiroute_access *record,
                              size_t record_length, uint8_t *text, size_t text_capacity, uint8_t *line, size_t line_capacity,
-                             struct acpiroute_reply *reply, struct acpiroute_access *wanted);
+                             struct acpiroute_reply *reply, struct acpiroute_wanted *wanted);
 
 #ifdef __cplusplus
 }

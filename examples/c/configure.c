@@ -76,12 +76,14 @@ static uint8_t configure(struct chipset *chipset, struct bytes machine, const st
     grow(&record);
     for (;;) {
         struct acpiroute_reply reply;
-        struct acpiroute_access wanted;
+        struct acpiroute_wanted wanted;
         uint32_t came = acpiroute_configure(&asked->settings, asked->avoid, asked->avoid_length, machine.at, machine.length,
                                             record.at, record.length, text.at, text.length, line.at, line.length, &reply, &wanted);
-        if (came == ACPIROUTE_WANTED) {
-            chipset_access(chipset, &wanted);
-            append(&record, wanted);
+        if (came == ACPIROUTE_WANTED && wanted.entry < record.length) {
+            stop("the record is not of this run");
+        } else if (came == ACPIROUTE_WANTED) {
+            chipset_access(chipset, &wanted.access);
+            append(&record, wanted.access);
         } else if (came == ACPIROUTE_TOO_SMALL) {
             free(text.at);
             free(line.at);

@@ -17,12 +17,12 @@ static uint8_t report[1 << 18], fault[4096];
 static struct acpiroute_reply reply;
 static struct { uint64_t calls, time, longest; } measured;
 
-/* One call over the first entries of the record. */
-static uint32_t call_over(size_t length, struct acpiroute_access *wanted) {
+/* One call over the record. */
+static uint32_t call(struct acpiroute_wanted *wanted) {
     uint32_t no_avoid = 0;
     uint64_t start = microseconds(), blocks = memory_use.blocks;
-    uint32_t came = acpiroute_configure(&settings, &no_avoid, 0, machine->at, machine->length, record, length, report, sizeof report - 1,
-                                        fault, sizeof fault, &reply, wanted);
+    uint32_t came = acpiroute_configure(&settings, &no_avoid, 0, machine->at, machine->length, record, record_length, report,
+                                        sizeof report - 1, fault, sizeof fault, &reply, wanted);
     uint64_t took = microseconds() - start;
     measured.calls++;
     measured.time += took;
@@ -30,29 +30,6 @@ static uint32_t call_over(size_t length, struct acpiroute_access *wanted) {
     if (memory_use.blocks != blocks)
         stop("the library kept memory");
     return came;
-}
-
-/* Whether two accesses are the same, whatever is answered to them. */
-static int is_same_access(const struct acpiroute_access *one, const struct acpiroute_access *other) {
-    return one->space == other->space && one->kind == other->kind && one->width == other->width && one->address == other->address &&
-           one->segment == other->segment && one->bus == other->bus && one->device == other->device && one->function == other->function &&
-           (one->kind == ACPIROUTE_READ || one->value == other->value);
-}
-
-/*
- * Whether the record is of this run, where the access that is wanted is its last entry once more. Either the run reads one
- * register twice, or it stopped at an entry further up that isn't one of this run. So the call is made over the entries that come
- * before the last one that is another access: a run that went past them wants that one, and a run that stopped among them the
- * same as before.
- */
-static int is_of_this_run(const struct acpiroute_access *wanted) {
-    struct acpiroute_access again;
-    size_t length = record_length;
-    while (length > 0 && is_same_access(&record[length - 1], wanted))
-        length--;
-    if (length == 0 || length == record_length)
-        return 1;
-    return call_over(length - 1, &again) == ACPIROUTE_WANTED && is_same_access(&record[length - 1], &again);
 }
 
 static void append(struct acpiroute_access it) {
@@ -66,13 +43,13 @@ static void append(struct acpiroute_access it) {
 
 /* Calls until no access is wanted, and makes each. A spoiled record is one whose fourth entry is changed after the sixth access. */
 static void run(enum spoil spoil) {
-    struct acpiroute_access wanted;
+    struct acpiroute_wanted wanted;
     uint32_t came;
-    while ((came = call_over(record_length, &wanted)) == ACPIROUTE_WANTED) {
-        if (!is_of_this_run(&wanted))
+    while ((came = call(&wanted)) == ACPIROUTE_WANTED) {
+        if (wanted.entry < record_length)
             stop("the record is not of this run");
-        make_access(&wanted);
-        append(wanted);
+        make_access(&wanted.access);
+        append(wanted.access);
         if (spoil == SPOILED && record_length == 6)
             record[3].address = 0xF0;
     }

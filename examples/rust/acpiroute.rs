@@ -52,6 +52,14 @@ pub struct Access {
     pub answer: u8,
 }
 
+/// An access that is wanted, and at which entry of the record.
+#[repr(C)]
+#[derive(Clone, Copy, Default)]
+pub struct Wanted {
+    pub access: Access,
+    pub entry: usize,
+}
+
 /// How a machine is configured.
 #[repr(C)]
 pub struct Settings {
@@ -97,6 +105,6 @@ extern "C" {
         line: *mut u8,
         line_capacity: usize,
         reply: *mut Reply,
-        wanted: *mut Access,
+        wanted: *mut Wanted,
     ) -> u32;
 }

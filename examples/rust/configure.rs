@@ -7,7 +7,8 @@ use std::io::Write;
 use std::process::ExitCode;
 
 mod acpiroute;
-use acpiroute::{acpiroute_configure, Access, Reply, Settings, ANSWERED, APIC, IO, NO_REGISTER, PCI, REPLIED, TOO_SMALL, WANTED, WRITE};
+use acpiroute::{acpiroute_configure, Access, Reply, Settings, Wanted};
+use acpiroute::{ANSWERED, APIC, IO, NO_REGISTER, PCI, REPLIED, TOO_SMALL, WANTED, WRITE};
 
 /// A small model of a chipset, in place of hardware: an interrupt router with a register of one byte for each pin, and a few
 /// registers behind an index register.
@@ -54,7 +55,7 @@ fn configure(chipset: &mut Chipset, machine: &[u8], settings: &Settings) -> Resu
     let mut record = Vec::new();
     let (mut text, mut line) = (vec![0; 256], vec![0; 64]);
     loop {
-        let (mut reply, mut wanted) = (Reply::default(), Access::default());
+        let (mut reply, mut wanted) = (Reply::default(), Wanted::default());
         // SAFETY: the pointers come from slices and references, so none is null, and what is filled is this function's own.
         let came = unsafe {
             acpiroute_configure(
@@ -74,7 +75,8 @@ fn configure(chipset: &mut Chipset, machine: &[u8], settings: &Settings) -> Resu
             )
         };
         match came {
-            WANTED => record.push(chipset.made(wanted)),
+            WANTED if wanted.entry < record.len() => return Err(came),
+            WANTED => record.push(chipset.made(wanted.access)),
             TOO_SMALL => (text, line) = (vec![0; reply.text_length], vec![0; reply.line_length]),
             REPLIED => {
                 text.truncate(reply.text_length);
