@@ -1,9 +1,10 @@
 /*
  * acpiroute: a proved ACPI interrupt router, over memory.
  *
- * Each call but one does what a command of the program `acpiroute` does, with its input, its output and its error line in memory. It
- * is proved to have the contract of that program, whose README says what the commands do, and what their options are. That one,
- * `acpiroute_configure`, does what `route` does on a machine whose registers only the caller can access.
+ * Four calls do what the commands of the program `acpiroute` do, with input, output and error line in memory. They are proved to have
+ * the contract of that program, whose README says what the commands do, and what their options are. Two further calls are over a
+ * record, for a machine whose registers only the caller can access: `acpiroute_configure` does what `route` does, and
+ * `acpiroute_evaluate` what `eval` does.
  *
  * What a caller has to keep to, which nothing checks:
  *
@@ -18,7 +19,7 @@
  *
  *                                  for programs            libacpiroute_kernel.a    libacpiroute_kernel_no_sse.a
  *     made by                      rt lib, a release       tools/kernel_library.py, a release
- *     calls                        all                     all                      acpiroute_configure
+ *     calls                        all                     all                      the two over a record
  *     x86-64 processors            from x86-64-v2 on       all                      all
  *     registers                    general, xmm0 to xmm15  general, xmm0 to xmm15   general
  *     128 bytes below the stack    used (the red zone)     not used                 not used
@@ -67,12 +68,12 @@ enum {
     ACPIROUTE_NO_MEMORY = 2,
     /* A word of the options is not UTF-8. Buffers and `reply` are as they were. */
     ACPIROUTE_NOT_UTF8 = 3,
-    /* An access is wanted, and stands in `wanted`. Buffers and `reply` are as they were. Only `acpiroute_configure` says so, and
+    /* An access is wanted, and stands in `wanted`. Buffers and `reply` are as they were. Only the two calls over a record say so, and
      * with any other result `wanted` is as it was. */
     ACPIROUTE_WANTED = 4,
     /*
      * A number of the settings or of an access in the record is none of those that are listed here. Buffers, `reply` and `wanted` are
-     * as they were. Only `acpiroute_configure` says so.
+     * as they were. Only the two calls over a record say so.
      */
     ACPIROUTE_MALFORMED = 5
 };
@@ -220,6 +221,19 @@ uint32_t acpiroute_configure(const struct acpiroute_settings *settings, const ui
                              const uint8_t *machine, size_t machine_length, const struct acpiroute_access *record,
                              size_t record_length, uint8_t *text, size_t text_capacity, uint8_t *line, size_t line_capacity,
                              struct acpiroute_reply *reply, struct acpiroute_wanted *wanted);
+
+/*
+ * Evaluates an object of a machine: the tables are loaded, the machine is initialized, and the object at a path, such as
+ * "\\_SB_.PCI0._BBN" with no zero byte at the end, is read or called with integers. The text is the value as `eval` writes it,
+ * such as "integer 128", and a line feed. `dry` of the settings counts for nothing.
+ *
+ * The record is one of its own: begin with an empty one for each object. All else is as with `acpiroute_configure`. Initializing calls
+ * `\\_INI`, `\\_SB_._INI` and `\\_PIC`, which may write to registers; the machine is not configured any further.
+ */
+uint32_t acpiroute_evaluate(const struct acpiroute_settings *settings, const uint8_t *path, size_t path_length,
+                            const uint64_t *arguments, size_t arguments_length, const uint8_t *machine, size_t machine_length,
+                            const struct acpiroute_access *record, size_t record_length, uint8_t *text, size_t text_capacity,
+                            uint8_t *line, size_t line_capacity, struct acpiroute_reply *reply, struct acpiroute_wanted *wanted);
 
 #ifdef __cplusplus
 }

@@ -107,4 +107,22 @@ extern "C" {
         reply: *mut Reply,
         wanted: *mut Wanted,
     ) -> u32;
+
+    pub fn acpiroute_evaluate(
+        settings: *const Settings,
+        path: *const u8,
+        path_length: usize,
+        arguments: *const u64,
+        arguments_length: usize,
+        machine: *const u8,
+        machine_length: usize,
+        record: *const Access,
+        record_length: usize,
+        text: *mut u8,
+        text_capacity: usize,
+        line: *mut u8,
+        line_capacity: usize,
+        reply: *mut Reply,
+        wanted: *mut Wanted,
+    ) -> u32;
 }

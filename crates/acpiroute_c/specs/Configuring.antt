@@ -1,116 +1,22 @@
--- What a call over a record comes to: the reply of a run that ended, or the access that it wants.
-use Rattle.std.specs.Prelude.{◌≡◌, ◌⊎◌, ℕ, ◌==◌, nat_lt, Bool, true, false, List, All, map, Option, Some, None, Ok, Err, if◌then◌else◌}
-use Rattle.ar_space.specs.Outcome.{Outcome, Answers}
-use Rattle.ar_tables.specs.declared.mode.Mode.{Mode}
-use Rattle.ar_tables.specs.declared.mode.Mode.TheVariants.{Pic, Apic}
-use Rattle.recorded_space.specs.declared.exchange.Exchange.{Exchange}
+-- What a call that configures a machine comes to: the reply of a run that ended, or the access that it wants.
+use Rattle.std.specs.Prelude.{◌⊎◌, ℕ, List}
 use Rattle.recorded_route.specs.declared.ending.Ending.{Ending}
-use Rattle.recorded_route.specs.declared.ending.Ending.TheVariants as ends
-use Rattle.recorded_route.specs.declared.settings.Settings.{Settings}
 use Rattle.recorded_route.specs.Endings.{IsEnding, NotOutOfMemory}
-use Rattle.acpiroute_words.specs.Deliveries.{Reply, reply_of, IsToldAs}
-use Rattle.acpiroute_words.specs.Written.{Written}
+use Rattle.route_report.specs.Reports.{RoutingReport}
 use Rattle.acpiroute_lib.specs.RouteCommand.{printed}
-use Rattle.acpiroute_c.specs.Accesses.{exchange_of, wanted_form, IsEntry}
-use Rattle.acpiroute_c.specs.Calls.{Filled, code_of, filled_by}
 use Rattle.acpiroute_c.specs.declared.call_access.CallAccess.{CallAccess}
-use Rattle.acpiroute_c.specs.declared.call_access.CallWanted.{CallWanted}
-use Rattle.acpiroute_c.specs.declared.call_access.Unmade.{Unmade}
-use Rattle.acpiroute_c.specs.declared.call_access.Unmade.TheVariants.{OutOfMemory, Malformed}
 use Rattle.acpiroute_c.specs.declared.call_settings.CallSettings.{CallSettings}
-use Rattle.acpiroute_c.specs.declared.configure_call.Said.{Said}
-use Rattle.acpiroute_c.specs.declared.configure_call.Said.TheVariants as says
-
--- ---- the settings
-
-abbrev pub mode_of : ℕ → Option Mode
-mode_of n = if n == 0 then Some Pic else (if n == 1 then Some Apic else None)
-
-abbrev pub flag_of : ℕ → Option Bool
-flag_of n = if n == 0 then Some false else (if n == 1 then Some true else None)
-
-abbrev pub steps_of : ℕ → Option ℕ
-steps_of n = if n == 0 then None else (if nat_lt 1000000000 n then None else Some n)
-
-abbrev settings_with : Option Mode → Option ℕ → Option Bool → Option Settings
-settings_with (Some mode) (Some steps) (Some dry) = Some (record { mode = mode; steps = steps; dry = dry })
-settings_with _ _ _ = None
-
-abbrev pub settings_of : CallSettings → Option Settings
-settings_of s = settings_with (mode_of s.mode) (steps_of s.steps) (flag_of s.dry)
-
--- a number of the settings or of an entry means nothing
-abbrev pub IsMalformed : CallSettings → List CallAccess → Type 0
-IsMalformed s accesses = (settings_of s ≡ None) ⊎ ¬ (All IsEntry accesses)
-
--- ---- the run
+use Rattle.acpiroute_c.specs.declared.record_call.Said.{Said}
+use Rattle.acpiroute_c.specs.RecordCalls.{IsRunOf, IsSaidOf, Places, IsMade, IsUnmade}
 
 -- how the run ends over the record that these accesses make
-pub record IsEndingOf (s : CallSettings) (avoid machine : List ℕ) (accesses : List CallAccess) (ending : Ending) : Type 0 where
-  pub settings : Settings
-  pub are_settings : settings_of s ≡ Some settings
-  pub entries : List Exchange
-  pub are_entries : map Some entries ≡ map exchange_of accesses
-  pub is_ending : NotOutOfMemory ending → IsEnding settings avoid machine entries ending
-
--- what is told of an outcome, with the text, the line and the status of the program
-pub record IsToldReply (outcome : Outcome Written) (reply : Reply) : Type 0 where
-  pub told : Outcome Written
-  pub is_told : IsToldAs outcome told
-  pub is : reply ≡ reply_of told
-
--- a report is printed, unless memory runs out for its text, and a refusal handed on
-abbrev pub IsOutcomeOf : Ending → Outcome Written → Type 0
-IsOutcomeOf (ends.Reported report) outcome = Answers outcome (Ok (printed report))
-IsOutcomeOf (ends.Refused e) outcome = outcome ≡ Err e
-IsOutcomeOf (ends.Wanted wanted) outcome = ⊥
-
-pub record IsReplyTo (ending : Ending) (reply : Reply) : Type 0 where
-  pub outcome : Outcome Written
-  pub is_outcome : IsOutcomeOf ending outcome
-  pub is_reply : IsToldReply outcome reply
-
-abbrev pub IsSaidOf : Ending → Said → Type 0
-IsSaidOf ending (says.Reply reply) = IsReplyTo ending reply
-IsSaidOf ending (says.Wanted wanted) = ending ≡ ends.Wanted wanted
+abbrev pub IsEndingOf : CallSettings → List ℕ → List ℕ → List CallAccess → Ending RoutingReport → Type 0
+IsEndingOf s avoid machine accesses ending = IsRunOf s accesses (λ settings entries. NotOutOfMemory ending → IsEnding settings avoid machine entries ending)
 
 pub record IsSaid (s : CallSettings) (avoid machine : List ℕ) (accesses : List CallAccess) (said : Said) : Type 0 where
-  pub ending : Ending
+  pub ending : Ending RoutingReport
   pub is_ending : IsEndingOf s avoid machine accesses ending
-  pub is_said : IsSaidOf ending said
-
--- ---- the call
-
--- what the caller gives to be filled
-pub record Places : Type 0 where
-  pub filled : Filled
-  pub wanted : CallWanted
-
--- what is said, in the caller's places: a reply as in any other call, or alone the access that is wanted, with its place in the record
-abbrev pub code_of_said : Said → Places → ℕ
-code_of_said (says.Reply reply) before = code_of reply before.filled
-code_of_said (says.Wanted wanted) before = 4
-
-abbrev pub filled_by_said : Said → Places → Places
-filled_by_said (says.Reply reply) before = record before { filled = filled_by reply before.filled }
-filled_by_said (says.Wanted wanted) before = record before { wanted = wanted_form wanted }
-
-pub record IsConfigured (s : CallSettings) (avoid machine : List ℕ) (accesses : List CallAccess) (code : ℕ) (before after : Places) : Type 0 where
-  pub said : Said
-  pub is_said : IsSaid s avoid machine accesses said
-  pub code_is : code ≡ code_of_said said before
-  pub is_filled : after ≡ filled_by_said said before
-
-abbrev pub code_of_unmade : Unmade → ℕ
-code_of_unmade OutOfMemory = 2
-code_of_unmade Malformed = 5
-
--- there is nothing to say, and nothing has changed: memory ran out, or a number means nothing
-pub record IsUnmade (s : CallSettings) (accesses : List CallAccess) (code : ℕ) (before after : Places) : Type 0 where
-  pub why : Unmade
-  pub code_is : code ≡ code_of_unmade why
-  pub malformed : why ≡ Malformed → IsMalformed s accesses
-  pub is_as_before : after ≡ before
+  pub is_said : IsSaidOf printed ending said
 
 abbrev pub IsConfigureCall : CallSettings → List ℕ → List ℕ → List CallAccess → ℕ → Places → Places → Type 0
-IsConfigureCall s avoid machine accesses code before after = IsConfigured s avoid machine accesses code before after ⊎ IsUnmade s accesses code before after
+IsConfigureCall s avoid machine accesses code before after = IsMade (IsSaid s avoid machine accesses) code before after ⊎ IsUnmade s accesses code before after

@@ -1,6 +1,6 @@
 //! How a machine is configured, as C has it.
 ghost use Rattle.std.specs.Prelude.{◌≡◌};
-ghost use Rattle.acpiroute_c.specs.Configuring.{mode_of, flag_of, steps_of, settings_of};
+ghost use Rattle.acpiroute_c.specs.RecordCalls.{mode_of, flag_of, steps_of, settings_of};
 
 use acpi_machine::Mode;
 use recorded_route::Settings;

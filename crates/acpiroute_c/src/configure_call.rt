@@ -1,23 +1,18 @@
-//! A call over a record: the reply in the caller's buffers, or the access that is wanted.
+//! A call that configures a machine: the reply in the caller's buffers, or the access that is wanted.
 ghost use Rattle.std.specs.Prelude.{◌≡◌, IfOk, IfErr};
-ghost use Rattle.acpiroute_c.specs.Configuring.{IsEndingOf, IsToldReply, IsSaidOf, IsSaid, IsMalformed, IsConfigureCall, code_of_unmade};
+ghost use Rattle.acpiroute_lib.specs.RouteCommand.{printed};
+ghost use Rattle.acpiroute_c.specs.RecordCalls.{IsSaidOf, IsMalformed};
+ghost use Rattle.acpiroute_c.specs.Configuring.{IsEndingOf, IsSaid, IsConfigureCall};
 ghost use Rattle.acpiroute_c.specs.declared.call_access.Unmade.TheVariants.{Malformed};
 
 use crate::call_access::{CallAccess, CallWanted, Unmade, exchanges_of, wanted_form};
 use crate::call_reply::{CallReply, give};
 use crate::call_settings::{CallSettings, settings_of};
-use acpiroute_lib::{Growing, Reply, report_answer};
-use acpiroute_words::{Answer, deliver_outcome};
-use ar_space::Refusal;
-use recorded_route::{Ending, WantedAccess, configure_recorded};
+use crate::record_call::{Said, code_of_unmade, reply_to};
+use acpiroute_lib::report_answer;
+use recorded_route::{Ending, configure_recorded};
+use route_report::Report;
 use std::alloc::{AllocError, Global};
-
-/// What a call over a record has to say.
-#[derive(Drop)]
-pub(crate) enum Said {
-    Reply(Reply),
-    Wanted(WantedAccess),
-}
 
 /// How the run over the record ends.
 fn ending(
@@ -26,7 +21,7 @@ fn ending(
     avoid: &[u32],
     machine: &[u8],
     accesses: &[CallAccess],
-) -> Result<Ending, Unmade>
+) -> Result<Ending<Report>, Unmade>
     ensures ending { IfOk result (λ ending. IsEndingOf settings.now avoid.now machine.now accesses.now ending) }
     ensures fault { IfErr result (λ why. why ≡ Malformed → IsMalformed settings.now accesses.now) }
 {
@@ -45,42 +40,16 @@ fn ending(
     }
 }
 
-/// The reply to an outcome, as the program would write it.
-fn reply_to(alloc: Global, outcome: Result<Answer, Refusal>) -> Result<Reply, AllocError>
-    ensures { IfOk result (λ r. IsToldReply outcome r) }
-{
-    let mut output = Growing::new(alloc);
-    let mut errors = Growing::new(alloc);
-    let status = deliver_outcome(alloc, outcome, &mut output, &mut errors);
-    if output.is_refused || errors.is_refused {
-        return Err(AllocError);
-    }
-    Ok(Reply {
-        text: output.bytes,
-        line: errors.bytes,
-        status,
-    })
-}
-
 /// What an ending says.
-fn said_of(alloc: Global, ending: Ending) -> Result<Said, AllocError>
-    ensures { IfOk result (λ said. IsSaidOf ending said) }
+fn said_of(alloc: Global, ending: Ending<Report>) -> Result<Said, AllocError>
+    ensures { IfOk result (λ said. IsSaidOf printed ending said) }
 {
     let outcome = match ending {
         Ending::Wanted(wanted) => return Ok(Said::Wanted(wanted)),
-        Ending::Reported(report) => report_answer(alloc, &report),
+        Ending::Done(report) => report_answer(alloc, &report),
         Ending::Refused(refusal) => Err(refusal),
     };
     Ok(Said::Reply(reply_to(alloc, outcome)?))
-}
-
-fn code_of_unmade(unmade: Unmade) -> u32
-    ensures { result ≡ code_of_unmade unmade }
-{
-    match unmade {
-        Unmade::OutOfMemory => 2,
-        Unmade::Malformed => 5,
-    }
 }
 
 /// What there is to say of a run over a record.

@@ -2,12 +2,14 @@
 ghost use Rattle.std.specs.Prelude.{codes};
 ghost use Rattle.acpiroute_c.specs.Calls.{IsCall};
 ghost use Rattle.acpiroute_c.specs.Configuring.{IsConfigureCall};
+ghost use Rattle.acpiroute_c.specs.Evaluating.{IsEvaluateCall};
 
 use crate::call::call;
 use crate::call_access::{CallAccess, CallWanted};
 use crate::call_reply::CallReply;
 use crate::call_settings::CallSettings;
 use crate::configure_call::configure_call;
+use crate::evaluate_call::{Asked, evaluate_call};
 use std::alloc::Global;
 
 /// `route` over a machine text.
@@ -87,5 +89,28 @@ pub extern "C" fn acpiroute_configure(
 {
     configure_call(
         alloc, settings, avoid, machine, accesses, text, line, reply, wanted,
+    )
+}
+
+/// `eval` over the tables of a machine text, whose registers answer from a record of accesses; the path is a text, and the arguments
+/// are integers.
+#[unsafe(no_mangle)]
+pub extern "C" fn acpiroute_evaluate(
+    alloc: Global,
+    settings: &CallSettings,
+    path: &[u8],
+    arguments: &[u64],
+    machine: &[u8],
+    accesses: &[CallAccess],
+    text: &mut [u8],
+    line: &mut [u8],
+    reply: &mut CallReply,
+    wanted: &mut CallWanted,
+) -> u32
+    ensures { IsEvaluateCall settings.now path.now arguments.now machine.now accesses.now result (record { filled = record { text = text.old; line = line.old; reply = reply.old }; wanted = wanted.old }) (record { filled = record { text = text.new; line = line.new; reply = reply.new }; wanted = wanted.new }) }
+{
+    let asked = Asked { path, arguments };
+    evaluate_call(
+        alloc, settings, asked, machine, accesses, text, line, reply, wanted,
     )
 }

@@ -8,8 +8,10 @@ mod call_reply;
 mod call_settings;
 mod call_words;
 mod configure_call;
+mod evaluate_call;
 mod exports;
 pub mod laws;
+mod record_call;
 
 pub use call_access::{CallAccess, CallWanted};
 pub use call_reply::CallReply;

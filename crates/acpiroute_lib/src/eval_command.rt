@@ -57,8 +57,8 @@ fn value_at(
     machine.evaluate_object(alloc, path, arguments)
 }
 
-/// A value on a line of its own.
-fn value_written(alloc: Global, value: &Datum) -> Result<Answer, Refusal>
+/// A value on a line of its own, as `eval` writes it.
+pub fn value_answer(alloc: Global, value: &Datum) -> Result<Answer, Refusal>
     ensures { Answers result (Ok (value_written (given.given_of value.now))) }
 {
     Ok(Answer {
@@ -80,7 +80,7 @@ fn evaluated_text(
     let path = Path::from_text(alloc, path.as_bytes())?;
     let arguments = data(alloc, arguments)?;
     let value = value_at(alloc, machine, &path, arguments)?;
-    value_written(alloc, &value)
+    value_answer(alloc, &value)
 }
 
 /// What `eval` answers over a machine text, in a mode and with a budget of steps for each table and each evaluation: the value

@@ -17,6 +17,7 @@ pub use acpiroute_words::{
     Argument, ArgumentBytes, Arguments, Asked, Failed, Growing, Interrupts, Outside, Request, Sink,
     Source, parse, write_error_line,
 };
+pub use eval_command::value_answer;
 pub use memory::{Reply, run_over};
 pub use program::run;
 pub use route_command::report_answer;

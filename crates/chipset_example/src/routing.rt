@@ -73,7 +73,7 @@ pub fn report_by_record(alloc: Global, text: &[u8]) -> anyhow::Result<String> {
         match configure_recorded(alloc, text, &SETTINGS, &[], record.as_slice()) {
             Ending::Wanted(wanted) if wanted.entry < record.len() => break,
             Ending::Wanted(wanted) => record.push(made(&mut chipset, wanted.access))?,
-            Ending::Reported(report) => return text_of(alloc, &report),
+            Ending::Done(report) => return text_of(alloc, &report),
             Ending::Refused(refusal) => return Err(refusal.into()),
         }
     }

@@ -2,15 +2,17 @@
 use Rattle.std.specs.Prelude.{◌≡◌, ◌≢◌, ℕ, List, Option, Some, None, Ok, Err}
 use Rattle.ar_space.specs.declared.refusal.Refusal.TheVariants.{OutOfMemory}
 use Rattle.ar_space.specs.Outcome.{Outcome}
+use Rattle.aml_meaning.specs.Given.{Given}
 use Rattle.space_trace.specs.declared.access.Access.{Access}
 use Rattle.recorded_space.specs.declared.exchange.Exchange.{Exchange}
 use Rattle.recorded_space.specs.Recordings.{Recording, begun, recorded}
 use Rattle.route_report.specs.Reports.{RoutingReport}
 use Rattle.recorded_route.specs.declared.ending.WantedAccess.{WantedAccess}
 use Rattle.recorded_route.specs.declared.ending.Ending.{Ending}
-use Rattle.recorded_route.specs.declared.ending.Ending.TheVariants.{Reported, Refused, Wanted}
+use Rattle.recorded_route.specs.declared.ending.Ending.TheVariants.{Done, Refused, Wanted}
 use Rattle.recorded_route.specs.declared.settings.Settings.{Settings}
 use Rattle.recorded_route.specs.Runs.{IsRun}
+use Rattle.recorded_route.specs.Evaluations.{evaluation}
 
 -- the access that a record lacks, and how many of its entries a run used before it
 abbrev pub wanted_at : Option Access → ℕ → Option WantedAccess
@@ -21,14 +23,14 @@ abbrev pub wanted_of : Recording → Option WantedAccess
 wanted_of r = wanted_at r.missing r.used
 
 -- a missing access is wanted, whatever came out without its answer
-abbrev pub ending_of : Outcome RoutingReport → Option WantedAccess → Ending
-ending_of (Ok report) None = Reported report
+abbrev pub ending_of : {A : Type 0} → Outcome A → Option WantedAccess → Ending A
+ending_of (Ok value) None = Done value
 ending_of (Err e) None = Refused e
 ending_of outcome (Some wanted) = Wanted wanted
 
 -- memory didn't run out
-abbrev pub NotOutOfMemory : Ending → Type 0
-NotOutOfMemory (Reported report) = Unit {0}
+abbrev pub NotOutOfMemory : {A : Type 0} → Ending A → Type 0
+NotOutOfMemory (Done value) = Unit {0}
 NotOutOfMemory (Refused e) = e ≢ OutOfMemory
 NotOutOfMemory (Wanted wanted) = Unit {0}
 
@@ -39,8 +41,21 @@ pub record Leaves (run : Recording → Type 0) (wanted : Option WantedAccess) : 
   pub is_wanted : wanted ≡ wanted_of after
 
 -- A run over a record, from its first entry on, ends like this.
-pub record IsEnding (settings : Settings) (avoid text : List ℕ) (entries : List Exchange) (ending : Ending) : Type 0 where
+pub record IsEnding (settings : Settings) (avoid text : List ℕ) (entries : List Exchange) (ending : Ending RoutingReport) : Type 0 where
   pub outcome : Outcome RoutingReport
   pub after : Recording
   pub is_run : IsRun recorded settings avoid text (begun entries) outcome after
+  pub is_told : ending ≡ ending_of outcome (wanted_of after)
+
+-- what it came to, seen by a view
+abbrev pub seen_ending : {A B : Type 0} → (A → B) → Ending A → Ending B
+seen_ending view (Done value) = Done (view value)
+seen_ending view (Refused e) = Refused e
+seen_ending view (Wanted wanted) = Wanted wanted
+
+-- An evaluation over a record, from its first entry on, ends like this.
+pub record IsEvaluated (settings : Settings) (path : List ℕ) (arguments : List Given) (text : List ℕ) (entries : List Exchange) (ending : Ending Given) : Type 0 where
+  pub outcome : Outcome Given
+  pub after : Recording
+  pub is_evaluation : evaluation recorded settings path arguments text (begun entries) ≡ (outcome, after)
   pub is_told : ending ≡ ending_of outcome (wanted_of after)

@@ -5,7 +5,6 @@ ghost use Rattle.recorded_route.specs.Endings.{ending_of, wanted_of, NotOutOfMem
 
 use ar_space::Refusal;
 use recorded_space::{Access, Recorded};
-use route_report::Report;
 
 /// The access that a record lacks, and where.
 #[derive(Clone, Copy, Debug)]
@@ -30,37 +29,40 @@ pub(crate) fn wanted_of(record: &Recorded) -> Option<WantedAccess>
 
 /// How a run over a record ends.
 #[derive(Debug, Drop)]
-pub enum Ending {
-    /// The record held every access: the links are set, and this is the report.
-    Reported(Report),
-    /// The record held every access, and the machine is refused; or memory ran out.
+pub enum Ending<A> {
+    /// The record held every access, and this came of the run.
+    Done(A),
+    /// The record held every access, and the run is refused; or memory ran out.
     Refused(Refusal),
     /// This access is the first one that the record does not hold.
     Wanted(WantedAccess),
 }
 
 /// How a run ends that came out like this, where this access was missing. Want of memory ends it whatever was missing.
-pub(crate) fn ending_of(outcome: Result<Report, Refusal>, missing: Option<WantedAccess>) -> Ending
+pub(crate) fn ending_of<A: Drop>(
+    outcome: Result<A, Refusal>,
+    missing: Option<WantedAccess>,
+) -> Ending<A>
     ensures told { NotOutOfMemory result → NotMemory outcome × (result ≡ ending_of outcome missing) }
     ensures memory { NotMemory outcome → NotOutOfMemory result }
 {
     match outcome {
-        Ok(report) => reported(report, missing),
+        Ok(value) => done(value, missing),
         Err(Refusal::OutOfMemory) => Ending::Refused(Refusal::OutOfMemory),
         Err(refusal) => refused(refusal, missing),
     }
 }
 
-fn reported(report: Report, missing: Option<WantedAccess>) -> Ending
-    ensures { result ≡ ending_of (Ok report) missing }
+fn done<A: Drop>(value: A, missing: Option<WantedAccess>) -> Ending<A>
+    ensures { result ≡ ending_of (Ok value) missing }
 {
     match missing {
         Some(wanted) => Ending::Wanted(wanted),
-        None => Ending::Reported(report),
+        None => Ending::Done(value),
     }
 }
 
-fn refused(refusal: Refusal, missing: Option<WantedAccess>) -> Ending
+fn refused<A: Drop>(refusal: Refusal, missing: Option<WantedAccess>) -> Ending<A>
     ensures { result ≡ ending_of (Err refusal) missing }
 {
     match missing {

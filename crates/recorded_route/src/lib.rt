@@ -1,13 +1,15 @@
-//! Configures the links of a machine whose registers only its caller can access: a run answers each access from a record, and ends
-//! by telling the first access that the record does not hold.
+//! Configures the links of a machine whose registers only its caller can access, and evaluates its objects: a run answers each access
+//! from a record, and ends by telling the first access that the record does not hold.
 #![tactic(auto)]
 
 mod description;
 mod ending;
+mod evaluation;
 mod run;
 mod settings;
 
 pub use ending::{Ending, WantedAccess};
+pub use evaluation::{Question, evaluate_recorded};
 pub use recorded_space::{Access, Exchange};
 pub use run::configure_recorded;
 pub use settings::Settings;

@@ -89,7 +89,7 @@ fn run(alloc: Global, text: &[u8], settings: &Settings, avoid: &[u32], space: Re
 ///     match configure_recorded(alloc, text, &settings, &[], record.as_slice()) {
 ///         Ending::Wanted(wanted) if wanted.entry < record.len() => return Err(another_record()),
 ///         Ending::Wanted(wanted) => record.push(made_on_the_hardware(wanted.access))?,
-///         Ending::Reported(report) => return Ok(report),
+///         Ending::Done(report) => return Ok(report),
 ///         Ending::Refused(refusal) => return Err(refusal),
 ///     }
 /// }
@@ -100,7 +100,7 @@ pub fn configure_recorded(
     settings: &Settings,
     avoid: &[u32],
     entries: &[Exchange],
-) -> Ending
+) -> Ending<Report>
     ensures { NotOutOfMemory result → IsEnding settings.now avoid.now text.now entries.now result }
 {
     match Vec::from_slice(alloc, entries) {

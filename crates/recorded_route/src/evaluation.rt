@@ -1,0 +1,132 @@
+//! An evaluation over a record.
+ghost use Rattle.std.specs.Prelude.{◌≡◌, map};
+ghost use Rattle.ar_space.specs.Outcome.{NotMemory, seen};
+ghost use Rattle.ar_space.specs.Change.{Does};
+ghost use Rattle.aml_meaning.specs.Given.{given_of};
+ghost use Rattle.recorded_space.specs.Recordings.{recorded};
+ghost use Rattle.recorded_route.specs.Evaluations.{object_of, machine_answer, answer_over, evaluation};
+ghost use Rattle.recorded_route.specs.Endings.{IsEvaluated, Leaves, NotOutOfMemory, seen_ending};
+
+use crate::description::{Description, described};
+use crate::ending::{Ending, WantedAccess, ending_of, wanted_of};
+use crate::settings::Settings;
+use acpi_machine::{Machine, load_tables};
+use aml_meaning::Datum;
+use aml_path::Path;
+use ar_space::{Refusal, Space};
+use recorded_space::{Exchange, Recorded};
+use std::alloc::Global;
+
+/// How an evaluation came out, and which access was missing.
+type Outcome = (Result<Datum, Refusal>, Option<WantedAccess>);
+
+/// An object that is evaluated: the text of its path, and what it is called with.
+#[derive(Drop)]
+pub struct Question<'a> {
+    /// The text of the path from the root, such as `\\_SB_.PCI0._BBN`.
+    pub path: &'a [u8],
+    /// The arguments.
+    pub arguments: Vec<Datum>,
+}
+
+/// Initializes a machine, and evaluates an object.
+#[tactic(auto, using(ar_space::specs::Change::changing), unfolding(crate::specs::Evaluations::object_of))]
+fn object_of<S: Space>(
+    alloc: Global,
+    machine: &mut Machine<S>,
+    settings: &Settings,
+    question: Question<'_>,
+) -> Result<Datum, Refusal>
+    ensures { Does (seen given_of result) machine.new (object_of S.accesses settings.now question.path.now (map given_of question.arguments.items)) machine.old }
+{
+    machine.initialize(alloc, settings.mode)?;
+    let path = Path::from_text(alloc, question.path)?;
+    machine.evaluate_object(alloc, &path, question.arguments)
+}
+
+/// The same over a record, with the access that is missing from it.
+fn machine_answer(
+    alloc: Global,
+    machine: Machine<Recorded>,
+    settings: &Settings,
+    question: Question<'_>,
+) -> Outcome
+    ensures { NotMemory result.0 → Leaves (λ after. machine_answer recorded settings.now question.path.now (map given_of question.arguments.items) machine ≡ (seen given_of result.0, after)) result.1 }
+{
+    let mut machine = machine;
+    let answer = object_of(alloc, &mut machine, settings, question);
+    (answer, wanted_of(machine.space()))
+}
+
+/// Loads what is described over a record, and evaluates an object.
+fn answer_over(
+    alloc: Global,
+    description: Description,
+    settings: &Settings,
+    question: Question<'_>,
+    space: Recorded,
+) -> Outcome
+    ensures { NotMemory result.0 → Leaves (λ after. answer_over recorded settings.now question.path.now (map given_of question.arguments.items) (description.0, description.1.items) space ≡ (seen given_of result.0, after)) result.1 }
+{
+    let (tables, osi) = description;
+    match load_tables(alloc, tables, space, settings.steps, osi) {
+        Ok(machine) => machine_answer(alloc, machine, settings, question),
+        Err((refusal, space)) => (Err(refusal), wanted_of(&space)),
+    }
+}
+
+/// The same from a machine text.
+fn evaluation(
+    alloc: Global,
+    text: &[u8],
+    settings: &Settings,
+    question: Question<'_>,
+    space: Recorded,
+) -> Outcome
+    ensures { NotMemory result.0 → Leaves (λ after. evaluation recorded settings.now question.path.now (map given_of question.arguments.items) text.now space ≡ (seen given_of result.0, after)) result.1 }
+{
+    match described(alloc, text) {
+        Ok(description) => answer_over(alloc, description, settings, question, space),
+        Err(refusal) => (Err(refusal), wanted_of(&space)),
+    }
+}
+
+/// Loads the tables of a machine text, initializes the machine, and evaluates an object (ACPI 6.5, 5.5.2), where each access of a
+/// register is answered from a record, as `configure_recorded` does it. `dry` of the settings counts for nothing.
+///
+/// Refused are the machine text, its tables, their loading, initializing, then the text of the path, and the evaluation, but only where
+/// the record held every access until then. `Refused(OutOfMemory)` where memory ran out; a call with the same record may then be made
+/// again.
+///
+/// ```
+/// let question = Question { path: b"\\_SB_.PCI0._BBN", arguments: Vec::new(alloc) };
+/// match evaluate_recorded(alloc, text, &settings, question, record.as_slice()) {
+///     Ending::Wanted(wanted) if wanted.entry < record.len() => return Err(another_record()),
+///     Ending::Wanted(wanted) => record.push(made_on_the_hardware(wanted.access))?,
+///     Ending::Done(value) => return Ok(value),
+///     Ending::Refused(refusal) => return Err(refusal),
+/// }
+/// ```
+pub fn evaluate_recorded(
+    alloc: Global,
+    text: &[u8],
+    settings: &Settings,
+    question: Question<'_>,
+    entries: &[Exchange],
+) -> Ending<Datum>
+    ensures { NotOutOfMemory result → IsEvaluated settings.now question.path.now (map given_of question.arguments.items) text.now entries.now (seen_ending given_of result) }
+{
+    match Vec::from_slice(alloc, entries) {
+        Ok(copy) => {
+            let (outcome, missing) = evaluation(
+                alloc,
+                text,
+                settings,
+                question,
+                Recorded::new(copy),
+            );
+            ending_of(outcome, missing)
+        }
+        Err(_) => Ending::Refused(Refusal::OutOfMemory),
+    }
+}
