@@ -8,13 +8,14 @@ in the given mode over a record of accesses, and a line is printed: accesses, ca
 20 times), milliseconds a call, allocations a call, the most KiB of memory at once beside the text and the record, and the bytes
 of stack.
 
-Where the library has `acpiroute_eval`, the last line is the stack of the deepest evaluation of benches/stack.py."""
+benches/stack.py measures the stack of the deepest evaluations."""
 import os
 import subprocess
 import sys
 import tempfile
 
-import stack
+sys.path.insert(0, os.path.join(os.path.dirname(os.path.dirname(os.path.abspath(__file__))), "tools"))
+sys.dont_write_bytecode = True
 from usage import answer_help, file_there
 
 HERE = os.path.dirname(os.path.abspath(__file__))
@@ -37,21 +38,6 @@ def row(host, machine, mode):
     print("|", *(f"{it} |" for it in [*cells, most // 1024, f"{deepest:,}"]), " ".join(said[6:]), flush=True)
 
 
-def deepest(host, folder):
-    """The stack of the deepest evaluation, and its kind of term."""
-    text = os.path.join(folder, "deep.txt")
-    found = []
-    for name, make in stack.cases():
-        for depth in range(64, 0, -1):
-            with open(text, "wb") as it:
-                it.write(stack.machine(make(depth)))
-            used, line = subprocess.run([host, "eval", text], capture_output=True, text=True, check=True).stdout.split(None, 1)
-            if line == "refused 77\n":
-                found.append((int(used), name))
-                break
-    return max(found)
-
-
 def main():
     answer_help(__doc__)
     if len(sys.argv) < 2:
@@ -68,9 +54,6 @@ def main():
         print("| Machine | Accesses | Calls | Milliseconds | a call | Allocations a call | Most memory, KiB | Stack, bytes |")
         for machine, mode in machines:
             row(host, machine, mode)
-        if "acpiroute_eval" in subprocess.run(["nm", library], capture_output=True, text=True, check=True).stdout:
-            used, name = deepest(host, folder)
-            print(f"the deepest evaluation: {used / 1024:,.0f} KiB ({name})")
 
 
 if __name__ == "__main__":

@@ -1,12 +1,13 @@
 #!/usr/bin/env python3
 """The least stack on which the deepest evaluations run.
 
-    benches/stack.py [PROGRAM]
+    benches/stack.py [PROGRAM | LIBRARY.a]
 
 For each kind of term, 32 control methods call one another, each through as many terms of this kind, one inside the other, as are
 taken. The last one ends the evaluation by Fatal, so that the terms around the calls need not give the values that are wanted there.
-The program is run on the first of them with ever smaller stacks, and the least one on which it ends without a signal is printed, in
-KiB, to the nearest 16. With no program named, it is the built one in crates/acpiroute/out. In the kinds of fields, the calls are those
+A program is run on the first of them with ever smaller stacks, and the least one on which it ends without a signal is printed, in KiB,
+to the nearest 16. With none named, it is the built one in crates/acpiroute/out. Of a library that tools/kernel_library.py makes,
+`acpiroute_eval` is called, and it is printed how far down its stack was written to, in KiB. In the kinds of fields, the calls are those
 of `_ADR`, which an access to a register of a PCI device makes. In the last kind a table calls the methods, from devices that nest as
 deep as they may.
 """
@@ -14,10 +15,12 @@ import pathlib
 import resource
 import subprocess
 import sys
+import tempfile
 
-sys.path.insert(0, str(pathlib.Path(__file__).parent.parent / "tools"))
+import calls as calls_of_library
+
 sys.dont_write_bytecode = True
-from usage import answer_help, program_there
+from usage import answer_help, file_there, program_there
 
 PROGRAM = pathlib.Path(__file__).parent.parent / "crates/acpiroute/out/acpiroute"
 CALLS = 32
@@ -165,14 +168,44 @@ def least(program, text):
     return high
 
 
-def deepest(program, make):
+def deepest(tried, make):
     """The deepest nesting that is taken, and its text."""
     for depth in range(64, 0, -1):
         text = machine(make(depth))
-        status, errors = ended(program, text, 65536)
-        if errors == "refused 77":
+        if tried.ended(text) == "refused 77":
             return depth, text
     return 0, machine(make(0))
+
+
+class Program:
+    """A built program."""
+
+    def __init__(self, name):
+        self.name = program_there(name)
+
+    def ended(self, text):
+        return ended(self.name, text, 65536)[1]
+
+    def taken(self, text):
+        return least(self.name, text)
+
+
+class Library:
+    """A static library, under a host."""
+
+    def __init__(self, name, folder):
+        self.host, self.text = calls_of_library.built(file_there(name), folder), f"{folder}/machine.txt"
+
+    def said(self, text):
+        with open(self.text, "wb") as it:
+            it.write(text)
+        return subprocess.run([self.host, "eval", self.text], capture_output=True, text=True, check=True).stdout.split(None, 1)
+
+    def ended(self, text):
+        return self.said(text)[1].strip()
+
+    def taken(self, text):
+        return -(-int(self.said(text)[0]) // 1024)
 
 
 def cases():
@@ -187,10 +220,12 @@ def cases():
 
 def main():
     answer_help(__doc__)
-    program = program_there(sys.argv[1] if sys.argv[1:] else PROGRAM)
-    for name, make in cases():
-        depth, text = deepest(program, make)
-        print(f"{name:28} {depth} deep: {least(program, text)} KiB", flush=True)
+    name = sys.argv[1] if sys.argv[1:] else str(PROGRAM)
+    with tempfile.TemporaryDirectory() as folder:
+        tried = Library(name, folder) if name.endswith(".a") else Program(name)
+        for kind, make in cases():
+            depth, text = deepest(tried, make)
+            print(f"{kind:28} {depth} deep: {tried.taken(text)} KiB", flush=True)
 
 
 if __name__ == "__main__":

@@ -19,6 +19,7 @@ import usage
 
 NEEDED = ["memcpy", "memmove", "memset", "rattle_alloc", "rattle_dealloc", "rattle_realloc"]
 SECTIONS_REFUSED = r"\.(eh_frame|gcc_except_table|tdata|tbss|init_array|fini_array|ctors|dtors|preinit_array)\b"
+UPPER_HALF = "0xFFFFFFFF80000000"
 RELOCATIONS = {"R_X86_64_PC32", "R_X86_64_PLT32", "R_X86_64_64"}
 # Instructions that not every x86-64 processor has, up to AVX-512: SSE3 and later, and those that came with them. (objdump shows the
 # prefix `rep` of a bsf as tzcnt, which is the same bytes, and baseline code has it.)
@@ -186,12 +187,12 @@ def entry_faults(functions, taken, library):
 
 
 def sizes(archive, calls):
-    """How many bytes of code and of constants are linked where these are called."""
+    """How many bytes of code and of constants are linked where these are called, in the upper half of addresses, as kernels are."""
     with tempfile.TemporaryDirectory() as folder:
         made = os.path.join(folder, "linked")
-        wanted = [it for call in calls for it in ("-u", call)]
-        subprocess.run(["ld", "-static", "--gc-sections", "-e", calls[0], *wanted, "--unresolved-symbols=ignore-all", "-o", made, archive],
-                       check=True, capture_output=True)
+        words = [it for call in calls for it in ("-u", call)] + [f"--defsym={it}={UPPER_HALF}" for it in NEEDED]
+        words += [f"-Ttext-segment={UPPER_HALF}", "--unresolved-symbols=ignore-all"]
+        subprocess.run(["ld", "-static", "--gc-sections", "-e", calls[0], *words, "-o", made, archive], check=True, capture_output=True)
         text, data, bss = output_of("size", made).splitlines()[1].split()[:3]
         return int(text), int(data) + int(bss)
 

@@ -12,7 +12,7 @@ The archive's bytes depend on the files alone: the same tree makes the same arch
 a folder of another name, and its examples are run in an empty environment.
 
 With --deb, a Debian package is made too, by `dpkg-deb`: the program, its manual page and the scripts as acpiroute-machine-text,
-acpiroute-report-graph and acpiroute-show-value, the header and the static library, and the pages and examples in
+acpiroute-report-graph and acpiroute-show-value, the headers and the static libraries, and the pages and examples in
 /usr/share/doc/acpiroute. With --check it is unpacked, its program and scripts are run, and `lintian` is run where it is installed, which
 may find no error."""
 import argparse
@@ -189,11 +189,11 @@ def by_debian(data):
 
 def installed(files):
     """The files of the package by their places: the bytes, and whether it is run."""
-    manual, pages = "usr/share/man/man1", "usr/share/doc/acpiroute"
+    manual, pages, libraries = "usr/share/man/man1", "usr/share/doc/acpiroute", "usr/lib/x86_64-linux-gnu"
     found = {
         "usr/bin/acpiroute": (stripped(os.path.join(TOP, PROGRAM)), True),
-        "usr/include/acpiroute.h": files["include/acpiroute.h"],
-        "usr/lib/x86_64-linux-gnu/libacpiroute.a": files["lib/libacpiroute.a"],
+        **{f"usr/{it}": files[it] for it in ("include/acpiroute.h", "include/acpiroute_memory.h")},
+        **{f"{libraries}/{os.path.basename(it)}": files[it] for it in files if it.startswith("lib/") and it.endswith(".a")},
         f"{manual}/acpiroute.1.gz": (zipped(files["man/acpiroute.1"][0]), False),
         f"{pages}/copyright": (licence().encode(), False),
         f"{pages}/changelog.gz": (zipped(changelog().encode()), False),
