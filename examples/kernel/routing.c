@@ -1,28 +1,28 @@
 /* The run of the library over the machine's own registers, and what its report says. */
 #include "kernel.h"
 
-/* Not in a library without SSE registers. */
-extern __typeof__(acpiroute_eval) acpiroute_eval __attribute__((weak));
-
 static const struct text *machine;
 static int is_apic;
 
-/* The run: calls over a record of accesses, which grows until no access is wanted. */
+/* A run: calls over a record of accesses, which grows until no access is wanted. */
 
 enum { MOST_ACCESSES = 4096 };
 static struct acpiroute_settings settings = {1000000, ACPIROUTE_APIC, 0};
 static struct acpiroute_access record[MOST_ACCESSES];
 static size_t record_length;
-static uint8_t report[1 << 18], fault[4096];
+static uint8_t report[1 << 18], value[4096], fault[4096];
 static struct acpiroute_reply reply;
 static struct { uint64_t calls, time, longest; } measured;
 
-/* One call over the record. */
-static uint32_t call(struct acpiroute_wanted *wanted) {
+/* One call over the record: to configure the machine, or to evaluate an object. */
+static uint32_t call(const char *object, struct acpiroute_wanted *wanted) {
     uint32_t no_avoid = 0;
-    uint64_t start = microseconds(), blocks = memory_use.blocks;
-    uint32_t came = acpiroute_configure(&settings, &no_avoid, 0, machine->at, machine->length, record, record_length, report,
-                                        sizeof report - 1, fault, sizeof fault, &reply, wanted);
+    uint64_t no_argument = 0, start = microseconds(), blocks = memory_use.blocks;
+    uint32_t came = object ? acpiroute_evaluate(&settings, (const uint8_t *)object, length_of(object), &no_argument, 0, machine->at,
+                                                machine->length, record, record_length, value, sizeof value - 1, fault, sizeof fault,
+                                                &reply, wanted)
+                           : acpiroute_configure(&settings, &no_avoid, 0, machine->at, machine->length, record, record_length, report,
+                                                 sizeof report - 1, fault, sizeof fault, &reply, wanted);
     uint64_t took = microseconds() - start;
     measured.calls++;
     measured.time += took;
@@ -42,10 +42,11 @@ static void append(struct acpiroute_access it) {
 }
 
 /* Calls until no access is wanted, and makes each. A spoiled record is one whose fourth entry is changed after the sixth access. */
-static void run(enum spoil spoil) {
+static void run(const char *object, enum spoil spoil) {
     struct acpiroute_wanted wanted;
     uint32_t came;
-    while ((came = call(&wanted)) == ACPIROUTE_WANTED) {
+    record_length = 0;
+    while ((came = call(object, &wanted)) == ACPIROUTE_WANTED) {
         if (wanted.entry < record_length)
             stop("the record is not of this run");
         make_access(&wanted.access);
@@ -93,24 +94,18 @@ static uint64_t number_of(const char *digits, unsigned base) {
 
 static const char *roots[256];
 
-/* What `_BBN` answers; 0 where there is none. */
+/* What `_BBN` answers over the machine's registers; 0 where there is none. */
 static unsigned bus_of(const char *path) {
-    char object[256];
-    uint8_t value[64] = {0}, why[64];
-    struct acpiroute_reply answer;
+    char object[256] = {0};
     size_t length = length_of(path);
-    if (!acpiroute_eval)
-        return 0;
-    if (length > sizeof object - 5)
+    if (length > sizeof object - 6)
         stop("a path that is too long");
     memcpy(object, path, length);
     memcpy(object + length, "._BBN", 5);
-    if (acpiroute_eval((const uint8_t *)object, length + 5, machine->at, machine->length, value, sizeof value, why, sizeof why, &answer) !=
-        ACPIROUTE_REPLIED)
-        stop("_BBN: no reply");
-    if (answer.status != 0 || !is_same(value, "integer ", 8))
+    run(object, NOT_SPOILED);
+    if (reply.status != 0 || !is_same(value, "integer ", 8))
         return 0;
-    value[answer.text_length - 1] = 0;
+    value[reply.text_length - 1] = 0;
     return (unsigned)number_of((char *)value + 8, 10);
 }
 
@@ -176,7 +171,7 @@ void routing_run(const struct text *text, int in_apic_mode, enum spoil spoil) {
     is_apic = in_apic_mode;
     settings.mode = is_apic ? ACPIROUTE_APIC : ACPIROUTE_PIC;
     uint64_t base = memory_use.most_bytes = memory_use.bytes, allocations = memory_use.allocations;
-    run(spoil);
+    run(NULL, spoil);
     say_bytes(report, reply.text_length);
     say_bytes(fault, reply.line_length);
     say("measured: %u accesses, %u calls, %u us, the longest %u us, %u allocations, at most %u bytes", (uint64_t)record_length,

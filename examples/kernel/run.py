@@ -5,8 +5,7 @@ Builds the kernel of this folder over a static library of acpiroute, boots it in
 `apic`, and checks what it says: on each device the interrupt that the report names comes, and no other, and so does the SCI.
 
 LIBRARY is one that tools/kernel_library.py makes: libacpiroute_kernel.a, or libacpiroute_kernel_no_sse.a, over which the kernel
-runs with SSE instructions undefined, and without the machines that need `acpiroute_eval`. Interrupts come on the stack of the
-library's calls, a thousand in a second; the kernel's stack is aligned to 8 bytes; and the processor is QEMU's `qemu64`, with what
+runs with SSE instructions undefined. Interrupts come on the stack of the library's calls, a thousand in a second; the kernel's stack is aligned to 8 bytes; and the processor is QEMU's `qemu64`, with what
 every x86-64 processor has, but for two boots on `max`. --cpu names another one.
 
 Boots that have to fail are among them: where the kernel tries the interrupt after that of the report, each device has to fail;
@@ -59,12 +58,10 @@ MACHINES = [
 ]
 
 
-def boots(cpu, more_words, has_eval):
-    """Each boot. Without `acpiroute_eval` there are none with a second root bus, whose number the kernel then can't ask for."""
+def boots(cpu, more_words):
     for name, machine, processors, devices, wanted in MACHINES:
-        if has_eval or "root bus" not in name:
-            for mode in ("pic", "apic"):
-                yield Boot(f"{name}, {mode}", machine, processors, devices, f"{mode}{more_words}", cpu, wanted)
+        for mode in ("pic", "apic"):
+            yield Boot(f"{name}, {mode}", machine, processors, devices, f"{mode}{more_words}", cpu, wanted)
     for machine in ("pc", "q35"):
         for mode in ("pic", "apic"):
             name = f"{machine}, {mode}, the interrupt after that of the report"
@@ -144,7 +141,7 @@ def main():
         sys.exit(f"run.py: {asked.library}: no such file: tools/kernel_library.py makes the libraries")
     code = instructions(library)
     more_words = "" if "%xmm" in code else " no-sse"
-    wanted = [it for it in boots(asked.cpu, more_words, "<acpiroute_eval>:" in code) if asked.only in it.name]
+    wanted = [it for it in boots(asked.cpu, more_words) if asked.only in it.name]
     passed = 0
     with tempfile.TemporaryDirectory() as folder, concurrent.futures.ThreadPoolExecutor(asked.jobs) as pool:
         kernel = built(library, folder)
