@@ -1,5 +1,5 @@
 #!/usr/bin/env python3
-"""embedding.py [--library FILE].. [--program PROGRAM]
+"""embedding.py [--calls] [--library FILE].. [--program PROGRAM]
 
 Builds the host programs of examples/c, with `cc`, and of examples/rust, with `rustc` where it is installed, over the static library,
 and runs them over the examples of this folder. Of `host`, which hands a whole machine text in:
@@ -10,6 +10,9 @@ and runs them over the examples of this folder. Of `host`, which hands a whole m
 
 Of `configure`, which makes each access on the model of a chipset: it has to write the report of the same machine, and the registers of
 the model have to be set as that report says.
+
+`calls` asks each call in each way that it can come out, and with each request for memory refused in turn. With --calls it is the only
+one that is built: over a library for kernels, too.
 
 --library names the static libraries in the order in which they are linked. Left out, they are those that `rt lib` makes in
 crates/acpiroute_c, and the kit's own, by which a library takes memory.
@@ -130,6 +133,14 @@ def check_settings(check, host):
     check.same("C, on a chipset: pic", ran([host, machine, "pic"]), (0, report, AS_BEFORE))
 
 
+def check_calls(check, libraries, folder):
+    calls = built_in_c(libraries, folder, "calls", ["calls.c", "chipset.c", "bytes.c"])
+    status, output, errors = ran([calls, HERE])
+    lines = output.splitlines(keepends=True) or [""]
+    check.same("C: each call, in each way that it can come out", (status, "".join(lines[:-1]), errors), (0, "", ""))
+    print(f"calls: {lines[-1].rstrip()}")
+
+
 def check_beside(check, language, host, program):
     for machine, options in [*REPORTS.values(), *((it[0], it[1]) for it in REFUSALS), ("two-links", ["--steps", "0"])]:
         found = ran([host, os.path.join(HERE, f"{machine}.txt"), *options])
@@ -141,6 +152,7 @@ def main():
     parser = argparse.ArgumentParser(description=__doc__, formatter_class=argparse.RawDescriptionHelpFormatter)
     parser.add_argument("--library", action="append", default=[])
     parser.add_argument("--program")
+    parser.add_argument("--calls", action="store_true")
     asked = parser.parse_args()
     libraries = asked.library or [os.path.join(TOP, "crates/acpiroute_c/out/libacpiroute_c.a"), kit_library()]
     for name in libraries + [asked.program] * bool(asked.program):
@@ -148,7 +160,8 @@ def main():
             sys.exit(f"embedding.py: {name}: no such file")
     check = Check()
     with tempfile.TemporaryDirectory() as folder:
-        for language, (host, configure) in built(libraries, folder).items():
+        check_calls(check, libraries, folder)
+        for language, (host, configure) in ({} if asked.calls else built(libraries, folder)).items():
             check_host(check, language, host)
             check_configure(check, language, configure)
             if language == "C":
