@@ -2,9 +2,9 @@
  * acpiroute: a proved ACPI interrupt router, over memory.
  *
  * Four calls do what the commands of the program `acpiroute` do, with input, output and error line in memory. They are proved to have
- * the contract of that program, whose README says what the commands do, and what their options are. Two further calls are over a
+ * the contract of that program, whose README says what the commands do, and what their options are. Four further calls are over a
  * record, for a machine whose registers only the caller can access: `acpiroute_configure` does what `route` does, and
- * `acpiroute_evaluate` what `eval` does.
+ * `acpiroute_evaluate` what `eval` does, with the tables from a machine text, and the same two over the tables as they stand in memory.
  *
  * What a caller has to keep to, which nothing checks:
  *
@@ -69,12 +69,12 @@ enum {
     ACPIROUTE_NO_MEMORY = 2,
     /* A word of the options is not UTF-8. Buffers and `reply` are as they were. */
     ACPIROUTE_NOT_UTF8 = 3,
-    /* An access is wanted, and stands in `wanted`. Buffers and `reply` are as they were. Only the two calls over a record say so, and
+    /* An access is wanted, and stands in `wanted`. Buffers and `reply` are as they were. Only the calls over a record say so, and
      * with any other result `wanted` is as it was. */
     ACPIROUTE_WANTED = 4,
     /*
      * A number of the settings or of an access in the record is none of those that are listed here. Buffers, `reply` and `wanted` are
-     * as they were. Only the two calls over a record say so.
+     * as they were. Only the calls over a record say so.
      */
     ACPIROUTE_MALFORMED = 5
 };
@@ -235,6 +235,33 @@ uint32_t acpiroute_evaluate(const struct acpiroute_settings *settings, const uin
                             const uint64_t *arguments, size_t arguments_length, const uint8_t *machine, size_t machine_length,
                             const struct acpiroute_access *record, size_t record_length, uint8_t *text, size_t text_capacity,
                             uint8_t *line, size_t line_capacity, struct acpiroute_reply *reply, struct acpiroute_wanted *wanted);
+
+/* A part of the machine's memory in which tables stand. */
+struct acpiroute_part {
+    /* The physical address of its first byte. */
+    uint64_t address;
+    /* Its bytes, wherever they can be read. */
+    const uint8_t *bytes;
+    size_t length;
+};
+
+/*
+ * `acpiroute_configure` and `acpiroute_evaluate` over the tables as they stand in memory: no machine text is made or read. `rsdp` is
+ * the physical address of the Root System Description Pointer. It, the RSDT or XSDT, and FADT, DSDT, MADT and SSDTs are needed whole; of
+ * each other table that is listed its first four bytes, the signature. The parts may be in any order; where two have a byte of one
+ * address, that of the later one counts. `_OSI` knows no texts beyond those that it knows in every machine. The records of these calls
+ * are those of the calls over a text: the runs are the same.
+ */
+uint32_t acpiroute_configure_tables(const struct acpiroute_settings *settings, const uint32_t *avoid, size_t avoid_length, uint64_t rsdp,
+                                    const struct acpiroute_part *parts, size_t parts_length, const struct acpiroute_access *record,
+                                    size_t record_length, uint8_t *text, size_t text_capacity, uint8_t *line, size_t line_capacity,
+                                    struct acpiroute_reply *reply, struct acpiroute_wanted *wanted);
+
+uint32_t acpiroute_evaluate_tables(const struct acpiroute_settings *settings, const uint8_t *path, size_t path_length,
+                                   const uint64_t *arguments, size_t arguments_length, uint64_t rsdp, const struct acpiroute_part *parts,
+                                   size_t parts_length, const struct acpiroute_access *record, size_t record_length, uint8_t *text,
+                                   size_t text_capacity, uint8_t *line, size_t line_capacity, struct acpiroute_reply *reply,
+                                   struct acpiroute_wanted *wanted);
 
 #ifdef __cplusplus
 }

@@ -7,6 +7,7 @@
  * FOLDER has the examples. What is found to be wrong is printed; the last line is `N passed, M failed`, and the status is 0 where
  * none failed. The functions by which a library takes memory are this program's own, and count its requests.
  */
+#define _POSIX_C_SOURCE 200809L
 #include <inttypes.h>
 #include <stdio.h>
 #include <stdlib.h>
@@ -62,9 +63,12 @@ struct question {
     const char *object;
     struct acpiroute_settings settings;
     struct bytes input;
+    /* The parts of memory of a call over tables; NULL where it is over the text. */
+    const struct acpiroute_part *parts;
+    size_t parts_length;
 };
 
-enum { ROOM = 1 << 16, UNTOUCHED = 0xEE };
+enum { ROOM = 1 << 16, UNTOUCHED = 0xEE, RSDP = 0xE0000 };
 static struct places {
     uint8_t text[ROOM], line[ROOM];
     struct acpiroute_reply reply;
@@ -81,6 +85,13 @@ static uint32_t ask(const struct question *it, size_t text_room, size_t line_roo
     if (it->command != NULL)
         return it->command((const uint8_t *)it->options, strlen(it->options), it->input.at, it->input.length, now.text, text_room,
                            now.line, line_room, &now.reply);
+    if (it->object != NULL && it->parts != NULL)
+        return acpiroute_evaluate_tables(&it->settings, (const uint8_t *)it->object, strlen(it->object), &no_argument, 0, RSDP, it->parts,
+                                         it->parts_length, record, record_length, now.text, text_room, now.line, line_room, &now.reply,
+                                         &now.wanted);
+    if (it->parts != NULL)
+        return acpiroute_configure_tables(&it->settings, &no_avoid, 0, RSDP, it->parts, it->parts_length, record, record_length, now.text,
+                                          text_room, now.line, line_room, &now.reply, &now.wanted);
     if (it->object != NULL)
         return acpiroute_evaluate(&it->settings, (const uint8_t *)it->object, strlen(it->object), &no_argument, 0, it->input.at,
                                   it->input.length, record, record_length, now.text, text_room, now.line, line_room, &now.reply,
@@ -191,7 +202,7 @@ static const char *text_of(const char *name) {
 }
 
 static struct question over(const char *name, command *command, const char *options, struct bytes input) {
-    return (struct question){name, command, options, NULL, {1000000, ACPIROUTE_APIC, 0}, input};
+    return (struct question){name, command, options, NULL, {1000000, ACPIROUTE_APIC, 0}, input, NULL, 0};
 }
 
 static void judge_commands(void) {
@@ -221,6 +232,60 @@ static void judge_commands(void) {
     judge_reply(&it, 0, "integer 252497985\n", "");
     it = over("eval of no object", acpiroute_eval, "\\NONE", machine);
     judge_reply(&it, 1, "", "refused 61\n");
+}
+
+/* The lines `mem` of a machine text as parts of memory. */
+static size_t parts_of(struct bytes text, struct acpiroute_part *parts, size_t most) {
+    size_t count = 0;
+    char *rest, *whole = (char *)room(text.length + 1).at;
+    memcpy(whole, text.at, text.length);
+    whole[text.length] = 0;
+    for (char *line = strtok_r(whole, "\n", &rest); line != NULL && count < most; line = strtok_r(NULL, "\n", &rest)) {
+        if (strncmp(line, "mem ", 4) != 0)
+            continue;
+        char *at;
+        uint64_t address = strtoull(line + 4, &at, 16);
+        struct bytes bytes = room(strlen(at) / 2);
+        size_t length = 0;
+        unsigned byte;
+        for (; *at; at += *at == ' ' ? 1 : 2)
+            if (*at != ' ' && sscanf(at, "%2x", &byte) == 1)
+                bytes.at[length++] = (uint8_t)byte;
+        parts[count++] = (struct acpiroute_part){address, bytes.at, length};
+    }
+    return count;
+}
+
+/* The same two calls over the tables in memory: in any order of the parts, and one part too few or beyond the end of memory. */
+static void judge_tables(struct bytes machine) {
+    static struct acpiroute_part parts[256], turned[256];
+    struct chipset chipset;
+    size_t count = parts_of(machine, parts, sizeof parts / sizeof *parts);
+    for (size_t i = 0; i < count; i++)
+        turned[i] = parts[count - 1 - i];
+    struct question it = over("configure tables", NULL, NULL, machine);
+    it.parts = turned;
+    it.parts_length = count;
+    chipset_reset(&chipset);
+    grow(&it, &chipset);
+    judge_spoiled(&it);
+    judge_reply(&it, 0, text_of("i440fx.report"), "");
+    it.object = "\\_SB_.LNKA._STA";
+    chipset_reset(&chipset);
+    grow(&it, &chipset);
+    judge_reply(&it, 0, "integer 9\n", "");
+    it.object = NULL;
+    it.parts = parts;
+    it.parts_length = count - 1;
+    judge_reply(&it, 1, "", "refused 13\n");
+    it.parts_length = 0;
+    judge_reply(&it, 1, "", "refused 13\n");
+    parts[count] = (struct acpiroute_part){UINT64_MAX, parts[0].bytes, 2};
+    it.parts_length = count + 1;
+    judge_reply(&it, 1, "", "refused 13\n");
+    record_length = 0;
+    parts[count].length = 1;
+    judge(&it, "a call with a byte at the end of memory", ask(&it, ROOM, ROOM) == ACPIROUTE_WANTED && now.wanted.entry == 0);
 }
 
 static void judge_record_calls(void) {
@@ -259,6 +324,7 @@ int main(int count, char **words) {
     if (acpiroute_route)
         judge_commands();
     judge_record_calls();
+    judge_tables(example("i440fx.txt"));
     printf("%u passed, %u failed\n", passed, failed);
     return failed > 0;
 }

@@ -67,15 +67,15 @@ void line_set(struct line line, int is_open);
 void lines_close(void);
 unsigned vector_of(uint32_t interrupt);
 
-/* tables.c: the machine text of the ACPI tables in memory. */
-struct text { uint8_t at[1 << 20]; size_t length; };
+/* tables.c: the ACPI tables where they stand in memory. */
+struct tables { uint64_t rsdp; struct acpiroute_part parts[320]; size_t count; };
 /* What the kernel itself takes from the FADT: the ports of the power management timer and of its fixed events. */
 struct fixed_ports { uint16_t timer, events; };
-struct fixed_ports tables_text(struct text *text, uint64_t rsdp);
+struct fixed_ports tables_at(struct tables *tables, uint64_t rsdp);
 
 /* routing.c: the run of the library, and what its report says. */
 enum spoil { NOT_SPOILED, SPOILED };
-void routing_run(const struct text *machine, int is_apic, enum spoil spoil);
+void routing_run(const struct tables *machine, int is_apic, enum spoil spoil);
 struct route { int is_found; struct line line; const char *by; };
 /* What it says of a pin (0 for A) of a device on a root bus, and of the System Control Interrupt. */
 struct route route_of(unsigned bus, unsigned device, unsigned pin);

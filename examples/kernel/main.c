@@ -59,12 +59,12 @@ void kernel_main(const struct start_info *given) {
     sse_set(!is_asked("no-sse"));
     memory_find(&info);
     interrupts_start();
-    static struct text machine;
-    struct fixed_ports ports = tables_text(&machine, info.rsdp);
+    static struct tables machine;
+    struct fixed_ports ports = tables_at(&machine, info.rsdp);
     if (ports.timer == 0)
         stop("no power management timer");
     clock_at(ports.timer);
-    say("machine text: %u bytes; stack: %u bytes", (uint64_t)machine.length, stack_used());
+    say("stack: %u bytes", stack_used());
 
     ticks_start();
     routing_run(&machine, is_asked("apic"), is_asked("spoil") ? SPOILED : NOT_SPOILED);

@@ -1,7 +1,7 @@
 /* The run of the library over the machine's own registers, and what its report says. */
 #include "kernel.h"
 
-static const struct text *machine;
+static const struct tables *machine;
 static int is_apic;
 
 /* A run: calls over a record of accesses, which grows until no access is wanted. */
@@ -18,11 +18,14 @@ static struct { uint64_t calls, time, longest; } measured;
 static uint32_t call(const char *object, struct acpiroute_wanted *wanted) {
     uint32_t no_avoid = 0;
     uint64_t no_argument = 0, start = microseconds(), blocks = memory_use.blocks;
-    uint32_t came = object ? acpiroute_evaluate(&settings, (const uint8_t *)object, length_of(object), &no_argument, 0, machine->at,
-                                                machine->length, record, record_length, value, sizeof value - 1, fault, sizeof fault,
-                                                &reply, wanted)
-                           : acpiroute_configure(&settings, &no_avoid, 0, machine->at, machine->length, record, record_length, report,
-                                                 sizeof report - 1, fault, sizeof fault, &reply, wanted);
+    uint32_t came;
+    if (object)
+        came = acpiroute_evaluate_tables(&settings, (const uint8_t *)object, length_of(object), &no_argument, 0, machine->rsdp,
+                                         machine->parts, machine->count, record, record_length, value, sizeof value - 1, fault,
+                                         sizeof fault, &reply, wanted);
+    else
+        came = acpiroute_configure_tables(&settings, &no_avoid, 0, machine->rsdp, machine->parts, machine->count, record, record_length,
+                                          report, sizeof report - 1, fault, sizeof fault, &reply, wanted);
     uint64_t took = microseconds() - start;
     measured.calls++;
     measured.time += took;
@@ -166,8 +169,8 @@ struct route route_of_sci(void) {
     return route;
 }
 
-void routing_run(const struct text *text, int in_apic_mode, enum spoil spoil) {
-    machine = text;
+void routing_run(const struct tables *tables, int in_apic_mode, enum spoil spoil) {
+    machine = tables;
     is_apic = in_apic_mode;
     settings.mode = is_apic ? ACPIROUTE_APIC : ACPIROUTE_PIC;
     uint64_t base = memory_use.most_bytes = memory_use.bytes, allocations = memory_use.allocations;

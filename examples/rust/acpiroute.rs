@@ -68,6 +68,14 @@ pub struct Settings {
     pub dry: u8,
 }
 
+/// A part of the machine's memory in which tables stand.
+#[repr(C)]
+pub struct Part {
+    pub address: u64,
+    pub bytes: *const u8,
+    pub length: usize,
+}
+
 /// A call that is a command of the program: options, input, the two buffers, the reply.
 pub type Command = unsafe extern "C" fn(*const u8, usize, *const u8, usize, *mut u8, usize, *mut u8, usize, *mut Reply) -> u32;
 
@@ -116,6 +124,42 @@ extern "C" {
         arguments_length: usize,
         machine: *const u8,
         machine_length: usize,
+        record: *const Access,
+        record_length: usize,
+        text: *mut u8,
+        text_capacity: usize,
+        line: *mut u8,
+        line_capacity: usize,
+        reply: *mut Reply,
+        wanted: *mut Wanted,
+    ) -> u32;
+
+    pub fn acpiroute_configure_tables(
+        settings: *const Settings,
+        avoid: *const u32,
+        avoid_length: usize,
+        rsdp: u64,
+        parts: *const Part,
+        parts_length: usize,
+        record: *const Access,
+        record_length: usize,
+        text: *mut u8,
+        text_capacity: usize,
+        line: *mut u8,
+        line_capacity: usize,
+        reply: *mut Reply,
+        wanted: *mut Wanted,
+    ) -> u32;
+
+    pub fn acpiroute_evaluate_tables(
+        settings: *const Settings,
+        path: *const u8,
+        path_length: usize,
+        arguments: *const u64,
+        arguments_length: usize,
+        rsdp: u64,
+        parts: *const Part,
+        parts_length: usize,
         record: *const Access,
         record_length: usize,
         text: *mut u8,

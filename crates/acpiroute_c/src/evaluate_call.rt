@@ -1,8 +1,9 @@
 //! A call that evaluates an object: its value in the caller's buffers, or the access that is wanted.
 ghost use Rattle.std.specs.Prelude.{◌≡◌, IfOk, IfErr, map};
 ghost use Rattle.aml_meaning.specs.Given as given;
-ghost use Rattle.recorded_route.specs.Endings.{seen_ending};
+ghost use Rattle.recorded_route.specs.Endings.{IsEvaluatedOver, NotOutOfMemory, seen_ending};
 ghost use Rattle.acpiroute_lib.specs.EvalCommand.{value_written};
+ghost use Rattle.acpiroute_c.specs.Sources.{described_by};
 ghost use Rattle.acpiroute_c.specs.RecordCalls.{IsSaidOf, IsMalformed};
 ghost use Rattle.acpiroute_c.specs.Evaluating.{IsAnswerOf, IsValueSaid, IsEvaluateCall};
 ghost use Rattle.acpiroute_c.specs.declared.call_access.Unmade.TheVariants.{Malformed};
@@ -11,9 +12,12 @@ use crate::call_access::{CallAccess, CallWanted, Unmade, exchanges_of, wanted_fo
 use crate::call_reply::{CallReply, give};
 use crate::call_settings::{CallSettings, settings_of};
 use crate::record_call::{Said, code_of_unmade, reply_to};
+use crate::table_source::TableSource;
 use acpiroute_lib::value_answer;
 use aml_meaning::Datum;
-use recorded_route::{Ending, Question, evaluate_recorded};
+use recorded_route::{
+    Ending, Exchange, Question, Settings, evaluate_recorded, evaluate_tables_recorded,
+};
 use std::alloc::{AllocError, Global};
 
 /// An object that is asked for: the text of its path, and the integers that it is called with.
@@ -34,15 +38,33 @@ fn integers(alloc: Global, arguments: &[u64]) -> Result<Vec<Datum>, AllocError>
     Ok(list)
 }
 
+/// How an evaluation over these entries ends.
+fn answer_over(
+    alloc: Global,
+    settings: &Settings,
+    question: Question<'_>,
+    source: TableSource<'_>,
+    entries: &[Exchange],
+) -> Ending<Datum>
+    ensures { NotOutOfMemory result → IsEvaluatedOver settings.now question.path.now (map given.given_of question.arguments.items) (described_by source) entries.now (seen_ending given.given_of result) }
+{
+    match source {
+        TableSource::Text(text) => evaluate_recorded(alloc, text, settings, question, entries),
+        TableSource::Memory(rsdp, parts) => {
+            evaluate_tables_recorded(alloc, rsdp, parts, settings, question, entries)
+        }
+    }
+}
+
 /// How the evaluation over the record ends.
 fn answer(
     alloc: Global,
     settings: &CallSettings,
     asked: Asked<'_>,
-    machine: &[u8],
+    source: TableSource<'_>,
     accesses: &[CallAccess],
 ) -> Result<Ending<Datum>, Unmade>
-    ensures answer { IfOk result (λ ending. IsAnswerOf settings.now asked.path.now asked.arguments.now machine.now accesses.now (seen_ending given.given_of ending)) }
+    ensures answer { IfOk result (λ ending. IsAnswerOf settings.now asked.path.now asked.arguments.now source accesses.now (seen_ending given.given_of ending)) }
     ensures fault { IfErr result (λ why. why ≡ Malformed → IsMalformed settings.now accesses.now) }
 {
     let Some(settings) = settings_of(settings) else {
@@ -56,13 +78,7 @@ fn answer(
         arguments,
     };
     match exchanges_of(alloc, accesses) {
-        Ok(exchanges) => Ok(evaluate_recorded(
-            alloc,
-            machine,
-            &settings,
-            question,
-            exchanges.as_slice(),
-        )),
+        Ok(exchanges) => Ok(answer_over(alloc, &settings, question, source, exchanges.as_slice())),
         Err(unmade) => Err(unmade),
     }
 }
@@ -84,13 +100,13 @@ fn evaluated(
     alloc: Global,
     settings: &CallSettings,
     asked: Asked<'_>,
-    machine: &[u8],
+    source: TableSource<'_>,
     accesses: &[CallAccess],
 ) -> Result<Said, Unmade>
-    ensures said { IfOk result (λ said. IsValueSaid settings.now asked.path.now asked.arguments.now machine.now accesses.now said) }
+    ensures said { IfOk result (λ said. IsValueSaid settings.now asked.path.now asked.arguments.now source accesses.now said) }
     ensures fault { IfErr result (λ why. why ≡ Malformed → IsMalformed settings.now accesses.now) }
 {
-    match answer(alloc, settings, asked, machine, accesses) {
+    match answer(alloc, settings, asked, source, accesses) {
         Ok(ending) => match said_of(alloc, ending) {
             Ok(said) => Ok(said),
             Err(_) => Err(Unmade::OutOfMemory),
@@ -104,16 +120,16 @@ pub(crate) fn evaluate_call(
     alloc: Global,
     settings: &CallSettings,
     asked: Asked<'_>,
-    machine: &[u8],
+    source: TableSource<'_>,
     accesses: &[CallAccess],
     text: &mut [u8],
     line: &mut [u8],
     reply: &mut CallReply,
     wanted: &mut CallWanted,
 ) -> u32
-    ensures { IsEvaluateCall settings.now asked.path.now asked.arguments.now machine.now accesses.now result (record { filled = record { text = text.old; line = line.old; reply = reply.old }; wanted = wanted.old }) (record { filled = record { text = text.new; line = line.new; reply = reply.new }; wanted = wanted.new }) }
+    ensures { IsEvaluateCall settings.now asked.path.now asked.arguments.now source accesses.now result (record { filled = record { text = text.old; line = line.old; reply = reply.old }; wanted = wanted.old }) (record { filled = record { text = text.new; line = line.new; reply = reply.new }; wanted = wanted.new }) }
 {
-    match evaluated(alloc, settings, asked, machine, accesses) {
+    match evaluated(alloc, settings, asked, source, accesses) {
         Ok(Said::Reply(said)) => give(&said, text, line, reply),
         Ok(Said::Wanted(missing)) => {
             *wanted = wanted_form(missing);

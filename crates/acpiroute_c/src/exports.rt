@@ -3,6 +3,7 @@ ghost use Rattle.std.specs.Prelude.{codes};
 ghost use Rattle.acpiroute_c.specs.Calls.{IsCall};
 ghost use Rattle.acpiroute_c.specs.Configuring.{IsConfigureCall};
 ghost use Rattle.acpiroute_c.specs.Evaluating.{IsEvaluateCall};
+ghost use Rattle.acpiroute_c.specs.declared.table_source.TableSource.TheVariants as source;
 
 use crate::call::call;
 use crate::call_access::{CallAccess, CallWanted};
@@ -10,6 +11,8 @@ use crate::call_reply::CallReply;
 use crate::call_settings::CallSettings;
 use crate::configure_call::configure_call;
 use crate::evaluate_call::{Asked, evaluate_call};
+use crate::table_source::TableSource;
+use recorded_route::TablePart;
 use std::alloc::Global;
 
 /// `route` over a machine text.
@@ -85,10 +88,18 @@ pub extern "C" fn acpiroute_configure(
     reply: &mut CallReply,
     wanted: &mut CallWanted,
 ) -> u32
-    ensures { IsConfigureCall settings.now avoid.now machine.now accesses.now result (record { filled = record { text = text.old; line = line.old; reply = reply.old }; wanted = wanted.old }) (record { filled = record { text = text.new; line = line.new; reply = reply.new }; wanted = wanted.new }) }
+    ensures { IsConfigureCall settings.now avoid.now (source.Text machine) accesses.now result (record { filled = record { text = text.old; line = line.old; reply = reply.old }; wanted = wanted.old }) (record { filled = record { text = text.new; line = line.new; reply = reply.new }; wanted = wanted.new }) }
 {
     configure_call(
-        alloc, settings, avoid, machine, accesses, text, line, reply, wanted,
+        alloc,
+        settings,
+        avoid,
+        TableSource::Text(machine),
+        accesses,
+        text,
+        line,
+        reply,
+        wanted,
     )
 }
 
@@ -107,10 +118,78 @@ pub extern "C" fn acpiroute_evaluate(
     reply: &mut CallReply,
     wanted: &mut CallWanted,
 ) -> u32
-    ensures { IsEvaluateCall settings.now path.now arguments.now machine.now accesses.now result (record { filled = record { text = text.old; line = line.old; reply = reply.old }; wanted = wanted.old }) (record { filled = record { text = text.new; line = line.new; reply = reply.new }; wanted = wanted.new }) }
+    ensures { IsEvaluateCall settings.now path.now arguments.now (source.Text machine) accesses.now result (record { filled = record { text = text.old; line = line.old; reply = reply.old }; wanted = wanted.old }) (record { filled = record { text = text.new; line = line.new; reply = reply.new }; wanted = wanted.new }) }
 {
     let asked = Asked { path, arguments };
     evaluate_call(
-        alloc, settings, asked, machine, accesses, text, line, reply, wanted,
+        alloc,
+        settings,
+        asked,
+        TableSource::Text(machine),
+        accesses,
+        text,
+        line,
+        reply,
+        wanted,
+    )
+}
+
+/// `acpiroute_configure` over the tables as they stand in memory.
+#[unsafe(no_mangle)]
+pub extern "C" fn acpiroute_configure_tables(
+    alloc: Global,
+    settings: &CallSettings,
+    avoid: &[u32],
+    rsdp: u64,
+    parts: &[TablePart<'_>],
+    accesses: &[CallAccess],
+    text: &mut [u8],
+    line: &mut [u8],
+    reply: &mut CallReply,
+    wanted: &mut CallWanted,
+) -> u32
+    ensures { IsConfigureCall settings.now avoid.now (source.Memory rsdp parts) accesses.now result (record { filled = record { text = text.old; line = line.old; reply = reply.old }; wanted = wanted.old }) (record { filled = record { text = text.new; line = line.new; reply = reply.new }; wanted = wanted.new }) }
+{
+    configure_call(
+        alloc,
+        settings,
+        avoid,
+        TableSource::Memory(rsdp, parts),
+        accesses,
+        text,
+        line,
+        reply,
+        wanted,
+    )
+}
+
+/// `acpiroute_evaluate` over the tables as they stand in memory.
+#[unsafe(no_mangle)]
+pub extern "C" fn acpiroute_evaluate_tables(
+    alloc: Global,
+    settings: &CallSettings,
+    path: &[u8],
+    arguments: &[u64],
+    rsdp: u64,
+    parts: &[TablePart<'_>],
+    accesses: &[CallAccess],
+    text: &mut [u8],
+    line: &mut [u8],
+    reply: &mut CallReply,
+    wanted: &mut CallWanted,
+) -> u32
+    ensures { IsEvaluateCall settings.now path.now arguments.now (source.Memory rsdp parts) accesses.now result (record { filled = record { text = text.old; line = line.old; reply = reply.old }; wanted = wanted.old }) (record { filled = record { text = text.new; line = line.new; reply = reply.new }; wanted = wanted.new }) }
+{
+    let asked = Asked { path, arguments };
+    evaluate_call(
+        alloc,
+        settings,
+        asked,
+        TableSource::Memory(rsdp, parts),
+        accesses,
+        text,
+        line,
+        reply,
+        wanted,
     )
 }

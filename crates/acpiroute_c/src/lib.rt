@@ -12,6 +12,7 @@ mod evaluate_call;
 mod exports;
 pub mod laws;
 mod record_call;
+mod table_source;
 
 pub use call_access::{CallAccess, CallWanted};
 pub use call_reply::CallReply;

@@ -11,7 +11,8 @@ use Rattle.recorded_route.specs.declared.ending.WantedAccess.{WantedAccess}
 use Rattle.recorded_route.specs.declared.ending.Ending.{Ending}
 use Rattle.recorded_route.specs.declared.ending.Ending.TheVariants.{Done, Refused, Wanted}
 use Rattle.recorded_route.specs.declared.settings.Settings.{Settings}
-use Rattle.recorded_route.specs.Runs.{IsRun}
+use Rattle.recorded_route.specs.declared.description.TablePart.{TablePart}
+use Rattle.recorded_route.specs.Runs.{Description, described, described_tables, IsDescribedRun}
 use Rattle.recorded_route.specs.Evaluations.{evaluation}
 
 -- the access that a record lacks, and how many of its entries a run used before it
@@ -40,12 +41,19 @@ pub record Leaves (run : Recording → Type 0) (wanted : Option WantedAccess) : 
   pub is_run : run after
   pub is_wanted : wanted ≡ wanted_of after
 
--- A run over a record, from its first entry on, ends like this.
-pub record IsEnding (settings : Settings) (avoid text : List ℕ) (entries : List Exchange) (ending : Ending RoutingReport) : Type 0 where
+-- A run of what is described over a record, from its first entry on, ends like this.
+pub record IsEndingOver (settings : Settings) (avoid : List ℕ) (description : Outcome Description) (entries : List Exchange) (ending : Ending RoutingReport) : Type 0 where
   pub outcome : Outcome RoutingReport
   pub after : Recording
-  pub is_run : IsRun recorded settings avoid text (begun entries) outcome after
+  pub is_run : IsDescribedRun recorded settings avoid description (begun entries) outcome after
   pub is_told : ending ≡ ending_of outcome (wanted_of after)
+
+-- the same of a machine text, and of tables in memory
+abbrev pub IsEnding : Settings → List ℕ → List ℕ → List Exchange → Ending RoutingReport → Type 0
+IsEnding settings avoid text = IsEndingOver settings avoid (described text)
+
+abbrev pub IsEndingOfTables : Settings → List ℕ → ℕ → List TablePart → List Exchange → Ending RoutingReport → Type 0
+IsEndingOfTables settings avoid rsdp parts = IsEndingOver settings avoid (described_tables rsdp parts)
 
 -- what it came to, seen by a view
 abbrev pub seen_ending : {A B : Type 0} → (A → B) → Ending A → Ending B
@@ -54,8 +62,14 @@ seen_ending view (Refused e) = Refused e
 seen_ending view (Wanted wanted) = Wanted wanted
 
 -- An evaluation over a record, from its first entry on, ends like this.
-pub record IsEvaluated (settings : Settings) (path : List ℕ) (arguments : List Given) (text : List ℕ) (entries : List Exchange) (ending : Ending Given) : Type 0 where
+pub record IsEvaluatedOver (settings : Settings) (path : List ℕ) (arguments : List Given) (description : Outcome Description) (entries : List Exchange) (ending : Ending Given) : Type 0 where
   pub outcome : Outcome Given
   pub after : Recording
-  pub is_evaluation : evaluation recorded settings path arguments text (begun entries) ≡ (outcome, after)
+  pub is_evaluation : evaluation recorded settings path arguments description (begun entries) ≡ (outcome, after)
   pub is_told : ending ≡ ending_of outcome (wanted_of after)
+
+abbrev pub IsEvaluated : Settings → List ℕ → List Given → List ℕ → List Exchange → Ending Given → Type 0
+IsEvaluated settings path arguments text = IsEvaluatedOver settings path arguments (described text)
+
+abbrev pub IsEvaluatedOfTables : Settings → List ℕ → List Given → ℕ → List TablePart → List Exchange → Ending Given → Type 0
+IsEvaluatedOfTables settings path arguments rsdp parts = IsEvaluatedOver settings path arguments (described_tables rsdp parts)

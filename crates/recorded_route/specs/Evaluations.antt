@@ -10,7 +10,7 @@ use Rattle.aml_meaning.specs.State.{State}
 use Rattle.acpi_machine.specs.Calls.{initialized, evaluated_object}
 use Rattle.acpi_machine.specs.MachineStates.{MachineState, machine_of}
 use Rattle.recorded_route.specs.declared.settings.Settings.{Settings}
-use Rattle.recorded_route.specs.Runs.{Description, described, world_over}
+use Rattle.recorded_route.specs.Runs.{Description, world_over}
 
 -- accesses: what the register space makes of them; path and arguments: the text of the object's path, and what it is called with
 module _ {S : Type 0} (accesses : Accesses S) (settings : Settings) (path : List ℕ) (arguments : List Given) where
@@ -33,11 +33,8 @@ module _ {S : Type 0} (accesses : Accesses S) (settings : Settings) (path : List
   abbrev pub answer_over : Description → S → Outcome Given × S
   answer_over d before = let l = world_over accesses settings [] d before in loaded_answer d.0 l.0 l.1
 
-  -- of what is described, or the refusal of the text or of its tables
-  abbrev pub described_answer : Outcome Description → S → Outcome Given × S
-  described_answer (Ok d) before = answer_over d before
-  described_answer (Err e) before = (Err e, before)
-
-  -- An evaluation over a register space: how it comes out, and the space that it leaves.
-  abbrev pub evaluation : List ℕ → S → Outcome Given × S
-  evaluation text before = described_answer (described text) before
+  -- An evaluation of what is described over a register space: how it comes out, and the space that it leaves. The refusal of the text or
+  -- of its tables ends it.
+  abbrev pub evaluation : Outcome Description → S → Outcome Given × S
+  evaluation (Ok d) before = answer_over d before
+  evaluation (Err e) before = (Err e, before)

@@ -1,5 +1,10 @@
 -- A run over any register space: the tables of a machine are loaded over it, the machine is initialized, and its links are configured.
-use Rattle.std.specs.Prelude.{◌≡◌, ℕ, List, Ok, Err}
+use Rattle.std.specs.Prelude.{◌≡◌, ◌+◌, ◌^◌, ℕ, nat_le, List, [], ◌∷◌, length, Ok, Err, if◌then◌else◌}
+use Rattle.std.specs.FinMap as map
+use Rattle.std.specs.Ordering.{nat_cmp}
+use Rattle.ar_space.specs.declared.refusal.Refusal.TheVariants.{Table}
+use Rattle.ar_space.specs.declared.refusal.TableFault.TheVariants.{NotInImage}
+use Rattle.ar_space.specs.Runs.{with_bytes}
 use Rattle.ar_space.specs.Accesses.{Accesses}
 use Rattle.ar_space.specs.Outcome.{Outcome, ◌>>=◌}
 use Rattle.ar_tables.specs.declared.tables.Tables.{Tables}
@@ -13,6 +18,7 @@ use Rattle.acpi_machine.specs.MachineStates.{MachineState, machine_of}
 use Rattle.acpi_links.specs.Gatherings.{gathered}
 use Rattle.acpi_configure.specs.Configured.{IsReport}
 use Rattle.route_report.specs.Reports.{RoutingReport}
+use Rattle.recorded_route.specs.declared.description.TablePart.{TablePart}
 use Rattle.recorded_route.specs.declared.settings.Settings.{Settings}
 
 -- the tables of a machine, and the texts that `_OSI` knows
@@ -25,6 +31,26 @@ described text = do
   m ← machine_text text
   t ← tables_of m.space.memory m.rsdp
   Ok (t, m.osi)
+
+-- ---- tables as they stand in memory
+
+-- a part of memory lies below 2^64; a later part replaces an earlier one
+unfoldable pub with_part : map.FinMap nat_cmp ℕ → TablePart → Outcome (map.FinMap nat_cmp ℕ)
+with_part image part =
+    if nat_le (part.address + length part.bytes.now) (2 ^ 64) then Ok (with_bytes image part.address part.bytes.now) else Err (Table NotInImage)
+
+unfoldable pub with_parts : map.FinMap nat_cmp ℕ → List TablePart → Outcome (map.FinMap nat_cmp ℕ)
+with_parts image [] = Ok image
+with_parts image (part ∷ parts) = do
+  next ← with_part image part
+  with_parts next parts
+
+-- the tables by their Root System Description Pointer; `_OSI` knows no further texts
+unfoldable pub described_tables : ℕ → List TablePart → Outcome Description
+described_tables rsdp parts = do
+  image ← with_parts map.empty parts
+  t ← tables_of image rsdp
+  Ok (t, [])
 
 -- accesses: what the register space makes of them; settings and avoid: what the caller wants
 module _ {S : Type 0} (accesses : Accesses S) (settings : Settings) (avoid : List ℕ) where

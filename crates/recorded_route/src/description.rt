@@ -1,10 +1,12 @@
-//! What a machine text describes beside its registers.
-ghost use Rattle.std.specs.Prelude.{◌≡◌, IfOk, map};
+//! What is described of a machine beside its registers: by a machine text, or by its tables as they stand in memory.
+ghost use Rattle.std.specs.Prelude.{◌≡◌, ◌≤◌, ◌+◌, ◌^◌, nat_le, IfOk, length, map};
+ghost use Rattle.std.specs.FinMap as maps;
+ghost use Rattle.ar_space.specs.Change.{Does};
 ghost use Rattle.ar_space.specs.Outcome.{Answers, seen};
-ghost use Rattle.recorded_route.specs.Runs.{described};
+ghost use Rattle.recorded_route.specs.Runs.{described, described_tables, with_part, with_parts};
 
 use aml_objects::Octets;
-use ar_space::Refusal;
+use ar_space::{ByteMap, Refusal, TableFault};
 use ar_tables::{Tables, find_tables};
 use machine_text::read_machine;
 use std::alloc::{AllocError, Global};
@@ -31,4 +33,59 @@ pub(crate) fn described(alloc: Global, text: &[u8]) -> Result<Description, Refus
     let tables = find_tables(alloc, said.space.memory(), said.rsdp)?;
     let osi = octets(alloc, said.osi.into_vec())?;
     Ok((tables, osi))
+}
+
+/// A part of a machine's memory in which tables stand; as C has it.
+#[repr(C)]
+#[derive(Clone, Copy, Debug)]
+pub struct TablePart<'a> {
+    /// The physical address of its first byte.
+    pub address: u64,
+    /// Its bytes.
+    pub bytes: &'a [u8],
+}
+
+/// Whether a part lies below 2^64.
+fn is_in_memory(part: &TablePart<'_>) -> bool
+    ensures { result ≡ nat_le (part.now.address + length part.now.bytes.now) (2 ^ 64) }
+{
+    part.bytes.is_empty() || part.bytes.len() as u64 - 1 <= u64::MAX - part.address
+}
+
+/// An image of memory with a part of it.
+fn with_part(image: ByteMap, part: &TablePart<'_>) -> Result<ByteMap, Refusal>
+    ensures { Answers result (with_part image part.now) }
+{
+    if !is_in_memory(part) {
+        return Err(Refusal::Table(TableFault::NotInImage));
+    }
+    let mut image = image;
+    image.put_all(part.address, part.bytes)?;
+    Ok(image)
+}
+
+/// An image of memory with these parts of it, a later one over an earlier one.
+fn with_parts(image: ByteMap, parts: &[TablePart<'_>]) -> Result<ByteMap, Refusal>
+    ensures { Answers result (with_parts image parts.now) }
+{
+    let mut image = image;
+    for part in parts {
+        image = with_part(image, part)?;
+    }
+    Ok(image)
+}
+
+/// The tables by their Root System Description Pointer (ACPI 6.5, 5.2.5) in these parts of memory. A part that doesn't lie below 2^64 is
+/// refused as `NotInImage`. Of a table that isn't needed only the signature has to be among the parts.
+#[tactic(auto, using(ar_space::specs::Outcome::answering), unfolding(crate::specs::Runs::described_tables))]
+pub(crate) fn described_tables(
+    alloc: Global,
+    rsdp: u64,
+    parts: &[TablePart<'_>],
+) -> Result<Description, Refusal>
+    ensures { Answers (seen (λ d. (d.0, d.1.items)) result) (described_tables rsdp parts.now) }
+{
+    let image = with_parts(ByteMap::new(alloc), parts)?;
+    let tables = find_tables(alloc, &image, rsdp)?;
+    Ok((tables, Vec::new(alloc)))
 }

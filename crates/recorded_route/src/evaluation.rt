@@ -5,9 +5,9 @@ ghost use Rattle.ar_space.specs.Change.{Does};
 ghost use Rattle.aml_meaning.specs.Given.{given_of};
 ghost use Rattle.recorded_space.specs.Recordings.{recorded};
 ghost use Rattle.recorded_route.specs.Evaluations.{object_of, machine_answer, answer_over, evaluation};
-ghost use Rattle.recorded_route.specs.Endings.{IsEvaluated, Leaves, NotOutOfMemory, seen_ending};
+ghost use Rattle.recorded_route.specs.Endings.{IsEvaluated, IsEvaluatedOfTables, IsEvaluatedOver, Leaves, NotOutOfMemory, seen_ending};
 
-use crate::description::{Description, described};
+use crate::description::{Description, TablePart, described, described_tables};
 use crate::ending::{Ending, WantedAccess, ending_of, wanted_of};
 use crate::settings::Settings;
 use acpi_machine::{Machine, load_tables};
@@ -75,19 +75,44 @@ fn answer_over(
     }
 }
 
-/// The same from a machine text.
+/// The same of what is described, or the refusal of the text or of its tables.
 fn evaluation(
     alloc: Global,
-    text: &[u8],
+    described: Result<Description, Refusal>,
     settings: &Settings,
     question: Question<'_>,
     space: Recorded,
 ) -> Outcome
-    ensures { NotMemory result.0 → Leaves (λ after. evaluation recorded settings.now question.path.now (map given_of question.arguments.items) text.now space ≡ (seen given_of result.0, after)) result.1 }
+    ensures { NotMemory result.0 → Leaves (λ after. evaluation recorded settings.now question.path.now (map given_of question.arguments.items) (seen (λ d. (d.0, d.1.items)) described) space ≡ (seen given_of result.0, after)) result.1 }
 {
-    match described(alloc, text) {
+    match described {
         Ok(description) => answer_over(alloc, description, settings, question, space),
         Err(refusal) => (Err(refusal), wanted_of(&space)),
+    }
+}
+
+/// An evaluation over a record, from its first entry on.
+fn ending(
+    alloc: Global,
+    described: Result<Description, Refusal>,
+    settings: &Settings,
+    question: Question<'_>,
+    entries: &[Exchange],
+) -> Ending<Datum>
+    ensures { NotOutOfMemory result → IsEvaluatedOver settings.now question.path.now (map given_of question.arguments.items) (seen (λ d. (d.0, d.1.items)) described) entries.now (seen_ending given_of result) }
+{
+    match Vec::from_slice(alloc, entries) {
+        Ok(copy) => {
+            let (outcome, missing) = evaluation(
+                alloc,
+                described,
+                settings,
+                question,
+                Recorded::new(copy),
+            );
+            ending_of(outcome, missing)
+        }
+        Err(_) => Ending::Refused(Refusal::OutOfMemory),
     }
 }
 
@@ -116,17 +141,21 @@ pub fn evaluate_recorded(
 ) -> Ending<Datum>
     ensures { NotOutOfMemory result → IsEvaluated settings.now question.path.now (map given_of question.arguments.items) text.now entries.now (seen_ending given_of result) }
 {
-    match Vec::from_slice(alloc, entries) {
-        Ok(copy) => {
-            let (outcome, missing) = evaluation(
-                alloc,
-                text,
-                settings,
-                question,
-                Recorded::new(copy),
-            );
-            ending_of(outcome, missing)
-        }
-        Err(_) => Ending::Refused(Refusal::OutOfMemory),
-    }
+    let description = described(alloc, text);
+    ending(alloc, description, settings, question, entries)
+}
+
+/// The same of tables as they stand in memory, by the address of their Root System Description Pointer.
+pub fn evaluate_tables_recorded(
+    alloc: Global,
+    rsdp: u64,
+    parts: &[TablePart<'_>],
+    settings: &Settings,
+    question: Question<'_>,
+    entries: &[Exchange],
+) -> Ending<Datum>
+    ensures { NotOutOfMemory result → IsEvaluatedOfTables settings.now question.path.now (map given_of question.arguments.items) rsdp parts.now entries.now (seen_ending given_of result) }
+{
+    let description = described_tables(alloc, rsdp, parts);
+    ending(alloc, description, settings, question, entries)
 }

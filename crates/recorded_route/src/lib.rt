@@ -8,8 +8,9 @@ mod evaluation;
 mod run;
 mod settings;
 
+pub use description::TablePart;
 pub use ending::{Ending, WantedAccess};
-pub use evaluation::{Question, evaluate_recorded};
+pub use evaluation::{Question, evaluate_recorded, evaluate_tables_recorded};
 pub use recorded_space::{Access, Exchange};
-pub use run::configure_recorded;
+pub use run::{configure_recorded, configure_tables_recorded};
 pub use settings::Settings;

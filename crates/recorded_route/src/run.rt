@@ -1,10 +1,10 @@
 //! A run over a record.
-ghost use Rattle.ar_space.specs.Outcome.{NotMemory};
+ghost use Rattle.ar_space.specs.Outcome.{NotMemory, seen};
 ghost use Rattle.recorded_space.specs.Recordings.{begun, recorded};
-ghost use Rattle.recorded_route.specs.Endings.{IsEnding, Leaves, NotOutOfMemory};
-ghost use Rattle.recorded_route.specs.Runs.{IsStarted, IsMachineRun, IsRunOver, IsRun};
+ghost use Rattle.recorded_route.specs.Endings.{IsEnding, IsEndingOfTables, IsEndingOver, Leaves, NotOutOfMemory};
+ghost use Rattle.recorded_route.specs.Runs.{IsStarted, IsMachineRun, IsRunOver, IsDescribedRun};
 
-use crate::description::{Description, described};
+use crate::description::{Description, TablePart, described, described_tables};
 use crate::ending::{Ending, WantedAccess, ending_of, wanted_of};
 use crate::settings::Settings;
 use acpi_configure::configure;
@@ -62,13 +62,38 @@ fn run_over(
     }
 }
 
-/// The same from a machine text.
-fn run(alloc: Global, text: &[u8], settings: &Settings, avoid: &[u32], space: Recorded) -> Outcome
-    ensures { NotMemory result.0 → Leaves (IsRun recorded settings.now avoid.now text.now space result.0) result.1 }
+/// The same of what is described, or the refusal of the text or of its tables.
+fn run(
+    alloc: Global,
+    described: Result<Description, Refusal>,
+    settings: &Settings,
+    avoid: &[u32],
+    space: Recorded,
+) -> Outcome
+    ensures { NotMemory result.0 → Leaves (IsDescribedRun recorded settings.now avoid.now (seen (λ d. (d.0, d.1.items)) described) space result.0) result.1 }
 {
-    match described(alloc, text) {
+    match described {
         Ok(description) => run_over(alloc, description, settings, avoid, space),
         Err(refusal) => (Err(refusal), wanted_of(&space)),
+    }
+}
+
+/// A run over a record, from its first entry on.
+fn ending(
+    alloc: Global,
+    described: Result<Description, Refusal>,
+    settings: &Settings,
+    avoid: &[u32],
+    entries: &[Exchange],
+) -> Ending<Report>
+    ensures { NotOutOfMemory result → IsEndingOver settings.now avoid.now (seen (λ d. (d.0, d.1.items)) described) entries.now result }
+{
+    match Vec::from_slice(alloc, entries) {
+        Ok(copy) => {
+            let (outcome, missing) = run(alloc, described, settings, avoid, Recorded::new(copy));
+            ending_of(outcome, missing)
+        }
+        Err(_) => Ending::Refused(Refusal::OutOfMemory),
     }
 }
 
@@ -103,11 +128,22 @@ pub fn configure_recorded(
 ) -> Ending<Report>
     ensures { NotOutOfMemory result → IsEnding settings.now avoid.now text.now entries.now result }
 {
-    match Vec::from_slice(alloc, entries) {
-        Ok(copy) => {
-            let (outcome, missing) = run(alloc, text, settings, avoid, Recorded::new(copy));
-            ending_of(outcome, missing)
-        }
-        Err(_) => Ending::Refused(Refusal::OutOfMemory),
-    }
+    let description = described(alloc, text);
+    ending(alloc, description, settings, avoid, entries)
+}
+
+/// The same of tables as they stand in memory, by the address of their Root System Description Pointer: no text is read. `_OSI` knows no
+/// texts beyond its own.
+pub fn configure_tables_recorded(
+    alloc: Global,
+    rsdp: u64,
+    parts: &[TablePart<'_>],
+    settings: &Settings,
+    avoid: &[u32],
+    entries: &[Exchange],
+) -> Ending<Report>
+    ensures { NotOutOfMemory result → IsEndingOfTables settings.now avoid.now rsdp parts.now entries.now result }
+{
+    let description = described_tables(alloc, rsdp, parts);
+    ending(alloc, description, settings, avoid, entries)
 }
