@@ -205,14 +205,14 @@ struct acpiroute_settings {
  *     links are set (none where `dry` is 1), 3 they are set but for those that refused it, as the text says, 1 the machine is refused,
  *     for the reason in the line.
  *
- * A record that grew in this way is of this run, as long as the settings, the text and its entries are as they were. Each call checks
- * that: it tells in `wanted->entry` at which entry it stopped. That is `record_length` where the record is of this run: the access
- * that is wanted is the next one. Where it is less, the entry there is of another access than the one that is wanted: the record is
- * not of this run (other settings, another text, or an entry that was changed). Then make no access, and begin anew with an empty
- * record.
+ * A record that grew in this way is of this run, as long as all else that is handed in, and its entries, are as they were. Each call
+ * tells in `wanted->entry` at which entry it stopped. At `record_length` the access that is wanted is the next one after those of the
+ * record. Where it is less, the entry there is of another access than the one that is wanted: the record is not of this run (other
+ * settings, another text, or an entry that was changed). Then make no access, and begin anew with an empty record. What a call can't
+ * see is an answer that was changed and asks for no other access, and entries behind the end of a run that comes to a reply.
  *
- * That a run ends in all cases is not proved: registers may answer so that its steps run out (70), after as many accesses. A
- * caller sets a limit of its own to the length of its record.
+ * That a run ends in all cases is not proved: registers may answer so that its steps run out (70), and one step may make many
+ * accesses. A caller sets a limit of its own to the length of its record.
  *
  * The record is read anew by each call, and keeps to the order in which accesses were made. Between two accesses the caller may do
  * what it likes, but nothing else is to change the registers that the tables use. After ACPIROUTE_TOO_SMALL, ACPIROUTE_NO_MEMORY or
@@ -226,10 +226,11 @@ uint32_t acpiroute_configure(const struct acpiroute_settings *settings, const ui
 /*
  * Evaluates an object of a machine: the tables are loaded, the machine is initialized, and the object at a path, such as
  * "\\_SB_.PCI0._BBN" with no zero byte at the end, is read or called with integers. The text is the value as `eval` writes it,
- * such as "integer 128", and a line feed. `dry` of the settings counts for nothing.
+ * such as "integer 128", and a line feed. `dry` of the settings is 0 or 1, and counts for nothing.
  *
- * The record is one of its own: begin with an empty one for each object. All else is as with `acpiroute_configure`. Initializing calls
- * `\\_INI`, `\\_SB_._INI` and `\\_PIC`, which may write to registers; the machine is not configured any further.
+ * The record is one of its own: begin with an empty one for each object. All else is as with `acpiroute_configure`. Loading the tables
+ * and initializing, which calls `\_INI`, `\_SB_._INI` and `\_PIC`, may write to registers, once more for each object; the machine is
+ * not configured any further.
  */
 uint32_t acpiroute_evaluate(const struct acpiroute_settings *settings, const uint8_t *path, size_t path_length,
                             const uint64_t *arguments, size_t arguments_length, const uint8_t *machine, size_t machine_length,
@@ -249,17 +250,18 @@ struct acpiroute_part {
  * `acpiroute_configure` and `acpiroute_evaluate` over the tables as they stand in memory: no machine text is made or read. `rsdp` is
  * the physical address of the Root System Description Pointer. It, the RSDT or XSDT, and FADT, DSDT, MADT and SSDTs are needed whole; of
  * each other table that is listed its first four bytes, the signature. The parts may be in any order; where two have a byte of one
- * address, that of the later one counts. `_OSI` knows no texts beyond those that it knows in every machine. The records of these calls
- * are those of the calls over a text: the runs are the same.
+ * address, that of the later one counts. `osi` has the texts that `_OSI` knows, parted by single line feeds, such as
+ * "Windows 2012\nWindows 2015"; where its length is 0 there is none, and `_OSI` says no to each. In all else these are the calls over a
+ * machine text, and a record of the one kind is one of the other.
  */
 uint32_t acpiroute_configure_tables(const struct acpiroute_settings *settings, const uint32_t *avoid, size_t avoid_length, uint64_t rsdp,
-                                    const struct acpiroute_part *parts, size_t parts_length, const struct acpiroute_access *record,
-                                    size_t record_length, uint8_t *text, size_t text_capacity, uint8_t *line, size_t line_capacity,
+                                    const struct acpiroute_part *parts, size_t parts_length, const uint8_t *osi, size_t osi_length,
+                                    const struct acpiroute_access *record, size_t record_length, uint8_t *text, size_t text_capacity, uint8_t *line, size_t line_capacity,
                                     struct acpiroute_reply *reply, struct acpiroute_wanted *wanted);
 
 uint32_t acpiroute_evaluate_tables(const struct acpiroute_settings *settings, const uint8_t *path, size_t path_length,
                                    const uint64_t *arguments, size_t arguments_length, uint64_t rsdp, const struct acpiroute_part *parts,
-                                   size_t parts_length, const struct acpiroute_access *record, size_t record_length, uint8_t *text,
+                                   size_t parts_length, const uint8_t *osi, size_t osi_length, const struct acpiroute_access *record, size_t record_length, uint8_t *text,
                                    size_t text_capacity, uint8_t *line, size_t line_capacity, struct acpiroute_reply *reply,
                                    struct acpiroute_wanted *wanted);
 

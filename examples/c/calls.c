@@ -1,6 +1,6 @@
 /*
- * Asks each call of the static library in each way that it can come out: with ample room, with too little, with faults, and with each
- * request for memory refused in turn.
+ * Asks each call of the static library: with ample room, with just enough and with too little, with faults, and with each request for
+ * memory refused in turn.
  *
  *     calls FOLDER
  *
@@ -62,10 +62,15 @@ struct question {
     /* An object of a call over a record; NULL where the machine is configured. */
     const char *object;
     struct acpiroute_settings settings;
+    uint32_t avoid[1];
+    size_t avoid_length;
+    uint64_t arguments[1];
+    size_t arguments_length;
     struct bytes input;
     /* The parts of memory of a call over tables; NULL where it is over the text. */
     const struct acpiroute_part *parts;
     size_t parts_length;
+    const char *osi;
 };
 
 enum { ROOM = 1 << 16, UNTOUCHED = 0xEE, RSDP = 0xE0000 };
@@ -78,26 +83,26 @@ static struct acpiroute_access record[64];
 static size_t record_length;
 
 static uint32_t ask(const struct question *it, size_t text_room, size_t line_room) {
-    uint32_t no_avoid = 0;
-    uint64_t no_argument = 0;
+    const uint8_t *object = (const uint8_t *)it->object, *osi = (const uint8_t *)it->osi;
     now = untouched;
     requests = 0;
     if (it->command != NULL)
         return it->command((const uint8_t *)it->options, strlen(it->options), it->input.at, it->input.length, now.text, text_room,
                            now.line, line_room, &now.reply);
-    if (it->object != NULL && it->parts != NULL)
-        return acpiroute_evaluate_tables(&it->settings, (const uint8_t *)it->object, strlen(it->object), &no_argument, 0, RSDP, it->parts,
-                                         it->parts_length, record, record_length, now.text, text_room, now.line, line_room, &now.reply,
-                                         &now.wanted);
+    if (object != NULL && it->parts != NULL)
+        return acpiroute_evaluate_tables(&it->settings, object, strlen(it->object), it->arguments, it->arguments_length, RSDP, it->parts,
+                                         it->parts_length, osi, strlen(it->osi), record, record_length, now.text, text_room, now.line,
+                                         line_room, &now.reply, &now.wanted);
     if (it->parts != NULL)
-        return acpiroute_configure_tables(&it->settings, &no_avoid, 0, RSDP, it->parts, it->parts_length, record, record_length, now.text,
-                                          text_room, now.line, line_room, &now.reply, &now.wanted);
-    if (it->object != NULL)
-        return acpiroute_evaluate(&it->settings, (const uint8_t *)it->object, strlen(it->object), &no_argument, 0, it->input.at,
+        return acpiroute_configure_tables(&it->settings, it->avoid, it->avoid_length, RSDP, it->parts, it->parts_length, osi,
+                                          strlen(it->osi), record, record_length, now.text, text_room, now.line, line_room, &now.reply,
+                                          &now.wanted);
+    if (object != NULL)
+        return acpiroute_evaluate(&it->settings, object, strlen(it->object), it->arguments, it->arguments_length, it->input.at,
                                   it->input.length, record, record_length, now.text, text_room, now.line, line_room, &now.reply,
                                   &now.wanted);
-    return acpiroute_configure(&it->settings, &no_avoid, 0, it->input.at, it->input.length, record, record_length, now.text, text_room,
-                               now.line, line_room, &now.reply, &now.wanted);
+    return acpiroute_configure(&it->settings, it->avoid, it->avoid_length, it->input.at, it->input.length, record, record_length, now.text,
+                               text_room, now.line, line_room, &now.reply, &now.wanted);
 }
 
 /* What is judged. */
@@ -127,13 +132,20 @@ static int is_put(const uint8_t *at, size_t length, const char *wanted) {
 
 static int is_replied(uint32_t came, uint8_t status, const char *text, const char *line) {
     return came == ACPIROUTE_REPLIED && now.reply.status == status && is_put(now.text, now.reply.text_length, text) &&
-           is_put(now.line, now.reply.line_length, line);
+           is_put(now.line, now.reply.line_length, line) && is_untouched((uint8_t *)&now.wanted, sizeof now.wanted);
+}
+
+/* A call without memory says so, and has changed nothing; or its reply says so. */
+static int is_out_of_memory(const struct question *it, uint32_t came) {
+    return (came == ACPIROUTE_NO_MEMORY && is_all_untouched()) || is_replied(came, 1, "", "refused 99\n") ||
+           (it->command != NULL && is_replied(came, 2, "", "out of memory\n"));
 }
 
 /* What a call says, each buffer one byte too small, and each request for memory refused. */
 static void judge_reply(const struct question *it, uint8_t status, const char *text, const char *line) {
     size_t sizes[2] = {strlen(text), strlen(line)};
     judge(it, "the reply", is_replied(ask(it, ROOM, ROOM), status, text, line));
+    judge(it, "a call with just enough room", is_replied(ask(it, sizes[0], sizes[1]), status, text, line));
     for (int i = 0; i < 2; i++)
         if (sizes[i] > 0) {
             uint32_t came = ask(it, sizes[0] - (i == 0), sizes[1] - (i == 1));
@@ -145,9 +157,7 @@ static void judge_reply(const struct question *it, uint8_t status, const char *t
         uint32_t came = ask(it, ROOM, ROOM);
         if (requests <= refused)
             break;
-        if (!is_replied(came, status, text, line) && !is_replied(came, 1, "", "refused 99\n") &&
-            !(came == ACPIROUTE_REPLIED && now.reply.status == 2 && now.reply.text_length == 0) &&
-            !(came == ACPIROUTE_NO_MEMORY && is_all_untouched()))
+        if (!is_replied(came, status, text, line) && !is_out_of_memory(it, came))
             judge(it, "a call without memory", 0);
     }
     refused = SIZE_MAX;
@@ -158,31 +168,72 @@ static void judge_told(const struct question *it, uint32_t code) {
     judge(it, "the result", ask(it, ROOM, ROOM) == code && is_all_untouched());
 }
 
-/* A call over a record, until no access is wanted: each is made on the chipset. Without memory each call is made again. */
-static void grow(const struct question *it, struct chipset *chipset) {
-    record_length = 0;
-    while (ask(it, ROOM, ROOM) == ACPIROUTE_WANTED) {
-        int is_next = now.wanted.entry == record_length && is_untouched((uint8_t *)&now.reply, sizeof now.reply) &&
-                      is_untouched(now.text, ROOM) && is_untouched(now.line, ROOM);
-        judge(it, "a wanted access", is_next && record_length < sizeof record / sizeof *record);
-        if (!is_next || record_length == sizeof record / sizeof *record)
-            return;
-        chipset_access(chipset, &now.wanted.access);
-        record[record_length++] = now.wanted.access;
-    }
+/* Whether the next access is wanted, and nothing else has changed. */
+static int is_next_wanted(uint32_t came) {
+    return came == ACPIROUTE_WANTED && now.wanted.entry == record_length && now.wanted.access.answer == ACPIROUTE_ANSWERED &&
+           is_untouched((uint8_t *)&now.reply, sizeof now.reply) && is_untouched(now.text, ROOM) && is_untouched(now.line, ROOM);
 }
 
-/* An entry that is changed: the call stops there, whatever follows. */
+/* A call over a record, until no access is wanted: each is made on the chipset. Some are wanted, once with each request refused. */
+static void grow(const struct question *it, struct chipset *chipset, int has_accesses) {
+    uint32_t came;
+    record_length = 0;
+    while ((came = ask(it, ROOM, ROOM)) == ACPIROUTE_WANTED && record_length < sizeof record / sizeof *record) {
+        struct acpiroute_access wanted = now.wanted.access;
+        judge(it, "a wanted access", is_next_wanted(came));
+        for (refused = 0; record_length == 0; refused++) {
+            came = ask(it, ROOM, ROOM);
+            if (requests <= refused)
+                break;
+            if (!is_next_wanted(came) && !is_out_of_memory(it, came))
+                judge(it, "a wanted access without memory", 0);
+        }
+        refused = SIZE_MAX;
+        chipset_access(chipset, &wanted);
+        record[record_length++] = wanted;
+    }
+    judge(it, "the number of accesses", (record_length > 0) == has_accesses && came != ACPIROUTE_WANTED);
+}
+
+static void judge_malformed(const struct question *it, size_t i, struct acpiroute_access changed) {
+    struct acpiroute_access whole = record[i];
+    record[i] = changed;
+    judge_told(it, ACPIROUTE_MALFORMED);
+    record[i] = whole;
+}
+
+/* An entry that is changed: the call stops there, and wants what the entry was, whatever follows. Numbers that mean nothing. */
 static void judge_spoiled(const struct question *it) {
     for (size_t i = 0; i < record_length; i++) {
-        struct acpiroute_access whole = record[i];
+        struct acpiroute_access whole = record[i], other = whole;
         record[i].address ^= 0x80;
-        judge(it, "a changed entry", ask(it, ROOM, ROOM) == ACPIROUTE_WANTED && now.wanted.entry == i);
-        record[i] = whole;
-        record[i].kind = 7;
-        judge_told(it, ACPIROUTE_MALFORMED);
-        record[i] = whole;
+        int is_there = ask(it, ROOM, ROOM) == ACPIROUTE_WANTED && now.wanted.entry == i;
+        other.answer = ACPIROUTE_ANSWERED;
+        other.value = whole.kind == ACPIROUTE_READ ? 0 : whole.value;
+        judge(it, "a changed entry", is_there && memcmp(&now.wanted.access, &other, sizeof other) == 0);
+        record[i] = other = whole;
+        other.kind = 2;
+        judge_malformed(it, i, other);
+        other = whole, other.space = 3;
+        judge_malformed(it, i, other);
+        other = whole, other.width = 7;
+        judge_malformed(it, i, other);
+        other = whole, other.answer = 3;
+        judge_malformed(it, i, other);
+        other = whole, other.space = ACPIROUTE_IO, other.address = 0x10000;
+        judge_malformed(it, i, other);
+        other = whole, other.kind = ACPIROUTE_READ, other.width = 8, other.value = 0x100;
+        judge_malformed(it, i, other);
     }
+    struct question other = *it;
+    other.settings.steps = 0;
+    judge_told(&other, ACPIROUTE_MALFORMED);
+    other.settings.steps = 1000000001;
+    judge_told(&other, ACPIROUTE_MALFORMED);
+    other = *it, other.settings.mode = 2;
+    judge_told(&other, ACPIROUTE_MALFORMED);
+    other = *it, other.settings.dry = 2;
+    judge_told(&other, ACPIROUTE_MALFORMED);
 }
 
 static const char *folder;
@@ -202,7 +253,32 @@ static const char *text_of(const char *name) {
 }
 
 static struct question over(const char *name, command *command, const char *options, struct bytes input) {
-    return (struct question){name, command, options, NULL, {1000000, ACPIROUTE_APIC, 0}, input, NULL, 0};
+    return (struct question){name, command, options, NULL, {1000000, ACPIROUTE_APIC, 0}, {0}, 0, {0}, 0, input, NULL, 0, ""};
+}
+
+/* A text with each line left out that begins so. */
+static const char *without(const char *text, const char *begin) {
+    char *made = (char *)room(strlen(text) + 1).at, *at = made;
+    for (const char *line = text, *next; *line; line = next) {
+        next = strchr(line, '\n') + 1;
+        if (strncmp(line, begin, strlen(begin)) != 0) {
+            memcpy(at, line, (size_t)(next - line));
+            at += next - line;
+        }
+    }
+    *at = 0;
+    return made;
+}
+
+/* A text of which one part is another. */
+static const char *with(const char *text, const char *old, const char *new) {
+    const char *at = strstr(text, old);
+    if (at == NULL)
+        stop("an example is another than before");
+    size_t length = strlen(text) + strlen(new) - strlen(old) + 1;
+    char *made = (char *)room(length).at;
+    snprintf(made, length, "%.*s%s%s", (int)(at - text), text, new, at + strlen(old));
+    return made;
 }
 
 static void judge_commands(void) {
@@ -219,6 +295,11 @@ static void judge_commands(void) {
     judge_told(&it, ACPIROUTE_NOT_UTF8);
     it = over("check", acpiroute_check, "", report);
     judge_reply(&it, 0, "yes\n", "");
+    const char *claim = with(text_of("two-links.report"), "busiest 2", "busiest 1");
+    it = over("check of a false claim", acpiroute_check, "", (struct bytes){(uint8_t *)claim, strlen(claim)});
+    judge_reply(&it, 4, "no 4\n", "");
+    it = over("route --avoid none", acpiroute_route, "--avoid none", machine);
+    judge_reply(&it, 2, "", "bad --avoid\n");
     it = over("check over another text", acpiroute_check, "", machine);
     judge_reply(&it, 1, "", "refused 130 line 1\n");
     it = over("check \\xFF", acpiroute_check, "\xFF", report);
@@ -256,25 +337,65 @@ static size_t parts_of(struct bytes text, struct acpiroute_part *parts, size_t m
     return count;
 }
 
-/* The same two calls over the tables in memory: in any order of the parts, and one part too few or beyond the end of memory. */
-static void judge_tables(struct bytes machine) {
-    static struct acpiroute_part parts[256], turned[256];
+/* The calls over a record, of the tables of a text or of parts: on a chipset whose registers are others than those of the text. */
+static void judge_record_calls(struct question it) {
+    const char *report = text_of("i440fx.report");
     struct chipset chipset;
-    size_t count = parts_of(machine, parts, sizeof parts / sizeof *parts);
-    for (size_t i = 0; i < count; i++)
-        turned[i] = parts[count - 1 - i];
-    struct question it = over("configure tables", NULL, NULL, machine);
-    it.parts = turned;
-    it.parts_length = count;
     chipset_reset(&chipset);
-    grow(&it, &chipset);
+    grow(&it, &chipset, 1);
+    judge(&it, "what the chipset is set to", memcmp(chipset.routing, (uint8_t[]){5, 5, 10, 10}, 4) == 0);
     judge_spoiled(&it);
-    judge_reply(&it, 0, text_of("i440fx.report"), "");
+    judge_reply(&it, 0, report, "");
+    it.settings.dry = 1;
+    chipset_reset(&chipset);
+    grow(&it, &chipset, 1);
+    judge(&it, "what the chipset is set to", memcmp(chipset.routing, (uint8_t[]){0x80, 0x80, 0x80, 0x80}, 4) == 0);
+    judge_reply(&it, 0, without(without(report, "set "), "after "), "");
+    it.settings.dry = 0;
+    it.settings.mode = ACPIROUTE_PIC;
+    chipset_reset(&chipset);
+    grow(&it, &chipset, 1);
+    judge_reply(&it, 0, with(report, "mode apic", "mode pic"), "");
+    it.avoid[0] = 5, it.avoid_length = 1;
+    chipset_reset(&chipset);
+    grow(&it, &chipset, 1);
+    judge(&it, "what the chipset is set to", chipset.routing[0] != 5 && chipset.routing[1] != 5);
+    it.avoid_length = 0;
     it.object = "\\_SB_.LNKA._STA";
     chipset_reset(&chipset);
-    grow(&it, &chipset);
+    grow(&it, &chipset, 1);
+    judge_spoiled(&it);
     judge_reply(&it, 0, "integer 9\n", "");
-    it.object = NULL;
+    chipset.routing[0] = 5;
+    grow(&it, &chipset, 1);
+    judge_reply(&it, 0, "integer 11\n", "");
+    record[0].answer = ACPIROUTE_NO_REGISTER, record[0].value = 0;
+    judge_reply(&it, 1, "", "refused 1\n");
+    record[0].answer = ACPIROUTE_DEVICE_FAILED;
+    judge_reply(&it, 1, "", "refused 2\n");
+    record_length = 0;
+    it.object = "\\_SB_.LNKA.NONE";
+    judge_reply(&it, 1, "", "refused 61\n");
+    it.object = "\\_SB_.IQST", it.arguments[0] = 0x80, it.arguments_length = 1;
+    judge_reply(&it, 0, "integer 9\n", "");
+    it.arguments[0] = 0x7F;
+    judge_reply(&it, 0, "integer 11\n", "");
+    it.arguments_length = 0;
+    judge_reply(&it, 1, "", "refused 72\n");
+    it.object = "\\_OSI";
+    judge_reply(&it, 1, "", "refused 72\n");
+}
+
+/* Parts of memory: one too few, one beyond the end of memory, and a later one over an earlier one. */
+static void judge_parts(struct question it) {
+    static struct acpiroute_part parts[256], turned[256];
+    size_t count = parts_of(it.input, parts, 200);
+    for (size_t i = 0; i < count; i++)
+        turned[i] = parts[count - 1 - i];
+    it.parts = turned;
+    it.parts_length = count;
+    judge_record_calls(it);
+    record_length = 0;
     it.parts = parts;
     it.parts_length = count - 1;
     judge_reply(&it, 1, "", "refused 13\n");
@@ -283,37 +404,14 @@ static void judge_tables(struct bytes machine) {
     parts[count] = (struct acpiroute_part){UINT64_MAX, parts[0].bytes, 2};
     it.parts_length = count + 1;
     judge_reply(&it, 1, "", "refused 13\n");
-    record_length = 0;
     parts[count].length = 1;
     judge(&it, "a call with a byte at the end of memory", ask(&it, ROOM, ROOM) == ACPIROUTE_WANTED && now.wanted.entry == 0);
-}
-
-static void judge_record_calls(void) {
-    struct bytes machine = example("i440fx.txt");
-    struct chipset chipset;
-    struct question it = over("configure", NULL, NULL, machine);
-    chipset_reset(&chipset);
-    grow(&it, &chipset);
-    judge_spoiled(&it);
-    judge_reply(&it, 0, text_of("i440fx.report"), "");
-    it.settings.steps = 0;
-    judge_told(&it, ACPIROUTE_MALFORMED);
-    it.settings = (struct acpiroute_settings){1000000, 2, 0};
-    judge_told(&it, ACPIROUTE_MALFORMED);
-    it.settings = (struct acpiroute_settings){1000000, ACPIROUTE_APIC, 2};
-    judge_told(&it, ACPIROUTE_MALFORMED);
-    it = over("configure a machine that is refused", NULL, NULL, example("refused.txt"));
-    grow(&it, &chipset);
-    judge_reply(&it, 1, "", "refused 101\n");
-    it = over("evaluate", NULL, NULL, machine);
-    it.object = "\\_SB_.LNKA._STA";
-    chipset_reset(&chipset);
-    grow(&it, &chipset);
-    judge_spoiled(&it);
-    judge_reply(&it, 0, "integer 9\n", "");
-    it.object = "\\_SB_.LNKA.NONE";
-    grow(&it, &chipset);
-    judge_reply(&it, 1, "", "refused 61\n");
+    parts[count] = (struct acpiroute_part){RSDP, (const uint8_t *)"X", 1};
+    judge_reply(&it, 1, "", "refused 10\n");
+    it.parts_length = count;
+    it.osi = "1\n2\n3\n4\n5\n6\n7\n8\n9\n10\n11\n12\n13\n14\n15\n16\n17\n18\n19\n20\n21\n22\n23\n24\n25\n26\n27\n28\n29\n30\n31\n32\n33\n"
+             "34\n35\n36\n37\n38\n39\n40\n41\n42\n43\n44\n45\n46\n47\n48\n49\n50\n51\n52\n53\n54\n55\n56\n57\n58\n59\n60\n61\n62\n63\n64\n65";
+    judge_reply(&it, 1, "", "refused 81\n");
 }
 
 int main(int count, char **words) {
@@ -323,8 +421,13 @@ int main(int count, char **words) {
     memset(&untouched, UNTOUCHED, sizeof untouched);
     if (acpiroute_route)
         judge_commands();
-    judge_record_calls();
-    judge_tables(example("i440fx.txt"));
+    judge_record_calls(over("over a record", NULL, NULL, example("i440fx.txt")));
+    judge_parts(over("over tables in memory", NULL, NULL, example("i440fx.txt")));
+    struct question refused_machine = over("a machine that is refused", NULL, NULL, example("refused.txt"));
+    struct chipset chipset;
+    chipset_reset(&chipset);
+    grow(&refused_machine, &chipset, 0);
+    judge_reply(&refused_machine, 1, "", "refused 101\n");
     printf("%u passed, %u failed\n", passed, failed);
     return failed > 0;
 }

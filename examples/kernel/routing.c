@@ -7,6 +7,8 @@ static int is_apic;
 /* A run: calls over a record of accesses, which grows until no access is wanted. */
 
 enum { MOST_ACCESSES = 4096 };
+/* What `_OSI` says yes to: many tables set their links in another way for an operating system that they don't know. */
+static const uint8_t osi[] = "Windows 2012\nWindows 2015";
 static struct acpiroute_settings settings = {1000000, ACPIROUTE_APIC, 0};
 static struct acpiroute_access record[MOST_ACCESSES];
 static size_t record_length;
@@ -21,11 +23,11 @@ static uint32_t call(const char *object, struct acpiroute_wanted *wanted) {
     uint32_t came;
     if (object)
         came = acpiroute_evaluate_tables(&settings, (const uint8_t *)object, length_of(object), &no_argument, 0, machine->rsdp,
-                                         machine->parts, machine->count, record, record_length, value, sizeof value - 1, fault,
-                                         sizeof fault, &reply, wanted);
+                                         machine->parts, machine->count, osi, sizeof osi - 1, record, record_length, value,
+                                         sizeof value - 1, fault, sizeof fault, &reply, wanted);
     else
-        came = acpiroute_configure_tables(&settings, &no_avoid, 0, machine->rsdp, machine->parts, machine->count, record, record_length,
-                                          report, sizeof report - 1, fault, sizeof fault, &reply, wanted);
+        came = acpiroute_configure_tables(&settings, &no_avoid, 0, machine->rsdp, machine->parts, machine->count, osi, sizeof osi - 1,
+                                          record, record_length, report, sizeof report - 1, fault, sizeof fault, &reply, wanted);
     uint64_t took = microseconds() - start;
     measured.calls++;
     measured.time += took;

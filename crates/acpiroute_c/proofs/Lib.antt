@@ -1,2 +1,3 @@
 mod Words
 mod Forms
+mod Malformed

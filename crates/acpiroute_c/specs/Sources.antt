@@ -7,4 +7,4 @@ use Rattle.acpiroute_c.specs.declared.table_source.TableSource.TheVariants.{Text
 -- what is described of the machine
 abbrev pub described_by : TableSource → Outcome Description
 described_by (Text text) = described text.now
-described_by (Memory rsdp parts) = described_tables rsdp parts.now
+described_by (Memory tables) = described_tables tables.rsdp tables.parts.now tables.osi.now

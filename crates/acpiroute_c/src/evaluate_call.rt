@@ -1,5 +1,5 @@
 //! A call that evaluates an object: its value in the caller's buffers, or the access that is wanted.
-ghost use Rattle.std.specs.Prelude.{◌≡◌, IfOk, IfErr, map};
+ghost use Rattle.std.specs.Prelude.{◌≡◌, ◌↔◌, IfOk, IfErr, map};
 ghost use Rattle.aml_meaning.specs.Given as given;
 ghost use Rattle.recorded_route.specs.Endings.{IsEvaluatedOver, NotOutOfMemory, seen_ending};
 ghost use Rattle.acpiroute_lib.specs.EvalCommand.{value_written};
@@ -8,10 +8,10 @@ ghost use Rattle.acpiroute_c.specs.RecordCalls.{IsSaidOf, IsMalformed};
 ghost use Rattle.acpiroute_c.specs.Evaluating.{IsAnswerOf, IsValueSaid, IsEvaluateCall};
 ghost use Rattle.acpiroute_c.specs.declared.call_access.Unmade.TheVariants.{Malformed};
 
-use crate::call_access::{CallAccess, CallWanted, Unmade, exchanges_of, wanted_form};
+use crate::call_access::{CallAccess, CallWanted, Unmade, wanted_form};
 use crate::call_reply::{CallReply, give};
-use crate::call_settings::{CallSettings, settings_of};
-use crate::record_call::{Said, code_of_unmade, reply_to};
+use crate::call_settings::CallSettings;
+use crate::record_call::{Said, code_of_unmade, read_call, reply_to};
 use crate::table_source::TableSource;
 use acpiroute_lib::value_answer;
 use aml_meaning::Datum;
@@ -50,8 +50,8 @@ fn answer_over(
 {
     match source {
         TableSource::Text(text) => evaluate_recorded(alloc, text, settings, question, entries),
-        TableSource::Memory(rsdp, parts) => {
-            evaluate_tables_recorded(alloc, rsdp, parts, settings, question, entries)
+        TableSource::Memory(tables) => {
+            evaluate_tables_recorded(alloc, &tables, settings, question, entries)
         }
     }
 }
@@ -65,10 +65,11 @@ fn answer(
     accesses: &[CallAccess],
 ) -> Result<Ending<Datum>, Unmade>
     ensures answer { IfOk result (λ ending. IsAnswerOf settings.now asked.path.now asked.arguments.now source accesses.now (seen_ending given.given_of ending)) }
-    ensures fault { IfErr result (λ why. why ≡ Malformed → IsMalformed settings.now accesses.now) }
+    ensures fault { IfErr result (λ why. (why ≡ Malformed) ↔ IsMalformed settings.now accesses.now) }
 {
-    let Some(settings) = settings_of(settings) else {
-        return Err(Unmade::Malformed);
+    let (settings, entries) = match read_call(alloc, settings, accesses) {
+        Ok(read) => read,
+        Err(unmade) => return Err(unmade),
     };
     let Ok(arguments) = integers(alloc, asked.arguments) else {
         return Err(Unmade::OutOfMemory);
@@ -77,10 +78,7 @@ fn answer(
         path: asked.path,
         arguments,
     };
-    match exchanges_of(alloc, accesses) {
-        Ok(exchanges) => Ok(answer_over(alloc, &settings, question, source, exchanges.as_slice())),
-        Err(unmade) => Err(unmade),
-    }
+    Ok(answer_over(alloc, &settings, question, source, entries.as_slice()))
 }
 
 /// What an ending says.
@@ -104,7 +102,7 @@ fn evaluated(
     accesses: &[CallAccess],
 ) -> Result<Said, Unmade>
     ensures said { IfOk result (λ said. IsValueSaid settings.now asked.path.now asked.arguments.now source accesses.now said) }
-    ensures fault { IfErr result (λ why. why ≡ Malformed → IsMalformed settings.now accesses.now) }
+    ensures fault { IfErr result (λ why. (why ≡ Malformed) ↔ IsMalformed settings.now accesses.now) }
 {
     match answer(alloc, settings, asked, source, accesses) {
         Ok(ending) => match said_of(alloc, ending) {

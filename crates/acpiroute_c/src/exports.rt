@@ -12,7 +12,7 @@ use crate::call_settings::CallSettings;
 use crate::configure_call::configure_call;
 use crate::evaluate_call::{Asked, evaluate_call};
 use crate::table_source::TableSource;
-use recorded_route::TablePart;
+use recorded_route::{TablePart, TablesInMemory};
 use std::alloc::Global;
 
 /// `route` over a machine text.
@@ -142,19 +142,20 @@ pub extern "C" fn acpiroute_configure_tables(
     avoid: &[u32],
     rsdp: u64,
     parts: &[TablePart<'_>],
+    osi: &[u8],
     accesses: &[CallAccess],
     text: &mut [u8],
     line: &mut [u8],
     reply: &mut CallReply,
     wanted: &mut CallWanted,
 ) -> u32
-    ensures { IsConfigureCall settings.now avoid.now (source.Memory rsdp parts) accesses.now result (record { filled = record { text = text.old; line = line.old; reply = reply.old }; wanted = wanted.old }) (record { filled = record { text = text.new; line = line.new; reply = reply.new }; wanted = wanted.new }) }
+    ensures { IsConfigureCall settings.now avoid.now (source.Memory (record { rsdp = rsdp; parts = parts; osi = osi })) accesses.now result (record { filled = record { text = text.old; line = line.old; reply = reply.old }; wanted = wanted.old }) (record { filled = record { text = text.new; line = line.new; reply = reply.new }; wanted = wanted.new }) }
 {
     configure_call(
         alloc,
         settings,
         avoid,
-        TableSource::Memory(rsdp, parts),
+        TableSource::Memory(TablesInMemory { rsdp, parts, osi }),
         accesses,
         text,
         line,
@@ -172,20 +173,21 @@ pub extern "C" fn acpiroute_evaluate_tables(
     arguments: &[u64],
     rsdp: u64,
     parts: &[TablePart<'_>],
+    osi: &[u8],
     accesses: &[CallAccess],
     text: &mut [u8],
     line: &mut [u8],
     reply: &mut CallReply,
     wanted: &mut CallWanted,
 ) -> u32
-    ensures { IsEvaluateCall settings.now path.now arguments.now (source.Memory rsdp parts) accesses.now result (record { filled = record { text = text.old; line = line.old; reply = reply.old }; wanted = wanted.old }) (record { filled = record { text = text.new; line = line.new; reply = reply.new }; wanted = wanted.new }) }
+    ensures { IsEvaluateCall settings.now path.now arguments.now (source.Memory (record { rsdp = rsdp; parts = parts; osi = osi })) accesses.now result (record { filled = record { text = text.old; line = line.old; reply = reply.old }; wanted = wanted.old }) (record { filled = record { text = text.new; line = line.new; reply = reply.new }; wanted = wanted.new }) }
 {
     let asked = Asked { path, arguments };
     evaluate_call(
         alloc,
         settings,
         asked,
-        TableSource::Memory(rsdp, parts),
+        TableSource::Memory(TablesInMemory { rsdp, parts, osi }),
         accesses,
         text,
         line,

@@ -17,12 +17,12 @@ use Rattle.recorded_space.specs.declared.exchange.Exchange.{Exchange}
 use Rattle.recorded_space.specs.Recordings.{Recording, begun, recorded}
 use Rattle.recorded_space.specs.Deciding.{Gives}
 use Rattle.recorded_route.specs.declared.settings.Settings.{Settings}
-use Rattle.recorded_route.specs.Runs.{Description, described, IsConfigured, IsConfiguredIf, IsMachineRun, IsLoadedRun, IsDescribedRun, IsRun, world_over as first_world}
+use Rattle.recorded_route.specs.Runs.{Description, IsConfigured, IsConfiguredIf, IsMachineRun, IsLoadedRun, IsDescribedRun, world_over as first_world}
 use Rattle.recorded_laws.specs.Listed.{listed}
 use Rattle.recorded_laws.proofs.Following.{following, following_listed}
 use Rattle.machine_laws.proofs.ReportsCarried.{Carried}
-use Rattle.recorded_laws.proofs.Running.{run_carried}
-use Rattle.recorded_laws.proofs.Meeting.{Meet, runs_meet}
+use Rattle.recorded_laws.proofs.Running.{described_run_carried}
+use Rattle.recorded_laws.proofs.Meeting.{Meet, described_runs_meet}
 
 -- ---- a whole record
 
@@ -31,11 +31,11 @@ unfolding following
 without_missing accesses is after none (inl (t, (first, at))) = absurd (cc (at, none))
 without_missing accesses is after none (inr (t, so, i)) = (t, so)
 
-pub whole_record : {S : Type 0} (accesses : Accesses S) (space : S) (settings : Settings) (avoid text : List ℕ) (entries : List Exchange) (outcome : Outcome RoutingReport) (after : Recording) → Gives accesses entries space
-    → IsRun recorded settings avoid text (begun entries) outcome after → after.missing ≡ None → (left : S) × IsRun accesses settings avoid text space outcome left
+pub whole_record : {S : Type 0} (accesses : Accesses S) (space : S) (settings : Settings) (avoid : List ℕ) (d : Outcome Description) (entries : List Exchange) (outcome : Outcome RoutingReport) (after : Recording) → Gives accesses entries space
+    → IsDescribedRun recorded settings avoid d (begun entries) outcome after → after.missing ≡ None → (left : S) × IsDescribedRun accesses settings avoid d space outcome left
 unfolding following
-whole_record accesses space settings avoid text entries outcome after gives is none =
-    without_missing accesses (λ left. IsRun accesses settings avoid text space outcome left) after none (run_carried (following accesses) settings avoid text (begun entries) outcome after space is (refl, gives))
+whole_record accesses space settings avoid d entries outcome after gives is none =
+    without_missing accesses (λ left. IsDescribedRun accesses settings avoid d space outcome left) after none (described_run_carried (following accesses) settings avoid d (begun entries) outcome after space is (refl, gives))
 
 -- ---- an access that is missing
 
@@ -48,12 +48,12 @@ next_in_list accesses after access left is (inl (first, at, got)) = the_missing 
 next_in_list accesses after access left is (inr (u, i)) = absurd (cc (is, i.0))
 
 pub wanted_next : {S : Type 0} → ((problem : RoutingProblem) (one other : RoutingAnswer) → Solves problem one → Solves problem other → one ≡ other)
-    → (accesses : Accesses S) (space : S) (settings : Settings) (avoid text : List ℕ) (entries : List Exchange) (outcome : Outcome RoutingReport) (after : Recording) (access : Access) → Gives accesses entries space
-    → IsRun recorded settings avoid text (begun entries) outcome after → after.missing ≡ Some access
-    → (outcome2 : Outcome RoutingReport) (left : S × List Access) → IsRun (listed accesses) settings avoid text (space, []) outcome2 left → slice_get left.1 after.used ≡ Some access
+    → (accesses : Accesses S) (space : S) (settings : Settings) (avoid : List ℕ) (d : Outcome Description) (entries : List Exchange) (outcome : Outcome RoutingReport) (after : Recording) (access : Access) → Gives accesses entries space
+    → IsDescribedRun recorded settings avoid d (begun entries) outcome after → after.missing ≡ Some access
+    → (outcome2 : Outcome RoutingReport) (left : S × List Access) → IsDescribedRun (listed accesses) settings avoid d (space, []) outcome2 left → slice_get left.1 after.used ≡ Some access
 unfolding following_listed
-wanted_next law accesses space settings avoid text entries outcome after access gives is missing outcome2 left is2 =
-    next_in_list accesses after access left missing (runs_meet (following_listed accesses) settings avoid law text (begun entries) outcome after (space, []) outcome2 left is is2 (refl, gives, refl))
+wanted_next law accesses space settings avoid d entries outcome after access gives is missing outcome2 left is2 =
+    next_in_list accesses after access left missing (described_runs_meet (following_listed accesses) settings avoid law d (begun entries) outcome after (space, []) outcome2 left is is2 (refl, gives, refl))
 
 -- ---- a run comes out in one way
 
@@ -84,6 +84,6 @@ module _ {S : Type 0} (law : (problem : RoutingProblem) (one other : RoutingAnsw
   one_described_run (Err e) before one other left left2 is is2 = (is.0 ∙ sym is2.0, sym is.1 ∙ is2.1)
 
 pub one_way : {S : Type 0} → ((problem : RoutingProblem) (one other : RoutingAnswer) → Solves problem one → Solves problem other → one ≡ other)
-    → (accesses : Accesses S) (space : S) (settings : Settings) (avoid text : List ℕ) (one other : Outcome RoutingReport) (left left2 : S) → IsRun accesses settings avoid text space one left → IsRun accesses settings avoid text space other left2
+    → (accesses : Accesses S) (space : S) (settings : Settings) (avoid : List ℕ) (d : Outcome Description) (one other : Outcome RoutingReport) (left left2 : S) → IsDescribedRun accesses settings avoid d space one left → IsDescribedRun accesses settings avoid d space other left2
     → (one ≡ other) × (left ≡ left2)
-one_way law accesses space settings avoid text one other left left2 is is2 = one_described_run law accesses settings avoid (described text) space one other left left2 is is2
+one_way law accesses space settings avoid d one other left left2 is is2 = one_described_run law accesses settings avoid d space one other left left2 is is2

@@ -110,12 +110,8 @@ module _ {S T : Type 0} {accesses : Accesses S} {accesses2 : Accesses T} (side :
           loaded_runs_meet d.0 (first_world accesses settings avoid d before).0 (first_world accesses settings avoid d before).1 outcome space u outcome2 space2 is
           (subst (λ (q : Outcome (Unit {0}) × State T). IsLoadedRun accesses2 settings avoid d.0 q.0 q.1 outcome2 space2) same is2) i
 
-      described_runs_meet : (d : Outcome Description) (before : S) (outcome : Outcome RoutingReport) (space : S) (t : T) (outcome2 : Outcome RoutingReport) (space2 : T) → IsDescribedRun accesses settings avoid d before outcome space
+      pub described_runs_meet : (d : Outcome Description) (before : S) (outcome : Outcome RoutingReport) (space : S) (t : T) (outcome2 : Outcome RoutingReport) (space2 : T) → IsDescribedRun accesses settings avoid d before outcome space
           → IsDescribedRun accesses2 settings avoid d t outcome2 space2 → side.InStep before t → Meet side space space2
       described_runs_meet (Ok d) before outcome space t outcome2 space2 is is2 i =
           runs_over_meet d before outcome space t outcome2 space2 is is2 ((loaded_tables_together {side = side} d.0 settings.steps d.1).goes (fresh d.0.width d.1 before) t i)
       described_runs_meet (Err e) before outcome space t outcome2 space2 is is2 i = inr (t, subst (λ s. side.InStep s t) is.1 i)
-
-      pub runs_meet : (text : List ℕ) (before : S) (outcome : Outcome RoutingReport) (space : S) (t : T) (outcome2 : Outcome RoutingReport) (space2 : T) → IsRun accesses settings avoid text before outcome space
-          → IsRun accesses2 settings avoid text t outcome2 space2 → side.InStep before t → Meet side space space2
-      runs_meet text before outcome space t outcome2 space2 is is2 i = described_runs_meet (described text) before outcome space t outcome2 space2 is is2 i

@@ -69,7 +69,7 @@ module _ {S T : Type 0} {accesses : Accesses S} {accesses2 : Accesses T} (side :
       subst (λ (q : Outcome (Unit {0}) × State T). Carried side space (λ v. IsLoadedRun accesses2 settings avoid d.0 q.0 q.1 outcome v)) (sym same)
       (loaded_run_carried d.0 (first_world accesses settings avoid d before).0 (first_world accesses settings avoid d before).1 outcome space u is i)
 
-  described_run_carried : (d : Outcome Description) (before : S) (outcome : Outcome RoutingReport) (space : S) (t : T) → IsDescribedRun accesses settings avoid d before outcome space → side.InStep before t
+  pub described_run_carried : (d : Outcome Description) (before : S) (outcome : Outcome RoutingReport) (space : S) (t : T) → IsDescribedRun accesses settings avoid d before outcome space → side.InStep before t
       → Carried side space (λ v. IsDescribedRun accesses2 settings avoid d t outcome v)
   described_run_carried (Ok d) before outcome space t is i = run_over_goes d before outcome space t is ((loaded_tables_together {side = side} d.0 settings.steps d.1).goes (fresh d.0.width d.1 before) t i)
   described_run_carried (Err e) before outcome space t is i = inr (t, (is.0, refl), subst (λ s. side.InStep s t) is.1 i)

@@ -16,7 +16,7 @@ ghost use Rattle.recorded_space.specs.Deciding.{Gives};
 ghost use Rattle.recorded_space.specs.Recordings.{Recording, begun, recorded};
 ghost use Rattle.route_report.specs.Reports.{RoutingReport};
 ghost use Rattle.recorded_route.specs.declared.settings.Settings.{Settings};
-ghost use Rattle.recorded_route.specs.Runs.{described, IsRun};
+ghost use Rattle.recorded_route.specs.Runs.{Description, described, IsDescribedRun, IsRun};
 ghost use Rattle.aml_laws.specs.Noted.{WithNotes, noted};
 ghost use Rattle.recorded_laws.specs.Grown.{left_by};
 ghost use Rattle.recorded_laws.specs.Listed.{listed};
@@ -25,16 +25,16 @@ ghost use Rattle.recorded_laws.specs.RunNotes.{RunTells};
 use acpi_configure::laws::a_problem_has_one_answer;
 
 /// Where no access is missing from a record, the run over the record is one over any register space that gives its answers: it comes
-/// out with the same report or refusal.
+/// out with the same report or refusal. So it is of whatever describes the machine: a text, or its tables in memory.
 pub fn a_run_over_a_whole_record_is_one_over_any_space<S>()
-    ensures { (accesses : Accesses S) (space : S) (settings : Settings) (avoid text : List ℕ) (entries : List Exchange) (outcome : Outcome RoutingReport) (after : Recording) → Gives accesses entries space
-        → IsRun recorded settings avoid text (begun entries) outcome after → after.missing ≡ None → (left : S) × IsRun accesses settings avoid text space outcome left }
+    ensures { (accesses : Accesses S) (space : S) (settings : Settings) (avoid : List ℕ) (description : Outcome Description) (entries : List Exchange) (outcome : Outcome RoutingReport) (after : Recording) → Gives accesses entries space
+        → IsDescribedRun recorded settings avoid description (begun entries) outcome after → after.missing ≡ None → (left : S) × IsDescribedRun accesses settings avoid description space outcome left }
 {}
 
 /// A run over a register space comes out in one way, and leaves one space.
 pub fn a_run_comes_out_in_one_way<S>()
-    ensures { (accesses : Accesses S) (space : S) (settings : Settings) (avoid text : List ℕ) (one other : Outcome RoutingReport) (left left2 : S) → IsRun accesses settings avoid text space one left
-        → IsRun accesses settings avoid text space other left2 → (one ≡ other) × (left ≡ left2) }
+    ensures { (accesses : Accesses S) (space : S) (settings : Settings) (avoid : List ℕ) (description : Outcome Description) (one other : Outcome RoutingReport) (left left2 : S) → IsDescribedRun accesses settings avoid description space one left
+        → IsDescribedRun accesses settings avoid description space other left2 → (one ≡ other) × (left ≡ left2) }
 {
     a_problem_has_one_answer();
 }
@@ -42,9 +42,9 @@ pub fn a_run_comes_out_in_one_way<S>()
 /// The access that is missing from a record is made by each run over any register space that gives the record's answers, as the next
 /// one after as many accesses as entries were used.
 pub fn the_wanted_access_is_the_next_one<S>()
-    ensures { (accesses : Accesses S) (space : S) (settings : Settings) (avoid text : List ℕ) (entries : List Exchange) (outcome : Outcome RoutingReport) (after : Recording) (access : Access) → Gives accesses entries space
-        → IsRun recorded settings avoid text (begun entries) outcome after → after.missing ≡ Some access
-        → (outcome2 : Outcome RoutingReport) (left : S × List Access) → IsRun (listed accesses) settings avoid text (space, []) outcome2 left → slice_get left.1 after.used ≡ Some access }
+    ensures { (accesses : Accesses S) (space : S) (settings : Settings) (avoid : List ℕ) (description : Outcome Description) (entries : List Exchange) (outcome : Outcome RoutingReport) (after : Recording) (access : Access) → Gives accesses entries space
+        → IsDescribedRun recorded settings avoid description (begun entries) outcome after → after.missing ≡ Some access
+        → (outcome2 : Outcome RoutingReport) (left : S × List Access) → IsDescribedRun (listed accesses) settings avoid description (space, []) outcome2 left → slice_get left.1 after.used ≡ Some access }
 {
     a_problem_has_one_answer();
 }

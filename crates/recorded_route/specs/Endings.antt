@@ -52,8 +52,8 @@ pub record IsEndingOver (settings : Settings) (avoid : List ℕ) (description : 
 abbrev pub IsEnding : Settings → List ℕ → List ℕ → List Exchange → Ending RoutingReport → Type 0
 IsEnding settings avoid text = IsEndingOver settings avoid (described text)
 
-abbrev pub IsEndingOfTables : Settings → List ℕ → ℕ → List TablePart → List Exchange → Ending RoutingReport → Type 0
-IsEndingOfTables settings avoid rsdp parts = IsEndingOver settings avoid (described_tables rsdp parts)
+abbrev pub IsEndingOfTables : Settings → List ℕ → ℕ → List TablePart → List ℕ → List Exchange → Ending RoutingReport → Type 0
+IsEndingOfTables settings avoid rsdp parts osi = IsEndingOver settings avoid (described_tables rsdp parts osi)
 
 -- what it came to, seen by a view
 abbrev pub seen_ending : {A B : Type 0} → (A → B) → Ending A → Ending B
@@ -71,5 +71,5 @@ pub record IsEvaluatedOver (settings : Settings) (path : List ℕ) (arguments : 
 abbrev pub IsEvaluated : Settings → List ℕ → List Given → List ℕ → List Exchange → Ending Given → Type 0
 IsEvaluated settings path arguments text = IsEvaluatedOver settings path arguments (described text)
 
-abbrev pub IsEvaluatedOfTables : Settings → List ℕ → List Given → ℕ → List TablePart → List Exchange → Ending Given → Type 0
-IsEvaluatedOfTables settings path arguments rsdp parts = IsEvaluatedOver settings path arguments (described_tables rsdp parts)
+abbrev pub IsEvaluatedOfTables : Settings → List ℕ → List Given → ℕ → List TablePart → List ℕ → List Exchange → Ending Given → Type 0
+IsEvaluatedOfTables settings path arguments rsdp parts osi = IsEvaluatedOver settings path arguments (described_tables rsdp parts osi)

@@ -1,6 +1,7 @@
 -- A run over any register space: the tables of a machine are loaded over it, the machine is initialized, and its links are configured.
-use Rattle.std.specs.Prelude.{◌≡◌, ◌+◌, ◌^◌, ℕ, nat_le, List, [], ◌∷◌, length, Ok, Err, if◌then◌else◌}
+use Rattle.std.specs.Prelude.{◌≡◌, ◌+◌, ◌^◌, ◌==◌, ℕ, nat_le, List, [], ◌∷◌, length, Ok, Err, if◌then◌else◌}
 use Rattle.std.specs.FinMap as map
+use Rattle.std.specs.List.{slice_split}
 use Rattle.std.specs.Ordering.{nat_cmp}
 use Rattle.ar_space.specs.declared.refusal.Refusal.TheVariants.{Table}
 use Rattle.ar_space.specs.declared.refusal.TableFault.TheVariants.{NotInImage}
@@ -45,12 +46,17 @@ with_parts image (part ∷ parts) = do
   next ← with_part image part
   with_parts next parts
 
--- the tables by their Root System Description Pointer; `_OSI` knows no further texts
-unfoldable pub described_tables : ℕ → List TablePart → Outcome Description
-described_tables rsdp parts = do
+-- texts are parted by single line feeds; where there is no byte, there is no text
+abbrev pub texts_in : List ℕ → List (List ℕ)
+texts_in [] = []
+texts_in (b ∷ bs) = slice_split (λ c. c == 10) (b ∷ bs)
+
+-- the tables by their Root System Description Pointer, and the texts that `_OSI` knows
+unfoldable pub described_tables : ℕ → List TablePart → List ℕ → Outcome Description
+described_tables rsdp parts osi = do
   image ← with_parts map.empty parts
   t ← tables_of image rsdp
-  Ok (t, [])
+  Ok (t, texts_in osi)
 
 -- accesses: what the register space makes of them; settings and avoid: what the caller wants
 module _ {S : Type 0} (accesses : Accesses S) (settings : Settings) (avoid : List ℕ) where

@@ -7,7 +7,7 @@ ghost use Rattle.recorded_space.specs.Recordings.{recorded};
 ghost use Rattle.recorded_route.specs.Evaluations.{object_of, machine_answer, answer_over, evaluation};
 ghost use Rattle.recorded_route.specs.Endings.{IsEvaluated, IsEvaluatedOfTables, IsEvaluatedOver, Leaves, NotOutOfMemory, seen_ending};
 
-use crate::description::{Description, TablePart, described, described_tables};
+use crate::description::{Description, TablesInMemory, described, described_tables};
 use crate::ending::{Ending, WantedAccess, ending_of, wanted_of};
 use crate::settings::Settings;
 use acpi_machine::{Machine, load_tables};
@@ -145,17 +145,16 @@ pub fn evaluate_recorded(
     ending(alloc, description, settings, question, entries)
 }
 
-/// The same of tables as they stand in memory, by the address of their Root System Description Pointer.
+/// The same of tables as they stand in memory.
 pub fn evaluate_tables_recorded(
     alloc: Global,
-    rsdp: u64,
-    parts: &[TablePart<'_>],
+    tables: &TablesInMemory<'_>,
     settings: &Settings,
     question: Question<'_>,
     entries: &[Exchange],
 ) -> Ending<Datum>
-    ensures { NotOutOfMemory result → IsEvaluatedOfTables settings.now question.path.now (map given_of question.arguments.items) rsdp parts.now entries.now (seen_ending given_of result) }
+    ensures { NotOutOfMemory result → IsEvaluatedOfTables settings.now question.path.now (map given_of question.arguments.items) tables.now.rsdp tables.now.parts.now tables.now.osi.now entries.now (seen_ending given_of result) }
 {
-    let description = described_tables(alloc, rsdp, parts);
+    let description = described_tables(alloc, tables);
     ending(alloc, description, settings, question, entries)
 }

@@ -8,7 +8,7 @@ mod evaluation;
 mod run;
 mod settings;
 
-pub use description::TablePart;
+pub use description::{TablePart, TablesInMemory};
 pub use ending::{Ending, WantedAccess};
 pub use evaluation::{Question, evaluate_recorded, evaluate_tables_recorded};
 pub use recorded_space::{Access, Exchange};

@@ -4,7 +4,7 @@ ghost use Rattle.recorded_space.specs.Recordings.{begun, recorded};
 ghost use Rattle.recorded_route.specs.Endings.{IsEnding, IsEndingOfTables, IsEndingOver, Leaves, NotOutOfMemory};
 ghost use Rattle.recorded_route.specs.Runs.{IsStarted, IsMachineRun, IsRunOver, IsDescribedRun};
 
-use crate::description::{Description, TablePart, described, described_tables};
+use crate::description::{Description, TablesInMemory, described, described_tables};
 use crate::ending::{Ending, WantedAccess, ending_of, wanted_of};
 use crate::settings::Settings;
 use acpi_configure::configure;
@@ -132,18 +132,16 @@ pub fn configure_recorded(
     ending(alloc, description, settings, avoid, entries)
 }
 
-/// The same of tables as they stand in memory, by the address of their Root System Description Pointer: no text is read. `_OSI` knows no
-/// texts beyond its own.
+/// The same of tables as they stand in memory: no machine text is read.
 pub fn configure_tables_recorded(
     alloc: Global,
-    rsdp: u64,
-    parts: &[TablePart<'_>],
+    tables: &TablesInMemory<'_>,
     settings: &Settings,
     avoid: &[u32],
     entries: &[Exchange],
 ) -> Ending<Report>
-    ensures { NotOutOfMemory result → IsEndingOfTables settings.now avoid.now rsdp parts.now entries.now result }
+    ensures { NotOutOfMemory result → IsEndingOfTables settings.now avoid.now tables.now.rsdp tables.now.parts.now tables.now.osi.now entries.now result }
 {
-    let description = described_tables(alloc, rsdp, parts);
+    let description = described_tables(alloc, tables);
     ending(alloc, description, settings, avoid, entries)
 }

@@ -57,12 +57,12 @@ module _ {A : Type 0} (entries : List Exchange) (used : ℕ) where
 module _ {S : Type 0} (accesses : Accesses S) (entries : List Exchange) where
   -- ---- what the answers of a record say of the space
 
-  read_given : (used : ℕ) (s : S) (place : Place) (width : Width) (answer : Result ℕ SpaceFault) → said_by (slice_get entries used) (read_answer place width) ≡ Some answer
+  pub read_given : (used : ℕ) (s : S) (place : Place) (width : Width) (answer : Result ℕ SpaceFault) → said_by (slice_get entries used) (read_answer place width) ≡ Some answer
       → Gives accesses (drop used entries) s → ((accesses.reads s place width).0 ≡ answer) × Gives accesses (drop (used + 1) entries) (accesses.reads s place width).1
   unfolding Gives
   read_given used s place width answer is gives = rw (found_read entries used place width answer is) at gives
 
-  write_given : (used : ℕ) (s : S) (place : Place) (width : Width) (value : ℕ) (answer : Result (Unit {0}) SpaceFault) → said_by (slice_get entries used) (write_answer place width value) ≡ Some answer
+  pub write_given : (used : ℕ) (s : S) (place : Place) (width : Width) (value : ℕ) (answer : Result (Unit {0}) SpaceFault) → said_by (slice_get entries used) (write_answer place width value) ≡ Some answer
       → Gives accesses (drop used entries) s → ((accesses.writes s place width value).0 ≡ answer) × Gives accesses (drop (used + 1) entries) (accesses.writes s place width value).1
   unfolding Gives
   write_given used s place width value answer is gives = rw (found_write entries used place width value answer is) at gives
@@ -80,12 +80,12 @@ module _ {S A : Type 0} (accesses : Accesses S) (s : S) where
   unfolding outcome
   write_over place width value next answer is = ap (λ given. outcome accesses (next given) (accesses.writes s place width value).1) is
 
-  read_made : (place : Place) (width : Width) (next : Result ℕ SpaceFault → Deciding A) (answer : Result ℕ SpaceFault) → (accesses.reads s place width).0 ≡ answer
+  pub read_made : (place : Place) (width : Width) (next : Result ℕ SpaceFault → Deciding A) (answer : Result ℕ SpaceFault) → (accesses.reads s place width).0 ≡ answer
       → made accesses (reads place width next) s ≡ Read place width ∷ made accesses (next answer) (accesses.reads s place width).1
   unfolding made
   read_made place width next answer is = ap (λ given. Read place width ∷ made accesses (next given) (accesses.reads s place width).1) is
 
-  write_made : (place : Place) (width : Width) (value : ℕ) (next : Result (Unit {0}) SpaceFault → Deciding A) (answer : Result (Unit {0}) SpaceFault) → (accesses.writes s place width value).0 ≡ answer
+  pub write_made : (place : Place) (width : Width) (value : ℕ) (next : Result (Unit {0}) SpaceFault → Deciding A) (answer : Result (Unit {0}) SpaceFault) → (accesses.writes s place width value).0 ≡ answer
       → made accesses (writes place width value next) s ≡ Write place width value ∷ made accesses (next answer) (accesses.writes s place width value).1
   unfolding made
   write_made place width value next answer is = ap (λ given. Write place width value ∷ made accesses (next given) (accesses.writes s place width value).1) is

@@ -1,5 +1,5 @@
 -- Where a run over a record stops.
-use Rattle.std.specs.Prelude.{◌≡◌, ◌≢◌, ◌==◌, ℕ, ◌+◌, Bool, true, List, Option, Some, None, Result, slice_get, if◌then◌else◌, refl}
+use Rattle.std.specs.Prelude.{◌≡◌, ◌≢◌, ◌==◌, ◌≤◌, ℕ, zero, suc, ◌+◌, [], ◌∷◌, length, drop, Bool, true, List, Option, Some, None, Result, slice_get, if◌then◌else◌, refl}
 use Rattle.std.proofs.Common.{◌∙◌, sym, subst, ap, arith}
 use Rattle.ar_space.specs.Accesses.{Accesses}
 use Rattle.ar_space.specs.declared.refusal.SpaceFault.{SpaceFault}
@@ -13,8 +13,8 @@ use Rattle.recorded_space.specs.declared.exchange.Exchange.{Exchange}
 use Rattle.recorded_space.specs.declared.exchange.Exchange.TheVariants as entry
 use Rattle.recorded_space.specs.Exchanges.{access_of, is_same_place, is_same_width, is_same_register, kept, IsKept, read_answer, write_answer}
 use Rattle.recorded_space.specs.Recordings.{Recording, begun, recorded, said_by}
-use Rattle.recorded_space.specs.Deciding.{Deciding, ends, reads, writes, outcome, Gives, IsRecordOf}
-use Rattle.recorded_space.proofs.Runs.{standing, read_stops, write_stops, read_goes, write_goes, next_one}
+use Rattle.recorded_space.specs.Deciding.{Deciding, ends, reads, writes, outcome, made, Gives, IsRecordOf}
+use Rattle.recorded_space.proofs.Runs.{standing, read_stops, write_stops, read_goes, write_goes, read_given, write_given, read_made, write_made, next_one}
 
 -- ---- an entry that is the access answers it
 
@@ -103,16 +103,72 @@ module _ {A : Type 0} (entries : List Exchange) where
   unfolding Stops
   other_there what access e some there fits = silent_other access e (subst (Silent access) there (stops_from what 0 access some)) fits
 
+next_count : (used n : ℕ) → used + 1 + n ≡ used + suc n
+next_count used n = omega arith
+
+add_none : (used : ℕ) → used + 0 ≡ used
+add_none used = omega arith
+
+none_beyond : {X : Type 0} (xs : List X) (i : ℕ) → length xs ≤ i → slice_get xs i ≡ None
+none_beyond [] i le = refl
+none_beyond (x ∷ xs) zero le = absurd (omega arith)
+none_beyond (x ∷ xs) (suc i) le = none_beyond xs i (omega arith)
+
 none_unless : (o : Option Exchange) → ((e : Exchange) → o ≡ Some e → ⊥) → o ≡ None
 none_unless None not = refl
 none_unless (Some e) not = absurd (not e refl)
 
 module _ {S A : Type 0} (accesses : Accesses S) (entries : List Exchange) where
-  pub used_up : (s : S) (what : Deciding A) (access : Access) → Gives accesses entries s → IsRecordOf accesses what s entries → (outcome recorded what (begun entries)).1.missing ≡ Some access
-      → slice_get entries (outcome recorded what (begun entries)).1.used ≡ None
-  used_up s what access gives is some =
-      none_unless (slice_get entries (outcome recorded what (begun entries)).1.used) (λ e there.
+  -- ---- where no access is missing, all that were made were answered
+
+  Counts : Deciding A → Type 0
+  Counts what = (used : ℕ) (s : S) → Gives accesses (drop used entries) s → (outcome recorded what (standing entries used)).1.missing ≡ None
+      → (outcome recorded what (standing entries used)).1.used ≡ used + length (made accesses what s)
+
+  read_counts : (place : Place) (width : Width) (next : Result ℕ SpaceFault → Deciding A) → ((answer : Result ℕ SpaceFault) → Counts (next answer)) → (used : ℕ) (s : S) (said : Option (Result ℕ SpaceFault))
+      → said_by (slice_get entries used) (read_answer place width) ≡ said → Gives accesses (drop used entries) s → (outcome recorded (reads place width next) (standing entries used)).1.missing ≡ None
+      → (outcome recorded (reads place width next) (standing entries used)).1.used ≡ used + length (made accesses (reads place width next) s)
+  unfolding Counts
+  read_counts place width next after used s None is gives none = absurd (cc (ap (λ (r : Recording). r.missing) (read_stops entries used place width next is), none))
+  read_counts place width next after used s (Some answer) is gives none =
+      let given = read_given accesses entries used s place width answer is gives in
+      let goes = read_goes entries used place width next answer is in
+      let rest = after answer (used + 1) (accesses.reads s place width).1 given.1 (rw goes at none) in
+      rw (goes, read_made accesses s place width next answer given.0) (rest ∙ next_count used (length (made accesses (next answer) (accesses.reads s place width).1)))
+
+  write_counts : (place : Place) (width : Width) (value : ℕ) (next : Result (Unit {0}) SpaceFault → Deciding A) → ((answer : Result (Unit {0}) SpaceFault) → Counts (next answer)) → (used : ℕ) (s : S) (said : Option (Result (Unit {0}) SpaceFault))
+      → said_by (slice_get entries used) (write_answer place width value) ≡ said → Gives accesses (drop used entries) s → (outcome recorded (writes place width value next) (standing entries used)).1.missing ≡ None
+      → (outcome recorded (writes place width value next) (standing entries used)).1.used ≡ used + length (made accesses (writes place width value next) s)
+  unfolding Counts
+  write_counts place width value next after used s None is gives none = absurd (cc (ap (λ (r : Recording). r.missing) (write_stops entries used place width value next is), none))
+  write_counts place width value next after used s (Some answer) is gives none =
+      let given = write_given accesses entries used s place width value answer is gives in
+      let goes = write_goes entries used place width value next answer is in
+      let rest = after answer (used + 1) (accesses.writes s place width value).1 given.1 (rw goes at none) in
+      rw (goes, write_made accesses s place width value next answer given.0) (rest ∙ next_count used (length (made accesses (next answer) (accesses.writes s place width value).1)))
+
+  counts_from : (what : Deciding A) → Counts what
+  unfolding Counts outcome made
+  counts_from (ends a) used s gives none = sym (add_none used)
+  counts_from (reads place width next) used s gives none = read_counts place width next (λ answer. counts_from (next answer)) used s (said_by (slice_get entries used) (read_answer place width)) refl gives none
+  counts_from (writes place width value next) used s gives none = write_counts place width value next (λ answer. counts_from (next answer)) used s (said_by (slice_get entries used) (write_answer place width value)) refl gives none
+
+  -- ---- so a record of the run is used to its end
+
+  stopped_at : (s : S) (what : Deciding A) (missing : Option Access) → Gives accesses entries s → IsRecordOf accesses what s entries → (outcome recorded what (begun entries)).1.missing ≡ missing → (e : Exchange)
+      → slice_get entries (outcome recorded what (begun entries)).1.used ≡ Some e → ⊥
+  unfolding Counts
+  stopped_at s what (Some access) gives is some e there =
       let entry_is = is (outcome recorded what (begun entries)).1.used e there in
       let made_is = next_one accesses entries s what access gives some in
       let same : access_of e ≡ access = cc (entry_is.1, made_is) in
-      other_there entries what access e some there entry_is.0 same)
+      other_there entries what access e some there entry_is.0 same
+  stopped_at s what None gives is none e there =
+      let number = counts_from what 0 s gives none in
+      let entry_is = is (outcome recorded what (begun entries)).1.used e there in
+      let beyond = none_beyond (made accesses what s) (outcome recorded what (begun entries)).1.used (omega (arith, number)) in
+      cc (entry_is.1, beyond)
+
+  pub used_up : (s : S) (what : Deciding A) → Gives accesses entries s → IsRecordOf accesses what s entries → slice_get entries (outcome recorded what (begun entries)).1.used ≡ None
+  used_up s what gives is =
+      none_unless (slice_get entries (outcome recorded what (begun entries)).1.used) (stopped_at s what (outcome recorded what (begun entries)).1.missing gives is refl)

@@ -23,9 +23,10 @@ pub fn the_entry_where_a_run_stops_is_of_another_access<A>()
     ensures { (entries : List Exchange) (what : Deciding A) (access : Access) (entry : Exchange) → (outcome recorded what (begun entries)).1.missing ≡ Some access → slice_get entries (outcome recorded what (begun entries)).1.used ≡ Some entry → IsKept entry → access_of entry ≢ access }
 {}
 
-/// A record of the first accesses of a run over a register space, with what that answers, is used to its end.
+/// A record of the first accesses of a run over a register space, with what that answers, is used to its end, whether an access is
+/// missing from it or not.
 pub fn a_record_of_a_run_is_used_to_its_end<S, A>()
-    ensures { (accesses : Accesses S) (space : S) (entries : List Exchange) (what : Deciding A) (access : Access) → Gives accesses entries space → IsRecordOf accesses what space entries → (outcome recorded what (begun entries)).1.missing ≡ Some access → slice_get entries (outcome recorded what (begun entries)).1.used ≡ None }
+    ensures { (accesses : Accesses S) (space : S) (entries : List Exchange) (what : Deciding A) → Gives accesses entries space → IsRecordOf accesses what space entries → slice_get entries (outcome recorded what (begun entries)).1.used ≡ None }
 {}
 
 /// Once an access is missing, nothing that is accessed changes the record's state any more: the first one that was missing stands.

@@ -1,5 +1,5 @@
 //! The tests of a claim, one after the other.
-ghost use Rattle.std.specs.Prelude.{◌↔◌, IsOk, IfOk, IfErr, OnOk};
+ghost use Rattle.std.specs.Prelude.{◌≡◌, ◌↔◌, IsOk, IsErr, IfOk, IfErr, OnOk, true};
 ghost use Rattle.route_check.specs.Valid.{Valid, IsProved};
 ghost use Rattle.route_check.specs.Flaws.{IsFirstFlaw};
 ghost use Rattle.route_check.specs.Shared.{Holds};
@@ -64,7 +64,8 @@ pub fn check(claim: &Claim) -> Result<(), Flaw>
 }
 
 /// Whether a claim holds: whether it is valid, as `check` says, and where it claims so, whether its links share interrupts as little as
-/// they can; or else its first flaw. That last test, `NotLeastShared`, takes memory: an error means that memory ran out.
+/// they can; or else its first flaw. That last test, `NotLeastShared`, takes memory: an error means that memory ran out for it, so that the
+/// claim is valid and claims so.
 ///
 /// ```
 /// let claim = route_report::read(alloc, text)?;
@@ -73,6 +74,7 @@ pub fn check(claim: &Claim) -> Result<(), Flaw>
 pub fn check_all(alloc: Global, claim: &Claim) -> Result<Result<(), Flaw>, AllocError>
     ensures ok { IfOk result (λ verdict. IsOk verdict ↔ Holds claim.now) }
     ensures flaw { IfOk result (λ verdict. IfErr verdict (λ f. IsFirstFlaw claim.now f)) }
+    ensures memory { IsErr result → Valid claim.now × (claim.now.spread ≡ true) }
 {
     if let Err(flaw) = check(claim) {
         return Ok(Err(flaw));
