@@ -138,7 +138,7 @@ static int is_replied(uint32_t came, uint8_t status, const char *text, const cha
 /* A call without memory says so, and has changed nothing; or its reply says so. */
 static int is_out_of_memory(const struct question *it, uint32_t came) {
     return (came == ACPIROUTE_NO_MEMORY && is_all_untouched()) || is_replied(came, 1, "", "refused 99\n") ||
-           (it->command != NULL && is_replied(came, 2, "", "out of memory\n"));
+           (it->command != NULL && is_replied(came, 2, "", "error: out of memory\n"));
 }
 
 /* What a call says, each buffer one byte too small, and each request for memory refused. */
@@ -195,6 +195,12 @@ static void grow(const struct question *it, struct chipset *chipset, int has_acc
     judge(it, "the number of accesses", (record_length > 0) == has_accesses && came != ACPIROUTE_WANTED);
 }
 
+static int is_same_access(const struct acpiroute_access *one, const struct acpiroute_access *other) {
+    return one->address == other->address && one->value == other->value && one->segment == other->segment && one->bus == other->bus &&
+           one->device == other->device && one->function == other->function && one->space == other->space &&
+           one->width == other->width && one->kind == other->kind && one->answer == other->answer;
+}
+
 static void judge_malformed(const struct question *it, size_t i, struct acpiroute_access changed) {
     struct acpiroute_access whole = record[i];
     record[i] = changed;
@@ -210,7 +216,7 @@ static void judge_spoiled(const struct question *it) {
         int is_there = ask(it, ROOM, ROOM) == ACPIROUTE_WANTED && now.wanted.entry == i;
         other.answer = ACPIROUTE_ANSWERED;
         other.value = whole.kind == ACPIROUTE_READ ? 0 : whole.value;
-        judge(it, "a changed entry", is_there && memcmp(&now.wanted.access, &other, sizeof other) == 0);
+        judge(it, "a changed entry", is_there && is_same_access(&now.wanted.access, &other));
         record[i] = other = whole;
         other.kind = 2;
         judge_malformed(it, i, other);
