@@ -22,6 +22,7 @@ import collections
 import concurrent.futures
 import os
 import re
+import shutil
 import subprocess
 import sys
 import tempfile
@@ -142,6 +143,9 @@ def main():
     library = os.path.abspath(asked.library)
     if not os.path.isfile(library):
         sys.exit(f"run.py: {asked.library}: no such file: tools/kernel_library.py makes the libraries")
+    for needed in ("gcc", "objdump", "qemu-system-x86_64"):
+        if not shutil.which(needed):
+            sys.exit(f"run.py: {needed} is not installed")
     code = instructions(library)
     more_words = "" if "%xmm" in code else " no-sse"
     wanted = [it for it in boots(asked.cpu, more_words, "<acpiroute_eval>:" in code) if asked.only in it.name]
