@@ -19,6 +19,7 @@ import usage
 
 NEEDED = ["memcpy", "memmove", "memset", "rattle_alloc", "rattle_dealloc", "rattle_realloc"]
 SECTIONS_REFUSED = r"\.(eh_frame|gcc_except_table|tdata|tbss|init_array|fini_array|ctors|dtors|preinit_array)\b"
+PROGRAMS = ["ld", "nm", "objdump", "readelf", "size"]
 UPPER_HALF = "0xFFFFFFFF80000000"
 RELOCATIONS = {"R_X86_64_PC32", "R_X86_64_PLT32", "R_X86_64_64"}
 # Instructions that not every x86-64 processor has, up to AVX-512: SSE3 and later, and those that came with them. (objdump shows the

@@ -21,6 +21,7 @@ import collections
 import concurrent.futures
 import os
 import re
+import shutil
 import subprocess
 import sys
 import tempfile
@@ -139,6 +140,9 @@ def main():
     library = os.path.abspath(asked.library)
     if not os.path.isfile(library):
         sys.exit(f"run.py: {asked.library}: no such file: tools/kernel_library.py makes the libraries")
+    for needed in ("gcc", "objdump", "qemu-system-x86_64"):
+        if not shutil.which(needed):
+            sys.exit(f"run.py: {needed} is not installed")
     code = instructions(library)
     more_words = "" if "%xmm" in code else " no-sse"
     wanted = [it for it in boots(asked.cpu, more_words) if asked.only in it.name]
