@@ -39,15 +39,20 @@ REPORTS = {
     "two-links": ("two-links", ["route"]),
     "two-links.avoid": ("two-links", ["route", "--avoid", "10"]),
     "i440fx": ("i440fx", ["route"]),
+    "i440fx.spread": ("i440fx", ["route", "--spread"]),
     "q35.pic": ("q35", ["route", "--mode", "pic"]),
     "q35.apic": ("q35", ["route"]),
     "index": ("index", ["route"]),
     "isa": ("isa", ["route", "--mode", "pic"]),
     "isa.avoid": ("isa", ["route", "--mode", "pic", "--avoid", "1,3,4,6,7,12,14,15"]),
+    "isa.spare": ("isa", ["route", "--mode", "pic", "--spare"]),
+    "spare": ("spare", ["route", "--mode", "pic", "--spare"]),
+    "spare.spread": ("spare", ["route", "--mode", "pic", "--spare", "--spread"]),
 }
 # Other commands: the machine text, the words, the exit status, the output and the line of errors.
 COMMANDS = [
     ("two-links", ["route", "--avoid", "5"], 1, "", "refused 123 \\_SB_.LNKB\n"),
+    ("spare", ["route", "--mode", "pic", "--spare", "--avoid", "5,10,11"], 1, "", "refused 123 \\_SB_.LNKA\n"),
     ("switch", ["route"], 1, "", "refused 73 op 0089\n"),
     ("switch", ["eval", "\\_SB_.PCI0.RP01._PRT"], 1, "", "refused 73 op 0089\n"),
     ("refused", ["route"], 1, "", "refused 101\n"),
@@ -60,6 +65,7 @@ WORDS = {
     "q35": ["--pci", "q35.lspci"],
     "index": ["--io", "C00=0005"],
     "isa": [],
+    "spare": [],
     "switch": [],
     "refused": [],
 }
@@ -70,6 +76,7 @@ SOURCES = {
     "q35": ["q35"],
     "index": ["index", "index-ssdt", "index-madt"],
     "isa": ["isa"],
+    "spare": ["spare"],
     "switch": ["switch"],
     "refused": ["refused"],
 }
@@ -181,8 +188,8 @@ def sources_served(report):
 
 
 def in_version_1(report):
-    """The same report in version 1, which has no lines of the System Control Interrupt and of avoided interrupts."""
-    lines = [it for it in report.splitlines() if it.split()[0] not in ("sci", "avoid")]
+    """The same report in version 1, which has no lines of the System Control Interrupt, of avoided interrupts and of options."""
+    lines = [it for it in report.splitlines() if it.split()[0] not in ("sci", "avoid", "spared", "unread", "first", "spread")]
     return "\n".join(["acpiroute 1", *lines[1:]]) + "\n"
 
 

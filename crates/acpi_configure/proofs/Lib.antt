@@ -1,7 +1,12 @@
+pub mod Asked
+pub mod Barring
 pub mod Bounds
 pub mod Claims
+pub mod Fitting
+pub mod NotGiven
 pub mod One
 pub mod Placed
+pub mod Plain
 pub mod Readables
 pub mod Reported
 pub mod Settled

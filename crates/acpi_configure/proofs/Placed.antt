@@ -6,7 +6,7 @@ use Rattle.std.proofs.lemmas.Slice.Zip.{AllZip-long}
 use Rattle.route_model.specs.Links.{OfferingLink, offers_of}
 use Rattle.route_solve.specs.Problems.{RoutingProblem, RoutingAnswer}
 use Rattle.route_solve.specs.Shown.{Shown, Idle, Wired, Crowded}
-use Rattle.acpi_configure.specs.Configured.{Solves}
+use Rattle.acpi_configure.proofs.Fitting.{Fitting}
 
 within : {offers : List (List ℕ)} {wired : List (ℕ × ℕ)} {k : ℕ} {links interrupts : List ℕ} → Shown offers wired k links interrupts
     → (j d : ℕ) → j < length links → get_or links j d < length offers
@@ -22,8 +22,8 @@ len : (ls : List OfferingLink) → length (offers_of ls) ≡ length ls
 len [] = refl
 len (l ∷ ls) = ap suc (len ls)
 
-pub placed : (p : RoutingProblem) (a : RoutingAnswer) → Solves p a → All (λ k. k < length p.links) a.links
+pub placed : (p : RoutingProblem) (a : RoutingAnswer) → Fitting p a → All (λ k. k < length p.links) a.links
 placed p a s = λ j d l. let h = within s.shown j d l in let e = len p.links in omega arith
 
-pub chosen_for_each : (p : RoutingProblem) (a : RoutingAnswer) → Solves p a → length a.choice ≡ length p.links
-chosen_for_each p a s = AllZip-long Contains (offers_of p.links) a.choice s.first_least.is_least.offered ∙ len p.links
+pub chosen_for_each : (p : RoutingProblem) (a : RoutingAnswer) → Fitting p a → length a.choice ≡ length p.links
+chosen_for_each p a s = AllZip-long Contains (offers_of p.links) a.choice s.offered ∙ len p.links

@@ -15,7 +15,7 @@ use Rattle.route_model.proofs.NotAvoided.{left_from}
 use Rattle.acpi_links.specs.Gathering.{Gathering}
 use Rattle.acpi_links.specs.Problems.{offering, problem_of}
 use Rattle.route_solve.specs.Problems.{RoutingProblem, RoutingAnswer}
-use Rattle.acpi_configure.specs.Configured.{Solves}
+use Rattle.acpi_configure.proofs.Fitting.{Fitting}
 use Rattle.acpi_configure.proofs.Placed.{chosen_for_each}
 use Rattle.route_report.specs.declared.report.SetLine.{SetLine}
 use Rattle.acpi_configure.specs.Settling.{attempted, link_set, links_set}
@@ -71,8 +71,8 @@ module _ (avoid : List ℕ) (sci : Option ℕ) (g : Gathering) (a : RoutingAnswe
   unfolding problem_of
   posed_links posed = ap (λ (p : RoutingProblem). p.links) posed
 
-  pub offered_each : g.problem ≡ problem_of avoid sci g.links g.pins → Solves g.problem a → AllZip Contains (map (λ (l : PresentLink). l.1.numbers) g.links) a.choice
-  offered_each posed s = left_each avoid g.links a.choice (subst (λ xs. AllZip Contains xs a.choice) (ap offers_of (posed_links posed)) s.first_least.is_least.offered)
+  pub offered_each : g.problem ≡ problem_of avoid sci g.links g.pins → Fitting g.problem a → AllZip Contains (map (λ (l : PresentLink). l.1.numbers) g.links) a.choice
+  offered_each posed s = left_each avoid g.links a.choice (subst (λ xs. AllZip Contains xs a.choice) (ap offers_of (posed_links posed)) s.offered)
 
-  pub chosen_each : g.problem ≡ problem_of avoid sci g.links g.pins → Solves g.problem a → length a.choice ≡ length g.links
+  pub chosen_each : g.problem ≡ problem_of avoid sci g.links g.pins → Fitting g.problem a → length a.choice ≡ length g.links
   chosen_each posed s = chosen_for_each g.problem a s ∙ ap (λ (ls : List OfferingLink). length ls) (posed_links posed) ∙ length-map g.links (offering avoid)

@@ -1,31 +1,13 @@
--- Counts that wire as many sources to each interrupt make the same interrupt the busiest; and a set of avoided interrupts avoids what
--- its list does.
-use Rattle.std.proofs.Common.{◌≡◌, ◌∙◌, ap, sym, refl, ℕ, ◌+◌, ◌-◌, ◌*◌, ◌<◌, ◌≤◌, Bool, cond, List, [], ◌∷◌, ◌++◌, Option, Some, None, length, arith}
-use Rattle.std.specs.Prelude.{◌==◌, not, filter, sum_by, count_by, option_to_list, if◌then◌else◌}
+-- Counts that wire as many sources to each interrupt make the same interrupt the busiest, and links share as little as they can by the one
+-- as by the other.
+use Rattle.std.proofs.Common.{◌≡◌, ◌∙◌, ap, sym, refl, ℕ, ◌+◌, ◌-◌, ◌*◌, ◌<◌, ◌≤◌, cond, List, [], ◌∷◌, ◌++◌, Option, Some, None, length, arith}
+use Rattle.std.specs.Prelude.{◌==◌, sum_by, count_by, option_to_list, if◌then◌else◌}
 use Rattle.std.proofs.lemmas.List.Sums.{sum_by-cons, sum_by-append}
-use Rattle.acpi_resources.specs.Numbers.{set_of}
-use Rattle.acpi_resources.proofs.Members.{members_of_set}
-use Rattle.route_model.specs.Avoided.{is_avoided, without}
 use Rattle.route_model.specs.Bound.{IsLowerBound}
-use Rattle.route_model.specs.Routing.{wired_to, load, busiest}
-use Rattle.route_model.proofs.Filtered.{any_contains, contains_any}
+use Rattle.route_model.specs.Routing.{given, wired_to, load, busiest}
 use Rattle.route_model.proofs.Loads.{load-le, busiest-le}
-use Rattle.route_model.proofs.NotAvoided.{avoided_is}
 use Rattle.route_check.specs.Valid.{sci_counts}
-
--- ---- avoided interrupts, as a list and as its set
-
-avoided_alike : (avoid : List ℕ) (n : ℕ) → is_avoided (set_of avoid) n ≡ is_avoided avoid n
-avoided_alike avoid n =
-    avoided_is avoid n (is_avoided (set_of avoid) n)
-    ((λ t. (members_of_set avoid n).0 (any_contains n (set_of avoid) t)), (λ c. contains_any n (set_of avoid) ((members_of_set avoid n).1 c)))
-
-pub set_avoided : (avoid ns : List ℕ) → without (set_of avoid) ns ≡ without avoid ns
-unfolding without
-set_avoided avoid [] = refl
-set_avoided avoid (n ∷ ns) =
-    ap (λ (b : Bool). cond (not b) (n ∷ without (set_of avoid) ns) (without (set_of avoid) ns)) (avoided_alike avoid n)
-    ∙ ap (λ (rest : List ℕ). cond (not (is_avoided avoid n)) (n ∷ rest) rest) (set_avoided avoid ns)
+use Rattle.route_spread.specs.Sharing.{excess, IsLeastShared}
 
 -- ---- counts
 
@@ -62,4 +44,17 @@ same_bound offers a b k links interrupts h l = record {
   known = l.known;
   inside = l.inside;
   crowded = rw (← same_sum (wired_to a) (wired_to b) interrupts h) l.crowded;
+}
+
+same_excess : (a b : List (ℕ × ℕ)) (numbers choice : List ℕ) (k : ℕ) → ((n : ℕ) → wired_to a n ≡ wired_to b n) → excess a numbers choice k ≡ excess b numbers choice k
+same_excess a b numbers choice k h = same_sum (λ n. load a choice n - k) (λ n. load b choice n - k) numbers (λ n. ap (λ (m : ℕ). given choice n + m - k) (h n))
+
+pub same_sharing : (offers : List (List ℕ)) (a b : List (ℕ × ℕ)) (choice : List ℕ) → ((n : ℕ) → wired_to a n ≡ wired_to b n) → IsLeastShared offers a choice → IsLeastShared offers b choice
+same_sharing offers a b choice h s = record {
+  offered = s.offered;
+  least = λ numbers other k has assigned.
+      let one = same_excess a b numbers choice k h in
+      let two = same_excess a b numbers other k h in
+      let less = s.least numbers other k has assigned in
+      omega arith;
 }

@@ -1,10 +1,10 @@
 -- Where the calls that set links and read them stop.
-use Rattle.std.proofs.Common.{◌≡◌, ℕ, zero, suc, ◌<◌, List, [], ◌∷◌, length, get_or, Bool, false, Ok, refl, arith}
+use Rattle.std.proofs.Common.{◌≡◌, ℕ, zero, suc, ◌<◌, List, [], ◌∷◌, length, get_or, Bool, false, Option, Ok, refl, subst, arith}
 use Rattle.std.specs.Prelude.{zip}
 use Rattle.ar_space.specs.Accesses.{Accesses}
 use Rattle.ar_space.specs.Outcome.{Outcome}
 use Rattle.ar_space.specs.Change.{Change, Does}
-use Rattle.acpi_machine.specs.MachineStates.{MachineState}
+use Rattle.acpi_machine.specs.MachineStates.{MachineState, sci_of}
 use Rattle.acpi_machine.specs.Stops.{AllOrNone, made_as, made_given, stops_next}
 use Rattle.acpi_links.specs.Links.{PresentLink}
 use Rattle.acpi_links.specs.Resources.{current_resources}
@@ -12,9 +12,12 @@ use Rattle.acpi_links.specs.Settings.{resources_set}
 use Rattle.acpi_links.specs.Gathering.{Gathering}
 use Rattle.acpi_links.specs.Gatherings.{gathered}
 use Rattle.route_solve.specs.Problems.{RoutingAnswer}
+use Rattle.acpi_configure.specs.Chosen.{IsChosen}
 use Rattle.acpi_configure.specs.Configured.{Solves}
+use Rattle.acpi_configure.specs.Options.{RunOptions}
 use Rattle.acpi_configure.specs.Settling.{attempted, set_told, state_told, link_set, link_read}
-use Rattle.acpi_configure.specs.Stops.{StopsInSettling, StopsInRun}
+use Rattle.acpi_configure.specs.Stops.{StopsInSettling, StopsInRun, StopsInOthers, StopsInFinding, StopsInRunWith}
+use Rattle.acpi_configure.specs.WithOptions.{Findings, found_by}
 
 pub attempt_made : {S A B : Type 0} {s t : MachineState S} (tell : Outcome A → B) (m : Change (MachineState S) A) → AllOrNone m s t → AllOrNone (attempted tell m) s t
 unfolding attempted
@@ -56,3 +59,14 @@ module _ {S : Type 0} (accesses : Accesses S) (avoid : List ℕ) (s t u : Machin
   pub behind_answer : (dry : Bool) (found : Gathering) (answer : RoutingAnswer) → Does (Ok found) t (gathered accesses avoid) s → Solves found.problem answer
       → StopsInSettling accesses dry found.links answer.choice t u → StopsInRun accesses dry avoid s u
   behind_answer dry found answer d solves h = stops_next d (record { answer = answer; solves = solves; settling = h })
+
+module _ {S : Type 0} (accesses : Accesses S) (o : RunOptions) (s t u : MachineState S) where
+  pub behind_choice : (sci : Option ℕ) (found : Findings) (answer : RoutingAnswer) → sci ≡ sci_of s → Does (Ok found) t (found_by accesses o sci) s → IsChosen o.spread found.gathering.problem answer
+      → StopsInSettling accesses o.dry found.gathering.links answer.choice t u → StopsInRunWith accesses o s u
+  behind_choice sci found answer e d chosen h =
+      let at : Does (Ok found) t (found_by accesses o (sci_of s)) s = subst (λ (n : Option ℕ). Does (Ok found) t (found_by accesses o n) s) e d in
+      stops_next at (record { answer = answer; chosen = chosen; settling = h })
+
+  -- the devices are asked in the machine that gathering left
+  pub behind_links : (first : Gathering) → Does (Ok first) t (gathered accesses o.avoid) s → StopsInOthers accesses o.spare first.links t u → StopsInFinding accesses o s u
+  behind_links first d h = stops_next d h

@@ -1,4 +1,8 @@
+pub mod Chosen
 pub mod Configured
 pub mod Lines
+pub mod Options
+pub mod Others
 pub mod Settling
 pub mod Stops
+pub mod WithOptions

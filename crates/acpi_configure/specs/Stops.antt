@@ -1,15 +1,25 @@
 -- Where a run may stop.
-use Rattle.std.specs.Prelude.{◌≡◌, ℕ, List, [], Bool, true, false, zip}
+use Rattle.std.specs.Prelude.{◌≡◌, ℕ, List, [], Bool, true, false, codes, zip}
 use Rattle.ar_space.specs.Accesses.{Accesses}
-use Rattle.acpi_machine.specs.MachineStates.{MachineState}
+use Rattle.ar_space.specs.Change.{settle}
+use Rattle.aml_path.specs.declared.segment.Seg.{Seg}
+use Rattle.acpi_machine.specs.MachineStates.{MachineState, sci_of}
 use Rattle.acpi_machine.specs.Stops.{Stop, AllOrNone, StopsThen, StopsEach}
+use Rattle.acpi_prt.specs.Children.{child_named}
+use Rattle.acpi_links.specs.Answered.{stands}
 use Rattle.acpi_links.specs.Links.{PresentLink}
+use Rattle.acpi_links.specs.Presence.{is_present}
+use Rattle.acpi_links.specs.Resources.{current_resources}
 use Rattle.acpi_links.specs.Gathering.{Gathering}
 use Rattle.acpi_links.specs.Gatherings.{gathered}
 use Rattle.acpi_links.specs.Stops.{StopsInGathering}
 use Rattle.route_solve.specs.Problems.{RoutingAnswer}
+use Rattle.acpi_configure.specs.Chosen.{IsChosen}
 use Rattle.acpi_configure.specs.Configured.{Solves}
+use Rattle.acpi_configure.specs.Options.{RunOptions}
+use Rattle.acpi_configure.specs.Others.{other_devices, device_asked}
 use Rattle.acpi_configure.specs.Settling.{link_set, links_set, link_read}
+use Rattle.acpi_configure.specs.WithOptions.{Findings, found_by}
 
 -- accesses: what the register space makes of them
 module _ {S : Type 0} (accesses : Accesses S) where
@@ -33,3 +43,44 @@ module _ {S : Type 0} (accesses : Accesses S) where
 
   abbrev pub StopsInRun : Bool → List ℕ → Stop S
   StopsInRun dry avoid = StopsThen (gathered accesses avoid) (StopsInGathering accesses avoid) (StopsBehind dry)
+
+  -- ---- with options
+
+  -- a device that is absent isn't asked
+  abbrev pub StopsIfPresent : Bool → List Seg → Stop S
+  StopsIfPresent true device = AllOrNone (current_resources accesses device)
+  StopsIfPresent false device = ◌≡◌
+
+  -- `_STA`, then `_CRS`
+  abbrev pub StopsInPresent : List Seg → Stop S
+  StopsInPresent device = StopsThen (is_present accesses device) (AllOrNone (is_present accesses device)) (λ present. StopsIfPresent present device)
+
+  -- nor is a device without `_CRS`
+  abbrev pub StopsIfStands : Bool → List Seg → Stop S
+  StopsIfStands true device = StopsInPresent device
+  StopsIfStands false device = ◌≡◌
+
+  abbrev pub StopsInDevice : List Seg → Stop S
+  StopsInDevice device = StopsThen (settle (child_named device (codes "_CRS"))) ◌≡◌ (λ crs before after. StopsIfStands (stands crs before) device before after)
+
+  -- one device after another
+  abbrev pub StopsInDevices : List (List Seg) → Stop S
+  StopsInDevices list = StopsEach (device_asked accesses) StopsInDevice list
+
+  -- where no device is spared none is asked
+  abbrev pub StopsInOthers : Bool → List PresentLink → Stop S
+  StopsInOthers true links before after = StopsInDevices (other_devices links before) before after
+  StopsInOthers false links before after = before ≡ after
+
+  -- first the links, then the other devices
+  abbrev pub StopsInFinding : RunOptions → Stop S
+  StopsInFinding o = StopsThen (gathered accesses o.avoid) (StopsInGathering accesses o.avoid) (λ g. StopsInOthers o.spare g.links)
+
+  -- by the answer to the problem that is left
+  pub record StopsBehindChoice (o : RunOptions) (found : Findings) (before after : MachineState S) : Type 0 where
+    pub answer : RoutingAnswer
+    pub chosen : IsChosen o.spread found.gathering.problem answer
+    pub settling : StopsInSettling o.dry found.gathering.links answer.choice before after
+
+  abbrev pub StopsInRunWith : RunOptions → Stop S
+  StopsInRunWith o before after = StopsThen (found_by accesses o (sci_of before)) (StopsInFinding o) (StopsBehindChoice o) before after

@@ -1,21 +1,24 @@
 //! Gathers, chooses, sets, reports.
-ghost use Rattle.std.specs.Prelude.{◌≡◌, ◌≢◌, ◌⊎◌, ◌<◌, ◌≤◌, All, Contains, Ok, Err, IfOk, IfErr, length, map};
+ghost use Rattle.std.specs.Prelude.{◌≡◌, ◌≢◌, ◌<◌, ◌≤◌, All, Contains, Ok, Err, IfOk, IfErr, length, map};
 ghost use Rattle.ar_space.specs.declared.refusal.Refusal.TheVariants.{OutOfMemory};
 ghost use Rattle.std.specs.List.{AllZip};
 ghost use Rattle.ar_space.specs.Outcome.{Answers, seen};
 ghost use Rattle.ar_space.specs.Change.{Does};
-ghost use Rattle.route_model.specs.Bound.{IsLowerBound};
-ghost use Rattle.route_model.specs.Links.{offers_of};
-ghost use Rattle.route_solve.specs.Fits.{Fits};
 ghost use Rattle.acpi_links.specs.Gatherings.{gathered};
+ghost use Rattle.acpi_machine.specs.MachineStates.{sci_of};
 ghost use Rattle.route_report.specs.Readable.{IsReadableOffer};
-ghost use Rattle.acpi_configure.specs.Configured.{Solves, report_of, with_settings, IsReport};
+ghost use Rattle.acpi_configure.specs.Configured.{report_of, with_settings, IsReport};
 ghost use Rattle.acpi_configure.specs.Settling.{settled_unless};
-ghost use Rattle.acpi_configure.specs.Stops.{StopsInSettling, StopsInRun};
+ghost use Rattle.acpi_configure.specs.Stops.{StopsInSettling, StopsInRun, StopsInRunWith};
+ghost use Rattle.acpi_configure.specs.WithOptions.{found_by, with_options, all_lines, IsReportWith};
 
+use crate::choosing::{answer_to, choose};
 use crate::chosen_lines::{bound_for, gives_of};
+use crate::finding::{Found, find};
 use crate::link_lines::link_lines;
 use crate::madt_lines::{io_apics_of, overrides_of};
+use crate::options::Options;
+use crate::other_lines::option_lines;
 use crate::pin_lines::pin_lines;
 use crate::settling::{Settings, settle_unless};
 use acpi_links::laws::{
@@ -25,9 +28,9 @@ use acpi_links::{Gathered, gather, pin_counts, set_of};
 use acpi_machine::Machine;
 use ar_space::{Refusal, Space};
 use route_check::laws::an_assignment_with_its_bound_is_valid;
-use route_report::Report;
 use route_report::laws::{a_claim_in_order_stays, the_claim_of_an_assignment_is_in_order};
-use route_solve::{Answer, Problem, solve};
+use route_report::{OptionLines, Report};
+use route_solve::Answer;
 use std::alloc::Global;
 
 /// Chooses an interrupt for each link device of a machine, none of those to `avoid`, sets the links unless `dry`, and reports what was
@@ -75,6 +78,76 @@ pub fn configure<S: Space>(
     Ok(with_settings(report, settings))
 }
 
+/// Chooses an interrupt for each link device of a machine as `configure` does, with options: `spare`, that no link is given an interrupt of
+/// another device, and `spread`, that links share interrupts as little as they can. Without them the report is that of `configure`.
+///
+/// With `spare`, once the links were asked, each other Device that has a `_CRS` is asked in path order: `_STA`, and where it is present
+/// `_CRS` (ACPI 6.5, 6.3.7 and 6.2.2). What a `_CRS` gives is avoided as the interrupts to `avoid` are: a link of whose offer nothing is
+/// left is refused as `Avoided`, with its path, the first such link in path order. A device has a line in the report where it has
+/// interrupts, or where its `_STA` or its `_CRS` is refused, with the number of the refusal: then nothing is known of its interrupts, and
+/// none are avoided for it.
+///
+/// With `spread` the assignment is one whose loads are least as a whole: first the busiest interrupt serves as few sources as possible,
+/// then as few interrupts as possible serve that many, and so on. It isn't said which of several such assignments it is.
+///
+/// The text of the report can be read back; `route_check::check_all` says that its claim holds, and with `spread` it claims that links
+/// share interrupts as little as they can.
+///
+/// ```
+/// let options = Options { dry: false, avoid: &[], spare: true, spread: true };
+/// let report = configure_with(alloc, &mut machine, &options)?;
+/// ```
+pub fn configure_with<S: Space>(
+    alloc: Global,
+    machine: &mut Machine<S>,
+    options: &Options<'_>,
+) -> Result<Report, Refusal>
+    ensures report { IfOk result (λ report. IsReportWith S.accesses options.now machine.old machine.new report) }
+    ensures evaluated { StopsInRunWith S.accesses options.now machine.old machine.new }
+    ensures refusal { IfErr result (λ refusal. refusal ≢ OutOfMemory → found_by S.accesses options.now (sci_of machine.old) machine.old ≡ (Err refusal, machine.new)) }
+{
+    let sci = machine.sci();
+    let found = find(alloc, machine, sci, options)?;
+    let answer = choose(alloc, found.gathered.problem(), options.spread)?;
+    // the laws that the claim of the report rests on
+    an_assignment_with_its_bound_is_valid();
+    the_claim_of_an_assignment_is_in_order();
+    a_claim_in_order_stays();
+    as_many_sources_are_wired_as_pins();
+    pins_are_counted_in_order();
+    the_numbers_of_a_set_ascend();
+    let report = all_lines(alloc, machine, sci, options, &found, &answer)?;
+    let settings = settle_answer(alloc, machine, options.dry, &found.gathered, &answer)?;
+    Ok(with_settings(report, settings))
+}
+
+/// The report of what was found and chosen, with what options add, without the lines of what was set.
+fn all_lines<S: Space>(
+    alloc: Global,
+    machine: &Machine<S>,
+    sci: Option<u32>,
+    options: &Options<'_>,
+    found: &Found,
+    answer: &Answer,
+) -> Result<Report, Refusal>
+    requires pins { length found.now.gathering.pins ≤ 4096 }
+    requires each { length answer.now.choice ≡ length found.now.gathering.problem.links }
+    requires placed { All (λ k. k < length found.now.gathering.problem.links) answer.now.links }
+    ensures lines { Answers result (Ok (all_lines options.now machine.now sci found.now answer.now)) }
+    ensures offers { IfOk result (λ report. All (λ l. IsReadableOffer l.offers) report.links) }
+{
+    let lines = option_lines(alloc, options.spare, options.spread, &found.asked)?;
+    let report = report_of(alloc, machine, sci, options.avoid, &found.gathered, answer)?;
+    Ok(with_options(report, lines))
+}
+
+/// A report with what options add.
+fn with_options(report: Report, options: Option<OptionLines>) -> Report
+    ensures { result ≡ with_options report options }
+{
+    Report { options, ..report }
+}
+
 /// A report with what came of setting the links, and what they are set to then.
 fn with_settings(report: Report, settings: Settings) -> Report
     ensures { result ≡ with_settings report (settings.0.items, settings.1.items) }
@@ -104,19 +177,7 @@ fn settle_answer<S: Space>(
     settle_unless(alloc, machine, dry, gathered.links(), &answer.choice)
 }
 
-/// The answer to a problem.
-#[tactic(auto, using(crate::proofs::Reported::solved))]
-fn answer_to(alloc: Global, problem: &Problem) -> Result<Answer, Refusal>
-    requires { Fits problem.now }
-    ensures solves { IfOk result (λ answer. Solves problem.now answer) }
-    ensures bound { IfOk result (λ answer. (answer.busiest ≡ 0) ⊎ IsLowerBound (offers_of problem.now.links) problem.now.wired answer.busiest answer.links answer.interrupts) }
-    ensures memory { IfErr result (λ refusal. refusal ≡ OutOfMemory) }
-{
-    Ok(solve(alloc, problem)?)
-}
-
 /// The report of what was found and chosen, without the lines of what was set.
-#[tactic(auto, using(crate::proofs::Placed::placed, crate::proofs::Placed::chosen_for_each))]
 fn report_of<S: Space>(
     alloc: Global,
     machine: &Machine<S>,
@@ -126,7 +187,8 @@ fn report_of<S: Space>(
     answer: &Answer,
 ) -> Result<Report, Refusal>
     requires pins { length gathered.now.pins ≤ 4096 }
-    requires solves { Solves gathered.now.problem answer.now }
+    requires each { length answer.now.choice ≡ length gathered.now.problem.links }
+    requires placed { All (λ k. k < length gathered.now.problem.links) answer.now.links }
     ensures lines { Answers result (Ok (report_of machine.now sci avoid.now gathered.now answer.now)) }
     ensures offers { IfOk result (λ report. All (λ l. IsReadableOffer l.offers) report.links) }
 {

@@ -2,13 +2,19 @@
 //! the links, and reports what was found, chosen and set.
 #![tactic(auto)]
 
+mod choosing;
 mod chosen_lines;
 mod configuring;
+mod finding;
 pub mod laws;
 mod link_lines;
 mod madt_lines;
+mod options;
+mod other_lines;
+mod others;
 mod pin_lines;
 mod pin_names;
 mod settling;
 
-pub use configuring::configure;
+pub use configuring::{configure, configure_with};
+pub use options::Options;

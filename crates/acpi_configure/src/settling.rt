@@ -190,7 +190,7 @@ fn try_to_read<S: Space>(
     state_of(alloc, state)
 }
 
-fn after_line(alloc: Global, path: &Path, state: After) -> Result<AfterLine, Refusal>
+pub(crate) fn after_line(alloc: Global, path: &Path, state: After) -> Result<AfterLine, Refusal>
     ensures value { Answers result (Ok (record { path = path.now; state = after_state state })) }
     ensures memory { IfErr result (λ refusal. refusal ≡ OutOfMemory) }
 {
@@ -201,7 +201,7 @@ fn after_line(alloc: Global, path: &Path, state: After) -> Result<AfterLine, Ref
 }
 
 /// What is told of reading a link; want of memory is no outcome.
-fn state_of(
+pub(crate) fn state_of(
     alloc: Global,
     state: Result<Option<InterruptNumbers>, Refusal>,
 ) -> Result<After, Refusal>

@@ -1,13 +1,13 @@
 -- The answer of `route`, from the machine and its report.
-use Rattle.std.proofs.Common.{◌≡◌, ◌≢◌, ◌∙◌, ◌<◌, Bool, ap, sym, subst, refl, true, arith, inl, inr}
+use Rattle.std.proofs.Common.{◌≡◌, ◌≢◌, ◌∙◌, ◌<◌, ap, sym, subst, refl, true, arith, inl, inr}
 use Rattle.std.specs.Prelude.{◌⊎◌, ℕ, List, Ok, Err, IfOk, IsErr, IsErrAnd}
 use Rattle.ar_space.specs.declared.refusal.Refusal.{Refusal}
 use Rattle.ar_space.specs.declared.refusal.Refusal.TheVariants.{OutOfMemory}
 use Rattle.ar_space.specs.Bytes.{Bytes, byte_accesses}
 use Rattle.ar_space.specs.Outcome.{Outcome, Answers, NotMemory, ◌>>=◌}
-use Rattle.acpi_machine.specs.MachineStates.{MachineState}
-use Rattle.acpi_links.specs.Gatherings.{gathered}
-use Rattle.acpi_configure.specs.Configured.{IsReport}
+use Rattle.acpi_machine.specs.MachineStates.{MachineState, sci_of}
+use Rattle.acpi_configure.specs.Options.{RunOptions}
+use Rattle.acpi_configure.specs.WithOptions.{found_by, IsReportWith}
 use Rattle.ar_tables.specs.declared.mode.Mode.{Mode}
 use Rattle.route_check.specs.Claims.{RoutingClaim}
 use Rattle.route_check.specs.Flaws.{IsFirstFlaw}
@@ -55,35 +55,31 @@ verdict_yes c text o (Err f) is at v h = absurd (no_flaw c f v.valid v.shared (s
 checked : (c : RoutingClaim) (text : List ℕ) → claim_of_text text ≡ Ok c → Holds c → (r : Outcome Written) → IsCheckAnswer text r → r ≡ Ok (verdict_answer (Ok tt))
 checked c text at v r h = h.2 ∙ verdict_yes c text (claim_of_text text) h.0 at refl v h.1
 
--- where it isn't claimed that links share as little as they can, nothing has to hold of it
-plain : {m after : MachineState Bytes} (dry : Bool) (avoid : List ℕ) (report : RoutingReport) → IsReport byte_accesses dry avoid m after report → Holds (claim_of_report report)
-plain dry avoid report is = record { valid = is.valid; shared = λ e. absurd (cc (sym (ap (λ (c : RoutingClaim). c.spread) is.claims) ∙ e)) }
-
-pub reported : {m after : MachineState Bytes} (dry : Bool) (avoid : List ℕ) (report : RoutingReport) (r : Outcome Written) → IsReport byte_accesses dry avoid m after report → Answers r (Ok (printed report))
-    → IfOk r (λ w. IsReadable report → claim_of_text w.text ≡ Ok (claim_of_report report)) → NotMemory r → IsRouted dry avoid m r
-reported {after = after} dry avoid report (Ok w) is h back ne =
+pub reported : {m after : MachineState Bytes} (o : RunOptions) (report : RoutingReport) (r : Outcome Written) → IsReportWith byte_accesses o m after report → Answers r (Ok (printed report))
+    → IfOk r (λ w. IsReadable report → claim_of_text w.text ≡ Ok (claim_of_report report)) → NotMemory r → IsRouted o m r
+reported {after = after} o report (Ok w) is h back ne =
     record {
       report = report;
       after = after;
       is_report = is;
       is_text = sym (cc (h.is ne));
       is_read_back = back is.readable;
-      is_checked = checked (claim_of_report report) w.text (back is.readable) (plain dry avoid report is);
+      is_checked = checked (claim_of_report report) w.text (back is.readable) is.holds;
     }
-reported dry avoid report (Err e) is h back ne = absurd (cc (h.is ne))
+reported o report (Err e) is h back ne = absurd (cc (h.is ne))
 
-pub not_gathered : {e : Refusal} {after : MachineState Bytes} (dry : Bool) (avoid : List ℕ) (m : MachineState Bytes) (r : Outcome Written) → (e ≢ OutOfMemory → gathered byte_accesses avoid m ≡ (Err e, after)) → IsErr r × IsErrAnd r (λ x. x ≡ e)
-    → NotMemory r → IsRouted dry avoid m r
-not_gathered dry avoid m (Ok a) is i ne = absurd (cc i.0)
-not_gathered dry avoid m (Err x) is i ne = ap (λ p. p.0) (is (λ q. ne (i.1 ∙ q))) ∙ ap Err (sym i.1)
+pub not_found : {e : Refusal} {after : MachineState Bytes} (o : RunOptions) (m : MachineState Bytes) (r : Outcome Written) → (e ≢ OutOfMemory → found_by byte_accesses o (sci_of m) m ≡ (Err e, after)) → IsErr r × IsErrAnd r (λ x. x ≡ e)
+    → NotMemory r → IsRouted o m r
+not_found o m (Ok a) is i ne = absurd (cc i.0)
+not_found o m (Err x) is i ne = ap (λ p. p.0) (is (λ q. ne (i.1 ∙ q))) ∙ ap Err (sym i.1)
 
-pub refused_machine : {e : Refusal} (mode : Mode) (steps : ℕ) (dry : Bool) (avoid text : List ℕ) (r : Outcome Written) → Answers {A = MachineState Bytes} (Err e) (machine_of_text_in mode steps text) → IsErr r × IsErrAnd r (λ x. x ≡ e)
-    → NotMemory r → IsRouteAnswer mode steps dry avoid text r
-refused_machine mode steps dry avoid text (Ok a) h i ne = absurd (cc i.0)
-refused_machine mode steps dry avoid text (Err x) h i ne = rw (h.is (λ q. ne (i.1 ∙ q))) (ap Err i.1)
+pub refused_machine : {e : Refusal} (mode : Mode) (steps : ℕ) (o : RunOptions) (text : List ℕ) (r : Outcome Written) → Answers {A = MachineState Bytes} (Err e) (machine_of_text_in mode steps text) → IsErr r × IsErrAnd r (λ x. x ≡ e)
+    → NotMemory r → IsRouteAnswer mode steps o text r
+refused_machine mode steps o text (Ok a) h i ne = absurd (cc i.0)
+refused_machine mode steps o text (Err x) h i ne = rw (h.is (λ q. ne (i.1 ∙ q))) (ap Err i.1)
 
-pub ready_machine : {m : MachineState Bytes} (mode : Mode) (steps : ℕ) (dry : Bool) (avoid text : List ℕ) (r : Outcome Written) → Answers (Ok m) (machine_of_text_in mode steps text) → (NotMemory r → IsRouted dry avoid m r)
-    → NotMemory r → IsRouteAnswer mode steps dry avoid text r
-ready_machine mode steps dry avoid text r h is ne = rw (h.is tt) (is ne)
+pub ready_machine : {m : MachineState Bytes} (mode : Mode) (steps : ℕ) (o : RunOptions) (text : List ℕ) (r : Outcome Written) → Answers (Ok m) (machine_of_text_in mode steps text) → (NotMemory r → IsRouted o m r)
+    → NotMemory r → IsRouteAnswer mode steps o text r
+ready_machine mode steps o text r h is ne = rw (h.is tt) (is ne)
 
-pub ruleset routing = (reported, not_gathered, refused_machine, ready_machine)
+pub ruleset routing = (reported, not_found, refused_machine, ready_machine)

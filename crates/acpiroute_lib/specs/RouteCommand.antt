@@ -3,9 +3,9 @@ use Rattle.std.specs.Prelude.{◌≡◌, ℕ, List, Bool, true, false, Ok, Err, 
 use Rattle.std.specs.List.{list_any}
 use Rattle.ar_space.specs.Outcome.{Outcome}
 use Rattle.ar_space.specs.Bytes.{Bytes, byte_accesses}
-use Rattle.acpi_machine.specs.MachineStates.{MachineState}
-use Rattle.acpi_links.specs.Gatherings.{gathered}
-use Rattle.acpi_configure.specs.Configured.{IsReport}
+use Rattle.acpi_machine.specs.MachineStates.{MachineState, sci_of}
+use Rattle.acpi_configure.specs.Options.{RunOptions}
+use Rattle.acpi_configure.specs.WithOptions.{found_by, IsReportWith}
 use Rattle.ar_tables.specs.declared.mode.Mode.{Mode}
 use Rattle.route_report.specs.declared.report.SetLine.{SetLine}
 use Rattle.route_report.specs.declared.report.SetOutcome.{SetOutcome}
@@ -33,26 +33,26 @@ completion_of sets = if list_any (λ line. is_refused line.outcome) sets then Se
 abbrev pub printed : RoutingReport → Written
 printed report = record { text = text_of_report report; completion = completion_of report.sets }
 
--- The text of the report of a machine; `after` is the machine that setting the links leaves, its register space among it. What the text
--- claims is what the report claims, the answer to the machine's problem, and `check` says yes to it.
-pub record IsReportOf (dry : Bool) (avoid : List ℕ) (m : MachineState Bytes) (w : Written) : Type 0 where
+-- The text of the report of a machine, where these are the options; `after` is the machine that setting the links leaves, its register
+-- space among it. What the text claims is what the report claims, the answer to the machine's problem, and `check` says yes to it.
+pub record IsReportOf (o : RunOptions) (m : MachineState Bytes) (w : Written) : Type 0 where
   pub report : RoutingReport
   pub after : MachineState Bytes
-  pub is_report : IsReport byte_accesses dry avoid m after report
+  pub is_report : IsReportWith byte_accesses o m after report
   pub is_text : w ≡ printed report
   pub is_read_back : claim_of_text w.text ≡ Ok (claim_of_report report)
   pub is_checked : (r : Outcome Written) → IsCheckAnswer w.text r → r ≡ Ok (verdict_answer (Ok tt))
 
 -- the report, or the refusal of what it has to find
-abbrev pub IsRouted : Bool → List ℕ → MachineState Bytes → Outcome Written → Type 0
-IsRouted dry avoid m (Ok w) = IsReportOf dry avoid m w
-IsRouted dry avoid m (Err e) = (gathered byte_accesses avoid m).0 ≡ Err e
+abbrev pub IsRouted : RunOptions → MachineState Bytes → Outcome Written → Type 0
+IsRouted o m (Ok w) = IsReportOf o m w
+IsRouted o m (Err e) = (found_by byte_accesses o (sci_of m) m).0 ≡ Err e
 
 -- a machine that is refused has no report
-abbrev pub IsRoutedOn : Bool → List ℕ → Outcome (MachineState Bytes) → Outcome Written → Type 0
-IsRoutedOn dry avoid (Ok m) r = IsRouted dry avoid m r
-IsRoutedOn dry avoid (Err e) r = r ≡ Err e
+abbrev pub IsRoutedOn : RunOptions → Outcome (MachineState Bytes) → Outcome Written → Type 0
+IsRoutedOn o (Ok m) r = IsRouted o m r
+IsRoutedOn o (Err e) r = r ≡ Err e
 
--- what `route` answers over a machine text, in this mode, with this budget of steps, and where these interrupts are avoided
-abbrev pub IsRouteAnswer : Mode → ℕ → Bool → List ℕ → List ℕ → Outcome Written → Type 0
-IsRouteAnswer mode steps dry avoid text r = IsRoutedOn dry avoid (machine_of_text_in mode steps text) r
+-- what `route` answers over a machine text, in this mode, with this budget of steps, and with these options
+abbrev pub IsRouteAnswer : Mode → ℕ → RunOptions → List ℕ → Outcome Written → Type 0
+IsRouteAnswer mode steps o text r = IsRoutedOn o (machine_of_text_in mode steps text) r

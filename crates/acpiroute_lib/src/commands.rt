@@ -5,6 +5,7 @@ ghost use Rattle.acpiroute_lib.specs.Commands.{IsAnswer};
 use crate::eval_command::eval_answer;
 use crate::names_command::names_answer;
 use crate::route_command::route_answer;
+use acpi_configure::Options;
 use acpiroute_words::{Answer, Request, check_answer};
 use ar_space::Refusal;
 use std::alloc::Global;
@@ -20,7 +21,17 @@ pub(crate) fn answer_to(alloc: Global, request: Request, input: Vec<u8>) -> Resu
             steps,
             dry,
             avoid,
-        } => route_answer(alloc, mode, steps, dry, avoid.as_slice(), input),
+            spare,
+            spread,
+        } => {
+            let options = Options {
+                dry,
+                avoid: avoid.as_slice(),
+                spare,
+                spread,
+            };
+            route_answer(alloc, mode, steps, &options, input)
+        }
         Request::Names { steps } => names_answer(alloc, steps, input),
         Request::Eval {
             mode,

@@ -1,21 +1,23 @@
 //! What holds of all runs: each law is the contract of a function that does nothing.
-ghost use Rattle.std.specs.Prelude.{◌≡◌, ℕ, Bool, List, Option};
+ghost use Rattle.std.specs.Prelude.{◌≡◌, ℕ, Bool, false, List, Option};
 ghost use Rattle.ar_space.specs.Outcome.{Outcome};
 ghost use Rattle.ar_tables.specs.declared.mode.Mode.{Mode};
+ghost use Rattle.acpi_configure.specs.Options.{RunOptions};
 ghost use Rattle.acpiroute_words.specs.Held.{Held};
 ghost use Rattle.acpiroute_words.specs.Written.{Written};
 ghost use Rattle.acpiroute_lib.specs.Causes.{TellsCause};
 ghost use Rattle.acpiroute_lib.specs.RouteCommand.{IsRouteAnswer};
 ghost use Rattle.acpiroute_lib.specs.Runs.{Ran};
 
-use acpi_configure::laws::a_machine_has_one_report;
+use acpi_configure::laws::a_machine_has_one_report_with_options;
 use ar_space::Sparse;
 
-/// `route` has one answer over a machine text: one report, and so one text, or one refusal.
+/// `route` has one answer over a machine text: one report, and so one text, or one refusal. Where links are to share interrupts as little
+/// as they can, it isn't said which of several such assignments the report has.
 pub fn route_has_one_answer()
-    ensures { (mode : Mode) (steps : ℕ) (dry : Bool) (avoid text : List ℕ) (one other : Outcome Written) → IsRouteAnswer mode steps dry avoid text one → IsRouteAnswer mode steps dry avoid text other → one ≡ other }
+    ensures { (mode : Mode) (steps : ℕ) (options : RunOptions) (text : List ℕ) (one other : Outcome Written) → options.spread ≡ false → IsRouteAnswer mode steps options text one → IsRouteAnswer mode steps options text other → one ≡ other }
 {
-    a_machine_has_one_report::<Sparse>();
+    a_machine_has_one_report_with_options::<Sparse>();
 }
 
 /// A run whose status is 1 tells a refusal by its line on the errors: `refused 142` where a write to the output failed; else

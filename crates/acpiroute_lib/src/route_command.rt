@@ -7,7 +7,7 @@ ghost use Rattle.route_report.specs.Reading.{claim_of_text};
 ghost use Rattle.acpiroute_lib.specs.RouteCommand.{is_refused, completion_of, printed, IsRouted, IsRouteAnswer};
 
 use crate::machine::machine_of_text_in;
-use acpi_configure::configure;
+use acpi_configure::{Options, configure_with};
 use acpi_machine::Machine;
 use acpiroute_words::{Answer, Completion};
 use ar_space::{Refusal, Sparse};
@@ -52,35 +52,34 @@ pub fn report_answer(alloc: Global, report: &Report) -> Result<Answer, Refusal>
     })
 }
 
-/// The report of a machine, whose links are set unless `dry`, to none of the interrupts to avoid.
+/// The report of a machine, whose links are set by these options.
 #[tactic(auto, using(crate::proofs::Routes::routing))]
 fn routed(
     alloc: Global,
     machine: &mut Machine<Sparse>,
-    dry: bool,
-    avoid: &[u32],
+    options: &Options<'_>,
 ) -> Result<Answer, Refusal>
-    ensures { NotMemory result → IsRouted dry avoid.now machine.old result }
+    ensures { NotMemory result → IsRouted options.now machine.old result }
 {
-    let report = configure(alloc, machine, dry, avoid)?;
+    let report = configure_with(alloc, machine, options)?;
     report_answer(alloc, &report)
 }
 
-/// What `route` answers over a machine text, in a mode and with a budget of steps for each table and each evaluation: its report.
+/// What `route` answers over a machine text, in a mode, with a budget of steps for each table and each evaluation, and with options: its
+/// report.
 /// Refused are the machine text, its tables, their loading, initializing, and then what the report has to find.
 #[tactic(auto, using(crate::proofs::Routes::routing))]
 pub(crate) fn route_answer(
     alloc: Global,
     mode: Mode,
     steps: u64,
-    dry: bool,
-    avoid: &[u32],
+    options: &Options<'_>,
     text: Vec<u8>,
 ) -> Result<Answer, Refusal>
-    ensures { NotMemory result → IsRouteAnswer mode steps dry avoid.now text.items result }
+    ensures { NotMemory result → IsRouteAnswer mode steps options.now text.items result }
 {
     let mut machine = machine_of_text_in(alloc, mode, steps, text)?;
-    let report = routed(alloc, &mut machine, dry, avoid);
+    let report = routed(alloc, &mut machine, options);
     // (by a call: what a scope drops at its end is dropped part by part, and long to prove)
     drop(machine);
     report

@@ -18,6 +18,10 @@ use Rattle.acpiroute_words.specs.declared.request.Asked.TheVariants.{For, BadAvo
 abbrev pub value_rule : Text → Rule
 value_rule name = record (new_rule name) { long = Some name; value_names = 1 }
 
+-- an option without a value
+abbrev pub flag_rule : Text → Rule
+flag_rule name = record (new_rule name) { long = Some name; action = Some SetTrue }
+
 abbrev pub mode_rule : Rule
 mode_rule = value_rule (codes "mode")
 
@@ -25,13 +29,19 @@ abbrev pub steps_rule : Rule
 steps_rule = value_rule (codes "steps")
 
 abbrev pub dry_rule : Rule
-dry_rule = record (new_rule (codes "dry")) { long = Some (codes "dry"); action = Some SetTrue }
+dry_rule = flag_rule (codes "dry")
 
 abbrev pub avoid_rule : Rule
 avoid_rule = value_rule (codes "avoid")
 
+abbrev pub spare_rule : Rule
+spare_rule = flag_rule (codes "spare")
+
+abbrev pub spread_rule : Rule
+spread_rule = flag_rule (codes "spread")
+
 abbrev pub route_app : App
-route_app = with_rule (with_rule (with_rule (with_rule (new_app (codes "route")) mode_rule) steps_rule) dry_rule) avoid_rule
+route_app = with_rule (with_rule (with_rule (with_rule (with_rule (with_rule (new_app (codes "route")) mode_rule) steps_rule) dry_rule) avoid_rule) spare_rule) spread_rule
 
 abbrev pub names_app : App
 names_app = with_rule (new_app (codes "names")) steps_rule
@@ -73,22 +83,28 @@ arguments_of rows = arguments_named (all_of (codes "arguments") rows)
 abbrev pub is_dry : List Row → Bool
 is_dry rows = is_true (first_of (codes "dry") rows)
 
+abbrev pub is_sparing : List Row → Bool
+is_sparing rows = is_true (first_of (codes "spare") rows)
+
+abbrev pub is_spreading : List Row → Bool
+is_spreading rows = is_true (first_of (codes "spread") rows)
+
 abbrev pub avoid_of : List Row → Option (List ℕ)
 avoid_of rows = interrupts_named (first_of (codes "avoid") rows)
 
 -- a text of `--avoid` that is no list of interrupts is told where nothing else is wrong, by a line of its own
-abbrev pub route_with : Mode → ℕ → Bool → Option (List ℕ) → Asked
-route_with mode steps dry None = BadAvoid
-route_with mode steps dry (Some avoid) = For (request.Route mode steps dry avoid)
+abbrev pub route_with : Mode → ℕ → Bool → Option (List ℕ) → Bool → Bool → Asked
+route_with mode steps dry None spare spread = BadAvoid
+route_with mode steps dry (Some avoid) spare spread = For (request.Route mode steps dry avoid spare spread)
 
-unfoldable pub route_by : Option Mode → Option ℕ → Bool → Option (List ℕ) → Option Asked
-route_by maybe_mode maybe_steps dry avoid = do
+unfoldable pub route_by : Option Mode → Option ℕ → Bool → Option (List ℕ) → Bool → Bool → Option Asked
+route_by maybe_mode maybe_steps dry avoid spare spread = do
   mode ← maybe_mode
   steps ← maybe_steps
-  Some (route_with mode steps dry avoid)
+  Some (route_with mode steps dry avoid spare spread)
 
 unfoldable pub route_of : List Row → Option Asked
-route_of rows = route_by (mode_of rows) (steps_of rows) (is_dry rows) (avoid_of rows)
+route_of rows = route_by (mode_of rows) (steps_of rows) (is_dry rows) (avoid_of rows) (is_sparing rows) (is_spreading rows)
 
 unfoldable pub names_of : List Row → Option Asked
 names_of rows = do

@@ -2,7 +2,7 @@
 ghost use Rattle.std.specs.Prelude.{◌≡◌, IfOk, IfErr, Some, map, option_map, false, codes};
 ghost use Rattle.clap.specs.Words.{app_of, new_app, rows_of, rule_of, found_of, subcommand_rows_of, FailsBy};
 ghost use Rattle.clap.specs.declared.builder.command.Command.TheViews.{out-Command as fields_of};
-ghost use Rattle.acpiroute_words.specs.CommandLine.{app, bare_app, route_app, names_app, eval_app, check_app, mode_rule, steps_rule, dry_rule, avoid_rule, path_rule, arguments_rule, route_with, route_by, route_of, names_of, eval_of, eval_with, parsed_command, parsed_subcommand, clap_faults, command_of, faults_of, asked_of};
+ghost use Rattle.acpiroute_words.specs.CommandLine.{app, bare_app, route_app, names_app, eval_app, check_app, mode_rule, steps_rule, dry_rule, avoid_rule, spare_rule, spread_rule, path_rule, arguments_rule, route_with, route_by, route_of, names_of, eval_of, eval_with, parsed_command, parsed_subcommand, clap_faults, command_of, faults_of, asked_of};
 
 use crate::arguments::Arguments;
 use crate::bad_values::bad_value;
@@ -55,6 +55,26 @@ fn avoid_arg<'a>(alloc: Global) -> Arg<'a>
         )
 }
 
+fn spare_arg<'a>(alloc: Global) -> Arg<'a>
+    ensures rule { rule_of result ≡ spare_rule }
+    ensures local { result.global ≡ false }
+{
+    Arg::new(alloc, "spare")
+        .long("spare")
+        .action(ArgAction::SetTrue)
+        .help("Give no link device an interrupt that the _CRS of another present device has")
+}
+
+fn spread_arg<'a>(alloc: Global) -> Arg<'a>
+    ensures rule { rule_of result ≡ spread_rule }
+    ensures local { result.global ≡ false }
+{
+    Arg::new(alloc, "spread")
+        .long("spread")
+        .action(ArgAction::SetTrue)
+        .help("Let link devices share interrupts as little as they can")
+}
+
 fn path_arg<'a>(alloc: Global) -> Arg<'a>
     ensures rule { rule_of result ≡ path_rule }
     ensures local { result.global ≡ false }
@@ -97,7 +117,9 @@ pub(crate) fn route_command<'a>(alloc: Global) -> Result<Command<'a>, AllocError
         .arg(mode_arg(alloc))?
         .arg(steps_arg(alloc))?
         .arg(dry_arg(alloc))?
-        .arg(avoid_arg(alloc))
+        .arg(avoid_arg(alloc))?
+        .arg(spare_arg(alloc))?
+        .arg(spread_arg(alloc))
 }
 
 pub(crate) fn names_command<'a>(alloc: Global) -> Result<Command<'a>, AllocError>
@@ -182,7 +204,9 @@ fn route_of(alloc: Global, matches: &ArgMatches<'_>) -> Result<Option<Asked>, Al
     let mode = mode_named(matches.get_str("mode"));
     let steps = steps_named(matches.get_str("steps"));
     let dry = is_true(matches.get_str("dry"));
-    Ok(route_by(mode, steps, dry, avoid))
+    let spare = is_true(matches.get_str("spare"));
+    let spread = is_true(matches.get_str("spread"));
+    Ok(route_by(mode, steps, dry, avoid, spare, spread))
 }
 
 /// A request of `route`, where its mode and its steps are said.
@@ -192,17 +216,26 @@ fn route_by(
     steps: Option<u64>,
     dry: bool,
     avoid: Option<Interrupts>,
+    spare: bool,
+    spread: bool,
 ) -> Option<Asked>
-    ensures { result ≡ route_by mode steps dry avoid }
+    ensures { result ≡ route_by mode steps dry avoid spare spread }
 {
     let mode = mode?;
     let steps = steps?;
-    Some(route_with(mode, steps, dry, avoid))
+    Some(route_with(mode, steps, dry, avoid, spare, spread))
 }
 
 /// What `route` is asked where these interrupts are to be avoided, or that they are no list.
-fn route_with(mode: Mode, steps: u64, dry: bool, avoid: Option<Interrupts>) -> Asked
-    ensures { result ≡ route_with mode steps dry avoid }
+fn route_with(
+    mode: Mode,
+    steps: u64,
+    dry: bool,
+    avoid: Option<Interrupts>,
+    spare: bool,
+    spread: bool,
+) -> Asked
+    ensures { result ≡ route_with mode steps dry avoid spare spread }
 {
     match avoid {
         None => Asked::BadAvoid,
@@ -211,6 +244,8 @@ fn route_with(mode: Mode, steps: u64, dry: bool, avoid: Option<Interrupts>) -> A
             steps,
             dry,
             avoid,
+            spare,
+            spread,
         }),
     }
 }

@@ -32,8 +32,15 @@ The numbers of --avoid are separated by commas, without blanks: --avoid 3,4,7. A
 and of wired pins are counted: --avoid 1,3,4,6,7,12,14,15 leaves those of keyboard, serial ports, floppy disk, parallel port, mouse and \
 disks to them.
 
+With --spare these are asked for instead: every device that is no link device, is present by its _STA and has a _CRS. No link device is \
+given an interrupt that one of these has. The report tells them in lines 'spared DEVICE N..', and in 'unread DEVICE R' a device whose _STA \
+or _CRS was refused by number R: nothing is spared for it. Interrupts that no _CRS gives aren't spared.
+
+Without --spread only the busiest interrupt counts: others may be shared more than they need be, or stay idle. With --spread as few \
+interrupts as possible are as busy as that one, then as few as possible nearly so, and so on.
+
 An interrupt of --avoid is given to no link device; what is wired to it stays there, and counts. Where all that a link device offers is \
-avoided, the machine is refused by number 123. The report's line 'sci N' says that the System Control Interrupt is one source on N; 'sci \
+avoided or spared, the machine is refused by number 123. The report's line 'sci N' says that the System Control Interrupt is one source on N; 'sci \
 none', that there is none.
 
 Exit status: 0 for a report, 1 for a refusal, 2 for a faulty command line, 3 where setting a link was refused, which the report tells. \
@@ -55,8 +62,9 @@ Exit status: 0 for the value, 1 for a refusal, 2 for a faulty command line. 'acp
 pub(crate) const CHECK: &str = "\
 The report is read from the standard input: acpiroute check < report
 
-The lines 'link', up to 'now', 'wired', 'sci' and 'avoid' are believed: whether they tell the machine truly, check can't know. By them the \
-lines 'give', 'busiest' and 'bound' are tested. The lines 'mode', 'ioapic', 'override', 'pin', 'set' and 'after' are passed over.
+The lines 'link', up to 'now', 'wired', 'sci', 'avoid' and 'spared' are believed: whether they tell the machine truly, check can't know. \
+By them the lines 'give', 'busiest', 'bound' and 'spread' are tested. The lines 'mode', 'ioapic', 'override', 'unread', 'pin', 'set' and \
+'after' are passed over.
 
 Exit status: 0 where the claim is valid, 4 where it isn't, 1 for a refusal, 2 for a faulty command line. 'acpiroute --help' lists \
 the refusals.";

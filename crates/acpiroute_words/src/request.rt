@@ -9,12 +9,15 @@ use route_report::Mode;
 #[derive(Debug, Drop)]
 pub enum Request {
     /// Route the interrupts of a machine in this mode, with a budget of steps for each evaluation, from 1 to
-    /// 1,000,000,000, set no link device where `dry`, and give none an interrupt of those to avoid.
+    /// 1,000,000,000, set no link device where `dry`, and give none an interrupt of those to avoid, nor, where `spare`, one of another
+    /// device. Where `spread`, link devices share interrupts as little as they can.
     Route {
         mode: Mode,
         steps: u64,
         dry: bool,
         avoid: Interrupts,
+        spare: bool,
+        spread: bool,
     },
     /// Write the names of a machine, with a budget of steps for each table, from 1 to 1,000,000,000.
     Names {

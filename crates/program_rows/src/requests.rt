@@ -78,6 +78,16 @@ fn avoid_text(alloc: Global, avoid: &Interrupts) -> Result<String, AllocError> {
     Ok(text)
 }
 
+/// Which rules of the choice are asked for, each behind a blank.
+fn rules_text(spare: bool, spread: bool) -> &'static str {
+    match (spare, spread) {
+        (false, false) => "",
+        (false, true) => " spread",
+        (true, false) => " spare",
+        (true, true) => " spare spread",
+    }
+}
+
 /// A request of `route` as text.
 fn route_text(
     alloc: Global,
@@ -85,11 +95,12 @@ fn route_text(
     steps: u64,
     dry: bool,
     avoid: &Interrupts,
+    rules: &str,
 ) -> Result<String, AllocError> {
     let mode = mode_word(mode);
     let dry = if dry { " dry" } else { "" };
     let avoid = avoid_text(alloc, avoid)?;
-    format!(in alloc; "route mode {mode} steps {steps}{dry}{avoid}")
+    format!(in alloc; "route mode {mode} steps {steps}{dry}{avoid}{rules}")
 }
 
 /// A request as text.
@@ -100,7 +111,12 @@ fn request_text(alloc: Global, request: &Request) -> Result<String, AllocError> 
             steps,
             dry,
             avoid,
-        } => route_text(alloc, *mode, *steps, *dry, avoid),
+            spare,
+            spread,
+        } => {
+            let rules = rules_text(*spare, *spread);
+            route_text(alloc, *mode, *steps, *dry, avoid, rules)
+        }
         Request::Names { steps } => {
             let steps = *steps;
             format!(in alloc; "names steps {steps}")

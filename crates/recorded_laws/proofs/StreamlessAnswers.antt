@@ -1,7 +1,8 @@
 -- What the commands answer is no fault of a reader or a writer.
-use Rattle.std.specs.Prelude.{ℕ, List, Ok, Err}
+use Rattle.std.specs.Prelude.{ℕ, Bool, true, false, List, [], ◌∷◌, ◌++◌, Option, Ok, Err}
 use Rattle.std.proofs.Common.{sym, subst}
 use Rattle.ar_space.specs.Bytes.{Bytes, byte_accesses}
+use Rattle.ar_space.specs.Change.{Change, give, settle, go_on, ◌>>=◌}
 use Rattle.ar_space.specs.Outcome.{Outcome}
 use Rattle.ar_tables.specs.declared.mode.Mode.{Mode}
 use Rattle.ar_tables.specs.declared.tables.Tables.{Tables}
@@ -9,8 +10,19 @@ use Rattle.aml_path.specs.declared.segment.Seg.{Seg}
 use Rattle.aml_meaning.specs.Given as given
 use Rattle.aml_meaning.specs.Predefined.{fresh}
 use Rattle.aml_meaning.specs.State.{State}
-use Rattle.acpi_machine.specs.MachineStates.{MachineState}
+use Rattle.acpi_machine.specs.MachineStates.{MachineState, sci_of}
+use Rattle.acpi_links.specs.Folds.{folded}
+use Rattle.acpi_links.specs.Gathering.{Gathering}
 use Rattle.acpi_links.specs.Gatherings.{gathered}
+use Rattle.acpi_links.specs.Links.{PresentLink}
+use Rattle.acpi_links.specs.Sparing.{all_left, avoiding}
+use Rattle.acpi_configure.specs.Options.{RunOptions}
+use Rattle.acpi_configure.specs.Others.{other_devices, device_asked, others_asked, barred_if}
+use Rattle.acpi_configure.specs.Settling.{attempted}
+use Rattle.acpi_configure.specs.WithOptions.{narrowed, found_by}
+use Rattle.route_model.specs.Avoided.{are_all_avoided}
+use Rattle.route_report.specs.Reports.{ReportedAfter}
+use Rattle.aml_laws.proofs.CleanOutcomes.{Clean, if_clean}
 use Rattle.acpiroute_words.specs.declared.arguments.Argument.{Argument}
 use Rattle.acpiroute_words.specs.declared.request.Request.{Request}
 use Rattle.acpiroute_words.specs.declared.request.Request.TheVariants.{Route, Names, Eval, Check}
@@ -58,13 +70,47 @@ machine_of_text_in_streamless mode steps text = followed_streamless _ _ (machine
 
 -- ---- the commands
 
-routed_streamless : (dry : _) (avoid : List ℕ) (m : MachineState Bytes) (r : Outcome Written) → IsRouted dry avoid m r → Streamless r
-routed_streamless dry avoid m (Ok w) is = tt
-routed_streamless dry avoid m (Err e) is = refused_streamless (gathered byte_accesses avoid m).0 e is (explained_streamless byte_accesses _ _ _ ((gathered_explains avoid).explained m))
+-- devices that are asked refuse nothing, since their refusals are told
+asked_streamless : (list : List (List Seg)) (done : List ReportedAfter) (m : MachineState Bytes) → Streamless (folded (λ done line. done ++ line ∷ []) (device_asked byte_accesses) list done m).0
+unfolding folded device_asked attempted give ◌>>=◌ go_on
+asked_streamless [] done m = tt
+asked_streamless (device ∷ list) done m = asked_streamless list _ _
 
-routed_on_streamless : (dry : _) (avoid : List ℕ) (x : Outcome (MachineState Bytes)) (r : Outcome Written) → Streamless x → IsRoutedOn dry avoid x r → Streamless r
-routed_on_streamless dry avoid (Ok m) r h is = routed_streamless dry avoid m r is
-routed_on_streamless dry avoid (Err e) r h is = subst (λ (y : Outcome Written). Streamless y) (sym is) h
+others_streamless : (spare : Bool) (links : List PresentLink) (m : MachineState Bytes) → Streamless (others_asked byte_accesses spare links m).0
+unfolding others_asked
+others_streamless true links m = asked_streamless (other_devices links m) [] m
+others_streamless false links m = tt
+
+all_left_clean : (avoid : List ℕ) (links : List PresentLink) → Clean (all_left avoid links)
+unfolding all_left
+all_left_clean avoid [] = tt
+all_left_clean avoid (l ∷ ls) = if_clean (are_all_avoided avoid l.1.numbers) _ _ tt (all_left_clean avoid ls)
+
+narrowed_streamless : (spare : Bool) (barred : List ℕ) (sci : Option ℕ) (g : Gathering) → Streamless (narrowed spare barred sci g)
+unfolding avoiding
+narrowed_streamless true barred sci g = followed_streamless _ _ (clean_streamless _ (all_left_clean barred g.links)) (λ u. tt)
+narrowed_streamless false barred sci g = tt
+
+-- one change after another
+then_streamless : {A B : Type 0} (x : Outcome A) (t : MachineState Bytes) (k : A → Change (MachineState Bytes) B) → Streamless x → ((a : A) (u : MachineState Bytes) → Streamless (k a u).0) → Streamless (go_on x t k).0
+unfolding go_on
+then_streamless (Ok a) t k h all = all a t
+then_streamless (Err e) t k h all = h
+
+found_streamless : (o : RunOptions) (sci : Option ℕ) (m : MachineState Bytes) → Streamless (found_by byte_accesses o sci m).0
+unfolding found_by ◌>>=◌ settle give
+found_streamless o sci m =
+    then_streamless (gathered byte_accesses o.avoid m).0 (gathered byte_accesses o.avoid m).1 _ (explained_streamless byte_accesses _ _ _ ((gathered_explains o.avoid).explained m)) (λ first u.
+    then_streamless (others_asked byte_accesses o.spare first.links u).0 (others_asked byte_accesses o.spare first.links u).1 _ (others_streamless o.spare first.links u) (λ asked v.
+    then_streamless (narrowed o.spare (barred_if o.spare o.avoid asked) sci first) v _ (narrowed_streamless o.spare (barred_if o.spare o.avoid asked) sci first) (λ g w. tt)))
+
+routed_streamless : (o : RunOptions) (m : MachineState Bytes) (r : Outcome Written) → IsRouted o m r → Streamless r
+routed_streamless o m (Ok w) is = tt
+routed_streamless o m (Err e) is = refused_streamless (found_by byte_accesses o (sci_of m) m).0 e is (found_streamless o (sci_of m) m)
+
+routed_on_streamless : (o : RunOptions) (x : Outcome (MachineState Bytes)) (r : Outcome Written) → Streamless x → IsRoutedOn o x r → Streamless r
+routed_on_streamless o (Ok m) r h is = routed_streamless o m r is
+routed_on_streamless o (Err e) r h is = subst (λ (y : Outcome Written). Streamless y) (sym is) h
 
 names_streamless : (steps : ℕ) (text : List ℕ) → Streamless (names_answer steps text)
 unfolding names_answer
@@ -90,7 +136,7 @@ checked_streamless : (report : List ℕ) (r : Outcome Written) → IsCheckAnswer
 checked_streamless report r (verdict, is, same) = subst (λ (y : Outcome Written). Streamless y) (sym same) (check_streamless verdict report)
 
 pub answer_streamless : (request : Request) (input : List ℕ) (r : Outcome Written) → IsAnswer request input r → Streamless r
-answer_streamless (Route mode steps dry avoid) input r is = routed_on_streamless dry avoid _ r (machine_of_text_in_streamless mode steps input) is
+answer_streamless (Route mode steps dry avoid spare spread) input r is = routed_on_streamless _ _ r (machine_of_text_in_streamless mode steps input) is
 answer_streamless (Names steps) input r is = subst (λ (y : Outcome Written). Streamless y) is (names_streamless steps input)
 answer_streamless (Eval mode steps path arguments) input r is = subst (λ (y : Outcome Written). Streamless y) is (eval_streamless mode steps path arguments input)
 answer_streamless Check input r is = checked_streamless input r is

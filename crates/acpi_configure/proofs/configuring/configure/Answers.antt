@@ -3,21 +3,31 @@ use Rattle.acpi_machine.specs.Stops.{stops_first}
 use Rattle.acpi_links.specs.Problems.{pin_counts}
 use Rattle.acpi_configure.specs.Configured.{Solves}
 use Rattle.acpi_configure.proofs.Claims.{Bounded, Laws}
+use Rattle.acpi_configure.proofs.Fitting.{solved_fits}
+use Rattle.acpi_configure.proofs.Placed.{placed, chosen_for_each}
 use Rattle.acpi_configure.proofs.Reported.{reported, memory, told, offers_told}
 use Rattle.acpi_configure.proofs.Settled.{chosen_each, offered_each}
 use Rattle.acpi_configure.proofs.Stopped.{behind_answer}
 use Rattle.acpi_configure.proofs.configuring.configure.Goals as goal
 
+pub report_of-requires-clause-each : goal.report_of-requires-clause-each
+report_of-requires-clause-each g c =
+    chosen_for_each c.in_ok-gathered.gathered.problem c.in_ok-answer.answer (solved_fits _ _ (subst (λ p. Solves p c.in_ok-answer.answer) c.problem.ensures c.in_ok-answer.ensures.solves))
+
+pub report_of-requires-clause-placed : goal.report_of-requires-clause-placed
+report_of-requires-clause-placed g c =
+    placed c.in_ok-gathered.gathered.problem c.in_ok-answer.answer (solved_fits _ _ (subst (λ p. Solves p c.in_ok-answer.answer) c.problem.ensures c.in_ok-answer.ensures.solves))
+
 pub settle_answer-requires-clause-each : goal.settle_answer-requires-clause-each
 settle_answer-requires-clause-each g c =
-    chosen_each c.args.avoid.now _ c.in_ok-gathered.gathered c.in_ok-answer.answer c.in_ok-gathered.ensures.posed (subst (λ p. Solves p c.in_ok-answer.answer) c.problem.ensures c.in_ok-answer.ensures.solves)
+    chosen_each c.args.avoid.now _ c.in_ok-gathered.gathered c.in_ok-answer.answer c.in_ok-gathered.ensures.posed (solved_fits _ _ (subst (λ p. Solves p c.in_ok-answer.answer) c.problem.ensures c.in_ok-answer.ensures.solves))
 
 pub settle_answer-requires-clause-offered : goal.settle_answer-requires-clause-offered
 settle_answer-requires-clause-offered g c =
-    offered_each c.args.avoid.now _ c.in_ok-gathered.gathered c.in_ok-answer.answer c.in_ok-gathered.ensures.posed (subst (λ p. Solves p c.in_ok-answer.answer) c.problem.ensures c.in_ok-answer.ensures.solves)
+    offered_each c.args.avoid.now _ c.in_ok-gathered.gathered c.in_ok-answer.answer c.in_ok-gathered.ensures.posed (solved_fits _ _ (subst (λ p. Solves p c.in_ok-answer.answer) c.problem.ensures c.in_ok-answer.ensures.solves))
 
 pub returns-in_err-settings-clause-refusal : goal.returns-in_err-settings-clause-refusal
-returns-in_err-settings-clause-refusal g c = memory g.S.Space.accesses c.args.avoid.now c.args.machine.now _ _ _ c.in_err-settings.ensures.memory c.from_residual-in_err-settings.ensures
+returns-in_err-settings-clause-refusal g c = memory _ _ _ c.in_err-settings.ensures.memory c.from_residual-in_err-settings.ensures
 
 pub returns-clause-report : goal.returns-clause-report
 returns-clause-report g c =
