@@ -1,1 +1,3 @@
 mod Starting
+mod Parts
+mod Told

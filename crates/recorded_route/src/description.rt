@@ -1,8 +1,9 @@
 //! What is described of a machine beside its registers: by a machine text, or by its tables as they stand in memory.
-ghost use Rattle.std.specs.Prelude.{◌≡◌, ◌==◌, ◌≤◌, ◌+◌, ◌^◌, nat_le, IfOk, length, map};
+ghost use Rattle.std.specs.Prelude.{◌≡◌, ◌==◌, ◌<◌, ◌≤◌, ◌+◌, ◌^◌, IfOk, length, map};
 ghost use Rattle.std.specs.FinMap as maps;
 ghost use Rattle.ar_space.specs.Change.{Does};
 ghost use Rattle.ar_space.specs.Outcome.{Answers, seen};
+ghost use Rattle.std.specs.Bool.{OnTrue, OnFalse};
 ghost use Rattle.std.specs.List.{slice_split};
 ghost use Rattle.recorded_route.specs.Runs.{described, described_tables, texts_in, with_part, with_parts};
 
@@ -88,12 +89,21 @@ fn texts_in(alloc: Global, text: &[u8]) -> Result<Vec<Octets>, AllocError>
 
 /// Whether a part lies below 2^64.
 fn is_in_memory(part: &TablePart<'_>) -> bool
-    ensures { result ≡ nat_le (part.now.address + length part.now.bytes.now) (2 ^ 64) }
+    ensures yes { OnTrue result (part.now.address + length part.now.bytes.now ≤ 2 ^ 64) }
+    ensures no { OnFalse result (2 ^ 64 < part.now.address + length part.now.bytes.now) }
 {
-    part.bytes.is_empty() || part.bytes.len() as u64 - 1 <= u64::MAX - part.address
+    let room = u64::MAX - part.address;
+    if part.bytes.is_empty() {
+        return true;
+    }
+    if part.bytes.len() as u64 - 1 <= room {
+        return true;
+    }
+    false
 }
 
 /// An image of memory with a part of it.
+#[tactic(auto, using(ar_space::specs::Outcome::answering), unfolding(crate::specs::Runs::with_part))]
 fn with_part(image: ByteMap, part: &TablePart<'_>) -> Result<ByteMap, Refusal>
     ensures { Answers result (with_part image part.now) }
 {

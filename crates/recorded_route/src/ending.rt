@@ -17,11 +17,11 @@ pub struct WantedAccess {
 }
 
 /// The access that a record lacks, if it lacks one.
-pub(crate) fn wanted_of(record: &Recorded) -> Option<WantedAccess>
-    ensures { result ≡ wanted_of record.now }
+pub(crate) fn wanted_of(recorded: &Recorded) -> Option<WantedAccess>
+    ensures { result ≡ wanted_of recorded.now }
 {
-    let entry = record.used();
-    match record.missing() {
+    let entry = recorded.used();
+    match recorded.missing() {
         Some(access) => Some(WantedAccess { access, entry }),
         None => None,
     }

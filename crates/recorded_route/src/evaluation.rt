@@ -37,7 +37,7 @@ fn object_of<S: Space>(
     settings: &Settings,
     question: Question<'_>,
 ) -> Result<Datum, Refusal>
-    ensures { Does (seen given_of result) machine.new (object_of S.accesses settings.now question.path.now (map given_of question.arguments.items)) machine.old }
+    ensures { Does (seen given_of result) machine.new (object_of S.accesses settings.now question.entry.path.now (map given_of question.entry.arguments.items)) machine.old }
 {
     machine.initialize(alloc, settings.mode)?;
     let path = Path::from_text(alloc, question.path)?;
@@ -51,7 +51,7 @@ fn machine_answer(
     settings: &Settings,
     question: Question<'_>,
 ) -> Outcome
-    ensures { NotMemory result.0 → Leaves (λ after. machine_answer recorded settings.now question.path.now (map given_of question.arguments.items) machine ≡ (seen given_of result.0, after)) result.1 }
+    ensures { NotMemory result.0 → Leaves (λ after. machine_answer recorded settings.now question.entry.path.now (map given_of question.entry.arguments.items) machine ≡ (seen given_of result.0, after)) result.1 }
 {
     let mut machine = machine;
     let answer = object_of(alloc, &mut machine, settings, question);
@@ -66,7 +66,7 @@ fn answer_over(
     question: Question<'_>,
     space: Recorded,
 ) -> Outcome
-    ensures { NotMemory result.0 → Leaves (λ after. answer_over recorded settings.now question.path.now (map given_of question.arguments.items) (description.0, description.1.items) space ≡ (seen given_of result.0, after)) result.1 }
+    ensures { NotMemory result.0 → Leaves (λ after. answer_over recorded settings.now question.entry.path.now (map given_of question.entry.arguments.items) (description.0, description.1.items) space ≡ (seen given_of result.0, after)) result.1 }
 {
     let (tables, osi) = description;
     match load_tables(alloc, tables, space, settings.steps, osi) {
@@ -83,7 +83,7 @@ fn evaluation(
     question: Question<'_>,
     space: Recorded,
 ) -> Outcome
-    ensures { NotMemory result.0 → Leaves (λ after. evaluation recorded settings.now question.path.now (map given_of question.arguments.items) (seen (λ d. (d.0, d.1.items)) described) space ≡ (seen given_of result.0, after)) result.1 }
+    ensures { NotMemory result.0 → Leaves (λ after. evaluation recorded settings.now question.entry.path.now (map given_of question.entry.arguments.items) (seen (λ d. (d.0, d.1.items)) described) space ≡ (seen given_of result.0, after)) result.1 }
 {
     match described {
         Ok(description) => answer_over(alloc, description, settings, question, space),
@@ -99,7 +99,7 @@ fn ending(
     question: Question<'_>,
     entries: &[Exchange],
 ) -> Ending<Datum>
-    ensures { NotOutOfMemory result → IsEvaluatedOver settings.now question.path.now (map given_of question.arguments.items) (seen (λ d. (d.0, d.1.items)) described) entries.now (seen_ending given_of result) }
+    ensures { NotOutOfMemory result → IsEvaluatedOver settings.now question.entry.path.now (map given_of question.entry.arguments.items) (seen (λ d. (d.0, d.1.items)) described) entries.now (seen_ending given_of result) }
 {
     match Vec::from_slice(alloc, entries) {
         Ok(copy) => {
@@ -139,7 +139,7 @@ pub fn evaluate_recorded(
     question: Question<'_>,
     entries: &[Exchange],
 ) -> Ending<Datum>
-    ensures { NotOutOfMemory result → IsEvaluated settings.now question.path.now (map given_of question.arguments.items) text.now entries.now (seen_ending given_of result) }
+    ensures { NotOutOfMemory result → IsEvaluated settings.now question.entry.path.now (map given_of question.entry.arguments.items) text.now entries.now (seen_ending given_of result) }
 {
     let description = described(alloc, text);
     ending(alloc, description, settings, question, entries)
@@ -153,7 +153,7 @@ pub fn evaluate_tables_recorded(
     question: Question<'_>,
     entries: &[Exchange],
 ) -> Ending<Datum>
-    ensures { NotOutOfMemory result → IsEvaluatedOfTables settings.now question.path.now (map given_of question.arguments.items) tables.now.rsdp tables.now.parts.now tables.now.osi.now entries.now (seen_ending given_of result) }
+    ensures { NotOutOfMemory result → IsEvaluatedOfTables settings.now question.entry.path.now (map given_of question.entry.arguments.items) tables.now.rsdp tables.now.parts.now tables.now.osi.now entries.now (seen_ending given_of result) }
 {
     let description = described_tables(alloc, tables);
     ending(alloc, description, settings, question, entries)
