@@ -8,17 +8,27 @@ use Rattle.ar_space.specs.Outcome.{Outcome, Answers, seen}
 use Rattle.ar_space.specs.Change.{Does, does_settle}
 use Rattle.aml_path.specs.declared.segment.Seg.{Seg}
 use Rattle.acpi_machine.specs.MachineStates.{MachineState}
-use Rattle.acpi_machine.specs.Stops.{stops_next}
+use Rattle.acpi_machine.specs.Stops.{AllOrNone, stops_first, stops_next, goes_start, stops_here}
 use Rattle.acpi_prt.specs.Children.{child_named}
 use Rattle.acpi_links.specs.Answered.{stands}
 use Rattle.acpi_links.specs.Links.{PresentLink}
+use Rattle.acpi_links.specs.Resources.{current_resources}
 use Rattle.route_report.specs.Reports.{ReportedAfter}
-use Rattle.acpi_configure.specs.Others.{is_link, other_devices, devices_asked, others_asked, numbers_at, numbers_in}
-use Rattle.acpi_configure.specs.Stops.{StopsIfStands, StopsInDevice, StopsInDevices, StopsInOthers}
+use Rattle.acpi_configure.specs.Others.{is_link, other_devices, device_asked, devices_asked, numbers_at, numbers_in}
+use Rattle.acpi_configure.specs.Stops.{StopsIfPresent, StopsInPresent, StopsIfStands, StopsInDevice, StopsInDevices}
 
 module _ {S : Type 0} (accesses : Accesses S) where
   pub in_device : (device crs : List Seg) (s t : MachineState S) → Answers (Ok crs) (child_named device (codes "_CRS")) → StopsIfStands accesses (stands crs s) device s t → StopsInDevice accesses device s t
   in_device device crs s t a h = stops_next (does_settle (Ok crs) (child_named device (codes "_CRS")) a) h
+
+  pub if_stands : (is : Bool) (device : List Seg) (s t : MachineState S) → is ≡ true → StopsInPresent accesses device s t → StopsIfStands accesses is device s t
+  if_stands is device s t e h = rw e h
+
+  pub no_device : (list : List (List Seg)) (s : MachineState S) → StopsInDevices accesses list s s
+  no_device list s = stops_here (device_asked accesses) (StopsInDevice accesses) (λ device u. stops_first refl) list goes_start
+
+  pub if_present : (present : Bool) (device : List Seg) (s t : MachineState S) → present ≡ true → AllOrNone (current_resources accesses device) s t → StopsIfPresent accesses present device s t
+  if_present present device s t is h = rw is h
 
 -- those of some lists that are kept, with what is still to come
 pub more_kept : {C : Type 0} (f : ReportedAfter → Option C) (list after : List C) (xs : List ReportedAfter) (i : ℕ) (x : ReportedAfter) (a : C)
@@ -53,12 +63,13 @@ all_numbers avoid list xs i so l = sym (append-nil list) ∙ (sym (ap (λ ys. li
 -- the devices beside links
 filtered : (links : List PresentLink) (ps : List (List Seg)) (p : List Seg) → filter (λ q. not (is_link links q)) (ps ++ p ∷ []) ≡ filter (λ q. not (is_link links q)) ps ++ cond (not (is_link links p)) (p ∷ []) []
 filtered links [] p = refl
-filtered links (q ∷ qs) p = by (not (is_link links q))
+filtered links (q ∷ qs) p = by (not (is_link links q)) (filtered links qs p)
   where
-    by : (b : Bool) → cond b (q ∷ filter (λ q. not (is_link links q)) (qs ++ p ∷ [])) (filter (λ q. not (is_link links q)) (qs ++ p ∷ []))
+    by : (b : Bool) → filter (λ q. not (is_link links q)) (qs ++ p ∷ []) ≡ filter (λ q. not (is_link links q)) qs ++ cond (not (is_link links p)) (p ∷ []) []
+        → cond b (q ∷ filter (λ q. not (is_link links q)) (qs ++ p ∷ [])) (filter (λ q. not (is_link links q)) (qs ++ p ∷ []))
         ≡ cond b (q ∷ filter (λ q. not (is_link links q)) qs) (filter (λ q. not (is_link links q)) qs) ++ cond (not (is_link links p)) (p ∷ []) []
-    by true = ap (λ rest. q ∷ rest) (filtered links qs p)
-    by false = filtered links qs p
+    by true rest = ap (λ more. q ∷ more) rest
+    by false rest = rest
 
 pub one_beside : (links : List PresentLink) (list after ps : List (List Seg)) (p : List Seg) → list ≡ filter (λ q. not (is_link links q)) ps → is_link links p ≡ false → after ≡ list ++ p ∷ [] → after ≡ filter (λ q. not (is_link links q)) (ps ++ p ∷ [])
 one_beside links list after ps p so is e = rw (e, so, filtered links ps p, is) refl

@@ -116,7 +116,7 @@ in_order_said c said h = record { links = h.links; wired = h.wired; avoid = h.av
 abbrev claim_by : Option ℕ → List ℕ → Bool → Gathering → RoutingAnswer → RoutingClaim
 claim_by sci bar said g a = record (claim_of (map whole_offer g.links) (pin_counts g.pins) sci bar a.choice a.busiest a.links a.interrupts) { spread = said }
 
-module _ {bar barred : List ℕ} (alike : (n : ℕ) → is_avoided bar n ≡ is_avoided barred n) where
+module _ (bar barred : List ℕ) (alike : (n : ℕ) → is_avoided bar n ≡ is_avoided barred n) where
   same_offers : (links : List PresentLink) → offers_of (map (offering barred) links) ≡ map (λ (l : OfferingLink). without bar l.offers) (map whole_offer links)
   same_offers [] = refl
   same_offers (l ∷ ls) = rw (same_without bar barred alike l.1.numbers) (ap (λ rest. without barred l.1.numbers ∷ rest) (same_offers ls))
@@ -153,7 +153,7 @@ module _ {S : Type 0} (after : MachineState S) (sci : Option ℕ) (avoid barred 
   places_alike = ap (λ (ps : List (List Seg)). map (λ (l : ℕ). slice_index_or ps l []) a.links) paths_alike
 
   offers_alike : offers_of g.problem.links ≡ map (λ (l : OfferingLink). without bar l.offers) (map whole_offer g.links)
-  offers_alike = ap offers_of posed_links ∙ same_offers alike g.links
+  offers_alike = ap offers_of posed_links ∙ same_offers bar barred alike g.links
 
   -- a claim of these links, of what they are given, and of the paths of the set
   claim_with : List OfferingLink → List (List Seg × ℕ) → List (List Seg) → RoutingClaim

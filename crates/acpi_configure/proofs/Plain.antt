@@ -15,7 +15,7 @@ use Rattle.acpi_configure.specs.WithOptions.{Findings, found_by, IsReportWith}
 
 module _ {S : Type 0} (accesses : Accesses S) (dry : Bool) (avoid : List ℕ) (sci : Option ℕ) where
   -- what gathering found, with no device that was asked
-  bare : Outcome Gathering → Outcome Findings
+  pub bare : Outcome Gathering → Outcome Findings
   bare (Ok g) = Ok (record { asked = []; gathering = g })
   bare (Err e) = Err e
 
@@ -27,7 +27,7 @@ module _ {S : Type 0} (accesses : Accesses S) (dry : Bool) (avoid : List ℕ) (s
       by (Ok g) t = refl
       by (Err e) t = refl
 
-  gathered_first : (x : Outcome Gathering) (t m : MachineState S) (f : Findings) → (bare x, t) ≡ (Ok f, m) → (x, t) ≡ (Ok f.gathering, m)
+  gathered_first : (x : Outcome Gathering) (t m : MachineState S) (f : Findings) → ◌≡◌ {A = Outcome Findings × MachineState S} (bare x, t) (Ok f, m) → ◌≡◌ {A = Outcome Gathering × MachineState S} (x, t) (Ok f.gathering, m)
   unfolding bare
   gathered_first (Ok g) t m f is =
       let same : ◌≡◌ {A = Findings} (record { asked = []; gathering = g }) f = cc (ap (λ (p : Outcome Findings × MachineState S). p.0) is) in

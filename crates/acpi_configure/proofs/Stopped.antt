@@ -5,17 +5,20 @@ use Rattle.ar_space.specs.Accesses.{Accesses}
 use Rattle.ar_space.specs.Outcome.{Outcome}
 use Rattle.ar_space.specs.Change.{Change, Does}
 use Rattle.acpi_machine.specs.MachineStates.{MachineState, sci_of}
-use Rattle.acpi_machine.specs.Stops.{AllOrNone, made_as, made_given, stops_next}
+use Rattle.acpi_machine.specs.Stops.{AllOrNone, made_as, made_given, stops_first, stops_next}
 use Rattle.acpi_links.specs.Links.{PresentLink}
 use Rattle.acpi_links.specs.Resources.{current_resources}
 use Rattle.acpi_links.specs.Settings.{resources_set}
 use Rattle.acpi_links.specs.Gathering.{Gathering}
 use Rattle.acpi_links.specs.Gatherings.{gathered}
+use Rattle.acpi_links.specs.Stops.{StopsInGathering}
 use Rattle.route_solve.specs.Problems.{RoutingAnswer}
 use Rattle.acpi_configure.specs.Chosen.{IsChosen}
 use Rattle.acpi_configure.specs.Configured.{Solves}
 use Rattle.acpi_configure.specs.Options.{RunOptions}
-use Rattle.acpi_configure.specs.Settling.{attempted, set_told, state_told, link_set, link_read}
+use Rattle.route_report.specs.declared.report.SetLine.{SetLine}
+use Rattle.route_report.specs.Reports.{ReportedAfter}
+use Rattle.acpi_configure.specs.Settling.{attempted, set_told, state_told, link_set, link_read, settled_unless}
 use Rattle.acpi_configure.specs.Stops.{StopsInSettling, StopsInRun, StopsInOthers, StopsInFinding, StopsInRunWith}
 use Rattle.acpi_configure.specs.WithOptions.{Findings, found_by}
 
@@ -68,5 +71,20 @@ module _ {S : Type 0} (accesses : Accesses S) (o : RunOptions) (s t u : MachineS
       stops_next at (record { answer = answer; chosen = chosen; settling = h })
 
   -- the devices are asked in the machine that gathering left
-  pub behind_links : (first : Gathering) → Does (Ok first) t (gathered accesses o.avoid) s → StopsInOthers accesses o.spare first.links t u → StopsInFinding accesses o s u
-  behind_links first d h = stops_next d h
+  pub behind_links : (avoid : List ℕ) (spare : Bool) (first : Gathering) (links : List PresentLink) → o.avoid ≡ avoid → o.spare ≡ spare → links ≡ first.links
+      → Does (Ok first) t (gathered accesses avoid) s → StopsInOthers accesses spare links t u → StopsInFinding accesses o s u
+  behind_links avoid spare first links ea es el d h = rw (ea, es) (stops_next d (subst (λ (ls : List PresentLink). StopsInOthers accesses spare ls t u) el h))
+
+module _ {S : Type 0} (accesses : Accesses S) where
+  pub in_links : {s t : MachineState S} (o : RunOptions) (avoid : List ℕ) → o.avoid ≡ avoid → StopsInGathering accesses avoid s t → StopsInFinding accesses o s t
+  in_links o avoid ea h = rw ea (stops_first h)
+
+  -- the same of links and of a dryness that are known by other names
+  pub stops_as : (s t : MachineState S) (dry same : Bool) (g also : Gathering) (ns : List ℕ) → dry ≡ same → g ≡ also → StopsInSettling accesses dry g.links ns s t → StopsInSettling accesses same also.links ns s t
+  stops_as s t dry same g also ns e f h =
+      subst (λ (b : Bool). StopsInSettling accesses b also.links ns s t) e (subst (λ (x : Gathering). StopsInSettling accesses dry x.links ns s t) f h)
+
+  pub does_as : {r : Outcome (List SetLine × List ReportedAfter)} {s t : MachineState S} (dry same : Bool) (g also : Gathering) (ns : List ℕ) → dry ≡ same → g ≡ also
+      → Does r t (settled_unless accesses dry g.links ns) s → Does r t (settled_unless accesses same also.links ns) s
+  does_as {r} {s} {t} dry same g also ns e f h =
+      subst (λ (b : Bool). Does r t (settled_unless accesses b also.links ns) s) e (subst (λ (x : Gathering). Does r t (settled_unless accesses dry x.links ns) s) f h)

@@ -23,10 +23,9 @@ pub(crate) fn choose(alloc: Global, problem: &Problem, spread: bool) -> Result<A
     ensures memory { IfErr result (λ refusal. refusal ≡ OutOfMemory) }
 {
     let first = answer_to(alloc, problem)?;
-    if spread {
-        spread_from(alloc, problem, first)
-    } else {
-        Ok(first)
+    match spread {
+        true => spread_from(alloc, problem, first),
+        false => Ok(first),
     }
 }
 

@@ -78,10 +78,9 @@ fn narrow(
     ensures fits { IfOk result (λ g. Fits g.problem) }
     ensures few_pins { IfOk result (λ g. length g.pins ≤ 4096) }
 {
-    if options.spare {
-        spare_all(alloc, options.avoid, sci, asked, first)
-    } else {
-        Ok(first)
+    match options.spare {
+        true => spare_all(alloc, options.avoid, sci, asked, first),
+        false => Ok(first),
     }
 }
 

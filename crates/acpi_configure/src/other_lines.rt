@@ -111,7 +111,10 @@ fn unread_lines(alloc: Global, asked: &[AfterLine]) -> Result<Vec<UnreadLine>, R
 fn rule_if(spread: bool) -> Rule
     ensures { result ≡ rule_if spread }
 {
-    if spread { Rule::Spread } else { Rule::First }
+    match spread {
+        true => Rule::Spread,
+        false => Rule::First,
+    }
 }
 
 fn all_options(alloc: Global, spread: bool, asked: &[AfterLine]) -> Result<OptionLines, Refusal>

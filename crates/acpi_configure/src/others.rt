@@ -31,10 +31,9 @@ pub(crate) fn ask_others<S: Space>(
     ensures evaluated { StopsInOthers S.accesses spare links.now machine.old machine.new }
     ensures unasked { IfOk result (λ list. spare ≡ false → list.items ≡ []) }
 {
-    if spare {
-        ask_devices_beside(alloc, machine, links)
-    } else {
-        Ok(Vec::new(alloc))
+    match spare {
+        true => ask_devices_beside(alloc, machine, links),
+        false => Ok(Vec::new(alloc)),
     }
 }
 

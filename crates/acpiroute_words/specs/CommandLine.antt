@@ -40,8 +40,12 @@ spare_rule = flag_rule (codes "spare")
 abbrev pub spread_rule : Rule
 spread_rule = flag_rule (codes "spread")
 
+-- `route`, without the options that change what it chooses
+abbrev pub first_route_app : App
+first_route_app = with_rule (with_rule (with_rule (with_rule (new_app (codes "route")) mode_rule) steps_rule) dry_rule) avoid_rule
+
 abbrev pub route_app : App
-route_app = with_rule (with_rule (with_rule (with_rule (with_rule (with_rule (new_app (codes "route")) mode_rule) steps_rule) dry_rule) avoid_rule) spare_rule) spread_rule
+route_app = with_rule (with_rule first_route_app spare_rule) spread_rule
 
 abbrev pub names_app : App
 names_app = with_rule (new_app (codes "names")) steps_rule

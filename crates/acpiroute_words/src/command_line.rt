@@ -2,7 +2,7 @@
 ghost use Rattle.std.specs.Prelude.{◌≡◌, IfOk, IfErr, Some, map, option_map, false, codes};
 ghost use Rattle.clap.specs.Words.{app_of, new_app, rows_of, rule_of, found_of, subcommand_rows_of, FailsBy};
 ghost use Rattle.clap.specs.declared.builder.command.Command.TheViews.{out-Command as fields_of};
-ghost use Rattle.acpiroute_words.specs.CommandLine.{app, bare_app, route_app, names_app, eval_app, check_app, mode_rule, steps_rule, dry_rule, avoid_rule, spare_rule, spread_rule, path_rule, arguments_rule, route_with, route_by, route_of, names_of, eval_of, eval_with, parsed_command, parsed_subcommand, clap_faults, command_of, faults_of, asked_of};
+ghost use Rattle.acpiroute_words.specs.CommandLine.{app, bare_app, first_route_app, route_app, names_app, eval_app, check_app, mode_rule, steps_rule, dry_rule, avoid_rule, spare_rule, spread_rule, path_rule, arguments_rule, route_with, route_by, route_of, names_of, eval_of, eval_with, parsed_command, parsed_subcommand, clap_faults, command_of, faults_of, asked_of};
 
 use crate::arguments::Arguments;
 use crate::bad_values::bad_value;
@@ -109,15 +109,23 @@ fn bare_route_command<'a>(alloc: Global) -> Command<'a>
         .after_help(help_texts::ROUTE)
 }
 
-pub(crate) fn route_command<'a>(alloc: Global) -> Result<Command<'a>, AllocError>
-    ensures app { IfOk result (λ c. app_of c ≡ route_app) }
+/// `route`, without the options that change what it chooses.
+fn first_route_command<'a>(alloc: Global) -> Result<Command<'a>, AllocError>
+    ensures app { IfOk result (λ c. app_of c ≡ first_route_app) }
     ensures local { IfOk result (λ c. (fields_of c).has_globals ≡ false) }
 {
     bare_route_command(alloc)
         .arg(mode_arg(alloc))?
         .arg(steps_arg(alloc))?
         .arg(dry_arg(alloc))?
-        .arg(avoid_arg(alloc))?
+        .arg(avoid_arg(alloc))
+}
+
+pub(crate) fn route_command<'a>(alloc: Global) -> Result<Command<'a>, AllocError>
+    ensures app { IfOk result (λ c. app_of c ≡ route_app) }
+    ensures local { IfOk result (λ c. (fields_of c).has_globals ≡ false) }
+{
+    first_route_command(alloc)?
         .arg(spare_arg(alloc))?
         .arg(spread_arg(alloc))
 }
