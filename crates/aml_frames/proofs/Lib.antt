@@ -7,4 +7,6 @@ pub mod Weighing
 pub mod Targeting
 pub mod Using
 pub mod Beginning
+pub mod Elements
+pub mod Forming
 pub mod Addressing

@@ -1,4 +1,5 @@
 pub mod Addresses
+pub mod Data
 pub mod Follow
 pub mod Operands
 pub mod Places
