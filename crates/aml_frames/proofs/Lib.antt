@@ -7,4 +7,8 @@ pub mod Weighing
 pub mod Targeting
 pub mod Using
 pub mod Beginning
+pub mod BitBytes
+pub mod Elements
+pub mod Forming
 pub mod Addressing
+pub mod Indexing

@@ -20,6 +20,7 @@ use Rattle.aml_frames.specs.declared.frames.Entry.TheVariants as entry
 use Rattle.aml_frames.specs.declared.frames.Frame.{Frame}
 use Rattle.aml_frames.specs.declared.frames.Items.{Items}
 use Rattle.aml_frames.specs.declared.frames.Next.{Next}
+use Rattle.aml_frames.specs.declared.frames.Package.{Package}
 use Rattle.aml_frames.specs.declared.frames.Next.TheVariants as next
 use Rattle.aml_frames.specs.declared.uses.Access.{Access}
 use Rattle.aml_frames.specs.declared.uses.Target.{Target}
@@ -27,6 +28,7 @@ use Rattle.aml_frames.specs.declared.uses.TargetUse.{TargetUse}
 use Rattle.aml_frames.specs.Uses.{target_ends, target_run, access_run}
 use Rattle.aml_frames.proofs.Weighing.{falling}
 use Rattle.aml_frames.specs.Places.{Site, behind_term}
+use Rattle.aml_frames.specs.Data.{package_run}
 use Rattle.aml_frames.specs.Follow.{at_position, ends, term_run, items_run, body_run, resumed, next_run, next_ends, Leads}
 use Rattle.aml_frames.specs.Stack.{Rest, whole, met, unwinding, at_bottom, then_all, machine, Goes, entry_weight, stack_weight, control_weight}
 
@@ -79,6 +81,9 @@ module _ {S : Type 0} {ac : Accesses S} {ev : Task → Run S Flow} where
 
   pub goes_items : {c : Site} {xs : List Entry} {s : State S × ℕ} (i : Items) → Goes ac ev (Ok (control.Items i)) c xs s (then_all ac ev (items_run ac ev i c) (at_position c i.outer) xs) s
   goes_items i = record { is = λ _. refl }
+
+  pub goes_package : {c : Site} {xs : List Entry} {s : State S × ℕ} (k : Package) → Goes ac ev (Ok (control.Package k)) c xs s (then_all ac ev (package_run ev k c) (at_position c k.outer) xs) s
+  goes_package k = record { is = λ _. refl }
 
   pub goes_term : {c : Site} {s : State S × ℕ} (xs ys : List Entry) (levels : ℕ) (x : Frame) → ys ≡ xs ++ entry.Frame x ∷ [] → Goes ac ev (Ok (control.Term levels)) c ys s (then_all ac ev (next_run ac ev (next.Term levels x) c) (next_ends (next.Term levels x) c) xs) s
   goes_term {c = c} {s = s} xs ys levels x e = record { is = λ _. sym (ap (λ zs. then_all ac ev (term_run ac ev c levels) (behind_term c levels) zs s) e ∙ at_frame ac ev (term_run ac ev c levels) (behind_term c levels) xs x s) }
@@ -165,7 +170,7 @@ module _ {S : Type 0} (ac : Accesses S) (ev : Task → Run S Flow) where
   unfolding then_all unwinding stop settle
   unwound_end e c xs s i = rw i refl
 
-pub ruleset going = (weight_on, goes_flow, goes_items, goes_term, goes_items_then, goes_body, goes_body_then, goes_target, goes_target_then, goes_access, goes_access_then, goes_memory)
+pub ruleset going = (weight_on, goes_flow, goes_items, goes_package, goes_term, goes_items_then, goes_body, goes_body_then, goes_target, goes_target_then, goes_access, goes_access_then, goes_memory)
 
 pub ruleset taking = (falling, goes_leads, goes_leads_err, goes_frame, goes_leave, goes_memory)
 

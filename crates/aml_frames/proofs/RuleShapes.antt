@@ -6,9 +6,9 @@ use Rattle.aml_path.specs.declared.segment.Seg.{Seg}
 use Rattle.aml_grammar.specs.declared.opcode.TermCode.{TermCode}
 use Rattle.aml_grammar.specs.declared.opcode.TermCode.TheVariants as codes
 use Rattle.aml_grammar.specs.declared.kinds.Row.{Row}
-use Rattle.aml_grammar.specs.Tree.{Tree, term, Part, null, name, number, bytes, inner, list, Parts}
+use Rattle.aml_grammar.specs.Tree.{Tree, term, Part, null, name, number, bytes, inner, list, Parts, no_parts}
 use Rattle.aml_grammar.specs.Apart.{code_of}
-use Rattle.aml_marked.specs.Marked.{Place, Below, with_row}
+use Rattle.aml_marked.specs.Marked.{Place, Below, a_text, with_row}
 use Rattle.aml_scan.specs.RowsAt.{row_at}
 use Rattle.aml_scan.specs.declared.row_places.RowPlace.{RowPlace}
 use Rattle.aml_meaning.specs.declared.flow.Flow.{Flow}
@@ -16,6 +16,8 @@ use Rattle.aml_meaning.specs.declared.store_target.TargetKind.{TargetKind}
 use Rattle.aml_meaning.specs.declared.store_target.TargetKind.TheVariants as targets
 use Rattle.aml_meaning.specs.declared.term_kind.TermKind.{TermKind}
 use Rattle.aml_meaning.specs.declared.term_kind.TermKind.TheVariants as kinds
+use Rattle.aml_meaning.specs.declared.term_kind.DataKind.{DataKind}
+use Rattle.aml_meaning.specs.declared.term_kind.DataKind.TheVariants as datas
 use Rattle.aml_meaning.specs.declared.term_kind.OperatorKind.{OperatorKind}
 use Rattle.aml_meaning.specs.declared.term_kind.OperatorKind.TheVariants as operators
 use Rattle.aml_meaning.specs.declared.term_kind.StatementKind.{StatementKind}
@@ -24,11 +26,12 @@ use Rattle.aml_meaning.specs.Run.{Run}
 use Rattle.aml_meaning.specs.Tasks.{Task, value_at, two_values}
 use Rattle.aml_meaning.specs.Terms.{target_kind, kind_of}
 use Rattle.aml_meaning.specs.TargetTerms.{target_at, targeted, name_target}
+use Rattle.aml_meaning.specs.DataTerms.{integer_rule, string_rule, buffer_rule, package_rule, var_package_rule, data_rule}
 use Rattle.aml_meaning.specs.OperatorTerms.{store_rule, copy_rule, two_rule, divide_rule, one_rule, test_rule, not_rule, count_rule, referent_of_target, referent_by_kind, referent_by, size_rule, type_rule, acquire_rule, reference_rule, dereference_rule, sought_name, sought_target, reference_stored, conditional_rule, operator_rule}
 use Rattle.aml_meaning.specs.StatementTerms.{if_rule, else_rule, while_rule, return_rule, release_rule, notify_rule, pause_rule, fatal_rule, statement_rule}
 use Rattle.aml_meaning.specs.Evaluation.{kind_rule, code_rule}
-use Rattle.aml_frames.specs.Operands.{row_kind, operator_parts, behind_operator, statement_parts, behind_statement, operator_tree, statement_tree}
-use Rattle.aml_frames.proofs.OperandShapes.{stands, no_operand, an_argument, a_super, argument_super, argument_target, two_arguments, arguments_target, arguments_targets, super_word, super_target, super_argument, numbers_argument, an_if, an_else_row, a_while}
+use Rattle.aml_frames.specs.Operands.{row_kind, outside_at, text_at, buffer_at, package_at, var_package_at, operator_parts, behind_operator, statement_parts, behind_statement, operator_tree, statement_tree, data_tree, behind_data}
+use Rattle.aml_frames.proofs.OperandShapes.{stands, no_operand, an_argument, a_super, argument_super, argument_target, two_arguments, arguments_target, arguments_targets, super_word, super_target, super_argument, numbers_argument, an_if, an_else_row, a_while, a_string, a_buffer, a_package, a_var_package, code_stands}
 
 -- ---- the operands of a term by its kind
 
@@ -69,6 +72,21 @@ statement_shape b statements.Release o p e = let x = stands (kinds.Statement sta
 statement_shape b statements.Notify o p e = let x = stands (kinds.Statement statements.Notify) o e (λ h. absurd (cc h)) in shaped x.0 x.1.0 (super_argument b x.0 p x.1.1)
 statement_shape b statements.Pause o p e = let x = stands (kinds.Statement statements.Pause) o e (λ h. absurd (cc h)) in shaped x.0 x.1.0 (an_argument b x.0 p x.1.1)
 statement_shape b statements.Fatal o p e = let x = stands (kinds.Statement statements.Fatal) o e (λ h. absurd (cc h)) in shaped x.0 x.1.0 (numbers_argument b x.0 p x.1.1)
+
+constant_shape : (b : Below) (n : ℕ) (o : RowPlace) (p : Place) → row_kind (row_at o) ≡ kinds.Data (datas.Constant n) → Shape b o p no_parts p
+constant_shape b n o p e = let x = stands (kinds.Data (datas.Constant n)) o e (λ h. absurd (cc h)) in shaped x.0 x.1.0 (no_operand b x.0 p x.1.1)
+
+string_shape : (b : Below) (o : RowPlace) (p : Place) → row_kind (row_at o) ≡ kinds.Data datas.String → Shape b o p (text_at p) (a_text p).1
+string_shape b o p e = let x = stands (kinds.Data datas.String) o e (λ h. absurd (cc h)) in shaped x.0 x.1.0 (a_string b x.0 p x.1.1)
+
+buffer_shape : (b : Below) (o : RowPlace) (p : Place) → row_kind (row_at o) ≡ kinds.Data datas.Buffer → Shape b o p (buffer_at b p) (outside_at p)
+buffer_shape b o p e = let x = stands (kinds.Data datas.Buffer) o e (λ h. absurd (cc h)) in shaped x.0 x.1.0 (a_buffer b x.0 p x.1.1)
+
+package_shape : (b : Below) (o : RowPlace) (p : Place) → row_kind (row_at o) ≡ kinds.Data datas.Package → Shape b o p (package_at b p) (outside_at p)
+package_shape b o p e = let x = stands (kinds.Data datas.Package) o e (λ h. absurd (cc h)) in shaped x.0 x.1.0 (a_package b x.0 p x.1.1)
+
+var_package_shape : (b : Below) (o : RowPlace) (p : Place) → row_kind (row_at o) ≡ kinds.Data datas.VarPackage → Shape b o p (var_package_at b p) (outside_at p)
+var_package_shape b o p e = let x = stands (kinds.Data datas.VarPackage) o e (λ h. absurd (cc h)) in shaped x.0 x.1.0 (a_var_package b x.0 p x.1.1)
 
 -- ---- rules don't ask for the opcode
 
@@ -114,6 +132,15 @@ module _ {S : Type 0} (accesses : Accesses S) (ev : Task → Run S Flow) (scope 
   same_operator operators.CondRefOf ps = refl
   same_operator operators.DerefOf ps = refl
 
+  pub same_data : (k : DataKind) (ps : Parts) → data_rule ev k scope depth (term c ps) ≡ data_rule ev k scope depth (term d ps)
+  unfolding integer_rule string_rule buffer_rule package_rule var_package_rule
+  same_data (datas.Constant n) ps = refl
+  same_data datas.Integer ps = refl
+  same_data datas.String ps = refl
+  same_data datas.Buffer ps = refl
+  same_data datas.Package ps = refl
+  same_data datas.VarPackage ps = refl
+
   pub same_statement : (k : StatementKind) (ps : Parts) → statement_rule ev k scope depth (term c ps) ≡ statement_rule ev k scope depth (term d ps)
   unfolding if_rule else_rule while_rule return_rule release_rule notify_rule pause_rule fatal_rule value_at name_target
   same_statement statements.If ps = refl
@@ -144,6 +171,28 @@ module _ {S : Type 0} (accesses : Accesses S) (ev : Task → Run S Flow) (scope 
       ∙ coded_as x.row (operator_parts b k p) (kinds.Operator k) (row_of_kind (kinds.Operator k) x.there e)
       ∙ same_operator accesses ev scope depth (codes.Opcode x.row.0) codes.Name k (operator_parts b k p)
 
+  formed_is : (k : DataKind) (o : RowPlace) (p : Place) (ps : Parts) (q : Place) → row_kind (row_at o) ≡ kinds.Data k → Shape b o p ps q → code_rule accesses ev (code_of (with_row b (row_at o) p).0) scope depth (with_row b (row_at o) p).0 ≡ data_rule ev k scope depth (term codes.Name ps)
+  formed_is k o p ps q e x =
+      ap (λ (y : Tree × Place). code_rule accesses ev (code_of y.0) scope depth y.0) x.is
+      ∙ coded_as x.row ps (kinds.Data k) (row_of_kind (kinds.Data k) x.there e)
+      ∙ same_data accesses ev scope depth (codes.Opcode x.row.0) codes.Name k ps
+
+  integer_is : (o : RowPlace) (p : Place) → row_kind (row_at o) ≡ kinds.Data datas.Integer → code_rule accesses ev (code_of (with_row b (row_at o) p).0) scope depth (with_row b (row_at o) p).0 ≡ data_rule ev datas.Integer scope depth (with_row b (row_at o) p).0
+  integer_is o p e =
+      let x = stands (kinds.Data datas.Integer) o e (λ h. absurd (cc h)) in
+      let t = (with_row b (row_at o) p).0 in
+      let code : code_of t ≡ codes.Opcode x.0.0 = ap (λ r. code_of (with_row b r p).0) x.1.0 ∙ code_stands b x.0 p _ refl in
+      ap (λ y. code_rule accesses ev y scope depth t) code
+      ∙ ap (λ y. kind_rule accesses ev y x.0.0 scope depth t) (row_of_kind (kinds.Data datas.Integer) x.1.0 e)
+
+  pub data_is : (k : DataKind) (o : RowPlace) (p : Place) → row_kind (row_at o) ≡ kinds.Data k → code_rule accesses ev (code_of (with_row b (row_at o) p).0) scope depth (with_row b (row_at o) p).0 ≡ data_rule ev k scope depth (data_tree b k o p)
+  data_is (datas.Constant n) o p e = formed_is (datas.Constant n) o p no_parts p e (constant_shape b n o p e)
+  data_is datas.Integer o p e = integer_is o p e
+  data_is datas.String o p e = formed_is datas.String o p (text_at p) (a_text p).1 e (string_shape b o p e)
+  data_is datas.Buffer o p e = formed_is datas.Buffer o p (buffer_at b p) (outside_at p) e (buffer_shape b o p e)
+  data_is datas.Package o p e = formed_is datas.Package o p (package_at b p) (outside_at p) e (package_shape b o p e)
+  data_is datas.VarPackage o p e = formed_is datas.VarPackage o p (var_package_at b p) (outside_at p) e (var_package_shape b o p e)
+
   pub statement_is : (k : StatementKind) (o : RowPlace) (p : Place) → row_kind (row_at o) ≡ kinds.Statement k → code_rule accesses ev (code_of (with_row b (row_at o) p).0) scope depth (with_row b (row_at o) p).0 ≡ statement_rule ev k scope depth (statement_tree b k p)
   statement_is k o p e =
       let x = statement_shape b k o p e in
@@ -156,3 +205,11 @@ behind_operator_is b k o p e = let x = operator_shape b k o p e in ap (λ (y : T
 
 pub behind_statement_is : (b : Below) (k : StatementKind) (o : RowPlace) (p : Place) → row_kind (row_at o) ≡ kinds.Statement k → (with_row b (row_at o) p).1 ≡ behind_statement b k p
 behind_statement_is b k o p e = let x = statement_shape b k o p e in ap (λ (y : Tree × Place). y.1) x.is
+
+pub behind_data_is : (b : Below) (k : DataKind) (o : RowPlace) (p : Place) → row_kind (row_at o) ≡ kinds.Data k → (with_row b (row_at o) p).1 ≡ behind_data b k o p
+behind_data_is b (datas.Constant n) o p e = let x = constant_shape b n o p e in ap (λ (y : Tree × Place). y.1) x.is
+behind_data_is b datas.Integer o p e = refl
+behind_data_is b datas.String o p e = let x = string_shape b o p e in ap (λ (y : Tree × Place). y.1) x.is
+behind_data_is b datas.Buffer o p e = let x = buffer_shape b o p e in ap (λ (y : Tree × Place). y.1) x.is
+behind_data_is b datas.Package o p e = let x = package_shape b o p e in ap (λ (y : Tree × Place). y.1) x.is
+behind_data_is b datas.VarPackage o p e = let x = var_package_shape b o p e in ap (λ (y : Tree × Place). y.1) x.is

@@ -21,6 +21,7 @@ use Rattle.aml_meaning.specs.declared.flow.Flow.{Flow}
 use Rattle.aml_meaning.specs.declared.flow.Flow.TheVariants as flow
 use Rattle.aml_meaning.specs.declared.term_kind.TermKind.{TermKind}
 use Rattle.aml_meaning.specs.declared.term_kind.TermKind.TheVariants as kinds
+use Rattle.aml_meaning.specs.declared.term_kind.DataKind.{DataKind}
 use Rattle.aml_meaning.specs.declared.term_kind.OperatorKind.{OperatorKind}
 use Rattle.aml_meaning.specs.declared.term_kind.StatementKind.{StatementKind}
 use Rattle.aml_meaning.specs.State.{State}
@@ -49,9 +50,10 @@ use Rattle.aml_frames.specs.declared.frames.Loop.{Loop}
 use Rattle.aml_frames.specs.declared.frames.Next.{Next}
 use Rattle.aml_frames.specs.declared.frames.Next.TheVariants as next
 use Rattle.aml_frames.specs.Places.{Site, at_place, terms, next_term, behind_term}
-use Rattle.aml_frames.specs.Operands.{inside_at, outside_at, behind_one, items_at, row_kind, forms_or_declares, operator_tree, statement_tree}
+use Rattle.aml_frames.specs.Operands.{inside_at, outside_at, behind_one, items_at, row_kind, declares, operator_tree, statement_tree}
+use Rattle.aml_frames.specs.Data.{data_run, behind_data_at}
 use Rattle.aml_frames.specs.Follow.{called, arguments_left, behind_arguments, place_of, branch_at, statement_run, behind_statement_at, behind_operator_at, behind_coded, term_run, items_run, loop_site, loop_list, loop_again, turn_left, resumed, ends, Leads, EndsAt}
-use Rattle.aml_frames.proofs.RuleShapes.{operator_is, statement_is, behind_operator_is, behind_statement_is}
+use Rattle.aml_frames.proofs.RuleShapes.{operator_is, statement_is, data_is, behind_operator_is, behind_statement_is, behind_data_is}
 
 -- ---- one after another, and then another: brackets make no difference
 
@@ -65,7 +67,7 @@ unfolding ◌>>=◌
 bind_bind m k l s = bind_on (m s).0 (m s).1 k l
 
 -- an integer that the term gives which stands next
-integer_run : {S : Type 0} (ac : Accesses S) (c : Site) (levels : ℕ) (k : ℕ → Run S Flow) (s : State S × ℕ) → (operand_integer (meaning ac) c.scope c.depth (next_term c levels) >>= k) s ≡ (term_run ac (meaning ac) c levels >>= (λ f. settle (value_in f) >>= (λ v. lift (integer_in v) >>= k))) s
+pub integer_run : {S : Type 0} (ac : Accesses S) (c : Site) (levels : ℕ) (k : ℕ → Run S Flow) (s : State S × ℕ) → (operand_integer (meaning ac) c.scope c.depth (next_term c levels) >>= k) s ≡ (term_run ac (meaning ac) c levels >>= (λ f. settle (value_in f) >>= (λ v. lift (integer_in v) >>= k))) s
 unfolding operand_integer operand_value
 integer_run ac c levels k s =
     bind_bind (term_run ac (meaning ac) c levels >>= (λ f. settle (value_in f))) (λ v. lift (integer_in v)) k s
@@ -96,6 +98,9 @@ ends_begun r e c d levels o h i l =
 pub ends_operator : (r : Outcome Next) (e c : Site) (levels : ℕ) (k : OperatorKind) (o : RowPlace) → row_kind (row_at o) ≡ kinds.Operator k → EndsAt r e (behind_operator_at k c levels) → EndsAt r e (behind_coded o c levels)
 ends_operator r e c levels k o h l = subst (EndsAt r e) (ap (at_place c) (sym (behind_operator_is (terms c levels) k o c.place h))) l
 
+pub ends_data : (r : Outcome Next) (e c : Site) (levels : ℕ) (k : DataKind) (o : RowPlace) → row_kind (row_at o) ≡ kinds.Data k → EndsAt r e (behind_data_at k o c levels) → EndsAt r e (behind_coded o c levels)
+ends_data r e c levels k o h l = subst (EndsAt r e) (ap (at_place c) (sym (behind_data_is (terms c levels) k o c.place h))) l
+
 pub ends_statement : (r : Outcome Next) (e c : Site) (levels : ℕ) (k : StatementKind) (o : RowPlace) → row_kind (row_at o) ≡ kinds.Statement k → EndsAt r e (behind_statement_at k c levels) → EndsAt r e (behind_coded o c levels)
 ends_statement r e c levels k o h l = subst (EndsAt r e) (ap (at_place c) (sym (behind_statement_is (terms c levels) k o c.place h))) l
 
@@ -104,10 +109,10 @@ pub kind_there : (o : RowPlace) (row : Row) → Some row ≡ row_at o → row_ki
 kind_there o row e = rw (← e) refl
 
 -- a row whose kind is one of those
-pub forms_there : (o : RowPlace) (row : Row) (k : TermKind) → Some row ≡ row_at o → kind_of row.0 ≡ k → forms_or_declares k ≡ true → forms_or_declares (row_kind (row_at o)) ≡ true
-forms_there o row k e i h = rw (← e, i) h
+pub declares_there : (o : RowPlace) (row : Row) (k : TermKind) → Some row ≡ row_at o → kind_of row.0 ≡ k → declares k ≡ true → declares (row_kind (row_at o)) ≡ true
+declares_there o row k e i h = rw (← e, i) h
 
-pub ruleset coding = (forms_there, kind_there, ends_begun, ends_operator, ends_statement)
+pub ruleset coding = (declares_there, kind_there, ends_begun, ends_operator, ends_statement, ends_data)
 
 -- ---- where calls end
 
@@ -174,6 +179,11 @@ module _ {S : Type 0} {ac : Accesses S} where
       → Leads ac (meaning ac) r e s1 (operator_rule ac (meaning ac) k c.scope c.depth (operator_tree (terms c levels) k c.place)) s
       → Leads ac (meaning ac) r e s1 (code_rule ac (meaning ac) (code_of (with_row (terms c levels) (row_at o) c.place).0) c.scope c.depth (with_row (terms c levels) (row_at o) c.place).0) s
   leads_operator c levels k o h l = rw (operator_is ac (meaning ac) c.scope c.depth (terms c levels) k o c.place h) l
+
+  pub leads_data : {r : Outcome Next} {e : Site} {s s1 : State S × ℕ} (c : Site) (levels : ℕ) (k : DataKind) (o : RowPlace) → row_kind (row_at o) ≡ kinds.Data k
+      → Leads ac (meaning ac) r e s1 (data_run (meaning ac) k o c levels) s
+      → Leads ac (meaning ac) r e s1 (code_rule ac (meaning ac) (code_of (with_row (terms c levels) (row_at o) c.place).0) c.scope c.depth (with_row (terms c levels) (row_at o) c.place).0) s
+  leads_data c levels k o h l = rw (data_is ac (meaning ac) c.scope c.depth (terms c levels) k o c.place h) l
 
   pub leads_statement : {r : Outcome Next} {e : Site} {s s1 : State S × ℕ} (c : Site) (levels : ℕ) (k : StatementKind) (o : RowPlace) → row_kind (row_at o) ≡ kinds.Statement k
       → Leads ac (meaning ac) r e s1 (statement_rule (meaning ac) k c.scope c.depth (statement_tree (terms c levels) k c.place)) s

@@ -13,6 +13,7 @@ use Rattle.aml_marked.specs.Marked.{Place, count_at, a_name, turns_of, to_end, a
 use Rattle.aml_scan.specs.RowsAt.{row_at}
 use Rattle.aml_scan.specs.declared.row_places.RowPlace.{RowPlace}
 use Rattle.aml_convert.specs.Operators.{is_true}
+use Rattle.aml_objects.specs.declared.object.Element.TheVariants as element
 use Rattle.aml_objects.specs.declared.value.Value.{Value}
 use Rattle.aml_meaning.specs.declared.flow.Flow.{Flow}
 use Rattle.aml_meaning.specs.declared.flow.Flow.TheVariants as flow
@@ -22,6 +23,7 @@ use Rattle.aml_meaning.specs.declared.term_kind.StatementKind.{StatementKind}
 use Rattle.aml_meaning.specs.State.{State}
 use Rattle.aml_meaning.specs.Run.{Run, lift}
 use Rattle.aml_meaning.specs.Readings.{value_in, integer_in, integer_kept}
+use Rattle.aml_meaning.specs.NewObjects.{within, new_buffer}
 use Rattle.aml_meaning.specs.declared.store_target.Held.TheVariants as held
 use Rattle.aml_meaning.specs.declared.store_target.StoreTarget.TheVariants as targets
 use Rattle.aml_meaning.specs.StoreTargets.{tested, value_followed, most_references}
@@ -50,6 +52,7 @@ use Rattle.aml_frames.specs.declared.uses.Inquiry.{Inquiry}
 use Rattle.aml_frames.specs.declared.uses.Inquiry.TheVariants as inquiry
 use Rattle.aml_frames.specs.declared.uses.TargetUse.TheVariants as uses
 use Rattle.aml_frames.specs.Addresses.{part_met}
+use Rattle.aml_frames.specs.Data.{package_left, package_of_all, package_run}
 use Rattle.aml_frames.specs.Uses.{optional, behind_target, use_ends, target_ends, monadic_ends, dyadic_ends, access_run, inquired, counted_back, used, target_run, monadic_done, dyadic_by, dyadic_done}
 use Rattle.aml_frames.specs.Operands.{operator_tree, statement_tree, behind_operator, behind_statement}
 
@@ -110,6 +113,9 @@ ends frames.Return c = c
 ends frames.Pause c = c
 ends frames.Fatal c = c
 ends (frames.Argument k) c = behind_arguments k c
+ends (frames.Buffer o) c = at_position c o
+ends (frames.VarPackage levels o) c = at_position c o
+ends (frames.Element k) c = at_position c k.outer
 ends (frames.Operand k levels) c = monadic_ends k levels c
 ends (frames.First k levels) c = dyadic_ends k levels (behind_term c levels)
 ends (frames.Second o) c = dyadic_ends o.kind o.levels c
@@ -128,6 +134,7 @@ next_ends (next.Flow f) c = c
 next_ends (next.Term levels x) c = ends x (behind_term c levels)
 next_ends (next.Items i) c = at_position c i.outer
 next_ends (next.ItemsThen i x) c = ends x (at_position c i.outer)
+next_ends (next.Package k) c = at_position c k.outer
 next_ends (next.Body b) c = c
 next_ends (next.BodyThen b x) c = ends x c
 next_ends (next.Target t u) c = target_ends t u c
@@ -223,6 +230,19 @@ module _ {S : Type 0} (accesses : Accesses S) (ev : Task → Run S Flow) where
   resumed (frames.Argument k) c f = do
     v ← settle (value_in f)
     arguments_left k (k.done.items ++ v ∷ []) c
+  resumed (frames.Buffer o) c f = do
+    v ← settle (value_in f)
+    n ← lift (integer_in v)
+    b ← lift (new_buffer n c.place.rest)
+    give (flow.Value b)
+  resumed (frames.VarPackage levels o) c f = do
+    v ← settle (value_in f)
+    n ← lift (integer_in v)
+    few ← lift (within 65535 n)
+    package_of_all ev n levels c
+  resumed (frames.Element k) c f = do
+    v ← settle (value_in f)
+    package_left ev k (k.done ++ element.Value v ∷ []) c
   resumed (frames.Operand k levels) c f = do
     v ← settle (value_in f)
     monadic_done accesses ev k levels v c
@@ -267,6 +287,7 @@ module _ {S : Type 0} (accesses : Accesses S) (ev : Task → Run S Flow) where
   next_run (next.Term levels x) c = term_run c levels >>= resumed x (behind_term c levels)
   next_run (next.Items i) c = items_run i c
   next_run (next.ItemsThen i x) c = items_run i c >>= resumed x (at_position c i.outer)
+  next_run (next.Package k) c = package_run ev k c
   next_run (next.Body b) c = body_run b
   next_run (next.BodyThen b x) c = body_run b >>= resumed x c
   next_run (next.Target t u) c = target_run accesses ev t u c

@@ -1,5 +1,7 @@
 pub mod Addresses
+pub mod Data
 pub mod Follow
+pub mod Indexed
 pub mod Operands
 pub mod Places
 pub mod Stack

@@ -2,11 +2,15 @@
 use Rattle.std.specs.Prelude.{Bool, Option, Some, None, false, true, take}
 use Rattle.aml_grammar.specs.declared.opcode.TermCode.TheVariants as codes
 use Rattle.aml_grammar.specs.declared.kinds.Row.{Row}
-use Rattle.aml_grammar.specs.Tree.{Tree, term, number, inner, list, Parts, no_parts, part, Trees}
+use Rattle.aml_grammar.specs.Tree.{Tree, term, number, bytes, inner, list, Parts, no_parts, part, Trees}
 use Rattle.aml_grammar.specs.Shape.{trees_of}
-use Rattle.aml_marked.specs.Marked.{Place, Below, over, an_integer, a_size, a_target, a_super_name, all_items, maybe_else}
+use Rattle.aml_marked.specs.Marked.{Place, Below, over, an_integer, a_text, a_size, a_target, a_super_name, all_items, maybe_else, with_row}
+use Rattle.aml_scan.specs.RowsAt.{row_at}
+use Rattle.aml_scan.specs.declared.row_places.RowPlace.{RowPlace}
 use Rattle.aml_meaning.specs.declared.term_kind.TermKind.{TermKind}
 use Rattle.aml_meaning.specs.declared.term_kind.TermKind.TheVariants as kinds
+use Rattle.aml_meaning.specs.declared.term_kind.DataKind.{DataKind}
+use Rattle.aml_meaning.specs.declared.term_kind.DataKind.TheVariants as datas
 use Rattle.aml_meaning.specs.declared.term_kind.OperatorKind.{OperatorKind}
 use Rattle.aml_meaning.specs.declared.term_kind.OperatorKind.TheVariants as operators
 use Rattle.aml_meaning.specs.declared.term_kind.StatementKind.{StatementKind}
@@ -39,14 +43,18 @@ abbrev pub row_kind : Option Row → TermKind
 row_kind None = kinds.Unsupported
 row_kind (Some row) = kind_of row.0
 
--- whether a term forms data, declares something, or declares a region or fields
-abbrev pub forms_or_declares : TermKind → Bool
-forms_or_declares (kinds.Data k) = true
-forms_or_declares (kinds.Declaration k) = true
-forms_or_declares (kinds.Region k) = true
-forms_or_declares (kinds.Operator k) = false
-forms_or_declares (kinds.Statement k) = false
-forms_or_declares kinds.Unsupported = false
+-- whether a term declares something, a region and fields among them
+abbrev pub declares : TermKind → Bool
+declares (kinds.Data k) = false
+declares (kinds.Declaration k) = true
+declares (kinds.Region k) = true
+declares (kinds.Operator k) = false
+declares (kinds.Statement k) = false
+declares kinds.Unsupported = false
+
+-- the text of a string
+abbrev pub text_at : Place → Parts
+text_at p = part (bytes (a_text p).0) no_parts
 
 module _ (b : Below) where
   -- ---- operands that terms have
@@ -92,6 +100,15 @@ module _ (b : Below) where
 
   abbrev pub while_at : Place → Parts
   while_at p = part (inner (b false (inside_at p)).0) (part (list (items_at b (behind_one b (inside_at p)))) no_parts)
+
+  abbrev pub buffer_at : Place → Parts
+  buffer_at p = part (inner (b false (inside_at p)).0) (part (bytes (behind_one b (inside_at p)).rest) no_parts)
+
+  abbrev pub package_at : Place → Parts
+  package_at p = part (number (an_integer 1 (inside_at p)).0) (part (list (elements_at b (over 1 (inside_at p)))) no_parts)
+
+  abbrev pub var_package_at : Place → Parts
+  var_package_at p = part (inner (b false (inside_at p)).0) (part (list (elements_at b (behind_one b (inside_at p)))) no_parts)
 
   -- ---- by the kind of the term, and the place behind them
 
@@ -161,3 +178,20 @@ module _ (b : Below) where
 
   abbrev pub statement_tree : StatementKind → Place → Tree
   statement_tree k p = term codes.Name (statement_parts k p)
+
+  -- the same of data; how many bytes an integer takes, its opcode says
+  abbrev pub data_tree : DataKind → RowPlace → Place → Tree
+  data_tree (datas.Constant n) o p = term codes.Name no_parts
+  data_tree datas.Integer o p = (with_row b (row_at o) p).0
+  data_tree datas.String o p = term codes.Name (text_at p)
+  data_tree datas.Buffer o p = term codes.Name (buffer_at p)
+  data_tree datas.Package o p = term codes.Name (package_at p)
+  data_tree datas.VarPackage o p = term codes.Name (var_package_at p)
+
+  abbrev pub behind_data : DataKind → RowPlace → Place → Place
+  behind_data (datas.Constant n) o p = p
+  behind_data datas.Integer o p = (with_row b (row_at o) p).1
+  behind_data datas.String o p = (a_text p).1
+  behind_data datas.Buffer o p = outside_at p
+  behind_data datas.Package o p = outside_at p
+  behind_data datas.VarPackage o p = outside_at p

@@ -15,6 +15,7 @@ use Rattle.aml_frames.specs.declared.frames.Entry.{Entry}
 use Rattle.aml_frames.specs.declared.frames.Entry.TheVariants as entry
 use Rattle.aml_frames.specs.declared.frames.Items.{Items}
 use Rattle.aml_frames.specs.Places.{Site, behind_term}
+use Rattle.aml_frames.specs.Data.{package_run}
 use Rattle.aml_frames.specs.Follow.{at_position, ends, term_run, items_run, resumed}
 use Rattle.aml_frames.specs.Uses.{target_ends, target_run, access_run}
 use Rattle.aml_frames.specs.Weights.{weight, access_weight, target_weight}
@@ -31,6 +32,7 @@ whole b = record { left = length b.place.rest; levels = walk_levels; outer = rec
 abbrev pub control_ends : Control → Site → Site
 control_ends (control.Term levels) c = behind_term c levels
 control_ends (control.Items i) c = at_position c i.outer
+control_ends (control.Package k) c = at_position c k.outer
 control_ends (control.Target t u) c = target_ends t u c
 control_ends (control.Access a) c = c
 control_ends (control.Flow f) c = c
@@ -56,6 +58,7 @@ module _ {S : Type 0} (accesses : Accesses S) (ev : Task → Run S Flow) where
   abbrev pub controlled : Control → Site → Run S Flow
   controlled (control.Term levels) c = term_run accesses ev c levels
   controlled (control.Items i) c = items_run accesses ev i c
+  controlled (control.Package k) c = package_run ev k c
   controlled (control.Target t u) c = target_run accesses ev t u c
   controlled (control.Access a) c = access_run accesses ev a
   controlled (control.Flow f) c = give f
@@ -85,6 +88,7 @@ stack_weight (x ∷ xs) = entry_weight x + stack_weight xs
 abbrev pub control_weight : Control → ℕ
 control_weight (control.Term levels) = 0
 control_weight (control.Items i) = 4
+control_weight (control.Package k) = 4
 control_weight (control.Target t u) = target_weight u
 control_weight (control.Access a) = access_weight a
 control_weight (control.Flow f) = 3

@@ -96,6 +96,7 @@ next_weight (next.Flow f) = 3
 next_weight (next.Term levels x) = weight x
 next_weight (next.Items i) = 4
 next_weight (next.ItemsThen i x) = 4 + weight x
+next_weight (next.Package k) = 4
 next_weight (next.Body b) = 5
 next_weight (next.BodyThen b x) = 5 + weight x
 next_weight (next.Target t u) = target_weight u

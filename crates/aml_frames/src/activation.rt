@@ -1,25 +1,25 @@
 //! The table or the control method that is being evaluated, and where evaluation stands in it.
 ghost use Rattle.std.specs.Prelude.{◌≡◌, ◌≢◌, ◌<◌, ◌-◌, ◌==◌, ℕ, Bool, length, take, drop, Some, None, true, false, Ok};
-ghost use Rattle.ar_space.specs.Outcome.{Answers};
+ghost use Rattle.ar_space.specs.Outcome.{Answers, NotMemory};
 ghost use Rattle.aml_grammar.specs.declared.opcode.Opcode.{Opcode};
 ghost use Rattle.aml_grammar.specs.declared.opcode.TermCode.TheVariants as codes;
-ghost use Rattle.aml_grammar.specs.Apart.{code_of};
+ghost use Rattle.aml_grammar.specs.Apart.{code_of, operand_of};
 ghost use Rattle.aml_grammar.specs.Names.{starts_name};
 ghost use Rattle.aml_grammar.specs.State.{is_next};
 ghost use Rattle.aml_marked.specs.Marked.{Below, count_at, first, over, name_length, a_name, a_size, a_term, a_call, a_target, turns_of, with_row, maybe_else};
 ghost use Rattle.aml_scan.specs.RowsAt.{row_at};
 ghost use Rattle.aml_scan.specs.declared.row_places.RowPlace.{RowPlace};
-ghost use Rattle.aml_meaning.specs.Terms.{target_kind};
+ghost use Rattle.aml_meaning.specs.Terms.{target_kind, number_of};
 ghost use Rattle.aml_frames.specs.Places.{Stands, place_between, end_of, at_place, terms, next_term, behind_term};
 
 use crate::frames::Items;
-use aml_grammar::TermReader;
+use aml_grammar::{OperandView, TermReader};
 use aml_meaning::{TargetKind, target_kind};
 use aml_namespace::Scope;
 use aml_objects::{Body, NodeId};
 use aml_path::{NameString, Path};
 use aml_terms::{Cursor, Marks, RowPlace};
-use ar_space::Refusal;
+use ar_space::{NameFault, Refusal};
 use std::alloc::Global;
 use std::marker::Model;
 use std::rc::Rc;
@@ -268,6 +268,21 @@ impl Activation {
         ensures { result ≡ target_kind (code_of (next_term self.now levels)) }
     {
         target_kind(self.cursor().term(&self.marks, levels).code())
+    }
+
+    /// The number that is the operand of a term, by the place of its row.
+    pub fn number(&self, levels: u8, place: RowPlace) -> Result<u64, Refusal>
+        ensures answer { Answers result (number_of (operand_of (with_row (terms self.now levels) (row_at place) self.now.place).0 0)) }
+        ensures memory { NotMemory result }
+    {
+        match self
+            .cursor()
+            .coded_term(&self.marks, levels, place)
+            .operand(0)
+        {
+            OperandView::Number(number) => Ok(number),
+            _ => Err(Refusal::Name(NameFault::BadName)),
+        }
     }
 
     /// Goes over the term that stands next.

@@ -4,7 +4,7 @@ use crate::activation::{Activation, MethodPath, Position};
 use crate::addresses::PciAccess;
 use crate::uses::{Access, Dyadic, Inquiry, Monadic, SecondOperand, Target, TargetUse};
 use aml_meaning::{Count, Flow, StoreTarget};
-use aml_objects::{Body, Field, Value};
+use aml_objects::{Body, Elements, Field, Value};
 use aml_path::Path;
 
 /// The items of a list that are left.
@@ -51,6 +51,23 @@ pub struct Call {
     pub done: Vec<Value>,
 }
 
+/// A package, while its elements are evaluated one after another.
+#[derive(Drop)]
+pub struct Package {
+    /// How many elements it has.
+    pub count: usize,
+    /// How many of them are left.
+    pub left: usize,
+    /// At most so many stand next.
+    pub turns: usize,
+    /// How many levels of terms are read below it.
+    pub levels: u8,
+    /// Where evaluation goes on behind it.
+    pub outer: Position,
+    /// The elements that are evaluated.
+    pub done: Elements,
+}
+
 /// A term that is half done, which waits for what a part of it leaves.
 #[derive(Drop)]
 pub enum Frame {
@@ -70,6 +87,12 @@ pub enum Frame {
     Fatal,
     /// A call, while an argument is evaluated; those behind it are left.
     Argument(Call),
+    /// A Buffer, while its size is evaluated: where evaluation goes on behind it.
+    Buffer(Position),
+    /// A VarPackage with so many levels below it, while the number of its elements is evaluated: where evaluation goes on behind it.
+    VarPackage(u8, Position),
+    /// A package, while one of its elements is evaluated; those behind it are left.
+    Element(Package),
     /// An operator with so many levels below it, while its only operand is evaluated.
     Operand(Monadic, u8),
     /// An operator with so many levels below it, while the first of its operands is evaluated.
@@ -105,6 +128,8 @@ pub enum Next {
     Items(Items),
     /// A list, and then a frame.
     ItemsThen(Items, Frame),
+    /// The elements of a package that are left, and then the package.
+    Package(Package),
     /// The body of a control method.
     Body(Activation),
     /// The body of a control method, and then a frame.
@@ -135,6 +160,8 @@ pub enum Control {
     Term(u8),
     /// It begins a list.
     Items(Items),
+    /// It begins the next element of a package.
+    Package(Package),
     /// It finds the target that stands next.
     Target(Target, TargetUse),
     /// It accesses a field.

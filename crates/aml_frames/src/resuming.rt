@@ -8,8 +8,10 @@ ghost use Rattle.aml_frames.specs.Weights.{weight, next_weight};
 
 use crate::activation::{Activation, Position};
 use crate::calls::resume_argument;
+use crate::data::resume_buffer;
 use crate::frames::{Frame, Items, Loop, Next};
 use crate::operators::{resume_first, resume_operand, resume_quotient, resume_second};
+use crate::packages::{resume_element, resume_var_package};
 use crate::pci::resume_address;
 use crate::references::{resume_found, resume_referent};
 use crate::statements::next_branch;
@@ -193,6 +195,11 @@ pub fn resume<S: Space>(
         Frame::Pause => resume_pause(run, act, flow),
         Frame::Fatal => resume_fatal(run, act, flow),
         Frame::Argument(call) => resume_argument(alloc, run, act, call, flow),
+        Frame::Buffer(outer) => resume_buffer(alloc, run, act, outer, flow),
+        Frame::VarPackage(levels, outer) => {
+            resume_var_package(alloc, run, act, levels, outer, flow)
+        }
+        Frame::Element(filling) => resume_element(run, act, filling, flow),
         Frame::Operand(kind, levels) => resume_operand(alloc, run, act, kind, levels, flow),
         Frame::First(kind, levels) => resume_first(run, act, kind, levels, flow),
         Frame::Second(operator) => resume_second(alloc, run, act, operator, flow),

@@ -13,8 +13,9 @@ ghost use Rattle.aml_frames.specs.Weights.{next_weight, target_weight, access_we
 
 use crate::activation::{Activation, Position};
 use crate::field_access::begin_access;
-use crate::frames::{Control, Entry, Frame, Items, Next};
+use crate::frames::{Control, Entry, Frame, Items, Next, Package};
 use crate::lists::begin_items;
+use crate::packages::begin_element;
 use crate::resuming::resume;
 use crate::targets::begin_target;
 use crate::terms::{Terms, begin_term};
@@ -121,6 +122,13 @@ fn execute<S: Space, T: Terms<S>>(
                     return Err(refusal);
                 }
             },
+            Control::Package(filling) => match step_package(alloc, run, &mut stack, filling) {
+                Ok(after) => control = after,
+                Err(refusal) => {
+                    unwind(run, &mut stack, &refusal);
+                    return Err(refusal);
+                }
+            },
             Control::Target(target, target_use) => {
                 match step_target(alloc, run, &mut stack, target, target_use) {
                     Ok(after) => control = after,
@@ -182,6 +190,23 @@ fn step_items<S: Space>(
         (machine S.accesses (meaning S.accesses) (control.Items items) stack.old.act stack.old.entries.items) run.old }
 {
     let next = begin_items(run, &mut stack.act, items);
+    follow(run, stack, next)
+}
+
+/// The next element of a package begins.
+#[inline(always)]
+#[tactic(auto, using(crate::proofs::Machine::taking))]
+fn step_package<S: Space>(
+    alloc: Global,
+    run: &mut Running<S>,
+    stack: &mut Stack,
+    filling: Package,
+) -> Result<Control, Refusal>
+    ensures falls { IfOk result (λ c. charged run.new.1 + (stack_weight stack.new.entries.items + control_weight c) < charged run.old.1 + (stack_weight stack.old.entries.items + 4)) }
+    ensures means { Goes S.accesses (meaning S.accesses) result stack.new.act stack.new.entries.items run.new
+        (machine S.accesses (meaning S.accesses) (control.Package filling) stack.old.act stack.old.entries.items) run.old }
+{
+    let next = begin_element(alloc, run, &mut stack.act, filling)?;
     follow(run, stack, next)
 }
 
@@ -260,6 +285,7 @@ fn follow<S: Space>(run: &mut Running<S>, stack: &mut Stack, next: Next) -> Resu
     match next {
         Next::Flow(flow) => Ok(Control::Flow(flow)),
         Next::Items(items) => Ok(Control::Items(items)),
+        Next::Package(filling) => Ok(Control::Package(filling)),
         Next::Term(levels, frame) => {
             stack.entries.push(Entry::Frame(frame))?;
             Ok(Control::Term(levels))

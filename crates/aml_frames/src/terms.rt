@@ -9,6 +9,7 @@ ghost use Rattle.aml_frames.specs.Follow.{term_run, begun_run, coded_run, behind
 ghost use Rattle.aml_frames.specs.Weights.{most, next_weight};
 
 use crate::activation::Activation;
+use crate::data::begin_data;
 use crate::frames::Next;
 use crate::names::begin_name;
 use crate::operators::begin_operator;
@@ -19,18 +20,18 @@ use aml_terms::RowPlace;
 use ar_space::{EvaluationFault, NameFault, Refusal, Space};
 use std::alloc::Global;
 
-/// The terms that form data or declare something, and accesses of fields behind an index field: they have no steps of this crate.
+/// The terms that declare something, and accesses of fields behind an index field: they have no steps of this crate.
 pub trait Terms<S: Space> {
     ghost use Rattle.std.specs.Prelude.{◌≡◌, ◌≤◌, ◌<◌, ◌+◌, ◌*◌, true, IfOk};
     ghost use Rattle.aml_scan.specs.RowsAt.{row_at};
-    ghost use Rattle.aml_frames.specs.Operands.{row_kind, forms_or_declares};
+    ghost use Rattle.aml_frames.specs.Operands.{row_kind, declares};
     ghost use Rattle.aml_meaning.specs.Meaning.{meaning};
     ghost use Rattle.aml_frames.specs.Follow.{coded_run, behind_coded, Leads, EndsAt};
     ghost use Rattle.aml_frames.specs.Uses.{access_run};
     ghost use Rattle.aml_frames.specs.Weights.{most, next_weight, access_weight};
 
-    /// Begins a term that forms data, declares something, or declares a region or fields: its operands stand next, by the place of its row,
-    /// with so many levels.
+    /// Begins a term that declares something, a region and fields among them: its operands stand next, by the place of its row, with so
+    /// many levels.
     fn begin(
         &self,
         alloc: Global,
@@ -39,7 +40,7 @@ pub trait Terms<S: Space> {
         levels: u8,
         place: RowPlace,
     ) -> Result<Next, Refusal>
-        requires { forms_or_declares (row_kind (row_at place)) ≡ true }
+        requires { declares (row_kind (row_at place)) ≡ true }
         ensures spent { run.new.1 ≤ run.old.1 }
         ensures falls { IfOk result (λ n. next_weight n < 3 * most + 100) }
         ensures means { Leads S.accesses (meaning S.accesses) result act.new run.new
@@ -141,7 +142,7 @@ fn begin_coded<S: Space, T: Terms<S>>(
     match kind_of(place.row().0) {
         TermKind::Operator(kind) => begin_operator(alloc, run, act, levels, kind),
         TermKind::Statement(kind) => begin_statement(alloc, run, act, levels, kind),
-        TermKind::Data(_) => terms.begin(alloc, run, act, levels, place),
+        TermKind::Data(kind) => begin_data(alloc, run, act, levels, place, kind),
         TermKind::Declaration(_) => terms.begin(alloc, run, act, levels, place),
         TermKind::Region(_) => terms.begin(alloc, run, act, levels, place),
         TermKind::Unsupported => {

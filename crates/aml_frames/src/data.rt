@@ -1,0 +1,159 @@
+//! Data that terms form: integers, strings and buffers; how packages begin (ACPI 6.5, 19.6 and 20.2.3). The parts stand next.
+ghost use Rattle.std.specs.Prelude.{◌≡◌, ◌≤◌, ◌<◌, ◌+◌, OnOk, IfOk, Ok};
+ghost use Rattle.ar_space.specs.Outcome.{Answers, NotMemory};
+ghost use Rattle.aml_marked.specs.Marked.{a_text, with_row};
+ghost use Rattle.aml_scan.specs.RowsAt.{row_at};
+ghost use Rattle.aml_meaning.specs.declared.term_kind.DataKind.TheVariants as datas;
+ghost use Rattle.aml_meaning.specs.declared.term_kind.TermKind.TheVariants as kinds;
+ghost use Rattle.aml_meaning.specs.Meaning.{meaning};
+ghost use Rattle.aml_meaning.specs.DataTerms.{constant_rule};
+ghost use Rattle.aml_frames.specs.declared.frames.Frame.TheVariants as frames;
+ghost use Rattle.aml_frames.specs.Places.{at_place};
+ghost use Rattle.aml_frames.specs.Operands.{row_kind, outside_at};
+ghost use Rattle.aml_frames.specs.Data.{data_run, behind_data_at, string_run, buffer_run};
+ghost use Rattle.aml_frames.specs.Follow.{resumed, ends, next_ends, Leads, EndsAt};
+ghost use Rattle.aml_frames.specs.Weights.{next_weight};
+
+use crate::activation::{Activation, Position};
+use crate::frames::{Frame, Next};
+use crate::packages::{begin_package, begin_var_package};
+use crate::values::integer_of;
+use aml_meaning::{DataKind, Flow, Running};
+use aml_objects::Octets;
+use aml_scan::text_length;
+use aml_terms::RowPlace;
+use ar_space::{Refusal, Space};
+use std::alloc::Global;
+
+/// Data, by its kind and the place of its row: it is formed, or its first part is evaluated.
+#[tactic(auto, using(crate::proofs::Stepping::stepping))]
+pub fn begin_data<S: Space>(
+    alloc: Global,
+    run: &mut Running<S>,
+    act: &mut Activation,
+    levels: u8,
+    place: RowPlace,
+    kind: DataKind,
+) -> Result<Next, Refusal>
+    ensures spent { run.new.1 ≤ run.old.1 }
+    ensures falls { IfOk result (λ n. next_weight n < 6) }
+    ensures means { Leads S.accesses (meaning S.accesses) result act.new run.new
+        (data_run (meaning S.accesses) kind place act.old levels) run.old }
+    ensures ends { EndsAt result act.new (behind_data_at kind place act.old levels) }
+{
+    match kind {
+        DataKind::Constant(number) => begin_constant(run, act, number),
+        DataKind::Integer => begin_integer(run, act, levels, place),
+        DataKind::String => begin_string(alloc, run, act),
+        DataKind::Buffer => Ok(begin_buffer(run, act, levels)),
+        DataKind::Package => Ok(begin_package(alloc, run, act, levels)),
+        DataKind::VarPackage => Ok(begin_var_package(run, act, levels)),
+    }
+}
+
+/// An integer that an opcode says.
+#[tactic(auto, using(crate::proofs::Stepping::stepping), unfolding(aml_meaning::specs::DataTerms::constant_rule))]
+fn begin_constant<S: Space>(
+    run: &Running<S>,
+    act: &Activation,
+    number: u64,
+) -> Result<Next, Refusal>
+    ensures falls { IfOk result (λ n. next_weight n < 6) }
+    ensures memory { NotMemory result }
+    ensures means { Leads S.accesses (meaning S.accesses) result act.now run.now
+        (constant_rule (meaning S.accesses) number) run.now }
+    ensures ends { EndsAt result act.now act.now }
+{
+    let value = run.world.integer_kept(number)?;
+    Ok(Next::Flow(Flow::Value(value)))
+}
+
+/// An integer that follows its opcode.
+#[tactic(auto, using(crate::proofs::Stepping::stepping), unfolding(aml_meaning::specs::DataTerms::integer_rule))]
+fn begin_integer<S: Space>(
+    run: &Running<S>,
+    act: &mut Activation,
+    levels: u8,
+    place: RowPlace,
+) -> Result<Next, Refusal>
+    ensures falls { IfOk result (λ n. next_weight n < 6) }
+    ensures memory { NotMemory result }
+    ensures means { Leads S.accesses (meaning S.accesses) result act.new run.now
+        (data_run (meaning S.accesses) datas.Integer place act.old levels) run.now }
+    ensures ends { EndsAt result act.new (behind_data_at datas.Integer place act.old levels) }
+{
+    let number = act.number(levels, place)?;
+    act.over_operands(levels, place);
+    begin_constant(run, act, number)
+}
+
+/// A string: the characters that stand before the next zero.
+#[tactic(auto, using(crate::proofs::Stepping::stepping), unfolding(aml_meaning::specs::DataTerms::string_rule))]
+fn begin_string<S: Space>(
+    alloc: Global,
+    run: &mut Running<S>,
+    act: &mut Activation,
+) -> Result<Next, Refusal>
+    ensures spent { run.new.1 ≤ run.old.1 }
+    ensures falls { IfOk result (λ n. next_weight n < 6) }
+    ensures means { Leads S.accesses (meaning S.accesses) result act.new run.new
+        (string_run (meaning S.accesses) act.old) run.old }
+    ensures ends { EndsAt result act.new (at_place act.old (a_text act.old.place).1) }
+{
+    let text = take_text(alloc, act)?;
+    let value = run.world.make_string(text)?;
+    Ok(Next::Flow(Flow::Value(value)))
+}
+
+/// A copy of the text that stands next. Evaluation goes over it and its zero.
+fn take_text(alloc: Global, act: &mut Activation) -> Result<Octets, Refusal>
+    ensures text { Answers result (Ok (a_text act.old.place).0) }
+    ensures behind { OnOk result (act.new ≡ at_place act.old (a_text act.old.place).1) }
+{
+    let bytes = act.rest();
+    let length = text_length(bytes);
+    let text = copied(alloc, &bytes[..length])?;
+    act.over(length + 1);
+    Ok(text)
+}
+
+/// A Buffer: its size is evaluated, and the bytes behind it are its first ones.
+#[tactic(auto, using(crate::proofs::Forming::buffers))]
+fn begin_buffer<S: Space>(run: &Running<S>, act: &mut Activation, levels: u8) -> Next
+    ensures falls { next_weight result < 6 }
+    ensures means { Leads S.accesses (meaning S.accesses) (Ok result) act.new run.now
+        (buffer_run (meaning S.accesses) act.old levels) run.now }
+    ensures ends { next_ends result act.new ≡ at_place act.old (outside_at act.old.place) }
+{
+    let outer = act.open();
+    Next::Term(levels, Frame::Buffer(outer))
+}
+
+/// A Buffer whose size was evaluated.
+#[tactic(auto, using(crate::proofs::Stepping::stepping))]
+pub(crate) fn resume_buffer<S: Space>(
+    alloc: Global,
+    run: &mut Running<S>,
+    act: &mut Activation,
+    outer: Position,
+    flow: Flow,
+) -> Result<Next, Refusal>
+    ensures spent { run.new.1 ≤ run.old.1 }
+    ensures falls { IfOk result (λ n. next_weight n < 6) }
+    ensures means { Leads S.accesses (meaning S.accesses) result act.new run.new
+        (resumed S.accesses (meaning S.accesses) (frames.Buffer outer) act.old flow) run.old }
+    ensures ends { EndsAt result act.new (ends (frames.Buffer outer) act.old) }
+{
+    let value = flow.value()?;
+    let size = integer_of(&run.world, value)?;
+    let bytes = copied(alloc, act.rest())?;
+    let buffer = run.world.new_buffer(size, bytes)?;
+    act.go_to(outer);
+    Ok(Next::Flow(Flow::Value(buffer)))
+}
+
+fn copied(alloc: Global, bytes: &[u8]) -> Result<Octets, Refusal>
+    ensures { Answers result (Ok bytes.now) }
+{
+    Ok(Octets::from_vec(Vec::from_slice(alloc, bytes)?))
+}

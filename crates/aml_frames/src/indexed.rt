@@ -1,0 +1,89 @@
+//! Fields behind an index field and a data field: the units of such a field, which are accessed one by one (ACPI 6.5, 19.6: IndexField).
+ghost use Rattle.std.specs.Prelude.{◌≡◌, ◌≤◌, ◌+◌, replicate, Ok};
+ghost use Rattle.ar_space.specs.Outcome.{Answers, seen};
+ghost use Rattle.aml_fields.specs.Bits.{byte_count};
+ghost use Rattle.aml_frames.specs.Indexed.{is_kept, unit_within, put_unit, merged_unit};
+
+use aml_fields::{Unit, bytes_for, copy_from_unit, merge};
+use aml_meaning::RegionField;
+use aml_objects::{FieldUnit, UpdateRule};
+use ar_space::Refusal;
+use std::alloc::Global;
+
+/// How many bytes of a field are read at most: more than any field has.
+const MAX_BYTES: usize = 536_870_912;
+
+/// A field behind an index field and a data field that were looked up.
+#[derive(Clone, Copy, Debug)]
+pub struct IndexedField {
+    /// How many calls may be made one inside another.
+    pub calls: usize,
+    /// The field that the offset of a unit is written to.
+    pub index: RegionField,
+    /// The field that the unit is read from or written to then.
+    pub behind: RegionField,
+    pub field: FieldUnit,
+}
+
+/// The bytes of so many bits, all zero.
+pub fn zeros(alloc: Global, bits: u32) -> Result<Vec<u8>, Refusal>
+    ensures { Answers (seen (λ v. v.items) result) (Ok (replicate (byte_count bits) 0)) }
+{
+    Ok(vec![in alloc; 0; bytes_for(bits as usize)]?)
+}
+
+/// The bits of a unit that was read are put where they are in the field.
+#[tactic(auto, unfolding(crate::specs::Indexed::put_unit))]
+pub fn put_unit(bits: &mut [u8], unit: Unit, number: u64)
+    ensures { bits.new ≡ put_unit bits.old unit number }
+{
+    let within = unit_within(8 * bits.len().min(MAX_BYTES), unit);
+    copy_from_unit(bits, within.position, number, within.first, within.count);
+}
+
+/// What of a unit lies within 64 bits and within so many bits of the field: all of it.
+fn unit_within(bits: usize, unit: Unit) -> Unit
+    ensures is { result ≡ unit_within bits unit }
+    ensures inside { result.first + result.count ≤ 64 }
+    ensures within { result.position + result.count ≤ bits }
+{
+    let first = unit.first.min(64);
+    let position = unit.position.min(bits);
+    Unit {
+        offset: unit.offset,
+        first,
+        count: unit.count.min((64 - first).min(bits - position)),
+        position,
+    }
+}
+
+/// Whether a write keeps bits of a unit: where the field isn't all of it, and the update rule is Preserve.
+pub fn is_kept(field: FieldUnit, unit: Unit) -> bool
+    ensures { result ≡ is_kept field unit }
+{
+    if unit.count == usize::from(field.access.bits()) {
+        return false;
+    }
+    match field.update {
+        UpdateRule::Preserve => true,
+        UpdateRule::WriteAsOnes => false,
+        UpdateRule::WriteAsZeros => false,
+    }
+}
+
+/// What a unit is written with that holds a number.
+#[tactic(auto, unfolding(crate::specs::Indexed::merged_unit))]
+pub fn merge_unit(field: FieldUnit, source: &[u8], unit: Unit, old: u64) -> u64
+    ensures { result ≡ merged_unit field source.now unit old }
+{
+    let within = unit_within(field.bits as usize, unit);
+    merge(
+        field.update,
+        field.access,
+        old,
+        within.first,
+        source,
+        within.position,
+        within.count,
+    )
+}
