@@ -1,3 +1,2 @@
 mod Words
 mod Forms
-mod Malformed

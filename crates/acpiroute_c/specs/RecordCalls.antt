@@ -1,5 +1,5 @@
 -- Calls over a record: the settings, and how what there is to say stands in the caller's places.
-use Rattle.std.specs.Prelude.{◌≡◌, ◌⊎◌, ◌↔◌, ℕ, ◌==◌, nat_lt, Bool, true, false, List, All, map, Option, Some, None, Ok, Err, if◌then◌else◌}
+use Rattle.std.specs.Prelude.{◌≡◌, ◌⊎◌, ℕ, ◌==◌, nat_lt, Bool, true, false, List, All, map, Option, Some, None, Ok, Err, if◌then◌else◌}
 use Rattle.ar_space.specs.Outcome.{Outcome, Answers}
 use Rattle.ar_tables.specs.declared.mode.Mode.{Mode}
 use Rattle.ar_tables.specs.declared.mode.Mode.TheVariants.{Pic, Apic}
@@ -47,7 +47,6 @@ IsMalformed s accesses = (settings_of s ≡ None) ⊎ ¬ (All IsEntry accesses)
 pub record IsRunOf (s : CallSettings) (accesses : List CallAccess) (run : Settings → List Exchange → Type 0) : Type 0 where
   pub settings : Settings
   pub are_settings : settings_of s ≡ Some settings
-  pub all : All IsEntry accesses
   pub entries : List Exchange
   pub are_entries : map Some entries ≡ map exchange_of accesses
   pub is_run : run settings entries
@@ -99,9 +98,9 @@ abbrev pub code_of_unmade : Unmade → ℕ
 code_of_unmade OutOfMemory = 2
 code_of_unmade Malformed = 5
 
--- there is nothing to say, and nothing has changed: a number means nothing, or else memory ran out
+-- there is nothing to say, and nothing has changed: memory ran out, or a number means nothing
 pub record IsUnmade (s : CallSettings) (accesses : List CallAccess) (code : ℕ) (before after : Places) : Type 0 where
   pub why : Unmade
   pub code_is : code ≡ code_of_unmade why
-  pub malformed : (why ≡ Malformed) ↔ IsMalformed s accesses
+  pub malformed : why ≡ Malformed → IsMalformed s accesses
   pub is_as_before : after ≡ before

@@ -1,14 +1,14 @@
 //! Accesses of registers, as C has them.
-ghost use Rattle.std.specs.Prelude.{◌≡◌, ◌^◌, nat_lt, All, IfOk, Some, map};
-ghost use Rattle.std.specs.Bool.{OnTrue, OnFalse};
+ghost use Rattle.std.specs.Prelude.{◌≡◌, ◌^◌, nat_lt, All, IfOk, IfErr, Some, map};
 ghost use Rattle.ar_space.specs.Accesses.{bit_count};
 ghost use Rattle.recorded_space.specs.Exchanges.{kept};
 ghost use Rattle.acpiroute_c.specs.Accesses.{port_at, register_at, place_of, width_of, answer_of, done, read_with};
 ghost use Rattle.acpiroute_c.specs.Accesses.{exchange_with, exchange_of, place_form, access_form, wanted_form, IsEntry};
+ghost use Rattle.acpiroute_c.specs.declared.call_access.Unmade.TheVariants.{Malformed};
 
 use ar_space::{Place, SpaceFault, Width};
 use recorded_route::{Access, Exchange, WantedAccess};
-use std::alloc::{AllocError, Global};
+use std::alloc::Global;
 
 /// An access of a register, and in a record what was answered.
 #[repr(C)]
@@ -191,31 +191,20 @@ fn exchange_with(
     }
 }
 
-/// Whether all numbers of all entries of a record mean something.
-pub(crate) fn are_entries(accesses: &[CallAccess]) -> bool
-    ensures yes { OnTrue result (All IsEntry accesses.now) }
-    ensures no { OnFalse result (¬ (All IsEntry accesses.now)) }
-{
-    for access in accesses {
-        if exchange_of(access).is_none() {
-            return false;
-        }
-    }
-    true
-}
-
-/// The accesses of a record with their answers. An error means that memory ran out.
-pub(crate) fn exchanges_of(
-    alloc: Global,
-    accesses: &[CallAccess],
-) -> Result<Vec<Exchange>, AllocError>
-    requires { All IsEntry accesses.now }
-    ensures { IfOk result (λ list. map Some list.items ≡ map exchange_of accesses.now) }
+/// The accesses of a record with their answers.
+pub(crate) fn exchanges_of(alloc: Global, accesses: &[CallAccess]) -> Result<Vec<Exchange>, Unmade>
+    ensures entries { IfOk result (λ list. map Some list.items ≡ map exchange_of accesses.now) }
+    ensures fault { IfErr result (λ why. why ≡ Malformed → ¬ (All IsEntry accesses.now)) }
 {
     let mut list = Vec::new(alloc);
     for access in accesses {
-        if let Some(exchange) = exchange_of(access) {
-            list.push(exchange)?;
+        match exchange_of(access) {
+            Some(exchange) => {
+                if list.push(exchange).is_err() {
+                    return Err(Unmade::OutOfMemory);
+                }
+            }
+            None => return Err(Unmade::Malformed),
         }
     }
     Ok(list)

@@ -1,5 +1,5 @@
 //! A call that configures a machine: the reply in the caller's buffers, or the access that is wanted.
-ghost use Rattle.std.specs.Prelude.{◌≡◌, ◌↔◌, IfOk, IfErr};
+ghost use Rattle.std.specs.Prelude.{◌≡◌, IfOk, IfErr};
 ghost use Rattle.recorded_route.specs.Endings.{IsEndingOver, NotOutOfMemory};
 ghost use Rattle.acpiroute_lib.specs.RouteCommand.{printed};
 ghost use Rattle.acpiroute_c.specs.Sources.{described_by};
@@ -7,10 +7,10 @@ ghost use Rattle.acpiroute_c.specs.RecordCalls.{IsSaidOf, IsMalformed};
 ghost use Rattle.acpiroute_c.specs.Configuring.{IsEndingOf, IsSaid, IsConfigureCall};
 ghost use Rattle.acpiroute_c.specs.declared.call_access.Unmade.TheVariants.{Malformed};
 
-use crate::call_access::{CallAccess, CallWanted, Unmade, wanted_form};
+use crate::call_access::{CallAccess, CallWanted, Unmade, exchanges_of, wanted_form};
 use crate::call_reply::{CallReply, give};
-use crate::call_settings::CallSettings;
-use crate::record_call::{Said, code_of_unmade, read_call, reply_to};
+use crate::call_settings::{CallSettings, settings_of};
+use crate::record_call::{Said, code_of_unmade, reply_to};
 use crate::table_source::TableSource;
 use acpiroute_lib::report_answer;
 use recorded_route::{Ending, Exchange, Settings, configure_recorded, configure_tables_recorded};
@@ -25,7 +25,7 @@ fn ending_over(
     source: TableSource<'_>,
     entries: &[Exchange],
 ) -> Ending<Report>
-    ensures { NotOutOfMemory result → IsEndingOver settings.now avoid.now (described_by source) entries.now result }
+    ensures { NotOutOfMemory result → IsEndingOver settings.now avoid.now (described_by source.entry) entries.now result }
 {
     match source {
         TableSource::Text(text) => configure_recorded(alloc, text, settings, avoid, entries),
@@ -43,14 +43,16 @@ fn ending(
     source: TableSource<'_>,
     accesses: &[CallAccess],
 ) -> Result<Ending<Report>, Unmade>
-    ensures ending { IfOk result (λ ending. IsEndingOf settings.now avoid.now source accesses.now ending) }
-    ensures fault { IfErr result (λ why. (why ≡ Malformed) ↔ IsMalformed settings.now accesses.now) }
+    ensures ending { IfOk result (λ ending. IsEndingOf settings.now avoid.now source.entry accesses.now ending) }
+    ensures fault { IfErr result (λ why. why ≡ Malformed → IsMalformed settings.now accesses.now) }
 {
-    let (settings, entries) = match read_call(alloc, settings, accesses) {
-        Ok(read) => read,
-        Err(unmade) => return Err(unmade),
+    let Some(settings) = settings_of(settings) else {
+        return Err(Unmade::Malformed);
     };
-    Ok(ending_over(alloc, &settings, avoid, source, entries.as_slice()))
+    match exchanges_of(alloc, accesses) {
+        Ok(exchanges) => Ok(ending_over(alloc, &settings, avoid, source, exchanges.as_slice())),
+        Err(unmade) => Err(unmade),
+    }
 }
 
 /// What an ending says.
@@ -73,8 +75,8 @@ fn configured(
     source: TableSource<'_>,
     accesses: &[CallAccess],
 ) -> Result<Said, Unmade>
-    ensures said { IfOk result (λ said. IsSaid settings.now avoid.now source accesses.now said) }
-    ensures fault { IfErr result (λ why. (why ≡ Malformed) ↔ IsMalformed settings.now accesses.now) }
+    ensures said { IfOk result (λ said. IsSaid settings.now avoid.now source.entry accesses.now said) }
+    ensures fault { IfErr result (λ why. why ≡ Malformed → IsMalformed settings.now accesses.now) }
 {
     match ending(alloc, settings, avoid, source, accesses) {
         Ok(ending) => match said_of(alloc, ending) {
@@ -97,7 +99,7 @@ pub(crate) fn configure_call(
     reply: &mut CallReply,
     wanted: &mut CallWanted,
 ) -> u32
-    ensures { IsConfigureCall settings.now avoid.now source accesses.now result (record { filled = record { text = text.old; line = line.old; reply = reply.old }; wanted = wanted.old }) (record { filled = record { text = text.new; line = line.new; reply = reply.new }; wanted = wanted.new }) }
+    ensures { IsConfigureCall settings.now avoid.now source.entry accesses.now result (record { filled = record { text = text.old; line = line.old; reply = reply.old }; wanted = wanted.old }) (record { filled = record { text = text.new; line = line.new; reply = reply.new }; wanted = wanted.new }) }
 {
     match configured(alloc, settings, avoid, source, accesses) {
         Ok(Said::Reply(said)) => give(&said, text, line, reply),

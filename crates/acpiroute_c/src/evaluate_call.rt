@@ -1,5 +1,5 @@
 //! A call that evaluates an object: its value in the caller's buffers, or the access that is wanted.
-ghost use Rattle.std.specs.Prelude.{◌≡◌, ◌↔◌, IfOk, IfErr, map};
+ghost use Rattle.std.specs.Prelude.{◌≡◌, IfOk, IfErr, map};
 ghost use Rattle.aml_meaning.specs.Given as given;
 ghost use Rattle.recorded_route.specs.Endings.{IsEvaluatedOver, NotOutOfMemory, seen_ending};
 ghost use Rattle.acpiroute_lib.specs.EvalCommand.{value_written};
@@ -8,10 +8,10 @@ ghost use Rattle.acpiroute_c.specs.RecordCalls.{IsSaidOf, IsMalformed};
 ghost use Rattle.acpiroute_c.specs.Evaluating.{IsAnswerOf, IsValueSaid, IsEvaluateCall};
 ghost use Rattle.acpiroute_c.specs.declared.call_access.Unmade.TheVariants.{Malformed};
 
-use crate::call_access::{CallAccess, CallWanted, Unmade, wanted_form};
+use crate::call_access::{CallAccess, CallWanted, Unmade, exchanges_of, wanted_form};
 use crate::call_reply::{CallReply, give};
-use crate::call_settings::CallSettings;
-use crate::record_call::{Said, code_of_unmade, read_call, reply_to};
+use crate::call_settings::{CallSettings, settings_of};
+use crate::record_call::{Said, code_of_unmade, reply_to};
 use crate::table_source::TableSource;
 use acpiroute_lib::value_answer;
 use aml_meaning::Datum;
@@ -46,7 +46,7 @@ fn answer_over(
     source: TableSource<'_>,
     entries: &[Exchange],
 ) -> Ending<Datum>
-    ensures { NotOutOfMemory result → IsEvaluatedOver settings.now question.path.now (map given.given_of question.arguments.items) (described_by source) entries.now (seen_ending given.given_of result) }
+    ensures { NotOutOfMemory result → IsEvaluatedOver settings.now question.entry.path.now (map given.given_of question.entry.arguments.items) (described_by source.entry) entries.now (seen_ending given.given_of result) }
 {
     match source {
         TableSource::Text(text) => evaluate_recorded(alloc, text, settings, question, entries),
@@ -64,12 +64,11 @@ fn answer(
     source: TableSource<'_>,
     accesses: &[CallAccess],
 ) -> Result<Ending<Datum>, Unmade>
-    ensures answer { IfOk result (λ ending. IsAnswerOf settings.now asked.path.now asked.arguments.now source accesses.now (seen_ending given.given_of ending)) }
-    ensures fault { IfErr result (λ why. (why ≡ Malformed) ↔ IsMalformed settings.now accesses.now) }
+    ensures answer { IfOk result (λ ending. IsAnswerOf settings.now asked.entry.path.now asked.entry.arguments.now source.entry accesses.now (seen_ending given.given_of ending)) }
+    ensures fault { IfErr result (λ why. why ≡ Malformed → IsMalformed settings.now accesses.now) }
 {
-    let (settings, entries) = match read_call(alloc, settings, accesses) {
-        Ok(read) => read,
-        Err(unmade) => return Err(unmade),
+    let Some(settings) = settings_of(settings) else {
+        return Err(Unmade::Malformed);
     };
     let Ok(arguments) = integers(alloc, asked.arguments) else {
         return Err(Unmade::OutOfMemory);
@@ -78,7 +77,10 @@ fn answer(
         path: asked.path,
         arguments,
     };
-    Ok(answer_over(alloc, &settings, question, source, entries.as_slice()))
+    match exchanges_of(alloc, accesses) {
+        Ok(exchanges) => Ok(answer_over(alloc, &settings, question, source, exchanges.as_slice())),
+        Err(unmade) => Err(unmade),
+    }
 }
 
 /// What an ending says.
@@ -101,8 +103,8 @@ fn evaluated(
     source: TableSource<'_>,
     accesses: &[CallAccess],
 ) -> Result<Said, Unmade>
-    ensures said { IfOk result (λ said. IsValueSaid settings.now asked.path.now asked.arguments.now source accesses.now said) }
-    ensures fault { IfErr result (λ why. (why ≡ Malformed) ↔ IsMalformed settings.now accesses.now) }
+    ensures said { IfOk result (λ said. IsValueSaid settings.now asked.entry.path.now asked.entry.arguments.now source.entry accesses.now said) }
+    ensures fault { IfErr result (λ why. why ≡ Malformed → IsMalformed settings.now accesses.now) }
 {
     match answer(alloc, settings, asked, source, accesses) {
         Ok(ending) => match said_of(alloc, ending) {
@@ -125,7 +127,7 @@ pub(crate) fn evaluate_call(
     reply: &mut CallReply,
     wanted: &mut CallWanted,
 ) -> u32
-    ensures { IsEvaluateCall settings.now asked.path.now asked.arguments.now source accesses.now result (record { filled = record { text = text.old; line = line.old; reply = reply.old }; wanted = wanted.old }) (record { filled = record { text = text.new; line = line.new; reply = reply.new }; wanted = wanted.new }) }
+    ensures { IsEvaluateCall settings.now asked.entry.path.now asked.entry.arguments.now source.entry accesses.now result (record { filled = record { text = text.old; line = line.old; reply = reply.old }; wanted = wanted.old }) (record { filled = record { text = text.new; line = line.new; reply = reply.new }; wanted = wanted.new }) }
 {
     match evaluated(alloc, settings, asked, source, accesses) {
         Ok(Said::Reply(said)) => give(&said, text, line, reply),

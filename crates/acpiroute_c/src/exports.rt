@@ -88,7 +88,7 @@ pub extern "C" fn acpiroute_configure(
     reply: &mut CallReply,
     wanted: &mut CallWanted,
 ) -> u32
-    ensures { IsConfigureCall settings.now avoid.now (source.Text machine) accesses.now result (record { filled = record { text = text.old; line = line.old; reply = reply.old }; wanted = wanted.old }) (record { filled = record { text = text.new; line = line.new; reply = reply.new }; wanted = wanted.new }) }
+    ensures { IsConfigureCall settings.now avoid.now (source.Text machine.entry) accesses.now result (record { filled = record { text = text.old; line = line.old; reply = reply.old }; wanted = wanted.old }) (record { filled = record { text = text.new; line = line.new; reply = reply.new }; wanted = wanted.new }) }
 {
     configure_call(
         alloc,
@@ -118,7 +118,7 @@ pub extern "C" fn acpiroute_evaluate(
     reply: &mut CallReply,
     wanted: &mut CallWanted,
 ) -> u32
-    ensures { IsEvaluateCall settings.now path.now arguments.now (source.Text machine) accesses.now result (record { filled = record { text = text.old; line = line.old; reply = reply.old }; wanted = wanted.old }) (record { filled = record { text = text.new; line = line.new; reply = reply.new }; wanted = wanted.new }) }
+    ensures { IsEvaluateCall settings.now path.now arguments.now (source.Text machine.entry) accesses.now result (record { filled = record { text = text.old; line = line.old; reply = reply.old }; wanted = wanted.old }) (record { filled = record { text = text.new; line = line.new; reply = reply.new }; wanted = wanted.new }) }
 {
     let asked = Asked { path, arguments };
     evaluate_call(
@@ -149,7 +149,7 @@ pub extern "C" fn acpiroute_configure_tables(
     reply: &mut CallReply,
     wanted: &mut CallWanted,
 ) -> u32
-    ensures { IsConfigureCall settings.now avoid.now (source.Memory (record { rsdp = rsdp; parts = parts; osi = osi })) accesses.now result (record { filled = record { text = text.old; line = line.old; reply = reply.old }; wanted = wanted.old }) (record { filled = record { text = text.new; line = line.new; reply = reply.new }; wanted = wanted.new }) }
+    ensures { IsConfigureCall settings.now avoid.now (source.Memory (record { rsdp = rsdp; parts = parts.entry; osi = osi.entry })) accesses.now result (record { filled = record { text = text.old; line = line.old; reply = reply.old }; wanted = wanted.old }) (record { filled = record { text = text.new; line = line.new; reply = reply.new }; wanted = wanted.new }) }
 {
     configure_call(
         alloc,
@@ -180,7 +180,7 @@ pub extern "C" fn acpiroute_evaluate_tables(
     reply: &mut CallReply,
     wanted: &mut CallWanted,
 ) -> u32
-    ensures { IsEvaluateCall settings.now path.now arguments.now (source.Memory (record { rsdp = rsdp; parts = parts; osi = osi })) accesses.now result (record { filled = record { text = text.old; line = line.old; reply = reply.old }; wanted = wanted.old }) (record { filled = record { text = text.new; line = line.new; reply = reply.new }; wanted = wanted.new }) }
+    ensures { IsEvaluateCall settings.now path.now arguments.now (source.Memory (record { rsdp = rsdp; parts = parts.entry; osi = osi.entry })) accesses.now result (record { filled = record { text = text.old; line = line.old; reply = reply.old }; wanted = wanted.old }) (record { filled = record { text = text.new; line = line.new; reply = reply.new }; wanted = wanted.new }) }
 {
     let asked = Asked { path, arguments };
     evaluate_call(
