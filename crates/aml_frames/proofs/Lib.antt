@@ -7,6 +7,7 @@ pub mod Weighing
 pub mod Targeting
 pub mod Using
 pub mod Beginning
+pub mod Entering
 pub mod BitBytes
 pub mod Elements
 pub mod Forming

@@ -7,7 +7,7 @@ use Rattle.ar_space.specs.declared.refusal.Refusal.TheVariants.{OutOfMemory}
 use Rattle.ar_space.specs.Outcome.{Outcome, NotMemory, seen}
 use Rattle.ar_space.specs.Change.{Does, Same, give, stop, settle, go_on, ◌>>=◌}
 use Rattle.aml_path.specs.declared.segment.Seg.{Seg}
-use Rattle.aml_marked.specs.Marked.{all_items}
+use Rattle.aml_marked.specs.Marked.{all_items, walk_levels}
 use Rattle.aml_meaning.specs.declared.flow.Flow.{Flow}
 use Rattle.aml_meaning.specs.State.{State}
 use Rattle.aml_meaning.specs.Run.{Run}
@@ -29,7 +29,7 @@ use Rattle.aml_frames.specs.Uses.{target_ends, target_run, access_run}
 use Rattle.aml_frames.proofs.Weighing.{falling}
 use Rattle.aml_frames.specs.Places.{Site, behind_term}
 use Rattle.aml_frames.specs.Data.{package_run}
-use Rattle.aml_frames.specs.Follow.{at_position, ends, term_run, items_run, body_run, resumed, next_run, next_ends, Leads}
+use Rattle.aml_frames.specs.Follow.{at_position, ends, term_run, items_run, list_run, all_left, body_run, resumed, next_run, next_ends, Leads}
 use Rattle.aml_frames.specs.Stack.{Rest, whole, met, unwinding, at_bottom, then_all, machine, Goes, entry_weight, stack_weight, control_weight}
 
 -- ---- the newest entry meets the outcome first
@@ -190,4 +190,18 @@ does_body ac ev {r = r} {s = s} {s1 = s1} b c i xs f g e h j k =
     let h1 = rw (f, g) at h in
     rw (j, k) (record { is = λ ne. rw ((does_whole ac ev b xs e h1).is (returned r ne)) refl })
 
+-- the items that are left of a list, in the slots that stand
+pub does_list : {S : Type 0} (ac : Accesses S) (ev : Task → Run S Flow) {r : Outcome Flow} {s s1 : State S × ℕ} (b c : Site) (i : Items) (xs : List Entry) → c ≡ b → i ≡ whole b → xs ≡ [] → Does r s1 (machine ac ev (control.Items i) c xs) s → Does r s1 (list_run ac ev b (all_left b walk_levels)) s
+unfolding all_items
+does_list ac ev b c i xs f g e h =
+    let h1 = rw (f, g) at h in
+    does_whole ac ev b xs e h1
+
+-- an access of a field
+pub does_access : {S : Type 0} (ac : Accesses S) (ev : Task → Run S Flow) {r : Outcome Flow} {s s1 : State S × ℕ} (a : Access) (c : Site) (xs : List Entry) → xs ≡ [] → Does r s1 (machine ac ev (control.Access a) c xs) s → Does r s1 (access_run ac ev a) s
+unfolding then_all unwinding settle
+does_access ac ev a c xs e h = rw e at h
+
 pub ruleset beginning = (does_body)
+
+pub ruleset listing = (does_list, does_access)

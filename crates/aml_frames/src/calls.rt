@@ -5,6 +5,7 @@ ghost use Rattle.aml_objects.specs.declared.value.Value.TheVariants.{Uninitializ
 ghost use Rattle.aml_meaning.specs.Meaning.{meaning};
 ghost use Rattle.aml_meaning.specs.Invocations.{shallow, frame_arguments, invoked};
 ghost use Rattle.aml_frames.specs.declared.frames.Frame.TheVariants as frames;
+ghost use Rattle.aml_frames.specs.Entering.{Enters};
 ghost use Rattle.aml_frames.specs.Follow.{called, entered_then, arguments_left, behind_arguments, resumed, ends, Leads, EndsAt};
 ghost use Rattle.aml_frames.specs.Weights.{weight, next_weight};
 
@@ -92,8 +93,8 @@ fn begin_callee<S: Space>(
     }
 }
 
-/// The body of a called control method, in a frame of slots of its own.
-#[tactic(auto, using(crate::proofs::Stepping::calls), unfolding(aml_meaning::specs::Invocations::invoked))]
+/// The body of a called control method.
+#[tactic(auto, using(crate::proofs::Entering::entered))]
 fn begin_body<S: Space>(
     alloc: Global,
     run: &mut Running<S>,
@@ -108,17 +109,14 @@ fn begin_body<S: Space>(
         (invoked (meaning S.accesses) act.now.depth path body arguments.now) run.old }
     ensures ends { EndsAt result act.now act.now }
 {
-    shallow(act.depth())?;
-    let marks = run.world.body_marks(alloc, &path, &body)?;
-    let node = run.world.scope(&path).node;
-    let method = MethodPath::new(alloc, path)?;
-    let body = Activation::new(body, marks, method, node, act.depth() + 1);
-    run.world.open_frame(frame_arguments(arguments))?;
-    Ok(Next::Body(body))
+    match enter(alloc, run, act.depth(), (path, body), arguments) {
+        Ok(entered) => Ok(Next::Body(entered)),
+        Err(refusal) => Err(refusal),
+    }
 }
 
 /// The body of a control method that takes no arguments, where so many are being called, and then a frame.
-#[tactic(auto, using(crate::proofs::Addressing::entering), unfolding(aml_meaning::specs::Invocations::invoked))]
+#[tactic(auto, using(crate::proofs::Entering::entered))]
 pub(crate) fn enter_then<S: Space>(
     alloc: Global,
     run: &mut Running<S>,
@@ -133,14 +131,33 @@ pub(crate) fn enter_then<S: Space>(
         (entered_then S.accesses (meaning S.accesses) depth called.0 called.1 frame act.now) run.old }
     ensures ends { EndsAt result act.now (ends frame act.now) }
 {
+    match enter(alloc, run, depth, called, &[]) {
+        Ok(entered) => Ok(Next::BodyThen(entered, frame)),
+        Err(refusal) => Err(refusal),
+    }
+}
+
+/// The body of a control method, at its first byte, in a frame of slots of its own.
+#[tactic(auto, using(crate::proofs::Entering::entering), unfolding(aml_meaning::specs::Invocations::invoked))]
+pub(crate) fn enter<S: Space>(
+    alloc: Global,
+    run: &mut Running<S>,
+    depth: usize,
+    called: (Path, Body),
+    arguments: &[Value],
+) -> Result<Activation, Refusal>
+    ensures spent { run.new.1 ≤ run.old.1 }
+    ensures means { Enters result run.new
+        (invoked (meaning S.accesses) depth called.0 called.1 arguments.now) run.old }
+{
     let (path, body) = called;
     shallow(depth)?;
     let marks = run.world.body_marks(alloc, &path, &body)?;
     let node = run.world.scope(&path).node;
     let method = MethodPath::new(alloc, path)?;
-    let body = Activation::new(body, marks, method, node, depth + 1);
-    run.world.open_frame(frame_arguments(&[]))?;
-    Ok(Next::BodyThen(body, frame))
+    let entered = Activation::new(body, marks, method, node, depth + 1);
+    run.world.open_frame(frame_arguments(arguments))?;
+    Ok(entered)
 }
 
 fn shallow(depth: usize) -> Result<(), Refusal>

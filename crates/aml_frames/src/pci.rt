@@ -234,7 +234,7 @@ pub(crate) fn resume_address<S: Space>(
 }
 
 /// The value of a call.
-fn value_of_call(flow: Flow) -> Value
+pub(crate) fn value_of_call(flow: Flow) -> Value
     ensures { result ≡ value_of_call flow }
 {
     match flow {

@@ -7,7 +7,12 @@ ghost use Rattle.aml_meaning.specs.Invocations.{left, returned_by};
 ghost use Rattle.aml_meaning.specs.Meaning.{meaning};
 ghost use Rattle.aml_frames.specs.declared.frames.Control.TheVariants as control;
 ghost use Rattle.aml_frames.specs.declared.frames.Entry.TheVariants as entry;
-ghost use Rattle.aml_frames.specs.Follow.{body_run, next_run, next_ends};
+ghost use Rattle.aml_frames.specs.declared.uses.Accessed.TheVariants as object;
+ghost use Rattle.aml_frames.specs.declared.uses.Doing.TheVariants as doing;
+ghost use Rattle.aml_frames.specs.declared.uses.Reading.TheVariants as reading;
+ghost use Rattle.aml_frames.specs.Follow.{body_run, list_run, all_left, next_run, next_ends};
+ghost use Rattle.aml_marked.specs.Marked.{walk_levels};
+ghost use Rattle.aml_frames.specs.Uses.{access_done};
 ghost use Rattle.aml_frames.specs.Stack.{whole, then_all, machine, Goes, stack_weight, entry_weight, control_weight};
 ghost use Rattle.aml_frames.specs.Weights.{next_weight, target_weight, access_weight, charged};
 
@@ -19,8 +24,9 @@ use crate::packages::begin_element;
 use crate::resuming::resume;
 use crate::targets::begin_target;
 use crate::terms::{Terms, begin_term};
-use crate::uses::{Access, Target, TargetUse};
+use crate::uses::{Access, Accessed, Doing, Reading, Target, TargetUse};
 use aml_meaning::{Flow, Running};
+use aml_objects::Field;
 use aml_path::Path;
 use aml_terms::LEVELS;
 use ar_space::{Refusal, Space};
@@ -62,6 +68,52 @@ pub fn evaluate<S: Space, T: Terms<S>>(
     );
     end_call(run, path.path());
     of_call(outcome)
+}
+
+/// Evaluates the terms of a list that are left, in one loop, in the slots that stand.
+#[tactic(auto, using(crate::proofs::Machine::listing))]
+pub(crate) fn run_list<S: Space, T: Terms<S>>(
+    alloc: Global,
+    terms: &T,
+    run: &mut Running<S>,
+    list: Activation,
+) -> Result<Flow, Refusal>
+    ensures { Does result run.new (list_run (meaning S.accesses) list (all_left list walk_levels)) run.old }
+{
+    let items = whole(&list);
+    execute(
+        alloc,
+        terms,
+        run,
+        Stack::new(alloc, list),
+        Control::Items(items),
+    )
+}
+
+/// Reads a field as a part of an address, in one loop, where so many calls may still be made.
+#[tactic(auto, using(crate::proofs::Machine::listing))]
+pub(crate) fn access_field<S: Space, T: Terms<S>>(
+    alloc: Global,
+    terms: &T,
+    run: &mut Running<S>,
+    act: Activation,
+    calls: usize,
+    field: Field,
+) -> Result<Flow, Refusal>
+    ensures { Does result run.new (access_done S.accesses (meaning S.accesses) calls (object.Field field) (doing.Read reading.Part)) run.old }
+{
+    let access = Access {
+        calls,
+        object: Accessed::Field(field),
+        doing: Doing::Read(Reading::Part),
+    };
+    execute(
+        alloc,
+        terms,
+        run,
+        Stack::new(alloc, act),
+        Control::Access(access),
+    )
 }
 
 /// What a call leaves whose body leaves this.

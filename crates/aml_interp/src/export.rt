@@ -6,7 +6,8 @@ ghost use Rattle.aml_objects.specs.Objects.{string_at, buffer_at};
 ghost use Rattle.aml_meaning.specs.Given as given;
 ghost use Rattle.aml_meaning.specs.Exporting.{text_exported, bytes_exported, reference_exported, value_exported, use_exported, name_exported, held_exported, element_exported, each_exported, elements_exported, package_exported, exported};
 
-use crate::field_calls::field_exported;
+use crate::answers::CALLS_OF_A_FIELD;
+use crate::fields::field_given;
 use aml_meaning::{Datum, NameUse, Running};
 use aml_objects::{Element, Reference, Value};
 use aml_path::{NameString, Path};
@@ -194,7 +195,7 @@ fn use_exported<S: Space>(
 {
     match found {
         NameUse::Value(value) => value_exported(alloc, run, levels, value),
-        NameUse::Field(field) => field_exported(alloc, run, field),
+        NameUse::Field(field) => field_given(alloc, run, CALLS_OF_A_FIELD, field),
         NameUse::Path(path) => Ok(Datum::Named(path)),
     }
 }

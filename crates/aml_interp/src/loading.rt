@@ -1,18 +1,17 @@
 //! Loads a table (ACPI 6.5, 5.4).
 ghost use Rattle.std.specs.Prelude.{◌≡◌, replicate};
 ghost use Rattle.ar_space.specs.Change.{Does};
-ghost use Rattle.aml_terms.specs.AtTree.{at_list};
+ghost use Rattle.aml_grammar.specs.Shape.{trees_of};
+ghost use Rattle.aml_marked.specs.Marked.{trees_by};
 ghost use Rattle.aml_objects.specs.declared.value.Value.TheVariants.{Uninitialized};
 ghost use Rattle.aml_meaning.specs.Calling.{loaded, table_run, in_frame, framed, with_steps, at_root};
 
-use crate::operands::Reader;
 use crate::readings::read_table;
-use crate::task::{Site, Task};
-use crate::terms::eval_list;
+use aml_frames::{Activation, MethodPath, evaluate_list};
 use aml_meaning::{Running, World};
-use aml_objects::Value;
+use aml_objects::{Body, Octets, Value};
 use aml_path::Path;
-use aml_terms::list_at;
+use aml_terms::Marks;
 use ar_space::{Refusal, Space};
 use std::alloc::Global;
 
@@ -21,7 +20,7 @@ use std::alloc::Global;
 /// Names that it declares stand in the world from then on. The first refusal ends it, and what was declared before stays:
 /// those of reading (`BadName`, `AboveRoot`, and with an offset `BadOpcode`, `BadPkgLength`, `Truncated`, `TooDeep`,
 /// `NotInBody`), and those of evaluation, such as `Exists`, `NotFound`, `OutOfSteps`, `Unsupported` and `ObjectLimit`.
-/// However it ends, all mutexes are free after it.
+/// However it ends, all mutexes are free after it. Its bytes are copied once, for as long as it is loaded: evaluation owns what it reads.
 #[tactic(auto, using(aml_meaning::proofs::Runs::calling), unfolding(aml_meaning::specs::Calling::loaded))]
 pub fn load<S: Space>(
     alloc: Global,
@@ -47,7 +46,8 @@ fn table_run<S: Space>(
     ensures { Does result run.new.0 (table_run S.accesses steps table.now) run.old.0 }
 {
     let marks = read_table(alloc, &mut run.world, table)?;
-    in_frame(alloc, run, list_at(table, &marks), steps)
+    let bytes = Body::new(alloc, Octets::from_vec(Vec::from_slice(alloc, table)?))?;
+    in_frame(alloc, run, (bytes, marks), steps)
 }
 
 /// The terms, in a frame whose slots are uninitialized.
@@ -55,25 +55,25 @@ fn table_run<S: Space>(
 fn in_frame<S: Space>(
     alloc: Global,
     run: &mut Running<S>,
-    items: Reader<'_>,
+    list: (Body, Marks),
     steps: u64,
 ) -> Result<(), Refusal>
-    ensures { Does result run.new.0 (in_frame (replicate 7 Uninitialized) (with_steps steps (at_root S.accesses (at_list items.entry)))) run.old.0 }
+    ensures { Does result run.new.0 (in_frame (replicate 7 Uninitialized) (with_steps steps (at_root S.accesses (trees_of (trees_by list.1 list.0))))) run.old.0 }
 {
     run.world.open_frame([Value::Uninitialized; 7])?;
-    framed(alloc, run, items, steps)
+    framed(alloc, run, list, steps)
 }
 
 #[tactic(auto, using(aml_meaning::proofs::Runs::calling))]
 fn framed<S: Space>(
     alloc: Global,
     run: &mut Running<S>,
-    items: Reader<'_>,
+    list: (Body, Marks),
     steps: u64,
 ) -> Result<(), Refusal>
-    ensures { Does result run.new.0 (framed (with_steps steps (at_root S.accesses (at_list items.entry)))) run.old.0 }
+    ensures { Does result run.new.0 (framed (with_steps steps (at_root S.accesses (trees_of (trees_by list.1 list.0))))) run.old.0 }
 {
-    let outcome = with_steps(alloc, run, items, steps);
+    let outcome = with_steps(alloc, run, list, steps);
     run.world.close_frame();
     outcome
 }
@@ -82,28 +82,28 @@ fn framed<S: Space>(
 fn with_steps<S: Space>(
     alloc: Global,
     run: &mut Running<S>,
-    items: Reader<'_>,
+    list: (Body, Marks),
     steps: u64,
 ) -> Result<(), Refusal>
-    ensures { Does result run.new.0 (with_steps steps (at_root S.accesses (at_list items.entry))) run.old.0 }
+    ensures { Does result run.new.0 (with_steps steps (at_root S.accesses (trees_of (trees_by list.1 list.0)))) run.old.0 }
 {
     run.steps = steps;
-    at_root(alloc, run, items)
+    at_root(alloc, run, list)
 }
 
+/// The terms at the root.
 #[tactic(auto, using(aml_meaning::proofs::Runs::calling), unfolding(aml_meaning::specs::Calling::at_root))]
-fn at_root<S: Space>(alloc: Global, run: &mut Running<S>, items: Reader<'_>) -> Result<(), Refusal>
-    ensures { Does result run.new (at_root S.accesses (at_list items.entry)) run.old }
+fn at_root<S: Space>(
+    alloc: Global,
+    run: &mut Running<S>,
+    list: (Body, Marks),
+) -> Result<(), Refusal>
+    ensures { Does result run.new (at_root S.accesses (trees_of (trees_by list.1 list.0))) run.old }
 {
     let root = Path::root(alloc);
-    let site = Site {
-        scope: run.world.scope(&root),
-        depth: 0,
-    };
-    let job = Task {
-        site: &site,
-        term: &items,
-    };
-    eval_list(alloc, run, &job)?;
+    let node = run.world.scope(&root).node;
+    let scope = MethodPath::new(alloc, root)?;
+    let (bytes, marks) = list;
+    evaluate_list(alloc, run, Activation::new(bytes, marks, scope, node, 0))?;
     Ok(())
 }

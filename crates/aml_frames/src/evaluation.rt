@@ -1,0 +1,138 @@
+//! Evaluations from outside: a call of a control method, the terms of a table, and the integer that an object answers (ACPI 6.5, 5.5).
+ghost use Rattle.std.specs.Prelude.{◌≡◌, [], IfErr};
+ghost use Rattle.ar_space.specs.Change.{Does};
+ghost use Rattle.ar_space.specs.declared.refusal.Refusal.TheVariants.{OutOfMemory};
+ghost use Rattle.aml_marked.specs.Marked.{walk_levels};
+ghost use Rattle.aml_meaning.specs.Fields.{field_part};
+ghost use Rattle.aml_meaning.specs.FieldCalls.{method_integer};
+ghost use Rattle.aml_meaning.specs.Invocations.{invoked};
+ghost use Rattle.aml_meaning.specs.Meaning.{meaning};
+ghost use Rattle.aml_frames.specs.Addresses.{waited_run};
+ghost use Rattle.aml_frames.specs.Follow.{list_run, all_left};
+ghost use Rattle.aml_frames.specs.Uses.{asking};
+
+use crate::activation::{Activation, MethodPath};
+use crate::addresses::{Asked, Waited};
+use crate::asking::ask;
+use crate::calls::enter;
+use crate::pci::value_of_call;
+use crate::stack::{access_field, evaluate, run_list};
+use crate::terms::Terms;
+use aml_meaning::{Flow, Running, integer_only};
+use aml_objects::{Body, Field, Octets, Value};
+use aml_path::Path;
+use aml_terms::{Arities, scan_list};
+use ar_space::{Refusal, Space};
+use std::alloc::Global;
+
+/// Calls the control method at a path, with its body, where so many are being called already. However its body ends, the call ends: its
+/// frame of slots, and the names below it.
+///
+/// Refused: `CallDepth` where 32 are being called, as a scan of the body refuses it, and as its evaluation is.
+#[tactic(auto, using(crate::proofs::Entering::entered))]
+pub fn call_method<S: Space, T: Terms<S>>(
+    alloc: Global,
+    terms: &T,
+    run: &mut Running<S>,
+    depth: usize,
+    called: (Path, Body),
+    arguments: &[Value],
+) -> Result<Flow, Refusal>
+    ensures { Does result run.new (invoked (meaning S.accesses) depth called.0 called.1 arguments.now) run.old }
+{
+    match enter(alloc, run, depth, called, arguments) {
+        Ok(body) => evaluate(alloc, terms, run, body),
+        Err(refusal) => Err(refusal),
+    }
+}
+
+/// Evaluates the terms of a list one after another, in the slots that stand: those of a table at the root, say.
+pub fn evaluate_list<S: Space, T: Terms<S>>(
+    alloc: Global,
+    terms: &T,
+    run: &mut Running<S>,
+    list: Activation,
+) -> Result<Flow, Refusal>
+    ensures { Does result run.new (list_run (meaning S.accesses) list (all_left list walk_levels)) run.old }
+{
+    run_list(alloc, terms, run, list)
+}
+
+/// The integer that the object at a path answers, without arguments, where so many calls may still be made one inside another.
+///
+/// Refused: `CallDepth` where none is left, `NotFound` where nothing stands there, `WrongType` where it answers no integer, and as its
+/// evaluation is.
+#[tactic(auto, using(crate::proofs::Entering::asked_whole))]
+pub fn ask_integer<S: Space, T: Terms<S>>(
+    alloc: Global,
+    terms: &T,
+    run: &mut Running<S>,
+    calls: usize,
+    path: &Path,
+) -> Result<u64, Refusal>
+    ensures { Does result run.new (asking S.accesses (meaning S.accesses) calls path.now) run.old }
+{
+    match ask(alloc, run, calls, path) {
+        Ok(Asked::Known(number)) => Ok(number),
+        Ok(Asked::Waits(waited)) => await_integer(alloc, terms, run, waited),
+        Err(refusal) => Err(refusal),
+    }
+}
+
+/// The integer that is waited for.
+fn await_integer<S: Space, T: Terms<S>>(
+    alloc: Global,
+    terms: &T,
+    run: &mut Running<S>,
+    waited: Waited,
+) -> Result<u64, Refusal>
+    ensures { Does result run.new (waited_run S.accesses (meaning S.accesses) waited) run.old }
+{
+    match waited {
+        Waited::Method(depth, path, body) => call_integer(alloc, terms, run, depth, (path, body)),
+        Waited::Field(calls, field) => field_integer(alloc, terms, run, calls, field),
+    }
+}
+
+/// The integer that a control method answers.
+#[tactic(auto, using(aml_meaning::proofs::Runs::running), unfolding(aml_meaning::specs::FieldCalls::method_integer, aml_meaning::specs::Invocations::method_value))]
+fn call_integer<S: Space, T: Terms<S>>(
+    alloc: Global,
+    terms: &T,
+    run: &mut Running<S>,
+    depth: usize,
+    called: (Path, Body),
+) -> Result<u64, Refusal>
+    ensures { Does result run.new (method_integer S.accesses (meaning S.accesses) depth called.0 called.1) run.old }
+{
+    let flow = call_method(alloc, terms, run, depth, called, &[])?;
+    integer_only(value_of_call(flow))
+}
+
+/// The integer that a field holds.
+#[tactic(auto, using(crate::proofs::Entering::parted))]
+fn field_integer<S: Space, T: Terms<S>>(
+    alloc: Global,
+    terms: &T,
+    run: &mut Running<S>,
+    calls: usize,
+    field: Field,
+) -> Result<u64, Refusal>
+    ensures { Does result run.new (field_part S.accesses (asking S.accesses (meaning S.accesses) calls) field) run.old }
+{
+    let nowhere = nowhere(alloc, run)?;
+    let flow = access_field(alloc, terms, run, nowhere, calls, field)?;
+    integer_only(value_of_call(flow))
+}
+
+/// A list without terms: an access of a field needs no more of it.
+fn nowhere<S: Space>(alloc: Global, run: &Running<S>) -> Result<Activation, Refusal>
+    ensures memory { IfErr result (λ e. e ≡ OutOfMemory) }
+{
+    let root = Path::root(alloc);
+    let marks = scan_list(alloc, &[], &root, true, &Arities::new(alloc))?;
+    let bytes = Body::new(alloc, Octets::new(alloc))?;
+    let node = run.world.scope(&root).node;
+    let scope = MethodPath::new(alloc, root)?;
+    Ok(Activation::new(bytes, marks, scope, node, 0))
+}

@@ -1,5 +1,0 @@
-use Rattle.aml_interp.proofs.ShortNames.{finds_if}
-use Rattle.aml_interp.proofs.short_names.node_at.Goals as goal
-
-pub returns-in-Some : goal.returns-in-Some
-returns-in-Some g c = finds_if c.args.world.now _ c.args.cursor.now c.in-Some.segment c.node_named.result c.in-Some.ensures c.node_named.ensures.found
