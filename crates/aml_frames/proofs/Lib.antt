@@ -8,6 +8,8 @@ pub mod Targeting
 pub mod Using
 pub mod Beginning
 pub mod Entering
+pub mod ShortNames
+pub mod ShortTerms
 pub mod BitBytes
 pub mod Elements
 pub mod Forming

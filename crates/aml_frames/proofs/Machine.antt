@@ -8,7 +8,9 @@ use Rattle.ar_space.specs.Outcome.{Outcome, NotMemory, seen}
 use Rattle.ar_space.specs.Change.{Does, Same, give, stop, settle, go_on, ◌>>=◌}
 use Rattle.aml_path.specs.declared.segment.Seg.{Seg}
 use Rattle.aml_marked.specs.Marked.{all_items, walk_levels}
+use Rattle.aml_objects.specs.declared.value.Value.TheVariants as value
 use Rattle.aml_meaning.specs.declared.flow.Flow.{Flow}
+use Rattle.aml_meaning.specs.declared.flow.Flow.TheVariants as flow
 use Rattle.aml_meaning.specs.State.{State}
 use Rattle.aml_meaning.specs.Run.{Run}
 use Rattle.aml_meaning.specs.Tasks.{Task}
@@ -110,6 +112,18 @@ module _ {S : Type 0} {ac : Accesses S} {ev : Task → Run S Flow} where
   pub goes_access_then : {c : Site} {s : State S × ℕ} (xs ys : List Entry) (a : Access) (x : Frame) → ys ≡ xs ++ entry.Frame x ∷ [] → Goes ac ev (Ok (control.Access a)) c ys s (then_all ac ev (next_run ac ev (next.AccessThen a x) c) (next_ends (next.AccessThen a x) c) xs) s
   goes_access_then {c = c} {s = s} xs ys a x e = record { is = λ _. sym (ap (λ zs. then_all ac ev (access_run ac ev a) c zs s) e ∙ at_frame ac ev (access_run ac ev a) c xs x s) }
 
+  -- an operand that is there already
+  pub goes_known : {s s1 : State S × ℕ} {d : Site} (c : Site) (xs : List Entry) (levels n : ℕ) (x : Frame) → Does (Ok (flow.Value (value.Integer n))) s1 (term_run ac ev c levels) s → d ≡ behind_term c levels
+      → Goes ac ev (Ok (control.Resume x (value.Integer n))) d xs s1 (then_all ac ev (next_run ac ev (next.Term levels x) c) (next_ends (next.Term levels x) c) xs) s
+  unfolding then_all ◌>>=◌ go_on
+  goes_known c xs levels n x h e = rw e (record { is = λ _. rw (h.is tt) refl })
+
+  pub goes_refused : {r : Outcome Control} {e : Refusal} {s s1 : State S × ℕ} {d : Site} (c : Site) (xs : List Entry) (levels : ℕ) (x : Frame) → Does {A = Flow} (Err e) s1 (term_run ac ev c levels) s → IsErr r × IsErrAnd r (λ y. y ≡ e)
+      → Goes ac ev r d xs s1 (then_all ac ev (next_run ac ev (next.Term levels x) c) (next_ends (next.Term levels x) c) xs) s
+  unfolding then_all ◌>>=◌ go_on stop
+  goes_refused {r = Ok y} c xs levels x h i = absurd (cc i.0)
+  goes_refused {r = Err y} {s1 = s1} {d = d} c xs levels x h i = record { is = λ ne. rw (h.is (λ q. ne (i.1 ∙ q)), i.1) (stopped_anywhere ac ev _ xs (ends x (behind_term c levels)) d s1) }
+
   pub goes_memory : {s : State S × ℕ} (r : Outcome Control) (c : Site) (xs : List Entry) (after : State S × ℕ) (m : Run S Flow) → IsErr r × IsErrAnd r (λ e. e ≡ OutOfMemory) → Goes ac ev r c xs after m s
   goes_memory (Ok x) c xs after m i = absurd (cc i.0)
   goes_memory (Err e) c xs after m i = record { is = λ ne. absurd (ne i.1) }
@@ -170,7 +184,7 @@ module _ {S : Type 0} (ac : Accesses S) (ev : Task → Run S Flow) where
   unfolding then_all unwinding stop settle
   unwound_end e c xs s i = rw i refl
 
-pub ruleset going = (weight_on, goes_flow, goes_items, goes_package, goes_term, goes_items_then, goes_body, goes_body_then, goes_target, goes_target_then, goes_access, goes_access_then, goes_memory)
+pub ruleset going = (weight_on, goes_flow, goes_items, goes_package, goes_term, goes_items_then, goes_body, goes_body_then, goes_target, goes_target_then, goes_access, goes_access_then, goes_known, goes_refused, goes_memory)
 
 pub ruleset taking = (falling, goes_leads, goes_leads_err, goes_frame, goes_leave, goes_memory)
 

@@ -40,26 +40,30 @@ pub few_calls : (depth : ℕ) → field_weight (32 - depth) ≤ most
 unfolding most
 few_calls depth = part_up (suc (32 - depth)) (32 - (32 - depth)) 33 (omega arith)
 
--- ---- the sum falls: what is left weighs w, and what was taken from the stack v
+-- ---- the sum falls: what is left weighs w, and what was taken from the stack v; what follows weighs no more
 
 -- with a step that is paid
-pub falls_paid : (r : Outcome Control) (a n b w x y : ℕ) → a < b → n ≡ a → w < 3 * most + 100 → IfOk r (λ c. x + control_weight c ≡ y + w) → IfOk r (λ c. charged n + (x + control_weight c) < charged b + y)
-falls_paid (Ok c) a n b w x y h e i j = let p = charged_paid a b h in rw (e, j) (omega (arith, p, i))
-falls_paid (Err z) a n b w x y h e i j = tt
+pub falls_paid : (r : Outcome Control) (a b w n x y : ℕ) → a < b → w < 3 * most + 100 → IfOk r (λ c. n + (x + control_weight c) ≤ charged a + (y + w)) → IfOk r (λ c. n + (x + control_weight c) < charged b + y)
+falls_paid (Ok c) a b w n x y h i j = let p = charged_paid a b h in omega (arith, p, i, j)
+falls_paid (Err z) a b w n x y h i j = tt
 
 -- without one
-pub falls_free : (r : Outcome Control) (a n b w v x y : ℕ) → a ≤ b → n ≡ a → w < v → IfOk r (λ c. x + control_weight c ≡ y + w) → IfOk r (λ c. charged n + (x + control_weight c) < charged b + (y + v))
-falls_free (Ok c) a n b w v x y h e i j = let p = charged_less a b h in rw (e, j) (omega (arith, p, i))
-falls_free (Err z) a n b w v x y h e i j = tt
+pub falls_free : (r : Outcome Control) (a b w v n x y : ℕ) → a ≤ b → w < v → IfOk r (λ c. n + (x + control_weight c) ≤ charged a + (y + w)) → IfOk r (λ c. n + (x + control_weight c) < charged b + (y + v))
+falls_free (Ok c) a b w v n x y h i j = let p = charged_less a b h in omega (arith, p, i, j)
+falls_free (Err z) a b w v n x y h i j = tt
 
 -- a frame that meets a flow
-pub falls_met : (r : Outcome Control) (a n b w u x y : ℕ) → a ≤ b → n ≡ a → w < u + 3 → IfOk r (λ c. x + control_weight c ≡ y + w) → IfOk r (λ c. charged n + (x + control_weight c) < charged b + (y + u + 3))
-falls_met (Ok c) a n b w u x y h e i j = let p = charged_less a b h in rw (e, j) (omega (arith, p, i))
-falls_met (Err z) a n b w u x y h e i j = tt
+pub falls_met : (r : Outcome Control) (a b w u n x y : ℕ) → a ≤ b → w < u + 3 → IfOk r (λ c. n + (x + control_weight c) ≤ charged a + (y + w)) → IfOk r (λ c. n + (x + control_weight c) < charged b + (y + u + 3))
+falls_met (Ok c) a b w u n x y h i j = let p = charged_less a b h in omega (arith, p, i, j)
+falls_met (Err z) a b w u n x y h i j = tt
 
 -- a target that costs a step or weighs less
-pub falls_found : (r : Outcome Control) (a n b w v x y : ℕ) → charged a + w < charged b + v → n ≡ a → IfOk r (λ c. x + control_weight c ≡ y + w) → IfOk r (λ c. charged n + (x + control_weight c) < charged b + (y + v))
-falls_found (Ok c) a n b w v x y h e j = rw (e, j) (omega (arith, h))
-falls_found (Err z) a n b w v x y h e j = tt
+pub falls_found : (r : Outcome Control) (a b w v n x y : ℕ) → charged a + w < charged b + v → IfOk r (λ c. n + (x + control_weight c) ≤ charged a + (y + w)) → IfOk r (λ c. n + (x + control_weight c) < charged b + (y + v))
+falls_found (Ok c) a b w v n x y h j = omega (arith, h, j)
+falls_found (Err z) a b w v n x y h j = tt
+
+-- an operand that is there already: the step that it costs pays for what meets it
+pub falls_known : (a b w x : ℕ) → a < b → charged a + (x + (w + 3)) ≤ charged b + (x + w)
+falls_known a b w x h = let p = charged_paid a b h in omega (arith, p)
 
 pub ruleset falling = (falls_paid, falls_free, falls_met, falls_found)

@@ -5,6 +5,8 @@ pub mod Follow
 pub mod Indexed
 pub mod Operands
 pub mod Places
+pub mod ShortNames
+pub mod ShortTerms
 pub mod Stack
 pub mod Uses
 pub mod Weights

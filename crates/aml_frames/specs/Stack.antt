@@ -5,6 +5,7 @@ use Rattle.ar_space.specs.Outcome.{Outcome, NotMemory, seen}
 use Rattle.ar_space.specs.Change.{give, stop, settle, go_on}
 use Rattle.aml_marked.specs.Marked.{walk_levels}
 use Rattle.aml_meaning.specs.declared.flow.Flow.{Flow}
+use Rattle.aml_meaning.specs.declared.flow.Flow.TheVariants as flow
 use Rattle.aml_meaning.specs.State.{State}
 use Rattle.aml_meaning.specs.Run.{Run}
 use Rattle.aml_meaning.specs.Tasks.{Task}
@@ -35,6 +36,7 @@ control_ends (control.Items i) c = at_position c i.outer
 control_ends (control.Package k) c = at_position c k.outer
 control_ends (control.Target t u) c = target_ends t u c
 control_ends (control.Access a) c = c
+control_ends (control.Resume x v) c = ends x c
 control_ends (control.Flow f) c = c
 
 module _ {S : Type 0} (accesses : Accesses S) (ev : Task → Run S Flow) where
@@ -61,6 +63,7 @@ module _ {S : Type 0} (accesses : Accesses S) (ev : Task → Run S Flow) where
   controlled (control.Package k) c = package_run ev k c
   controlled (control.Target t u) c = target_run accesses ev t u c
   controlled (control.Access a) c = access_run accesses ev a
+  controlled (control.Resume x v) c = resumed accesses ev x c (flow.Value v)
   controlled (control.Flow f) c = give f
 
   -- the machine's meaning
@@ -91,4 +94,5 @@ control_weight (control.Items i) = 4
 control_weight (control.Package k) = 4
 control_weight (control.Target t u) = target_weight u
 control_weight (control.Access a) = access_weight a
+control_weight (control.Resume x v) = weight x + 3
 control_weight (control.Flow f) = 3

@@ -166,6 +166,8 @@ pub enum Control {
     Target(Target, TargetUse),
     /// It accesses a field.
     Access(Access),
+    /// It hands a value to a frame that doesn't stand on the stack.
+    Resume(Frame, Value),
     /// It hands a flow to what waits for it.
     Flow(Flow),
 }

@@ -22,6 +22,8 @@ mod packages;
 mod pci;
 mod references;
 mod resuming;
+mod short_names;
+mod short_terms;
 mod stack;
 mod statements;
 mod target_uses;

@@ -14,6 +14,7 @@ use crate::accesses::begin_read;
 use crate::activation::Activation;
 use crate::calls::begin_call;
 use crate::frames::{Call, Callee, Next};
+use crate::short_names::node_at;
 use crate::uses::Reading;
 use aml_meaning::{Flow, Invocation, Running, WorldState};
 use ar_space::{Refusal, Space};
@@ -41,6 +42,21 @@ pub fn begin_name<S: Space>(
 
 /// What the name is that stands next, used with so many arguments.
 fn name_used<S: Space>(
+    alloc: Global,
+    world: &WorldState<S>,
+    act: &Activation,
+    count: u8,
+) -> Result<Invocation, Refusal>
+    ensures { Does result world.now (invocation_found act.now.scope (a_name act.now.place).0 count) world.now }
+{
+    match node_at(world, act) {
+        Some(id) => world.use_with(alloc, id, usize::from(count)),
+        None => long_name_used(alloc, world, act, count),
+    }
+}
+
+/// The same of a name of several segments, or one with a prefix, or one that finds nothing.
+fn long_name_used<S: Space>(
     alloc: Global,
     world: &WorldState<S>,
     act: &Activation,

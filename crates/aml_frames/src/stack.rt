@@ -7,6 +7,7 @@ ghost use Rattle.aml_meaning.specs.Invocations.{left, returned_by};
 ghost use Rattle.aml_meaning.specs.Meaning.{meaning};
 ghost use Rattle.aml_frames.specs.declared.frames.Control.TheVariants as control;
 ghost use Rattle.aml_frames.specs.declared.frames.Entry.TheVariants as entry;
+ghost use Rattle.aml_frames.specs.declared.frames.Next.TheVariants as next;
 ghost use Rattle.aml_frames.specs.declared.uses.Accessed.TheVariants as object;
 ghost use Rattle.aml_frames.specs.declared.uses.Doing.TheVariants as doing;
 ghost use Rattle.aml_frames.specs.declared.uses.Reading.TheVariants as reading;
@@ -14,7 +15,7 @@ ghost use Rattle.aml_frames.specs.Follow.{body_run, list_run, all_left, next_run
 ghost use Rattle.aml_marked.specs.Marked.{walk_levels};
 ghost use Rattle.aml_frames.specs.Uses.{access_done};
 ghost use Rattle.aml_frames.specs.Stack.{whole, then_all, machine, Goes, stack_weight, entry_weight, control_weight};
-ghost use Rattle.aml_frames.specs.Weights.{next_weight, target_weight, access_weight, charged};
+ghost use Rattle.aml_frames.specs.Weights.{weight, next_weight, target_weight, access_weight, charged};
 
 use crate::activation::{Activation, Position};
 use crate::field_access::begin_access;
@@ -22,11 +23,12 @@ use crate::frames::{Control, Entry, Frame, Items, Next, Package};
 use crate::lists::begin_items;
 use crate::packages::begin_element;
 use crate::resuming::resume;
+use crate::short_names::known_integer;
 use crate::targets::begin_target;
 use crate::terms::{Terms, begin_term};
 use crate::uses::{Access, Accessed, Doing, Reading, Target, TargetUse};
 use aml_meaning::{Flow, Running};
-use aml_objects::Field;
+use aml_objects::{Field, Value};
 use aml_path::Path;
 use aml_terms::LEVELS;
 use ar_space::{Refusal, Space};
@@ -197,6 +199,15 @@ fn execute<S: Space, T: Terms<S>>(
                     return Err(refusal);
                 }
             },
+            Control::Resume(frame, value) => {
+                match step_resume(alloc, run, &mut stack, frame, value) {
+                    Ok(after) => control = after,
+                    Err(refusal) => {
+                        unwind(run, &mut stack, &refusal);
+                        return Err(refusal);
+                    }
+                }
+            }
             Control::Flow(flow) => match stack.entries.pop() {
                 None => return Ok(flow),
                 Some(top) => match step_entry(alloc, run, &mut stack, top, flow) {
@@ -298,6 +309,24 @@ fn step_access<S: Space, T: Terms<S>>(
     follow(run, stack, next)
 }
 
+/// A value meets the frame that would have waited for it.
+#[inline(always)]
+#[tactic(auto, using(crate::proofs::Machine::taking))]
+fn step_resume<S: Space>(
+    alloc: Global,
+    run: &mut Running<S>,
+    stack: &mut Stack,
+    frame: Frame,
+    value: Value,
+) -> Result<Control, Refusal>
+    ensures falls { IfOk result (λ c. charged run.new.1 + (stack_weight stack.new.entries.items + control_weight c) < charged run.old.1 + (stack_weight stack.old.entries.items + (weight frame + 3))) }
+    ensures means { Goes S.accesses (meaning S.accesses) result stack.new.act stack.new.entries.items run.new
+        (machine S.accesses (meaning S.accesses) (control.Resume frame value) stack.old.act stack.old.entries.items) run.old }
+{
+    let next = resume(alloc, run, &mut stack.act, frame, Flow::Value(value))?;
+    follow(run, stack, next)
+}
+
 /// A flow meets what waited for it.
 #[inline(always)]
 #[tactic(auto, using(crate::proofs::Machine::taking))]
@@ -329,8 +358,7 @@ fn step_entry<S: Space>(
 #[inline(always)]
 #[tactic(auto, using(crate::proofs::Machine::going))]
 fn follow<S: Space>(run: &mut Running<S>, stack: &mut Stack, next: Next) -> Result<Control, Refusal>
-    ensures spent { run.new.1 ≡ run.old.1 }
-    ensures falls { IfOk result (λ c. stack_weight stack.new.entries.items + control_weight c ≡ stack_weight stack.old.entries.items + next_weight next) }
+    ensures falls { IfOk result (λ c. charged run.new.1 + (stack_weight stack.new.entries.items + control_weight c) ≤ charged run.old.1 + (stack_weight stack.old.entries.items + next_weight next)) }
     ensures means { Goes S.accesses (meaning S.accesses) result stack.new.act stack.new.entries.items run.new
         (then_all S.accesses (meaning S.accesses) (next_run S.accesses (meaning S.accesses) next stack.old.act) (next_ends next stack.old.act) stack.old.entries.items) run.old }
 {
@@ -338,10 +366,7 @@ fn follow<S: Space>(run: &mut Running<S>, stack: &mut Stack, next: Next) -> Resu
         Next::Flow(flow) => Ok(Control::Flow(flow)),
         Next::Items(items) => Ok(Control::Items(items)),
         Next::Package(filling) => Ok(Control::Package(filling)),
-        Next::Term(levels, frame) => {
-            stack.entries.push(Entry::Frame(frame))?;
-            Ok(Control::Term(levels))
-        }
+        Next::Term(levels, frame) => begin_operand(run, stack, levels, frame),
         Next::ItemsThen(items, frame) => {
             stack.entries.push(Entry::Frame(frame))?;
             Ok(Control::Items(items))
@@ -360,6 +385,29 @@ fn follow<S: Space>(run: &mut Running<S>, stack: &mut Stack, next: Next) -> Resu
         Next::BodyThen(body, frame) => {
             push_frame(run, stack, &body, frame)?;
             run_in(run, stack, body)
+        }
+    }
+}
+
+/// An operand, and the frame that waits for it: an integer that is there already is handed to the frame at once, and the stack stays as it
+/// is.
+#[inline(always)]
+#[tactic(auto, using(crate::proofs::Machine::going))]
+fn begin_operand<S: Space>(
+    run: &mut Running<S>,
+    stack: &mut Stack,
+    levels: u8,
+    frame: Frame,
+) -> Result<Control, Refusal>
+    ensures falls { IfOk result (λ c. charged run.new.1 + (stack_weight stack.new.entries.items + control_weight c) ≤ charged run.old.1 + (stack_weight stack.old.entries.items + weight frame)) }
+    ensures means { Goes S.accesses (meaning S.accesses) result stack.new.act stack.new.entries.items run.new
+        (then_all S.accesses (meaning S.accesses) (next_run S.accesses (meaning S.accesses) (next.Term levels frame) stack.old.act) (next_ends (next.Term levels frame) stack.old.act) stack.old.entries.items) run.old }
+{
+    match known_integer(run, &mut stack.act, levels)? {
+        Some(number) => Ok(Control::Resume(frame, Value::Integer(number))),
+        None => {
+            stack.entries.push(Entry::Frame(frame))?;
+            Ok(Control::Term(levels))
         }
     }
 }

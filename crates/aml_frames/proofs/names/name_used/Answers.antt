@@ -1,0 +1,10 @@
+use Rattle.aml_path.specs.Paths.{Name}
+use Rattle.aml_marked.specs.Marked.{a_name}
+use Rattle.aml_meaning.specs.Invocations.{invocation_found}
+use Rattle.aml_meaning.proofs.Uses.{does_use}
+use Rattle.aml_frames.proofs.names.name_used.Goals as goal
+
+pub returns-in-Some : goal.returns-in-Some
+returns-in-Some g c =
+    let f = c.in-Some.ensures in
+    rw (← c.from.ensures, f.stands.name) (does_use c.args.world.now c.args.act.now.scope _ c.from.result f.node _ f.finds (c.use_with.ensures f.node f.is))

@@ -1,0 +1,216 @@
+//! Names of one segment without a prefix that stand next: they are read, stored to and counted without a name being made (ACPI 6.5, 5.3
+//! and 20.2.2). Where that isn't quick, each of these functions answers that it did nothing, and then nothing changes.
+ghost use Rattle.std.specs.Prelude.{◌≡◌, ◌≤◌, ◌<◌, None, Ok, Err, true, false, IfOk, IfErr, IfSome};
+ghost use Rattle.ar_space.specs.Change.{Does};
+ghost use Rattle.ar_space.specs.Outcome.{NotMemory};
+ghost use Rattle.aml_path.specs.Segments.{seg_of};
+ghost use Rattle.aml_marked.specs.Marked.{count_at};
+ghost use Rattle.aml_objects.specs.declared.value.Value.TheVariants as values;
+ghost use Rattle.aml_meaning.specs.declared.flow.Flow.TheVariants as flows;
+ghost use Rattle.aml_meaning.specs.Meaning.{meaning};
+ghost use Rattle.aml_frames.specs.declared.uses.TargetUse.TheVariants as uses;
+ghost use Rattle.aml_frames.specs.Follow.{term_run};
+ghost use Rattle.aml_frames.specs.Places.{behind_term};
+ghost use Rattle.aml_frames.specs.ShortNames.{IsSegmentAt, FindsAt, Reads, Puts};
+ghost use Rattle.aml_frames.specs.Uses.{super, behind_target, target_run};
+
+use crate::activation::Activation;
+use crate::short_terms::short_integer;
+use aml_meaning::{Count, Running, WorldState};
+use aml_objects::NodeId;
+use aml_path::Seg;
+use ar_space::{Refusal, Space};
+
+/// How many bytes a name of one segment takes.
+const SEGMENT_LENGTH: usize = 4;
+
+/// The segment of the name that begins here, where it is one segment without a prefix.
+fn one_segment(act: &Activation) -> Option<Seg>
+    ensures { IfSome result (λ segment. IsSegmentAt act.now.place segment) }
+{
+    match act.rest() {
+        [first, second, third, fourth, ..] => { segment_of([*first, *second, *third, *fourth]) }
+        _ => None,
+    }
+}
+
+/// The segment of four characters, where they are one.
+fn segment_of(bytes: [u8; 4]) -> Option<Seg>
+    ensures { IfSome result (λ segment. Ok segment ≡ seg_of bytes) }
+{
+    match Seg::new(bytes) {
+        Ok(segment) => Some(segment),
+        Err(_) => None,
+    }
+}
+
+/// The node that the name finds that begins here, where it is one segment without a prefix.
+pub(crate) fn node_at<S>(
+    world: &WorldState<S>,
+    act: &Activation,
+) -> Option<NodeId>
+    ensures { IfSome result (λ id. FindsAt world.now act.now.scope act.now.place id.number) }
+{
+    match one_segment(act) {
+        None => None,
+        Some(segment) => world.node_named(act.scope(), segment),
+    }
+}
+
+/// The same of a name where a value stands, which no argument follows.
+fn node_of_value<S>(
+    world: &WorldState<S>,
+    act: &Activation,
+    levels: u8,
+) -> Option<NodeId>
+    ensures finds { IfSome result (λ id. FindsAt world.now act.now.scope act.now.place id.number) }
+    ensures levels { IfSome result (λ id. 0 < levels) }
+    ensures alone { IfSome result (λ id. count_at act.now.marks act.now.place.at ≡ 0) }
+{
+    if levels == 0 || !act.is_at_name() || act.argument_count() > 0 {
+        return None;
+    }
+    node_at(world, act)
+}
+
+/// The integer that a name holds which is the node with an id, if it holds one, or the bits of a field unit that are read at once.
+fn read_node<S: Space>(world: &mut WorldState<S>, id: NodeId) -> Result<Option<u64>, Refusal>
+    ensures read { IfOk result (λ read. IfSome read (λ number. Reads S.accesses id.number (Ok (flows.Value (values.Integer number))) world.new world.old)) }
+    ensures refused { IfErr result (λ refusal. Reads S.accesses id.number (Err refusal) world.new world.old) }
+    ensures none { IfOk result (λ read. read ≡ None → world.new ≡ world.old) }
+    ensures memory { NotMemory result }
+{
+    if let Some(number) = world.node_integer(id) {
+        return Ok(Some(number));
+    }
+    match world.node_unit(id) {
+        None => Ok(None),
+        Some(unit) => world.unit_integer(unit),
+    }
+}
+
+/// The integer that the term gives which stands next, where it is a name of one segment that no argument follows, and the name holds an
+/// integer or is a field unit whose bits are read at once. It takes a step, as the term does.
+#[tactic(auto, using(crate::proofs::ShortNames::short_values))]
+pub(crate) fn integer_at_name<S: Space>(
+    run: &mut Running<S>,
+    act: &mut Activation,
+    levels: u8,
+) -> Result<Option<u64>, Refusal>
+    ensures integer { IfOk result (λ read. IfSome read (λ number. Does (Ok (flows.Value (values.Integer number))) run.new (term_run S.accesses (meaning S.accesses) act.old levels) run.old)) }
+    ensures refused { IfErr result (λ refusal. Does (Err refusal) run.new (term_run S.accesses (meaning S.accesses) act.old levels) run.old) }
+    ensures spent { run.new.1 ≤ run.old.1 }
+    ensures paid { IfOk result (λ read. IfSome read (λ number. run.new.1 < run.old.1)) }
+    ensures behind { IfOk result (λ read. IfSome read (λ number. act.new ≡ behind_term act.old levels)) }
+    ensures none { IfOk result (λ read. read ≡ None → run.new ≡ run.old) }
+    ensures stays { IfOk result (λ read. read ≡ None → act.new ≡ act.old) }
+    ensures memory { NotMemory result }
+{
+    let Some(id) = node_of_value(&run.world, act, levels) else {
+        return Ok(None);
+    };
+    if run.steps == 0 {
+        return Ok(None);
+    }
+    run.steps -= 1;
+    let read = read_node(&mut run.world, id)?;
+    match read {
+        None => run.steps += 1,
+        Some(_) => act.over(SEGMENT_LENGTH),
+    }
+    Ok(read)
+}
+
+/// Stores an integer to the node with an id, where a name holds an integer there, or it is a field unit whose bits are written at once.
+#[tactic(auto, using(crate::proofs::ShortNames::puts_integer))]
+fn put_node<S: Space>(world: &mut WorldState<S>, id: NodeId, number: u64) -> Result<bool, Refusal>
+    ensures done { IfOk result (λ done. done ≡ true → Puts S.accesses id.number (values.Integer number) (Ok tt) world.new world.old) }
+    ensures refused { IfErr result (λ refusal. Puts S.accesses id.number (values.Integer number) (Err refusal) world.new world.old) }
+    ensures none { IfOk result (λ done. done ≡ false → world.new ≡ world.old) }
+    ensures memory { NotMemory result }
+{
+    if world.put_integer_at(id, number) {
+        return Ok(true);
+    }
+    match world.node_unit(id) {
+        None => Ok(false),
+        Some(unit) => world.put_unit_integer(unit, number),
+    }
+}
+
+/// Stores an integer to the name that stands next, where it is one segment, and holds an integer or is a field unit whose bits are written at
+/// once.
+#[tactic(auto, using(crate::proofs::ShortNames::short_targets))]
+pub(crate) fn put_integer_at_name<S: Space>(
+    run: &mut Running<S>,
+    act: &mut Activation,
+    levels: u8,
+    number: u64,
+) -> Result<bool, Refusal>
+    ensures done { IfOk result (λ done. done ≡ true → Does (Ok (flows.Value (values.Integer number))) run.new (target_run S.accesses (meaning S.accesses) (super levels) (uses.Store (values.Integer number)) act.old) run.old) }
+    ensures refused { IfErr result (λ refusal. Does (Err refusal) run.new (target_run S.accesses (meaning S.accesses) (super levels) (uses.Store (values.Integer number)) act.old) run.old) }
+    ensures spent { run.new.1 ≤ run.old.1 }
+    ensures behind { IfOk result (λ done. done ≡ true → act.new ≡ behind_target (super levels) act.old) }
+    ensures none { IfOk result (λ done. done ≡ false → run.new ≡ run.old) }
+    ensures stays { IfOk result (λ done. done ≡ false → act.new ≡ act.old) }
+    ensures memory { NotMemory result }
+{
+    let Some(id) = node_at(&run.world, act) else {
+        return Ok(false);
+    };
+    let done = put_node(&mut run.world, id, number)?;
+    if done {
+        act.over(SEGMENT_LENGTH);
+    }
+    Ok(done)
+}
+
+/// Counts up or down the integer that the name of one segment holds which stands next, and gives it as it is then.
+#[tactic(auto, using(crate::proofs::ShortNames::short_targets))]
+pub(crate) fn count_at_name<S: Space>(
+    run: &mut Running<S>,
+    act: &mut Activation,
+    levels: u8,
+    kind: Count,
+) -> Option<u64>
+    ensures counted { IfSome result (λ number. Does (Ok (flows.Value (values.Integer number))) run.new (target_run S.accesses (meaning S.accesses) (super levels) (uses.Count kind) act.old) run.old) }
+    ensures spent { run.new.1 ≤ run.old.1 }
+    ensures behind { IfSome result (λ number. act.new ≡ behind_target (super levels) act.old) }
+    ensures none { result ≡ None → run.new ≡ run.old }
+    ensures stays { result ≡ None → act.new ≡ act.old }
+{
+    let Some(id) = node_at(&run.world, act) else {
+        return None;
+    };
+    let Some(held) = run.world.node_integer(id) else {
+        return None;
+    };
+    let number = run.world.count_integer(kind, held);
+    if !run.world.put_integer_at(id, number) {
+        return None;
+    }
+    act.over(SEGMENT_LENGTH);
+    Some(number)
+}
+
+/// The integer that the term gives which stands next, where it is there already: that of a local, an argument, a constant, a name, or of a
+/// field unit whose bits are read at once. It takes a step, as the term does; in every other case nothing changes.
+#[inline(always)]
+pub(crate) fn known_integer<S: Space>(
+    run: &mut Running<S>,
+    act: &mut Activation,
+    levels: u8,
+) -> Result<Option<u64>, Refusal>
+    ensures integer { IfOk result (λ known. IfSome known (λ number. Does (Ok (flows.Value (values.Integer number))) run.new (term_run S.accesses (meaning S.accesses) act.old levels) run.old)) }
+    ensures refused { IfErr result (λ refusal. Does (Err refusal) run.new (term_run S.accesses (meaning S.accesses) act.old levels) run.old) }
+    ensures paid { IfOk result (λ known. IfSome known (λ number. run.new.1 < run.old.1)) }
+    ensures behind { IfOk result (λ known. IfSome known (λ number. act.new ≡ behind_term act.old levels)) }
+    ensures none { IfOk result (λ known. known ≡ None → run.new ≡ run.old) }
+    ensures stays { IfOk result (λ known. known ≡ None → act.new ≡ act.old) }
+    ensures memory { NotMemory result }
+{
+    if let Some(number) = short_integer(run, act, levels) {
+        return Ok(Some(number));
+    }
+    integer_at_name(run, act, levels)
+}

@@ -1,0 +1,353 @@
+//! The commonest terms, where they give integers: locals, arguments, constants and integers behind their opcodes (ACPI 6.5, 19.6 and
+//! 20.2.3).
+//!
+//! Each function answers at once, or leaves everything as it was: then the term is evaluated as any other is.
+ghost use Rattle.std.specs.Prelude.{◌≡◌, ◌≤◌, ◌<◌, ℕ, Ok, None, true, false, take, IfSome};
+ghost use Rattle.ar_space.specs.Change.{Does};
+ghost use Rattle.aml_grammar.specs.State.{little_endian};
+ghost use Rattle.aml_marked.specs.Marked.{first, an_integer};
+ghost use Rattle.aml_objects.specs.declared.value.Value.TheVariants as values;
+ghost use Rattle.aml_meaning.specs.declared.flow.Flow.TheVariants as flows;
+ghost use Rattle.aml_meaning.specs.Meaning.{meaning};
+ghost use Rattle.aml_meaning.specs.Run.{charge};
+ghost use Rattle.aml_frames.specs.declared.short_terms.Short.TheVariants as shorts;
+ghost use Rattle.aml_frames.specs.declared.uses.TargetUse.TheVariants as uses;
+ghost use Rattle.aml_frames.specs.Follow.{term_run};
+ghost use Rattle.aml_frames.specs.Places.{behind_term};
+ghost use Rattle.aml_frames.specs.ShortTerms.{row_alone, IsShort};
+ghost use Rattle.aml_frames.specs.Uses.{super, behind_target, target_run};
+
+use crate::activation::Activation;
+use aml_meaning::{Count, Running};
+use aml_objects::Slot;
+use aml_scan::little_endian;
+use ar_space::Space;
+
+/// What a byte says of the term that it begins, if it is an opcode by itself.
+#[derive(Clone, Copy)]
+pub(crate) enum Short {
+    /// A local or an argument.
+    Slot(Slot),
+    /// An integer that the opcode says.
+    Constant(u64),
+    /// An integer of so many bytes, which follow the opcode.
+    Number(usize),
+    /// Anything else.
+    Other,
+}
+
+/// What a byte says that is an opcode by itself.
+#[inline(always)]
+#[tactic(auto, unfolding(aml_grammar::specs::Table::row_of, aml_grammar::specs::Names::starts_name))]
+fn short_at(byte: u8) -> Short
+    ensures short { IsShort result (row_alone byte) }
+    ensures bound { (count : ℕ) → result ≡ shorts.Number count → count ≤ 8 }
+{
+    match byte {
+        0x00 => Short::Constant(0),
+        0x01 => Short::Constant(1),
+        0x0A => Short::Number(1),
+        0x0B => Short::Number(2),
+        0x0C => Short::Number(4),
+        0x0E => Short::Number(8),
+        0x60 => Short::Slot(Slot::Local(0)),
+        0x61 => Short::Slot(Slot::Local(1)),
+        0x62 => Short::Slot(Slot::Local(2)),
+        0x63 => Short::Slot(Slot::Local(3)),
+        0x64 => Short::Slot(Slot::Local(4)),
+        0x65 => Short::Slot(Slot::Local(5)),
+        0x66 => Short::Slot(Slot::Local(6)),
+        0x67 => Short::Slot(Slot::Local(7)),
+        0x68 => Short::Slot(Slot::Argument(0)),
+        0x69 => Short::Slot(Slot::Argument(1)),
+        0x6A => Short::Slot(Slot::Argument(2)),
+        0x6B => Short::Slot(Slot::Argument(3)),
+        0x6C => Short::Slot(Slot::Argument(4)),
+        0x6D => Short::Slot(Slot::Argument(5)),
+        0x6E => Short::Slot(Slot::Argument(6)),
+        0xFF => Short::Constant(u64::MAX),
+        _ => Short::Other,
+    }
+}
+
+/// Takes a step, where one is left.
+#[inline(always)]
+#[tactic(auto, unfolding(aml_meaning::specs::Run::charge))]
+fn step<S>(run: &mut Running<S>) -> bool
+    ensures taken { result ≡ true → Does (Ok tt) run.new charge run.old }
+    ensures paid { result ≡ true → run.new.1 < run.old.1 }
+    ensures none { result ≡ false → run.new ≡ run.old }
+{
+    if run.steps == 0 {
+        return false;
+    }
+    run.steps -= 1;
+    true
+}
+
+/// The integer of a short term that stands next: a local or an argument that holds an integer, a constant, or an integer behind its
+/// opcode. It takes a step, and evaluation goes behind the term. In every other case, where no step is left among them, nothing changes.
+#[inline(always)]
+pub(crate) fn short_integer<S: Space>(
+    run: &mut Running<S>,
+    act: &mut Activation,
+    levels: u8,
+) -> Option<u64>
+    ensures integer { IfSome result (λ n. Does (Ok (flows.Value (values.Integer n))) run.new (term_run S.accesses (meaning S.accesses) act.old levels) run.old) }
+    ensures behind { IfSome result (λ n. act.new ≡ behind_term act.old levels) }
+    ensures paid { IfSome result (λ n. run.new.1 < run.old.1) }
+    ensures none { result ≡ None → run.new ≡ run.old }
+    ensures stays { result ≡ None → act.new ≡ act.old }
+{
+    if levels == 0 {
+        return None;
+    }
+    match short_at(act.first()) {
+        Short::Slot(slot) => short_slot(run, act, levels, slot),
+        Short::Constant(number) => short_constant(run, act, levels, number),
+        Short::Number(count) => short_number(run, act, levels, count),
+        Short::Other => None,
+    }
+}
+
+/// The same of a local or an argument.
+#[inline(always)]
+fn short_slot<S: Space>(
+    run: &mut Running<S>,
+    act: &mut Activation,
+    levels: u8,
+    slot: Slot,
+) -> Option<u64>
+    requires deep { 0 < levels }
+    requires short { IsShort (shorts.Slot slot) (row_alone (first act.old.place.rest)) }
+    ensures integer { IfSome result (λ n. Does (Ok (flows.Value (values.Integer n))) run.new (term_run S.accesses (meaning S.accesses) act.old levels) run.old) }
+    ensures behind { IfSome result (λ n. act.new ≡ behind_term act.old levels) }
+    ensures paid { IfSome result (λ n. run.new.1 < run.old.1) }
+    ensures none { result ≡ None → run.new ≡ run.old }
+    ensures stays { result ≡ None → act.new ≡ act.old }
+{
+    match run.world.slot_integer(slot) {
+        None => None,
+        Some(number) => {
+            if !step(run) {
+                return None;
+            }
+            act.over(1);
+            Some(number)
+        }
+    }
+}
+
+/// The same of an integer that an opcode says.
+#[inline(always)]
+fn short_constant<S: Space>(
+    run: &mut Running<S>,
+    act: &mut Activation,
+    levels: u8,
+    number: u64,
+) -> Option<u64>
+    requires deep { 0 < levels }
+    requires short { IsShort (shorts.Constant number) (row_alone (first act.old.place.rest)) }
+    ensures integer { IfSome result (λ n. Does (Ok (flows.Value (values.Integer n))) run.new (term_run S.accesses (meaning S.accesses) act.old levels) run.old) }
+    ensures behind { IfSome result (λ n. act.new ≡ behind_term act.old levels) }
+    ensures paid { IfSome result (λ n. run.new.1 < run.old.1) }
+    ensures none { result ≡ None → run.new ≡ run.old }
+    ensures stays { result ≡ None → act.new ≡ act.old }
+{
+    if !step(run) {
+        return None;
+    }
+    act.over(1);
+    Some(run.world.number_kept(number))
+}
+
+/// The same of an integer that follows its opcode.
+#[inline(always)]
+fn short_number<S: Space>(
+    run: &mut Running<S>,
+    act: &mut Activation,
+    levels: u8,
+    count: usize,
+) -> Option<u64>
+    requires deep { 0 < levels }
+    requires bound { count ≤ 8 }
+    requires short { IsShort (shorts.Number count) (row_alone (first act.old.place.rest)) }
+    ensures integer { IfSome result (λ n. Does (Ok (flows.Value (values.Integer n))) run.new (term_run S.accesses (meaning S.accesses) act.old levels) run.old) }
+    ensures behind { IfSome result (λ n. act.new ≡ behind_term act.old levels) }
+    ensures paid { IfSome result (λ n. run.new.1 < run.old.1) }
+    ensures none { result ≡ None → run.new ≡ run.old }
+    ensures stays { result ≡ None → act.new ≡ act.old }
+{
+    if !step(run) {
+        return None;
+    }
+    act.over(1);
+    let number = number_at(act, count);
+    act.over(count);
+    Some(run.world.number_kept(number))
+}
+
+/// The integer of the next bytes, the lowest first; missing ones are zero.
+#[inline(always)]
+fn number_at(act: &Activation, count: usize) -> u64
+    requires { count ≤ 8 }
+    ensures { result ≡ (an_integer count act.now.place).0 }
+{
+    let rest = act.rest();
+    match count {
+        1 => byte_of(rest),
+        2 => word_of(rest),
+        4 => double_word_of(rest),
+        _ => number_of(rest, count),
+    }
+}
+
+/// The first byte.
+#[inline(always)]
+fn byte_of(bytes: &[u8]) -> u64
+    ensures { result ≡ little_endian (take 1 bytes.now) }
+{
+    match bytes {
+        [low, ..] => u64::from(*low),
+        [] => 0,
+    }
+}
+
+/// The number of the first two bytes.
+#[inline(always)]
+fn word_of(bytes: &[u8]) -> u64
+    ensures { result ≡ little_endian (take 2 bytes.now) }
+{
+    match bytes {
+        [low, high, ..] => u64::from(*low) + 256 * u64::from(*high),
+        _ => number_of(bytes, 2),
+    }
+}
+
+/// The number of the first four bytes.
+#[inline(always)]
+fn double_word_of(bytes: &[u8]) -> u64
+    ensures { result ≡ little_endian (take 4 bytes.now) }
+{
+    match bytes {
+        [lowest, low, high, highest, ..] => {
+            u64::from(*lowest)
+                + 256 * u64::from(*low)
+                + 65536 * u64::from(*high)
+                + 16777216 * u64::from(*highest)
+        }
+        _ => number_of(bytes, 4),
+    }
+}
+
+/// The number of so many bytes, the first ones.
+#[inline(never)]
+fn number_of(bytes: &[u8], count: usize) -> u64
+    requires { count ≤ 8 }
+    ensures { result ≡ little_endian (take count bytes.now) }
+{
+    let here = count.min(bytes.len());
+    little_endian(&bytes[..here])
+}
+
+/// Stores an integer to a local or an argument that stands next. Where another term stands, or no control method runs, or the argument
+/// holds a reference, it answers no, and nothing changes.
+#[inline(always)]
+pub(crate) fn put_integer_to_slot<S: Space>(
+    run: &mut Running<S>,
+    act: &mut Activation,
+    levels: u8,
+    number: u64,
+) -> bool
+    ensures done { result ≡ true → Does (Ok (flows.Value (values.Integer number))) run.new (target_run S.accesses (meaning S.accesses) (super levels) (uses.Store (values.Integer number)) act.old) run.old }
+    ensures behind { result ≡ true → act.new ≡ behind_target (super levels) act.old }
+    ensures spent { run.new.1 ≤ run.old.1 }
+    ensures none { result ≡ false → run.new ≡ run.old }
+    ensures stays { result ≡ false → act.new ≡ act.old }
+{
+    if levels == 0 {
+        return false;
+    }
+    match short_at(act.first()) {
+        Short::Slot(slot) => put_integer_in_slot(run, act, levels, number, slot),
+        _ => false,
+    }
+}
+
+/// The same of a local or an argument.
+#[inline(always)]
+fn put_integer_in_slot<S: Space>(
+    run: &mut Running<S>,
+    act: &mut Activation,
+    levels: u8,
+    number: u64,
+    slot: Slot,
+) -> bool
+    requires deep { 0 < levels }
+    requires short { IsShort (shorts.Slot slot) (row_alone (first act.old.place.rest)) }
+    ensures done { result ≡ true → Does (Ok (flows.Value (values.Integer number))) run.new (target_run S.accesses (meaning S.accesses) (super levels) (uses.Store (values.Integer number)) act.old) run.old }
+    ensures behind { result ≡ true → act.new ≡ behind_target (super levels) act.old }
+    ensures spent { run.new.1 ≤ run.old.1 }
+    ensures none { result ≡ false → run.new ≡ run.old }
+    ensures stays { result ≡ false → act.new ≡ act.old }
+{
+    if !run.world.put_slot_integer(slot, number) {
+        return false;
+    }
+    act.over(1);
+    true
+}
+
+/// Increments or decrements a local or an argument that stands next and holds an integer, and gives its new value. In every other case
+/// nothing changes.
+#[inline(always)]
+pub(crate) fn count_slot<S: Space>(
+    run: &mut Running<S>,
+    act: &mut Activation,
+    levels: u8,
+    kind: Count,
+) -> Option<u64>
+    ensures counted { IfSome result (λ n. Does (Ok (flows.Value (values.Integer n))) run.new (target_run S.accesses (meaning S.accesses) (super levels) (uses.Count kind) act.old) run.old) }
+    ensures behind { IfSome result (λ n. act.new ≡ behind_target (super levels) act.old) }
+    ensures spent { run.new.1 ≤ run.old.1 }
+    ensures none { result ≡ None → run.new ≡ run.old }
+    ensures stays { result ≡ None → act.new ≡ act.old }
+{
+    if levels == 0 {
+        return None;
+    }
+    match short_at(act.first()) {
+        Short::Slot(slot) => count_in_slot(run, act, levels, kind, slot),
+        _ => None,
+    }
+}
+
+/// The same of a local or an argument.
+#[inline(always)]
+fn count_in_slot<S: Space>(
+    run: &mut Running<S>,
+    act: &mut Activation,
+    levels: u8,
+    kind: Count,
+    slot: Slot,
+) -> Option<u64>
+    requires deep { 0 < levels }
+    requires short { IsShort (shorts.Slot slot) (row_alone (first act.old.place.rest)) }
+    ensures counted { IfSome result (λ n. Does (Ok (flows.Value (values.Integer n))) run.new (target_run S.accesses (meaning S.accesses) (super levels) (uses.Count kind) act.old) run.old) }
+    ensures behind { IfSome result (λ n. act.new ≡ behind_target (super levels) act.old) }
+    ensures spent { run.new.1 ≤ run.old.1 }
+    ensures none { result ≡ None → run.new ≡ run.old }
+    ensures stays { result ≡ None → act.new ≡ act.old }
+{
+    match run.world.slot_integer(slot) {
+        None => None,
+        Some(before) => {
+            let number = run.world.count_integer(kind, before);
+            if !run.world.put_slot_integer(slot, number) {
+                return None;
+            }
+            act.over(1);
+            Some(number)
+        }
+    }
+}
