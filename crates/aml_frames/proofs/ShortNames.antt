@@ -205,8 +205,8 @@ value_at_name accesses c levels number w steps h some none left reads =
     does_meaning accesses _ (does_ok charge _ (charged w steps left)
     (value_done accesses (meaning accesses) c.scope c.depth w (steps - 1) h.segment h.node _ h.finds (ap (λ (x : Tree × Place). x.0) (short_term (count_at c.marks) levels c.place h.segment h.stands some none)) (reads.is (meaning accesses) c.scope c.depth h.node (steps - 1) h.is)))
 
-pub behind_value : {S : Type 0} {w : State S} {number : ℕ} (c : Site) (levels : ℕ) → FindsAt w c.scope c.place number → 0 < levels → count_at c.marks c.place.at ≡ 0 → at_place c (over 4 c.place) ≡ behind_term c levels
-behind_value c levels h some none = ap (at_place c) (sym (ap (λ (x : Tree × Place). x.1) (short_term (count_at c.marks) levels c.place h.segment h.stands some none)))
+pub behind_value : {S : Type 0} {w : State S} {number : ℕ} (x c : Site) (levels : ℕ) → x ≡ at_place c (over 4 c.place) → FindsAt w c.scope c.place number → 0 < levels → count_at c.marks c.place.at ≡ 0 → x ≡ behind_term c levels
+behind_value x c levels e h some none = e ∙ ap (at_place c) (sym (ap (λ (x : Tree × Place). x.1) (short_term (count_at c.marks) levels c.place h.segment h.stands some none)))
 
 -- what the node holds is its value, or a field's bits are
 module _ {S : Type 0} (accesses : Accesses S) (number : ℕ) (w : State S) where
@@ -243,8 +243,8 @@ short_super : (below : Below) (p : Place) (s : Seg) → IsSegmentAt p s → a_su
 unfolding a_super_name a_name
 short_super below p s h = rw h.starts (ap (λ n. (name n, over (name_length p.rest) p)) h.name ∙ ap (λ n. (name (segment_name s), over n p)) h.ends)
 
-pub behind_target : {S : Type 0} {w : State S} {number : ℕ} (c : Site) (levels : ℕ) → FindsAt w c.scope c.place number → at_place c (over 4 c.place) ≡ behind_super_of (super levels) c
-behind_target c levels h = ap (at_place c) (sym (ap (λ (x : Part × Place). x.1) (short_super (terms c levels) c.place h.segment h.stands)))
+pub behind_target : {S : Type 0} {w : State S} {number : ℕ} (x c : Site) (levels : ℕ) → x ≡ at_place c (over 4 c.place) → FindsAt w c.scope c.place number → x ≡ behind_super_of (super levels) c
+behind_target x c levels e h = e ∙ ap (at_place c) (sym (ap (λ (x : Part × Place). x.1) (short_super (terms c levels) c.place h.segment h.stands)))
 
 module _ {S : Type 0} (ev : Task → Run S Flow) (scope : List Seg) (depth : ℕ) (below : Below) (p : Place) where
   named_target : {w : State S} (steps : ℕ) (s : Seg) (z : Part) (f : List Seg × Entry) → z ≡ name (segment_name s) → found w.names.map scope (segment_name s) ≡ Ok f → Does (Ok (targets.Name f.0)) (w, steps) (part_target ev scope depth z) (w, steps)

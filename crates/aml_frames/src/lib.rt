@@ -15,6 +15,7 @@ mod evaluation;
 mod field_access;
 mod frames;
 mod indexed;
+mod known;
 mod lists;
 mod names;
 mod operators;

@@ -15,7 +15,6 @@ ghost use Rattle.aml_frames.specs.ShortNames.{IsSegmentAt, FindsAt, Reads, Puts}
 ghost use Rattle.aml_frames.specs.Uses.{super, behind_target, target_run};
 
 use crate::activation::Activation;
-use crate::short_terms::short_integer;
 use aml_meaning::{Count, Running, WorldState};
 use aml_objects::NodeId;
 use aml_path::Seg;
@@ -113,12 +112,16 @@ pub(crate) fn integer_at_name<S: Space>(
         return Ok(None);
     }
     run.steps -= 1;
-    let read = read_node(&mut run.world, id)?;
-    match read {
-        None => run.steps += 1,
-        Some(_) => act.over(SEGMENT_LENGTH),
+    match read_node(&mut run.world, id)? {
+        None => {
+            run.steps += 1;
+            Ok(None)
+        }
+        Some(number) => {
+            act.over(SEGMENT_LENGTH);
+            Ok(Some(number))
+        }
     }
-    Ok(read)
 }
 
 /// Stores an integer to the node with an id, where a name holds an integer there, or it is a field unit whose bits are written at once.
@@ -158,11 +161,11 @@ pub(crate) fn put_integer_at_name<S: Space>(
     let Some(id) = node_at(&run.world, act) else {
         return Ok(false);
     };
-    let done = put_node(&mut run.world, id, number)?;
-    if done {
+    if put_node(&mut run.world, id, number)? {
         act.over(SEGMENT_LENGTH);
+        return Ok(true);
     }
-    Ok(done)
+    Ok(false)
 }
 
 /// Counts up or down the integer that the name of one segment holds which stands next, and gives it as it is then.
@@ -191,26 +194,4 @@ pub(crate) fn count_at_name<S: Space>(
     }
     act.over(SEGMENT_LENGTH);
     Some(number)
-}
-
-/// The integer that the term gives which stands next, where it is there already: that of a local, an argument, a constant, a name, or of a
-/// field unit whose bits are read at once. It takes a step, as the term does; in every other case nothing changes.
-#[inline(always)]
-pub(crate) fn known_integer<S: Space>(
-    run: &mut Running<S>,
-    act: &mut Activation,
-    levels: u8,
-) -> Result<Option<u64>, Refusal>
-    ensures integer { IfOk result (λ known. IfSome known (λ number. Does (Ok (flows.Value (values.Integer number))) run.new (term_run S.accesses (meaning S.accesses) act.old levels) run.old)) }
-    ensures refused { IfErr result (λ refusal. Does (Err refusal) run.new (term_run S.accesses (meaning S.accesses) act.old levels) run.old) }
-    ensures paid { IfOk result (λ known. IfSome known (λ number. run.new.1 < run.old.1)) }
-    ensures behind { IfOk result (λ known. IfSome known (λ number. act.new ≡ behind_term act.old levels)) }
-    ensures none { IfOk result (λ known. known ≡ None → run.new ≡ run.old) }
-    ensures stays { IfOk result (λ known. known ≡ None → act.new ≡ act.old) }
-    ensures memory { NotMemory result }
-{
-    if let Some(number) = short_integer(run, act, levels) {
-        return Ok(Some(number));
-    }
-    integer_at_name(run, act, levels)
 }

@@ -20,10 +20,10 @@ ghost use Rattle.aml_frames.specs.Weights.{weight, next_weight, target_weight, a
 use crate::activation::{Activation, Position};
 use crate::field_access::begin_access;
 use crate::frames::{Control, Entry, Frame, Items, Next, Package};
+use crate::known::known_integer;
 use crate::lists::begin_items;
 use crate::packages::begin_element;
 use crate::resuming::resume;
-use crate::short_names::known_integer;
 use crate::targets::begin_target;
 use crate::terms::{Terms, begin_term};
 use crate::uses::{Access, Accessed, Doing, Reading, Target, TargetUse};

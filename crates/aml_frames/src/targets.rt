@@ -17,6 +17,7 @@ ghost use Rattle.aml_frames.specs.Weights.{use_weight, target_weight, next_weigh
 
 use crate::activation::Activation;
 use crate::frames::{Frame, Next};
+use crate::known::use_known;
 use crate::target_uses::use_target;
 use crate::uses::{Target, TargetForm, TargetUse};
 use aml_meaning::{Flow, Running, StoreTarget, TargetKind, reference_in};
@@ -69,8 +70,31 @@ fn begin_optional<S: Space>(
     }
 }
 
-/// A name, or a term that refers to a target.
+/// A name, or a term that refers to a target: one that takes an integer at once, or any other.
+#[tactic(auto, using(crate::proofs::Knowing::knowing))]
 fn begin_super_name<S: Space>(
+    alloc: Global,
+    run: &mut Running<S>,
+    act: &mut Activation,
+    levels: u8,
+    target_use: TargetUse,
+) -> Result<Next, Refusal>
+    ensures spent { run.new.1 ≤ run.old.1 }
+    ensures few { IfOk result (λ n. next_weight n ≤ target_weight target_use) }
+    ensures falls { IfOk result (λ n. charged run.new.1 + next_weight n < charged run.old.1 + target_weight target_use) }
+    ensures means { Leads S.accesses (meaning S.accesses) result act.new run.new
+        (target_run S.accesses (meaning S.accesses) (super levels) target_use act.old) run.old }
+    ensures ends { EndsAt result act.new (target_ends (super levels) target_use act.old) }
+{
+    match use_known(run, act, levels, target_use) {
+        Ok(Some(value)) => Ok(Next::Flow(Flow::Value(value))),
+        Ok(None) => begin_any_super_name(alloc, run, act, levels, target_use),
+        Err(refusal) => Err(refusal),
+    }
+}
+
+/// A name, or a term that refers to a target.
+fn begin_any_super_name<S: Space>(
     alloc: Global,
     run: &mut Running<S>,
     act: &mut Activation,

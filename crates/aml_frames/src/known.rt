@@ -1,0 +1,112 @@
+//! What is there already when a term needs it: operands that are integers, and targets that take or hold one. They are read and stored to
+//! at once. Everything else is left to the machine (`stack`), and then nothing changes.
+ghost use Rattle.std.specs.Prelude.{◌≡◌, ◌≤◌, ◌<◌, None, Ok, Err, true, false, IfOk, IfErr, IfSome};
+ghost use Rattle.ar_space.specs.Change.{Does};
+ghost use Rattle.ar_space.specs.Outcome.{NotMemory};
+ghost use Rattle.aml_objects.specs.declared.value.Value.TheVariants as values;
+ghost use Rattle.aml_meaning.specs.declared.flow.Flow.TheVariants as flows;
+ghost use Rattle.aml_meaning.specs.Meaning.{meaning};
+ghost use Rattle.aml_frames.specs.declared.uses.TargetUse.TheVariants as uses;
+ghost use Rattle.aml_frames.specs.Follow.{term_run};
+ghost use Rattle.aml_frames.specs.Places.{behind_term};
+ghost use Rattle.aml_frames.specs.Uses.{super, behind_target, target_ends, target_run};
+
+use crate::activation::Activation;
+use crate::short_names::{count_at_name, integer_at_name, put_integer_at_name};
+use crate::short_terms::{count_slot, put_integer_to_slot, short_integer};
+use crate::uses::TargetUse;
+use aml_meaning::{Count, Running};
+use aml_objects::Value;
+use ar_space::{Refusal, Space};
+
+/// The integer that the term gives which stands next, where it is there already: that of a local, an argument, a constant, a name, or of a
+/// field unit whose bits are read at once. It takes a step, as the term does; in every other case nothing changes.
+#[inline(always)]
+pub(crate) fn known_integer<S: Space>(
+    run: &mut Running<S>,
+    act: &mut Activation,
+    levels: u8,
+) -> Result<Option<u64>, Refusal>
+    ensures integer { IfOk result (λ known. IfSome known (λ number. Does (Ok (flows.Value (values.Integer number))) run.new (term_run S.accesses (meaning S.accesses) act.old levels) run.old)) }
+    ensures refused { IfErr result (λ refusal. Does (Err refusal) run.new (term_run S.accesses (meaning S.accesses) act.old levels) run.old) }
+    ensures paid { IfOk result (λ known. IfSome known (λ number. run.new.1 < run.old.1)) }
+    ensures behind { IfOk result (λ known. IfSome known (λ number. act.new ≡ behind_term act.old levels)) }
+    ensures none { IfOk result (λ known. known ≡ None → run.new ≡ run.old) }
+    ensures stays { IfOk result (λ known. known ≡ None → act.new ≡ act.old) }
+    ensures memory { NotMemory result }
+{
+    match short_integer(run, act, levels) {
+        Some(number) => Ok(Some(number)),
+        None => integer_at_name(run, act, levels),
+    }
+}
+
+/// What is done with the target that stands next, where it is done at once: an integer is stored to a local, an argument, or a name that
+/// takes one, or what one of these holds is counted. It gives the value of the term; in every other case nothing changes.
+#[inline(always)]
+pub(crate) fn use_known<S: Space>(
+    run: &mut Running<S>,
+    act: &mut Activation,
+    levels: u8,
+    target_use: TargetUse,
+) -> Result<Option<Value>, Refusal>
+    ensures done { IfOk result (λ known. IfSome known (λ value. Does (Ok (flows.Value value)) run.new (target_run S.accesses (meaning S.accesses) (super levels) target_use act.old) run.old)) }
+    ensures refused { IfErr result (λ refusal. Does (Err refusal) run.new (target_run S.accesses (meaning S.accesses) (super levels) target_use act.old) run.old) }
+    ensures spent { run.new.1 ≤ run.old.1 }
+    ensures behind { IfOk result (λ known. IfSome known (λ value. act.new ≡ target_ends (super levels) target_use act.old)) }
+    ensures none { IfOk result (λ known. known ≡ None → run.new ≡ run.old) }
+    ensures stays { IfOk result (λ known. known ≡ None → act.new ≡ act.old) }
+    ensures memory { NotMemory result }
+{
+    match target_use {
+        TargetUse::Store(Value::Integer(number)) => put_known(run, act, levels, number),
+        TargetUse::Count(count) => Ok(count_known(run, act, levels, count)),
+        _ => Ok(None),
+    }
+}
+
+/// An integer is stored to the local, the argument or the name that stands next.
+fn put_known<S: Space>(
+    run: &mut Running<S>,
+    act: &mut Activation,
+    levels: u8,
+    number: u64,
+) -> Result<Option<Value>, Refusal>
+    ensures done { IfOk result (λ known. IfSome known (λ value. Does (Ok (flows.Value value)) run.new (target_run S.accesses (meaning S.accesses) (super levels) (uses.Store (values.Integer number)) act.old) run.old)) }
+    ensures refused { IfErr result (λ refusal. Does (Err refusal) run.new (target_run S.accesses (meaning S.accesses) (super levels) (uses.Store (values.Integer number)) act.old) run.old) }
+    ensures spent { run.new.1 ≤ run.old.1 }
+    ensures behind { IfOk result (λ known. IfSome known (λ value. act.new ≡ behind_target (super levels) act.old)) }
+    ensures none { IfOk result (λ known. known ≡ None → run.new ≡ run.old) }
+    ensures stays { IfOk result (λ known. known ≡ None → act.new ≡ act.old) }
+    ensures memory { NotMemory result }
+{
+    if put_integer_to_slot(run, act, levels, number) {
+        return Ok(Some(Value::Integer(number)));
+    }
+    if put_integer_at_name(run, act, levels, number)? {
+        return Ok(Some(Value::Integer(number)));
+    }
+    Ok(None)
+}
+
+/// What the local, the argument or the name that stands next holds is counted up or down.
+fn count_known<S: Space>(
+    run: &mut Running<S>,
+    act: &mut Activation,
+    levels: u8,
+    count: Count,
+) -> Option<Value>
+    ensures done { IfSome result (λ value. Does (Ok (flows.Value value)) run.new (target_run S.accesses (meaning S.accesses) (super levels) (uses.Count count) act.old) run.old) }
+    ensures spent { run.new.1 ≤ run.old.1 }
+    ensures behind { IfSome result (λ value. act.new ≡ behind_target (super levels) act.old) }
+    ensures none { result ≡ None → run.new ≡ run.old }
+    ensures stays { result ≡ None → act.new ≡ act.old }
+{
+    match count_slot(run, act, levels, count) {
+        Some(number) => Some(Value::Integer(number)),
+        None => match count_at_name(run, act, levels, count) {
+            Some(number) => Some(Value::Integer(number)),
+            None => None,
+        },
+    }
+}
