@@ -114,10 +114,10 @@ module _ {S : Type 0} (ac : Accesses S) where
       bind_same m _ (λ bytes. lift (integer_alone _ bytes) >>= (λ n. give (flow.Value (value.Integer n))) >>= (λ x. settle (integer_only (value_of_call x)))) s (λ bytes i. part_one _ bytes i)
       ∙ sym (bind_bind m (λ bytes. lift (integer_alone _ bytes) >>= (λ n. give (flow.Value (value.Integer n)))) (λ x. settle (integer_only (value_of_call x))) s)
 
-module _ {S : Type 0} {ac : Accesses S} where
-  pub does_part : {r : Outcome ℕ} {s s1 : State S × ℕ} (calls : ℕ) (f : Field) → Does r s1 (access_done ac (meaning ac) calls (object.Field f) (doing.Read reading.Part) >>= (λ x. settle (integer_only (value_of_call x)))) s → Does r s1 (field_part ac (asking ac (meaning ac) calls) f) s
-  does_part {s = s} calls f h = record { is = λ ne. part_is ac calls f s ∙ h.is ne }
+pub does_part : {S : Type 0} {r : Outcome ℕ} {s s1 : State S × ℕ} (ac : Accesses S) (calls : ℕ) (f : Field) → Does r s1 (access_done ac (meaning ac) calls (object.Field f) (doing.Read reading.Part) >>= (λ x. settle (integer_only (value_of_call x)))) s → Does r s1 (field_part ac (asking ac (meaning ac) calls) f) s
+does_part {s = s} ac calls f h = record { is = λ ne. part_is ac calls f s ∙ h.is ne }
 
+module _ {S : Type 0} {ac : Accesses S} where
   pub does_known : {s s1 : State S × ℕ} (n : ℕ) (m : Run S ℕ) → Asks ac (meaning ac) (Ok (answers.Known n)) s1 m s → Does (Ok n) s1 m s
   unfolding give
   does_known n m h = record { is = λ _. h.is tt }

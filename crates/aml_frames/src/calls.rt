@@ -147,7 +147,7 @@ pub(crate) fn enter<S: Space>(
     arguments: &[Value],
 ) -> Result<Activation, Refusal>
     ensures spent { run.new.1 ≤ run.old.1 }
-    ensures means { Enters result run.new
+    ensures means { Enters S.accesses (meaning S.accesses) result run.new
         (invoked (meaning S.accesses) depth called.0 called.1 arguments.now) run.old }
 {
     let (path, body) = called;
