@@ -12,3 +12,4 @@ pub mod Elements
 pub mod Forming
 pub mod Addressing
 pub mod Indexing
+pub mod UnitSteps
