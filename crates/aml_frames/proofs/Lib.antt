@@ -9,6 +9,7 @@ pub mod Using
 pub mod Beginning
 pub mod BitBytes
 pub mod Elements
+pub mod Declaring
 pub mod Forming
 pub mod Addressing
 pub mod Indexing

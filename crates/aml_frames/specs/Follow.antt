@@ -13,6 +13,7 @@ use Rattle.aml_marked.specs.Marked.{Place, count_at, a_name, turns_of, to_end, a
 use Rattle.aml_scan.specs.RowsAt.{row_at}
 use Rattle.aml_scan.specs.declared.row_places.RowPlace.{RowPlace}
 use Rattle.aml_convert.specs.Operators.{is_true}
+use Rattle.aml_objects.specs.declared.entry.NamedObject.TheVariants as object
 use Rattle.aml_objects.specs.declared.object.Element.TheVariants as element
 use Rattle.aml_objects.specs.declared.value.Value.{Value}
 use Rattle.aml_meaning.specs.declared.flow.Flow.{Flow}
@@ -53,6 +54,7 @@ use Rattle.aml_frames.specs.declared.uses.Inquiry.TheVariants as inquiry
 use Rattle.aml_frames.specs.declared.uses.TargetUse.TheVariants as uses
 use Rattle.aml_frames.specs.Addresses.{part_met}
 use Rattle.aml_frames.specs.Data.{package_left, package_of_all, package_run}
+use Rattle.aml_frames.specs.Declarations.{declared_at}
 use Rattle.aml_frames.specs.Uses.{optional, behind_target, use_ends, target_ends, monadic_ends, dyadic_ends, access_run, inquired, counted_back, used, target_run, monadic_done, dyadic_by, dyadic_done}
 use Rattle.aml_frames.specs.Operands.{operator_tree, statement_tree, behind_operator, behind_statement}
 
@@ -127,6 +129,8 @@ ends (frames.DerefTarget u) c = use_ends u c
 ends (frames.Referent i) c = c
 ends (frames.Counted k p h) c = c
 ends (frames.Address x) c = c
+ends (frames.Named o) c = c
+ends (frames.Scope p node) c = record c { scope = p }
 
 -- and when all that a step leaves is done
 abbrev pub next_ends : Next → Site → Site
@@ -276,6 +280,10 @@ module _ {S : Type 0} (accesses : Accesses S) (ev : Task → Run S Flow) where
     n ← lift (integer_in v)
     counted_back accesses ev k p (held.Field h) c n
   resumed (frames.Address x) c f = part_met accesses ev x f
+  resumed (frames.Named o) c f = do
+    v ← settle (value_in f)
+    declared_at (object.Data v) (place_of c o) c
+  resumed (frames.Scope p node) c f = give f
 
   -- the body of a control method that takes no arguments, and then a frame
   abbrev pub entered_then : ℕ → List Seg → List ℕ → Frame → Site → Run S Flow

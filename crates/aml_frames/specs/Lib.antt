@@ -1,5 +1,6 @@
 pub mod Addresses
 pub mod Data
+pub mod Declarations
 pub mod Follow
 pub mod Indexed
 pub mod Operands

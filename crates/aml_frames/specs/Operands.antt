@@ -43,10 +43,10 @@ abbrev pub row_kind : Option Row → TermKind
 row_kind None = kinds.Unsupported
 row_kind (Some row) = kind_of row.0
 
--- whether a term declares something, a region and fields among them
+-- whether a term declares a region or fields
 abbrev pub declares : TermKind → Bool
 declares (kinds.Data k) = false
-declares (kinds.Declaration k) = true
+declares (kinds.Declaration k) = false
 declares (kinds.Region k) = true
 declares (kinds.Operator k) = false
 declares (kinds.Statement k) = false

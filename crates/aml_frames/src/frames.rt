@@ -4,7 +4,7 @@ use crate::activation::{Activation, MethodPath, Position};
 use crate::addresses::PciAccess;
 use crate::uses::{Access, Dyadic, Inquiry, Monadic, SecondOperand, Target, TargetUse};
 use aml_meaning::{Count, Flow, StoreTarget};
-use aml_objects::{Body, Elements, Field, Value};
+use aml_objects::{Body, Elements, Field, NodeId, Value};
 use aml_path::Path;
 
 /// The items of a list that are left.
@@ -115,6 +115,10 @@ pub enum Frame {
     Counted(Count, StoreTarget, Field),
     /// An access of a field of PCI_Config, while a part of its address is asked for.
     Address(PciAccess),
+    /// A Name, while its datum is evaluated: where its name stands.
+    Named(Position),
+    /// A Scope, a Device, a Processor, a PowerResource or a ThermalZone, while its list is evaluated: the scope around it, and its node.
+    Scope(MethodPath, NodeId),
 }
 
 /// What a step leaves to do.

@@ -9,6 +9,7 @@ ghost use Rattle.aml_frames.specs.Weights.{weight, next_weight};
 use crate::activation::{Activation, Position};
 use crate::calls::resume_argument;
 use crate::data::resume_buffer;
+use crate::declarations::{resume_named, resume_scope};
 use crate::frames::{Frame, Items, Loop, Next};
 use crate::operators::{resume_first, resume_operand, resume_quotient, resume_second};
 use crate::packages::{resume_element, resume_var_package};
@@ -212,6 +213,8 @@ pub fn resume<S: Space>(
         Frame::DerefTarget(target_use) => resume_dereferenced(alloc, run, act, target_use, flow),
         Frame::Referent(inquiry) => resume_referent(run, act, inquiry, flow),
         Frame::Address(pci) => resume_address(alloc, run, act, pci, flow),
+        Frame::Named(name) => resume_named(alloc, run, act, name, flow),
+        Frame::Scope(scope, node) => Ok(resume_scope(run, act, scope, node, flow)),
         Frame::Counted(count, target, field) => {
             resume_counted(alloc, run, act, (count, target, field), flow)
         }

@@ -10,6 +10,7 @@ ghost use Rattle.aml_frames.specs.Weights.{most, next_weight};
 
 use crate::activation::Activation;
 use crate::data::begin_data;
+use crate::declarations::begin_declaration;
 use crate::frames::Next;
 use crate::names::begin_name;
 use crate::operators::begin_operator;
@@ -20,7 +21,7 @@ use aml_terms::RowPlace;
 use ar_space::{EvaluationFault, NameFault, Refusal, Space};
 use std::alloc::Global;
 
-/// The terms that declare something, and accesses of fields behind an index field: they have no steps of this crate.
+/// The terms that declare regions and fields, and accesses of fields behind an index field: they have no steps of this crate.
 pub trait Terms<S: Space> {
     ghost use Rattle.std.specs.Prelude.{◌≡◌, ◌≤◌, ◌<◌, ◌+◌, ◌*◌, true, IfOk};
     ghost use Rattle.aml_scan.specs.RowsAt.{row_at};
@@ -30,8 +31,7 @@ pub trait Terms<S: Space> {
     ghost use Rattle.aml_frames.specs.Uses.{access_run};
     ghost use Rattle.aml_frames.specs.Weights.{most, next_weight, access_weight};
 
-    /// Begins a term that declares something, a region and fields among them: its operands stand next, by the place of its row, with so
-    /// many levels.
+    /// Begins a term that declares a region or fields: its operands stand next, by the place of its row, with so many levels.
     fn begin(
         &self,
         alloc: Global,
@@ -143,7 +143,7 @@ fn begin_coded<S: Space, T: Terms<S>>(
         TermKind::Operator(kind) => begin_operator(alloc, run, act, levels, kind),
         TermKind::Statement(kind) => begin_statement(alloc, run, act, levels, kind),
         TermKind::Data(kind) => begin_data(alloc, run, act, levels, place, kind),
-        TermKind::Declaration(_) => terms.begin(alloc, run, act, levels, place),
+        TermKind::Declaration(kind) => begin_declaration(alloc, run, act, levels, place, kind),
         TermKind::Region(_) => terms.begin(alloc, run, act, levels, place),
         TermKind::Unsupported => {
             Err(Refusal::Evaluation(EvaluationFault::Unsupported(place.row().0.number())))
