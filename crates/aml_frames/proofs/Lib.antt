@@ -10,6 +10,7 @@ pub mod Beginning
 pub mod BitBytes
 pub mod Elements
 pub mod Declaring
+pub mod DeclaringFields
 pub mod Forming
 pub mod Addressing
 pub mod Indexing

@@ -25,6 +25,7 @@ use Rattle.aml_meaning.specs.declared.store_target.TargetKind.TheVariants as tar
 use Rattle.aml_meaning.specs.Terms.{kind_of, target_kind}
 use Rattle.aml_frames.specs.Operands.{elements_at, behind_one, behind_two, inside_at, outside_at, items_at, row_kind}
 use Rattle.aml_frames.specs.Declarations.{datum_at, scope_at, power_resource_at, processor_at}
+use Rattle.aml_frames.specs.RegionTerms.{behind_space, region_at, sized_field_at, bits_field_at}
 
 -- ---- operands that a row may have
 
@@ -372,6 +373,21 @@ module _ (b : Below) where
       → with_row b (Some row) p ≡ (term (codes.Opcode row.0) (processor_at b p), outside_at p)
   a_processor row p f = let x = both _ _ f in let u = both _ _ x.1 in let y = both _ _ u.1 in let z = both _ _ y.1 in let v = both _ _ z.1 in let w = both _ _ v.1 in let t = both _ _ w.1 in
       packed_row row p x.0 (not_true _ u.0) ∙ rw (then_five _ _ (inside_at p) (name_reads row.3.0 y.0) (byte_reads row.3.1 z.0) (dword_reads row.3.2 v.0) (byte_reads row.3.3 w.0) (list_reads row.3.4 t.0) t.1) refl
+
+  pub a_region : (row : Row) (p : Place) → (is_plain row and is_name row.3.0 and is_byte row.3.1 and is_argument row.3.2 and is_argument row.3.3 and is_nothing row.3.4) ≡ true
+      → with_row b (Some row) p ≡ (term (codes.Opcode row.0) (region_at b p), behind_two b (behind_space p))
+  a_region row p f = let x = both _ _ f in let y = both _ _ x.1 in let z = both _ _ y.1 in let v = both _ _ z.1 in let w = both _ _ v.1 in
+      plain_row row p x.0 ∙ rw (then_four _ _ p (name_reads row.3.0 y.0) (byte_reads row.3.1 z.0) (argument_reads row.3.2 v.0) (argument_reads row.3.3 w.0) w.1) refl
+
+  pub a_sized_field : (row : Row) (p : Place) → (is_plain row and is_argument row.3.0 and is_argument row.3.1 and is_name row.3.2 and is_nothing row.3.3) ≡ true
+      → with_row b (Some row) p ≡ (term (codes.Opcode row.0) (sized_field_at b p), (a_name (behind_two b p)).1)
+  a_sized_field row p f = let x = both _ _ f in let y = both _ _ x.1 in let z = both _ _ y.1 in let v = both _ _ z.1 in
+      plain_row row p x.0 ∙ rw (then_three _ _ p (argument_reads row.3.0 y.0) (argument_reads row.3.1 z.0) (name_reads row.3.2 v.0) v.1) refl
+
+  pub a_bits_field : (row : Row) (p : Place) → (is_plain row and is_argument row.3.0 and is_argument row.3.1 and is_argument row.3.2 and is_name row.3.3 and is_nothing row.3.4) ≡ true
+      → with_row b (Some row) p ≡ (term (codes.Opcode row.0) (bits_field_at b p), (a_name (behind_one b (behind_two b p))).1)
+  a_bits_field row p f = let x = both _ _ f in let y = both _ _ x.1 in let z = both _ _ y.1 in let v = both _ _ z.1 in let w = both _ _ v.1 in
+      plain_row row p x.0 ∙ rw (then_four _ _ p (argument_reads row.3.0 y.0) (argument_reads row.3.1 z.0) (argument_reads row.3.2 v.0) (name_reads row.3.3 w.0) w.1) refl
 
 -- a row of a kind that is evaluated stands in the table, and has the operands of its kind
 pub stands : (k : TermKind) (o : RowPlace) → row_kind (row_at o) ≡ k → row_kind None ≢ k → (row : Row) × ((row_at o ≡ Some row) × (fits k row ≡ true))

@@ -22,6 +22,8 @@ use Rattle.aml_meaning.specs.declared.term_kind.DeclarationKind.{DeclarationKind
 use Rattle.aml_meaning.specs.declared.term_kind.DeclarationKind.TheVariants as declarations
 use Rattle.aml_meaning.specs.declared.term_kind.OperatorKind.{OperatorKind}
 use Rattle.aml_meaning.specs.declared.term_kind.OperatorKind.TheVariants as operators
+use Rattle.aml_meaning.specs.declared.term_kind.RegionKind.{RegionKind}
+use Rattle.aml_meaning.specs.declared.term_kind.RegionKind.TheVariants as regions
 use Rattle.aml_meaning.specs.declared.term_kind.StatementKind.{StatementKind}
 use Rattle.aml_meaning.specs.declared.term_kind.StatementKind.TheVariants as statements
 use Rattle.aml_meaning.specs.Run.{Run}
@@ -30,12 +32,14 @@ use Rattle.aml_meaning.specs.Terms.{target_kind, kind_of}
 use Rattle.aml_meaning.specs.TargetTerms.{target_at, targeted, name_target}
 use Rattle.aml_meaning.specs.DataTerms.{integer_rule, string_rule, buffer_rule, package_rule, var_package_rule, data_rule}
 use Rattle.aml_meaning.specs.DeclarationTerms.{declaring, name_rule, alias_rule, method_rule, scope_rule, new_scope, declaration_rule}
+use Rattle.aml_meaning.specs.FieldTerms.{region_rule, field_list_rule, index_list_rule, sized_field_rule, bits_field_rule, region_term_rule}
 use Rattle.aml_meaning.specs.OperatorTerms.{store_rule, copy_rule, two_rule, divide_rule, one_rule, test_rule, not_rule, count_rule, referent_of_target, referent_by_kind, referent_by, size_rule, type_rule, acquire_rule, reference_rule, dereference_rule, sought_name, sought_target, reference_stored, conditional_rule, operator_rule}
 use Rattle.aml_meaning.specs.StatementTerms.{if_rule, else_rule, while_rule, return_rule, release_rule, notify_rule, pause_rule, fatal_rule, statement_rule}
 use Rattle.aml_meaning.specs.Evaluation.{kind_rule, code_rule}
 use Rattle.aml_frames.specs.Declarations.{datum_at, scope_at, power_resource_at, processor_at, declaration_tree, behind_declaration}
-use Rattle.aml_frames.specs.Operands.{row_kind, behind_one, outside_at, text_at, buffer_at, package_at, var_package_at, operator_parts, behind_operator, statement_parts, behind_statement, operator_tree, statement_tree, data_tree, behind_data}
-use Rattle.aml_frames.proofs.OperandShapes.{stands, no_operand, an_argument, a_super, argument_super, argument_target, two_arguments, arguments_target, arguments_targets, super_word, super_target, super_argument, numbers_argument, an_if, an_else_row, a_while, a_string, a_buffer, a_package, a_var_package, a_datum, a_scope, a_power_resource, a_processor, code_stands}
+use Rattle.aml_frames.specs.RegionTerms.{behind_space, region_at, sized_field_at, bits_field_at, region_tree, behind_region}
+use Rattle.aml_frames.specs.Operands.{row_kind, behind_one, behind_two, outside_at, text_at, buffer_at, package_at, var_package_at, operator_parts, behind_operator, statement_parts, behind_statement, operator_tree, statement_tree, data_tree, behind_data}
+use Rattle.aml_frames.proofs.OperandShapes.{stands, no_operand, an_argument, a_super, argument_super, argument_target, two_arguments, arguments_target, arguments_targets, super_word, super_target, super_argument, numbers_argument, an_if, an_else_row, a_while, a_string, a_buffer, a_package, a_var_package, a_datum, a_scope, a_power_resource, a_processor, a_region, a_sized_field, a_bits_field, code_stands}
 
 -- ---- the operands of a term by its kind
 
@@ -110,6 +114,15 @@ power_resource_shape b o p e = let x = stands (kinds.Declaration declarations.Po
 processor_shape : (b : Below) (o : RowPlace) (p : Place) → row_kind (row_at o) ≡ kinds.Declaration declarations.Processor → Shape b o p (processor_at b p) (outside_at p)
 processor_shape b o p e = let x = stands (kinds.Declaration declarations.Processor) o e (λ h. absurd (cc h)) in shaped x.0 x.1.0 (a_processor b x.0 p x.1.1)
 
+region_shape : (b : Below) (o : RowPlace) (p : Place) → row_kind (row_at o) ≡ kinds.Region regions.OperationRegion → Shape b o p (region_at b p) (behind_two b (behind_space p))
+region_shape b o p e = let x = stands (kinds.Region regions.OperationRegion) o e (λ h. absurd (cc h)) in shaped x.0 x.1.0 (a_region b x.0 p x.1.1)
+
+sized_field_shape : (b : Below) (size : _) (o : RowPlace) (p : Place) → row_kind (row_at o) ≡ kinds.Region (regions.SizedBufferField size) → Shape b o p (sized_field_at b p) (a_name (behind_two b p)).1
+sized_field_shape b size o p e = let x = stands (kinds.Region (regions.SizedBufferField size)) o e (λ h. absurd (cc h)) in shaped x.0 x.1.0 (a_sized_field b x.0 p x.1.1)
+
+bits_field_shape : (b : Below) (o : RowPlace) (p : Place) → row_kind (row_at o) ≡ kinds.Region regions.BufferField → Shape b o p (bits_field_at b p) (a_name (behind_one b (behind_two b p))).1
+bits_field_shape b o p e = let x = stands (kinds.Region regions.BufferField) o e (λ h. absurd (cc h)) in shaped x.0 x.1.0 (a_bits_field b x.0 p x.1.1)
+
 -- ---- rules don't ask for the opcode
 
 module _ {S : Type 0} (accesses : Accesses S) (ev : Task → Run S Flow) (scope : List Seg) (depth : ℕ) (c d : TermCode) where
@@ -176,6 +189,14 @@ module _ {S : Type 0} (accesses : Accesses S) (ev : Task → Run S Flow) (scope 
   same_declaration declarations.Method ps = refl
   same_declaration declarations.Mutex ps = refl
   same_declaration declarations.Event ps = refl
+
+  pub same_region : (k : RegionKind) (ps : Parts) → region_term_rule ev k scope depth (term c ps) ≡ region_term_rule ev k scope depth (term d ps)
+  unfolding declaring region_rule field_list_rule index_list_rule sized_field_rule bits_field_rule value_at two_values
+  same_region regions.OperationRegion ps = refl
+  same_region regions.Field ps = refl
+  same_region regions.IndexField ps = refl
+  same_region (regions.SizedBufferField size) ps = refl
+  same_region regions.BufferField ps = refl
 
   pub same_statement : (k : StatementKind) (ps : Parts) → statement_rule ev k scope depth (term c ps) ≡ statement_rule ev k scope depth (term d ps)
   unfolding if_rule else_rule while_rule return_rule release_rule notify_rule pause_rule fatal_rule value_at name_target
@@ -251,6 +272,19 @@ module _ {S : Type 0} (accesses : Accesses S) (ev : Task → Run S Flow) (scope 
   declaration_is declarations.Mutex o p e = (whole_is (kinds.Declaration declarations.Mutex) o p e (λ h. absurd (cc h))).1
   declaration_is declarations.Event o p e = (whole_is (kinds.Declaration declarations.Event) o p e (λ h. absurd (cc h))).1
 
+  region_declared_is : (k : RegionKind) (o : RowPlace) (p : Place) (ps : Parts) (q : Place) → row_kind (row_at o) ≡ kinds.Region k → Shape b o p ps q → code_rule accesses ev (code_of (with_row b (row_at o) p).0) scope depth (with_row b (row_at o) p).0 ≡ region_term_rule ev k scope depth (term codes.Name ps)
+  region_declared_is k o p ps q e x =
+      ap (λ (y : Tree × Place). code_rule accesses ev (code_of y.0) scope depth y.0) x.is
+      ∙ coded_as x.row ps (kinds.Region k) (row_of_kind (kinds.Region k) x.there e)
+      ∙ same_region accesses ev scope depth (codes.Opcode x.row.0) codes.Name k ps
+
+  pub region_is : (k : RegionKind) (o : RowPlace) (p : Place) → row_kind (row_at o) ≡ kinds.Region k → code_rule accesses ev (code_of (with_row b (row_at o) p).0) scope depth (with_row b (row_at o) p).0 ≡ region_term_rule ev k scope depth (region_tree b k o p)
+  region_is regions.OperationRegion o p e = region_declared_is regions.OperationRegion o p (region_at b p) (behind_two b (behind_space p)) e (region_shape b o p e)
+  region_is regions.Field o p e = (whole_is (kinds.Region regions.Field) o p e (λ h. absurd (cc h))).1
+  region_is regions.IndexField o p e = (whole_is (kinds.Region regions.IndexField) o p e (λ h. absurd (cc h))).1
+  region_is (regions.SizedBufferField size) o p e = region_declared_is (regions.SizedBufferField size) o p (sized_field_at b p) (a_name (behind_two b p)).1 e (sized_field_shape b size o p e)
+  region_is regions.BufferField o p e = region_declared_is regions.BufferField o p (bits_field_at b p) (a_name (behind_one b (behind_two b p))).1 e (bits_field_shape b o p e)
+
   pub statement_is : (k : StatementKind) (o : RowPlace) (p : Place) → row_kind (row_at o) ≡ kinds.Statement k → code_rule accesses ev (code_of (with_row b (row_at o) p).0) scope depth (with_row b (row_at o) p).0 ≡ statement_rule ev k scope depth (statement_tree b k p)
   statement_is k o p e =
       let x = statement_shape b k o p e in
@@ -284,3 +318,10 @@ behind_declaration_is b declarations.External o p e = refl
 behind_declaration_is b declarations.Method o p e = refl
 behind_declaration_is b declarations.Mutex o p e = refl
 behind_declaration_is b declarations.Event o p e = refl
+
+pub behind_region_is : (b : Below) (k : RegionKind) (o : RowPlace) (p : Place) → row_kind (row_at o) ≡ kinds.Region k → (with_row b (row_at o) p).1 ≡ behind_region b k o p
+behind_region_is b regions.OperationRegion o p e = let x = region_shape b o p e in ap (λ (y : Tree × Place). y.1) x.is
+behind_region_is b regions.Field o p e = refl
+behind_region_is b regions.IndexField o p e = refl
+behind_region_is b (regions.SizedBufferField size) o p e = let x = sized_field_shape b size o p e in ap (λ (y : Tree × Place). y.1) x.is
+behind_region_is b regions.BufferField o p e = let x = bits_field_shape b o p e in ap (λ (y : Tree × Place). y.1) x.is

@@ -97,7 +97,7 @@ follows kinds.Index = true
 follows _ = false
 
 module _ {S : Type 0} (ac : Accesses S) where
-  two_run : {A : Type 0} (scope : List Seg) (depth : ℕ) (t : Tree) (k : Value × Value → Run S A) (s : State S × ℕ) → (two_values (meaning ac) scope depth t >>= k) s ≡ (value_at (meaning ac) scope depth t 0 >>= (λ v. value_at (meaning ac) scope depth t 1 >>= (λ u. k (v, u)))) s
+  pub two_run : {A : Type 0} (scope : List Seg) (depth : ℕ) (t : Tree) (k : Value × Value → Run S A) (s : State S × ℕ) → (two_values (meaning ac) scope depth t >>= k) s ≡ (value_at (meaning ac) scope depth t 0 >>= (λ v. value_at (meaning ac) scope depth t 1 >>= (λ u. k (v, u)))) s
   unfolding two_values
   two_run scope depth t k s =
       bind_bind (value_at (meaning ac) scope depth t 0) (λ v. value_at (meaning ac) scope depth t 1 >>= (λ u. give (v, u))) k s

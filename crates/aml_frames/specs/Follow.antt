@@ -55,6 +55,7 @@ use Rattle.aml_frames.specs.declared.uses.TargetUse.TheVariants as uses
 use Rattle.aml_frames.specs.Addresses.{part_met}
 use Rattle.aml_frames.specs.Data.{package_left, package_of_all, package_run}
 use Rattle.aml_frames.specs.Declarations.{declared_at}
+use Rattle.aml_frames.specs.RegionTerms.{part_declared, part_ends}
 use Rattle.aml_frames.specs.Uses.{optional, behind_target, use_ends, target_ends, monadic_ends, dyadic_ends, access_run, inquired, counted_back, used, target_run, monadic_done, dyadic_by, dyadic_done}
 use Rattle.aml_frames.specs.Operands.{operator_tree, statement_tree, behind_operator, behind_statement}
 
@@ -131,6 +132,7 @@ ends (frames.Counted k p h) c = c
 ends (frames.Address x) c = c
 ends (frames.Named o) c = c
 ends (frames.Scope p node) c = record c { scope = p }
+ends (frames.Declaration d) c = part_ends d c
 
 -- and when all that a step leaves is done
 abbrev pub next_ends : Next → Site → Site
@@ -284,6 +286,9 @@ module _ {S : Type 0} (accesses : Accesses S) (ev : Task → Run S Flow) where
     v ← settle (value_in f)
     declared_at (object.Data v) (place_of c o) c
   resumed (frames.Scope p node) c f = give f
+  resumed (frames.Declaration d) c f = do
+    v ← settle (value_in f)
+    part_declared ev d v c
 
   -- the body of a control method that takes no arguments, and then a frame
   abbrev pub entered_then : ℕ → List Seg → List ℕ → Frame → Site → Run S Flow

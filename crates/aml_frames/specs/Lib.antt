@@ -5,6 +5,7 @@ pub mod Follow
 pub mod Indexed
 pub mod Operands
 pub mod Places
+pub mod RegionTerms
 pub mod Stack
 pub mod Uses
 pub mod Weights

@@ -99,7 +99,7 @@ pub fn begin_declaration<S: Space>(
 }
 
 /// A term of which no part is evaluated is done.
-fn done(act: &mut Activation, levels: u8, place: RowPlace, flow: Flow) -> Next
+pub(crate) fn done(act: &mut Activation, levels: u8, place: RowPlace, flow: Flow) -> Next
     ensures flow { result ≡ next.Flow flow }
     ensures behind { act.new ≡ behind_coded place act.old levels }
 {

@@ -1,8 +1,8 @@
 //! Operands of terms of which no part is evaluated, by the kind that the grammar gives them.
-ghost use Rattle.ar_space.specs.Outcome.{Answers, NotMemory};
-ghost use Rattle.aml_terms.specs.AtTree.{at_tree};
+ghost use Rattle.ar_space.specs.Outcome.{Answers, NotMemory, seen};
+ghost use Rattle.aml_terms.specs.AtTree.{at_tree, at_list};
 ghost use Rattle.aml_grammar.specs.Apart.{operand_of, bytes_of};
-ghost use Rattle.aml_meaning.specs.Terms.{number_of};
+ghost use Rattle.aml_meaning.specs.Terms.{number_of, list_of};
 
 use aml_grammar::{OperandView, TermReader};
 use aml_objects::Octets;
@@ -28,5 +28,16 @@ pub(crate) fn bytes(alloc: Global, term: &At<'_>, index: usize) -> Result<Octets
     match term.bytes(alloc, index) {
         Ok(bytes) => Ok(Octets::from_vec(bytes)),
         Err(refusal) => Err(refusal),
+    }
+}
+
+/// An operand that is a list of terms.
+pub(crate) fn list<'t>(term: &At<'t>, index: usize) -> Result<At<'t>, Refusal>
+    ensures answer { Answers (seen at_list result) (list_of (operand_of (at_tree term.now) index)) }
+    ensures memory { NotMemory result }
+{
+    match term.operand(index) {
+        OperandView::List(part) => Ok(part),
+        _ => Err(Refusal::Name(NameFault::BadName)),
     }
 }

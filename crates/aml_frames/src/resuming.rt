@@ -15,6 +15,7 @@ use crate::operators::{resume_first, resume_operand, resume_quotient, resume_sec
 use crate::packages::{resume_element, resume_var_package};
 use crate::pci::resume_address;
 use crate::references::{resume_found, resume_referent};
+use crate::regions::resume_declaration;
 use crate::statements::next_branch;
 use crate::target_uses::resume_counted;
 use crate::targets::{resume_dereferenced, resume_index_target};
@@ -214,6 +215,7 @@ pub fn resume<S: Space>(
         Frame::Referent(inquiry) => resume_referent(run, act, inquiry, flow),
         Frame::Address(pci) => resume_address(alloc, run, act, pci, flow),
         Frame::Named(name) => resume_named(alloc, run, act, name, flow),
+        Frame::Declaration(part) => resume_declaration(alloc, run, act, part, flow),
         Frame::Scope(scope, node) => Ok(resume_scope(run, act, scope, node, flow)),
         Frame::Counted(count, target, field) => {
             resume_counted(alloc, run, act, (count, target, field), flow)

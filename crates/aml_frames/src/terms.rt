@@ -14,6 +14,7 @@ use crate::declarations::begin_declaration;
 use crate::frames::Next;
 use crate::names::begin_name;
 use crate::operators::begin_operator;
+use crate::regions::begin_region_term;
 use crate::statements::begin_statement;
 use crate::uses::Access;
 use aml_meaning::{Running, TermKind, kind_of};
@@ -124,7 +125,7 @@ fn begin_uncoded<S: Space>(
 }
 
 /// A term whose opcode was read, by the place of its row: its operands stand next.
-#[tactic(auto, using(crate::proofs::Using::beginning_terms, crate::proofs::Stepping::coding))]
+#[tactic(auto, using(crate::proofs::Using::beginning_terms, crate::proofs::Stepping::coding, crate::proofs::DeclaringFields::coded_regions))]
 fn begin_coded<S: Space, T: Terms<S>>(
     alloc: Global,
     terms: &T,
@@ -144,7 +145,7 @@ fn begin_coded<S: Space, T: Terms<S>>(
         TermKind::Statement(kind) => begin_statement(alloc, run, act, levels, kind),
         TermKind::Data(kind) => begin_data(alloc, run, act, levels, place, kind),
         TermKind::Declaration(kind) => begin_declaration(alloc, run, act, levels, place, kind),
-        TermKind::Region(_) => terms.begin(alloc, run, act, levels, place),
+        TermKind::Region(kind) => begin_region_term(alloc, run, act, levels, place, kind),
         TermKind::Unsupported => {
             Err(Refusal::Evaluation(EvaluationFault::Unsupported(place.row().0.number())))
         }
