@@ -19,7 +19,6 @@ use Rattle.aml_meaning.specs.declared.field_layout.FieldGroup.{FieldGroup}
 use Rattle.aml_meaning.specs.declared.field_layout.FieldLayout.{FieldLayout}
 use Rattle.aml_meaning.specs.declared.term_kind.BufferFieldSize.{BufferFieldSize}
 use Rattle.aml_meaning.specs.declared.term_kind.RegionKind.{RegionKind}
-use Rattle.aml_meaning.specs.declared.term_kind.RegionKind.TheVariants as regions
 use Rattle.aml_meaning.specs.declared.term_kind.TermKind.TheVariants as kinds
 use Rattle.aml_meaning.specs.State.{State}
 use Rattle.aml_meaning.specs.Run.{Run}
@@ -36,7 +35,7 @@ use Rattle.aml_frames.specs.declared.frames.Next.TheVariants as next
 use Rattle.aml_frames.specs.Places.{Site, at_place, terms, next_term, behind_term}
 use Rattle.aml_frames.specs.Operands.{row_kind}
 use Rattle.aml_frames.specs.Declarations.{declared_at}
-use Rattle.aml_frames.specs.RegionTerms.{behind_space, sized_field_at, bits_field_at, region_term_run, behind_region_at, region_declared, sized_field_declared, bits_field_declared}
+use Rattle.aml_frames.specs.RegionTerms.{behind_space, sized_field_at, bits_field_at, operation_region_run, region_term_run, behind_region_at, region_declared, sized_field_declared, bits_field_declared}
 use Rattle.aml_frames.specs.Follow.{place_of, coded_run, behind_coded, Leads, EndsAt}
 use Rattle.aml_frames.proofs.Declaring.{leads_done, leads_refused}
 use Rattle.aml_frames.proofs.Forming.{count_is}
@@ -54,9 +53,9 @@ ends_region r e c levels k o h l = subst (EndsAt r e) (ap (at_place c) (sym (beh
 module _ {S : Type 0} {ac : Accesses S} where
   -- ---- the first part is evaluated
 
-  pub leads_operation_region : {s : State S × ℕ} (c m d : Site) (levels : ℕ) (place : RowPlace) (space : ℕ) (o : Position) → place_of c o ≡ c.place → m ≡ at_place c (over (name_length c.place.rest) c.place) → space ≡ (an_integer 1 m.place).0 % 256 → d ≡ at_place m (over 1 m.place) → Leads ac (meaning ac) (Ok (next.Term levels (frames.Declaration (parts.RegionOffset space o levels)))) d s (region_term_run (meaning ac) regions.OperationRegion place c levels) s
+  pub leads_operation_region : {s : State S × ℕ} (c m d : Site) (levels : ℕ) (space : ℕ) (o : Position) → place_of c o ≡ c.place → m ≡ at_place c (over (name_length c.place.rest) c.place) → space ≡ (an_integer 1 m.place).0 % 256 → d ≡ at_place m (over 1 m.place) → Leads ac (meaning ac) (Ok (next.Term levels (frames.Declaration (parts.RegionOffset space o levels)))) d s (operation_region_run (meaning ac) c levels) s
   unfolding a_name region_rule declaring region_declared declared_at value_at settle ◌>>=◌ go_on
-  leads_operation_region {s = s} c m d levels place space o h i j k =
+  leads_operation_region {s = s} c m d levels space o h i j k =
       let q : Site = at_place c (behind_space c.place) in
       let e : d ≡ q = k ∙ ap (λ (x : Site). at_place x (over 1 x.place)) i in
       let read : space ≡ (an_integer 1 (a_name c.place).1).0 % 256 = j ∙ ap (λ (x : Site). (an_integer 1 x.place).0 % 256) i in

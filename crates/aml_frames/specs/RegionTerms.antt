@@ -18,7 +18,7 @@ use Rattle.aml_meaning.specs.State.{on_objects}
 use Rattle.aml_meaning.specs.Run.{Run, lift}
 use Rattle.aml_meaning.specs.Readings.{integer_in}
 use Rattle.aml_meaning.specs.Tasks.{Task, operand_value}
-use Rattle.aml_meaning.specs.FieldTerms.{region_term_rule, sized, buffer_of, bits_of_step, bits_of_size}
+use Rattle.aml_meaning.specs.FieldTerms.{region_rule, region_term_rule, sized, buffer_of, bits_of_step, bits_of_size}
 use Rattle.aml_frames.specs.declared.frames.DeclarationPart.{DeclarationPart}
 use Rattle.aml_frames.specs.declared.frames.DeclarationPart.TheVariants as parts
 use Rattle.aml_frames.specs.Places.{Site, place_between, at_place, terms, next_term, behind_term}
@@ -105,6 +105,9 @@ module _ {S : Type 0} where
 module _ {S : Type 0} (ev : Task → Run S Flow) where
   abbrev pub region_term_run : RegionKind → RowPlace → Site → ℕ → Run S Flow
   region_term_run k o c levels = region_term_rule ev k c.scope c.depth (region_tree (terms c levels) k o c.place)
+
+  abbrev pub operation_region_run : Site → ℕ → Run S Flow
+  operation_region_run c levels = region_rule ev c.scope c.depth (term codes.Name (region_at (terms c levels) c.place))
 
   -- what is left of a declaration, a part of which has this value
   abbrev pub part_declared : DeclarationPart → Value → Site → Run S Flow

@@ -136,7 +136,8 @@ fn lay_element<S: Space>(
     at: FieldLayout,
     element: &At<'_>,
 ) -> Result<FieldLayout, Refusal>
-    ensures { Does result world.new (element_laid group act.now.scope act.now.depth (code_of (at_tree element.now)) at (at_tree element.now)) world.old }
+    ensures { Does result world.new
+        (element_laid group act.now.scope act.now.depth (code_of (at_tree element.now)) at (at_tree element.now)) world.old }
 {
     match element.code() {
         TermCode::NamedField => lay_named(alloc, world, act, group, at, element),

@@ -1,8 +1,8 @@
 //! The frames of evaluation: what waits, in memory and not on the processor's stack, for a term that is being evaluated.
 //!
-//! Begin with `evaluate`, which evaluates the body of a control method in one loop, and leaves to its caller how declarations and fields
-//! behind an index field begin (`Terms`). A step of a term takes it up to the first part that is evaluated, and leaves what is to be done
-//! then (`Next`).
+//! Begin with `evaluate`, which evaluates the body of a control method in one loop, and leaves to its caller how a field behind an index
+//! field is accessed (`Terms`). A step of a term takes it up to the first part that is evaluated, and leaves what is to be done then
+//! (`Next`).
 #![tactic(auto)]
 
 mod accesses;

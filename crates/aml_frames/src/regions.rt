@@ -2,9 +2,10 @@
 ghost use Rattle.std.specs.Prelude.{◌≡◌, ◌≤◌, ◌<◌, ◌+◌, ◌%◌, Ok, IfOk};
 ghost use Rattle.aml_marked.specs.Marked.{an_integer};
 ghost use Rattle.aml_meaning.specs.Meaning.{meaning};
-ghost use Rattle.aml_meaning.specs.declared.term_kind.RegionKind.TheVariants as regions;
 ghost use Rattle.aml_frames.specs.declared.frames.Frame.TheVariants as frames;
-ghost use Rattle.aml_frames.specs.RegionTerms.{behind_name, region_term_run, behind_region_at, part_declared, part_ends, region_declared, sized_field_declared, bits_field_declared};
+ghost use Rattle.aml_frames.specs.Places.{at_place, terms};
+ghost use Rattle.aml_frames.specs.Operands.{behind_two};
+ghost use Rattle.aml_frames.specs.RegionTerms.{behind_name, behind_space, operation_region_run, region_term_run, behind_region_at, part_declared, part_ends, region_declared, sized_field_declared, bits_field_declared};
 ghost use Rattle.aml_frames.specs.Declarations.{declared_at};
 ghost use Rattle.aml_frames.specs.Follow.{place_of, resumed, ends, next_ends, Leads, EndsAt};
 ghost use Rattle.aml_frames.specs.Weights.{next_weight};
@@ -38,7 +39,7 @@ pub fn begin_region_term<S: Space>(
     ensures ends { EndsAt result act.new (behind_region_at kind place act.old levels) }
 {
     match kind {
-        RegionKind::OperationRegion => Ok(begin_operation_region(run, act, levels, place)),
+        RegionKind::OperationRegion => Ok(begin_operation_region(run, act, levels)),
         RegionKind::Field => {
             let flow = declare_fields(alloc, run, act, levels, place)?;
             Ok(done(act, levels, place, flow))
@@ -60,16 +61,11 @@ pub fn begin_region_term<S: Space>(
 
 /// OperationRegion: its offset is evaluated, behind its name and its address space.
 #[tactic(auto, unfolding(aml_marked::specs::Marked::a_name))]
-fn begin_operation_region<S: Space>(
-    run: &Running<S>,
-    act: &mut Activation,
-    levels: u8,
-    place: RowPlace,
-) -> Next
+fn begin_operation_region<S: Space>(run: &Running<S>, act: &mut Activation, levels: u8) -> Next
     ensures falls { next_weight result < 6 }
     ensures means { Leads S.accesses (meaning S.accesses) (Ok result) act.new run.now
-        (region_term_run (meaning S.accesses) regions.OperationRegion place act.old levels) run.now }
-    ensures ends { next_ends result act.new ≡ behind_region_at regions.OperationRegion place act.old levels }
+        (operation_region_run (meaning S.accesses) act.old levels) run.now }
+    ensures ends { next_ends result act.new ≡ at_place act.old (behind_two (terms act.old levels) (behind_space act.old.place)) }
 {
     let name = act.position();
     act.over_name();

@@ -108,7 +108,7 @@ fn execute<S: Space, T: Terms<S>>(
     let mut control = first;
     'steps: loop {
         match control {
-            Control::Term(levels) => match step_term(alloc, terms, run, &mut stack, levels) {
+            Control::Term(levels) => match step_term(alloc, run, &mut stack, levels) {
                 Ok(after) => control = after,
                 Err(refusal) => {
                     unwind(run, &mut stack, &refusal);
@@ -162,9 +162,8 @@ fn execute<S: Space, T: Terms<S>>(
 /// A term begins.
 #[inline(always)]
 #[tactic(auto, using(crate::proofs::Machine::taking))]
-fn step_term<S: Space, T: Terms<S>>(
+fn step_term<S: Space>(
     alloc: Global,
-    terms: &T,
     run: &mut Running<S>,
     stack: &mut Stack,
     levels: u8,
@@ -173,7 +172,7 @@ fn step_term<S: Space, T: Terms<S>>(
     ensures means { Goes S.accesses (meaning S.accesses) result stack.new.act stack.new.entries.items run.new
         (machine S.accesses (meaning S.accesses) (control.Term levels) stack.old.act stack.old.entries.items) run.old }
 {
-    let next = begin_term(alloc, terms, run, &mut stack.act, levels)?;
+    let next = begin_term(alloc, run, &mut stack.act, levels)?;
     follow(run, stack, next)
 }
 

@@ -27,6 +27,9 @@ entries-preserved-in-Some-Frame-5 g c = c.entries.invariant ∙ popped_frame g.S
 pub entries-preserved-in-Some-Frame-6 : goal.entries-preserved-in-Some-Frame-6
 entries-preserved-in-Some-Frame-6 g c = c.entries.invariant ∙ popped_frame g.S.Space.accesses (meaning g.S.Space.accesses) c.args.refusal.now c.entries.stack.act c.entries.stack.entries.items c.pop.new.self.items c.in-Some-Frame._frame c.in-Some-Frame.field-0 c.entries.run c.in-Some-Frame.ensures.items (search rules)
 
+pub entries-preserved-in-Some-Frame-7 : goal.entries-preserved-in-Some-Frame-7
+entries-preserved-in-Some-Frame-7 g c = c.entries.invariant ∙ popped_frame g.S.Space.accesses (meaning g.S.Space.accesses) c.args.refusal.now c.entries.stack.act c.entries.stack.entries.items c.pop.new.self.items c.in-Some-Frame._frame c.in-Some-Frame.field-0 c.entries.run c.in-Some-Frame.ensures.items (search rules)
+
 pub entries-preserved : goal.entries-preserved
 entries-preserved g c =
     c.entries.invariant
