@@ -24,6 +24,8 @@ HEADING = "acpiroute"
 # The lines that a version has or not, by the field of the definition `first_said` that says so, and its value where it has them.
 FIELDS = {"sci": ("sci", "None"), "avoid": ("avoid", "None"), "spared": ("spared", "Some []"), "unread": ("spared", "Some []")}
 RULE = ("rule", "None")
+# The lines whose form is read, and which claim nothing: `with_unread` leaves what was said, and the rule `First` is no claim.
+FORM_ALONE = ("unread", "first")
 HEAD = """# The lines of a report
 
 <!-- Written by tools/report_lines.py from tables/report_lines.txt and the sources: change those, and run it again. -->
@@ -35,8 +37,8 @@ one in any order. `README.md` shows a report, and says what each line means for 
   numbers; X is A to D. `N..` and `P..` are one or more. Where an offer isn't `small` and `low`, it is `extended` and `high`; a bound
   without links has `-` in their place. The first line of a report of version 1 is `acpiroute 1`.
 - **Versions** are those that have the line. `route` writes version 2, and version 3 where options add lines.
-- **`check`**: *read* lines are what it tests, or what it believes of the machine. *passed over*: the line may say anything. Of a line
-  `link`, what stands behind `now` is passed over too; of a line `unread`, the form alone is tested.
+- **`check`**: *read*, it tests what the line says, or believes it of the machine; *form alone*, the line has to have its form, and what it
+  says isn't tested; *passed over*, the line may say anything. Of a line `link`, what stands after `now` is passed over too.
 - **Words** is the definition of the line's words, in `crates/route_report/specs/Printing.antt`; **Written by** a function, or the
   `impl Line` of a type, in `crates/route_report/src/lines.rt`; **Read by** a definition in `specs/Reading.antt` and the function of the
   same name in `src/line.rt`.
@@ -203,7 +205,8 @@ def check_row(row):
 def page_row(row):
     forms = ", ".join(f"`{it}`" for it in row.forms)
     reader = read_by_definition().get(row.word, "heading" if row.word == HEADING else None)
-    said = f"{row.meaning} | {' '.join(str(it) for it in versions(row.word, rule_words()))} | {'read' if reader else 'passed over'}"
+    tested = "form alone" if row.word in FORM_ALONE else "read" if reader else "passed over"
+    said = f"{row.meaning} | {' '.join(str(it) for it in versions(row.word, rule_words()))} | {tested}"
     file, name = row.source.groups()
     code = code_of(file, name)
     source = f"`{file}`: `{name}`" + (f"; {code}" if code else "")
