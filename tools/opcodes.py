@@ -43,7 +43,7 @@ VALUES = {
     "integer_operator": "result_of_two", "two_operands": "result_of_two", "one_operand": "result_of_one", "test_kind": "result_of_test",
 }
 # The crate of the code, and its file in which some terms are done at once, as the others say.
-CODE, AT_ONCE = "crates/aml_frames/src", "/known.rt"
+CODE, AT_ONCE = "crates/aml_frames/src", "known"
 # What waits for the value of a part of a term, or for its target: an arm of each goes on with it.
 WAITING = ("Monadic", "Dyadic", "TargetUse", "DeclarationPart")
 # The names that ASL has for opcodes which the grammar names otherwise.
@@ -184,35 +184,39 @@ def files_by_name(files, form):
     return found
 
 
+HEAD_OF = r"^(?:pub(?:\(crate\))? )?fn (\w+)"
+
+
 def functions_of_evaluation():
     """Each function of the machine of frames, with its file."""
-    return files_by_name(f"{CODE}/*.rt", r"^(?:pub(?:\(crate\))? )?fn (\w+)")
+    return files_by_name(f"{CODE}/*.rt", HEAD_OF)
 
 
 def in_arm(pattern, functions):
-    """The function that an arm of this pattern calls first, or else the one that has the arm; and the arm's text."""
+    """The function that an arm of this pattern calls first, or else the one that has the arm, each with its file; and the arm's text."""
     for file in files_in(f"{CODE}/*.rt"):
-        text = text_of(file)
-        found = re.search(rf"(?ms)^( *){pattern}(?:\([^)]*\))? =>(.*?)(?=^\1\w|^(?!\1))", text)
-        if found and not file.endswith(AT_ONCE):
+        text, name = text_of(file), os.path.basename(file).partition(".")[0]
+        found = re.search(rf"(?ms)^( *){pattern}\b(?:\([^)]*\))? =>(.*?)(?=^\1\w|^(?!\1))", text)
+        if found and name != AT_ONCE:
+            own = re.findall(HEAD_OF, text, re.MULTILINE)
             called = re.match(r"\s*(?:\{\s*)?(?:let \w+ = )?(?:Ok\()?(\w+)\(", found[2])
             if called and called[1] in functions and called[1] != "begin_target":
-                return called[1], found[2]
-            return re.findall(r"(?m)^(?:pub(?:\(crate\))? )?fn (\w+)", text[: found.start()])[-1], found[2]
+                return (name if called[1] in own else functions[called[1]], called[1]), found[2]
+            return (name, re.findall(HEAD_OF, text[: found.start()], re.MULTILINE)[-1]), found[2]
     return None, ""
 
 
 def code_of(function, kind, functions):
-    """The function that begins a kind, and the one that goes on where that only says what waits."""
+    """The function that begins a kind, and the one that goes on where that only says what waits, each with its file."""
     inside, enum = KIND_FUNCTIONS[function]
-    begins, arm = in_arm(rf"{enum}::{inside or kind[0]}\b", functions)
+    begins, arm = in_arm(f"{enum}::{inside or kind[0]}", functions)
     if not begins:
-        begins, arm = in_arm(rf"TermKind::{enum.removesuffix('Kind')}\b", functions)
+        begins, arm = in_arm(f"TermKind::{enum.removesuffix('Kind')}", functions)
     if not begins:
         raise Wrong(f"no function evaluates {' '.join(kind)}")
     waits = re.search(rf"\b({'|'.join(WAITING)})::\w+", arm)
     goes_on = in_arm(waits[0], functions)[0] if waits else None
-    return [begins, goes_on] if goes_on else [begins]
+    return [it for it in (begins, goes_on) if it]
 
 
 # ---- tests
@@ -246,10 +250,10 @@ def kind_text(name, function, kind):
     return f"{KIND_FUNCTIONS[function][1].removesuffix('Kind').lower()}: {words}{partly}"
 
 
-def in_files(functions, files):
+def in_files(functions):
     """Functions, each behind the name of its file where that is another one than before."""
-    before = [None, *(files[it] for it in functions)]
-    return ", ".join(f"`{it}`" if files[it] == last else f"`{files[it]}`: `{it}`" for it, last in zip(functions, before))
+    before = [None, *(file for file, _ in functions)]
+    return ", ".join(f"`{name}`" if file == last else f"`{file}`: `{name}`" for (file, name), last in zip(functions, before))
 
 
 def how(name, sources):
@@ -263,7 +267,7 @@ def how(name, sources):
     value = value_of(function, kind)
     code = code_of(function, kind, sources["functions"])
     definition = f"`{file}`: `{rule}`" + (f", of values `{value}`" if value else "")
-    by = in_files(code, sources["functions"]) + (f", of values `{code_of_value(value)}`" if value else "")
+    by = in_files(code) + (f", of values `{code_of_value(value)}`" if value else "")
     return kind_text(name, function, kind), definition, by
 
 
