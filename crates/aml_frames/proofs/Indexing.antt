@@ -50,11 +50,11 @@ all_within bits u h i =
 
 -- ---- what is bound ends
 
-bound : {S A B : Type 0} (m : Change S A) (k : A → Change S B) (s s1 : S) (a : A) → m s ≡ (Ok a, s1) → (m >>= k) s ≡ k a s1
+pub bound : {S A B : Type 0} (m : Change S A) (k : A → Change S B) (s s1 : S) (a : A) → m s ≡ (Ok a, s1) → (m >>= k) s ≡ k a s1
 unfolding ◌>>=◌ go_on
 bound m k s s1 a e = rw e refl
 
-after_same : {S A B : Type 0} (m n : Change S A) (k : A → Change S B) (s : S) → m s ≡ n s → (m >>= k) s ≡ (n >>= k) s
+pub after_same : {S A B : Type 0} (m n : Change S A) (k : A → Change S B) (s : S) → m s ≡ n s → (m >>= k) s ≡ (n >>= k) s
 unfolding ◌>>=◌
 after_same m n k s e = rw e refl
 

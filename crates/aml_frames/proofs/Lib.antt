@@ -16,3 +16,4 @@ pub mod Forming
 pub mod Addressing
 pub mod Indexing
 pub mod Knowing
+pub mod UnitSteps

@@ -30,6 +30,8 @@ use Rattle.aml_meaning.specs.StoreTargets.{tested, value_followed, most_referenc
 use Rattle.aml_meaning.specs.StoreTargets.{followed as references_followed}
 use Rattle.aml_meaning.specs.TargetTerms.{reference_in}
 use Rattle.aml_meaning.specs.Osi.{osi_answered}
+use Rattle.aml_meaning.specs.declared.regions.RegionField.{RegionField}
+use Rattle.aml_meaning.specs.Fields.{unit_bytes, region_written}
 use Rattle.aml_meaning.specs.Terms.{else_of}
 use Rattle.aml_meaning.specs.Tasks.{Task, task, operand_value, after_item, in_turn}
 use Rattle.aml_meaning.specs.Evaluation.{code_rule}
@@ -53,7 +55,8 @@ use Rattle.aml_frames.specs.declared.uses.Inquiry.TheVariants as inquiry
 use Rattle.aml_frames.specs.declared.uses.TargetUse.TheVariants as uses
 use Rattle.aml_frames.specs.Addresses.{part_met}
 use Rattle.aml_frames.specs.Data.{package_left, package_of_all, package_run}
-use Rattle.aml_frames.specs.Uses.{optional, behind_target, use_ends, target_ends, monadic_ends, dyadic_ends, access_run, inquired, counted_back, used, target_run, monadic_done, dyadic_by, dyadic_done}
+use Rattle.aml_frames.specs.Indexed.{writes_done, unit_given, unit_behind, unit_merged}
+use Rattle.aml_frames.specs.Uses.{asking, optional, behind_target, use_ends, target_ends, monadic_ends, dyadic_ends, access_run, inquired, counted_back, used, target_run, monadic_done, dyadic_by, dyadic_done}
 use Rattle.aml_frames.specs.Operands.{operator_tree, statement_tree, behind_operator, behind_statement}
 
 abbrev pub place_of : Site → Position → Place
@@ -127,6 +130,10 @@ ends (frames.DerefTarget u) c = use_ends u c
 ends (frames.Referent i) c = c
 ends (frames.Counted k p h) c = c
 ends (frames.Address x) c = c
+ends (frames.UnitChosen l u) c = c
+ends (frames.UnitRead l u) c = c
+ends (frames.UnitMerged x n) c = c
+ends (frames.UnitWritten x) c = c
 
 -- and when all that a step leaves is done
 abbrev pub next_ends : Next → Site → Site
@@ -276,10 +283,20 @@ module _ {S : Type 0} (accesses : Accesses S) (ev : Task → Run S Flow) where
     n ← lift (integer_in v)
     counted_back accesses ev k p (held.Field h) c n
   resumed (frames.Address x) c f = part_met accesses ev x f
+  resumed (frames.UnitChosen l u) c f = unit_behind accesses ev l u
+  resumed (frames.UnitRead l u) c f = unit_given accesses ev l u f
+  resumed (frames.UnitMerged x n) c f = unit_merged accesses ev x n
+  resumed (frames.UnitWritten x) c f = writes_done accesses ev x
 
   -- the body of a control method that takes no arguments, and then a frame
   abbrev pub entered_then : ℕ → List Seg → List ℕ → Frame → Site → Run S Flow
   entered_then depth p body x c = invoked ev depth p body [] >>= resumed x c
+
+  -- a number is written to a field of a region, as a unit, and then a frame
+  abbrev pub number_written_then : ℕ → RegionField → ℕ → Frame → Site → Run S Flow
+  number_written_then calls f n x c = do
+    done ← region_written accesses (asking accesses ev calls) f (unit_bytes n)
+    resumed x c flow.Next
 
   -- what is left to do
   abbrev pub next_run : Next → Site → Run S Flow

@@ -1,5 +1,6 @@
 -- How much each frame may ask for without a step being paid: the sum falls while no term begins.
-use Rattle.std.specs.Prelude.{ℕ, zero, suc, ◌+◌, ◌*◌}
+use Rattle.std.specs.Prelude.{ℕ, zero, suc, ◌+◌, ◌*◌, List, length}
+use Rattle.aml_fields.specs.declared.field_units.Unit.{Unit}
 use Rattle.aml_frames.specs.declared.frames.Frame.{Frame}
 use Rattle.aml_frames.specs.declared.frames.Frame.TheVariants as frames
 use Rattle.aml_frames.specs.declared.frames.Next.{Next}
@@ -10,6 +11,11 @@ use Rattle.aml_frames.specs.declared.addresses.Asked.{Asked}
 use Rattle.aml_frames.specs.declared.addresses.Asked.TheVariants as answers
 use Rattle.aml_frames.specs.declared.addresses.Waited.{Waited}
 use Rattle.aml_frames.specs.declared.addresses.Waited.TheVariants as waits
+use Rattle.aml_frames.specs.declared.indexed.UnitReads.{UnitReads}
+use Rattle.aml_frames.specs.declared.indexed.UnitWrites.{UnitWrites}
+use Rattle.aml_frames.specs.declared.indexed.UnitsLeft.{UnitsLeft}
+use Rattle.aml_frames.specs.declared.indexed.UnitsLeft.TheVariants as units_left
+use Rattle.aml_frames.specs.Indexed.{field_accessed}
 use Rattle.aml_frames.specs.declared.uses.Access.{Access}
 use Rattle.aml_frames.specs.declared.uses.Accessed.{Accessed}
 use Rattle.aml_frames.specs.declared.uses.Accessed.TheVariants as object
@@ -76,6 +82,22 @@ abbrev pub asked_weight : Asked → ℕ
 asked_weight (answers.Known n) = 0
 asked_weight (answers.Waits w) = waited_weight w
 
+-- ---- units of a field behind an index field: the index field and the data field are accessed for each, and both once more where bits of
+-- a unit are kept
+
+unfoldable pub units_weight : ℕ → List Unit → ℕ
+units_weight calls us = length us * (4 * region_weight calls + 20)
+
+abbrev pub reads_weight : UnitReads → ℕ
+reads_weight x = units_weight x.field.calls x.left
+
+abbrev pub writes_weight : UnitWrites → ℕ
+writes_weight x = units_weight x.field.calls x.left
+
+abbrev pub left_weight : UnitsLeft → ℕ
+left_weight (units_left.Reads x) = reads_weight x
+left_weight (units_left.Writes x) = writes_weight x
+
 -- ---- frames: one that waits for a list weighs 1, and one that waits for a term 3 and what it asks for then
 
 abbrev pub weight : Frame → ℕ
@@ -89,6 +111,10 @@ weight (frames.DerefTarget u) = use_weight u + 5
 weight (frames.Referent i) = most + 1
 weight (frames.Counted k p h) = most + 8
 weight (frames.Address x) = address_weight x.part x.access.calls
+weight (frames.UnitChosen l u) = left_weight l + 3 * region_weight (field_accessed l).calls + 1
+weight (frames.UnitRead l u) = left_weight l + 2 * region_weight (field_accessed l).calls + 1
+weight (frames.UnitMerged x n) = writes_weight x + region_weight x.field.calls + 1
+weight (frames.UnitWritten x) = writes_weight x + 1
 weight _ = 3
 
 abbrev pub next_weight : Next → ℕ

@@ -2,7 +2,7 @@
 //! another.
 ghost use Rattle.std.specs.Prelude.{◌≡◌, ◌≤◌, [], IfOk, Ok};
 ghost use Rattle.ar_space.specs.Change.{Does, settle};
-ghost use Rattle.ar_space.specs.Outcome.{Answers};
+ghost use Rattle.ar_space.specs.Outcome.{Answers, NotMemory};
 ghost use Rattle.aml_meaning.specs.Meaning.{meaning};
 ghost use Rattle.aml_meaning.specs.Readings.{absolute};
 ghost use Rattle.aml_meaning.specs.Invocations.{invocation_found};
@@ -39,6 +39,7 @@ pub(crate) fn ask<S: Space>(
 /// What was found answers, where so many calls may still be made, this one among them.
 #[tactic(auto, using(crate::proofs::Addressing::answering))]
 fn answer<S: Space>(run: &Running<S>, calls: usize, found: Invocation) -> Result<Asked, Refusal>
+    ensures memory { NotMemory result }
     ensures few { IfOk result (λ a. asked_weight a ≤ part_weight calls) }
     ensures means { Asks S.accesses (meaning S.accesses) result run.now (answer_within S.accesses (meaning S.accesses) calls found) run.now }
 {
@@ -58,6 +59,7 @@ fn answer<S: Space>(run: &Running<S>, calls: usize, found: Invocation) -> Result
 /// A value answers where it is an integer.
 #[tactic(auto, using(crate::proofs::Addressing::answering))]
 fn known<S: Space>(run: &Running<S>, value: Value) -> Result<Asked, Refusal>
+    ensures memory { NotMemory result }
     ensures few { IfOk result (λ a. asked_weight a ≤ 0) }
     ensures means { Asks S.accesses (meaning S.accesses) result run.now (settle (integer_only value)) run.now }
 {

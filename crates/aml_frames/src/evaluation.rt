@@ -15,7 +15,7 @@ use crate::activation::{Activation, MethodPath};
 use crate::addresses::{Asked, Waited};
 use crate::asking::ask;
 use crate::calls::enter;
-use crate::pci::value_of_call;
+use crate::values::value_of_call;
 use crate::stack::{access_field, evaluate, run_list};
 use crate::terms::Terms;
 use aml_meaning::{Flow, Running, integer_only};

@@ -1,6 +1,8 @@
 //! Accesses of fields of operation regions (ACPI 6.5, 5.5.2.4 and 19.6: OperationRegion, Field).
 ghost use Rattle.std.specs.Prelude.{◌≡◌, ◌≤◌, ◌<◌, ◌+◌, ◌*◌, IfOk, Ok};
 ghost use Rattle.ar_space.specs.Change.{Does};
+ghost use Rattle.ar_space.specs.Outcome.{NotMemory};
+ghost use Rattle.aml_meaning.specs.declared.regions.RegionSpace.TheVariants as kinds;
 ghost use Rattle.aml_meaning.specs.Fields.{unit_of};
 ghost use Rattle.aml_meaning.specs.Regions.{region_declared};
 ghost use Rattle.aml_meaning.specs.Run.{lift};
@@ -16,9 +18,9 @@ ghost use Rattle.aml_frames.specs.Weights.{region_weight, field_weight, access_w
 use crate::activation::Activation;
 use crate::addresses::RegionAccess;
 use crate::frames::Next;
+use crate::index_access::begin_indexed;
 use crate::pci::begin_pci;
 use crate::target_uses::tell;
-use crate::terms::Terms;
 use crate::uses::{Access, Accessed, Doing, Reading};
 use aml_fields::{AddressSpace, Region, merge};
 use aml_meaning::{Flow, RegionField, RegionSpace, Running, space_numbered};
@@ -31,9 +33,8 @@ use std::alloc::Global;
 
 /// An access of a field: of a buffer, of a region, or behind an index field and a data field.
 #[tactic(auto, using(crate::proofs::Addressing::fields))]
-pub(crate) fn begin_access<S: Space, T: Terms<S>>(
+pub(crate) fn begin_access<S: Space>(
     alloc: Global,
-    terms: &T,
     run: &mut Running<S>,
     act: &Activation,
     access: Access,
@@ -49,45 +50,34 @@ pub(crate) fn begin_access<S: Space, T: Terms<S>>(
         Accessed::Field(Field::Buffer(field)) => {
             access_buffer(alloc, run, act, access.calls, field, access.doing)
         }
-        Accessed::Field(Field::Unit(unit)) => begin_unit(
-            alloc,
-            terms,
-            run,
-            act,
-            access.calls,
-            (unit, access.doing),
-        ),
+        Accessed::Field(Field::Unit(unit)) => {
+            begin_unit(alloc, run, act, access.calls, unit, access.doing)
+        }
     }
 }
 
 /// An access of a field unit.
-#[tactic(auto, using(crate::proofs::Addressing::fields))]
-fn begin_unit<S: Space, T: Terms<S>>(
+#[tactic(auto, using(crate::proofs::Addressing::fields, crate::proofs::UnitSteps::indexed))]
+fn begin_unit<S: Space>(
     alloc: Global,
-    terms: &T,
     run: &mut Running<S>,
     act: &Activation,
     calls: usize,
-    access: (FieldUnit, Doing),
+    unit: FieldUnit,
+    doing: Doing,
 ) -> Result<Next, Refusal>
     ensures spent { run.new.1 ≤ run.old.1 }
     ensures falls { IfOk result (λ n. next_weight n < field_weight calls) }
     ensures means { Leads S.accesses (meaning S.accesses) result act.now run.new
-        (access_done S.accesses (meaning S.accesses) calls (object.Field (fields.Unit access.0)) access.1) run.old }
+        (access_done S.accesses (meaning S.accesses) calls (object.Field (fields.Unit unit)) doing) run.old }
     ensures ends { EndsAt result act.now act.now }
 {
-    let (unit, doing) = access;
     match unit.source {
         FieldSource::Region(region) => {
             begin_region(alloc, run, act, calls, RegionField { region, unit }, doing)
         }
-        FieldSource::Index(_, _) => {
-            let access = Access {
-                calls,
-                object: Accessed::Field(Field::Unit(unit)),
-                doing,
-            };
-            terms.access(alloc, run, act, access)
+        FieldSource::Index(index, behind) => {
+            begin_indexed(alloc, run, act, calls, (index, behind), (unit, doing))
         }
     }
 }
@@ -182,6 +172,7 @@ fn begin_declared<S: Space>(
     ensures means { Leads S.accesses (meaning S.accesses) result act.now run.new
         (space_run S.accesses (meaning S.accesses) access kind scope.now) run.old }
     ensures ends { EndsAt result act.now act.now }
+    ensures memory { kind ≡ kinds.Other → NotMemory result }
 {
     match kind {
         RegionSpace::SystemMemory => access_space(alloc, run, act, access, AddressSpace::Memory),

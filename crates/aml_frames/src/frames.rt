@@ -2,7 +2,9 @@
 
 use crate::activation::{Activation, MethodPath, Position};
 use crate::addresses::PciAccess;
+use crate::indexed::{UnitWrites, UnitsLeft};
 use crate::uses::{Access, Dyadic, Inquiry, Monadic, SecondOperand, Target, TargetUse};
+use aml_fields::Unit;
 use aml_meaning::{Count, Flow, StoreTarget};
 use aml_objects::{Body, Elements, Field, Value};
 use aml_path::Path;
@@ -115,6 +117,16 @@ pub enum Frame {
     Counted(Count, StoreTarget, Field),
     /// An access of a field of PCI_Config, while a part of its address is asked for.
     Address(PciAccess),
+    /// An access of a field behind an index field, while the offset of this unit is written to the index field: the data field is read
+    /// then.
+    UnitChosen(UnitsLeft, Unit),
+    /// The same, while the data field is read.
+    UnitRead(UnitsLeft, Unit),
+    /// A write of a field behind an index field, while the offset of a unit is written to the index field: the data field is written with
+    /// this number then.
+    UnitMerged(UnitWrites, u64),
+    /// The same, while the data field is written.
+    UnitWritten(UnitWrites),
 }
 
 /// What a step leaves to do.

@@ -1,12 +1,13 @@
 //! Fields behind an index field and a data field: the units of such a field, which are accessed one by one (ACPI 6.5, 19.6: IndexField).
-ghost use Rattle.std.specs.Prelude.{◌≡◌, ◌≤◌, ◌+◌, replicate, Ok};
+ghost use Rattle.std.specs.Prelude.{◌≡◌, ◌≤◌, ◌+◌, length, replicate, Ok};
 ghost use Rattle.ar_space.specs.Outcome.{Answers, seen};
 ghost use Rattle.aml_fields.specs.Bits.{byte_count};
-ghost use Rattle.aml_frames.specs.Indexed.{is_kept, unit_within, put_unit, merged_unit};
+ghost use Rattle.aml_frames.specs.Indexed.{field_accessed, is_kept, unit_within, put_unit, merged_unit};
 
-use aml_fields::{Unit, bytes_for, copy_from_unit, merge};
+use crate::uses::Reading;
+use aml_fields::{FieldUnits, Unit, bytes_for, copy_from_unit, merge};
 use aml_meaning::RegionField;
-use aml_objects::{FieldUnit, UpdateRule};
+use aml_objects::{FieldUnit, Octets, UpdateRule};
 use ar_space::Refusal;
 use std::alloc::Global;
 
@@ -25,6 +26,48 @@ pub struct IndexedField {
     pub field: FieldUnit,
 }
 
+/// A read of such a field, while its units are read.
+#[derive(Drop)]
+pub struct UnitReads {
+    pub field: IndexedField,
+    /// What the bits are read as.
+    pub reading: Reading,
+    /// The bits of the units that were read, and zeros for the others.
+    pub bytes: Vec<u8>,
+    /// The units that are left, lowest first.
+    pub left: FieldUnits,
+}
+
+/// A write of such a field, while its units are written.
+#[derive(Drop)]
+pub struct UnitWrites {
+    pub field: IndexedField,
+    /// What is written.
+    pub bytes: Octets,
+    /// The units that are left, lowest first.
+    pub left: FieldUnits,
+}
+
+/// An access of such a field, of which a unit is read now.
+#[derive(Drop)]
+pub enum UnitsLeft {
+    Reads(UnitReads),
+    /// The unit is read since its write keeps bits of it.
+    Writes(UnitWrites),
+}
+
+impl UnitsLeft {
+    /// The field that is accessed.
+    pub fn field(&self) -> IndexedField
+        ensures { result ≡ field_accessed self.now }
+    {
+        match self {
+            UnitsLeft::Reads(reads) => reads.field,
+            UnitsLeft::Writes(writes) => writes.field,
+        }
+    }
+}
+
 /// The bytes of so many bits, all zero.
 pub fn zeros(alloc: Global, bits: u32) -> Result<Vec<u8>, Refusal>
     ensures { Answers (seen (λ v. v.items) result) (Ok (replicate (byte_count bits) 0)) }
@@ -35,7 +78,8 @@ pub fn zeros(alloc: Global, bits: u32) -> Result<Vec<u8>, Refusal>
 /// The bits of a unit that was read are put where they are in the field.
 #[tactic(auto, unfolding(crate::specs::Indexed::put_unit))]
 pub fn put_unit(bits: &mut [u8], unit: Unit, number: u64)
-    ensures { bits.new ≡ put_unit bits.old unit number }
+    ensures put { bits.new ≡ put_unit bits.old unit number }
+    ensures len { length bits.new ≡ length bits.old }
 {
     let within = unit_within(8 * bits.len().min(MAX_BYTES), unit);
     copy_from_unit(bits, within.position, number, within.first, within.count);

@@ -1,8 +1,7 @@
 //! The frames of evaluation: what waits, in memory and not on the processor's stack, for a term that is being evaluated.
 //!
-//! Begin with `evaluate`, which evaluates the body of a control method in one loop, and leaves to its caller how declarations and fields
-//! behind an index field begin (`Terms`). A step of a term takes it up to the first part that is evaluated, and leaves what is to be done
-//! then (`Next`).
+//! Begin with `evaluate`, which evaluates the body of a control method in one loop, and leaves to its caller how declarations begin
+//! (`Terms`). A step of a term takes it up to the first part that is evaluated, and leaves what is to be done then (`Next`).
 #![tactic(auto)]
 
 mod accesses;
@@ -14,6 +13,7 @@ mod data;
 mod evaluation;
 mod field_access;
 mod frames;
+mod index_access;
 mod indexed;
 mod known;
 mod lists;
@@ -40,7 +40,9 @@ pub use data::begin_data;
 pub use evaluation::{ask_integer, call_method, evaluate_list};
 pub use field_access::begin_region;
 pub use frames::{Call, Callee, Control, Entry, Frame, Items, Loop, Next, Package};
-pub use indexed::{IndexedField, is_kept, merge_unit, put_unit, zeros};
+pub use indexed::{
+    IndexedField, UnitReads, UnitWrites, UnitsLeft, is_kept, merge_unit, put_unit, zeros,
+};
 pub use lists::begin_items;
 pub use names::begin_name;
 pub use operators::begin_operator;

@@ -4,7 +4,6 @@ ghost use Rattle.std.specs.Prelude.{◌≡◌, ◌≤◌, ◌<◌, ◌+◌, ◌*
 ghost use Rattle.aml_meaning.specs.Meaning.{meaning};
 ghost use Rattle.aml_meaning.specs.Fields.{inherited};
 ghost use Rattle.aml_meaning.specs.PciFunctions.{adr};
-ghost use Rattle.aml_meaning.specs.Invocations.{value_of_call};
 ghost use Rattle.aml_frames.specs.Addresses.{pci_run, device_known, segment_known, bus_known, function_known, waited_met, part_met, Asks};
 ghost use Rattle.aml_frames.specs.Follow.{Leads, EndsAt};
 ghost use Rattle.aml_frames.specs.Uses.{asking};
@@ -17,8 +16,8 @@ use crate::calls::enter_then;
 use crate::field_access::access_space;
 use crate::frames::{Frame, Next};
 use crate::uses::{Access, Accessed, Doing, Reading};
+use crate::values::value_of_call;
 use aml_meaning::{Flow, Running, Sought, adr, base_bus, integer_only, pci_space, segment_group};
-use aml_objects::Value;
 use aml_path::{Path, Seg};
 use ar_space::{Refusal, Space};
 use std::alloc::Global;
@@ -230,19 +229,6 @@ pub(crate) fn resume_address<S: Space>(
             };
             access_function(alloc, run, act, pci.access, function)
         }
-    }
-}
-
-/// The value of a call.
-pub(crate) fn value_of_call(flow: Flow) -> Value
-    ensures { result ≡ value_of_call flow }
-{
-    match flow {
-        Flow::Value(value) => value,
-        Flow::Next => Value::Uninitialized,
-        Flow::Break => Value::Uninitialized,
-        Flow::Continue => Value::Uninitialized,
-        Flow::Return(_) => Value::Uninitialized,
     }
 }
 

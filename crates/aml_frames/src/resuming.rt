@@ -10,6 +10,7 @@ use crate::activation::{Activation, Position};
 use crate::calls::resume_argument;
 use crate::data::resume_buffer;
 use crate::frames::{Frame, Items, Loop, Next};
+use crate::index_access::{next_write, read_chosen, resume_unit, write_merged};
 use crate::operators::{resume_first, resume_operand, resume_quotient, resume_second};
 use crate::packages::{resume_element, resume_var_package};
 use crate::pci::resume_address;
@@ -212,6 +213,10 @@ pub fn resume<S: Space>(
         Frame::DerefTarget(target_use) => resume_dereferenced(alloc, run, act, target_use, flow),
         Frame::Referent(inquiry) => resume_referent(run, act, inquiry, flow),
         Frame::Address(pci) => resume_address(alloc, run, act, pci, flow),
+        Frame::UnitChosen(units, unit) => Ok(read_chosen(run, act, units, unit)),
+        Frame::UnitRead(units, unit) => resume_unit(alloc, run, act, units, unit, flow),
+        Frame::UnitMerged(writes, number) => write_merged(alloc, run, act, writes, number),
+        Frame::UnitWritten(writes) => next_write(alloc, run, act, writes),
         Frame::Counted(count, target, field) => {
             resume_counted(alloc, run, act, (count, target, field), flow)
         }

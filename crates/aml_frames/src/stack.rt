@@ -192,7 +192,7 @@ fn execute<S: Space, T: Terms<S>>(
                     }
                 }
             }
-            Control::Access(access) => match step_access(alloc, terms, run, &mut stack, access) {
+            Control::Access(access) => match step_access(alloc, run, &mut stack, access) {
                 Ok(after) => control = after,
                 Err(refusal) => {
                     unwind(run, &mut stack, &refusal);
@@ -294,9 +294,8 @@ fn step_target<S: Space>(
 /// A field is accessed.
 #[inline(always)]
 #[tactic(auto, using(crate::proofs::Machine::taking))]
-fn step_access<S: Space, T: Terms<S>>(
+fn step_access<S: Space>(
     alloc: Global,
-    terms: &T,
     run: &mut Running<S>,
     stack: &mut Stack,
     access: Access,
@@ -305,7 +304,7 @@ fn step_access<S: Space, T: Terms<S>>(
     ensures means { Goes S.accesses (meaning S.accesses) result stack.new.act stack.new.entries.items run.new
         (machine S.accesses (meaning S.accesses) (control.Access access) stack.old.act stack.old.entries.items) run.old }
 {
-    let next = begin_access(alloc, terms, run, &stack.act, access)?;
+    let next = begin_access(alloc, run, &stack.act, access)?;
     follow(run, stack, next)
 }
 
@@ -424,6 +423,7 @@ fn push_frame<S: Space>(
     ensures kept { OnOk result (run.new ≡ run.old) }
     ensures act { stack.new.act ≡ stack.old.act }
     ensures pushed { OnOk result (stack.new.entries.items ≡ stack.old.entries.items ++ entry.Frame frame ∷ []) }
+    ensures ended { IfErr result (λ e. run.new ≡ (left body.now.scope run.old.0, run.old.1)) }
     ensures memory { IfErr result (λ e. e ≡ OutOfMemory) }
 {
     match stack.entries.push(Entry::Frame(frame)) {
@@ -447,6 +447,7 @@ fn run_in<S: Space>(
     ensures act { OnOk result (stack.new.act ≡ body) }
     ensures pushed { OnOk result (stack.new.entries.items ≡ stack.old.entries.items ++ entry.Leave stack.old.act body.scope ∷ []) }
     ensures list { IfOk result (λ c. c ≡ control.Items (whole body)) }
+    ensures ended { IfErr result (λ e. run.new ≡ (left body.scope run.old.0, run.old.1)) }
     ensures memory { IfErr result (λ e. e ≡ OutOfMemory) }
 {
     let method = match body.share_scope() {
@@ -474,7 +475,7 @@ fn unwind<S: Space>(run: &mut Running<S>, stack: &mut Stack, refusal: &Refusal)
     'entries: loop {
         match stack.entries.pop() {
             None => return,
-            Some(Entry::Frame(_frame)) => {}
+            Some(Entry::Frame(frame)) => drop(frame),
             Some(Entry::Leave(caller, method)) => {
                 end_call(run, method.path());
                 stack.act = caller;

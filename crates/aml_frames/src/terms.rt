@@ -14,21 +14,19 @@ use crate::frames::Next;
 use crate::names::begin_name;
 use crate::operators::begin_operator;
 use crate::statements::begin_statement;
-use crate::uses::Access;
 use aml_meaning::{Running, TermKind, kind_of};
 use aml_terms::RowPlace;
 use ar_space::{EvaluationFault, NameFault, Refusal, Space};
 use std::alloc::Global;
 
-/// The terms that declare something, and accesses of fields behind an index field: they have no steps of this crate.
+/// The terms that declare something: they have no steps of this crate.
 pub trait Terms<S: Space> {
     ghost use Rattle.std.specs.Prelude.{◌≡◌, ◌≤◌, ◌<◌, ◌+◌, ◌*◌, true, IfOk};
     ghost use Rattle.aml_scan.specs.RowsAt.{row_at};
     ghost use Rattle.aml_frames.specs.Operands.{row_kind, declares};
     ghost use Rattle.aml_meaning.specs.Meaning.{meaning};
     ghost use Rattle.aml_frames.specs.Follow.{coded_run, behind_coded, Leads, EndsAt};
-    ghost use Rattle.aml_frames.specs.Uses.{access_run};
-    ghost use Rattle.aml_frames.specs.Weights.{most, next_weight, access_weight};
+    ghost use Rattle.aml_frames.specs.Weights.{most, next_weight};
 
     /// Begins a term that declares something, a region and fields among them: its operands stand next, by the place of its row, with so
     /// many levels.
@@ -46,20 +44,6 @@ pub trait Terms<S: Space> {
         ensures means { Leads S.accesses (meaning S.accesses) result act.new run.new
             (coded_run S.accesses (meaning S.accesses) place act.old levels) run.old }
         ensures ends { EndsAt result act.new (behind_coded place act.old levels) };
-
-    /// Accesses a field behind an index field and a data field.
-    fn access(
-        &self,
-        alloc: Global,
-        run: &mut Running<S>,
-        act: &Activation,
-        access: Access,
-    ) -> Result<Next, Refusal>
-        ensures spent { run.new.1 ≤ run.old.1 }
-        ensures falls { IfOk result (λ n. next_weight n < access_weight access) }
-        ensures means { Leads S.accesses (meaning S.accesses) result act.now run.new
-            (access_run S.accesses (meaning S.accesses) access) run.old }
-        ensures ends { EndsAt result act.now act.now };
 }
 
 /// Begins the term that stands next, with so many levels: it costs a step.

@@ -1,9 +1,11 @@
 //! Values that steps take apart.
+ghost use Rattle.std.specs.Prelude.{◌≡◌};
 ghost use Rattle.ar_space.specs.Change.{Does};
 ghost use Rattle.ar_space.specs.Outcome.{NotMemory};
+ghost use Rattle.aml_meaning.specs.Invocations.{value_of_call};
 ghost use Rattle.aml_meaning.specs.Readings.{integer_in};
 
-use aml_meaning::WorldState;
+use aml_meaning::{Flow, WorldState};
 use aml_objects::Value;
 use ar_space::Refusal;
 
@@ -17,5 +19,18 @@ pub(crate) fn integer_of<S>(world: &WorldState<S>, value: Value) -> Result<u64, 
     match value {
         Value::Integer(number) => Ok(number),
         _ => world.integer_in(value),
+    }
+}
+
+/// The value of a call.
+pub(crate) fn value_of_call(flow: Flow) -> Value
+    ensures { result ≡ value_of_call flow }
+{
+    match flow {
+        Flow::Value(value) => value,
+        Flow::Next => Value::Uninitialized,
+        Flow::Break => Value::Uninitialized,
+        Flow::Continue => Value::Uninitialized,
+        Flow::Return(_) => Value::Uninitialized,
     }
 }

@@ -10,22 +10,7 @@ pub returns-in-None : goal.returns-in-None
 returns-in-None g c = c.entries.invariant ∙ unwound_end g.S.Space.accesses (meaning g.S.Space.accesses) c.args.refusal.now c.entries.stack.act c.entries.stack.entries.items c.entries.run (empty_list c.entries.stack.entries.items (search rules))
 
 pub entries-preserved-in-Some-Frame : goal.entries-preserved-in-Some-Frame
-entries-preserved-in-Some-Frame g c = c.entries.invariant ∙ popped_frame g.S.Space.accesses (meaning g.S.Space.accesses) c.args.refusal.now c.entries.stack.act c.entries.stack.entries.items c.pop.new.self.items c.in-Some-Frame._frame c.in-Some-Frame.field-0 c.entries.run c.in-Some-Frame.ensures.items (search rules)
-
-pub entries-preserved-in-Some-Frame-2 : goal.entries-preserved-in-Some-Frame-2
-entries-preserved-in-Some-Frame-2 g c = c.entries.invariant ∙ popped_frame g.S.Space.accesses (meaning g.S.Space.accesses) c.args.refusal.now c.entries.stack.act c.entries.stack.entries.items c.pop.new.self.items c.in-Some-Frame._frame c.in-Some-Frame.field-0 c.entries.run c.in-Some-Frame.ensures.items (search rules)
-
-pub entries-preserved-in-Some-Frame-3 : goal.entries-preserved-in-Some-Frame-3
-entries-preserved-in-Some-Frame-3 g c = c.entries.invariant ∙ popped_frame g.S.Space.accesses (meaning g.S.Space.accesses) c.args.refusal.now c.entries.stack.act c.entries.stack.entries.items c.pop.new.self.items c.in-Some-Frame._frame c.in-Some-Frame.field-0 c.entries.run c.in-Some-Frame.ensures.items (search rules)
-
-pub entries-preserved-in-Some-Frame-4 : goal.entries-preserved-in-Some-Frame-4
-entries-preserved-in-Some-Frame-4 g c = c.entries.invariant ∙ popped_frame g.S.Space.accesses (meaning g.S.Space.accesses) c.args.refusal.now c.entries.stack.act c.entries.stack.entries.items c.pop.new.self.items c.in-Some-Frame._frame c.in-Some-Frame.field-0 c.entries.run c.in-Some-Frame.ensures.items (search rules)
-
-pub entries-preserved-in-Some-Frame-5 : goal.entries-preserved-in-Some-Frame-5
-entries-preserved-in-Some-Frame-5 g c = c.entries.invariant ∙ popped_frame g.S.Space.accesses (meaning g.S.Space.accesses) c.args.refusal.now c.entries.stack.act c.entries.stack.entries.items c.pop.new.self.items c.in-Some-Frame._frame c.in-Some-Frame.field-0 c.entries.run c.in-Some-Frame.ensures.items (search rules)
-
-pub entries-preserved-in-Some-Frame-6 : goal.entries-preserved-in-Some-Frame-6
-entries-preserved-in-Some-Frame-6 g c = c.entries.invariant ∙ popped_frame g.S.Space.accesses (meaning g.S.Space.accesses) c.args.refusal.now c.entries.stack.act c.entries.stack.entries.items c.pop.new.self.items c.in-Some-Frame._frame c.in-Some-Frame.field-0 c.entries.run c.in-Some-Frame.ensures.items (search rules)
+entries-preserved-in-Some-Frame g c = c.entries.invariant ∙ popped_frame g.S.Space.accesses (meaning g.S.Space.accesses) c.args.refusal.now c.entries.stack.act c.entries.stack.entries.items c.pop.new.self.items c.in-Some-Frame.frame c.in-Some-Frame.field-0 c.entries.run c.in-Some-Frame.ensures.items (search rules)
 
 pub entries-preserved : goal.entries-preserved
 entries-preserved g c =
