@@ -129,6 +129,11 @@ module _ {S : Type 0} {ac : Accesses S} where
   unfolding stop
   does_unasked e m h = record { is = λ ne. h.is ne }
 
+  -- what only memory can refuse
+  pub does_short : {A : Type 0} {r : Outcome A} {e : Refusal} {s s1 : State S × ℕ} (m : Run S A) → Answers {A = Unit {0}} (Err e) (Ok tt) → IsErr r × IsErrAnd r (λ x. x ≡ e) → Does r s1 m s
+  does_short {r = Ok x} m h i = absurd (cc i.0)
+  does_short {r = Err x} m h i = record { is = λ ne. absurd (cc (h.is (λ q. ne (i.1 ∙ q)))) }
+
 pub ruleset asked_whole = (does_known, does_waited, does_unasked)
 
-pub ruleset parted = (running, does_part)
+pub ruleset parted = (running, does_part, does_short)

@@ -44,7 +44,7 @@ byte_is : (bs : List ℕ) (p : Place) → p.rest ≡ bs → (an_integer 1 p).0 �
 byte_is [] p e = rw e refl
 byte_is (x ∷ xs) p e = rw e (omega arith)
 
-count_is : (p : Place) → (an_integer 1 p).0 ≡ first p.rest
+pub count_is : (p : Place) → (an_integer 1 p).0 ≡ first p.rest
 count_is p = byte_is p.rest p refl
 
 -- ---- elements

@@ -12,6 +12,8 @@ pub mod ShortNames
 pub mod ShortTerms
 pub mod BitBytes
 pub mod Elements
+pub mod Declaring
+pub mod DeclaringFields
 pub mod Forming
 pub mod Addressing
 pub mod Indexing

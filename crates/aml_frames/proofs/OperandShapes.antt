@@ -9,25 +9,35 @@ use Rattle.aml_grammar.specs.Apart.{code_of}
 use Rattle.aml_grammar.specs.Grammar.{is_if, is_nothing, kinds_of}
 use Rattle.aml_grammar.specs.Shape.{parts_of}
 use Rattle.aml_grammar.specs.Table.{table}
-use Rattle.aml_grammar.specs.Tree.{term, Part, number, bytes, inner, list, no_parts, part}
-use Rattle.aml_marked.specs.Marked.{Place, Below, Walk, to_part, list_part, over, after, gives, inside, an_operand, all_operands, of_row, with_row, a_target, a_super_name, all_items, all_left, a_text, an_integer, maybe_else}
+use Rattle.aml_grammar.specs.Tree.{term, Part, name, number, bytes, inner, list, no_parts, part}
+use Rattle.aml_marked.specs.Marked.{Place, Below, Walk, to_part, list_part, over, after, gives, inside, an_operand, all_operands, of_row, with_row, a_name, a_target, a_super_name, all_items, all_left, a_text, an_integer, maybe_else}
 use Rattle.aml_scan.specs.RowsAt.{row_at}
 use Rattle.aml_scan.specs.declared.row_places.RowPlace.{RowPlace}
 use Rattle.aml_meaning.specs.declared.term_kind.TermKind.{TermKind}
 use Rattle.aml_meaning.specs.declared.term_kind.TermKind.TheVariants as term
 use Rattle.aml_meaning.specs.declared.term_kind.DataKind.TheVariants as datas
+use Rattle.aml_meaning.specs.declared.term_kind.DeclarationKind.TheVariants as declaration
+use Rattle.aml_meaning.specs.declared.term_kind.RegionKind.TheVariants as region
 use Rattle.aml_meaning.specs.declared.term_kind.OperatorKind.TheVariants as operator
 use Rattle.aml_meaning.specs.declared.term_kind.StatementKind.TheVariants as statement
 use Rattle.aml_meaning.specs.declared.store_target.TargetKind.{TargetKind}
 use Rattle.aml_meaning.specs.declared.store_target.TargetKind.TheVariants as target
 use Rattle.aml_meaning.specs.Terms.{kind_of, target_kind}
 use Rattle.aml_frames.specs.Operands.{elements_at, behind_one, behind_two, inside_at, outside_at, items_at, row_kind}
+use Rattle.aml_frames.specs.Declarations.{datum_at, scope_at, power_resource_at, processor_at}
+use Rattle.aml_frames.specs.RegionTerms.{behind_space, region_at, sized_field_at, bits_field_at}
 
 -- ---- operands that a row may have
 
 abbrev is_argument : OperandKind → Bool
 is_argument kinds.TermArg = true
+is_argument kinds.DataObject = true
 is_argument _ = false
+
+abbrev is_name : OperandKind → Bool
+is_name kinds.ScopeName = true
+is_name kinds.DeclaredName = true
+is_name _ = false
 
 abbrev is_super : OperandKind → Bool
 is_super kinds.SuperName = true
@@ -110,6 +120,15 @@ fits (term.Statement statement.Release) row = is_plain row and is_super row.3.0 
 fits (term.Statement statement.Notify) row = is_plain row and is_super row.3.0 and is_argument row.3.1 and is_nothing row.3.2
 fits (term.Statement statement.Pause) row = is_plain row and is_argument row.3.0 and is_nothing row.3.1
 fits (term.Statement statement.Fatal) row = is_plain row and is_byte row.3.0 and is_dword row.3.1 and is_argument row.3.2 and is_nothing row.3.3
+fits (term.Declaration declaration.Scope) row = row.2 and opposite (is_if row.0) and is_name row.3.0 and is_list row.3.1 and is_nothing row.3.2
+fits (term.Declaration declaration.Device) row = row.2 and opposite (is_if row.0) and is_name row.3.0 and is_list row.3.1 and is_nothing row.3.2
+fits (term.Declaration declaration.ThermalZone) row = row.2 and opposite (is_if row.0) and is_name row.3.0 and is_list row.3.1 and is_nothing row.3.2
+fits (term.Declaration declaration.PowerResource) row = row.2 and opposite (is_if row.0) and is_name row.3.0 and is_byte row.3.1 and is_word row.3.2 and is_list row.3.3 and is_nothing row.3.4
+fits (term.Declaration declaration.Processor) row = row.2 and opposite (is_if row.0) and is_name row.3.0 and is_byte row.3.1 and is_dword row.3.2 and is_byte row.3.3 and is_list row.3.4 and is_nothing row.3.5
+fits (term.Declaration declaration.Name) row = is_plain row and is_name row.3.0 and is_argument row.3.1 and is_nothing row.3.2
+fits (term.Region region.OperationRegion) row = is_plain row and is_name row.3.0 and is_byte row.3.1 and is_argument row.3.2 and is_argument row.3.3 and is_nothing row.3.4
+fits (term.Region (region.SizedBufferField size)) row = is_plain row and is_argument row.3.0 and is_argument row.3.1 and is_name row.3.2 and is_nothing row.3.3
+fits (term.Region region.BufferField) row = is_plain row and is_argument row.3.0 and is_argument row.3.1 and is_argument row.3.2 and is_name row.3.3 and is_nothing row.3.4
 fits _ row = true
 
 -- ---- every row has the operands of its kind
@@ -148,7 +167,14 @@ module _ (b : Below) where
   argument_reads : (k : OperandKind) → is_argument k ≡ true → Reads k (to_part inner (b false))
   unfolding an_operand
   argument_reads kinds.TermArg e = record { some = refl; is = refl }
+  argument_reads kinds.DataObject e = record { some = refl; is = refl }
   argument_reads _ e = absurd (cc e)
+
+  name_reads : (k : OperandKind) → is_name k ≡ true → Reads k (to_part name a_name)
+  unfolding an_operand
+  name_reads kinds.ScopeName e = record { some = refl; is = refl }
+  name_reads kinds.DeclaredName e = record { some = refl; is = refl }
+  name_reads _ e = absurd (cc e)
 
   super_reads : (k : OperandKind) → is_super k ≡ true → Reads k (a_super_name b)
   unfolding an_operand
@@ -217,6 +243,9 @@ module _ (b : Below) where
 
   then_four : {k l m o : OperandKind} {w x y z : Walk Part} (j : OperandKind) (ks : List OperandKind) (p : Place) → Reads k w → Reads l x → Reads m y → Reads o z → is_nothing j ≡ true → all_operands b (k ∷ l ∷ m ∷ o ∷ j ∷ ks) p ≡ ((w p).0 ∷ (x (w p).1).0 ∷ (y (x (w p).1).1).0 ∷ (z (y (x (w p).1).1).1).0 ∷ [], (z (y (x (w p).1).1).1).1)
   then_four {l = l} {m = m} {o = o} j ks p r s t u n = one_more (l ∷ m ∷ o ∷ j ∷ ks) p r ∙ rw (then_three j ks _ s t u n) refl
+
+  then_five : {k l m o h : OperandKind} {w x y z v : Walk Part} (j : OperandKind) (ks : List OperandKind) (p : Place) → Reads k w → Reads l x → Reads m y → Reads o z → Reads h v → is_nothing j ≡ true → all_operands b (k ∷ l ∷ m ∷ o ∷ h ∷ j ∷ ks) p ≡ ((w p).0 ∷ (x (w p).1).0 ∷ (y (x (w p).1).1).0 ∷ (z (y (x (w p).1).1).1).0 ∷ (v (z (y (x (w p).1).1).1).1).0 ∷ [], (v (z (y (x (w p).1).1).1).1).1)
+  then_five {l = l} {m = m} {o = o} {h = h} j ks p r s t u i n = one_more (l ∷ m ∷ o ∷ h ∷ j ∷ ks) p r ∙ rw (then_four j ks _ s t u i n) refl
 
   -- ---- whole terms
 
@@ -324,6 +353,41 @@ module _ (b : Below) where
       → with_row b (Some row) p ≡ (term (codes.Opcode row.0) (part (inner (b false (inside_at p)).0) (part (list (elements_at b (behind_one b (inside_at p)))) no_parts)), outside_at p)
   a_var_package row p f = let x = both _ _ f in let u = both _ _ x.1 in let y = both _ _ u.1 in let z = both _ _ y.1 in
       packed_row row p x.0 (not_true _ u.0) ∙ rw (then_two _ _ (inside_at p) (argument_reads row.3.0 y.0) (element_list_reads row.3.1 z.0) z.1) refl
+
+  pub a_datum : (row : Row) (p : Place) → (is_plain row and is_name row.3.0 and is_argument row.3.1 and is_nothing row.3.2) ≡ true
+      → with_row b (Some row) p ≡ (term (codes.Opcode row.0) (datum_at b p), behind_one b (a_name p).1)
+  a_datum row p f = let x = both _ _ f in let y = both _ _ x.1 in let z = both _ _ y.1 in
+      plain_row row p x.0 ∙ rw (then_two _ _ p (name_reads row.3.0 y.0) (argument_reads row.3.1 z.0) z.1) refl
+
+  pub a_scope : (row : Row) (p : Place) → (row.2 and opposite (is_if row.0) and is_name row.3.0 and is_list row.3.1 and is_nothing row.3.2) ≡ true
+      → with_row b (Some row) p ≡ (term (codes.Opcode row.0) (scope_at b p), outside_at p)
+  a_scope row p f = let x = both _ _ f in let u = both _ _ x.1 in let y = both _ _ u.1 in let z = both _ _ y.1 in
+      packed_row row p x.0 (not_true _ u.0) ∙ rw (then_two _ _ (inside_at p) (name_reads row.3.0 y.0) (list_reads row.3.1 z.0) z.1) refl
+
+  pub a_power_resource : (row : Row) (p : Place) → (row.2 and opposite (is_if row.0) and is_name row.3.0 and is_byte row.3.1 and is_word row.3.2 and is_list row.3.3 and is_nothing row.3.4) ≡ true
+      → with_row b (Some row) p ≡ (term (codes.Opcode row.0) (power_resource_at b p), outside_at p)
+  a_power_resource row p f = let x = both _ _ f in let u = both _ _ x.1 in let y = both _ _ u.1 in let z = both _ _ y.1 in let v = both _ _ z.1 in let w = both _ _ v.1 in
+      packed_row row p x.0 (not_true _ u.0) ∙ rw (then_four _ _ (inside_at p) (name_reads row.3.0 y.0) (byte_reads row.3.1 z.0) (word_reads row.3.2 v.0) (list_reads row.3.3 w.0) w.1) refl
+
+  pub a_processor : (row : Row) (p : Place) → (row.2 and opposite (is_if row.0) and is_name row.3.0 and is_byte row.3.1 and is_dword row.3.2 and is_byte row.3.3 and is_list row.3.4 and is_nothing row.3.5) ≡ true
+      → with_row b (Some row) p ≡ (term (codes.Opcode row.0) (processor_at b p), outside_at p)
+  a_processor row p f = let x = both _ _ f in let u = both _ _ x.1 in let y = both _ _ u.1 in let z = both _ _ y.1 in let v = both _ _ z.1 in let w = both _ _ v.1 in let t = both _ _ w.1 in
+      packed_row row p x.0 (not_true _ u.0) ∙ rw (then_five _ _ (inside_at p) (name_reads row.3.0 y.0) (byte_reads row.3.1 z.0) (dword_reads row.3.2 v.0) (byte_reads row.3.3 w.0) (list_reads row.3.4 t.0) t.1) refl
+
+  pub a_region : (row : Row) (p : Place) → (is_plain row and is_name row.3.0 and is_byte row.3.1 and is_argument row.3.2 and is_argument row.3.3 and is_nothing row.3.4) ≡ true
+      → with_row b (Some row) p ≡ (term (codes.Opcode row.0) (region_at b p), behind_two b (behind_space p))
+  a_region row p f = let x = both _ _ f in let y = both _ _ x.1 in let z = both _ _ y.1 in let v = both _ _ z.1 in let w = both _ _ v.1 in
+      plain_row row p x.0 ∙ rw (then_four _ _ p (name_reads row.3.0 y.0) (byte_reads row.3.1 z.0) (argument_reads row.3.2 v.0) (argument_reads row.3.3 w.0) w.1) refl
+
+  pub a_sized_field : (row : Row) (p : Place) → (is_plain row and is_argument row.3.0 and is_argument row.3.1 and is_name row.3.2 and is_nothing row.3.3) ≡ true
+      → with_row b (Some row) p ≡ (term (codes.Opcode row.0) (sized_field_at b p), (a_name (behind_two b p)).1)
+  a_sized_field row p f = let x = both _ _ f in let y = both _ _ x.1 in let z = both _ _ y.1 in let v = both _ _ z.1 in
+      plain_row row p x.0 ∙ rw (then_three _ _ p (argument_reads row.3.0 y.0) (argument_reads row.3.1 z.0) (name_reads row.3.2 v.0) v.1) refl
+
+  pub a_bits_field : (row : Row) (p : Place) → (is_plain row and is_argument row.3.0 and is_argument row.3.1 and is_argument row.3.2 and is_name row.3.3 and is_nothing row.3.4) ≡ true
+      → with_row b (Some row) p ≡ (term (codes.Opcode row.0) (bits_field_at b p), (a_name (behind_one b (behind_two b p))).1)
+  a_bits_field row p f = let x = both _ _ f in let y = both _ _ x.1 in let z = both _ _ y.1 in let v = both _ _ z.1 in let w = both _ _ v.1 in
+      plain_row row p x.0 ∙ rw (then_four _ _ p (argument_reads row.3.0 y.0) (argument_reads row.3.1 z.0) (argument_reads row.3.2 v.0) (name_reads row.3.3 w.0) w.1) refl
 
 -- a row of a kind that is evaluated stands in the table, and has the operands of its kind
 pub stands : (k : TermKind) (o : RowPlace) → row_kind (row_at o) ≡ k → row_kind None ≢ k → (row : Row) × ((row_at o ≡ Some row) × (fits k row ≡ true))

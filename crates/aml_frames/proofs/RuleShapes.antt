@@ -1,5 +1,5 @@
 -- A term whose opcode was read has the rule of its kind, over the operands that stand there.
-use Rattle.std.specs.Prelude.{◌≡◌, ℕ, List, Option, Some, None, refl}
+use Rattle.std.specs.Prelude.{◌≡◌, ◌≢◌, ℕ, List, Option, Some, None, refl}
 use Rattle.std.proofs.Common.{◌∙◌, ap}
 use Rattle.ar_space.specs.Accesses.{Accesses}
 use Rattle.aml_path.specs.declared.segment.Seg.{Seg}
@@ -8,7 +8,7 @@ use Rattle.aml_grammar.specs.declared.opcode.TermCode.TheVariants as codes
 use Rattle.aml_grammar.specs.declared.kinds.Row.{Row}
 use Rattle.aml_grammar.specs.Tree.{Tree, term, Part, null, name, number, bytes, inner, list, Parts, no_parts}
 use Rattle.aml_grammar.specs.Apart.{code_of}
-use Rattle.aml_marked.specs.Marked.{Place, Below, a_text, with_row}
+use Rattle.aml_marked.specs.Marked.{Place, Below, a_name, a_text, with_row}
 use Rattle.aml_scan.specs.RowsAt.{row_at}
 use Rattle.aml_scan.specs.declared.row_places.RowPlace.{RowPlace}
 use Rattle.aml_meaning.specs.declared.flow.Flow.{Flow}
@@ -18,8 +18,12 @@ use Rattle.aml_meaning.specs.declared.term_kind.TermKind.{TermKind}
 use Rattle.aml_meaning.specs.declared.term_kind.TermKind.TheVariants as kinds
 use Rattle.aml_meaning.specs.declared.term_kind.DataKind.{DataKind}
 use Rattle.aml_meaning.specs.declared.term_kind.DataKind.TheVariants as datas
+use Rattle.aml_meaning.specs.declared.term_kind.DeclarationKind.{DeclarationKind}
+use Rattle.aml_meaning.specs.declared.term_kind.DeclarationKind.TheVariants as declarations
 use Rattle.aml_meaning.specs.declared.term_kind.OperatorKind.{OperatorKind}
 use Rattle.aml_meaning.specs.declared.term_kind.OperatorKind.TheVariants as operators
+use Rattle.aml_meaning.specs.declared.term_kind.RegionKind.{RegionKind}
+use Rattle.aml_meaning.specs.declared.term_kind.RegionKind.TheVariants as regions
 use Rattle.aml_meaning.specs.declared.term_kind.StatementKind.{StatementKind}
 use Rattle.aml_meaning.specs.declared.term_kind.StatementKind.TheVariants as statements
 use Rattle.aml_meaning.specs.Run.{Run}
@@ -27,11 +31,15 @@ use Rattle.aml_meaning.specs.Tasks.{Task, value_at, two_values}
 use Rattle.aml_meaning.specs.Terms.{target_kind, kind_of}
 use Rattle.aml_meaning.specs.TargetTerms.{target_at, targeted, name_target}
 use Rattle.aml_meaning.specs.DataTerms.{integer_rule, string_rule, buffer_rule, package_rule, var_package_rule, data_rule}
+use Rattle.aml_meaning.specs.DeclarationTerms.{declaring, name_rule, alias_rule, method_rule, scope_rule, new_scope, declaration_rule}
+use Rattle.aml_meaning.specs.FieldTerms.{region_rule, field_list_rule, index_list_rule, sized_field_rule, bits_field_rule, region_term_rule}
 use Rattle.aml_meaning.specs.OperatorTerms.{store_rule, copy_rule, two_rule, divide_rule, one_rule, test_rule, not_rule, count_rule, referent_of_target, referent_by_kind, referent_by, size_rule, type_rule, acquire_rule, reference_rule, dereference_rule, sought_name, sought_target, reference_stored, conditional_rule, operator_rule}
 use Rattle.aml_meaning.specs.StatementTerms.{if_rule, else_rule, while_rule, return_rule, release_rule, notify_rule, pause_rule, fatal_rule, statement_rule}
 use Rattle.aml_meaning.specs.Evaluation.{kind_rule, code_rule}
-use Rattle.aml_frames.specs.Operands.{row_kind, outside_at, text_at, buffer_at, package_at, var_package_at, operator_parts, behind_operator, statement_parts, behind_statement, operator_tree, statement_tree, data_tree, behind_data}
-use Rattle.aml_frames.proofs.OperandShapes.{stands, no_operand, an_argument, a_super, argument_super, argument_target, two_arguments, arguments_target, arguments_targets, super_word, super_target, super_argument, numbers_argument, an_if, an_else_row, a_while, a_string, a_buffer, a_package, a_var_package, code_stands}
+use Rattle.aml_frames.specs.Declarations.{datum_at, scope_at, power_resource_at, processor_at, declaration_tree, behind_declaration}
+use Rattle.aml_frames.specs.RegionTerms.{behind_space, region_at, sized_field_at, bits_field_at, region_tree, behind_region}
+use Rattle.aml_frames.specs.Operands.{row_kind, behind_one, behind_two, outside_at, text_at, buffer_at, package_at, var_package_at, operator_parts, behind_operator, statement_parts, behind_statement, operator_tree, statement_tree, data_tree, behind_data}
+use Rattle.aml_frames.proofs.OperandShapes.{stands, no_operand, an_argument, a_super, argument_super, argument_target, two_arguments, arguments_target, arguments_targets, super_word, super_target, super_argument, numbers_argument, an_if, an_else_row, a_while, a_string, a_buffer, a_package, a_var_package, a_datum, a_scope, a_power_resource, a_processor, a_region, a_sized_field, a_bits_field, code_stands}
 
 -- ---- the operands of a term by its kind
 
@@ -88,6 +96,33 @@ package_shape b o p e = let x = stands (kinds.Data datas.Package) o e (λ h. abs
 var_package_shape : (b : Below) (o : RowPlace) (p : Place) → row_kind (row_at o) ≡ kinds.Data datas.VarPackage → Shape b o p (var_package_at b p) (outside_at p)
 var_package_shape b o p e = let x = stands (kinds.Data datas.VarPackage) o e (λ h. absurd (cc h)) in shaped x.0 x.1.0 (a_var_package b x.0 p x.1.1)
 
+datum_shape : (b : Below) (o : RowPlace) (p : Place) → row_kind (row_at o) ≡ kinds.Declaration declarations.Name → Shape b o p (datum_at b p) (behind_one b (a_name p).1)
+datum_shape b o p e = let x = stands (kinds.Declaration declarations.Name) o e (λ h. absurd (cc h)) in shaped x.0 x.1.0 (a_datum b x.0 p x.1.1)
+
+scope_shape : (b : Below) (o : RowPlace) (p : Place) → row_kind (row_at o) ≡ kinds.Declaration declarations.Scope → Shape b o p (scope_at b p) (outside_at p)
+scope_shape b o p e = let x = stands (kinds.Declaration declarations.Scope) o e (λ h. absurd (cc h)) in shaped x.0 x.1.0 (a_scope b x.0 p x.1.1)
+
+device_shape : (b : Below) (o : RowPlace) (p : Place) → row_kind (row_at o) ≡ kinds.Declaration declarations.Device → Shape b o p (scope_at b p) (outside_at p)
+device_shape b o p e = let x = stands (kinds.Declaration declarations.Device) o e (λ h. absurd (cc h)) in shaped x.0 x.1.0 (a_scope b x.0 p x.1.1)
+
+thermal_zone_shape : (b : Below) (o : RowPlace) (p : Place) → row_kind (row_at o) ≡ kinds.Declaration declarations.ThermalZone → Shape b o p (scope_at b p) (outside_at p)
+thermal_zone_shape b o p e = let x = stands (kinds.Declaration declarations.ThermalZone) o e (λ h. absurd (cc h)) in shaped x.0 x.1.0 (a_scope b x.0 p x.1.1)
+
+power_resource_shape : (b : Below) (o : RowPlace) (p : Place) → row_kind (row_at o) ≡ kinds.Declaration declarations.PowerResource → Shape b o p (power_resource_at b p) (outside_at p)
+power_resource_shape b o p e = let x = stands (kinds.Declaration declarations.PowerResource) o e (λ h. absurd (cc h)) in shaped x.0 x.1.0 (a_power_resource b x.0 p x.1.1)
+
+processor_shape : (b : Below) (o : RowPlace) (p : Place) → row_kind (row_at o) ≡ kinds.Declaration declarations.Processor → Shape b o p (processor_at b p) (outside_at p)
+processor_shape b o p e = let x = stands (kinds.Declaration declarations.Processor) o e (λ h. absurd (cc h)) in shaped x.0 x.1.0 (a_processor b x.0 p x.1.1)
+
+region_shape : (b : Below) (o : RowPlace) (p : Place) → row_kind (row_at o) ≡ kinds.Region regions.OperationRegion → Shape b o p (region_at b p) (behind_two b (behind_space p))
+region_shape b o p e = let x = stands (kinds.Region regions.OperationRegion) o e (λ h. absurd (cc h)) in shaped x.0 x.1.0 (a_region b x.0 p x.1.1)
+
+sized_field_shape : (b : Below) (size : _) (o : RowPlace) (p : Place) → row_kind (row_at o) ≡ kinds.Region (regions.SizedBufferField size) → Shape b o p (sized_field_at b p) (a_name (behind_two b p)).1
+sized_field_shape b size o p e = let x = stands (kinds.Region (regions.SizedBufferField size)) o e (λ h. absurd (cc h)) in shaped x.0 x.1.0 (a_sized_field b x.0 p x.1.1)
+
+bits_field_shape : (b : Below) (o : RowPlace) (p : Place) → row_kind (row_at o) ≡ kinds.Region regions.BufferField → Shape b o p (bits_field_at b p) (a_name (behind_one b (behind_two b p))).1
+bits_field_shape b o p e = let x = stands (kinds.Region regions.BufferField) o e (λ h. absurd (cc h)) in shaped x.0 x.1.0 (a_bits_field b x.0 p x.1.1)
+
 -- ---- rules don't ask for the opcode
 
 module _ {S : Type 0} (accesses : Accesses S) (ev : Task → Run S Flow) (scope : List Seg) (depth : ℕ) (c d : TermCode) where
@@ -141,6 +176,28 @@ module _ {S : Type 0} (accesses : Accesses S) (ev : Task → Run S Flow) (scope 
   same_data datas.Package ps = refl
   same_data datas.VarPackage ps = refl
 
+  pub same_declaration : (k : DeclarationKind) (ps : Parts) → declaration_rule ev k scope depth (term c ps) ≡ declaration_rule ev k scope depth (term d ps)
+  unfolding declaring name_rule alias_rule method_rule scope_rule new_scope
+  same_declaration declarations.Scope ps = refl
+  same_declaration declarations.Device ps = refl
+  same_declaration declarations.Processor ps = refl
+  same_declaration declarations.PowerResource ps = refl
+  same_declaration declarations.ThermalZone ps = refl
+  same_declaration declarations.Name ps = refl
+  same_declaration declarations.Alias ps = refl
+  same_declaration declarations.External ps = refl
+  same_declaration declarations.Method ps = refl
+  same_declaration declarations.Mutex ps = refl
+  same_declaration declarations.Event ps = refl
+
+  pub same_region : (k : RegionKind) (ps : Parts) → region_term_rule ev k scope depth (term c ps) ≡ region_term_rule ev k scope depth (term d ps)
+  unfolding declaring region_rule field_list_rule index_list_rule sized_field_rule bits_field_rule value_at two_values
+  same_region regions.OperationRegion ps = refl
+  same_region regions.Field ps = refl
+  same_region regions.IndexField ps = refl
+  same_region (regions.SizedBufferField size) ps = refl
+  same_region regions.BufferField ps = refl
+
   pub same_statement : (k : StatementKind) (ps : Parts) → statement_rule ev k scope depth (term c ps) ≡ statement_rule ev k scope depth (term d ps)
   unfolding if_rule else_rule while_rule return_rule release_rule notify_rule pause_rule fatal_rule value_at name_target
   same_statement statements.If ps = refl
@@ -177,13 +234,16 @@ module _ {S : Type 0} (accesses : Accesses S) (ev : Task → Run S Flow) (scope 
       ∙ coded_as x.row ps (kinds.Data k) (row_of_kind (kinds.Data k) x.there e)
       ∙ same_data accesses ev scope depth (codes.Opcode x.row.0) codes.Name k ps
 
-  integer_is : (o : RowPlace) (p : Place) → row_kind (row_at o) ≡ kinds.Data datas.Integer → code_rule accesses ev (code_of (with_row b (row_at o) p).0) scope depth (with_row b (row_at o) p).0 ≡ data_rule ev datas.Integer scope depth (with_row b (row_at o) p).0
-  integer_is o p e =
-      let x = stands (kinds.Data datas.Integer) o e (λ h. absurd (cc h)) in
+  -- a term whose operands are read from it
+  whole_is : (k : TermKind) (o : RowPlace) (p : Place) → row_kind (row_at o) ≡ k → row_kind None ≢ k → (row : Row) × (code_rule accesses ev (code_of (with_row b (row_at o) p).0) scope depth (with_row b (row_at o) p).0 ≡ kind_rule accesses ev k row.0 scope depth (with_row b (row_at o) p).0)
+  whole_is k o p e some =
+      let x = stands k o e some in
       let t = (with_row b (row_at o) p).0 in
       let code : code_of t ≡ codes.Opcode x.0.0 = ap (λ r. code_of (with_row b r p).0) x.1.0 ∙ code_stands b x.0 p _ refl in
-      ap (λ y. code_rule accesses ev y scope depth t) code
-      ∙ ap (λ y. kind_rule accesses ev y x.0.0 scope depth t) (row_of_kind (kinds.Data datas.Integer) x.1.0 e)
+      (x.0, ap (λ y. code_rule accesses ev y scope depth t) code ∙ ap (λ y. kind_rule accesses ev y x.0.0 scope depth t) (row_of_kind k x.1.0 e))
+
+  integer_is : (o : RowPlace) (p : Place) → row_kind (row_at o) ≡ kinds.Data datas.Integer → code_rule accesses ev (code_of (with_row b (row_at o) p).0) scope depth (with_row b (row_at o) p).0 ≡ data_rule ev datas.Integer scope depth (with_row b (row_at o) p).0
+  integer_is o p e = (whole_is (kinds.Data datas.Integer) o p e (λ h. absurd (cc h))).1
 
   pub data_is : (k : DataKind) (o : RowPlace) (p : Place) → row_kind (row_at o) ≡ kinds.Data k → code_rule accesses ev (code_of (with_row b (row_at o) p).0) scope depth (with_row b (row_at o) p).0 ≡ data_rule ev k scope depth (data_tree b k o p)
   data_is (datas.Constant n) o p e = formed_is (datas.Constant n) o p no_parts p e (constant_shape b n o p e)
@@ -192,6 +252,38 @@ module _ {S : Type 0} (accesses : Accesses S) (ev : Task → Run S Flow) (scope 
   data_is datas.Buffer o p e = formed_is datas.Buffer o p (buffer_at b p) (outside_at p) e (buffer_shape b o p e)
   data_is datas.Package o p e = formed_is datas.Package o p (package_at b p) (outside_at p) e (package_shape b o p e)
   data_is datas.VarPackage o p e = formed_is datas.VarPackage o p (var_package_at b p) (outside_at p) e (var_package_shape b o p e)
+
+  declared_is : (k : DeclarationKind) (o : RowPlace) (p : Place) (ps : Parts) (q : Place) → row_kind (row_at o) ≡ kinds.Declaration k → Shape b o p ps q → code_rule accesses ev (code_of (with_row b (row_at o) p).0) scope depth (with_row b (row_at o) p).0 ≡ declaration_rule ev k scope depth (term codes.Name ps)
+  declared_is k o p ps q e x =
+      ap (λ (y : Tree × Place). code_rule accesses ev (code_of y.0) scope depth y.0) x.is
+      ∙ coded_as x.row ps (kinds.Declaration k) (row_of_kind (kinds.Declaration k) x.there e)
+      ∙ same_declaration accesses ev scope depth (codes.Opcode x.row.0) codes.Name k ps
+
+  pub declaration_is : (k : DeclarationKind) (o : RowPlace) (p : Place) → row_kind (row_at o) ≡ kinds.Declaration k → code_rule accesses ev (code_of (with_row b (row_at o) p).0) scope depth (with_row b (row_at o) p).0 ≡ declaration_rule ev k scope depth (declaration_tree b k o p)
+  declaration_is declarations.Scope o p e = declared_is declarations.Scope o p (scope_at b p) (outside_at p) e (scope_shape b o p e)
+  declaration_is declarations.Device o p e = declared_is declarations.Device o p (scope_at b p) (outside_at p) e (device_shape b o p e)
+  declaration_is declarations.Processor o p e = declared_is declarations.Processor o p (processor_at b p) (outside_at p) e (processor_shape b o p e)
+  declaration_is declarations.PowerResource o p e = declared_is declarations.PowerResource o p (power_resource_at b p) (outside_at p) e (power_resource_shape b o p e)
+  declaration_is declarations.ThermalZone o p e = declared_is declarations.ThermalZone o p (scope_at b p) (outside_at p) e (thermal_zone_shape b o p e)
+  declaration_is declarations.Name o p e = declared_is declarations.Name o p (datum_at b p) (behind_one b (a_name p).1) e (datum_shape b o p e)
+  declaration_is declarations.Alias o p e = (whole_is (kinds.Declaration declarations.Alias) o p e (λ h. absurd (cc h))).1
+  declaration_is declarations.External o p e = (whole_is (kinds.Declaration declarations.External) o p e (λ h. absurd (cc h))).1
+  declaration_is declarations.Method o p e = (whole_is (kinds.Declaration declarations.Method) o p e (λ h. absurd (cc h))).1
+  declaration_is declarations.Mutex o p e = (whole_is (kinds.Declaration declarations.Mutex) o p e (λ h. absurd (cc h))).1
+  declaration_is declarations.Event o p e = (whole_is (kinds.Declaration declarations.Event) o p e (λ h. absurd (cc h))).1
+
+  region_declared_is : (k : RegionKind) (o : RowPlace) (p : Place) (ps : Parts) (q : Place) → row_kind (row_at o) ≡ kinds.Region k → Shape b o p ps q → code_rule accesses ev (code_of (with_row b (row_at o) p).0) scope depth (with_row b (row_at o) p).0 ≡ region_term_rule ev k scope depth (term codes.Name ps)
+  region_declared_is k o p ps q e x =
+      ap (λ (y : Tree × Place). code_rule accesses ev (code_of y.0) scope depth y.0) x.is
+      ∙ coded_as x.row ps (kinds.Region k) (row_of_kind (kinds.Region k) x.there e)
+      ∙ same_region accesses ev scope depth (codes.Opcode x.row.0) codes.Name k ps
+
+  pub region_is : (k : RegionKind) (o : RowPlace) (p : Place) → row_kind (row_at o) ≡ kinds.Region k → code_rule accesses ev (code_of (with_row b (row_at o) p).0) scope depth (with_row b (row_at o) p).0 ≡ region_term_rule ev k scope depth (region_tree b k o p)
+  region_is regions.OperationRegion o p e = region_declared_is regions.OperationRegion o p (region_at b p) (behind_two b (behind_space p)) e (region_shape b o p e)
+  region_is regions.Field o p e = (whole_is (kinds.Region regions.Field) o p e (λ h. absurd (cc h))).1
+  region_is regions.IndexField o p e = (whole_is (kinds.Region regions.IndexField) o p e (λ h. absurd (cc h))).1
+  region_is (regions.SizedBufferField size) o p e = region_declared_is (regions.SizedBufferField size) o p (sized_field_at b p) (a_name (behind_two b p)).1 e (sized_field_shape b size o p e)
+  region_is regions.BufferField o p e = region_declared_is regions.BufferField o p (bits_field_at b p) (a_name (behind_one b (behind_two b p))).1 e (bits_field_shape b o p e)
 
   pub statement_is : (k : StatementKind) (o : RowPlace) (p : Place) → row_kind (row_at o) ≡ kinds.Statement k → code_rule accesses ev (code_of (with_row b (row_at o) p).0) scope depth (with_row b (row_at o) p).0 ≡ statement_rule ev k scope depth (statement_tree b k p)
   statement_is k o p e =
@@ -213,3 +305,23 @@ behind_data_is b datas.String o p e = let x = string_shape b o p e in ap (λ (y 
 behind_data_is b datas.Buffer o p e = let x = buffer_shape b o p e in ap (λ (y : Tree × Place). y.1) x.is
 behind_data_is b datas.Package o p e = let x = package_shape b o p e in ap (λ (y : Tree × Place). y.1) x.is
 behind_data_is b datas.VarPackage o p e = let x = var_package_shape b o p e in ap (λ (y : Tree × Place). y.1) x.is
+
+pub behind_declaration_is : (b : Below) (k : DeclarationKind) (o : RowPlace) (p : Place) → row_kind (row_at o) ≡ kinds.Declaration k → (with_row b (row_at o) p).1 ≡ behind_declaration b k o p
+behind_declaration_is b declarations.Scope o p e = let x = scope_shape b o p e in ap (λ (y : Tree × Place). y.1) x.is
+behind_declaration_is b declarations.Device o p e = let x = device_shape b o p e in ap (λ (y : Tree × Place). y.1) x.is
+behind_declaration_is b declarations.Processor o p e = let x = processor_shape b o p e in ap (λ (y : Tree × Place). y.1) x.is
+behind_declaration_is b declarations.PowerResource o p e = let x = power_resource_shape b o p e in ap (λ (y : Tree × Place). y.1) x.is
+behind_declaration_is b declarations.ThermalZone o p e = let x = thermal_zone_shape b o p e in ap (λ (y : Tree × Place). y.1) x.is
+behind_declaration_is b declarations.Name o p e = let x = datum_shape b o p e in ap (λ (y : Tree × Place). y.1) x.is
+behind_declaration_is b declarations.Alias o p e = refl
+behind_declaration_is b declarations.External o p e = refl
+behind_declaration_is b declarations.Method o p e = refl
+behind_declaration_is b declarations.Mutex o p e = refl
+behind_declaration_is b declarations.Event o p e = refl
+
+pub behind_region_is : (b : Below) (k : RegionKind) (o : RowPlace) (p : Place) → row_kind (row_at o) ≡ kinds.Region k → (with_row b (row_at o) p).1 ≡ behind_region b k o p
+behind_region_is b regions.OperationRegion o p e = let x = region_shape b o p e in ap (λ (y : Tree × Place). y.1) x.is
+behind_region_is b regions.Field o p e = refl
+behind_region_is b regions.IndexField o p e = refl
+behind_region_is b (regions.SizedBufferField size) o p e = let x = sized_field_shape b size o p e in ap (λ (y : Tree × Place). y.1) x.is
+behind_region_is b regions.BufferField o p e = let x = bits_field_shape b o p e in ap (λ (y : Tree × Place). y.1) x.is

@@ -19,7 +19,6 @@ use Rattle.aml_convert.specs.Operators.{is_true}
 use Rattle.aml_objects.specs.declared.value.Value.{Value}
 use Rattle.aml_meaning.specs.declared.flow.Flow.{Flow}
 use Rattle.aml_meaning.specs.declared.flow.Flow.TheVariants as flow
-use Rattle.aml_meaning.specs.declared.term_kind.TermKind.{TermKind}
 use Rattle.aml_meaning.specs.declared.term_kind.TermKind.TheVariants as kinds
 use Rattle.aml_meaning.specs.declared.term_kind.DataKind.{DataKind}
 use Rattle.aml_meaning.specs.declared.term_kind.OperatorKind.{OperatorKind}
@@ -50,7 +49,7 @@ use Rattle.aml_frames.specs.declared.frames.Loop.{Loop}
 use Rattle.aml_frames.specs.declared.frames.Next.{Next}
 use Rattle.aml_frames.specs.declared.frames.Next.TheVariants as next
 use Rattle.aml_frames.specs.Places.{Site, at_place, terms, next_term, behind_term}
-use Rattle.aml_frames.specs.Operands.{inside_at, outside_at, behind_one, items_at, row_kind, declares, operator_tree, statement_tree}
+use Rattle.aml_frames.specs.Operands.{inside_at, outside_at, behind_one, items_at, row_kind, operator_tree, statement_tree}
 use Rattle.aml_frames.specs.Data.{data_run, behind_data_at}
 use Rattle.aml_frames.specs.Follow.{called, arguments_left, behind_arguments, place_of, branch_at, statement_run, behind_statement_at, behind_operator_at, behind_coded, term_run, items_run, loop_site, loop_list, loop_again, turn_left, resumed, ends, Leads, EndsAt}
 use Rattle.aml_frames.proofs.RuleShapes.{operator_is, statement_is, data_is, behind_operator_is, behind_statement_is, behind_data_is}
@@ -108,11 +107,7 @@ ends_statement r e c levels k o h l = subst (EndsAt r e) (ap (at_place c) (sym (
 pub kind_there : (o : RowPlace) (row : Row) → Some row ≡ row_at o → row_kind (row_at o) ≡ kind_of row.0
 kind_there o row e = rw (← e) refl
 
--- a row whose kind is one of those
-pub declares_there : (o : RowPlace) (row : Row) (k : TermKind) → Some row ≡ row_at o → kind_of row.0 ≡ k → declares k ≡ true → declares (row_kind (row_at o)) ≡ true
-declares_there o row k e i h = rw (← e, i) h
-
-pub ruleset coding = (declares_there, kind_there, ends_begun, ends_operator, ends_statement, ends_data)
+pub ruleset coding = (kind_there, ends_begun, ends_operator, ends_statement, ends_data)
 
 -- ---- where calls end
 

@@ -60,6 +60,7 @@ use Rattle.aml_frames.specs.Uses.{super, optional, behind_target, target_run, re
 use Rattle.aml_frames.specs.Follow.{operator_run, statement_run, behind_operator_at, inquiry_kind, Leads, EndsAt}
 use Rattle.aml_frames.proofs.Stepping.{bind_bind, leads_value, leads_value_at, leads_data, stepping}
 use Rattle.aml_frames.proofs.Targeting.{target_part_is, named_part, term_part, bind_as, bind_same, leads_nested, leads_given, aiming, names_of_targets, kinds_of_targets, operands_of_targets}
+use Rattle.aml_frames.proofs.Declaring.{leads_declaration, ends_declaration}
 use Rattle.aml_frames.proofs.Beginning.{leads_call, ends_call, leads_no_term, leads_unsupported}
 use Rattle.aml_frames.proofs.Weighing.{few_calls, charged_less, charged_paid}
 
@@ -96,7 +97,7 @@ follows kinds.Index = true
 follows _ = false
 
 module _ {S : Type 0} (ac : Accesses S) where
-  two_run : {A : Type 0} (scope : List Seg) (depth : ℕ) (t : Tree) (k : Value × Value → Run S A) (s : State S × ℕ) → (two_values (meaning ac) scope depth t >>= k) s ≡ (value_at (meaning ac) scope depth t 0 >>= (λ v. value_at (meaning ac) scope depth t 1 >>= (λ u. k (v, u)))) s
+  pub two_run : {A : Type 0} (scope : List Seg) (depth : ℕ) (t : Tree) (k : Value × Value → Run S A) (s : State S × ℕ) → (two_values (meaning ac) scope depth t >>= k) s ≡ (value_at (meaning ac) scope depth t 0 >>= (λ v. value_at (meaning ac) scope depth t 1 >>= (λ u. k (v, u)))) s
   unfolding two_values
   two_run scope depth t k s =
       bind_bind (value_at (meaning ac) scope depth t 0) (λ v. value_at (meaning ac) scope depth t 1 >>= (λ u. give (v, u))) k s
@@ -335,6 +336,6 @@ pub ruleset seeking = (stepping, leads_conditional_name, ends_conditional_name)
 
 pub ruleset using_targets = (stepping, leads_nested, leads_given, leads_read, leads_told, leads_counted, leads_written, leads_stores, leads_found, few_calls)
 
-pub ruleset beginning_terms = (using_targets, leads_call, ends_call, leads_no_term, leads_unsupported, leads_data)
+pub ruleset beginning_terms = (using_targets, leads_call, ends_call, leads_no_term, leads_unsupported, leads_data, leads_declaration, ends_declaration)
 
 pub ruleset operating = (using_targets, leads_release, leads_notify, leads_store, leads_copy, leads_one, leads_not, leads_deref_of, leads_two, leads_divide, leads_test, leads_count, leads_acquire, leads_reference, leads_inquiry_name, leads_inquiry_target, leads_inquiry_value, ends_inquiry_value, leads_conditional)

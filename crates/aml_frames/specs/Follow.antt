@@ -13,6 +13,7 @@ use Rattle.aml_marked.specs.Marked.{Place, count_at, a_name, turns_of, to_end, a
 use Rattle.aml_scan.specs.RowsAt.{row_at}
 use Rattle.aml_scan.specs.declared.row_places.RowPlace.{RowPlace}
 use Rattle.aml_convert.specs.Operators.{is_true}
+use Rattle.aml_objects.specs.declared.entry.NamedObject.TheVariants as object
 use Rattle.aml_objects.specs.declared.object.Element.TheVariants as element
 use Rattle.aml_objects.specs.declared.value.Value.{Value}
 use Rattle.aml_meaning.specs.declared.flow.Flow.{Flow}
@@ -56,6 +57,8 @@ use Rattle.aml_frames.specs.declared.uses.TargetUse.TheVariants as uses
 use Rattle.aml_frames.specs.Addresses.{part_met}
 use Rattle.aml_frames.specs.Data.{package_left, package_of_all, package_run}
 use Rattle.aml_frames.specs.Indexed.{writes_done, unit_given, unit_behind, unit_merged}
+use Rattle.aml_frames.specs.Declarations.{declared_at}
+use Rattle.aml_frames.specs.RegionTerms.{part_declared, part_ends}
 use Rattle.aml_frames.specs.Uses.{asking, optional, behind_target, use_ends, target_ends, monadic_ends, dyadic_ends, access_run, inquired, counted_back, used, target_run, monadic_done, dyadic_by, dyadic_done}
 use Rattle.aml_frames.specs.Operands.{operator_tree, statement_tree, behind_operator, behind_statement}
 
@@ -134,6 +137,9 @@ ends (frames.UnitChosen l u) c = c
 ends (frames.UnitRead l u) c = c
 ends (frames.UnitMerged x n) c = c
 ends (frames.UnitWritten x) c = c
+ends (frames.Named o) c = c
+ends (frames.Scope p node) c = record c { scope = p }
+ends (frames.Declaration d) c = part_ends d c
 
 -- and when all that a step leaves is done
 abbrev pub next_ends : Next → Site → Site
@@ -287,6 +293,13 @@ module _ {S : Type 0} (accesses : Accesses S) (ev : Task → Run S Flow) where
   resumed (frames.UnitRead l u) c f = unit_given accesses ev l u f
   resumed (frames.UnitMerged x n) c f = unit_merged accesses ev x n
   resumed (frames.UnitWritten x) c f = writes_done accesses ev x
+  resumed (frames.Named o) c f = do
+    v ← settle (value_in f)
+    declared_at (object.Data v) (place_of c o) c
+  resumed (frames.Scope p node) c f = give f
+  resumed (frames.Declaration d) c f = do
+    v ← settle (value_in f)
+    part_declared ev d v c
 
   -- the body of a control method that takes no arguments, and then a frame
   abbrev pub entered_then : ℕ → List Seg → List ℕ → Frame → Site → Run S Flow

@@ -1,12 +1,14 @@
 pub mod Addresses
 pub mod Data
 pub mod Entering
+pub mod Declarations
 pub mod Follow
 pub mod Indexed
 pub mod Operands
 pub mod Places
 pub mod ShortNames
 pub mod ShortTerms
+pub mod RegionTerms
 pub mod Stack
 pub mod Uses
 pub mod Weights

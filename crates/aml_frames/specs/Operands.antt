@@ -1,5 +1,5 @@
 -- The operands of a term, where they stand one behind another.
-use Rattle.std.specs.Prelude.{Bool, Option, Some, None, false, true, take}
+use Rattle.std.specs.Prelude.{Option, Some, None, false, true, take}
 use Rattle.aml_grammar.specs.declared.opcode.TermCode.TheVariants as codes
 use Rattle.aml_grammar.specs.declared.kinds.Row.{Row}
 use Rattle.aml_grammar.specs.Tree.{Tree, term, number, bytes, inner, list, Parts, no_parts, part, Trees}
@@ -42,15 +42,6 @@ elements_at b p = trees_of (all_items b true p).0
 abbrev pub row_kind : Option Row → TermKind
 row_kind None = kinds.Unsupported
 row_kind (Some row) = kind_of row.0
-
--- whether a term declares something, a region and fields among them
-abbrev pub declares : TermKind → Bool
-declares (kinds.Data k) = false
-declares (kinds.Declaration k) = true
-declares (kinds.Region k) = true
-declares (kinds.Operator k) = false
-declares (kinds.Statement k) = false
-declares kinds.Unsupported = false
 
 -- the text of a string
 abbrev pub text_at : Place → Parts

@@ -9,6 +9,7 @@ ghost use Rattle.aml_grammar.specs.State.{is_next};
 ghost use Rattle.aml_marked.specs.Marked.{Below, count_at, first, over, name_length, a_name, a_size, a_term, a_call, a_target, turns_of, with_row, maybe_else};
 ghost use Rattle.aml_scan.specs.RowsAt.{row_at};
 ghost use Rattle.aml_scan.specs.declared.row_places.RowPlace.{RowPlace};
+ghost use Rattle.aml_terms.specs.AtTree.{at_tree};
 ghost use Rattle.aml_meaning.specs.Terms.{target_kind, number_of};
 ghost use Rattle.aml_frames.specs.Places.{Stands, place_between, end_of, at_place, terms, next_term, behind_term};
 
@@ -18,10 +19,11 @@ use aml_meaning::{TargetKind, target_kind};
 use aml_namespace::Scope;
 use aml_objects::{Body, NodeId};
 use aml_path::{NameString, Path};
-use aml_terms::{Cursor, Marks, RowPlace};
+use aml_terms::{At, Cursor, Marks, RowPlace};
 use ar_space::{NameFault, Refusal};
 use std::alloc::Global;
 use std::marker::Model;
+use std::mem;
 use std::rc::Rc;
 
 /// Where evaluation stands in a list of bytes: the offset of the next byte, and that behind the last one of its list or package.
@@ -142,6 +144,17 @@ impl Activation {
         self.scope.share()
     }
 
+    /// Names stand in another scope from here on. Gives the scope that they stood in, with its node.
+    pub fn enter(&mut self, scope: MethodPath, node: NodeId) -> (MethodPath, NodeId)
+        ensures scope { self.new ≡ record self.old { scope = scope } }
+        ensures outer { result.0 ≡ self.old.scope }
+    {
+        let outer = mem::replace(&mut self.scope, scope);
+        let outer_node = self.node;
+        self.node = node;
+        (outer, outer_node)
+    }
+
     /// How many control methods are being called.
     pub fn depth(&self) -> usize
         ensures { result ≡ self.now.depth }
@@ -218,6 +231,20 @@ impl Activation {
         ensures { Answers result (Ok (a_name self.now.place).0) }
     {
         self.cursor().name(alloc)
+    }
+
+    /// The name that begins at a position; the root where none does. Refused: `OutOfMemory`.
+    pub fn name_at(&self, alloc: Global, position: Position) -> Result<NameString, Refusal>
+        ensures { Answers result (Ok (a_name (place_between self.now.bytes position.at position.end)).0) }
+    {
+        self.cursor_at(position).name(alloc)
+    }
+
+    /// A reader of the term whose operands stand next, by the place of its row.
+    pub fn coded_term(&self, levels: u8, place: RowPlace) -> At<'_>
+        ensures { at_tree result ≡ (with_row (terms self.now levels) (row_at place) self.now.place).0 }
+    {
+        self.cursor().coded_term(&self.marks, levels, place)
     }
 
     /// What is left of the list or package.

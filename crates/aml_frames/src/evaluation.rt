@@ -1,7 +1,7 @@
 //! Evaluations from outside: a call of a control method, the terms of a table, and the integer that an object answers (ACPI 6.5, 5.5).
-ghost use Rattle.std.specs.Prelude.{◌≡◌, [], IfErr};
+ghost use Rattle.std.specs.Prelude.{◌≡◌, [], Ok};
 ghost use Rattle.ar_space.specs.Change.{Does};
-ghost use Rattle.ar_space.specs.declared.refusal.Refusal.TheVariants.{OutOfMemory};
+ghost use Rattle.ar_space.specs.Outcome.{Answers, seen};
 ghost use Rattle.aml_marked.specs.Marked.{walk_levels};
 ghost use Rattle.aml_meaning.specs.Fields.{field_part};
 ghost use Rattle.aml_meaning.specs.FieldCalls.{method_integer};
@@ -17,7 +17,6 @@ use crate::asking::ask;
 use crate::calls::enter;
 use crate::values::value_of_call;
 use crate::stack::{access_field, evaluate, run_list};
-use crate::terms::Terms;
 use aml_meaning::{Flow, Running, integer_only};
 use aml_objects::{Body, Field, Octets, Value};
 use aml_path::Path;
@@ -30,9 +29,8 @@ use std::alloc::Global;
 ///
 /// Refused: `CallDepth` where 32 are being called, as a scan of the body refuses it, and as its evaluation is.
 #[tactic(auto, using(crate::proofs::Entering::entered))]
-pub fn call_method<S: Space, T: Terms<S>>(
+pub fn call_method<S: Space>(
     alloc: Global,
-    terms: &T,
     run: &mut Running<S>,
     depth: usize,
     called: (Path, Body),
@@ -41,21 +39,20 @@ pub fn call_method<S: Space, T: Terms<S>>(
     ensures { Does result run.new (invoked (meaning S.accesses) depth called.0 called.1 arguments.now) run.old }
 {
     match enter(alloc, run, depth, called, arguments) {
-        Ok(body) => evaluate(alloc, terms, run, body),
+        Ok(body) => evaluate(alloc, run, body),
         Err(refusal) => Err(refusal),
     }
 }
 
 /// Evaluates the terms of a list one after another, in the slots that stand: those of a table at the root, say.
-pub fn evaluate_list<S: Space, T: Terms<S>>(
+pub fn evaluate_list<S: Space>(
     alloc: Global,
-    terms: &T,
     run: &mut Running<S>,
     list: Activation,
 ) -> Result<Flow, Refusal>
-    ensures { Does result run.new (list_run (meaning S.accesses) list (all_left list walk_levels)) run.old }
+    ensures { Does result run.new (list_run S.accesses (meaning S.accesses) list (all_left list walk_levels)) run.old }
 {
-    run_list(alloc, terms, run, list)
+    run_list(alloc, run, list)
 }
 
 /// The integer that the object at a path answers, without arguments, where so many calls may still be made one inside another.
@@ -63,9 +60,8 @@ pub fn evaluate_list<S: Space, T: Terms<S>>(
 /// Refused: `CallDepth` where none is left, `NotFound` where nothing stands there, `WrongType` where it answers no integer, and as its
 /// evaluation is.
 #[tactic(auto, using(crate::proofs::Entering::asked_whole))]
-pub fn ask_integer<S: Space, T: Terms<S>>(
+pub fn ask_integer<S: Space>(
     alloc: Global,
-    terms: &T,
     run: &mut Running<S>,
     calls: usize,
     path: &Path,
@@ -74,46 +70,43 @@ pub fn ask_integer<S: Space, T: Terms<S>>(
 {
     match ask(alloc, run, calls, path) {
         Ok(Asked::Known(number)) => Ok(number),
-        Ok(Asked::Waits(waited)) => await_integer(alloc, terms, run, waited),
+        Ok(Asked::Waits(waited)) => await_integer(alloc, run, waited),
         Err(refusal) => Err(refusal),
     }
 }
 
 /// The integer that is waited for.
-fn await_integer<S: Space, T: Terms<S>>(
+fn await_integer<S: Space>(
     alloc: Global,
-    terms: &T,
     run: &mut Running<S>,
     waited: Waited,
 ) -> Result<u64, Refusal>
     ensures { Does result run.new (waited_run S.accesses (meaning S.accesses) waited) run.old }
 {
     match waited {
-        Waited::Method(depth, path, body) => call_integer(alloc, terms, run, depth, (path, body)),
-        Waited::Field(calls, field) => field_integer(alloc, terms, run, calls, field),
+        Waited::Method(depth, path, body) => call_integer(alloc, run, depth, (path, body)),
+        Waited::Field(calls, field) => field_integer(alloc, run, calls, field),
     }
 }
 
 /// The integer that a control method answers.
 #[tactic(auto, using(aml_meaning::proofs::Runs::running), unfolding(aml_meaning::specs::FieldCalls::method_integer, aml_meaning::specs::Invocations::method_value))]
-fn call_integer<S: Space, T: Terms<S>>(
+fn call_integer<S: Space>(
     alloc: Global,
-    terms: &T,
     run: &mut Running<S>,
     depth: usize,
     called: (Path, Body),
 ) -> Result<u64, Refusal>
     ensures { Does result run.new (method_integer S.accesses (meaning S.accesses) depth called.0 called.1) run.old }
 {
-    let flow = call_method(alloc, terms, run, depth, called, &[])?;
+    let flow = call_method(alloc, run, depth, called, &[])?;
     integer_only(value_of_call(flow))
 }
 
 /// The integer that a field holds.
 #[tactic(auto, using(crate::proofs::Entering::parted))]
-fn field_integer<S: Space, T: Terms<S>>(
+fn field_integer<S: Space>(
     alloc: Global,
-    terms: &T,
     run: &mut Running<S>,
     calls: usize,
     field: Field,
@@ -121,13 +114,13 @@ fn field_integer<S: Space, T: Terms<S>>(
     ensures { Does result run.new (field_part S.accesses (asking S.accesses (meaning S.accesses) calls) field) run.old }
 {
     let nowhere = nowhere(alloc, run)?;
-    let flow = access_field(alloc, terms, run, nowhere, calls, field)?;
+    let flow = access_field(alloc, run, nowhere, calls, field)?;
     integer_only(value_of_call(flow))
 }
 
 /// A list without terms: an access of a field needs no more of it.
 fn nowhere<S: Space>(alloc: Global, run: &Running<S>) -> Result<Activation, Refusal>
-    ensures memory { IfErr result (λ e. e ≡ OutOfMemory) }
+    ensures { Answers (seen (λ a. tt) result) (Ok tt) }
 {
     let root = Path::root(alloc);
     let marks = scan_list(alloc, &[], &root, true, &Arities::new(alloc))?;

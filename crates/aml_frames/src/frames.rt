@@ -5,8 +5,8 @@ use crate::addresses::PciAccess;
 use crate::indexed::{UnitWrites, UnitsLeft};
 use crate::uses::{Access, Dyadic, Inquiry, Monadic, SecondOperand, Target, TargetUse};
 use aml_fields::Unit;
-use aml_meaning::{Count, Flow, StoreTarget};
-use aml_objects::{Body, Elements, Field, Value};
+use aml_meaning::{BufferFieldSize, Count, Flow, StoreTarget};
+use aml_objects::{Body, Elements, Field, NodeId, Value};
 use aml_path::Path;
 
 /// The items of a list that are left.
@@ -70,6 +70,25 @@ pub struct Package {
     pub done: Elements,
 }
 
+/// An operand of a declaration of a region or of a buffer field, while it is evaluated, with what was read and evaluated before it.
+#[derive(Clone, Copy, Debug)]
+pub enum DeclarationPart {
+    /// The offset of an operation region with so many levels below it: its address space, and where its name stands.
+    RegionOffset(u8, Position, u8),
+    /// The length of an operation region: its address space, where its name stands, and its offset.
+    RegionLength(u8, Position, Value),
+    /// The buffer of a field whose term says how many bits it has, with so many levels below it.
+    SizedSource(BufferFieldSize, u8),
+    /// The index of such a field: its buffer.
+    SizedIndex(BufferFieldSize, Value),
+    /// The buffer of a field of any size, with so many levels below it.
+    BitsSource(u8),
+    /// The index of the first bit of such a field, with so many levels below it: its buffer.
+    BitsIndex(u8, Value),
+    /// How many bits such a field has: its buffer, and the index of its first bit.
+    BitsCount(Value, Value),
+}
+
 /// A term that is half done, which waits for what a part of it leaves.
 #[derive(Drop)]
 pub enum Frame {
@@ -127,6 +146,12 @@ pub enum Frame {
     UnitMerged(UnitWrites, u64),
     /// The same, while the data field is written.
     UnitWritten(UnitWrites),
+    /// A Name, while its datum is evaluated: where its name stands.
+    Named(Position),
+    /// A Scope, a Device, a Processor, a PowerResource or a ThermalZone, while its list is evaluated: the scope around it, and its node.
+    Scope(MethodPath, NodeId),
+    /// A declaration of an operation region or of a buffer field, while one of its operands is evaluated.
+    Declaration(DeclarationPart),
 }
 
 /// What a step leaves to do.

@@ -1,7 +1,7 @@
 //! The frames of evaluation: what waits, in memory and not on the processor's stack, for a term that is being evaluated.
 //!
-//! Begin with `evaluate`, which evaluates the body of a control method in one loop, and leaves to its caller how declarations begin
-//! (`Terms`). A step of a term takes it up to the first part that is evaluated, and leaves what is to be done then (`Next`).
+//! Begin with `call_method` and `evaluate_list`, which evaluate the body of a control method and a list of terms in one loop. A step of a
+//! term takes it up to the first part that is evaluated, and leaves what is to be done then (`Next`).
 #![tactic(auto)]
 
 mod accesses;
@@ -10,18 +10,22 @@ mod addresses;
 mod asking;
 mod calls;
 mod data;
+mod declarations;
 mod evaluation;
 mod field_access;
+mod field_lists;
 mod frames;
 mod index_access;
 mod indexed;
 mod known;
 mod lists;
 mod names;
+mod operands;
 mod operators;
 mod packages;
 mod pci;
 mod references;
+mod regions;
 mod resuming;
 mod short_names;
 mod short_terms;
@@ -37,19 +41,22 @@ pub use activation::{Activation, MethodPath, Position};
 pub use addresses::{AddressPart, PciAccess, RegionAccess};
 pub use calls::begin_call;
 pub use data::begin_data;
+pub use declarations::begin_declaration;
 pub use evaluation::{ask_integer, call_method, evaluate_list};
 pub use field_access::begin_region;
-pub use frames::{Call, Callee, Control, Entry, Frame, Items, Loop, Next, Package};
+pub use frames::{
+    Call, Callee, Control, DeclarationPart, Entry, Frame, Items, Loop, Next, Package,
+};
 pub use indexed::{
     IndexedField, UnitReads, UnitWrites, UnitsLeft, is_kept, merge_unit, put_unit, zeros,
 };
 pub use lists::begin_items;
 pub use names::begin_name;
 pub use operators::begin_operator;
+pub use regions::begin_region_term;
 pub use resuming::resume;
 pub use stack::evaluate;
 pub use statements::begin_statement;
-pub use terms::Terms;
 pub use uses::{
     Access, Accessed, Doing, Dyadic, Inquiry, Monadic, Reading, SecondOperand, Target, TargetForm,
     TargetUse,

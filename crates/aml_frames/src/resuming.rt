@@ -9,12 +9,14 @@ ghost use Rattle.aml_frames.specs.Weights.{weight, next_weight};
 use crate::activation::{Activation, Position};
 use crate::calls::resume_argument;
 use crate::data::resume_buffer;
+use crate::declarations::{resume_named, resume_scope};
 use crate::frames::{Frame, Items, Loop, Next};
 use crate::index_access::{next_write, read_chosen, resume_unit, write_merged};
 use crate::operators::{resume_first, resume_operand, resume_quotient, resume_second};
 use crate::packages::{resume_element, resume_var_package};
 use crate::pci::resume_address;
 use crate::references::{resume_found, resume_referent};
+use crate::regions::resume_declaration;
 use crate::statements::next_branch;
 use crate::target_uses::resume_counted;
 use crate::targets::{resume_dereferenced, resume_index_target};
@@ -217,6 +219,9 @@ pub fn resume<S: Space>(
         Frame::UnitRead(units, unit) => resume_unit(alloc, run, act, units, unit, flow),
         Frame::UnitMerged(writes, number) => write_merged(alloc, run, act, writes, number),
         Frame::UnitWritten(writes) => next_write(alloc, run, act, writes),
+        Frame::Named(name) => resume_named(alloc, run, act, name, flow),
+        Frame::Declaration(part) => resume_declaration(alloc, run, act, part, flow),
+        Frame::Scope(scope, node) => Ok(resume_scope(run, act, scope, node, flow)),
         Frame::Counted(count, target, field) => {
             resume_counted(alloc, run, act, (count, target, field), flow)
         }

@@ -25,7 +25,7 @@ use crate::lists::begin_items;
 use crate::packages::begin_element;
 use crate::resuming::resume;
 use crate::targets::begin_target;
-use crate::terms::{Terms, begin_term};
+use crate::terms::begin_term;
 use crate::uses::{Access, Accessed, Doing, Reading, Target, TargetUse};
 use aml_meaning::{Flow, Running};
 use aml_objects::{Field, Value};
@@ -45,9 +45,8 @@ pub(crate) struct Stack {
 /// Evaluates the body of a control method whose slots stand already, in one loop; `body` stands at its first byte. However the body ends,
 /// its call ends: its frame of slots, and the names below it.
 #[tactic(auto, using(crate::proofs::Machine::beginning))]
-pub fn evaluate<S: Space, T: Terms<S>>(
+pub fn evaluate<S: Space>(
     alloc: Global,
-    terms: &T,
     run: &mut Running<S>,
     body: Activation,
 ) -> Result<Flow, Refusal>
@@ -63,7 +62,6 @@ pub fn evaluate<S: Space, T: Terms<S>>(
     let list = whole(&body);
     let outcome = execute(
         alloc,
-        terms,
         run,
         Stack::new(alloc, body),
         Control::Items(list),
@@ -74,18 +72,16 @@ pub fn evaluate<S: Space, T: Terms<S>>(
 
 /// Evaluates the terms of a list that are left, in one loop, in the slots that stand.
 #[tactic(auto, using(crate::proofs::Machine::listing))]
-pub(crate) fn run_list<S: Space, T: Terms<S>>(
+pub(crate) fn run_list<S: Space>(
     alloc: Global,
-    terms: &T,
     run: &mut Running<S>,
     list: Activation,
 ) -> Result<Flow, Refusal>
-    ensures { Does result run.new (list_run (meaning S.accesses) list (all_left list walk_levels)) run.old }
+    ensures { Does result run.new (list_run S.accesses (meaning S.accesses) list (all_left list walk_levels)) run.old }
 {
     let items = whole(&list);
     execute(
         alloc,
-        terms,
         run,
         Stack::new(alloc, list),
         Control::Items(items),
@@ -94,9 +90,8 @@ pub(crate) fn run_list<S: Space, T: Terms<S>>(
 
 /// Reads a field as a part of an address, in one loop, where so many calls may still be made.
 #[tactic(auto, using(crate::proofs::Machine::listing))]
-pub(crate) fn access_field<S: Space, T: Terms<S>>(
+pub(crate) fn access_field<S: Space>(
     alloc: Global,
-    terms: &T,
     run: &mut Running<S>,
     act: Activation,
     calls: usize,
@@ -111,7 +106,6 @@ pub(crate) fn access_field<S: Space, T: Terms<S>>(
     };
     execute(
         alloc,
-        terms,
         run,
         Stack::new(alloc, act),
         Control::Access(access),
@@ -149,9 +143,8 @@ impl Stack {
 }
 
 /// The loop.
-fn execute<S: Space, T: Terms<S>>(
+fn execute<S: Space>(
     alloc: Global,
-    terms: &T,
     run: &mut Running<S>,
     stack: Stack,
     first: Control,
@@ -162,7 +155,7 @@ fn execute<S: Space, T: Terms<S>>(
     let mut control = first;
     'steps: loop {
         match control {
-            Control::Term(levels) => match step_term(alloc, terms, run, &mut stack, levels) {
+            Control::Term(levels) => match step_term(alloc, run, &mut stack, levels) {
                 Ok(after) => control = after,
                 Err(refusal) => {
                     unwind(run, &mut stack, &refusal);
@@ -225,9 +218,8 @@ fn execute<S: Space, T: Terms<S>>(
 /// A term begins.
 #[inline(always)]
 #[tactic(auto, using(crate::proofs::Machine::taking))]
-fn step_term<S: Space, T: Terms<S>>(
+fn step_term<S: Space>(
     alloc: Global,
-    terms: &T,
     run: &mut Running<S>,
     stack: &mut Stack,
     levels: u8,
@@ -236,7 +228,7 @@ fn step_term<S: Space, T: Terms<S>>(
     ensures means { Goes S.accesses (meaning S.accesses) result stack.new.act stack.new.entries.items run.new
         (machine S.accesses (meaning S.accesses) (control.Term levels) stack.old.act stack.old.entries.items) run.old }
 {
-    let next = begin_term(alloc, terms, run, &mut stack.act, levels)?;
+    let next = begin_term(alloc, run, &mut stack.act, levels)?;
     follow(run, stack, next)
 }
 

@@ -10,47 +10,21 @@ ghost use Rattle.aml_frames.specs.Weights.{most, next_weight};
 
 use crate::activation::Activation;
 use crate::data::begin_data;
+use crate::declarations::begin_declaration;
 use crate::frames::Next;
 use crate::names::begin_name;
 use crate::operators::begin_operator;
+use crate::regions::begin_region_term;
 use crate::statements::begin_statement;
 use aml_meaning::{Running, TermKind, kind_of};
 use aml_terms::RowPlace;
 use ar_space::{EvaluationFault, NameFault, Refusal, Space};
 use std::alloc::Global;
 
-/// The terms that declare something: they have no steps of this crate.
-pub trait Terms<S: Space> {
-    ghost use Rattle.std.specs.Prelude.{◌≡◌, ◌≤◌, ◌<◌, ◌+◌, ◌*◌, true, IfOk};
-    ghost use Rattle.aml_scan.specs.RowsAt.{row_at};
-    ghost use Rattle.aml_frames.specs.Operands.{row_kind, declares};
-    ghost use Rattle.aml_meaning.specs.Meaning.{meaning};
-    ghost use Rattle.aml_frames.specs.Follow.{coded_run, behind_coded, Leads, EndsAt};
-    ghost use Rattle.aml_frames.specs.Weights.{most, next_weight};
-
-    /// Begins a term that declares something, a region and fields among them: its operands stand next, by the place of its row, with so
-    /// many levels.
-    fn begin(
-        &self,
-        alloc: Global,
-        run: &mut Running<S>,
-        act: &mut Activation,
-        levels: u8,
-        place: RowPlace,
-    ) -> Result<Next, Refusal>
-        requires { declares (row_kind (row_at place)) ≡ true }
-        ensures spent { run.new.1 ≤ run.old.1 }
-        ensures falls { IfOk result (λ n. next_weight n < 3 * most + 100) }
-        ensures means { Leads S.accesses (meaning S.accesses) result act.new run.new
-            (coded_run S.accesses (meaning S.accesses) place act.old levels) run.old }
-        ensures ends { EndsAt result act.new (behind_coded place act.old levels) };
-}
-
 /// Begins the term that stands next, with so many levels: it costs a step.
 #[tactic(auto, using(crate::proofs::Using::beginning_terms), unfolding(aml_meaning::specs::Evaluation::rule))]
-pub(crate) fn begin_term<S: Space, T: Terms<S>>(
+pub(crate) fn begin_term<S: Space>(
     alloc: Global,
-    terms: &T,
     run: &mut Running<S>,
     act: &mut Activation,
     levels: u8,
@@ -62,14 +36,13 @@ pub(crate) fn begin_term<S: Space, T: Terms<S>>(
     ensures ends { EndsAt result act.new (behind_term act.old levels) }
 {
     run.charge()?;
-    begin_paid(alloc, terms, run, act, levels)
+    begin_paid(alloc, run, act, levels)
 }
 
 /// A term whose step is paid.
 #[tactic(auto, using(crate::proofs::Using::beginning_terms, crate::proofs::Stepping::coding))]
-fn begin_paid<S: Space, T: Terms<S>>(
+fn begin_paid<S: Space>(
     alloc: Global,
-    terms: &T,
     run: &mut Running<S>,
     act: &mut Activation,
     levels: u8,
@@ -81,7 +54,7 @@ fn begin_paid<S: Space, T: Terms<S>>(
     ensures ends { EndsAt result act.new (behind_term act.old levels) }
 {
     match act.take_opcode(levels) {
-        Some(place) => begin_coded(alloc, terms, run, act, levels - 1, place),
+        Some(place) => begin_coded(alloc, run, act, levels - 1, place),
         None => begin_uncoded(alloc, run, act, levels),
     }
 }
@@ -108,10 +81,9 @@ fn begin_uncoded<S: Space>(
 }
 
 /// A term whose opcode was read, by the place of its row: its operands stand next.
-#[tactic(auto, using(crate::proofs::Using::beginning_terms, crate::proofs::Stepping::coding))]
-fn begin_coded<S: Space, T: Terms<S>>(
+#[tactic(auto, using(crate::proofs::Using::beginning_terms, crate::proofs::Stepping::coding, crate::proofs::DeclaringFields::coded_regions))]
+fn begin_coded<S: Space>(
     alloc: Global,
-    terms: &T,
     run: &mut Running<S>,
     act: &mut Activation,
     levels: u8,
@@ -127,8 +99,8 @@ fn begin_coded<S: Space, T: Terms<S>>(
         TermKind::Operator(kind) => begin_operator(alloc, run, act, levels, kind),
         TermKind::Statement(kind) => begin_statement(alloc, run, act, levels, kind),
         TermKind::Data(kind) => begin_data(alloc, run, act, levels, place, kind),
-        TermKind::Declaration(_) => terms.begin(alloc, run, act, levels, place),
-        TermKind::Region(_) => terms.begin(alloc, run, act, levels, place),
+        TermKind::Declaration(kind) => begin_declaration(alloc, run, act, levels, place, kind),
+        TermKind::Region(kind) => begin_region_term(alloc, run, act, levels, place, kind),
         TermKind::Unsupported => {
             Err(Refusal::Evaluation(EvaluationFault::Unsupported(place.row().0.number())))
         }
