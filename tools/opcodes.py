@@ -211,8 +211,6 @@ def code_of(function, kind, functions):
     inside, enum = KIND_FUNCTIONS[function]
     begins, arm = in_arm(f"{enum}::{inside or kind[0]}", functions)
     if not begins:
-        begins, arm = in_arm(f"TermKind::{enum.removesuffix('Kind')}", functions)
-    if not begins:
         raise Wrong(f"no function evaluates {' '.join(kind)}")
     waits = re.search(rf"\b({'|'.join(WAITING)})::\w+", arm)
     goes_on = in_arm(waits[0], functions)[0] if waits else None
