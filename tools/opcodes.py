@@ -42,6 +42,10 @@ RULES = {
 VALUES = {
     "integer_operator": "result_of_two", "two_operands": "result_of_two", "one_operand": "result_of_one", "test_kind": "result_of_test",
 }
+# The crate of the code, and its file in which some terms are done at once, as the others say.
+CODE, AT_ONCE = "crates/aml_frames/src", "known"
+# What waits for the value of a part of a term, or for its target: an arm of each goes on with it.
+WAITING = ("Monadic", "Dyadic", "TargetUse", "DeclarationPart")
 # The names that ASL has for opcodes which the grammar names otherwise.
 ASL_NAMES = {
     "OpRegion": "OperationRegion", "PowerRes": "PowerResource", "FromBcd": "FromBCD", "ToBcd": "ToBCD", "DataRegion": "DataTableRegion",
@@ -63,11 +67,12 @@ One row for each opcode of AML.
   of the kind `Target`.
 - **Kind** is the rule that evaluates the term (`crates/aml_meaning/specs/Terms.antt`; as code `crates/aml_meaning/src/kinds.rt`).
   *left out* means that the term is read, and refused by number 73 with its opcode where it is evaluated.
-- **Definition** is a function in `crates/aml_meaning/specs`, **Code** a function in `crates/aml_interp/src`, or in the crate that is
-  named. What an operator makes *of values* is defined in `specs/Operations.antt`, and its code is in
-  `crates/aml_meaning/src/operations.rt`.
+- **Definition** is a function in `crates/aml_meaning/specs`, **Code** a function in `crates/aml_frames/src`, or in the crate that is
+  named: the one that begins the term, and, where that only says what waits for a part of it, the one that goes on once the part is
+  evaluated. What an operator makes *of values* is defined in `specs/Operations.antt`, and its code is in
+  `crates/aml_meaning/src/operations.rt`. What gives or takes an integer that is there already is done at once (`known`).
 - **Field**, **IndexField** and the `Create` terms only declare fields. How a field of an operation region is read and written is in
-  `specs/Fields.antt`, with its code in `crates/aml_interp/src/fields.rt` and `index_fields.rt`; for a buffer field in
+  `specs/Fields.antt`, with its code in `crates/aml_frames/src/field_access.rt` and `index_access.rt`; for a buffer field in
   `crates/aml_fields/specs/BufferFields.antt`, with its code in `crates/aml_fields/src/buffer_fields.rt`.
 - **Tests** are files of rows: in `crates/name_rows/data` the one with the row `the opcode NAME, read and refused`, and in
   `crates/evaluation_rows/data` the one that names the term most often.
@@ -179,21 +184,37 @@ def files_by_name(files, form):
     return found
 
 
+HEAD_OF = r"^(?:pub(?:\(crate\))? )?fn (\w+)"
+
+
 def functions_of_evaluation():
-    """Each function of evaluation, with its file."""
-    return files_by_name("crates/aml_interp/src/*.rt", r"^(?:pub\(crate\) )?fn (eval_\w+)")
+    """Each function of the machine of frames, with its file."""
+    return files_by_name(f"{CODE}/*.rt", HEAD_OF)
+
+
+def in_arm(pattern, functions):
+    """The function that an arm of this pattern calls first, or else the one that has the arm, each with its file; and the arm's text."""
+    for file in files_in(f"{CODE}/*.rt"):
+        text, name = text_of(file), os.path.basename(file).partition(".")[0]
+        found = re.search(rf"(?ms)^( *){pattern}\b(?:\([^)]*\))? =>(.*?)(?=^\1\w|^(?!\1))", text)
+        if found and name != AT_ONCE:
+            own = re.findall(HEAD_OF, text, re.MULTILINE)
+            called = re.match(r"\s*(?:\{\s*)?(?:let \w+ = )?(?:Ok\()?(\w+)\(", found[2])
+            if called and called[1] in functions and called[1] != "begin_target":
+                return (name if called[1] in own else functions[called[1]], called[1]), found[2]
+            return (name, re.findall(HEAD_OF, text[: found.start()], re.MULTILINE)[-1]), found[2]
+    return None, ""
 
 
 def code_of(function, kind, functions):
-    """The function that evaluates a kind."""
+    """The function that begins a kind, and the one that goes on where that only says what waits, each with its file."""
     inside, enum = KIND_FUNCTIONS[function]
-    for file in files_in("crates/aml_interp/src/*.rt"):
-        found = re.search(rf"{enum}::{inside or kind[0]}\b(?:\([^)]*\))? =>\s*(?:\{{\s*)?(\w+)", text_of(file))
-        if found and found[1] in functions:
-            return found[1]
-        if found:
-            return re.findall(r"fn (eval_\w+)", text_of(file)[: found.start()])[-1]
-    raise Wrong(f"no function evaluates {' '.join(kind)}")
+    begins, arm = in_arm(f"{enum}::{inside or kind[0]}", functions)
+    if not begins:
+        raise Wrong(f"no function evaluates {' '.join(kind)}")
+    waits = re.search(rf"\b({'|'.join(WAITING)})::\w+", arm)
+    goes_on = in_arm(waits[0], functions)[0] if waits else None
+    return [it for it in (begins, goes_on) if it]
 
 
 # ---- tests
@@ -227,6 +248,12 @@ def kind_text(name, function, kind):
     return f"{KIND_FUNCTIONS[function][1].removesuffix('Kind').lower()}: {words}{partly}"
 
 
+def in_files(functions):
+    """Functions, each behind the name of its file where that is another one than before."""
+    before = [None, *(file for file, _ in functions)]
+    return ", ".join(f"`{name}`" if file == last else f"`{file}`: `{name}`" for (file, name), last in zip(functions, before))
+
+
 def how(name, sources):
     """Kind, definition and code of an opcode."""
     if name in sources["targets"] and name not in sources["kinds"]:
@@ -238,7 +265,7 @@ def how(name, sources):
     value = value_of(function, kind)
     code = code_of(function, kind, sources["functions"])
     definition = f"`{file}`: `{rule}`" + (f", of values `{value}`" if value else "")
-    by = f"`{sources['functions'][code]}`: `{code}`" + (f", of values `{code_of_value(value)}`" if value else "")
+    by = in_files(code) + (f", of values `{code_of_value(value)}`" if value else "")
     return kind_text(name, function, kind), definition, by
 
 

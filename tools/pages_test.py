@@ -51,6 +51,8 @@ CASES = {
         (f"{GRAMMAR}/specs/Table.antt", "plain opcodes.Zero classes.Data", "plain opcodes.Zero classes.Slot", "Table.antt is stale"),
         ("crates/aml_scan/src/table.rt", "u8 = 0x70", "u8 = 0x71", "crates/aml_scan/src/table.rt is stale"),
         ("crates/aml_terms/src/short.rt", "    1, 1, 0,", "    1, 2, 0,", "crates/aml_terms/src/short.rt is stale"),
+        ("crates/aml_frames/src/operators.rt", "OperatorKind::Divide =>", "OperatorKind::Divided =>", "no function evaluates Divide"),
+        ("crates/aml_frames/src/statements.rt", "If => begin_if(", "If => begin_while(", "docs/OPCODES.md is stale"),
         ("docs/OPCODES.md", "| 72 | Add |", "| 72 | Sum |", "docs/OPCODES.md is stale"),
         ("docs/OPCODES.md", "Adds two integers.", "Adds two numbers.", "docs/OPCODES.md is stale"),
         ("docs/OPCODES.md", "| 20.2.5.4 | Adds", "| 20.2.5.3 | Adds", "docs/OPCODES.md is stale"),
