@@ -1,17 +1,21 @@
 -- Control methods that are entered, and evaluations from outside.
-use Rattle.std.specs.Prelude.{◌≡◌, ℕ, List, [], Ok, Err, IsErr, IsErrAnd, refl}
+use Rattle.std.specs.Prelude.{◌≡◌, ℕ, List, [], true, Ok, Err, IsErr, IsErrAnd, refl}
 use Rattle.std.proofs.Common.{◌∙◌, ap, sym}
 use Rattle.ar_space.specs.Accesses.{Accesses}
-use Rattle.ar_space.specs.Outcome.{Outcome, Answers}
+use Rattle.ar_space.specs.Outcome.{Outcome, Answers, seen}
 use Rattle.ar_space.specs.Change.{Change, Does, give, stop, settle, go_on, ◌>>=◌}
 use Rattle.ar_space.specs.declared.refusal.Refusal.{Refusal}
 use Rattle.ar_space.specs.declared.refusal.Refusal.TheVariants.{OutOfMemory}
 use Rattle.aml_path.specs.declared.segment.Seg.{Seg}
+use Rattle.aml_grammar.specs.State.{until_end}
+use Rattle.aml_grammar.specs.Grammar.{items, term_list, by_arities}
+use Rattle.aml_grammar.specs.declared.arities.Arity.{Arity}
 use Rattle.aml_grammar.specs.Shape.{trees_of}
 use Rattle.aml_grammar.specs.declared.marks.Mark.{Mark}
 use Rattle.aml_marked.specs.Marked.{trees_by}
 use Rattle.aml_objects.specs.declared.entry.Field.{Field}
 use Rattle.aml_objects.specs.declared.value.Value.TheVariants as value
+use Rattle.aml_scan.specs.Scanned.{marked}
 use Rattle.aml_meaning.specs.declared.flow.Flow.{Flow}
 use Rattle.aml_meaning.specs.declared.flow.Flow.TheVariants as flow
 use Rattle.aml_meaning.specs.State.{State}
@@ -129,11 +133,27 @@ module _ {S : Type 0} {ac : Accesses S} where
   unfolding stop
   does_unasked e m h = record { is = λ ne. h.is ne }
 
-  -- what only memory can refuse
-  pub does_short : {A : Type 0} {r : Outcome A} {e : Refusal} {s s1 : State S × ℕ} (m : Run S A) → Answers {A = Unit {0}} (Err e) (Ok tt) → IsErr r × IsErrAnd r (λ x. x ≡ e) → Does r s1 m s
-  does_short {r = Ok x} m h i = absurd (cc i.0)
-  does_short {r = Err x} m h i = record { is = λ ne. absurd (cc (h.is (λ q. ne (i.1 ∙ q)))) }
+-- what only memory can refuse
+pub does_short : {S A : Type 0} {r : Outcome A} {e : Refusal} {s s1 : S} (m : Change S A) → Answers {A = ℕ} (Err e) (Ok 0) → IsErr r × IsErrAnd r (λ x. x ≡ e) → Does r s1 m s
+does_short {r = Ok x} m h i = absurd (cc i.0)
+does_short {r = Err x} m h i = record { is = λ ne. absurd (cc (h.is (λ q. ne (i.1 ∙ q)))) }
 
 pub ruleset asked_whole = (does_known, does_waited, does_unasked)
 
 pub ruleset parted = (running, does_part, does_short)
+
+-- ---- a list without terms
+
+nothing_read : (scope : List Seg) (counts : List Arity) → marked (term_list by_arities [] scope true counts) ≡ Ok []
+unfolding term_list items until_end
+nothing_read scope counts = refl
+
+pub nothing_refused : {A : Type 0} (r : Outcome A) (e : Refusal) (scope : List Seg) (counts : List Arity) → Answers {A = List Mark} (Err e) (marked (term_list by_arities [] scope true counts)) → IsErr r × IsErrAnd r (λ x. x ≡ e) → Answers {A = ℕ} (seen (λ a. 0) r) (Ok 0)
+nothing_refused (Ok x) e scope counts h i = absurd (cc i.0)
+nothing_refused (Err x) e scope counts h i = record { is = λ ne. absurd (cc (sym (nothing_read scope counts) ∙ h.is (λ q. ne (i.1 ∙ q)))) }
+
+pub short_refused : {A B : Type 0} (r : Outcome A) (e : Refusal) (b : B) → Answers {A = B} (Err e) (Ok b) → IsErr r × IsErrAnd r (λ x. x ≡ e) → Answers {A = ℕ} (seen (λ a. 0) r) (Ok 0)
+short_refused (Ok x) e b h i = absurd (cc i.0)
+short_refused (Err x) e b h i = record { is = λ ne. absurd (cc (h.is (λ q. ne (i.1 ∙ q)))) }
+
+pub ruleset standing = (nothing_refused, short_refused)

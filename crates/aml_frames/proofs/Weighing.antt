@@ -1,5 +1,5 @@
 -- What steps pay for, and what accesses ask for.
-use Rattle.std.specs.Prelude.{◌≡◌, ◌≤◌, ◌<◌, ◌+◌, ◌*◌, ◌-◌, ℕ, zero, suc, Ok, Err, IfOk, refl}
+use Rattle.std.specs.Prelude.{◌≡◌, ◌≤◌, ◌<◌, ◌+◌, ◌*◌, ◌-◌, ℕ, zero, suc, Option, Some, None, IfSome, Ok, Err, IfOk, refl}
 use Rattle.std.proofs.Common.{arith, subst}
 use Rattle.ar_space.specs.Outcome.{Outcome}
 use Rattle.aml_frames.specs.declared.frames.Control.{Control}
@@ -63,7 +63,8 @@ falls_found (Ok c) a b w v n x y h j = omega (arith, h, j)
 falls_found (Err z) a b w v n x y h j = tt
 
 -- an operand that is there already: the step that it costs pays for what meets it
-pub falls_known : (a b w x : ℕ) → a < b → charged a + (x + (w + 3)) ≤ charged b + (x + w)
-falls_known a b w x h = let p = charged_paid a b h in omega (arith, p)
+pub falls_known : (o : Option ℕ) (k a b w x : ℕ) → IfSome o (λ n. a < b) → o ≡ Some k → charged a + (x + (w + 3)) ≤ charged b + (x + w)
+falls_known None k a b w x h e = absurd (cc e)
+falls_known (Some n) k a b w x h e = let p = charged_paid a b h in omega (arith, p)
 
 pub ruleset falling = (falls_paid, falls_free, falls_met, falls_found)

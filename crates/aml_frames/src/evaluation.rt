@@ -1,5 +1,5 @@
 //! Evaluations from outside: a call of a control method, the terms of a table, and the integer that an object answers (ACPI 6.5, 5.5).
-ghost use Rattle.std.specs.Prelude.{◌≡◌, [], Ok};
+ghost use Rattle.std.specs.Prelude.{◌≡◌, ℕ, [], Ok};
 ghost use Rattle.ar_space.specs.Change.{Does};
 ghost use Rattle.ar_space.specs.Outcome.{Answers, seen};
 ghost use Rattle.aml_marked.specs.Marked.{walk_levels};
@@ -118,9 +118,10 @@ fn field_integer<S: Space>(
     integer_only(value_of_call(flow))
 }
 
-/// A list without terms: an access of a field needs no more of it.
+/// A list without terms: an access of a field needs no more of it. Only want of memory refuses it.
+#[tactic(auto, using(crate::proofs::Entering::standing))]
 fn nowhere<S: Space>(alloc: Global, run: &Running<S>) -> Result<Activation, Refusal>
-    ensures { Answers (seen (λ a. tt) result) (Ok tt) }
+    ensures { Answers {A = ℕ} (seen (λ a. 0) result) (Ok 0) }
 {
     let root = Path::root(alloc);
     let marks = scan_list(alloc, &[], &root, true, &Arities::new(alloc))?;
