@@ -1,6 +1,3 @@
-use Rattle.aml_path.specs.Paths.{Name}
-use Rattle.aml_marked.specs.Marked.{a_name}
-use Rattle.aml_meaning.specs.Invocations.{invocation_found}
 use Rattle.aml_meaning.proofs.Uses.{does_use}
 use Rattle.aml_frames.proofs.names.name_used.Goals as goal
 

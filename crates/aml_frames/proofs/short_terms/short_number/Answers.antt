@@ -1,5 +1,5 @@
 use Rattle.std.proofs.Common.{◌≡◌, ◌∙◌, ap, refl}
-use Rattle.aml_marked.specs.Marked.{Place, count_at, over, an_integer}
+use Rattle.aml_marked.specs.Marked.{count_at, over, an_integer}
 use Rattle.aml_frames.specs.Places.{Site, at_place}
 use Rattle.aml_frames.proofs.ShortTerms.{does_short_number, behind_integer}
 use Rattle.aml_frames.proofs.short_terms.short_number.Goals as goal
