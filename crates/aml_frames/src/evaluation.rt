@@ -5,7 +5,7 @@ ghost use Rattle.ar_space.specs.Outcome.{Answers, seen};
 ghost use Rattle.aml_marked.specs.Marked.{walk_levels};
 ghost use Rattle.aml_meaning.specs.Fields.{field_part};
 ghost use Rattle.aml_meaning.specs.FieldCalls.{method_integer};
-ghost use Rattle.aml_meaning.specs.Invocations.{invoked};
+ghost use Rattle.aml_meaning.specs.Invocations.{invoked, method_value};
 ghost use Rattle.aml_meaning.specs.Meaning.{meaning};
 ghost use Rattle.aml_frames.specs.Addresses.{waited_run};
 ghost use Rattle.aml_frames.specs.Follow.{list_run, all_left};
@@ -24,12 +24,27 @@ use aml_terms::{Arities, scan_list};
 use ar_space::{Refusal, Space};
 use std::alloc::Global;
 
-/// Calls the control method at a path, with its body, where so many are being called already. However its body ends, the call ends: its
-/// frame of slots, and the names below it.
+/// Calls the control method at a path, with its body, where so many are being called already, and gives its value; one that gives none is
+/// uninitialized. However its body ends, the call ends: its frame of slots, and the names below it.
 ///
 /// Refused: `CallDepth` where 32 are being called, as a scan of the body refuses it, and as its evaluation is.
-#[tactic(auto, using(crate::proofs::Entering::entered))]
+#[tactic(auto, using(aml_meaning::proofs::Runs::running), unfolding(aml_meaning::specs::Invocations::method_value))]
 pub fn call_method<S: Space>(
+    alloc: Global,
+    run: &mut Running<S>,
+    depth: usize,
+    called: (Path, Body),
+    arguments: &[Value],
+) -> Result<Value, Refusal>
+    ensures { Does result run.new (method_value (meaning S.accesses) depth called.0 called.1 arguments.now) run.old }
+{
+    let flow = run_method(alloc, run, depth, called, arguments)?;
+    Ok(value_of_call(flow))
+}
+
+/// The same, and what the call leaves.
+#[tactic(auto, using(crate::proofs::Entering::entered))]
+fn run_method<S: Space>(
     alloc: Global,
     run: &mut Running<S>,
     depth: usize,
@@ -90,7 +105,7 @@ fn await_integer<S: Space>(
 }
 
 /// The integer that a control method answers.
-#[tactic(auto, using(aml_meaning::proofs::Runs::running), unfolding(aml_meaning::specs::FieldCalls::method_integer, aml_meaning::specs::Invocations::method_value))]
+#[tactic(auto, using(aml_meaning::proofs::Runs::running), unfolding(aml_meaning::specs::FieldCalls::method_integer))]
 fn call_integer<S: Space>(
     alloc: Global,
     run: &mut Running<S>,
@@ -99,8 +114,8 @@ fn call_integer<S: Space>(
 ) -> Result<u64, Refusal>
     ensures { Does result run.new (method_integer S.accesses (meaning S.accesses) depth called.0 called.1) run.old }
 {
-    let flow = call_method(alloc, run, depth, called, &[])?;
-    integer_only(value_of_call(flow))
+    let value = call_method(alloc, run, depth, called, &[])?;
+    integer_only(value)
 }
 
 /// The integer that a field holds.
