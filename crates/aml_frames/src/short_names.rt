@@ -44,10 +44,7 @@ fn segment_of(bytes: [u8; 4]) -> Option<Seg>
 }
 
 /// The node that the name finds that begins here, where it is one segment without a prefix.
-pub(crate) fn node_at<S>(
-    world: &WorldState<S>,
-    act: &Activation,
-) -> Option<NodeId>
+pub(crate) fn node_at<S>(world: &WorldState<S>, act: &Activation) -> Option<NodeId>
     ensures { IfSome result (λ id. FindsAt world.now act.now.scope act.now.place id.number) }
 {
     match one_segment(act) {
@@ -57,11 +54,7 @@ pub(crate) fn node_at<S>(
 }
 
 /// The same of a name where a value stands, which no argument follows.
-fn node_of_value<S>(
-    world: &WorldState<S>,
-    act: &Activation,
-    levels: u8,
-) -> Option<NodeId>
+fn node_of_value<S>(world: &WorldState<S>, act: &Activation, levels: u8) -> Option<NodeId>
     ensures finds { IfSome result (λ id. FindsAt world.now act.now.scope act.now.place id.number) }
     ensures levels { IfSome result (λ id. 0 < levels) }
     ensures alone { IfSome result (λ id. count_at act.now.marks act.now.place.at ≡ 0) }

@@ -60,12 +60,7 @@ pub fn evaluate<S: Space>(
         }
     };
     let list = whole(&body);
-    let outcome = execute(
-        alloc,
-        run,
-        Stack::new(alloc, body),
-        Control::Items(list),
-    );
+    let outcome = execute(alloc, run, Stack::new(alloc, body), Control::Items(list));
     end_call(run, path.path());
     of_call(outcome)
 }
@@ -80,12 +75,7 @@ pub(crate) fn run_list<S: Space>(
     ensures { Does result run.new (list_run S.accesses (meaning S.accesses) list (all_left list walk_levels)) run.old }
 {
     let items = whole(&list);
-    execute(
-        alloc,
-        run,
-        Stack::new(alloc, list),
-        Control::Items(items),
-    )
+    execute(alloc, run, Stack::new(alloc, list), Control::Items(items))
 }
 
 /// Reads a field as a part of an address, in one loop, where so many calls may still be made.
@@ -104,12 +94,7 @@ pub(crate) fn access_field<S: Space>(
         object: Accessed::Field(field),
         doing: Doing::Read(Reading::Part),
     };
-    execute(
-        alloc,
-        run,
-        Stack::new(alloc, act),
-        Control::Access(access),
-    )
+    execute(alloc, run, Stack::new(alloc, act), Control::Access(access))
 }
 
 /// What a call leaves whose body leaves this.

@@ -3,16 +3,15 @@ ghost use Rattle.std.specs.Prelude.{◌≡◌, [], Ok, length, map};
 ghost use Rattle.ar_space.specs.Outcome.{Answers, seen};
 ghost use Rattle.ar_space.specs.Change.{Does};
 ghost use Rattle.aml_meaning.specs.Given.{given_of};
-ghost use Rattle.aml_meaning.specs.Meaning.{meaning};
 ghost use Rattle.aml_meaning.specs.Readings.{absolute};
-ghost use Rattle.aml_meaning.specs.Invocations.{invocation_found, method_value, value_of_call};
+ghost use Rattle.aml_meaning.specs.Invocations.{invocation_found};
 ghost use Rattle.aml_meaning.specs.Calling.{called, counted, evaluated, with_rest, with_steps, answer_exported, answered, value_of};
 
 use crate::export::exported;
 use crate::fields::field_value;
 use aml_frames::call_method;
-use aml_meaning::{Datum, Flow, Invocation, Running, World, WorldState};
-use aml_objects::{Body, Value};
+use aml_meaning::{Datum, Invocation, Running, World, WorldState};
+use aml_objects::Value;
 use aml_path::{NameString, Path, Prefix};
 use ar_space::{Refusal, Space};
 use std::alloc::Global;
@@ -155,35 +154,8 @@ fn value_of<S: Space>(
     match invocation {
         Invocation::Value(value) => Ok(value),
         Invocation::Field(field) => field_value(alloc, run, CALLS_OF_A_FIELD, field),
-        Invocation::Method(path, body) => method_value(alloc, run, (path, body), arguments),
+        Invocation::Method(path, body) => call_method(alloc, run, 0, (path, body), arguments),
         Invocation::Osi => run.world.osi(arguments),
-    }
-}
-
-/// The value of a call of a control method from outside.
-#[tactic(auto, using(aml_meaning::proofs::Runs::running), unfolding(aml_meaning::specs::Invocations::method_value))]
-fn method_value<S: Space>(
-    alloc: Global,
-    run: &mut Running<S>,
-    called: (Path, Body),
-    arguments: &[Value],
-) -> Result<Value, Refusal>
-    ensures { Does result run.new (method_value (meaning S.accesses) 0 called.0 called.1 arguments.now) run.old }
-{
-    let flow = call_method(alloc, run, 0, called, arguments)?;
-    Ok(value_of_call(flow))
-}
-
-/// The value of a call; one that gives none is uninitialized.
-fn value_of_call(flow: Flow) -> Value
-    ensures { result ≡ value_of_call flow }
-{
-    match flow {
-        Flow::Value(value) => value,
-        Flow::Next => Value::Uninitialized,
-        Flow::Break => Value::Uninitialized,
-        Flow::Continue => Value::Uninitialized,
-        Flow::Return(_) => Value::Uninitialized,
     }
 }
 
