@@ -96,6 +96,7 @@ impl Model for Activation {
 }
 
 /// The bytes between two offsets: as many as there are.
+#[inline(always)]
 fn between(bytes: &[u8], at: usize, end: usize) -> &[u8]
     ensures { result.now ≡ take (end - at) (drop at bytes.now) }
 {
@@ -128,6 +129,7 @@ impl Activation {
     }
 
     /// The scope that names stand in.
+    #[inline(always)]
     pub fn scope(&self) -> Scope<'_>
         ensures { result.path.now ≡ self.now.scope }
     {
@@ -156,6 +158,7 @@ impl Activation {
     }
 
     /// How many control methods are being called.
+    #[inline(always)]
     pub fn depth(&self) -> usize
         ensures { result ≡ self.now.depth }
     {
@@ -163,6 +166,7 @@ impl Activation {
     }
 
     /// Where evaluation stands.
+    #[inline(always)]
     pub fn position(&self) -> Position
         ensures { place_between self.now.bytes result.at result.end ≡ self.now.place }
     {
@@ -170,6 +174,7 @@ impl Activation {
     }
 
     /// Evaluation goes on at a position.
+    #[inline(always)]
     pub fn go_to(&mut self, position: Position)
         ensures { self.new ≡ at_place self.old (place_between self.old.bytes position.at position.end) }
     {
@@ -177,6 +182,7 @@ impl Activation {
     }
 
     /// A cursor at the next byte.
+    #[inline(always)]
     #[tactic(auto, using(crate::proofs::Between::moving))]
     fn cursor(&self) -> Cursor<'_>
         ensures place { result ≡ self.now.place }
@@ -204,6 +210,7 @@ impl Activation {
     }
 
     /// Whether a name begins here.
+    #[inline(always)]
     pub fn is_at_name(&self) -> bool
         ensures { result ≡ starts_name (first self.now.place.rest) }
     {
@@ -220,6 +227,7 @@ impl Activation {
     }
 
     /// How many arguments follow the name that begins here.
+    #[inline(always)]
     pub fn argument_count(&self) -> u8
         ensures { result ≡ count_at self.now.marks self.now.place.at }
     {
@@ -248,6 +256,7 @@ impl Activation {
     }
 
     /// What is left of the list or package.
+    #[inline(always)]
     pub fn rest(&self) -> &[u8]
         ensures { result.now ≡ self.now.place.rest }
     {
@@ -255,6 +264,7 @@ impl Activation {
     }
 
     /// The next byte, or zero.
+    #[inline(always)]
     pub fn first(&self) -> u8
         ensures { result ≡ first self.now.place.rest }
     {
@@ -262,6 +272,7 @@ impl Activation {
     }
 
     /// Whether this byte stands next.
+    #[inline(always)]
     pub fn is_next(&self, byte: u8) -> bool
         ensures { result ≡ is_next byte self.now.place.rest }
     {
@@ -269,6 +280,7 @@ impl Activation {
     }
 
     /// So many bytes on, or to the end.
+    #[inline(always)]
     #[tactic(auto, using(crate::proofs::Between::moving))]
     pub fn over(&mut self, count: usize)
         ensures { self.new ≡ at_place self.old (over count self.old.place) }
@@ -382,6 +394,7 @@ impl Activation {
     }
 
     /// Whether nothing is left of the list or package.
+    #[inline(always)]
     pub fn is_empty(&self) -> bool
         ensures { result ≡ (length self.now.place.rest == 0) }
     {
@@ -421,6 +434,7 @@ impl Activation {
 }
 
 /// Where a cursor stands.
+#[inline(always)]
 fn position_of(cursor: &Cursor<'_>) -> Position
     ensures at { result.at ≡ cursor.now.at }
     ensures end { result.end ≡ end_of cursor.now }

@@ -66,6 +66,7 @@ pub(crate) fn use_known<S: Space>(
 }
 
 /// An integer is stored to the local, the argument or the name that stands next.
+#[inline(always)]
 fn put_known<S: Space>(
     run: &mut Running<S>,
     act: &mut Activation,
@@ -90,6 +91,7 @@ fn put_known<S: Space>(
 }
 
 /// What the local, the argument or the name that stands next holds is counted up or down.
+#[inline(always)]
 fn count_known<S: Space>(
     run: &mut Running<S>,
     act: &mut Activation,

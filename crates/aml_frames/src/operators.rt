@@ -19,6 +19,7 @@ use ar_space::{Refusal, Space};
 use std::alloc::Global;
 
 /// An operator: its first operand is evaluated, or the target is found that it stands for.
+#[inline(always)]
 #[tactic(auto, using(crate::proofs::Using::operating), unfolding(aml_meaning::specs::OperatorTerms::slot_rule))]
 pub fn begin_operator<S: Space>(
     alloc: Global,
@@ -90,6 +91,7 @@ pub fn begin_operator<S: Space>(
 }
 
 /// An operator whose only operand was evaluated.
+#[inline(always)]
 #[tactic(auto, using(crate::proofs::Using::using_targets))]
 pub(crate) fn resume_operand<S: Space>(
     alloc: Global,
@@ -110,6 +112,7 @@ pub(crate) fn resume_operand<S: Space>(
 }
 
 /// What an operator does with the value of its only operand.
+#[inline(always)]
 #[tactic(auto, using(crate::proofs::Using::using_targets))]
 fn finish_monadic<S: Space>(
     alloc: Global,
@@ -182,6 +185,7 @@ fn read_held<S: Space>(run: &Running<S>, act: &Activation, held: Held) -> Result
 }
 
 /// An operator whose first operand was evaluated: the second one is.
+#[inline(always)]
 #[tactic(auto, using(crate::proofs::Using::using_targets))]
 pub(crate) fn resume_first<S: Space>(
     run: &mut Running<S>,
@@ -209,6 +213,7 @@ pub(crate) fn resume_first<S: Space>(
 }
 
 /// An operator whose second operand was evaluated.
+#[inline(always)]
 #[tactic(auto, using(crate::proofs::Using::using_targets))]
 pub(crate) fn resume_second<S: Space>(
     alloc: Global,
@@ -228,6 +233,7 @@ pub(crate) fn resume_second<S: Space>(
 }
 
 /// What an operator does with the values of its two operands.
+#[inline(always)]
 #[tactic(auto, using(crate::proofs::Using::using_targets))]
 fn finish_dyadic<S: Space>(
     alloc: Global,

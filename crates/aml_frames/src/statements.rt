@@ -20,6 +20,7 @@ use ar_space::{Refusal, Space};
 use std::alloc::Global;
 
 /// A statement: its first part is evaluated, or it is done.
+#[inline(always)]
 #[tactic(auto, using(crate::proofs::Using::operating))]
 pub fn begin_statement<S: Space>(
     alloc: Global,

@@ -25,6 +25,7 @@ use ar_space::{NameFault, Refusal, Space};
 use std::alloc::Global;
 
 /// The target that stands next is found and used, or what it refers to is evaluated first.
+#[inline(always)]
 #[tactic(auto, using(crate::proofs::Using::finding))]
 pub(crate) fn begin_target<S: Space>(
     alloc: Global,
@@ -47,6 +48,7 @@ pub(crate) fn begin_target<S: Space>(
 }
 
 /// A target that may be left out.
+#[inline(always)]
 #[tactic(auto, using(crate::proofs::Using::finding))]
 fn begin_optional<S: Space>(
     alloc: Global,
@@ -71,6 +73,7 @@ fn begin_optional<S: Space>(
 }
 
 /// A name, or a term that refers to a target: one that takes an integer at once, or any other.
+#[inline(always)]
 #[tactic(auto, using(crate::proofs::Knowing::knowing))]
 fn begin_super_name<S: Space>(
     alloc: Global,

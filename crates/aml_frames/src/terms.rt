@@ -22,6 +22,7 @@ use ar_space::{EvaluationFault, NameFault, Refusal, Space};
 use std::alloc::Global;
 
 /// Begins the term that stands next, with so many levels: it costs a step.
+#[inline(always)]
 #[tactic(auto, using(crate::proofs::Using::beginning_terms), unfolding(aml_meaning::specs::Evaluation::rule))]
 pub(crate) fn begin_term<S: Space>(
     alloc: Global,
@@ -40,6 +41,7 @@ pub(crate) fn begin_term<S: Space>(
 }
 
 /// A term whose step is paid.
+#[inline(always)]
 #[tactic(auto, using(crate::proofs::Using::beginning_terms, crate::proofs::Stepping::coding))]
 fn begin_paid<S: Space>(
     alloc: Global,
@@ -81,6 +83,7 @@ fn begin_uncoded<S: Space>(
 }
 
 /// A term whose opcode was read, by the place of its row: its operands stand next.
+#[inline(always)]
 #[tactic(auto, using(crate::proofs::Using::beginning_terms, crate::proofs::Stepping::coding, crate::proofs::DeclaringFields::coded_regions))]
 fn begin_coded<S: Space>(
     alloc: Global,
