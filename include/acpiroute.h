@@ -39,7 +39,7 @@
  * Nothing is kept between two calls, and there is no global state: any number of threads may make calls at once, each over its
  * own buffers. Everything that is handed in stays the caller's. A call reads no file, prints nothing, and touches no register.
  *
- * Give a call 4 MiB of stack: at most 2.6 MiB were measured. It takes as much memory as the tables ask for. The option `--steps`
+ * Give a call 128 KiB of stack: at most 91 KiB were measured. It takes as much memory as the tables ask for. The option `--steps`
  * bounds how many terms an evaluation begins, and neither time nor memory.
  */
 #ifndef ACPIROUTE_H
