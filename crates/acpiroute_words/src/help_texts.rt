@@ -32,7 +32,7 @@ The numbers of --avoid are separated by commas, without blanks: --avoid 3,4,7. A
 and of wired pins are counted: --avoid 1,3,4,6,7,12,14,15 leaves those of keyboard, serial ports, floppy disk, parallel port, mouse and \
 disks to them.
 
-With --spare these are asked for instead: every device that is no link device, is present by its _STA and has a _CRS. No link device is \
+With --spare these are asked for instead: every device that has no line 'link', is present by its own _STA and has a _CRS. No link device is \
 given an interrupt that one of these has. The report tells them in lines 'spared DEVICE N..', and in 'unread DEVICE R' a device whose _STA \
 or _CRS was refused by number R: nothing is spared for it. Interrupts that no _CRS gives aren't spared.
 
@@ -63,8 +63,8 @@ pub(crate) const CHECK: &str = "\
 The report is read from the standard input: acpiroute check < report
 
 The lines 'link', up to 'now', 'wired', 'sci', 'avoid' and 'spared' are believed: whether they tell the machine truly, check can't know. \
-By them the lines 'give', 'busiest', 'bound' and 'spread' are tested. The lines 'mode', 'ioapic', 'override', 'unread', 'pin', 'set' and \
-'after' are passed over.
+By them the lines 'give', 'busiest', 'bound' and 'spread' are tested. The lines 'mode', 'ioapic', 'override', 'pin', 'set' and \
+'after' are passed over, and of 'unread' and 'first' the form alone is tested.
 
-Exit status: 0 where the claim is valid, 4 where it isn't, 1 for a refusal, 2 for a faulty command line. 'acpiroute --help' lists \
+Exit status: 0 where the claim holds, 4 where it doesn't, 1 for a refusal, 2 for a faulty command line. 'acpiroute --help' lists \
 the refusals.";
