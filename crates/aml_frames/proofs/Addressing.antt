@@ -162,9 +162,6 @@ module _ {S : Type 0} {ac : Accesses S} where
   pub leads_part : {c : Site} {s : State S × ℕ} (calls : ℕ) (f : Field) (x : PciAccess) → Leads ac (meaning ac) (Ok (next.AccessThen (record { calls = calls; object = object.Field f; doing = doing.Read reading.Part }) (frames.Address x))) c s (waited_met ac (meaning ac) (waits.Field calls f) x) s
   leads_part {s = s} calls f x = record { is = λ _. field_is ac calls f x s }
 
-  pub leads_body_then : {c : Site} {s : State S × ℕ} (b : Site) (x : Frame) (p : List Seg) (depth : ℕ) (bs : List ℕ) (marks : List Mark) → b ≡ record { bytes = bs; marks = marks; scope = p; depth = depth; place = record { at = 0; rest = bs } } → Leads ac (meaning ac) (Ok (next.BodyThen b x)) c s (leaving p (in_turn (meaning ac) p depth (trees_of (trees_by marks bs))) >>= resumed ac (meaning ac) x c) s
-  leads_body_then b x p depth bs marks e = rw e (record { is = λ _. refl })
-
   -- ---- how an answer is asked for
 
   pub asks_known : {s : State S × ℕ} (n : ℕ) → Asks ac (meaning ac) (Ok (answers.Known n)) s (give n) s
@@ -218,6 +215,6 @@ pub ruleset parts_known = (stepping, leads_known, leads_waits, leads_unasked)
 
 pub ruleset waiting = (stepping, leads_method, leads_part)
 
-pub ruleset entering = (stepping, leads_nested, leads_body_then)
+pub ruleset entering = (stepping, leads_nested)
 
 pub ruleset answering = (running, part_before, asks_known, asks_settled, asks_unsettled, asks_stop, asks_field, asks_method, asks_ok, asks_err, asks_over, asks_none)

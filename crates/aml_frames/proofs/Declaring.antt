@@ -51,7 +51,7 @@ pub ends_declaration : (r : Outcome Next) (e c : Site) (levels : ℕ) (k : Decla
 ends_declaration r e c levels k o h l = subst (EndsAt r e) (ap (at_place c) (sym (behind_declaration_is (terms c levels) k o c.place h))) l
 
 module _ {S : Type 0} {ac : Accesses S} where
-  pub leads_list_in : {s : State S × ℕ} {n : ℕ} (c d : Site) (p q : List Seg) (levels : ℕ) (o : Position) (node : NodeId) → d ≡ record c { scope = p } → n ≡ length c.place.rest → Leads ac (meaning ac) (Ok (next.ItemsThen (record { left = n; levels = levels; outer = o }) (frames.Scope q node))) d s (list_in (meaning ac) p c levels) s
+  pub leads_list_in : {s : State S × ℕ} {n : ℕ} (c d : Site) (p q : List Seg) (levels : ℕ) (o : Position) (node : NodeId) → d ≡ record c { scope = p } → n ≡ length c.place.rest → Leads ac (meaning ac) (Ok (next.Scope (record { left = n; levels = levels; outer = o }) q node)) d s (list_in (meaning ac) p c levels) s
   unfolding all_items
   leads_list_in {s = s} c d p q levels o node e h = rw (e, h) (record { is = λ _. sym (given (list_in (meaning ac) p c levels) s) })
 

@@ -30,7 +30,8 @@ use Rattle.aml_meaning.proofs.Runs.{running, does_lift}
 use Rattle.aml_frames.specs.declared.addresses.Asked.{Asked}
 use Rattle.aml_frames.specs.declared.addresses.Asked.TheVariants as answers
 use Rattle.aml_frames.specs.declared.addresses.Waited.{Waited}
-use Rattle.aml_frames.specs.declared.frames.Frame.{Frame}
+use Rattle.aml_frames.specs.declared.addresses.PciAccess.{PciAccess}
+use Rattle.aml_frames.specs.declared.frames.Frame.TheVariants as frames
 use Rattle.aml_frames.specs.declared.frames.Next.{Next}
 use Rattle.aml_frames.specs.declared.frames.Next.TheVariants as next
 use Rattle.aml_frames.specs.declared.uses.Accessed.TheVariants as object
@@ -80,7 +81,7 @@ module _ {S : Type 0} {ac : Accesses S} where
   pub leads_unentered : {c : Site} {s s1 : State S × ℕ} (e : Refusal) (m : Run S Flow) → Enters ac (meaning ac) (Err e) s1 m s → Leads ac (meaning ac) (Err e) c s1 m s
   leads_unentered e m h = record { is = λ ne. h.is ne }
 
-  pub leads_entered_then : {c : Site} {s s1 : State S × ℕ} (b : Site) (x : Frame) (m : Run S Flow) → Enters ac (meaning ac) (Ok b) s1 m s → Leads ac (meaning ac) (Ok (next.BodyThen b x)) c s1 (m >>= resumed ac (meaning ac) x c) s
+  pub leads_entered_then : {c : Site} {s s1 : State S × ℕ} (b : Site) (x : PciAccess) (m : Run S Flow) → Enters ac (meaning ac) (Ok b) s1 m s → Leads ac (meaning ac) (Ok (next.BodyThen b x)) c s1 (m >>= resumed ac (meaning ac) (frames.Address x) c) s
   unfolding ◌>>=◌
   leads_entered_then b x m h = record { is = λ _. rw (h.is tt) refl }
 

@@ -9,6 +9,7 @@ pub mod Using
 pub mod Beginning
 pub mod Entering
 pub mod ShortNames
+mod ShortOperations
 pub mod ShortTerms
 pub mod BitBytes
 pub mod Elements

@@ -8,6 +8,10 @@ use Rattle.ar_space.specs.Outcome.{Outcome, NotMemory, seen}
 use Rattle.ar_space.specs.Change.{Does, Same, give, stop, settle, go_on, ◌>>=◌}
 use Rattle.aml_path.specs.declared.segment.Seg.{Seg}
 use Rattle.aml_marked.specs.Marked.{all_items, walk_levels}
+use Rattle.aml_objects.specs.declared.node.NodeId.{NodeId}
+use Rattle.aml_objects.specs.declared.entry.Field.{Field}
+use Rattle.aml_objects.specs.declared.value.Reference.{Reference}
+use Rattle.aml_objects.specs.declared.value.Value.{Value}
 use Rattle.aml_objects.specs.declared.value.Value.TheVariants as value
 use Rattle.aml_meaning.specs.declared.flow.Flow.{Flow}
 use Rattle.aml_meaning.specs.declared.flow.Flow.TheVariants as flow
@@ -19,19 +23,27 @@ use Rattle.aml_frames.specs.declared.frames.Control.{Control}
 use Rattle.aml_frames.specs.declared.frames.Control.TheVariants as control
 use Rattle.aml_frames.specs.declared.frames.Entry.{Entry}
 use Rattle.aml_frames.specs.declared.frames.Entry.TheVariants as entry
+use Rattle.aml_frames.specs.declared.addresses.PciAccess.{PciAccess}
 use Rattle.aml_frames.specs.declared.frames.Frame.{Frame}
+use Rattle.aml_frames.specs.declared.frames.Frame.TheVariants as frames
+use Rattle.aml_frames.specs.declared.frames.Loop.{Loop}
 use Rattle.aml_frames.specs.declared.frames.Items.{Items}
 use Rattle.aml_frames.specs.declared.frames.Next.{Next}
 use Rattle.aml_frames.specs.declared.frames.Package.{Package}
 use Rattle.aml_frames.specs.declared.frames.Next.TheVariants as next
 use Rattle.aml_frames.specs.declared.uses.Access.{Access}
+use Rattle.aml_frames.specs.declared.uses.Reading.{Reading}
+use Rattle.aml_frames.specs.declared.uses.Reading.TheVariants as reading
 use Rattle.aml_frames.specs.declared.uses.Target.{Target}
 use Rattle.aml_frames.specs.declared.uses.TargetUse.{TargetUse}
-use Rattle.aml_frames.specs.Uses.{target_ends, target_run, access_run}
+use Rattle.aml_frames.specs.declared.uses.TargetUse.TheVariants as uses
+use Rattle.aml_meaning.specs.declared.store_target.StoreTarget.{StoreTarget}
+use Rattle.aml_meaning.specs.declared.term_kind.Count.{Count}
+use Rattle.aml_frames.specs.Uses.{optional, target_ends, target_run, access_run}
 use Rattle.aml_frames.proofs.Weighing.{falling}
 use Rattle.aml_frames.specs.Places.{Site, behind_term}
 use Rattle.aml_frames.specs.Data.{package_run}
-use Rattle.aml_frames.specs.Follow.{at_position, ends, term_run, items_run, list_run, all_left, body_run, resumed, next_run, next_ends, Leads}
+use Rattle.aml_frames.specs.Follow.{at_position, ends, turn_items, read_access, term_run, items_run, list_run, all_left, body_run, resumed, next_run, next_ends, Leads}
 use Rattle.aml_frames.specs.Stack.{Rest, whole, met, unwinding, at_bottom, then_all, machine, Goes, entry_weight, stack_weight, control_weight}
 
 -- ---- the newest entry meets the outcome first
@@ -90,39 +102,39 @@ module _ {S : Type 0} {ac : Accesses S} {ev : Task → Run S Flow} where
   pub goes_term : {c : Site} {s : State S × ℕ} (xs ys : List Entry) (levels : ℕ) (x : Frame) → ys ≡ xs ++ entry.Frame x ∷ [] → Goes ac ev (Ok (control.Term levels)) c ys s (then_all ac ev (next_run ac ev (next.Term levels x) c) (next_ends (next.Term levels x) c) xs) s
   goes_term {c = c} {s = s} xs ys levels x e = record { is = λ _. sym (ap (λ zs. then_all ac ev (term_run ac ev c levels) (behind_term c levels) zs s) e ∙ at_frame ac ev (term_run ac ev c levels) (behind_term c levels) xs x s) }
 
-  pub goes_items_then : {c : Site} {s : State S × ℕ} (xs ys : List Entry) (i : Items) (x : Frame) → ys ≡ xs ++ entry.Frame x ∷ [] → Goes ac ev (Ok (control.Items i)) c ys s (then_all ac ev (next_run ac ev (next.ItemsThen i x) c) (next_ends (next.ItemsThen i x) c) xs) s
-  goes_items_then {c = c} {s = s} xs ys i x e = record { is = λ _. sym (ap (λ zs. then_all ac ev (items_run ac ev i c) (at_position c i.outer) zs s) e ∙ at_frame ac ev (items_run ac ev i c) (at_position c i.outer) xs x s) }
+  pub goes_turn : {c : Site} {s : State S × ℕ} (xs ys : List Entry) (i : Items) (l : Loop) → i ≡ turn_items l c → ys ≡ xs ++ entry.Frame (frames.Turn l) ∷ [] → Goes ac ev (Ok (control.Items i)) c ys s (then_all ac ev (next_run ac ev (next.Turn l) c) (next_ends (next.Turn l) c) xs) s
+  goes_turn {c = c} {s = s} xs ys i l h e = rw h (record { is = λ _. sym (ap (λ zs. then_all ac ev (items_run ac ev (turn_items l c) c) (at_position c l.outer) zs s) e ∙ at_frame ac ev (items_run ac ev (turn_items l c) c) (at_position c l.outer) xs (frames.Turn l) s) })
+
+  pub goes_scope : {c : Site} {s : State S × ℕ} (xs ys : List Entry) (i : Items) (p : List Seg) (node : NodeId) → ys ≡ xs ++ entry.Frame (frames.Scope p node) ∷ [] → Goes ac ev (Ok (control.Items i)) c ys s (then_all ac ev (next_run ac ev (next.Scope i p node) c) (next_ends (next.Scope i p node) c) xs) s
+  goes_scope {c = c} {s = s} xs ys i p node e = record { is = λ _. sym (ap (λ zs. then_all ac ev (items_run ac ev i c) (at_position c i.outer) zs s) e ∙ at_frame ac ev (items_run ac ev i c) (at_position c i.outer) xs (frames.Scope p node) s) }
 
   pub goes_body : {s : State S × ℕ} (a b : Site) (xs ys : List Entry) → ys ≡ xs ++ entry.Leave a b.scope ∷ [] → Goes ac ev (Ok (control.Items (whole b))) b ys s (then_all ac ev (body_run ac ev b) a xs) s
   unfolding all_items
   goes_body {s = s} a b xs ys e = record { is = λ _. sym (ap (λ zs. then_all ac ev (items_run ac ev (whole b) b) (at_position b (whole b).outer) zs s) e ∙ at_leave ac ev (items_run ac ev (whole b) b) a (at_position b (whole b).outer) b.scope xs s) }
 
-  pub goes_body_then : {s : State S × ℕ} (a b : Site) (xs ys zs : List Entry) (x : Frame) → ys ≡ xs ++ entry.Frame x ∷ [] → zs ≡ ys ++ entry.Leave a b.scope ∷ [] → Goes ac ev (Ok (control.Items (whole b))) b zs s (then_all ac ev (next_run ac ev (next.BodyThen b x) a) (next_ends (next.BodyThen b x) a) xs) s
-  goes_body_then {s = s} a b xs ys zs x e h = record { is = λ _. sym (at_frame ac ev (body_run ac ev b) a xs x s) ∙ ap (λ us. then_all ac ev (body_run ac ev b) a us s) (sym e) ∙ (goes_body {s = s} a b ys zs h).is tt }
+  pub goes_body_then : {s : State S × ℕ} (a b : Site) (xs ys zs : List Entry) (x : PciAccess) → ys ≡ xs ++ entry.Frame (frames.Address x) ∷ [] → zs ≡ ys ++ entry.Leave a b.scope ∷ [] → Goes ac ev (Ok (control.Items (whole b))) b zs s (then_all ac ev (next_run ac ev (next.BodyThen b x) a) (next_ends (next.BodyThen b x) a) xs) s
+  goes_body_then {s = s} a b xs ys zs x e h = record { is = λ _. sym (at_frame ac ev (body_run ac ev b) a xs (frames.Address x) s) ∙ ap (λ us. then_all ac ev (body_run ac ev b) a us s) (sym e) ∙ (goes_body {s = s} a b ys zs h).is tt }
 
   pub goes_target : {c : Site} {xs : List Entry} {s : State S × ℕ} (t : Target) (u : TargetUse) → Goes ac ev (Ok (control.Target t u)) c xs s (then_all ac ev (target_run ac ev t u c) (target_ends t u c) xs) s
   goes_target t u = record { is = λ _. refl }
 
-  pub goes_access : {c : Site} {xs : List Entry} {s : State S × ℕ} (a : Access) → Goes ac ev (Ok (control.Access a)) c xs s (then_all ac ev (access_run ac ev a) c xs) s
-  goes_access a = record { is = λ _. refl }
+  pub goes_read : {c : Site} {xs : List Entry} {s : State S × ℕ} (f : Field) (how : Reading) → Goes ac ev (Ok (control.Read f how)) c xs s (then_all ac ev (next_run ac ev (next.Read f how) c) c xs) s
+  goes_read f how = record { is = λ _. refl }
 
-  pub goes_target_then : {c : Site} {s : State S × ℕ} (xs ys : List Entry) (t : Target) (u : TargetUse) (x : Frame) → ys ≡ xs ++ entry.Frame x ∷ [] → Goes ac ev (Ok (control.Target t u)) c ys s (then_all ac ev (next_run ac ev (next.TargetThen t u x) c) (next_ends (next.TargetThen t u x) c) xs) s
-  goes_target_then {c = c} {s = s} xs ys t u x e = record { is = λ _. sym (ap (λ zs. then_all ac ev (target_run ac ev t u c) (target_ends t u c) zs s) e ∙ at_frame ac ev (target_run ac ev t u c) (target_ends t u c) xs x s) }
+  target_then : {c : Site} {s : State S × ℕ} (xs ys : List Entry) (t : Target) (u : TargetUse) (x : Frame) → ys ≡ xs ++ entry.Frame x ∷ [] → Goes ac ev (Ok (control.Target t u)) c ys s (then_all ac ev (target_run ac ev t u c >>= resumed ac ev x (target_ends t u c)) (ends x (target_ends t u c)) xs) s
+  target_then {c = c} {s = s} xs ys t u x e = record { is = λ _. sym (ap (λ zs. then_all ac ev (target_run ac ev t u c) (target_ends t u c) zs s) e ∙ at_frame ac ev (target_run ac ev t u c) (target_ends t u c) xs x s) }
+
+  pub goes_division : {c : Site} {s : State S × ℕ} (xs ys : List Entry) (levels : ℕ) (v q : Value) → ys ≡ xs ++ entry.Frame (frames.Quotient levels q) ∷ [] → Goes ac ev (Ok (control.Target (optional levels) (uses.Store v))) c ys s (then_all ac ev (next_run ac ev (next.Division levels v q) c) (next_ends (next.Division levels v q) c) xs) s
+  goes_division xs ys levels v q e = target_then xs ys (optional levels) (uses.Store v) (frames.Quotient levels q) e
+
+  pub goes_found : {c : Site} {s : State S × ℕ} (xs ys : List Entry) (levels : ℕ) (r : Reference) → ys ≡ xs ++ entry.Frame frames.Found ∷ [] → Goes ac ev (Ok (control.Target (optional levels) (uses.Store (value.Reference r)))) c ys s (then_all ac ev (next_run ac ev (next.Found levels r) c) (next_ends (next.Found levels r) c) xs) s
+  goes_found xs ys levels r e = target_then xs ys (optional levels) (uses.Store (value.Reference r)) frames.Found e
+
+  pub goes_counted : {c : Site} {s : State S × ℕ} (xs ys : List Entry) (k : Count) (x : StoreTarget × Field) (f : Field) → f ≡ x.1 → ys ≡ xs ++ entry.Frame (frames.Counted k x) ∷ [] → Goes ac ev (Ok (control.Read f reading.Integer)) c ys s (then_all ac ev (next_run ac ev (next.Counted k x) c) (next_ends (next.Counted k x) c) xs) s
+  goes_counted {c = c} {s = s} xs ys k x f h e = rw h (record { is = λ _. sym (ap (λ zs. then_all ac ev (access_run ac ev (read_access c x.1 reading.Integer)) c zs s) e ∙ at_frame ac ev (access_run ac ev (read_access c x.1 reading.Integer)) c xs (frames.Counted k x) s) })
 
   pub goes_access_then : {c : Site} {s : State S × ℕ} (xs ys : List Entry) (a : Access) (x : Frame) → ys ≡ xs ++ entry.Frame x ∷ [] → Goes ac ev (Ok (control.Access a)) c ys s (then_all ac ev (next_run ac ev (next.AccessThen a x) c) (next_ends (next.AccessThen a x) c) xs) s
   goes_access_then {c = c} {s = s} xs ys a x e = record { is = λ _. sym (ap (λ zs. then_all ac ev (access_run ac ev a) c zs s) e ∙ at_frame ac ev (access_run ac ev a) c xs x s) }
-
-  -- an operand that is there already
-  pub goes_known : {s s1 : State S × ℕ} {d : Site} (c : Site) (xs : List Entry) (levels n : ℕ) (x : Frame) → Does (Ok (flow.Value (value.Integer n))) s1 (term_run ac ev c levels) s → d ≡ behind_term c levels
-      → Goes ac ev (Ok (control.Resume x (value.Integer n))) d xs s1 (then_all ac ev (next_run ac ev (next.Term levels x) c) (next_ends (next.Term levels x) c) xs) s
-  unfolding then_all ◌>>=◌ go_on
-  goes_known c xs levels n x h e = rw e (record { is = λ _. rw (h.is tt) refl })
-
-  pub goes_refused : {r : Outcome Control} {e : Refusal} {s s1 : State S × ℕ} {d : Site} (c : Site) (xs : List Entry) (levels : ℕ) (x : Frame) → Does {A = Flow} (Err e) s1 (term_run ac ev c levels) s → IsErr r × IsErrAnd r (λ y. y ≡ e)
-      → Goes ac ev r d xs s1 (then_all ac ev (next_run ac ev (next.Term levels x) c) (next_ends (next.Term levels x) c) xs) s
-  unfolding then_all ◌>>=◌ go_on stop
-  goes_refused {r = Ok y} c xs levels x h i = absurd (cc i.0)
-  goes_refused {r = Err y} {s1 = s1} {d = d} c xs levels x h i = record { is = λ ne. rw (h.is (λ q. ne (i.1 ∙ q)), i.1) (stopped_anywhere ac ev _ xs (ends x (behind_term c levels)) d s1) }
 
   pub goes_memory : {s : State S × ℕ} (r : Outcome Control) (c : Site) (xs : List Entry) (after : State S × ℕ) (m : Run S Flow) → IsErr r × IsErrAnd r (λ e. e ≡ OutOfMemory) → Goes ac ev r c xs after m s
   goes_memory (Ok x) c xs after m i = absurd (cc i.0)
@@ -184,7 +196,7 @@ module _ {S : Type 0} (ac : Accesses S) (ev : Task → Run S Flow) where
   unfolding then_all unwinding stop settle
   unwound_end e c xs s i = rw i refl
 
-pub ruleset going = (weight_on, goes_flow, goes_items, goes_package, goes_term, goes_items_then, goes_body, goes_body_then, goes_target, goes_target_then, goes_access, goes_access_then, goes_known, goes_refused, goes_memory)
+pub ruleset going = (weight_on, goes_flow, goes_items, goes_package, goes_term, goes_turn, goes_scope, goes_body, goes_body_then, goes_target, goes_division, goes_found, goes_read, goes_counted, goes_access_then, goes_memory)
 
 pub ruleset taking = (falling, goes_leads, goes_leads_err, goes_frame, goes_leave, goes_memory)
 

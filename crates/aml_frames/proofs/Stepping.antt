@@ -254,10 +254,10 @@ module _ {S : Type 0} {ac : Accesses S} where
       let m : loop_again ac (meaning ac) l c s ≡ again (inside_at c.place) s = rw j (ap (λ q. again q s) at) in
       record { is = λ _. sym m ∙ (leads_loop {s = s} c d l (e ∙ ap (at_place c) (sym at))).is tt ∙ rw j refl }
 
-  pub leads_turn : {s : State S × ℕ} {n : ℕ} (c d : Site) (l : Loop) (holds : Bool) → holds ≡ true → d ≡ c → n ≡ length c.place.rest → Leads ac (meaning ac) (Ok (next.ItemsThen (record { left = n; levels = l.levels; outer = l.outer }) (frames.Turn l))) d s (turn_left ac (meaning ac) l c holds) s
+  pub leads_turn : {s : State S × ℕ} (c d : Site) (l : Loop) (holds : Bool) → holds ≡ true → d ≡ c → Leads ac (meaning ac) (Ok (next.Turn l)) d s (turn_left ac (meaning ac) l c holds) s
   unfolding turn_left all_items
-  leads_turn c d l true h i j = rw (i, j) (record { is = λ _. refl })
-  leads_turn c d l false h i j = absurd (cc h)
+  leads_turn c d l true h i = rw i (record { is = λ _. refl })
+  leads_turn c d l false h i = absurd (cc h)
 
   pub leads_no_turn : {s : State S × ℕ} (c d : Site) (l : Loop) (holds : Bool) → holds ≡ false → Leads ac (meaning ac) (Ok (next.Flow flow.Next)) d s (turn_left ac (meaning ac) l c holds) s
   unfolding turn_left give ◌>>=◌ go_on

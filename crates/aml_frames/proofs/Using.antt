@@ -1,5 +1,5 @@
 -- Operators, what is done with targets, and accesses of fields: steps keep what their rules mean.
-use Rattle.std.specs.Prelude.{◌≡◌, ℕ, List, Bool, true, false, Option, Some, None, Ok, Err, refl}
+use Rattle.std.specs.Prelude.{◌≡◌, ℕ, ◌-◌, List, Bool, true, false, Option, Some, None, Ok, Err, refl}
 use Rattle.std.proofs.Common.{◌∙◌, ap, sym, subst}
 use Rattle.ar_space.specs.Accesses.{Accesses}
 use Rattle.ar_space.specs.Outcome.{Outcome}
@@ -63,10 +63,6 @@ use Rattle.aml_frames.proofs.Targeting.{target_part_is, named_part, term_part, b
 use Rattle.aml_frames.proofs.Declaring.{leads_declaration, ends_declaration}
 use Rattle.aml_frames.proofs.Beginning.{leads_call, ends_call, leads_no_term, leads_unsupported}
 use Rattle.aml_frames.proofs.Weighing.{few_calls, charged_less, charged_paid}
-
--- a field that a term reads
-abbrev reads : ℕ → Field → Reading → Access
-reads calls f how = record { calls = calls; object = object.Field f; doing = doing.Read how }
 
 abbrev writes : ℕ → Field → List ℕ → Access
 writes calls f bytes = record { calls = calls; object = object.Field f; doing = doing.Write bytes }
@@ -173,26 +169,26 @@ module _ {S : Type 0} (ac : Accesses S) where
 module _ {S : Type 0} {ac : Accesses S} where
   -- ---- accesses
 
-  pub leads_read : {c : Site} {s : State S × ℕ} (calls : ℕ) (f : Field) → Leads ac (meaning ac) (Ok (next.Access (reads calls f reading.Value))) c s (field_value ac (asked (answer_within ac (meaning ac) calls)) f >>= (λ v. give (flow.Value v))) s
+  pub leads_read : {c : Site} {s : State S × ℕ} (depth : ℕ) (f : Field) → depth ≡ c.depth → Leads ac (meaning ac) (Ok (next.Read f reading.Value)) c s (field_value ac (asked (answer_within ac (meaning ac) (32 - depth))) f >>= (λ v. give (flow.Value v))) s
   unfolding field_value read_as
-  leads_read {s = s} calls f = record { is = λ _. bind_bind (bits_in ac (asked (answer_within ac (meaning ac) calls)) f) (λ bytes. lift (value_of_bits _ bytes)) (λ v. give (flow.Value v)) s }
+  leads_read {c = c} {s = s} depth f e = rw e (record { is = λ _. bind_bind (bits_in ac (asked (answer_within ac (meaning ac) (32 - c.depth))) f) (λ bytes. lift (value_of_bits _ bytes)) (λ v. give (flow.Value v)) s })
 
-  pub leads_told : {c : Site} {s : State S × ℕ} (calls : ℕ) (f : Field) (i : Inquiry) → Leads ac (meaning ac) (Ok (next.Access (reads calls f (reading.Inquire i)))) c s (field_referent ac (asked (answer_within ac (meaning ac) calls)) f >>= (λ r. lift (told i r) >>= (λ v. give (flow.Value v)))) s
+  pub leads_told : {c : Site} {s : State S × ℕ} (depth : ℕ) (f : Field) (i : Inquiry) → depth ≡ c.depth → Leads ac (meaning ac) (Ok (next.Read f (reading.Inquire i))) c s (field_referent ac (asked (answer_within ac (meaning ac) (32 - depth))) f >>= (λ r. lift (told i r) >>= (λ v. give (flow.Value v)))) s
   unfolding field_referent read_as
-  leads_told {s = s} calls f i = record { is = λ _. bind_bind (bits_in ac (asked (answer_within ac (meaning ac) calls)) f) (λ bytes. lift (referent_of_bits _ bytes)) (λ r. lift (told i r) >>= (λ v. give (flow.Value v))) s }
+  leads_told {c = c} {s = s} depth f i e = rw e (record { is = λ _. bind_bind (bits_in ac (asked (answer_within ac (meaning ac) (32 - c.depth))) f) (λ bytes. lift (referent_of_bits _ bytes)) (λ r. lift (told i r) >>= (λ v. give (flow.Value v))) s })
 
-  pub leads_counted : {c : Site} {s : State S × ℕ} (calls : ℕ) (k : Count) (p : StoreTarget) (f : Field) → Leads ac (meaning ac) (Ok (next.AccessThen (reads calls f reading.Integer) (frames.Counted k p f))) c s (field_integer ac (asked (answer_within ac (meaning ac) calls)) f >>= (λ n. counted_back ac (meaning ac) k p (held.Field f) c n)) s
+  pub leads_counted : {c : Site} {s : State S × ℕ} (depth : ℕ) (k : Count) (p : StoreTarget) (f : Field) → depth ≡ c.depth → Leads ac (meaning ac) (Ok (next.Counted k (p, f))) c s (field_integer ac (asked (answer_within ac (meaning ac) (32 - depth))) f >>= (λ n. counted_back ac (meaning ac) k p (held.Field f) c n)) s
   unfolding field_integer read_as
-  leads_counted {c = c} {s = s} calls k p f =
-      let m = bits_in ac (asked (answer_within ac (meaning ac) calls)) f in
+  leads_counted {c = c} {s = s} depth k p f e =
+      let m = bits_in ac (asked (answer_within ac (meaning ac) (32 - c.depth))) f in
       let back = counted_back ac (meaning ac) k p (held.Field f) c in
       let after : Flow → Run S Flow = λ g. settle (value_in g) >>= (λ v. lift (integer_in v) >>= back) in
-      record {
+      rw e (record {
         is = λ _.
             bind_bind m (λ bytes. lift (integer_of_bits bytes)) back s
             ∙ bind_same m (λ bytes. lift (integer_of_bits bytes) >>= back) (λ bytes. lift (integer_of_bits bytes) >>= (λ n. give (flow.Value (value.Integer n))) >>= after) s (λ bytes i. counted_one bytes back i)
             ∙ sym (bind_bind m (λ bytes. lift (integer_of_bits bytes) >>= (λ n. give (flow.Value (value.Integer n)))) after s);
-      }
+      })
 
   pub leads_written : {c : Site} {s : State S × ℕ} (calls : ℕ) (f : Field) (bytes : List ℕ) (v : Value) → Leads ac (meaning ac) (Ok (next.AccessThen (writes calls f bytes) (frames.Give v))) c s (written_in ac (asked (answer_within ac (meaning ac) calls)) f bytes >>= (λ done. give (flow.Value v))) s
   leads_written {s = s} calls f bytes v =
@@ -201,10 +197,10 @@ module _ {S : Type 0} {ac : Accesses S} where
 
   -- ---- two stores
 
-  pub leads_stores : {c : Site} {s : State S × ℕ} (levels : ℕ) (v q : Value) → Leads ac (meaning ac) (Ok (next.TargetThen (optional levels) (uses.Store v) (frames.Quotient levels q))) c s (target_run ac (meaning ac) (optional levels) (uses.Store v) c >>= (λ done. target_run ac (meaning ac) (optional levels) (uses.Store q) (behind_target (optional levels) c))) s
+  pub leads_stores : {c : Site} {s : State S × ℕ} (levels : ℕ) (v q : Value) → Leads ac (meaning ac) (Ok (next.Division levels v q)) c s (target_run ac (meaning ac) (optional levels) (uses.Store v) c >>= (λ done. target_run ac (meaning ac) (optional levels) (uses.Store q) (behind_target (optional levels) c))) s
   leads_stores levels v q = record { is = λ _. refl }
 
-  pub leads_found : {c : Site} {s : State S × ℕ} (levels : ℕ) (r : _) → Leads ac (meaning ac) (Ok (next.TargetThen (optional levels) (uses.Store (value.Reference r)) frames.Found)) c s (found_next ac (meaning ac) levels (Some r) c) s
+  pub leads_found : {c : Site} {s : State S × ℕ} (levels : ℕ) (r : _) → Leads ac (meaning ac) (Ok (next.Found levels r)) c s (found_next ac (meaning ac) levels (Some r) c) s
   unfolding found_next
   leads_found levels r = record { is = λ _. refl }
 

@@ -3,8 +3,9 @@ use Rattle.std.specs.Prelude.{◌≡◌, ◌≤◌, ◌<◌, ◌+◌, ◌*◌, �
 use Rattle.std.proofs.Common.{arith, subst}
 use Rattle.ar_space.specs.Outcome.{Outcome}
 use Rattle.aml_frames.specs.declared.frames.Control.{Control}
+use Rattle.aml_frames.specs.declared.frames.Next.{Next}
 use Rattle.aml_frames.specs.Stack.{control_weight}
-use Rattle.aml_frames.specs.Weights.{part_weight, field_weight, most, step_weight, charged}
+use Rattle.aml_frames.specs.Weights.{part_weight, field_weight, most, next_weight, step_weight, charged}
 
 times_up : (k a b : ℕ) → a ≤ b → k * a ≤ k * b
 times_up zero a b h = omega arith
@@ -40,6 +41,11 @@ pub few_calls : (depth : ℕ) → field_weight (32 - depth) ≤ most
 unfolding most
 few_calls depth = part_up (suc (32 - depth)) (32 - (32 - depth)) 33 (omega arith)
 
+-- what a step leaves that took no step back
+pub charged_free : (r : Outcome Next) (a b v u : ℕ) → a ≤ b → v ≤ u → IfOk r (λ n. next_weight n < v) → IfOk r (λ n. charged a + next_weight n < charged b + u)
+charged_free (Ok n) a b v u h i j = let p = charged_less a b h in omega (arith, p, i, j)
+charged_free (Err e) a b v u h i j = tt
+
 -- ---- the sum falls: what is left weighs w, and what was taken from the stack v; what follows weighs no more
 
 -- with a step that is paid
@@ -53,18 +59,18 @@ falls_free (Ok c) a b w v n x y h i j = let p = charged_less a b h in omega (ari
 falls_free (Err z) a b w v n x y h i j = tt
 
 -- a frame that meets a flow
-pub falls_met : (r : Outcome Control) (a b w u n x y : ℕ) → a ≤ b → w < u + 3 → IfOk r (λ c. n + (x + control_weight c) ≤ charged a + (y + w)) → IfOk r (λ c. n + (x + control_weight c) < charged b + (y + u + 3))
-falls_met (Ok c) a b w u n x y h i j = let p = charged_less a b h in omega (arith, p, i, j)
-falls_met (Err z) a b w u n x y h i j = tt
+pub falls_met : (r : Outcome Control) (a b w u n x y : ℕ) → charged a + w < charged b + (u + 3) → IfOk r (λ c. n + (x + control_weight c) ≤ charged a + (y + w)) → IfOk r (λ c. n + (x + control_weight c) < charged b + (y + u + 3))
+falls_met (Ok c) a b w u n x y h j = omega (arith, h, j)
+falls_met (Err z) a b w u n x y h j = tt
 
 -- a target that costs a step or weighs less
 pub falls_found : (r : Outcome Control) (a b w v n x y : ℕ) → charged a + w < charged b + v → IfOk r (λ c. n + (x + control_weight c) ≤ charged a + (y + w)) → IfOk r (λ c. n + (x + control_weight c) < charged b + (y + v))
 falls_found (Ok c) a b w v n x y h j = omega (arith, h, j)
 falls_found (Err z) a b w v n x y h j = tt
 
--- an operand that is there already: the step that it costs pays for what meets it
-pub falls_known : (o : Option ℕ) (k a b w x : ℕ) → IfSome o (λ n. a < b) → o ≡ Some k → charged a + (x + (w + 3)) ≤ charged b + (x + w)
-falls_known None k a b w x h e = absurd (cc e)
-falls_known (Some n) k a b w x h e = let p = charged_paid a b h in omega (arith, p)
+-- a read of a field by a term
+pub falls_read : (r : Outcome Control) (a b w d n x y : ℕ) → a ≤ b → w < field_weight (32 - d) → IfOk r (λ c. n + (x + control_weight c) ≤ charged a + (y + w)) → IfOk r (λ c. n + (x + control_weight c) < charged b + (y + most))
+falls_read (Ok c) a b w d n x y h i j = let p = charged_less a b h in let q = few_calls d in omega (arith, p, q, i, j)
+falls_read (Err z) a b w d n x y h i j = tt
 
 pub ruleset falling = (falls_paid, falls_free, falls_met, falls_found)

@@ -1,5 +1,5 @@
 -- What frames, and what steps leave to do, mean: rules cut where a part is evaluated. What a frame means is the rest of its rule.
-use Rattle.std.specs.Prelude.{◌≡◌, ℕ, List, [], ◌∷◌, ◌++◌, Bool, Some, Ok, Err, IfOk, false}
+use Rattle.std.specs.Prelude.{◌≡◌, ℕ, ◌-◌, List, [], ◌∷◌, ◌++◌, length, Bool, Some, Ok, Err, IfOk, false}
 use Rattle.ar_space.specs.Accesses.{Accesses}
 use Rattle.ar_space.specs.Outcome.{Outcome, NotMemory}
 use Rattle.ar_space.specs.Change.{give, stop, settle, ◌>>=◌}
@@ -15,7 +15,9 @@ use Rattle.aml_scan.specs.declared.row_places.RowPlace.{RowPlace}
 use Rattle.aml_convert.specs.Operators.{is_true}
 use Rattle.aml_objects.specs.declared.entry.NamedObject.TheVariants as object
 use Rattle.aml_objects.specs.declared.object.Element.TheVariants as element
+use Rattle.aml_objects.specs.declared.entry.Field.{Field}
 use Rattle.aml_objects.specs.declared.value.Value.{Value}
+use Rattle.aml_objects.specs.declared.value.Value.TheVariants as values
 use Rattle.aml_meaning.specs.declared.flow.Flow.{Flow}
 use Rattle.aml_meaning.specs.declared.flow.Flow.TheVariants as flow
 use Rattle.aml_meaning.specs.declared.term_kind.OperatorKind.{OperatorKind}
@@ -51,6 +53,11 @@ use Rattle.aml_frames.specs.declared.frames.Frame.TheVariants as frames
 use Rattle.aml_frames.specs.declared.frames.Next.{Next}
 use Rattle.aml_frames.specs.declared.frames.Next.TheVariants as next
 use Rattle.aml_frames.specs.Places.{Site, place_between, at_place, terms, next_term, behind_term}
+use Rattle.aml_frames.specs.declared.uses.Access.{Access}
+use Rattle.aml_frames.specs.declared.uses.Accessed.TheVariants as accessed
+use Rattle.aml_frames.specs.declared.uses.Doing.TheVariants as doing
+use Rattle.aml_frames.specs.declared.uses.Reading.{Reading}
+use Rattle.aml_frames.specs.declared.uses.Reading.TheVariants as reading
 use Rattle.aml_frames.specs.declared.uses.Inquiry.{Inquiry}
 use Rattle.aml_frames.specs.declared.uses.Inquiry.TheVariants as inquiry
 use Rattle.aml_frames.specs.declared.uses.TargetUse.TheVariants as uses
@@ -106,6 +113,13 @@ behind_coded o c levels = at_place c (with_row (terms c levels) (row_at o) c.pla
 abbrev pub behind_arguments : Call → Site → Site
 behind_arguments k c = at_place c (turns_of (terms c k.levels false) k.left c.place).1
 
+-- the items of the list of a While, and a read of a field by a term
+abbrev pub turn_items : Loop → Site → Items
+turn_items l c = record { left = length c.place.rest; levels = l.levels; outer = l.outer }
+
+abbrev pub read_access : Site → Field → Reading → Access
+read_access c f how = record { calls = 32 - c.depth; object = accessed.Field f; doing = doing.Read how }
+
 abbrev pub behind_else : Site → ℕ → Position → Site
 behind_else c levels o = at_place c (maybe_else (terms c levels) (place_of c o)).1
 
@@ -131,7 +145,7 @@ ends frames.Found c = c
 ends (frames.IndexTarget u) c = use_ends u c
 ends (frames.DerefTarget u) c = use_ends u c
 ends (frames.Referent i) c = c
-ends (frames.Counted k p h) c = c
+ends (frames.Counted k x) c = c
 ends (frames.Address x) c = c
 ends (frames.UnitChosen l u) c = c
 ends (frames.UnitRead l u) c = c
@@ -146,13 +160,16 @@ abbrev pub next_ends : Next → Site → Site
 next_ends (next.Flow f) c = c
 next_ends (next.Term levels x) c = ends x (behind_term c levels)
 next_ends (next.Items i) c = at_position c i.outer
-next_ends (next.ItemsThen i x) c = ends x (at_position c i.outer)
+next_ends (next.Turn l) c = ends (frames.Turn l) (at_position c l.outer)
+next_ends (next.Scope i p node) c = ends (frames.Scope p node) (at_position c i.outer)
 next_ends (next.Package k) c = at_position c k.outer
 next_ends (next.Body b) c = c
-next_ends (next.BodyThen b x) c = ends x c
+next_ends (next.BodyThen b x) c = ends (frames.Address x) c
 next_ends (next.Target t u) c = target_ends t u c
-next_ends (next.TargetThen t u x) c = ends x (target_ends t u c)
-next_ends (next.Access a) c = c
+next_ends (next.Division levels v q) c = ends (frames.Quotient levels q) (target_ends (optional levels) (uses.Store v) c)
+next_ends (next.Found levels r) c = ends frames.Found (target_ends (optional levels) (uses.Store (values.Reference r)) c)
+next_ends (next.Read f how) c = c
+next_ends (next.Counted k x) c = ends (frames.Counted k x) c
 next_ends (next.AccessThen a x) c = ends x c
 
 -- a step of a rule ends where the rule ends
@@ -284,10 +301,10 @@ module _ {S : Type 0} (accesses : Accesses S) (ev : Task → Run S Flow) where
     v ← settle (value_in f)
     r ← lift (value_followed (references_followed most_references) v)
     inquired accesses ev i c r
-  resumed (frames.Counted k p h) c f = do
+  resumed (frames.Counted k x) c f = do
     v ← settle (value_in f)
     n ← lift (integer_in v)
-    counted_back accesses ev k p (held.Field h) c n
+    counted_back accesses ev k x.0 (held.Field x.1) c n
   resumed (frames.Address x) c f = part_met accesses ev x f
   resumed (frames.UnitChosen l u) c f = unit_behind accesses ev l u
   resumed (frames.UnitRead l u) c f = unit_given accesses ev l u f
@@ -316,13 +333,16 @@ module _ {S : Type 0} (accesses : Accesses S) (ev : Task → Run S Flow) where
   next_run (next.Flow f) c = give f
   next_run (next.Term levels x) c = term_run c levels >>= resumed x (behind_term c levels)
   next_run (next.Items i) c = items_run i c
-  next_run (next.ItemsThen i x) c = items_run i c >>= resumed x (at_position c i.outer)
+  next_run (next.Turn l) c = items_run (turn_items l c) c >>= resumed (frames.Turn l) (at_position c l.outer)
+  next_run (next.Scope i p node) c = items_run i c >>= resumed (frames.Scope p node) (at_position c i.outer)
   next_run (next.Package k) c = package_run ev k c
   next_run (next.Body b) c = body_run b
-  next_run (next.BodyThen b x) c = body_run b >>= resumed x c
+  next_run (next.BodyThen b x) c = body_run b >>= resumed (frames.Address x) c
   next_run (next.Target t u) c = target_run accesses ev t u c
-  next_run (next.TargetThen t u x) c = target_run accesses ev t u c >>= resumed x (target_ends t u c)
-  next_run (next.Access a) c = access_run accesses ev a
+  next_run (next.Division levels v q) c = target_run accesses ev (optional levels) (uses.Store v) c >>= resumed (frames.Quotient levels q) (target_ends (optional levels) (uses.Store v) c)
+  next_run (next.Found levels r) c = target_run accesses ev (optional levels) (uses.Store (values.Reference r)) c >>= resumed frames.Found (target_ends (optional levels) (uses.Store (values.Reference r)) c)
+  next_run (next.Read f how) c = access_run accesses ev (read_access c f how)
+  next_run (next.Counted k x) c = access_run accesses ev (read_access c x.1 reading.Integer) >>= resumed (frames.Counted k x) c
   next_run (next.AccessThen a x) c = access_run accesses ev a >>= resumed x c
 
   abbrev pub followed : Outcome Next → Site → Run S Flow

@@ -17,9 +17,9 @@ use Rattle.aml_frames.specs.declared.frames.Entry.TheVariants as entry
 use Rattle.aml_frames.specs.declared.frames.Items.{Items}
 use Rattle.aml_frames.specs.Places.{Site, behind_term}
 use Rattle.aml_frames.specs.Data.{package_run}
-use Rattle.aml_frames.specs.Follow.{at_position, ends, term_run, items_run, resumed}
+use Rattle.aml_frames.specs.Follow.{at_position, ends, read_access, term_run, items_run, resumed}
 use Rattle.aml_frames.specs.Uses.{target_ends, target_run, access_run}
-use Rattle.aml_frames.specs.Weights.{weight, access_weight, target_weight}
+use Rattle.aml_frames.specs.Weights.{weight, most, access_weight, target_weight}
 
 -- what goes on with an outcome, where evaluation stands
 abbrev pub Rest : Type 0 → Type 0
@@ -35,8 +35,8 @@ control_ends (control.Term levels) c = behind_term c levels
 control_ends (control.Items i) c = at_position c i.outer
 control_ends (control.Package k) c = at_position c k.outer
 control_ends (control.Target t u) c = target_ends t u c
+control_ends (control.Read f how) c = c
 control_ends (control.Access a) c = c
-control_ends (control.Resume x v) c = ends x c
 control_ends (control.Flow f) c = c
 
 module _ {S : Type 0} (accesses : Accesses S) (ev : Task → Run S Flow) where
@@ -62,8 +62,8 @@ module _ {S : Type 0} (accesses : Accesses S) (ev : Task → Run S Flow) where
   controlled (control.Items i) c = items_run accesses ev i c
   controlled (control.Package k) c = package_run ev k c
   controlled (control.Target t u) c = target_run accesses ev t u c
+  controlled (control.Read f how) c = access_run accesses ev (read_access c f how)
   controlled (control.Access a) c = access_run accesses ev a
-  controlled (control.Resume x v) c = resumed accesses ev x c (flow.Value v)
   controlled (control.Flow f) c = give f
 
   -- the machine's meaning
@@ -93,6 +93,6 @@ control_weight (control.Term levels) = 0
 control_weight (control.Items i) = 4
 control_weight (control.Package k) = 4
 control_weight (control.Target t u) = target_weight u
+control_weight (control.Read f how) = most
 control_weight (control.Access a) = access_weight a
-control_weight (control.Resume x v) = weight x + 3
 control_weight (control.Flow f) = 3

@@ -16,6 +16,7 @@ use Rattle.aml_frames.specs.declared.indexed.UnitWrites.{UnitWrites}
 use Rattle.aml_frames.specs.declared.indexed.UnitsLeft.{UnitsLeft}
 use Rattle.aml_frames.specs.declared.indexed.UnitsLeft.TheVariants as units_left
 use Rattle.aml_frames.specs.Indexed.{field_accessed}
+use Rattle.aml_objects.specs.declared.value.Value.TheVariants as values
 use Rattle.aml_frames.specs.declared.uses.Access.{Access}
 use Rattle.aml_frames.specs.declared.uses.Accessed.{Accessed}
 use Rattle.aml_frames.specs.declared.uses.Accessed.TheVariants as object
@@ -109,7 +110,7 @@ weight (frames.Quotient levels q) = most + 10
 weight (frames.IndexTarget u) = use_weight u + 5
 weight (frames.DerefTarget u) = use_weight u + 5
 weight (frames.Referent i) = most + 1
-weight (frames.Counted k p h) = most + 8
+weight (frames.Counted k x) = most + 8
 weight (frames.Address x) = address_weight x.part x.access.calls
 weight (frames.UnitChosen l u) = left_weight l + 3 * region_weight (field_accessed l).calls + 1
 weight (frames.UnitRead l u) = left_weight l + 2 * region_weight (field_accessed l).calls + 1
@@ -121,13 +122,16 @@ abbrev pub next_weight : Next → ℕ
 next_weight (next.Flow f) = 3
 next_weight (next.Term levels x) = weight x
 next_weight (next.Items i) = 4
-next_weight (next.ItemsThen i x) = 4 + weight x
+next_weight (next.Turn l) = 4 + weight (frames.Turn l)
+next_weight (next.Scope i p node) = 4 + weight (frames.Scope p node)
 next_weight (next.Package k) = 4
 next_weight (next.Body b) = 5
-next_weight (next.BodyThen b x) = 5 + weight x
+next_weight (next.BodyThen b x) = 5 + weight (frames.Address x)
 next_weight (next.Target t u) = target_weight u
-next_weight (next.TargetThen t u x) = target_weight u + weight x
-next_weight (next.Access a) = access_weight a
+next_weight (next.Division levels v q) = target_weight (uses.Store v) + weight (frames.Quotient levels q)
+next_weight (next.Found levels r) = target_weight (uses.Store (values.Reference r)) + weight frames.Found
+next_weight (next.Read f how) = most
+next_weight (next.Counted k x) = most + weight (frames.Counted k x)
 next_weight (next.AccessThen a x) = access_weight a + weight x
 
 -- ---- steps: each pays for what a term asks for when it begins

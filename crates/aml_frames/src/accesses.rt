@@ -8,6 +8,7 @@ ghost use Rattle.aml_frames.specs.Uses.{field_put};
 ghost use Rattle.aml_frames.specs.Weights.{most, next_weight};
 
 use crate::activation::Activation;
+use crate::boxed::Boxed;
 use crate::frames::{Frame, Next};
 use crate::uses::{Access, Accessed, Doing, Reading};
 use aml_meaning::Running;
@@ -56,5 +57,5 @@ pub(crate) fn begin_write<S: Space>(
         object: Accessed::Field(field),
         doing: Doing::Write(bytes),
     };
-    Ok(Next::AccessThen(access, Frame::Give(value)))
+    Ok(Next::AccessThen(Boxed::new(alloc, access)?, Frame::Give(value)))
 }

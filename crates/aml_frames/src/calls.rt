@@ -1,5 +1,5 @@
 //! Calls of control methods (ACPI 6.5, 5.5.2 and 20.2.5: MethodInvocation).
-ghost use Rattle.std.specs.Prelude.{◌≡◌, ◌≤◌, ◌<◌, ◌+◌, IfOk, OnOk, slice_index_or};
+ghost use Rattle.std.specs.Prelude.{◌≡◌, ◌≤◌, ◌<◌, ◌+◌, ◌-◌, IfOk, OnOk, slice_index_or};
 ghost use Rattle.ar_space.specs.Outcome.{Answers, NotMemory};
 ghost use Rattle.aml_objects.specs.declared.value.Value.TheVariants.{Uninitialized};
 ghost use Rattle.aml_meaning.specs.Meaning.{meaning};
@@ -10,6 +10,8 @@ ghost use Rattle.aml_frames.specs.Follow.{called, entered_then, arguments_left, 
 ghost use Rattle.aml_frames.specs.Weights.{weight, next_weight};
 
 use crate::activation::{Activation, MethodPath};
+use crate::addresses::PciAccess;
+use crate::boxed::Boxed;
 use crate::frames::{Call, Callee, Frame, Next};
 use aml_meaning::{Flow, Running};
 use aml_objects::{Body, Value};
@@ -26,7 +28,7 @@ pub fn begin_call<S: Space>(
     alloc: Global,
     run: &mut Running<S>,
     act: &mut Activation,
-    call: Call,
+    call: Boxed<Call>,
 ) -> Result<Next, Refusal>
     ensures spent { run.new.1 ≤ run.old.1 }
     ensures falls { IfOk result (λ n. next_weight n < 6) }
@@ -34,17 +36,22 @@ pub fn begin_call<S: Space>(
         (arguments_left S.accesses (meaning S.accesses) call call.done.items act.old) run.old }
     ensures ends { EndsAt result act.new (behind_arguments call act.old) }
 {
-    if call.left == 0 {
-        return begin_callee(alloc, run, act, call);
+    if call.get().left == 0 {
+        return begin_callee(alloc, run, act, call.into_inner());
     }
-    let levels = call.levels;
-    Ok(Next::Term(
-        levels,
-        Frame::Argument(Call {
-            left: call.left - 1,
-            ..call
-        }),
-    ))
+    let levels = call.get().levels;
+    Ok(Next::Term(levels, Frame::Argument(one_fewer(call))))
+}
+
+/// The same call, of which one argument fewer is left.
+#[inline(always)]
+fn one_fewer(call: Boxed<Call>) -> Boxed<Call>
+    requires { 0 < call.left }
+    ensures { result ≡ record call { left = call.left - 1 } }
+{
+    let mut call = call;
+    call.inside.left -= 1;
+    call
 }
 
 /// A call whose argument was evaluated.
@@ -53,7 +60,7 @@ pub(crate) fn resume_argument<S: Space>(
     alloc: Global,
     run: &mut Running<S>,
     act: &mut Activation,
-    call: Call,
+    call: Boxed<Call>,
     flow: Flow,
 ) -> Result<Next, Refusal>
     ensures spent { run.new.1 ≤ run.old.1 }
@@ -64,7 +71,7 @@ pub(crate) fn resume_argument<S: Space>(
 {
     let mut call = call;
     let value = flow.value()?;
-    call.done.push(value)?;
+    call.inside.done.push(value)?;
     begin_call(alloc, run, act, call)
 }
 
@@ -123,16 +130,16 @@ pub(crate) fn enter_then<S: Space>(
     act: &Activation,
     depth: usize,
     called: (Path, Body),
-    frame: Frame,
+    asked: Boxed<PciAccess>,
 ) -> Result<Next, Refusal>
     ensures spent { run.new.1 ≤ run.old.1 }
-    ensures falls { IfOk result (λ n. next_weight n ≤ 5 + weight frame) }
+    ensures falls { IfOk result (λ n. next_weight n ≤ 5 + weight (frames.Address asked)) }
     ensures means { Leads S.accesses (meaning S.accesses) result act.now run.new
-        (entered_then S.accesses (meaning S.accesses) depth called.0 called.1 frame act.now) run.old }
-    ensures ends { EndsAt result act.now (ends frame act.now) }
+        (entered_then S.accesses (meaning S.accesses) depth called.0 called.1 (frames.Address asked) act.now) run.old }
+    ensures ends { EndsAt result act.now (ends (frames.Address asked) act.now) }
 {
     match enter(alloc, run, depth, called, &[]) {
-        Ok(entered) => Ok(Next::BodyThen(entered, frame)),
+        Ok(entered) => Ok(Next::BodyThen(entered, asked)),
         Err(refusal) => Err(refusal),
     }
 }

@@ -46,7 +46,7 @@ pub fn begin_data<S: Space>(
         DataKind::Integer => begin_integer(run, act, levels, place),
         DataKind::String => begin_string(alloc, run, act),
         DataKind::Buffer => Ok(begin_buffer(run, act, levels)),
-        DataKind::Package => Ok(begin_package(alloc, run, act, levels)),
+        DataKind::Package => begin_package(alloc, run, act, levels),
         DataKind::VarPackage => Ok(begin_var_package(run, act, levels)),
     }
 }

@@ -15,7 +15,7 @@ ghost use Rattle.aml_frames.specs.Follow.{place_of, at_position, behind_coded, r
 ghost use Rattle.aml_frames.specs.Weights.{next_weight};
 
 use crate::activation::{Activation, MethodPath, Position};
-use crate::frames::{Frame, Next};
+use crate::frames::{Frame, Next, leave};
 use crate::operands::{bytes, number};
 use aml_grammar::TermReader;
 use aml_meaning::{DeclarationKind, Flow, Running, WorldState};
@@ -337,7 +337,7 @@ fn begin_list_in<S: Space>(
     let items = act.items(levels, outer);
     let (path, node) = scope;
     let (path, node) = act.enter(path, node);
-    Next::ItemsThen(items, Frame::Scope(path, node))
+    Next::Scope(items, path, node)
 }
 
 /// A scope whose list was evaluated: names stand in the scope around it again.
@@ -348,12 +348,12 @@ pub(crate) fn resume_scope<S: Space>(
     scope: MethodPath,
     node: NodeId,
     flow: Flow,
-) -> Next
-    ensures falls { next_weight result < 6 }
-    ensures means { Leads S.accesses (meaning S.accesses) (Ok result) act.new run.now
+) -> Result<Next, Refusal>
+    ensures falls { IfOk result (λ n. next_weight n < 6) }
+    ensures means { Leads S.accesses (meaning S.accesses) result act.new run.now
         (resumed S.accesses (meaning S.accesses) (frames.Scope scope node) act.old flow) run.now }
-    ensures ends { next_ends result act.new ≡ ends (frames.Scope scope node) act.old }
+    ensures ends { EndsAt result act.new (ends (frames.Scope scope node) act.old) }
 {
     let _inner = act.enter(scope, node);
-    Next::Flow(flow)
+    leave(flow)
 }

@@ -1,13 +1,17 @@
 //! What a step of evaluation leaves to do, and what waits for it in memory.
+ghost use Rattle.std.specs.Prelude.{◌≡◌, Ok};
+ghost use Rattle.aml_frames.specs.declared.frames.Next.TheVariants as nexts;
 
 use crate::activation::{Activation, MethodPath, Position};
 use crate::addresses::PciAccess;
+use crate::boxed::Boxed;
 use crate::indexed::{UnitWrites, UnitsLeft};
-use crate::uses::{Access, Dyadic, Inquiry, Monadic, SecondOperand, Target, TargetUse};
+use crate::uses::{Access, Dyadic, Inquiry, Monadic, Reading, SecondOperand, Target, TargetUse};
 use aml_fields::Unit;
 use aml_meaning::{BufferFieldSize, Count, Flow, StoreTarget};
-use aml_objects::{Body, Elements, Field, NodeId, Value};
+use aml_objects::{Body, Elements, Field, NodeId, Reference, Value};
 use aml_path::Path;
+use ar_space::Refusal;
 
 /// The items of a list that are left.
 #[derive(Clone, Copy, Debug)]
@@ -107,13 +111,13 @@ pub enum Frame {
     /// A Fatal, while its argument is evaluated.
     Fatal,
     /// A call, while an argument is evaluated; those behind it are left.
-    Argument(Call),
+    Argument(Boxed<Call>),
     /// A Buffer, while its size is evaluated: where evaluation goes on behind it.
     Buffer(Position),
     /// A VarPackage with so many levels below it, while the number of its elements is evaluated: where evaluation goes on behind it.
     VarPackage(u8, Position),
     /// A package, while one of its elements is evaluated; those behind it are left.
-    Element(Package),
+    Element(Boxed<Package>),
     /// An operator with so many levels below it, while its only operand is evaluated.
     Operand(Monadic, u8),
     /// An operator with so many levels below it, while the first of its operands is evaluated.
@@ -133,19 +137,19 @@ pub enum Frame {
     /// SizeOf or ObjectType of a term that refers, while its value is evaluated.
     Referent(Inquiry),
     /// Increment or Decrement of a field that the target leads to, while it is read.
-    Counted(Count, StoreTarget, Field),
+    Counted(Count, Boxed<(StoreTarget, Field)>),
     /// An access of a field of PCI_Config, while a part of its address is asked for.
-    Address(PciAccess),
+    Address(Boxed<PciAccess>),
     /// An access of a field behind an index field, while the offset of this unit is written to the index field: the data field is read
     /// then.
-    UnitChosen(UnitsLeft, Unit),
+    UnitChosen(Boxed<UnitsLeft>, Unit),
     /// The same, while the data field is read.
-    UnitRead(UnitsLeft, Unit),
+    UnitRead(Boxed<UnitsLeft>, Unit),
     /// A write of a field behind an index field, while the offset of a unit is written to the index field: the data field is written with
     /// this number then.
-    UnitMerged(UnitWrites, u64),
+    UnitMerged(Boxed<UnitWrites>, u64),
     /// The same, while the data field is written.
-    UnitWritten(UnitWrites),
+    UnitWritten(Boxed<UnitWrites>),
     /// A Name, while its datum is evaluated: where its name stands.
     Named(Position),
     /// A Scope, a Device, a Processor, a PowerResource or a ThermalZone, while its list is evaluated: the scope around it, and its node.
@@ -163,22 +167,28 @@ pub enum Next {
     Term(u8, Frame),
     /// A list.
     Items(Items),
-    /// A list, and then a frame.
-    ItemsThen(Items, Frame),
+    /// The list of a While, and then what is left of the While.
+    Turn(Loop),
+    /// The list of a scope, and then the scope around it.
+    Scope(Items, MethodPath, NodeId),
     /// The elements of a package that are left, and then the package.
-    Package(Package),
+    Package(Boxed<Package>),
     /// The body of a control method.
     Body(Activation),
-    /// The body of a control method, and then a frame.
-    BodyThen(Activation, Frame),
+    /// The body of a control method, which gives a part of an address, and then what is left of the access.
+    BodyThen(Activation, Boxed<PciAccess>),
     /// The target that stands next, and what is done with it.
     Target(Target, TargetUse),
-    /// The same, and then a frame.
-    TargetThen(Target, TargetUse, Frame),
-    /// An access of a field.
-    Access(Access),
+    /// The targets of a Divide with so many levels below it: its remainder and its quotient are stored.
+    Division(u8, Value, Value),
+    /// The target of a CondRefOf with so many levels below it, to which a reference is stored.
+    Found(u8, Reference),
+    /// A read of a field by a term.
+    Read(Field, Reading),
+    /// A read of a field that is counted, and then the count.
+    Counted(Count, Boxed<(StoreTarget, Field)>),
     /// An access of a field, and then a frame.
-    AccessThen(Access, Frame),
+    AccessThen(Boxed<Access>, Frame),
 }
 
 /// What stands on the stack.
@@ -198,13 +208,21 @@ pub enum Control {
     /// It begins a list.
     Items(Items),
     /// It begins the next element of a package.
-    Package(Package),
+    Package(Boxed<Package>),
     /// It finds the target that stands next.
     Target(Target, TargetUse),
+    /// It reads a field.
+    Read(Field, Reading),
     /// It accesses a field.
-    Access(Access),
-    /// It hands a value to a frame that doesn't stand on the stack.
-    Resume(Frame, Value),
+    Access(Boxed<Access>),
     /// It hands a flow to what waits for it.
     Flow(Flow),
+}
+
+/// Nothing is left to do: this is what the term leaves.
+#[inline(always)]
+pub(crate) fn leave(flow: Flow) -> Result<Next, Refusal>
+    ensures { result ≡ Ok (nexts.Flow flow) }
+{
+    Ok(Next::Flow(flow))
 }

@@ -11,6 +11,7 @@ ghost use Rattle.aml_frames.specs.Indexed.{field_accessed, reads_done, writes_do
 ghost use Rattle.aml_frames.specs.Weights.{reads_weight, writes_weight, left_weight, region_weight, field_weight, weight, next_weight};
 
 use crate::activation::Activation;
+use crate::boxed::Boxed;
 use crate::field_access::finish_read;
 use crate::frames::{Frame, Next};
 use crate::indexed::{
@@ -138,30 +139,31 @@ fn choose<S: Space>(
 {
     let field = units.field();
     let chosen = (field.index, unit.offset);
-    let frame = Frame::UnitChosen(units, unit);
+    let frame = Frame::UnitChosen(Boxed::new(alloc, units)?, unit);
     write_then(alloc, run, act, field.calls, chosen, frame)
 }
 
 /// The offset of a unit was written to the index field: the data field is read.
 #[tactic(auto, using(crate::proofs::UnitSteps::unit_by_unit))]
 pub(crate) fn read_chosen<S: Space>(
+    alloc: Global,
     run: &Running<S>,
     act: &Activation,
-    units: UnitsLeft,
+    units: Boxed<UnitsLeft>,
     unit: Unit,
-) -> Next
-    ensures falls { next_weight result ≤ left_weight units + 3 * region_weight (field_accessed units).calls + 1 }
-    ensures means { Leads S.accesses (meaning S.accesses) (Ok result) act.now run.now
+) -> Result<Next, Refusal>
+    ensures falls { IfOk result (λ n. next_weight n ≤ left_weight units + 3 * region_weight (field_accessed units).calls + 1) }
+    ensures means { Leads S.accesses (meaning S.accesses) result act.now run.now
         (unit_behind S.accesses (meaning S.accesses) units unit) run.now }
-    ensures ends { next_ends result act.now ≡ act.now }
+    ensures ends { EndsAt result act.now act.now }
 {
-    let field = units.field();
+    let field = units.get().field();
     let access = Access {
         calls: field.calls,
         object: Accessed::Unit(field.behind),
         doing: Doing::Read(Reading::Unit(field.field.access)),
     };
-    Next::AccessThen(access, Frame::UnitRead(units, unit))
+    Ok(Next::AccessThen(Boxed::new(alloc, access)?, Frame::UnitRead(units, unit)))
 }
 
 /// The data field was read: its bits are those of the unit. They are put where they are in the field, or kept by the write.
@@ -170,7 +172,7 @@ pub(crate) fn resume_unit<S: Space>(
     alloc: Global,
     run: &mut Running<S>,
     act: &Activation,
-    units: UnitsLeft,
+    units: Boxed<UnitsLeft>,
     unit: Unit,
     flow: Flow,
 ) -> Result<Next, Refusal>
@@ -181,7 +183,7 @@ pub(crate) fn resume_unit<S: Space>(
     ensures ends { EndsAt result act.now act.now }
 {
     let number = integer_only(value_of_call(flow))?;
-    match units {
+    match units.into_inner() {
         UnitsLeft::Reads(reads) => {
             let mut reads = reads;
             put_unit(&mut reads.bytes, unit, number);
@@ -209,7 +211,7 @@ fn write_over<S: Space>(
     let field = writes.field;
     let number = merge_unit(field.field, writes.bytes.as_slice(), unit, old);
     let again = (field.index, unit.offset);
-    let frame = Frame::UnitMerged(writes, number);
+    let frame = Frame::UnitMerged(Boxed::new(alloc, writes)?, number);
     write_then(alloc, run, act, field.calls, again, frame)
 }
 
@@ -219,7 +221,7 @@ pub(crate) fn write_merged<S: Space>(
     alloc: Global,
     run: &Running<S>,
     act: &Activation,
-    writes: UnitWrites,
+    writes: Boxed<UnitWrites>,
     number: u64,
 ) -> Result<Next, Refusal>
     ensures falls { IfOk result (λ n. next_weight n ≤ writes_weight writes + region_weight writes.field.calls + 1) }
@@ -227,7 +229,7 @@ pub(crate) fn write_merged<S: Space>(
         (unit_merged S.accesses (meaning S.accesses) writes number) run.now }
     ensures ends { EndsAt result act.now act.now }
 {
-    let field = writes.field;
+    let field = writes.get().field;
     let frame = Frame::UnitWritten(writes);
     write_then(alloc, run, act, field.calls, (field.behind, number), frame)
 }
@@ -253,7 +255,7 @@ fn write_then<S: Space>(
         object: Accessed::Unit(written.0),
         doing: Doing::Write(bytes),
     };
-    Ok(Next::AccessThen(access, frame))
+    Ok(Next::AccessThen(Boxed::new(alloc, access)?, frame))
 }
 
 /// A number as the bytes of a unit, the lowest first.

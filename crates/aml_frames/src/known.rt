@@ -13,6 +13,7 @@ ghost use Rattle.aml_frames.specs.Uses.{super, behind_target, target_ends, targe
 
 use crate::activation::Activation;
 use crate::short_names::{count_at_name, integer_at_name, put_integer_at_name};
+use crate::short_operations::operation_integer;
 use crate::short_terms::{count_slot, put_integer_to_slot, short_integer};
 use crate::uses::TargetUse;
 use aml_meaning::{Count, Running};
@@ -29,16 +30,20 @@ pub(crate) fn known_integer<S: Space>(
 ) -> Result<Option<u64>, Refusal>
     ensures integer { IfOk result (λ known. IfSome known (λ number. Does (Ok (flows.Value (values.Integer number))) run.new (term_run S.accesses (meaning S.accesses) act.old levels) run.old)) }
     ensures refused { IfErr result (λ refusal. Does (Err refusal) run.new (term_run S.accesses (meaning S.accesses) act.old levels) run.old) }
+    ensures spent { run.new.1 ≤ run.old.1 }
     ensures paid { IfOk result (λ known. IfSome known (λ number. run.new.1 < run.old.1)) }
     ensures behind { IfOk result (λ known. IfSome known (λ number. act.new ≡ behind_term act.old levels)) }
     ensures none { IfOk result (λ known. known ≡ None → run.new ≡ run.old) }
     ensures stays { IfOk result (λ known. known ≡ None → act.new ≡ act.old) }
     ensures memory { NotMemory result }
 {
-    match short_integer(run, act, levels) {
-        Some(number) => Ok(Some(number)),
-        None => integer_at_name(run, act, levels),
+    if let Some(number) = short_integer(run, act, levels) {
+        return Ok(Some(number));
     }
+    if let Some(number) = operation_integer(run, act, levels) {
+        return Ok(Some(number));
+    }
+    integer_at_name(run, act, levels)
 }
 
 /// What is done with the target that stands next, where it is done at once: an integer is stored to a local, an argument, or a name that

@@ -12,6 +12,7 @@ ghost use Rattle.aml_frames.specs.Weights.{most, next_weight};
 
 use crate::accesses::begin_read;
 use crate::activation::Activation;
+use crate::boxed::Boxed;
 use crate::calls::begin_call;
 use crate::frames::{Call, Callee, Next};
 use crate::short_names::node_at;
@@ -93,7 +94,7 @@ fn begin_invocation<S: Space>(
         }
         Invocation::Field(field) => {
             act.over_arguments(levels, count);
-            Ok(Next::Access(begin_read(act, field, Reading::Value)))
+            Ok(Next::Read(field, Reading::Value))
         }
         Invocation::Method(path, body) => {
             let call = Call {
@@ -102,7 +103,7 @@ fn begin_invocation<S: Space>(
                 levels,
                 done: Vec::new(alloc),
             };
-            begin_call(alloc, run, act, call)
+            begin_call(alloc, run, act, Boxed::new(alloc, call)?)
         }
         Invocation::Osi => {
             let call = Call {
@@ -111,7 +112,7 @@ fn begin_invocation<S: Space>(
                 levels,
                 done: Vec::new(alloc),
             };
-            begin_call(alloc, run, act, call)
+            begin_call(alloc, run, act, Boxed::new(alloc, call)?)
         }
     }
 }

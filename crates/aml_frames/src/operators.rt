@@ -3,13 +3,15 @@ ghost use Rattle.std.specs.Prelude.{◌≡◌, ◌≤◌, ◌<◌, ◌+◌, ◌*
 ghost use Rattle.ar_space.specs.Outcome.{NotMemory};
 ghost use Rattle.aml_meaning.specs.Meaning.{meaning};
 ghost use Rattle.aml_frames.specs.declared.frames.Frame.TheVariants as frames;
-ghost use Rattle.aml_frames.specs.Follow.{operator_run, behind_operator_at, resumed, ends, Leads, EndsAt};
+ghost use Rattle.aml_frames.specs.declared.frames.Next.TheVariants as next;
+ghost use Rattle.aml_frames.specs.Follow.{operator_run, behind_operator_at, resumed, ends, next_run, next_ends, Leads, EndsAt};
 ghost use Rattle.aml_frames.specs.Uses.{held_given, monadic_done, monadic_ends, dyadic_done, dyadic_ends};
 ghost use Rattle.aml_frames.specs.Weights.{most, weight, next_weight};
 
 use crate::accesses::begin_read;
 use crate::activation::Activation;
-use crate::frames::{Frame, Next};
+use crate::frames::{Frame, Next, leave};
+use crate::known::known_integer;
 use crate::references::{begin_conditional, begin_inquiry};
 use crate::targets::begin_target;
 use crate::uses::{Dyadic, Inquiry, Monadic, Reading, SecondOperand, Target, TargetUse};
@@ -20,7 +22,7 @@ use std::alloc::Global;
 
 /// An operator: its first operand is evaluated, or the target is found that it stands for.
 #[inline(always)]
-#[tactic(auto, using(crate::proofs::Using::operating), unfolding(aml_meaning::specs::OperatorTerms::slot_rule))]
+#[tactic(auto, using(crate::proofs::Using::operating, crate::proofs::Knowing::going_on), unfolding(aml_meaning::specs::OperatorTerms::slot_rule))]
 pub fn begin_operator<S: Space>(
     alloc: Global,
     run: &mut Running<S>,
@@ -37,23 +39,15 @@ pub fn begin_operator<S: Space>(
     match kind {
         OperatorKind::Slot(slot) => {
             let value = run.world.slot_read(slot)?;
-            Ok(Next::Flow(Flow::Value(value)))
+            leave(Flow::Value(value))
         }
-        OperatorKind::Store => Ok(Next::Term(levels, Frame::Operand(Monadic::Store, levels))),
-        OperatorKind::CopyObject => {
-            Ok(Next::Term(levels, Frame::Operand(Monadic::CopyObject, levels)))
-        }
-        OperatorKind::Two(two) => Ok(Next::Term(levels, Frame::First(Dyadic::Two(two), levels))),
-        OperatorKind::Divide => Ok(Next::Term(levels, Frame::First(Dyadic::Divide, levels))),
-        OperatorKind::One(one) => {
-            Ok(Next::Term(levels, Frame::Operand(Monadic::One(one), levels)))
-        }
-        OperatorKind::Test(test) => {
-            Ok(Next::Term(levels, Frame::First(Dyadic::Test(test), levels)))
-        }
-        OperatorKind::LogicalNot => {
-            Ok(Next::Term(levels, Frame::Operand(Monadic::LogicalNot, levels)))
-        }
+        OperatorKind::Store => begin_monadic(alloc, run, act, Monadic::Store, levels),
+        OperatorKind::CopyObject => begin_monadic(alloc, run, act, Monadic::CopyObject, levels),
+        OperatorKind::Two(two) => begin_dyadic(alloc, run, act, Dyadic::Two(two), levels),
+        OperatorKind::Divide => begin_dyadic(alloc, run, act, Dyadic::Divide, levels),
+        OperatorKind::One(one) => begin_monadic(alloc, run, act, Monadic::One(one), levels),
+        OperatorKind::Test(test) => begin_dyadic(alloc, run, act, Dyadic::Test(test), levels),
+        OperatorKind::LogicalNot => begin_monadic(alloc, run, act, Monadic::LogicalNot, levels),
         OperatorKind::Count(count) => {
             begin_target(
                 alloc,
@@ -84,9 +78,81 @@ pub fn begin_operator<S: Space>(
             )
         }
         OperatorKind::CondRefOf => begin_conditional(alloc, run, act, levels),
-        OperatorKind::DerefOf => {
-            Ok(Next::Term(levels, Frame::Operand(Monadic::DerefOf, levels)))
-        }
+        OperatorKind::DerefOf => begin_monadic(alloc, run, act, Monadic::DerefOf, levels),
+    }
+}
+
+/// An operator with one operand: an integer that is there already is used at once.
+#[inline(always)]
+#[tactic(auto, using(crate::proofs::Knowing::taking_known))]
+fn begin_monadic<S: Space>(
+    alloc: Global,
+    run: &mut Running<S>,
+    act: &mut Activation,
+    kind: Monadic,
+    levels: u8,
+) -> Result<Next, Refusal>
+    ensures spent { run.new.1 ≤ run.old.1 }
+    ensures falls { IfOk result (λ n. next_weight n < most + 15) }
+    ensures means { Leads S.accesses (meaning S.accesses) result act.new run.new
+        (next_run S.accesses (meaning S.accesses) (next.Term levels (frames.Operand kind levels)) act.old) run.old }
+    ensures ends { EndsAt result act.new (next_ends (next.Term levels (frames.Operand kind levels)) act.old) }
+{
+    match known_integer(run, act, levels)? {
+        Some(number) => finish_monadic(alloc, run, act, kind, levels, Value::Integer(number)),
+        None => Ok(Next::Term(levels, Frame::Operand(kind, levels))),
+    }
+}
+
+/// An operator with two operands.
+#[inline(always)]
+#[tactic(auto, using(crate::proofs::Knowing::taking_known))]
+fn begin_dyadic<S: Space>(
+    alloc: Global,
+    run: &mut Running<S>,
+    act: &mut Activation,
+    kind: Dyadic,
+    levels: u8,
+) -> Result<Next, Refusal>
+    ensures spent { run.new.1 ≤ run.old.1 }
+    ensures falls { IfOk result (λ n. next_weight n < 2 * most + 25) }
+    ensures means { Leads S.accesses (meaning S.accesses) result act.new run.new
+        (next_run S.accesses (meaning S.accesses) (next.Term levels (frames.First kind levels)) act.old) run.old }
+    ensures ends { EndsAt result act.new (next_ends (next.Term levels (frames.First kind levels)) act.old) }
+{
+    match known_integer(run, act, levels)? {
+        Some(first) => begin_second(
+            alloc,
+            run,
+            act,
+            SecondOperand {
+                kind,
+                levels,
+                first: Value::Integer(first),
+            },
+        ),
+        None => Ok(Next::Term(levels, Frame::First(kind, levels))),
+    }
+}
+
+/// The second operand of an operator.
+#[inline(always)]
+#[tactic(auto, using(crate::proofs::Knowing::taking_known))]
+fn begin_second<S: Space>(
+    alloc: Global,
+    run: &mut Running<S>,
+    act: &mut Activation,
+    operator: SecondOperand,
+) -> Result<Next, Refusal>
+    ensures spent { run.new.1 ≤ run.old.1 }
+    ensures falls { IfOk result (λ n. next_weight n < 2 * most + 25) }
+    ensures means { Leads S.accesses (meaning S.accesses) result act.new run.new
+        (next_run S.accesses (meaning S.accesses) (next.Term operator.levels (frames.Second operator)) act.old) run.old }
+    ensures ends { EndsAt result act.new (next_ends (next.Term operator.levels (frames.Second operator)) act.old) }
+{
+    match known_integer(run, act, operator.levels)? {
+        Some(second) => finish_dyadic(alloc, run, act, operator, Value::Integer(second)),
+        None => Ok(Next::Term(operator.levels, Frame::Second(operator))),
     }
 }
 
@@ -159,7 +225,7 @@ fn finish_monadic<S: Space>(
         }
         Monadic::LogicalNot => {
             let result = run.world.logical_not(value)?;
-            Ok(Next::Flow(Flow::Value(result)))
+            leave(Flow::Value(result))
         }
         Monadic::DerefOf => {
             let reference = reference_in(value)?;
@@ -180,14 +246,15 @@ fn read_held<S: Space>(run: &Running<S>, act: &Activation, held: Held) -> Result
 {
     match held {
         Held::Value(value) => Ok(Next::Flow(Flow::Value(value))),
-        Held::Field(field) => Ok(Next::Access(begin_read(act, field, Reading::Value))),
+        Held::Field(field) => Ok(Next::Read(field, Reading::Value)),
     }
 }
 
 /// An operator whose first operand was evaluated: the second one is.
 #[inline(always)]
-#[tactic(auto, using(crate::proofs::Using::using_targets))]
+#[tactic(auto, using(crate::proofs::Using::using_targets, crate::proofs::Knowing::going_on))]
 pub(crate) fn resume_first<S: Space>(
+    alloc: Global,
     run: &mut Running<S>,
     act: &mut Activation,
     kind: Dyadic,
@@ -196,20 +263,17 @@ pub(crate) fn resume_first<S: Space>(
 ) -> Result<Next, Refusal>
     ensures spent { run.new.1 ≤ run.old.1 }
     ensures falls { IfOk result (λ n. next_weight n < 2 * most + 25) }
-    ensures memory { NotMemory result }
     ensures means { Leads S.accesses (meaning S.accesses) result act.new run.new
         (resumed S.accesses (meaning S.accesses) (frames.First kind levels) act.old flow) run.old }
     ensures ends { EndsAt result act.new (ends (frames.First kind levels) act.old) }
 {
     let value = flow.value()?;
-    Ok(Next::Term(
+    let operator = SecondOperand {
+        kind,
         levels,
-        Frame::Second(SecondOperand {
-            kind,
-            levels,
-            first: value,
-        }),
-    ))
+        first: value,
+    };
+    begin_second(alloc, run, act, operator)
 }
 
 /// An operator whose second operand was evaluated.
@@ -266,15 +330,15 @@ fn finish_dyadic<S: Space>(
         }
         Dyadic::Divide => {
             let division = run.world.divide(first, second)?;
-            Ok(Next::TargetThen(
-                Target::optional(levels),
-                TargetUse::Store(Value::Integer(division.remainder)),
-                Frame::Quotient(levels, Value::Integer(division.quotient)),
+            Ok(Next::Division(
+                levels,
+                Value::Integer(division.remainder),
+                Value::Integer(division.quotient),
             ))
         }
         Dyadic::Test(test) => {
             let result = run.world.test(alloc, test, first, second)?;
-            Ok(Next::Flow(Flow::Value(result)))
+            leave(Flow::Value(result))
         }
     }
 }

@@ -5,11 +5,12 @@ ghost use Rattle.aml_meaning.specs.Meaning.{meaning};
 ghost use Rattle.aml_frames.specs.declared.frames.Frame.TheVariants as frames;
 ghost use Rattle.aml_frames.specs.Places.{at_place};
 ghost use Rattle.aml_frames.specs.Operands.{outside_at};
-ghost use Rattle.aml_frames.specs.Data.{package_term_run, var_package_run, package_run, package_made, named_left, unfilled};
+ghost use Rattle.aml_frames.specs.Data.{package_term_run, var_package_run, package_run, package_made, named_left, unfilled, one_fewer};
 ghost use Rattle.aml_frames.specs.Follow.{at_position, resumed, ends, next_ends, Leads, EndsAt};
 ghost use Rattle.aml_frames.specs.Weights.{next_weight, charged};
 
 use crate::activation::{Activation, Position};
+use crate::boxed::Boxed;
 use crate::frames::{Frame, Next, Package};
 use crate::values::integer_of;
 use aml_meaning::{Flow, Running};
@@ -24,16 +25,17 @@ pub(crate) fn begin_package<S: Space>(
     run: &Running<S>,
     act: &mut Activation,
     levels: u8,
-) -> Next
-    ensures falls { next_weight result < 6 }
-    ensures means { Leads S.accesses (meaning S.accesses) (Ok result) act.new run.now
+) -> Result<Next, Refusal>
+    ensures falls { IfOk result (λ n. next_weight n < 6) }
+    ensures means { Leads S.accesses (meaning S.accesses) result act.new run.now
         (package_term_run (meaning S.accesses) act.old levels) run.now }
-    ensures ends { next_ends result act.new ≡ at_place act.old (outside_at act.old.place) }
+    ensures ends { EndsAt result act.new (at_place act.old (outside_at act.old.place)) }
 {
     let outer = act.open();
     let count = usize::from(act.first());
     act.over(1);
-    Next::Package(unfilled(alloc, act, levels, outer, count))
+    let filling = unfilled(alloc, act, levels, outer, count);
+    Ok(Next::Package(Boxed::new(alloc, filling)?))
 }
 
 /// VarPackage: the number of its elements is evaluated.
@@ -71,7 +73,8 @@ pub(crate) fn resume_var_package<S: Space>(
     let value = flow.value()?;
     let count = integer_of(&run.world, value)?;
     run.world.few_elements(count)?;
-    Ok(Next::Package(unfilled(alloc, act, levels, outer, count as usize)))
+    let filling = unfilled(alloc, act, levels, outer, count as usize);
+    Ok(Next::Package(Boxed::new(alloc, filling)?))
 }
 
 /// A package of so many elements, of which none is evaluated.
@@ -94,7 +97,7 @@ pub(crate) fn begin_element<S: Space>(
     alloc: Global,
     run: &mut Running<S>,
     act: &mut Activation,
-    filling: Package,
+    filling: Boxed<Package>,
 ) -> Result<Next, Refusal>
     ensures spent { run.new.1 ≤ run.old.1 }
     ensures falls { IfOk result (λ n. charged run.new.1 + next_weight n < charged run.old.1 + 4) }
@@ -103,21 +106,27 @@ pub(crate) fn begin_element<S: Space>(
     ensures ends { EndsAt result act.new (at_position act.old filling.outer) }
 {
     let rest = act.rest().len();
-    if filling.left == 0 || filling.turns == 0 || rest == 0 {
-        return finish_package(run, act, filling);
+    if filling.get().left == 0 || filling.get().turns == 0 || rest == 0 {
+        return finish_package(run, act, filling.into_inner());
     }
-    if act.is_at_call(filling.levels) {
+    if act.is_at_call(filling.get().levels) {
         return put_name(alloc, run, act, filling);
     }
-    let levels = filling.levels;
-    Ok(Next::Term(
-        levels,
-        Frame::Element(Package {
-            left: filling.left - 1,
-            turns: filling.turns - 1,
-            ..filling
-        }),
-    ))
+    let levels = filling.get().levels;
+    Ok(Next::Term(levels, Frame::Element(one_fewer(filling))))
+}
+
+/// The same package, of which one element fewer is left.
+#[inline(always)]
+fn one_fewer(filling: Boxed<Package>) -> Boxed<Package>
+    requires left { 0 < filling.left }
+    requires turns { 0 < filling.turns }
+    ensures { result ≡ one_fewer filling }
+{
+    let mut filling = filling;
+    filling.inside.left -= 1;
+    filling.inside.turns -= 1;
+    filling
 }
 
 /// A package whose elements are all there.
@@ -144,7 +153,7 @@ fn put_name<S: Space>(
     alloc: Global,
     run: &mut Running<S>,
     act: &mut Activation,
-    filling: Package,
+    filling: Boxed<Package>,
 ) -> Result<Next, Refusal>
     requires left { 0 < filling.left }
     requires turns { 0 < filling.turns }
@@ -159,12 +168,8 @@ fn put_name<S: Space>(
     let name = act.name(alloc)?;
     let scope = act.scope().path.copy(alloc)?;
     act.over_name();
-    filling.done.push(Element::Name(name, scope))?;
-    Ok(Next::Package(Package {
-        left: filling.left - 1,
-        turns: filling.turns - 1,
-        ..filling
-    }))
+    filling.inside.done.push(Element::Name(name, scope))?;
+    Ok(Next::Package(one_fewer(filling)))
 }
 
 /// An element of a package that was evaluated.
@@ -172,7 +177,7 @@ fn put_name<S: Space>(
 pub(crate) fn resume_element<S: Space>(
     run: &Running<S>,
     act: &Activation,
-    filling: Package,
+    filling: Boxed<Package>,
     flow: Flow,
 ) -> Result<Next, Refusal>
     ensures falls { IfOk result (λ n. next_weight n < 6) }
@@ -182,6 +187,6 @@ pub(crate) fn resume_element<S: Space>(
 {
     let mut filling = filling;
     let value = flow.value()?;
-    filling.done.push(Element::Value(value))?;
+    filling.inside.done.push(Element::Value(value))?;
     Ok(Next::Package(filling))
 }

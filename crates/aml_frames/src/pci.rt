@@ -12,6 +12,7 @@ ghost use Rattle.aml_frames.specs.Weights.{part_weight, region_weight, address_w
 use crate::activation::Activation;
 use crate::addresses::{AddressPart, Asked, FunctionAddress, PciAccess, RegionAccess, Waited};
 use crate::asking::ask;
+use crate::boxed::Boxed;
 use crate::calls::enter_then;
 use crate::field_access::access_space;
 use crate::frames::{Frame, Next};
@@ -189,7 +190,14 @@ fn wait<S: Space>(
 {
     match waited {
         Waited::Method(depth, path, body) => {
-            enter_then(alloc, run, act, depth, (path, body), Frame::Address(pci))
+            enter_then(
+                alloc,
+                run,
+                act,
+                depth,
+                (path, body),
+                Boxed::new(alloc, pci)?,
+            )
         }
         Waited::Field(calls, field) => {
             let access = Access {
@@ -197,7 +205,9 @@ fn wait<S: Space>(
                 object: Accessed::Field(field),
                 doing: Doing::Read(Reading::Part),
             };
-            Ok(Next::AccessThen(access, Frame::Address(pci)))
+            let access = Boxed::new(alloc, access)?;
+            let waiting = Boxed::new(alloc, pci)?;
+            Ok(Next::AccessThen(access, Frame::Address(waiting)))
         }
     }
 }
@@ -208,7 +218,7 @@ pub(crate) fn resume_address<S: Space>(
     alloc: Global,
     run: &mut Running<S>,
     act: &Activation,
-    pci: PciAccess,
+    pci: Boxed<PciAccess>,
     flow: Flow,
 ) -> Result<Next, Refusal>
     ensures spent { run.new.1 ≤ run.old.1 }
@@ -218,6 +228,7 @@ pub(crate) fn resume_address<S: Space>(
     ensures ends { EndsAt result act.now act.now }
 {
     let number = integer_only(value_of_call(flow))?;
+    let pci = pci.into_inner();
     match pci.part {
         AddressPart::Segment => begin_bus(alloc, run, act, pci, number),
         AddressPart::Bus(segment) => begin_function(alloc, run, act, pci, segment, number),

@@ -160,11 +160,7 @@ pub(crate) fn begin_found<S: Space>(
             act.over_target(levels);
             Ok(Next::Flow(Flow::Value(Value::Integer(0))))
         }
-        Some(reference) => Ok(Next::TargetThen(
-            Target::optional(levels),
-            TargetUse::Store(Value::Reference(reference)),
-            Frame::Found,
-        )),
+        Some(reference) => Ok(Next::Found(levels, reference)),
     }
 }
 

@@ -3,15 +3,17 @@ ghost use Rattle.std.specs.Prelude.{◌≡◌, ◌≤◌, ◌<◌, ◌+◌, Ok, 
 ghost use Rattle.ar_space.specs.Outcome.{NotMemory};
 ghost use Rattle.aml_meaning.specs.Meaning.{meaning};
 ghost use Rattle.aml_frames.specs.declared.frames.Frame.TheVariants as frames;
-ghost use Rattle.aml_frames.specs.Follow.{at_position, turn_left, resumed, ends, next_ends, Leads, EndsAt};
-ghost use Rattle.aml_frames.specs.Weights.{weight, next_weight};
+ghost use Rattle.aml_frames.specs.declared.frames.Next.TheVariants as next;
+ghost use Rattle.aml_frames.specs.Follow.{at_position, turn_left, resumed, ends, next_run, next_ends, Leads, EndsAt};
+ghost use Rattle.aml_frames.specs.Weights.{weight, next_weight, charged};
 
 use crate::activation::{Activation, Position};
 use crate::calls::resume_argument;
 use crate::data::resume_buffer;
 use crate::declarations::{resume_named, resume_scope};
-use crate::frames::{Frame, Items, Loop, Next};
+use crate::frames::{Frame, Items, Loop, Next, leave};
 use crate::index_access::{next_write, read_chosen, resume_unit, write_merged};
+use crate::known::known_integer;
 use crate::operators::{resume_first, resume_operand, resume_quotient, resume_second};
 use crate::packages::{resume_element, resume_var_package};
 use crate::pci::resume_address;
@@ -28,17 +30,24 @@ use std::alloc::Global;
 
 /// A list goes on behind an item, or it ends.
 #[tactic(auto, using(crate::proofs::Stepping::listing))]
-fn resume_items<S: Space>(run: &Running<S>, act: &mut Activation, items: Items, flow: Flow) -> Next
-    ensures falls { next_weight result < 6 }
-    ensures means { Leads S.accesses (meaning S.accesses) (Ok result) act.new run.now
+#[inline(always)]
+fn resume_items<S: Space>(
+    run: &Running<S>,
+    act: &mut Activation,
+    items: Items,
+    flow: Flow,
+) -> Result<Next, Refusal>
+    ensures falls { IfOk result (λ n. next_weight n < 6) }
+    ensures memory { NotMemory result }
+    ensures means { Leads S.accesses (meaning S.accesses) result act.new run.now
         (resumed S.accesses (meaning S.accesses) (frames.Items items) act.old flow) run.now }
-    ensures ends { next_ends result act.new ≡ ends (frames.Items items) act.old }
+    ensures ends { EndsAt result act.new (ends (frames.Items items) act.old) }
 {
     if flow.goes_on() {
-        Next::Items(items)
+        Ok(Next::Items(items))
     } else {
         act.go_to(items.outer);
-        Next::Flow(flow)
+        Ok(Next::Flow(flow))
     }
 }
 
@@ -92,29 +101,58 @@ fn next_turn<S: Space>(run: &Running<S>, act: &mut Activation, turn: Loop, holds
     ensures ends { next_ends result act.new ≡ at_position act.old turn.outer }
 {
     if holds {
-        Next::ItemsThen(act.items(turn.levels, turn.outer), Frame::Turn(turn))
+        Next::Turn(turn)
     } else {
         act.go_to(turn.outer);
         Next::Flow(Flow::Next)
     }
 }
 
+/// The predicate of a While, which stands next.
+#[inline(always)]
+#[tactic(auto, using(crate::proofs::Knowing::taking_known))]
+pub(crate) fn begin_predicate<S: Space>(
+    run: &mut Running<S>,
+    act: &mut Activation,
+    turn: Loop,
+) -> Result<Next, Refusal>
+    ensures spent { run.new.1 ≤ run.old.1 }
+    ensures few { IfOk result (λ n. next_weight n < 6) }
+    ensures falls { IfOk result (λ n. charged run.new.1 + next_weight n < charged run.old.1 + 4) }
+    ensures memory { NotMemory result }
+    ensures means { Leads S.accesses (meaning S.accesses) result act.new run.new
+        (next_run S.accesses (meaning S.accesses) (next.Term turn.levels (frames.Predicate turn)) act.old) run.old }
+    ensures ends { EndsAt result act.new (next_ends (next.Term turn.levels (frames.Predicate turn)) act.old) }
+{
+    match known_integer(run, act, turn.levels)? {
+        Some(number) => Ok(next_turn(run, act, turn, is_true(number))),
+        None => Ok(Next::Term(turn.levels, Frame::Predicate(turn))),
+    }
+}
+
 /// A turn of a While is done.
-#[tactic(auto, using(crate::proofs::Stepping::looping))]
-fn resume_turn<S: Space>(run: &Running<S>, act: &mut Activation, turn: Loop, flow: Flow) -> Next
-    ensures falls { next_weight result < 4 }
-    ensures means { Leads S.accesses (meaning S.accesses) (Ok result) act.new run.now
-        (resumed S.accesses (meaning S.accesses) (frames.Turn turn) act.old flow) run.now }
-    ensures ends { next_ends result act.new ≡ ends (frames.Turn turn) act.old }
+#[tactic(auto, using(crate::proofs::Stepping::looping, crate::proofs::Knowing::going_on))]
+fn resume_turn<S: Space>(
+    run: &mut Running<S>,
+    act: &mut Activation,
+    turn: Loop,
+    flow: Flow,
+) -> Result<Next, Refusal>
+    ensures spent { run.new.1 ≤ run.old.1 }
+    ensures falls { IfOk result (λ n. charged run.new.1 + next_weight n < charged run.old.1 + 4) }
+    ensures memory { NotMemory result }
+    ensures means { Leads S.accesses (meaning S.accesses) result act.new run.new
+        (resumed S.accesses (meaning S.accesses) (frames.Turn turn) act.old flow) run.old }
+    ensures ends { EndsAt result act.new (ends (frames.Turn turn) act.old) }
 {
     match flow.loop_end() {
         None => {
             act.go_to(turn.predicate);
-            Next::Term(turn.levels, Frame::Predicate(turn))
+            begin_predicate(run, act, turn)
         }
         Some(last) => {
             act.go_to(turn.outer);
-            Next::Flow(last)
+            Ok(Next::Flow(last))
         }
     }
 }
@@ -175,7 +213,7 @@ fn resume_fatal<S: Space>(
 
 /// A frame goes on with a flow.
 #[inline(always)]
-#[tactic(auto, using(crate::proofs::Stepping::stepping))]
+#[tactic(auto, using(crate::proofs::Knowing::resuming))]
 pub fn resume<S: Space>(
     alloc: Global,
     run: &mut Running<S>,
@@ -184,16 +222,16 @@ pub fn resume<S: Space>(
     flow: Flow,
 ) -> Result<Next, Refusal>
     ensures spent { run.new.1 ≤ run.old.1 }
-    ensures falls { IfOk result (λ n. next_weight n < weight frame + 3) }
+    ensures falls { IfOk result (λ n. charged run.new.1 + next_weight n < charged run.old.1 + (weight frame + 3)) }
     ensures means { Leads S.accesses (meaning S.accesses) result act.new run.new
         (resumed S.accesses (meaning S.accesses) frame act.old flow) run.old }
     ensures ends { EndsAt result act.new (ends frame act.old) }
 {
     match frame {
-        Frame::Items(items) => Ok(resume_items(run, act, items, flow)),
+        Frame::Items(items) => resume_items(run, act, items, flow),
         Frame::If(levels, outer) => resume_if(run, act, levels, outer, flow),
         Frame::Predicate(turn) => resume_predicate(run, act, turn, flow),
-        Frame::Turn(turn) => Ok(resume_turn(run, act, turn, flow)),
+        Frame::Turn(turn) => resume_turn(run, act, turn, flow),
         Frame::Return => resume_return(run, act, flow),
         Frame::Pause => resume_pause(run, act, flow),
         Frame::Fatal => resume_fatal(run, act, flow),
@@ -204,9 +242,9 @@ pub fn resume<S: Space>(
         }
         Frame::Element(filling) => resume_element(run, act, filling, flow),
         Frame::Operand(kind, levels) => resume_operand(alloc, run, act, kind, levels, flow),
-        Frame::First(kind, levels) => resume_first(run, act, kind, levels, flow),
+        Frame::First(kind, levels) => resume_first(alloc, run, act, kind, levels, flow),
         Frame::Second(operator) => resume_second(alloc, run, act, operator, flow),
-        Frame::Give(value) => Ok(Next::Flow(Flow::Value(value))),
+        Frame::Give(value) => leave(Flow::Value(value)),
         Frame::Quotient(levels, quotient) => {
             resume_quotient(alloc, run, act, levels, quotient, flow)
         }
@@ -215,15 +253,13 @@ pub fn resume<S: Space>(
         Frame::DerefTarget(target_use) => resume_dereferenced(alloc, run, act, target_use, flow),
         Frame::Referent(inquiry) => resume_referent(run, act, inquiry, flow),
         Frame::Address(pci) => resume_address(alloc, run, act, pci, flow),
-        Frame::UnitChosen(units, unit) => Ok(read_chosen(run, act, units, unit)),
+        Frame::UnitChosen(units, unit) => read_chosen(alloc, run, act, units, unit),
         Frame::UnitRead(units, unit) => resume_unit(alloc, run, act, units, unit, flow),
         Frame::UnitMerged(writes, number) => write_merged(alloc, run, act, writes, number),
-        Frame::UnitWritten(writes) => next_write(alloc, run, act, writes),
+        Frame::UnitWritten(writes) => next_write(alloc, run, act, writes.into_inner()),
         Frame::Named(name) => resume_named(alloc, run, act, name, flow),
         Frame::Declaration(part) => resume_declaration(alloc, run, act, part, flow),
-        Frame::Scope(scope, node) => Ok(resume_scope(run, act, scope, node, flow)),
-        Frame::Counted(count, target, field) => {
-            resume_counted(alloc, run, act, (count, target, field), flow)
-        }
+        Frame::Scope(scope, node) => resume_scope(run, act, scope, node, flow),
+        Frame::Counted(count, counted) => resume_counted(alloc, run, act, count, counted, flow),
     }
 }

@@ -73,7 +73,9 @@ fn short_at(byte: u8) -> Short
 /// Takes a step, where one is left.
 #[inline(always)]
 #[tactic(auto, unfolding(aml_meaning::specs::Run::charge))]
-fn step<S>(run: &mut Running<S>) -> bool
+pub(crate) fn take_step<S>(run: &mut Running<S>) -> bool
+    ensures kept { run.new.0 ≡ run.old.0 }
+    ensures spent { run.new.1 ≤ run.old.1 }
     ensures taken { result ≡ true → Does (Ok tt) run.new charge run.old }
     ensures paid { result ≡ true → run.new.1 < run.old.1 }
     ensures none { result ≡ false → run.new ≡ run.old }
@@ -95,6 +97,7 @@ pub(crate) fn short_integer<S: Space>(
 ) -> Option<u64>
     ensures integer { IfSome result (λ n. Does (Ok (flows.Value (values.Integer n))) run.new (term_run S.accesses (meaning S.accesses) act.old levels) run.old) }
     ensures behind { IfSome result (λ n. act.new ≡ behind_term act.old levels) }
+    ensures kept { run.new.0 ≡ run.old.0 }
     ensures paid { IfSome result (λ n. run.new.1 < run.old.1) }
     ensures none { result ≡ None → run.new ≡ run.old }
     ensures stays { result ≡ None → act.new ≡ act.old }
@@ -122,6 +125,7 @@ fn short_slot<S: Space>(
     requires short { IsShort (shorts.Slot slot) (row_alone (first act.old.place.rest)) }
     ensures integer { IfSome result (λ n. Does (Ok (flows.Value (values.Integer n))) run.new (term_run S.accesses (meaning S.accesses) act.old levels) run.old) }
     ensures behind { IfSome result (λ n. act.new ≡ behind_term act.old levels) }
+    ensures kept { run.new.0 ≡ run.old.0 }
     ensures paid { IfSome result (λ n. run.new.1 < run.old.1) }
     ensures none { result ≡ None → run.new ≡ run.old }
     ensures stays { result ≡ None → act.new ≡ act.old }
@@ -129,7 +133,7 @@ fn short_slot<S: Space>(
     match run.world.slot_integer(slot) {
         None => None,
         Some(number) => {
-            if !step(run) {
+            if !take_step(run) {
                 return None;
             }
             act.over(1);
@@ -150,11 +154,12 @@ fn short_constant<S: Space>(
     requires short { IsShort (shorts.Constant number) (row_alone (first act.old.place.rest)) }
     ensures integer { IfSome result (λ n. Does (Ok (flows.Value (values.Integer n))) run.new (term_run S.accesses (meaning S.accesses) act.old levels) run.old) }
     ensures behind { IfSome result (λ n. act.new ≡ behind_term act.old levels) }
+    ensures kept { run.new.0 ≡ run.old.0 }
     ensures paid { IfSome result (λ n. run.new.1 < run.old.1) }
     ensures none { result ≡ None → run.new ≡ run.old }
     ensures stays { result ≡ None → act.new ≡ act.old }
 {
-    if !step(run) {
+    if !take_step(run) {
         return None;
     }
     act.over(1);
@@ -174,11 +179,12 @@ fn short_number<S: Space>(
     requires short { IsShort (shorts.Number count) (row_alone (first act.old.place.rest)) }
     ensures integer { IfSome result (λ n. Does (Ok (flows.Value (values.Integer n))) run.new (term_run S.accesses (meaning S.accesses) act.old levels) run.old) }
     ensures behind { IfSome result (λ n. act.new ≡ behind_term act.old levels) }
+    ensures kept { run.new.0 ≡ run.old.0 }
     ensures paid { IfSome result (λ n. run.new.1 < run.old.1) }
     ensures none { result ≡ None → run.new ≡ run.old }
     ensures stays { result ≡ None → act.new ≡ act.old }
 {
-    if !step(run) {
+    if !take_step(run) {
         return None;
     }
     act.over(1);

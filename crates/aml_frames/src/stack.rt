@@ -7,28 +7,33 @@ ghost use Rattle.aml_meaning.specs.Invocations.{left, returned_by};
 ghost use Rattle.aml_meaning.specs.Meaning.{meaning};
 ghost use Rattle.aml_frames.specs.declared.frames.Control.TheVariants as control;
 ghost use Rattle.aml_frames.specs.declared.frames.Entry.TheVariants as entry;
+ghost use Rattle.aml_frames.specs.declared.frames.Frame.TheVariants as frames;
 ghost use Rattle.aml_frames.specs.declared.frames.Next.TheVariants as next;
 ghost use Rattle.aml_frames.specs.declared.uses.Accessed.TheVariants as object;
 ghost use Rattle.aml_frames.specs.declared.uses.Doing.TheVariants as doing;
 ghost use Rattle.aml_frames.specs.declared.uses.Reading.TheVariants as reading;
-ghost use Rattle.aml_frames.specs.Follow.{body_run, list_run, all_left, next_run, next_ends};
+ghost use Rattle.aml_frames.specs.declared.uses.TargetUse.TheVariants as uses;
+ghost use Rattle.aml_objects.specs.declared.value.Value.TheVariants as values;
+ghost use Rattle.aml_frames.specs.Follow.{turn_items, body_run, list_run, all_left, next_run, next_ends};
 ghost use Rattle.aml_marked.specs.Marked.{walk_levels};
-ghost use Rattle.aml_frames.specs.Uses.{access_done};
+ghost use Rattle.aml_frames.specs.Uses.{optional, access_done};
 ghost use Rattle.aml_frames.specs.Stack.{whole, then_all, machine, Goes, stack_weight, entry_weight, control_weight};
-ghost use Rattle.aml_frames.specs.Weights.{weight, next_weight, target_weight, access_weight, charged};
+ghost use Rattle.aml_frames.specs.Weights.{most, next_weight, target_weight, access_weight, charged};
 
-use crate::activation::{Activation, Position};
+use crate::accesses::begin_read;
+use crate::activation::{Activation, MethodPath, Position};
+use crate::addresses::PciAccess;
+use crate::boxed::Boxed;
 use crate::field_access::begin_access;
-use crate::frames::{Control, Entry, Frame, Items, Next, Package};
-use crate::known::known_integer;
+use crate::frames::{Control, Entry, Frame, Items, Loop, Next, Package};
 use crate::lists::begin_items;
 use crate::packages::begin_element;
 use crate::resuming::resume;
 use crate::targets::begin_target;
 use crate::terms::begin_term;
 use crate::uses::{Access, Accessed, Doing, Reading, Target, TargetUse};
-use aml_meaning::{Flow, Running};
-use aml_objects::{Field, Value};
+use aml_meaning::{Count, Flow, Running, StoreTarget};
+use aml_objects::{Field, NodeId, Reference, Value};
 use aml_path::Path;
 use aml_terms::LEVELS;
 use ar_space::{Refusal, Space};
@@ -94,7 +99,9 @@ pub(crate) fn access_field<S: Space>(
         object: Accessed::Field(field),
         doing: Doing::Read(Reading::Part),
     };
-    execute(alloc, run, Stack::new(alloc, act), Control::Access(access))
+    let held = Boxed::new(alloc, access)?;
+    let stack = Stack::new(alloc, act);
+    execute(alloc, run, stack, Control::Access(held))
 }
 
 /// What a call leaves whose body leaves this.
@@ -124,6 +131,107 @@ impl Stack {
             act,
             entries: Vec::new(alloc),
         }
+    }
+
+    /// The term that stands next, and the frame that waits for it.
+    #[inline(always)]
+    fn wait_for_term(&mut self, levels: u8, frame: Frame) -> Result<Control, Refusal>
+        ensures act { OnOk result (self.new.act ≡ self.old.act) }
+        ensures pushed { OnOk result (self.new.entries.items ≡ self.old.entries.items ++ entry.Frame frame ∷ []) }
+        ensures next { IfOk result (λ c. c ≡ control.Term levels) }
+        ensures memory { IfErr result (λ e. e ≡ OutOfMemory) }
+    {
+        self.entries.push(Entry::Frame(frame))?;
+        Ok(Control::Term(levels))
+    }
+
+    /// The list of a While, and what is left of the While.
+    #[inline(always)]
+    fn wait_for_turn(&mut self, turn: Loop) -> Result<Control, Refusal>
+        ensures act { OnOk result (self.new.act ≡ self.old.act) }
+        ensures pushed { OnOk result (self.new.entries.items ≡ self.old.entries.items ++ entry.Frame (frames.Turn turn) ∷ []) }
+        ensures next { IfOk result (λ c. c ≡ control.Items (turn_items turn self.old.act)) }
+        ensures memory { IfErr result (λ e. e ≡ OutOfMemory) }
+    {
+        let items = self.act.items(turn.levels, turn.outer);
+        self.entries.push(Entry::Frame(Frame::Turn(turn)))?;
+        Ok(Control::Items(items))
+    }
+
+    /// The list of a scope, and the scope around it.
+    fn wait_for_scope(
+        &mut self,
+        items: Items,
+        path: MethodPath,
+        node: NodeId,
+    ) -> Result<Control, Refusal>
+        ensures act { OnOk result (self.new.act ≡ self.old.act) }
+        ensures pushed { OnOk result (self.new.entries.items ≡ self.old.entries.items ++ entry.Frame (frames.Scope path node) ∷ []) }
+        ensures next { IfOk result (λ c. c ≡ control.Items items) }
+        ensures memory { IfErr result (λ e. e ≡ OutOfMemory) }
+    {
+        self.entries.push(Entry::Frame(Frame::Scope(path, node)))?;
+        Ok(Control::Items(items))
+    }
+
+    /// The remainder of a Divide is stored, and its quotient waits.
+    fn wait_for_remainder(
+        &mut self,
+        levels: u8,
+        remainder: Value,
+        quotient: Value,
+    ) -> Result<Control, Refusal>
+        ensures act { OnOk result (self.new.act ≡ self.old.act) }
+        ensures pushed { OnOk result (self.new.entries.items ≡ self.old.entries.items ++ entry.Frame (frames.Quotient levels quotient) ∷ []) }
+        ensures next { IfOk result (λ c. c ≡ control.Target (optional levels) (uses.Store remainder)) }
+        ensures memory { IfErr result (λ e. e ≡ OutOfMemory) }
+    {
+        self.entries
+            .push(Entry::Frame(Frame::Quotient(levels, quotient)))?;
+        Ok(Control::Target(Target::optional(levels), TargetUse::Store(remainder)))
+    }
+
+    /// The reference of a CondRefOf is stored.
+    fn wait_for_reference(&mut self, levels: u8, reference: Reference) -> Result<Control, Refusal>
+        ensures act { OnOk result (self.new.act ≡ self.old.act) }
+        ensures pushed { OnOk result (self.new.entries.items ≡ self.old.entries.items ++ entry.Frame frames.Found ∷ []) }
+        ensures next { IfOk result (λ c. c ≡ control.Target (optional levels) (uses.Store (values.Reference reference))) }
+        ensures memory { IfErr result (λ e. e ≡ OutOfMemory) }
+    {
+        self.entries.push(Entry::Frame(Frame::Found))?;
+        Ok(Control::Target(
+            Target::optional(levels),
+            TargetUse::Store(Value::Reference(reference)),
+        ))
+    }
+
+    /// A field is read that is counted.
+    fn wait_for_count(
+        &mut self,
+        count: Count,
+        counted: Boxed<(StoreTarget, Field)>,
+    ) -> Result<Control, Refusal>
+        ensures act { OnOk result (self.new.act ≡ self.old.act) }
+        ensures pushed { OnOk result (self.new.entries.items ≡ self.old.entries.items ++ entry.Frame (frames.Counted count counted) ∷ []) }
+        ensures next { IfOk result (λ c. c ≡ control.Read counted.1 reading.Integer) }
+        ensures memory { IfErr result (λ e. e ≡ OutOfMemory) }
+    {
+        let field = counted.get().1;
+        self.entries
+            .push(Entry::Frame(Frame::Counted(count, counted)))?;
+        Ok(Control::Read(field, Reading::Integer))
+    }
+
+    /// An access of a field, and the frame that waits for it.
+    #[inline(always)]
+    fn wait_for_access(&mut self, access: Boxed<Access>, frame: Frame) -> Result<Control, Refusal>
+        ensures act { OnOk result (self.new.act ≡ self.old.act) }
+        ensures pushed { OnOk result (self.new.entries.items ≡ self.old.entries.items ++ entry.Frame frame ∷ []) }
+        ensures next { IfOk result (λ c. c ≡ control.Access access) }
+        ensures memory { IfErr result (λ e. e ≡ OutOfMemory) }
+    {
+        self.entries.push(Entry::Frame(frame))?;
+        Ok(Control::Access(access))
     }
 }
 
@@ -170,6 +278,15 @@ fn execute<S: Space>(
                     }
                 }
             }
+            Control::Read(field, reading) => match step_read(
+                alloc, run, &mut stack, field, reading,
+            ) {
+                Ok(after) => control = after,
+                Err(refusal) => {
+                    unwind(run, &mut stack, &refusal);
+                    return Err(refusal);
+                }
+            },
             Control::Access(access) => match step_access(alloc, run, &mut stack, access) {
                 Ok(after) => control = after,
                 Err(refusal) => {
@@ -177,15 +294,6 @@ fn execute<S: Space>(
                     return Err(refusal);
                 }
             },
-            Control::Resume(frame, value) => {
-                match step_resume(alloc, run, &mut stack, frame, value) {
-                    Ok(after) => control = after,
-                    Err(refusal) => {
-                        unwind(run, &mut stack, &refusal);
-                        return Err(refusal);
-                    }
-                }
-            }
             Control::Flow(flow) => match stack.entries.pop() {
                 None => return Ok(flow),
                 Some(top) => match step_entry(alloc, run, &mut stack, top, flow) {
@@ -240,7 +348,7 @@ fn step_package<S: Space>(
     alloc: Global,
     run: &mut Running<S>,
     stack: &mut Stack,
-    filling: Package,
+    filling: Boxed<Package>,
 ) -> Result<Control, Refusal>
     ensures falls { IfOk result (λ c. charged run.new.1 + (stack_weight stack.new.entries.items + control_weight c) < charged run.old.1 + (stack_weight stack.old.entries.items + 4)) }
     ensures means { Goes S.accesses (meaning S.accesses) result stack.new.act stack.new.entries.items run.new
@@ -275,31 +383,32 @@ fn step_access<S: Space>(
     alloc: Global,
     run: &mut Running<S>,
     stack: &mut Stack,
-    access: Access,
+    access: Boxed<Access>,
 ) -> Result<Control, Refusal>
     ensures falls { IfOk result (λ c. charged run.new.1 + (stack_weight stack.new.entries.items + control_weight c) < charged run.old.1 + (stack_weight stack.old.entries.items + access_weight access)) }
     ensures means { Goes S.accesses (meaning S.accesses) result stack.new.act stack.new.entries.items run.new
         (machine S.accesses (meaning S.accesses) (control.Access access) stack.old.act stack.old.entries.items) run.old }
 {
-    let next = begin_access(alloc, run, &stack.act, access)?;
+    let next = begin_access(alloc, run, &stack.act, access.into_inner())?;
     follow(run, stack, next)
 }
 
-/// A value meets the frame that would have waited for it.
+/// A field is read by a term.
 #[inline(always)]
 #[tactic(auto, using(crate::proofs::Machine::taking))]
-fn step_resume<S: Space>(
+fn step_read<S: Space>(
     alloc: Global,
     run: &mut Running<S>,
     stack: &mut Stack,
-    frame: Frame,
-    value: Value,
+    field: Field,
+    reading: Reading,
 ) -> Result<Control, Refusal>
-    ensures falls { IfOk result (λ c. charged run.new.1 + (stack_weight stack.new.entries.items + control_weight c) < charged run.old.1 + (stack_weight stack.old.entries.items + (weight frame + 3))) }
+    ensures falls { IfOk result (λ c. charged run.new.1 + (stack_weight stack.new.entries.items + control_weight c) < charged run.old.1 + (stack_weight stack.old.entries.items + most)) }
     ensures means { Goes S.accesses (meaning S.accesses) result stack.new.act stack.new.entries.items run.new
-        (machine S.accesses (meaning S.accesses) (control.Resume frame value) stack.old.act stack.old.entries.items) run.old }
+        (machine S.accesses (meaning S.accesses) (control.Read field reading) stack.old.act stack.old.entries.items) run.old }
 {
-    let next = resume(alloc, run, &mut stack.act, frame, Flow::Value(value))?;
+    let access = begin_read(&stack.act, field, reading);
+    let next = begin_access(alloc, run, &stack.act, access)?;
     follow(run, stack, next)
 }
 
@@ -330,6 +439,46 @@ fn step_entry<S: Space>(
     }
 }
 
+/// A flow is handed to what waits.
+#[inline(always)]
+fn go_to_flow(flow: Flow) -> Result<Control, Refusal>
+    ensures { result ≡ Ok (control.Flow flow) }
+{
+    Ok(Control::Flow(flow))
+}
+
+/// A list begins next.
+#[inline(always)]
+fn go_to_items(items: Items) -> Result<Control, Refusal>
+    ensures { result ≡ Ok (control.Items items) }
+{
+    Ok(Control::Items(items))
+}
+
+/// The next element of a package begins next.
+#[inline(always)]
+fn go_to_package(filling: Boxed<Package>) -> Result<Control, Refusal>
+    ensures { result ≡ Ok (control.Package filling) }
+{
+    Ok(Control::Package(filling))
+}
+
+/// A target is found next.
+#[inline(always)]
+fn go_to_target(target: Target, target_use: TargetUse) -> Result<Control, Refusal>
+    ensures { result ≡ Ok (control.Target target target_use) }
+{
+    Ok(Control::Target(target, target_use))
+}
+
+/// A field is read next.
+#[inline(always)]
+fn go_to_read(field: Field, reading: Reading) -> Result<Control, Refusal>
+    ensures { result ≡ Ok (control.Read field reading) }
+{
+    Ok(Control::Read(field, reading))
+}
+
 /// What is left to do is put on the stack.
 #[inline(always)]
 #[tactic(auto, using(crate::proofs::Machine::going))]
@@ -339,57 +488,42 @@ fn follow<S: Space>(run: &mut Running<S>, stack: &mut Stack, next: Next) -> Resu
         (then_all S.accesses (meaning S.accesses) (next_run S.accesses (meaning S.accesses) next stack.old.act) (next_ends next stack.old.act) stack.old.entries.items) run.old }
 {
     match next {
-        Next::Flow(flow) => Ok(Control::Flow(flow)),
-        Next::Items(items) => Ok(Control::Items(items)),
-        Next::Package(filling) => Ok(Control::Package(filling)),
-        Next::Term(levels, frame) => begin_operand(run, stack, levels, frame),
-        Next::ItemsThen(items, frame) => {
-            stack.entries.push(Entry::Frame(frame))?;
-            Ok(Control::Items(items))
-        }
-        Next::Target(target, target_use) => Ok(Control::Target(target, target_use)),
-        Next::TargetThen(target, target_use, frame) => {
-            stack.entries.push(Entry::Frame(frame))?;
-            Ok(Control::Target(target, target_use))
-        }
-        Next::Access(access) => Ok(Control::Access(access)),
-        Next::AccessThen(access, frame) => {
-            stack.entries.push(Entry::Frame(frame))?;
-            Ok(Control::Access(access))
-        }
+        Next::Flow(flow) => go_to_flow(flow),
+        Next::Term(levels, frame) => stack.wait_for_term(levels, frame),
+        Next::Items(items) => go_to_items(items),
+        Next::Turn(turn) => stack.wait_for_turn(turn),
+        Next::Scope(items, path, node) => stack.wait_for_scope(items, path, node),
+        Next::Package(filling) => go_to_package(filling),
+        Next::Target(target, target_use) => go_to_target(target, target_use),
+        Next::Division(levels, remainder, quotient) => stack.wait_for_remainder(
+            levels, remainder, quotient,
+        ),
+        Next::Found(levels, reference) => stack.wait_for_reference(levels, reference),
+        Next::Read(field, reading) => go_to_read(field, reading),
+        Next::Counted(count, counted) => stack.wait_for_count(count, counted),
+        Next::AccessThen(access, frame) => stack.wait_for_access(access, frame),
         Next::Body(body) => run_in(run, stack, body),
-        Next::BodyThen(body, frame) => {
-            push_frame(run, stack, &body, frame)?;
-            run_in(run, stack, body)
-        }
+        Next::BodyThen(body, asked) => run_then(run, stack, body, asked),
     }
 }
 
-/// An operand, and the frame that waits for it: an integer that is there already is handed to the frame at once, and the stack stays as it
-/// is.
-#[inline(always)]
+/// The body of a control method that gives a part of an address, and what is left of the access.
 #[tactic(auto, using(crate::proofs::Machine::going))]
-fn begin_operand<S: Space>(
+fn run_then<S: Space>(
     run: &mut Running<S>,
     stack: &mut Stack,
-    levels: u8,
-    frame: Frame,
+    body: Activation,
+    asked: Boxed<PciAccess>,
 ) -> Result<Control, Refusal>
-    ensures falls { IfOk result (λ c. charged run.new.1 + (stack_weight stack.new.entries.items + control_weight c) ≤ charged run.old.1 + (stack_weight stack.old.entries.items + weight frame)) }
+    ensures falls { IfOk result (λ c. charged run.new.1 + (stack_weight stack.new.entries.items + control_weight c) ≤ charged run.old.1 + (stack_weight stack.old.entries.items + next_weight (next.BodyThen body asked))) }
     ensures means { Goes S.accesses (meaning S.accesses) result stack.new.act stack.new.entries.items run.new
-        (then_all S.accesses (meaning S.accesses) (next_run S.accesses (meaning S.accesses) (next.Term levels frame) stack.old.act) (next_ends (next.Term levels frame) stack.old.act) stack.old.entries.items) run.old }
+        (then_all S.accesses (meaning S.accesses) (next_run S.accesses (meaning S.accesses) (next.BodyThen body asked) stack.old.act) (next_ends (next.BodyThen body asked) stack.old.act) stack.old.entries.items) run.old }
 {
-    match known_integer(run, &mut stack.act, levels)? {
-        Some(number) => Ok(Control::Resume(frame, Value::Integer(number))),
-        None => {
-            stack.entries.push(Entry::Frame(frame))?;
-            Ok(Control::Term(levels))
-        }
-    }
+    push_frame(run, stack, &body, Frame::Address(asked))?;
+    run_in(run, stack, body)
 }
 
 /// A frame is put on the stack, to wait for a call whose slots stand already: without memory for it the call ends.
-#[inline(always)]
 fn push_frame<S: Space>(
     run: &mut Running<S>,
     stack: &mut Stack,
@@ -413,7 +547,6 @@ fn push_frame<S: Space>(
 }
 
 /// The body of a control method is evaluated, whose slots stand already; without memory for its caller the call ends.
-#[inline(always)]
 fn run_in<S: Space>(
     run: &mut Running<S>,
     stack: &mut Stack,

@@ -6,14 +6,19 @@ ghost use Rattle.aml_meaning.specs.Meaning.{meaning};
 ghost use Rattle.aml_meaning.specs.StatementTerms.{otherwise};
 ghost use Rattle.aml_meaning.specs.Terms.{else_of};
 ghost use Rattle.aml_meaning.specs.declared.term_kind.StatementKind.TheVariants as statements;
+ghost use Rattle.aml_frames.specs.declared.frames.Frame.TheVariants as frames;
+ghost use Rattle.aml_frames.specs.declared.frames.Next.TheVariants as next;
 ghost use Rattle.aml_frames.specs.Places.{at_place, terms};
-ghost use Rattle.aml_frames.specs.Follow.{behind_else, statement_run, branch_at, behind_statement_at, next_ends, Leads, EndsAt};
+ghost use Rattle.aml_frames.specs.Follow.{behind_else, statement_run, branch_at, behind_statement_at, next_run, next_ends, Leads, EndsAt};
 ghost use Rattle.aml_frames.specs.Weights.{most, next_weight};
 
 use crate::activation::{Activation, Position};
-use crate::frames::{Frame, Loop, Next};
+use crate::frames::{Frame, Loop, Next, leave};
+use crate::known::known_integer;
+use crate::resuming::begin_predicate;
 use crate::targets::begin_target;
 use crate::uses::{Target, TargetUse};
+use aml_convert::is_true;
 use aml_meaning::{Flow, Running, StatementKind};
 use aml_terms::ELSE;
 use ar_space::{Refusal, Space};
@@ -37,11 +42,11 @@ pub fn begin_statement<S: Space>(
 {
     match kind {
         StatementKind::If => begin_if(run, act, levels),
-        StatementKind::Else => Ok(begin_list(run, act, levels)),
+        StatementKind::Else => begin_else(run, act, levels),
         StatementKind::While => begin_while(run, act, levels),
-        StatementKind::Break => Ok(Next::Flow(Flow::Break)),
-        StatementKind::Continue => Ok(Next::Flow(Flow::Continue)),
-        StatementKind::Noop => Ok(Next::Flow(Flow::Next)),
+        StatementKind::Break => leave(Flow::Break),
+        StatementKind::Continue => leave(Flow::Continue),
+        StatementKind::Noop => leave(Flow::Next),
         StatementKind::Return => begin_return(run, act, levels),
         StatementKind::Release => {
             begin_target(
@@ -120,7 +125,7 @@ fn begin_fatal<S: Space>(
 }
 
 /// If: its predicate is evaluated.
-#[tactic(auto, using(crate::proofs::Stepping::branching))]
+#[tactic(auto, using(crate::proofs::Stepping::branching, crate::proofs::Knowing::going_on))]
 fn begin_if<S: Space>(
     run: &mut Running<S>,
     act: &mut Activation,
@@ -134,7 +139,29 @@ fn begin_if<S: Space>(
     ensures ends { EndsAt result act.new (behind_statement_at statements.If act.old levels) }
 {
     let outer = act.open();
-    Ok(Next::Term(levels, Frame::If(levels, outer)))
+    choose_branch(run, act, levels, outer)
+}
+
+/// The predicate of an If, which stands next: an integer that is there already chooses at once.
+#[inline(always)]
+#[tactic(auto, using(crate::proofs::Knowing::taking_known))]
+fn choose_branch<S: Space>(
+    run: &mut Running<S>,
+    act: &mut Activation,
+    levels: u8,
+    outer: Position,
+) -> Result<Next, Refusal>
+    ensures spent { run.new.1 ≤ run.old.1 }
+    ensures falls { IfOk result (λ n. next_weight n < 6) }
+    ensures memory { NotMemory result }
+    ensures means { Leads S.accesses (meaning S.accesses) result act.new run.new
+        (next_run S.accesses (meaning S.accesses) (next.Term levels (frames.If levels outer)) act.old) run.old }
+    ensures ends { EndsAt result act.new (next_ends (next.Term levels (frames.If levels outer)) act.old) }
+{
+    match known_integer(run, act, levels)? {
+        Some(number) => next_branch(run, act, levels, outer, is_true(number)),
+        None => Ok(Next::Term(levels, Frame::If(levels, outer))),
+    }
 }
 
 /// The list of an If, or the Else behind it.
@@ -179,26 +206,27 @@ fn next_otherwise<S: Space>(
     if act.is_next(ELSE) {
         run.charge()?;
         act.over(1);
-        Ok(begin_list(run, act, levels))
+        begin_else(run, act, levels)
     } else {
-        Ok(Next::Flow(Flow::Next))
+        leave(Flow::Next)
     }
 }
 
-/// The list of a package.
+/// Else: its list is evaluated.
 #[tactic(auto, using(crate::proofs::Stepping::stepping))]
-fn begin_list<S: Space>(run: &Running<S>, act: &mut Activation, levels: u8) -> Next
-    ensures falls { next_weight result < 6 }
-    ensures means { Leads S.accesses (meaning S.accesses) (Ok result) act.new run.now
+fn begin_else<S: Space>(run: &Running<S>, act: &mut Activation, levels: u8) -> Result<Next, Refusal>
+    ensures falls { IfOk result (λ n. next_weight n < 6) }
+    ensures memory { NotMemory result }
+    ensures means { Leads S.accesses (meaning S.accesses) result act.new run.now
         (statement_run S.accesses (meaning S.accesses) statements.Else act.old levels) run.now }
-    ensures ends { next_ends result act.new ≡ behind_statement_at statements.Else act.old levels }
+    ensures ends { EndsAt result act.new (behind_statement_at statements.Else act.old levels) }
 {
     let outer = act.open();
-    Next::Items(act.items(levels, outer))
+    Ok(Next::Items(act.items(levels, outer)))
 }
 
 /// While: its predicate is evaluated.
-#[tactic(auto, using(crate::proofs::Stepping::looping))]
+#[tactic(auto, using(crate::proofs::Stepping::looping, crate::proofs::Knowing::going_on))]
 fn begin_while<S: Space>(
     run: &mut Running<S>,
     act: &mut Activation,
@@ -218,5 +246,5 @@ fn begin_while<S: Space>(
         predicate,
         outer,
     };
-    Ok(Next::Term(levels, Frame::Predicate(turn)))
+    begin_predicate(run, act, turn)
 }

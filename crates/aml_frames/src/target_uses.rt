@@ -11,6 +11,7 @@ ghost use Rattle.aml_frames.specs.Weights.{most, use_weight, next_weight};
 
 use crate::accesses::{begin_read, begin_write};
 use crate::activation::Activation;
+use crate::boxed::Boxed;
 use crate::frames::{Frame, Next};
 use crate::references::begin_found;
 use crate::uses::{Inquiry, Reading, TargetUse};
@@ -132,10 +133,7 @@ fn count_target<S: Space>(
             let result = run.world.count(count, number)?;
             store_back(alloc, run, act, &target, held, result)
         }
-        Held::Field(field) => Ok(Next::AccessThen(
-            begin_read(act, field, Reading::Integer),
-            Frame::Counted(count, target, field),
-        )),
+        Held::Field(field) => Ok(Next::Counted(count, Boxed::new(alloc, (target, field))?)),
     }
 }
 
@@ -145,19 +143,21 @@ pub(crate) fn resume_counted<S: Space>(
     alloc: Global,
     run: &mut Running<S>,
     act: &Activation,
-    counted: (Count, StoreTarget, Field),
+    count: Count,
+    counted: Boxed<(StoreTarget, Field)>,
     flow: Flow,
 ) -> Result<Next, Refusal>
     ensures spent { run.new.1 ≤ run.old.1 }
     ensures falls { IfOk result (λ n. next_weight n < most + 4) }
     ensures means { Leads S.accesses (meaning S.accesses) result act.now run.new
-        (resumed S.accesses (meaning S.accesses) (frames.Counted counted.0 counted.1 counted.2) act.now flow) run.old }
+        (resumed S.accesses (meaning S.accesses) (frames.Counted count counted) act.now flow) run.old }
     ensures ends { EndsAt result act.now act.now }
 {
     let value = flow.value()?;
     let number = integer_of(&run.world, value)?;
-    let result = run.world.count(counted.0, number)?;
-    store_back(alloc, run, act, &counted.1, Held::Field(counted.2), result)
+    let result = run.world.count(count, number)?;
+    let (target, field) = counted.into_inner();
+    store_back(alloc, run, act, &target, Held::Field(field), result)
 }
 
 /// A store to a target whose value was read before; a field that was read is the one that is written, unless an element of a
@@ -201,9 +201,7 @@ pub(crate) fn inquire<S: Space>(
     ensures ends { EndsAt result act.now act.now }
 {
     match referent {
-        Referent::Field(field) => {
-            Ok(Next::Access(begin_read(act, field, Reading::Inquire(inquiry))))
-        }
+        Referent::Field(field) => { Ok(Next::Read(field, Reading::Inquire(inquiry))) }
         Referent::Value(_) | Referent::Object(_) | Referent::Bytes(_) => {
             let value = tell(&run.world, inquiry, referent)?;
             Ok(Next::Flow(Flow::Value(value)))

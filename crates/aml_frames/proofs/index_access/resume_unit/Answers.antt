@@ -9,4 +9,4 @@ returns-in-Reads-clause-means g c =
     let many = c.put_unit.ensures.len ∙ ap length c.deref_mut.ensures.value ∙ sym old.ok.0 in
     let bits = items_put old.len c.put_unit.new.bits old.items many ∙ c.put_unit.ensures.put ∙ ap (λ bs. put_unit bs c.args.unit c.in_ok-number.number) c.deref_mut.ensures.value in
     let number = rw c.value_of_call.ensures at c.in_ok-number.ensures.answer in
-    rw c.in-Reads.is (leads_put c.in-Reads.reads c.args.unit c.args.flow c.in_ok-number.number _ number bits c.next_read.ensures.means)
+    rw (sym c.into_inner.ensures ∙ c.in-Reads.is) (leads_put c.in-Reads.reads c.args.unit c.args.flow c.in_ok-number.number _ number bits c.next_read.ensures.means)

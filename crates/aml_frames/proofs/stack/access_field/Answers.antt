@@ -7,4 +7,6 @@ use Rattle.aml_frames.proofs.Machine.{does_access}
 use Rattle.aml_frames.proofs.stack.access_field.Goals as goal
 
 pub returns : goal.returns
-returns g c = does_access g.S.Space.accesses (meaning g.S.Space.accesses) (record { calls = c.args.calls; object = object.Field c.args.field; doing = doing.Read reading.Part }) c.new.result.act c.new.result.entries.items c.new.ensures.empty c.execute.ensures
+returns g c =
+    let h = rw c.in_ok-held.ensures at c.execute.ensures in
+    does_access g.S.Space.accesses (meaning g.S.Space.accesses) (record { calls = c.args.calls; object = object.Field c.args.field; doing = doing.Read reading.Part }) c.new-stack.result.act c.new-stack.result.entries.items c.new-stack.ensures.empty h

@@ -1,0 +1,204 @@
+//! Operators without a target whose operands are locals, arguments or constants that are integers (ACPI 6.5, 19.6): most predicates.
+//!
+//! Each function answers at once. Where it doesn't, only steps were taken, and `operation_integer` gives these back.
+ghost use Rattle.std.specs.Prelude.{◌≡◌, ◌≤◌, ◌<◌, Ok, None, IfSome};
+ghost use Rattle.ar_space.specs.Change.{Does};
+ghost use Rattle.aml_objects.specs.declared.value.Value.TheVariants as values;
+ghost use Rattle.aml_meaning.specs.declared.flow.Flow.TheVariants as flows;
+ghost use Rattle.aml_meaning.specs.declared.term_kind.OperatorKind.TheVariants as operators;
+ghost use Rattle.aml_meaning.specs.declared.term_kind.TwoOperands.TheVariants as two;
+ghost use Rattle.aml_meaning.specs.Meaning.{meaning};
+ghost use Rattle.aml_frames.specs.declared.frames.Next.TheVariants as next;
+ghost use Rattle.aml_frames.specs.Follow.{term_run, begun_run, coded_run, operator_run, behind_coded, behind_operator_at, Leads};
+ghost use Rattle.aml_frames.specs.Places.{at_place, behind_term};
+
+use crate::activation::Activation;
+use crate::short_terms::{short_integer, take_step};
+use aml_convert::BinaryOperator;
+use aml_meaning::{OperatorKind, Running, TermKind, Test, TwoOperands, kind_of};
+use aml_terms::RowPlace;
+use ar_space::Space;
+
+/// The integer that an operator gives which stands next, where its operands are there already and it has no target. It takes the steps of
+/// the operator and of its operands. In every other case nothing changes.
+#[tactic(auto, using(crate::proofs::ShortOperations::giving))]
+pub(crate) fn operation_integer<S: Space>(
+    run: &mut Running<S>,
+    act: &mut Activation,
+    levels: u8,
+) -> Option<u64>
+    ensures integer { IfSome result (λ n. Does (Ok (flows.Value (values.Integer n))) run.new (term_run S.accesses (meaning S.accesses) act.old levels) run.old) }
+    ensures behind { IfSome result (λ n. act.new ≡ behind_term act.old levels) }
+    ensures paid { IfSome result (λ n. run.new.1 < run.old.1) }
+    ensures none { result ≡ None → run.new ≡ run.old }
+    ensures stays { result ≡ None → act.new ≡ act.old }
+{
+    let steps = run.steps;
+    let position = act.position();
+    match operation(run, act, levels) {
+        Some(number) => Some(number),
+        None => {
+            run.steps = steps;
+            act.go_to(position);
+            None
+        }
+    }
+}
+
+/// The same, but that steps may be taken and evaluation may have gone on where it doesn't answer.
+#[inline(always)]
+#[tactic(auto, using(crate::proofs::ShortOperations::operations), unfolding(aml_meaning::specs::Evaluation::rule))]
+fn operation<S: Space>(run: &mut Running<S>, act: &mut Activation, levels: u8) -> Option<u64>
+    ensures integer { IfSome result (λ n. Leads S.accesses (meaning S.accesses) (Ok (next.Flow (flows.Value (values.Integer n)))) act.new run.new (term_run S.accesses (meaning S.accesses) act.old levels) run.old) }
+    ensures behind { IfSome result (λ n. act.new ≡ behind_term act.old levels) }
+    ensures paid { IfSome result (λ n. run.new.1 < run.old.1) }
+    ensures kept { run.new.0 ≡ run.old.0 }
+    ensures moves { act.new ≡ at_place act.old act.new.place }
+{
+    if !take_step(run) {
+        return None;
+    }
+    match paid_operation(run, act, levels) {
+        Some(number) => Some(number),
+        None => None,
+    }
+}
+
+/// The same of a term whose step is paid.
+#[inline(always)]
+#[tactic(auto, using(crate::proofs::ShortOperations::operations))]
+fn paid_operation<S: Space>(run: &mut Running<S>, act: &mut Activation, levels: u8) -> Option<u64>
+    ensures integer { IfSome result (λ n. Leads S.accesses (meaning S.accesses) (Ok (next.Flow (flows.Value (values.Integer n)))) act.new run.new (begun_run S.accesses (meaning S.accesses) act.old levels) run.old) }
+    ensures behind { IfSome result (λ n. act.new ≡ behind_term act.old levels) }
+    ensures spent { run.new.1 ≤ run.old.1 }
+    ensures kept { run.new.0 ≡ run.old.0 }
+    ensures moves { act.new ≡ at_place act.old act.new.place }
+{
+    let Some(place) = act.take_opcode(levels) else {
+        return None;
+    };
+    match coded_operation(run, act, levels - 1, place) {
+        Some(number) => Some(number),
+        None => None,
+    }
+}
+
+/// The same of a term whose opcode was read, by the place of its row.
+#[inline(always)]
+#[tactic(auto, using(crate::proofs::ShortOperations::operations))]
+fn coded_operation<S: Space>(
+    run: &mut Running<S>,
+    act: &mut Activation,
+    levels: u8,
+    place: RowPlace,
+) -> Option<u64>
+    ensures integer { IfSome result (λ n. Leads S.accesses (meaning S.accesses) (Ok (next.Flow (flows.Value (values.Integer n)))) act.new run.new (coded_run S.accesses (meaning S.accesses) place act.old levels) run.old) }
+    ensures behind { IfSome result (λ n. act.new ≡ behind_coded place act.old levels) }
+    ensures spent { run.new.1 ≤ run.old.1 }
+    ensures kept { run.new.0 ≡ run.old.0 }
+    ensures moves { act.new ≡ at_place act.old act.new.place }
+{
+    match kind_of(place.row().0) {
+        TermKind::Operator(kind) => match operator_integer(run, act, levels, kind) {
+            Some(number) => Some(number),
+            None => None,
+        },
+        _ => None,
+    }
+}
+
+/// The same of an operator whose operands stand next.
+#[inline(always)]
+#[tactic(auto)]
+fn operator_integer<S: Space>(
+    run: &mut Running<S>,
+    act: &mut Activation,
+    levels: u8,
+    kind: OperatorKind,
+) -> Option<u64>
+    ensures integer { IfSome result (λ n. Leads S.accesses (meaning S.accesses) (Ok (next.Flow (flows.Value (values.Integer n)))) act.new run.new (operator_run S.accesses (meaning S.accesses) kind act.old levels) run.old) }
+    ensures behind { IfSome result (λ n. act.new ≡ behind_operator_at kind act.old levels) }
+    ensures spent { run.new.1 ≤ run.old.1 }
+    ensures kept { run.new.0 ≡ run.old.0 }
+    ensures moves { act.new ≡ at_place act.old act.new.place }
+{
+    match kind {
+        OperatorKind::Two(TwoOperands::Integers(operator)) => {
+            two_integers(run, act, levels, operator)
+        }
+        OperatorKind::Test(test) => test_of_integers(run, act, levels, test),
+        OperatorKind::LogicalNot => not_of_integer(run, act, levels),
+        _ => None,
+    }
+}
+
+/// The same of an operator with two operands and a target, which is left out.
+#[inline(always)]
+#[tactic(auto, using(crate::proofs::ShortOperations::integers))]
+fn two_integers<S: Space>(
+    run: &mut Running<S>,
+    act: &mut Activation,
+    levels: u8,
+    operator: BinaryOperator,
+) -> Option<u64>
+    ensures integer { IfSome result (λ n. Leads S.accesses (meaning S.accesses) (Ok (next.Flow (flows.Value (values.Integer n)))) act.new run.new (operator_run S.accesses (meaning S.accesses) (operators.Two (two.Integers operator)) act.old levels) run.old) }
+    ensures behind { IfSome result (λ n. act.new ≡ behind_operator_at (operators.Two (two.Integers operator)) act.old levels) }
+    ensures spent { run.new.1 ≤ run.old.1 }
+    ensures kept { run.new.0 ≡ run.old.0 }
+    ensures moves { act.new ≡ at_place act.old act.new.place }
+{
+    let Some(x) = short_integer(run, act, levels) else {
+        return None;
+    };
+    let Some(y) = short_integer(run, act, levels) else {
+        return None;
+    };
+    if act.first() != 0 {
+        return None;
+    }
+    let Ok(number) = run.world.operate_on_integers(operator, x, y) else {
+        return None;
+    };
+    act.over(1);
+    Some(number)
+}
+
+/// The same of a test of two operands.
+#[inline(always)]
+#[tactic(auto, using(crate::proofs::ShortOperations::integers))]
+fn test_of_integers<S: Space>(
+    run: &mut Running<S>,
+    act: &mut Activation,
+    levels: u8,
+    test: Test,
+) -> Option<u64>
+    ensures integer { IfSome result (λ n. Leads S.accesses (meaning S.accesses) (Ok (next.Flow (flows.Value (values.Integer n)))) act.new run.new (operator_run S.accesses (meaning S.accesses) (operators.Test test) act.old levels) run.old) }
+    ensures behind { IfSome result (λ n. act.new ≡ behind_operator_at (operators.Test test) act.old levels) }
+    ensures spent { run.new.1 ≤ run.old.1 }
+    ensures kept { run.new.0 ≡ run.old.0 }
+    ensures moves { act.new ≡ at_place act.old act.new.place }
+{
+    let Some(x) = short_integer(run, act, levels) else {
+        return None;
+    };
+    let Some(y) = short_integer(run, act, levels) else {
+        return None;
+    };
+    Some(run.world.test_integers(test, x, y))
+}
+
+/// The same of LNot.
+#[inline(always)]
+#[tactic(auto, using(crate::proofs::ShortOperations::integers))]
+fn not_of_integer<S: Space>(run: &mut Running<S>, act: &mut Activation, levels: u8) -> Option<u64>
+    ensures integer { IfSome result (λ n. Leads S.accesses (meaning S.accesses) (Ok (next.Flow (flows.Value (values.Integer n)))) act.new run.new (operator_run S.accesses (meaning S.accesses) operators.LogicalNot act.old levels) run.old) }
+    ensures behind { IfSome result (λ n. act.new ≡ behind_operator_at operators.LogicalNot act.old levels) }
+    ensures spent { run.new.1 ≤ run.old.1 }
+    ensures kept { run.new.0 ≡ run.old.0 }
+    ensures moves { act.new ≡ at_place act.old act.new.place }
+{
+    let Some(x) = short_integer(run, act, levels) else {
+        return None;
+    };
+    Some(run.world.logical_not_of_integer(x))
+}
