@@ -12,3 +12,4 @@ pub mod Rows
 pub mod Levels
 pub mod Ready
 pub mod Named
+pub mod Graphs

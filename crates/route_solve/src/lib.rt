@@ -10,19 +10,19 @@
 #![tactic(auto)]
 
 mod answer;
+mod assign;
 mod buffers;
 mod conditions;
-mod crowd;
 mod fill;
 mod first;
+mod graph;
+mod hall;
 pub mod laws;
 mod left;
-mod levels;
+mod matching;
 mod moves;
 mod numbers;
-mod paths;
 mod problem;
-mod roots;
 mod rows;
 mod search;
 mod set;

@@ -4,4 +4,4 @@ use Rattle.route_solve.specs.Levels.{at}
 use Rattle.route_solve.proofs.moves.first_ready.Given as goal
 
 abbrev pub invariant-loop-k : goal.invariant-loop-k
-invariant-loop-k l = (j : ℕ) → j < l.k → is_reached l.ready (at l.offers j) ≡ false
+invariant-loop-k l = (j : ℕ) → j < l.k → is_reached l.visited (at l.offers j) ≡ false
