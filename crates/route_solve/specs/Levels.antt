@@ -1,4 +1,5 @@
--- A search by levels along alternating paths. The links that it reached stand in a queue.
+-- A search by levels along alternating paths: from a link to an interrupt that it offers, from there to the links that have it.
+-- The links that it reached stand in a queue.
 use Rattle.std.specs.Prelude.{◌≡◌, ◌≢◌, ℕ, ◌+◌, ◌-◌, ◌<◌, ◌≤◌, Bool, true, Option, Some, List, length, not, count_by, slice_index_or}
 use Rattle.route_model.specs.Placement.{place_of, is_reached, Offers, taken}
 
@@ -6,7 +7,7 @@ use Rattle.route_model.specs.Placement.{place_of, is_reached, Offers, taken}
 abbrev pub at : List ℕ → ℕ → ℕ
 at xs k = slice_index_or xs k 0
 
--- how often an interrupt can be given within a limit
+-- how many links may have an interrupt within a limit: its capacity
 abbrev pub capacity_at : ℕ → List ℕ → ℕ → ℕ
 capacity_at limit sources i = limit - at sources i
 

@@ -122,11 +122,12 @@ impl HallSearch {
         ensures done { MatchOption result ((i : ℕ) → Offers (edges graph.now) (at self.old.queue.items pos) i → is_reached self.new.seen.items i ≡ true) (λ i. Offers (edges graph.now) (at self.old.queue.items pos) i × (taken matching.now.choice.items i < capacity graph.now i)) }
     {
         let offers: &[usize] = &graph.offers[self.queue[pos]];
+        let counts: &[usize] = &matching.counts;
         for i in offers {
             if self.seen[*i] {
                 continue;
             }
-            if has_room(graph, &matching.counts, *i) {
+            if has_room(graph, counts, *i) {
                 return Some(*i);
             }
             self.reach(graph, matching, *i, pos);

@@ -58,8 +58,9 @@ impl Search {
         begin_left(&mut self.left, graph.low, matching.choice.len());
         clear_marks(&mut self.visited);
         self.found = 0;
-        for interrupt in 0..matching.counts.len() {
-            if has_room(graph, &matching.counts, interrupt) {
+        let counts: &[usize] = &matching.counts;
+        for interrupt in 0..counts.len() {
+            if has_room(graph, counts, interrupt) {
                 let way = Way {
                     interrupt,
                     link: 0,

@@ -74,18 +74,25 @@ impl Search {
     }
 
     /// Visits the interrupts of the links of a word that can go to that of a way.
-    fn spread_word(&mut self, graph: &Graph<'_>, matching: &Matching, pos: usize, w: usize)
+    fn spread_word(
+        &mut self,
+        graph: &Graph<'_>,
+        matching: &Matching,
+        pos: usize,
+        interrupt: usize,
+        w: usize,
+    )
         requires graph { IsGraph graph.now }
         requires matching { IsMatching graph.now matching.now }
         requires search { Searches graph.now matching.now self.old }
         requires pos { pos < self.old.found }
+        requires way { ready_at self.old.ways.items pos ≡ interrupt }
         requires word { w < 4 }
         ensures search { Searches graph.now matching.now self.new }
         ensures further { Extends self.old self.new }
-        ensures visited { (l x : ℕ) → l / 64 ≡ w → graph.now.low ≤ l → Offers (edges graph.now) l (ready_at self.old.ways.items pos) → place_of matching.now.choice.items l ≡ Some x → is_reached self.new.visited.items x ≡ true }
+        ensures visited { (l x : ℕ) → l / 64 ≡ w → graph.now.low ≤ l → Offers (edges graph.now) l interrupt → place_of matching.now.choice.items l ≡ Some x → is_reached self.new.visited.items x ≡ true }
     {
-        let i = self.ways[pos].interrupt;
-        while let Some(link) = next_left(&self.left, graph.rows, i, w) {
+        while let Some(link) = next_left(&self.left, graph.rows, interrupt, w) {
             self.pass(graph, matching, pos, link);
             clear_left(&mut self.left, link);
         }
@@ -101,8 +108,9 @@ impl Search {
         ensures further { Extends self.old self.new }
         ensures visited { (l x : ℕ) → graph.now.low ≤ l → Offers (edges graph.now) l (ready_at self.old.ways.items pos) → place_of matching.now.choice.items l ≡ Some x → is_reached self.new.visited.items x ≡ true }
     {
+        let interrupt = self.ways[pos].interrupt;
         for w in 0..4 {
-            self.spread_word(graph, matching, pos, w);
+            self.spread_word(graph, matching, pos, interrupt, w);
         }
     }
 }

@@ -25,7 +25,7 @@ has_room-requires-clause-known c =
     let o = offered (edges c.args.graph.now) (at c.args.self.now.queue.items c.args.pos) c.loop-i.i-index c.deref-offers.result.now c.loop-i.invariant.items c.loop-i-test.true in
     let b = c.requires.graph.below _ _ o in
     let e = c.requires.matching.interrupts in
-    let d = ap length c.deref.ensures.value in
+    let d = ap length c.deref-counts.ensures.value in
     omega arith
 
 pub index_mut-requires : goal.index_mut-requires
@@ -58,7 +58,7 @@ returns-then-has_room-clause-done c =
     let b = c.requires.graph.below _ _ o in
     let f = c.requires.matching.interrupts in
     let yes = OnTrue_at c.if-has_room.true c.has_room.ensures.yes in
-    let d = ap (λ xs. at xs i) c.deref.ensures.value in
+    let d = ap (λ xs. at xs i) c.deref-counts.ensures.value in
     (o, let e = c.requires.matching.counted i (omega arith) in omega arith)
 
 pub loop-i-preserved : goal.loop-i-preserved
@@ -74,7 +74,7 @@ loop-i-preserved c =
     let b = c.requires.graph.below _ _ o in
     let f = c.requires.matching.interrupts in
     let full = OnFalse_at c.if-has_room.false c.has_room.ensures.no in
-    let d = ap (λ xs. at xs i) c.deref.ensures.value in
+    let d = ap (λ xs. at xs i) c.deref-counts.ensures.value in
     let r = c.reach.ensures in
     let known : i < length s2.seen.items = let e = r.search.sized.seen in omega arith in
     let kept = kept_set s2.seen.items i known in

@@ -1,4 +1,4 @@
-use Rattle.std.proofs.Common.{◌≡◌, ◌<◌, true, arith, ap, below_more}
+use Rattle.std.proofs.Common.{◌≡◌, length, ◌<◌, true, arith, ap, below_more}
 use Rattle.std.proofs.lemmas.Bool.{OnFalse_at}
 use Rattle.route_model.specs.Placement.{taken, is_reached}
 use Rattle.route_solve.specs.Graphs.{capacity, edges}
@@ -38,6 +38,6 @@ loop-interrupt-preserved c =
       | else-has_room w ↦
           rw w.self-is (record {
             search = inv.search;
-            rooms = below_more (λ k. taken p k < room k → is_reached c.loop-interrupt.self.visited.items k ≡ true) i inv.rooms (λ more. let n = OnFalse_at w.if-has_room.false c.has_room.ensures.no in let a = ap (λ xs. at xs i) c.deref.ensures.value in let t = c.loop-interrupt-test.true in let l = c.len-interrupt-end.ensures in let e = c.requires.matching.counted i (omega arith) in absurd (omega arith));
+            rooms = below_more (λ k. taken p k < room k → is_reached c.loop-interrupt.self.visited.items k ≡ true) i inv.rooms (λ more. let n = OnFalse_at w.if-has_room.false c.has_room.ensures.no in let a = ap (λ xs. at xs i) c.deref-counts.ensures.value in let t = c.loop-interrupt-test.true in let l = ap length c.deref-counts.ensures.value in let e = c.requires.matching.counted i (omega arith) in absurd (omega arith));
           })
     ]

@@ -12,10 +12,8 @@ use Rattle.route_solve.proofs.search.Search.spread_word.Goals as goal
 pub next_left-requires-clause-within : goal.next_left-requires-clause-within
 next_left-requires-clause-within c =
     let s = c.args.self.now in
-    let g = c.args.graph.now in
-    let h = c.requires.search.search in
-    let way : ready_at s.ways.items c.args.pos ≡ c.index.result.now.interrupt = ap (λ (v : Way). v.interrupt) (get_or_default s.ways.items c.args.pos no_way c.index.result.now (ways_within (edges g) (capacity g) c.args.matching.now.choice.items g.low s.left s.visited.items s.ways.items s.found h c.args.pos c.requires.pos) ∙ sym c.index.ensures) in
-    let known = marked_within s.visited.items (ready_at s.ways.items c.args.pos) (h.marked c.args.pos c.requires.pos) in
+    let known = marked_within s.visited.items (ready_at s.ways.items c.args.pos) (c.requires.search.search.marked c.args.pos c.requires.pos) in
+    let way = c.requires.way in
     let m = c.requires.search.sized.marks in
     let r = c.requires.graph.bits.long in
     omega arith
@@ -24,13 +22,12 @@ pub pass-requires-clause-offered : goal.pass-requires-clause-offered
 pass-requires-clause-offered c =
     let s = c.args.self.now in
     let g = c.args.graph.now in
-    let h = c.requires.search.search in
-    let way : ready_at s.ways.items c.args.pos ≡ c.index.result.now.interrupt = ap (λ (v : Way). v.interrupt) (get_or_default s.ways.items c.args.pos no_way c.index.result.now (ways_within (edges g) (capacity g) c.args.matching.now.choice.items g.low s.left s.visited.items s.ways.items s.found h c.args.pos c.requires.pos) ∙ sym c.index.ensures) in
-    let known = marked_within s.visited.items (ready_at s.ways.items c.args.pos) (h.marked c.args.pos c.requires.pos) in
+    let way = c.requires.way in
+    let known = marked_within s.visited.items (ready_at s.ways.items c.args.pos) (c.requires.search.search.marked c.args.pos c.requires.pos) in
     let m = c.requires.search.sized.marks in
     let w = c.requires.word in
     let here = c.in-Some.ensures.0 in
-    let o = c.requires.graph.bits.only c.in-Some.link c.index.result.now.interrupt (omega arith) (omega arith) c.in-Some.ensures.2 in
+    let o = c.requires.graph.bits.only c.in-Some.link c.args.interrupt (omega arith) (omega arith) c.in-Some.ensures.2 in
     subst (Offers (edges g) c.in-Some.link) (sym way ∙ sym (ap (λ (v : Way). v.interrupt) (c.loop-link.invariant.further.same c.args.pos c.requires.pos))) o
 
 pub loop-link-preserved : goal.loop-link-preserved
@@ -50,14 +47,8 @@ loop-link-preserved c =
 
 pub returns-clause-visited : goal.returns-clause-visited
 returns-clause-visited c l x here low o h =
-    let s = c.args.self.now in
-    let g = c.args.graph.now in
-    let p = c.args.matching.now.choice.items in
-    let f = c.requires.search.search in
-    let way : ready_at s.ways.items c.args.pos ≡ c.index.result.now.interrupt = ap (λ (v : Way). v.interrupt) (get_or_default s.ways.items c.args.pos no_way c.index.result.now (ways_within (edges g) (capacity g) p g.low s.left s.visited.items s.ways.items s.found f c.args.pos c.requires.pos) ∙ sym c.index.ensures) in
-    let o' : Offers (edges g) l c.index.result.now.interrupt = subst (Offers (edges g) l) way o in
-    let b = placed_within p l x h in
+    let b = placed_within c.args.matching.now.choice.items l x h in
     let few = c.requires.graph.few in
     let long = c.requires.matching.links in
-    let out : HasBit c.loop-link.self.left l → ⊥ = λ bit. c.in_default.ensures l here bit (c.requires.graph.bits.has l c.index.result.now.interrupt (omega arith) (c.requires.graph.below l c.index.result.now.interrupt o') o') in
+    let out : HasBit c.loop-link.self.left l → ⊥ = λ bit. c.in_default.ensures l here bit (c.requires.graph.bits.has l c.args.interrupt (omega arith) (c.requires.graph.below l c.args.interrupt o) o) in
     c.loop-link.invariant.search.search.gone l x low out h
