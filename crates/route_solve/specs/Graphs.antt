@@ -1,9 +1,9 @@
 -- The bipartite graph of links and interrupts, matchings in it, and the searches for augmenting paths and for a Hall set.
 use Rattle.std.specs.Global.{Vec}
-use Rattle.std.specs.Prelude.{◌≡◌, ◌⊎◌, ◌+◌, ◌-◌, ◌<◌, ◌≤◌, ℕ, Bool, false, Option, None, List, [], AllPairs, length, slice_index_or, take}
+use Rattle.std.specs.Prelude.{◌≡◌, ◌⊎◌, ◌+◌, ◌-◌, ◌<◌, ◌≤◌, ℕ, Bool, true, false, Option, Some, None, IsSome, List, [], AllPairs, length, slice_index_or, take}
 use Rattle.std.specs.List.Sorted.{IsStrictlyIncreasing}
 use Rattle.route_model.specs.Links.{offers_of}
-use Rattle.route_model.specs.Placement.{is_reached, place_of, Offers, IsPlacement, IsWhole}
+use Rattle.route_model.specs.Placement.{is_reached, place_of, taken, Offers, IsPlacement, IsWhole}
 use Rattle.route_model.specs.Routing.{wired_to}
 use Rattle.route_solve.specs.declared.assign.Buffers.{Buffers}
 use Rattle.route_solve.specs.declared.assign.Offered.{Offered}
@@ -13,7 +13,7 @@ use Rattle.route_solve.specs.declared.matching.Matching.{Matching}
 use Rattle.route_solve.specs.declared.search.Search.{Search}
 use Rattle.route_solve.specs.Certificate.{IsCertificate, IsSpread}
 use Rattle.route_solve.specs.Floor.{IsFloor}
-use Rattle.route_solve.specs.Levels.{capacity_at, IsCounted, IsTrail, IsQueue, IsKept, IsLonger, AreClosed}
+use Rattle.route_solve.specs.Levels.{at, capacity_at, IsCounted, IsTrail, IsQueue, IsKept, IsLonger, AreClosed, AreDone, IsFound}
 use Rattle.route_solve.specs.Named.{AreSources}
 use Rattle.route_solve.specs.Numbers.{lists_of, HasOffered, IsNumbered}
 use Rattle.route_solve.specs.Problems.{RoutingProblem}
@@ -108,6 +108,14 @@ pub record Searches (g : Graph) (m : Matching) (s : Search) : Type 0 where
   pub sized : IsSized (interrupts_in g) s
   pub search : IsSearch (edges g) (capacity g) m.choice.items g.low s.left s.visited.items s.ways.items s.found
 
+-- every interrupt that is below its capacity is visited
+abbrev pub HasVisitedFree : Graph → Matching → Search → Type 0
+HasVisitedFree g m s = (i : ℕ) → i < interrupts_in g → taken m.choice.items i < capacity g i → is_reached s.visited.items i ≡ true
+
+-- the interrupts of all links that may be moved and offer a given one are visited
+abbrev pub HasVisitedFrom : Graph → Matching → Search → ℕ → Type 0
+HasVisitedFrom g m s i = (l x : ℕ) → g.low ≤ l → Offers (edges g) l i → place_of m.choice.items l ≡ Some x → is_reached s.visited.items x ≡ true
+
 -- what a search for augmenting paths adds
 abbrev pub Extends : Search → Search → Type 0
 Extends s t = IsFurther s.visited.items s.ways.items s.found t.visited.items t.ways.items t.found
@@ -134,6 +142,26 @@ pub record SearchesHall (g : Graph) (m : Matching) (s : HallSearch) : Type 0 whe
   pub trail : IsTrail (edges g) m.choice.items g.low s.queue.items s.tail
   pub listed : IsQueue s.reached.items s.queue.items s.tail
   pub closed : AreClosed (capacity g) m.choice.items g.low s.reached.items s.seen.items
+
+-- all that a link offers is seen
+abbrev pub AreSeen : Graph → HallSearch → ℕ → Type 0
+AreSeen g s link = (i : ℕ) → Offers (edges g) link i → is_reached s.seen.items i ≡ true
+
+-- a link offers an interrupt that is below its capacity
+abbrev pub OffersFree : Graph → Matching → ℕ → ℕ → Type 0
+OffersFree g m link i = Offers (edges g) link i × (taken m.choice.items i < capacity g i)
+
+-- all that the reached links offer is seen
+abbrev pub IsExplored : Graph → HallSearch → Type 0
+IsExplored g s = AreDone (edges g) s.seen.items s.queue.items 0 s.tail
+
+-- a reached link, by its place in the queue, offers an interrupt that is below its capacity
+abbrev pub FindsFree : Graph → Matching → HallSearch → ℕ × ℕ → Type 0
+FindsFree g m s f = IsFound (edges g) (capacity g) m.choice.items s.queue.items s.tail f.0 f.1
+
+-- the links that a search for a Hall set adds have interrupts
+abbrev pub AddsHolders : Matching → HallSearch → HallSearch → Type 0
+AddsHolders m s t = (k : ℕ) → s.tail ≤ k → k < t.tail → IsSome (place_of m.choice.items (at t.queue.items k))
 
 -- what a search for a Hall set adds
 pub record ExtendsHall (s t : HallSearch) : Type 0 where

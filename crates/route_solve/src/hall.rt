@@ -3,8 +3,8 @@ ghost use Rattle.std.specs.Prelude.{◌≡◌, ◌≤◌, ◌<◌, ℕ, IfOk, Is
 ghost use Rattle.std.specs.Bool.{OnTrue, OnFalse};
 ghost use Rattle.route_model.specs.Placement.{is_reached, place_of, taken, Offers};
 ghost use Rattle.route_solve.specs.Certificate.{IsCertificate};
-ghost use Rattle.route_solve.specs.Graphs.{capacity, edges, ExtendsHall, IsBlocked, IsGraph, IsHallSized, IsMatching, IsSizedFor, IsUnplaced, SearchesHall};
-ghost use Rattle.route_solve.specs.Levels.{at, AreDone, IsFound};
+ghost use Rattle.route_solve.specs.Graphs.{capacity, edges, AddsHolders, AreSeen, ExtendsHall, FindsFree, IsBlocked, IsExplored, IsGraph, IsHallSized, IsMatching, IsSizedFor, IsUnplaced, OffersFree, SearchesHall};
+ghost use Rattle.route_solve.specs.Levels.{at};
 
 use crate::graph::{Graph, has_room};
 use crate::matching::Matching;
@@ -118,8 +118,8 @@ impl HallSearch {
         requires pos { pos < self.old.tail }
         ensures search { SearchesHall graph.now matching.now self.new }
         ensures further { ExtendsHall self.old self.new }
-        ensures held { (k : ℕ) → self.old.tail ≤ k → k < self.new.tail → IsSome (place_of matching.now.choice.items (at self.new.queue.items k)) }
-        ensures done { MatchOption result ((i : ℕ) → Offers (edges graph.now) (at self.old.queue.items pos) i → is_reached self.new.seen.items i ≡ true) (λ i. Offers (edges graph.now) (at self.old.queue.items pos) i × (taken matching.now.choice.items i < capacity graph.now i)) }
+        ensures held { AddsHolders matching.now self.old self.new }
+        ensures done { MatchOption result (AreSeen graph.now self.new (at self.old.queue.items pos)) (OffersFree graph.now matching.now (at self.old.queue.items pos)) }
     {
         let offers: &[usize] = &graph.offers[self.queue[pos]];
         let counts: &[usize] = &matching.counts;
@@ -143,8 +143,8 @@ impl HallSearch {
         requires search { SearchesHall graph.now matching.now self.old }
         ensures search { SearchesHall graph.now matching.now self.new }
         ensures further { ExtendsHall self.old self.new }
-        ensures held { (k : ℕ) → self.old.tail ≤ k → k < self.new.tail → IsSome (place_of matching.now.choice.items (at self.new.queue.items k)) }
-        ensures found { MatchOption result (AreDone (edges graph.now) self.new.seen.items self.new.queue.items 0 self.new.tail) (λ f. IsFound (edges graph.now) (capacity graph.now) matching.now.choice.items self.new.queue.items self.new.tail f.0 f.1) }
+        ensures held { AddsHolders matching.now self.old self.new }
+        ensures found { MatchOption result (IsExplored graph.now self.new) (FindsFree graph.now matching.now self.new) }
     {
         let mut pos = 0;
         while pos < self.tail {
@@ -177,5 +177,6 @@ pub(crate) fn mark_hall_set(
     ensures set { IsCertificate (edges graph.now) (capacity graph.now) hall.new.reached.items }
 {
     hall.begin(graph, matching, link);
+    // No link that it reaches offers room: else an augmenting path would begin at the first one.
     hall.explore(graph, matching);
 }

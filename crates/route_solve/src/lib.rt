@@ -3,13 +3,13 @@
 //!
 //! It is a matching in a bipartite graph: links on one side, interrupts on the other, and an edge where a link offers an
 //! interrupt (`Offers`). Within a limit an interrupt has a capacity, the limit less the sources that are wired to it
-//! (`room_of`). Hall's theorem for capacities says when every link can have an interrupt that it offers with no interrupt above
-//! its capacity (`CanPlace`): unless there is a Hall set, links that together offer interrupts with a smaller capacity than the
-//! links are many. What is proved here for each problem is both halves for the least limit: the choice is an assignment within it
-//! (`IsFirstLeast`, whose `busiest` is the limit), and the set that is given is a Hall set of the limit of one less, so that the
-//! limit is a lower bound for every assignment (`IsLowerBound`). That set is the certificate: to check it takes the set alone, and
-//! no search. Of the many Hall sets it is a certain one (`Shown`): the links without any one of which the others could be matched
-//! (`IsCrowdedSet`, inside `IsCertificate`).
+//! (`room_of`). Hall's theorem for capacities: an assignment with every interrupt at most at its capacity exists (`CanPlace`)
+//! unless there is a Hall set, links that offer only interrupts whose capacities together are less than the links are many.
+//! Both halves are proved for the least limit of each problem: the choice is an assignment whose busiest interrupt is at that
+//! limit (`IsFirstLeast`, `busiest`), and the set that is given is a Hall set for the limit of one less, which makes the limit a
+//! lower bound for every assignment (`IsLowerBound`). So the set is a certificate: who has it needs no search to see that the choice
+//! is among the best. Of the many Hall sets it is one that the problem alone determines (`Shown`, `IsCrowdedSet`), made of the
+//! links that a search reaches from one at which no augmenting path begins (`IsCertificate`).
 //!
 //! From the bottom: the offered interrupts by their places in ascending order (`numbers`), a row of bits for each (`rows`),
 //! and how many sources are wired to it (`sources`); the graph of these (`graph`) and a matching in it (`matching`); a search

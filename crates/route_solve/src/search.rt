@@ -1,7 +1,7 @@
 //! A search for augmenting paths, back from the interrupts that have room.
 ghost use Rattle.std.specs.Prelude.{◌≡◌, ◌<◌, ℕ, IfOk, true, false, length};
 ghost use Rattle.route_model.specs.Placement.{is_reached, taken};
-ghost use Rattle.route_solve.specs.Graphs.{capacity, edges, interrupts_in, IsGraph, IsMatching, IsSized, Searches};
+ghost use Rattle.route_solve.specs.Graphs.{capacity, edges, interrupts_in, HasVisitedFree, IsGraph, IsMatching, IsSized, Searches};
 ghost use Rattle.route_solve.specs.Ready.{AreReady};
 
 use crate::graph::{Graph, has_room};
@@ -53,7 +53,7 @@ impl Search {
         requires matching { IsMatching graph.now matching.now }
         requires sized { IsSized (interrupts_in graph.now) self.old }
         ensures search { Searches graph.now matching.now self.new }
-        ensures room { (i : ℕ) → i < interrupts_in graph.now → taken matching.now.choice.items i < capacity graph.now i → is_reached self.new.visited.items i ≡ true }
+        ensures room { HasVisitedFree graph.now matching.now self.new }
     {
         begin_left(&mut self.left, graph.low, matching.choice.len());
         clear_marks(&mut self.visited);

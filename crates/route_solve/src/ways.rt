@@ -1,7 +1,7 @@
 //! The steps of augmenting paths: from an interrupt that is ready to those of the links that can go there.
 ghost use Rattle.std.specs.Prelude.{◌≡◌, ◌≤◌, ◌<◌, ◌/◌, ℕ, Some, true, length};
 ghost use Rattle.route_model.specs.Placement.{is_reached, place_of, Offers};
-ghost use Rattle.route_solve.specs.Graphs.{capacity, edges, interrupts_in, Extends, IsGraph, IsMatching, Searches};
+ghost use Rattle.route_solve.specs.Graphs.{capacity, edges, interrupts_in, Extends, HasVisitedFrom, IsGraph, IsMatching, Searches};
 ghost use Rattle.route_solve.specs.Ready.{ready_at, IsWay};
 
 use crate::graph::Graph;
@@ -106,7 +106,7 @@ impl Search {
         requires pos { pos < self.old.found }
         ensures search { Searches graph.now matching.now self.new }
         ensures further { Extends self.old self.new }
-        ensures visited { (l x : ℕ) → graph.now.low ≤ l → Offers (edges graph.now) l (ready_at self.old.ways.items pos) → place_of matching.now.choice.items l ≡ Some x → is_reached self.new.visited.items x ≡ true }
+        ensures visited { HasVisitedFrom graph.now matching.now self.new (ready_at self.old.ways.items pos) }
     {
         let interrupt = self.ways[pos].interrupt;
         for w in 0..4 {

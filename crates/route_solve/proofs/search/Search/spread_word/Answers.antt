@@ -1,12 +1,11 @@
-use Rattle.std.proofs.Common.{◌≡◌, arith, sym, ap, subst, ◌∙◌}
-use Rattle.std.proofs.lemmas.List.{get_or_default}
+use Rattle.std.proofs.Common.{arith, sym, ap, subst, ◌∙◌}
 use Rattle.route_model.specs.Placement.{Offers}
 use Rattle.route_solve.specs.declared.ways.Way.{Way}
 use Rattle.route_solve.specs.Graphs.{capacity, edges}
-use Rattle.route_solve.specs.Ready.{no_way, ready_at}
+use Rattle.route_solve.specs.Ready.{ready_at}
 use Rattle.route_solve.specs.Rows.{HasBit}
 use Rattle.route_solve.proofs.Parts.{placed_within}
-use Rattle.route_solve.proofs.Searching.{marked_within, ways_within, further_still, search_less}
+use Rattle.route_solve.proofs.Searching.{marked_within, further_still, search_less}
 use Rattle.route_solve.proofs.search.Search.spread_word.Goals as goal
 
 pub next_left-requires-clause-within : goal.next_left-requires-clause-within
