@@ -9,7 +9,7 @@ use Rattle.route_model.specs.Routing.{wired_to}
 use Rattle.route_model.specs.Placement.{Offers, IsPlacement}
 use Rattle.route_solve.specs.Room.{room_of}
 use Rattle.route_solve.specs.Certificate.{IsCertificate, IsSpread}
-use Rattle.route_solve.specs.Levels.{at, capacity_at}
+use Rattle.route_solve.specs.Capacities.{at, capacity_at}
 use Rattle.route_solve.specs.Named.{named, AreSources}
 use Rattle.route_solve.specs.Numbers.{number_at, IsNumbered}
 use Rattle.route_solve.proofs.Parts.{none_taken}

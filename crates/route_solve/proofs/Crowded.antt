@@ -5,7 +5,8 @@ use Rattle.std.proofs.lemmas.Bool.{cases_lt, true≢false}
 use Rattle.std.proofs.lemmas.List.{length-take, get_or-take}
 use Rattle.route_model.specs.Placement.{place_of, is_reached, Offers, IsPlacement, IsWholeBut, IsStuck}
 use Rattle.route_solve.specs.Certificate.{IsCertificate}
-use Rattle.route_solve.specs.Levels.{at, IsTrail, IsQueue, IsFound, AreClosed, AreDone}
+use Rattle.route_solve.specs.Capacities.{at}
+use Rattle.route_solve.specs.Levels.{IsTrail, IsQueue, IsFound, AreClosed, AreDone}
 use Rattle.route_solve.specs.Ready.{AreReady}
 use Rattle.route_solve.proofs.Parts.{placement_take}
 use Rattle.route_solve.proofs.Stuck.{stuck_at_root, spared_all}

@@ -4,7 +4,7 @@ use Rattle.std.specs.Global.{Vec}
 use Rattle.route_model.specs.Placement.{IsPlacement}
 use Rattle.route_solve.specs.declared.matching.Matching.{Matching}
 use Rattle.route_solve.specs.Graphs.{IsMatched}
-use Rattle.route_solve.specs.Levels.{capacity_at, IsCounted}
+use Rattle.route_solve.specs.Capacities.{capacity_at, IsCounted}
 use Rattle.route_solve.specs.Numbers.{lists_of}
 use Rattle.route_solve.proofs.Numbered.{lists_length}
 

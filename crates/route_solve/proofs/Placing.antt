@@ -4,7 +4,7 @@ use Rattle.std.specs.Prelude.{◌⊎◌}
 use Rattle.std.proofs.lemmas.Bool.{cases_lt}
 use Rattle.std.proofs.lemmas.List.{get_or-replicate, length-replicate, get_or_past}
 use Rattle.route_model.specs.Placement.{place_of, Offers, IsPlacement}
-use Rattle.route_solve.specs.Levels.{at, capacity_at}
+use Rattle.route_solve.specs.Capacities.{at, capacity_at}
 use Rattle.route_solve.proofs.Exchange.{moved_directly}
 use Rattle.route_solve.proofs.Parts.{none_taken}
 

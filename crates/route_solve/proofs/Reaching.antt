@@ -5,7 +5,8 @@ use Rattle.std.proofs.lemmas.Bool.{cases_eq, cases_lt, true≢false}
 use Rattle.std.proofs.lemmas.List.Sums.{sum_by-set}
 use Rattle.route_model.proofs.Counting.{one_if, count_yes}
 use Rattle.route_model.specs.Placement.{place_of, is_reached, Offers}
-use Rattle.route_solve.specs.Levels.{at, IsTrail, IsQueue, IsKept, IsLonger, IsClosed, AreClosed, AreDone}
+use Rattle.route_solve.specs.Capacities.{at}
+use Rattle.route_solve.specs.Levels.{IsTrail, IsQueue, IsKept, IsLonger, IsClosed, AreClosed, AreDone}
 
 pub some_is : {m n : ℕ} → Some m ≡ Some n → m ≡ n
 some_is e = cc

@@ -5,7 +5,8 @@ use Rattle.std.proofs.lemmas.Bool.{cases_eq, true≢false}
 use Rattle.std.proofs.lemmas.List.{length-replicate}
 use Rattle.route_model.specs.Placement.{place_of, is_reached, Offers, IsPlacement, IsWholeBut, CanPlaceBut, IsStuck}
 use Rattle.route_solve.specs.Search.{Spares}
-use Rattle.route_solve.specs.Levels.{at, IsTrail, IsQueue, AreClosed, AreDone}
+use Rattle.route_solve.specs.Capacities.{at}
+use Rattle.route_solve.specs.Levels.{IsTrail, IsQueue, AreClosed, AreDone}
 use Rattle.route_solve.proofs.Exchange.{spares_step, none_reached}
 
 module _ (offers : List (List ℕ)) (room : ℕ → ℕ) (p : List (Option ℕ)) (queue : List ℕ) (tail : ℕ) (reached seen : List Bool) (trail : IsTrail offers p 0 queue tail) (listed : IsQueue reached queue tail) (closed : AreClosed room p 0 reached seen) (done : AreDone offers seen queue 0 tail) (some : 0 < tail) (unplaced : place_of p (at queue 0) ≡ None) where

@@ -5,7 +5,8 @@ use Rattle.std.proofs.lemmas.List.{length-take, get_or-take, get_or-drop}
 use Rattle.std.proofs.lemmas.List.Sums.{sum_by-take-drop}
 use Rattle.std.proofs.Common.{cond}
 use Rattle.route_model.specs.Placement.{is_at, place_of, Offers, taken}
-use Rattle.route_solve.specs.Levels.{at, IsTrail, AreClosed, AreDone}
+use Rattle.route_solve.specs.Capacities.{at}
+use Rattle.route_solve.specs.Levels.{IsTrail, AreClosed, AreDone}
 use Rattle.route_solve.proofs.Parts.{none_taken, place-take}
 use Rattle.route_solve.proofs.Filtered.{offers_within}
 

@@ -13,7 +13,8 @@ use Rattle.route_solve.specs.declared.matching.Matching.{Matching}
 use Rattle.route_solve.specs.declared.search.Search.{Search}
 use Rattle.route_solve.specs.Certificate.{IsCertificate, IsSpread}
 use Rattle.route_solve.specs.Floor.{IsFloor}
-use Rattle.route_solve.specs.Levels.{at, capacity_at, IsCounted, IsTrail, IsQueue, IsKept, IsLonger, AreClosed, AreDone, IsFound}
+use Rattle.route_solve.specs.Capacities.{at, capacity_at, IsCounted}
+use Rattle.route_solve.specs.Levels.{IsTrail, IsQueue, IsKept, IsLonger, AreClosed, AreDone, IsFound}
 use Rattle.route_solve.specs.Named.{AreSources}
 use Rattle.route_solve.specs.Numbers.{lists_of, HasOffered, IsNumbered}
 use Rattle.route_solve.specs.Problems.{RoutingProblem}
@@ -142,6 +143,14 @@ pub record SearchesHall (g : Graph) (m : Matching) (s : HallSearch) : Type 0 whe
   pub trail : IsTrail (edges g) m.choice.items g.low s.queue.items s.tail
   pub listed : IsQueue s.reached.items s.queue.items s.tail
   pub closed : AreClosed (capacity g) m.choice.items g.low s.reached.items s.seen.items
+
+-- a reached link offers an interrupt
+abbrev pub IsOfferedByReached : Graph → HallSearch → ℕ → Type 0
+IsOfferedByReached g s i = (k : ℕ) × (k < s.tail) × Offers (edges g) (at s.queue.items k) i
+
+-- all links that have an interrupt and may be moved are reached
+abbrev pub HasReachedHolders : Graph → Matching → HallSearch → ℕ → Type 0
+HasReachedHolders g m s i = (l : ℕ) → g.low ≤ l → place_of m.choice.items l ≡ Some i → is_reached s.reached.items l ≡ true
 
 -- all that a link offers is seen
 abbrev pub AreSeen : Graph → HallSearch → ℕ → Type 0

@@ -1,19 +1,8 @@
 -- A search by levels along alternating paths: from a link to an interrupt that it offers, from there to the links that have it.
 -- The links that it reached stand in a queue.
-use Rattle.std.specs.Prelude.{◌≡◌, ◌≢◌, ℕ, ◌+◌, ◌-◌, ◌<◌, ◌≤◌, Bool, true, Option, Some, List, length, not, count_by, slice_index_or}
+use Rattle.std.specs.Prelude.{◌≡◌, ◌≢◌, ℕ, ◌+◌, ◌<◌, ◌≤◌, Bool, true, Option, Some, List, length, not, count_by}
+use Rattle.route_solve.specs.Capacities.{at}
 use Rattle.route_model.specs.Placement.{place_of, is_reached, Offers, taken}
-
--- what stands at a place of a list of numbers
-abbrev pub at : List ℕ → ℕ → ℕ
-at xs k = slice_index_or xs k 0
-
--- how many links may have an interrupt within a limit: its capacity
-abbrev pub capacity_at : ℕ → List ℕ → ℕ → ℕ
-capacity_at limit sources i = limit - at sources i
-
--- how many links have each interrupt
-abbrev pub IsCounted : List ℕ → List (Option ℕ) → Type 0
-IsCounted counts p = (i : ℕ) → i < length counts → at counts i ≡ taken p i
 
 -- the queue up to a place: no link twice, none below the first that may be moved, and each that has an interrupt was reached
 -- from an earlier one, which offers it

@@ -3,7 +3,8 @@
 use Rattle.std.specs.Prelude.{◌≡◌, ◌≢◌, ◌⊎◌, ℕ, ◌+◌, ◌/◌, ◌<◌, ◌≤◌, Bool, true, Option, Some, None, IsSome, List, length, not, count_by, slice_index_or}
 use Rattle.route_model.specs.Placement.{place_of, is_reached, taken, Offers}
 use Rattle.route_solve.specs.declared.ways.Way.{Way}
-use Rattle.route_solve.specs.Levels.{at, IsKept}
+use Rattle.route_solve.specs.Capacities.{at}
+use Rattle.route_solve.specs.Levels.{IsKept}
 use Rattle.route_solve.specs.Rows.{HasBit}
 
 abbrev pub no_way : Way

@@ -2,7 +2,7 @@
 ghost use Rattle.std.specs.Prelude.{◌≡◌, ◌≤◌, ◌<◌, ℕ, length};
 ghost use Rattle.route_model.specs.Placement.{Offers};
 ghost use Rattle.route_solve.specs.Graphs.{edges, AreBuffers, IsComplete, IsEmpty, IsGraph, IsLeastLimit};
-ghost use Rattle.route_solve.specs.Levels.{at};
+ghost use Rattle.route_solve.specs.Capacities.{at};
 
 use crate::assign::Buffers;
 use crate::graph::Graph;

@@ -4,7 +4,7 @@ ghost use Rattle.std.specs.Bool.{OnTrue};
 ghost use Rattle.route_model.specs.Placement.{place_of, Offers, IsWhole};
 ghost use Rattle.route_solve.specs.First.{IsFirstOpen, IsLeastAt};
 ghost use Rattle.route_solve.specs.Graphs.{capacity, edges, interrupts_in, IsComplete, IsCountBefore, IsGraph, IsSized};
-ghost use Rattle.route_solve.specs.Levels.{IsCounted};
+ghost use Rattle.route_solve.specs.Capacities.{IsCounted};
 
 use crate::graph::{Graph, has_room};
 use crate::matching::{Matching, raise};

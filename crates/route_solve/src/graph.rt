@@ -2,7 +2,7 @@
 ghost use Rattle.std.specs.Prelude.{◌≡◌, ◌≤◌, ◌<◌, length};
 ghost use Rattle.std.specs.Bool.{OnTrue, OnFalse};
 ghost use Rattle.route_solve.specs.Graphs.{capacity, interrupts_in};
-ghost use Rattle.route_solve.specs.Levels.{at};
+ghost use Rattle.route_solve.specs.Capacities.{at};
 
 /// Links and interrupts as the two sides of a graph: an edge joins a link to each interrupt that it offers. Interrupts are
 /// known by their places among all that are offered.

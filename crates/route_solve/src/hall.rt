@@ -3,8 +3,8 @@ ghost use Rattle.std.specs.Prelude.{◌≡◌, ◌≤◌, ◌<◌, ℕ, IfOk, Is
 ghost use Rattle.std.specs.Bool.{OnTrue, OnFalse};
 ghost use Rattle.route_model.specs.Placement.{is_reached, place_of, taken, Offers};
 ghost use Rattle.route_solve.specs.Certificate.{IsCertificate};
-ghost use Rattle.route_solve.specs.Graphs.{capacity, edges, AddsHolders, AreSeen, ExtendsHall, FindsFree, IsBlocked, IsExplored, IsGraph, IsHallSized, IsMatching, IsSizedFor, IsUnplaced, OffersFree, SearchesHall};
-ghost use Rattle.route_solve.specs.Levels.{at};
+ghost use Rattle.route_solve.specs.Graphs.{capacity, edges, AddsHolders, AreSeen, ExtendsHall, FindsFree, HasReachedHolders, IsBlocked, IsExplored, IsGraph, IsHallSized, IsMatching, IsOfferedByReached, IsSizedFor, IsUnplaced, OffersFree, SearchesHall};
+ghost use Rattle.route_solve.specs.Capacities.{at};
 
 use crate::graph::{Graph, has_room};
 use crate::matching::Matching;
@@ -89,17 +89,16 @@ impl HallSearch {
         false
     }
 
-    /// Reaches the links that have an interrupt, which the link at a place of the queue offers.
-    fn reach(&mut self, graph: &Graph<'_>, matching: &Matching, i: usize, parent: usize)
+    /// Reaches the links that have an interrupt, which a reached link offers.
+    fn reach(&mut self, graph: &Graph<'_>, matching: &Matching, i: usize)
         requires matching { IsMatching graph.now matching.now }
         requires search { SearchesHall graph.now matching.now self.old }
-        requires parent { parent < self.old.tail }
-        requires offered { Offers (edges graph.now) (at self.old.queue.items parent) i }
+        requires offered { IsOfferedByReached graph.now self.old i }
         ensures search { SearchesHall graph.now matching.now self.new }
         ensures further { ExtendsHall self.old self.new }
         ensures seen { self.new.seen.items ≡ self.old.seen.items }
         ensures held { (k : ℕ) → self.old.tail ≤ k → k < self.new.tail → place_of matching.now.choice.items (at self.new.queue.items k) ≡ Some i }
-        ensures holders { (j : ℕ) → graph.now.low ≤ j → place_of matching.now.choice.items j ≡ Some i → is_reached self.new.reached.items j ≡ true }
+        ensures holders { HasReachedHolders graph.now matching.now self.new i }
     {
         for j in graph.low..matching.choice.len() {
             if self.is_to_reach(matching, j, i) {
@@ -130,7 +129,7 @@ impl HallSearch {
             if has_room(graph, counts, *i) {
                 return Some(*i);
             }
-            self.reach(graph, matching, *i, pos);
+            self.reach(graph, matching, *i);
             self.seen[*i] = true;
         }
         None

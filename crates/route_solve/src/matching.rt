@@ -1,7 +1,7 @@
 //! A matching: which links have which interrupts.
 ghost use Rattle.std.specs.Prelude.{◌≡◌, ◌≤◌, ◌<◌, ◌+◌, IfOk, IsSome, Some, None, length, replicate, slice_set};
 ghost use Rattle.route_model.specs.Placement.{place_of};
-ghost use Rattle.route_solve.specs.Levels.{at, IsCounted};
+ghost use Rattle.route_solve.specs.Capacities.{at, IsCounted};
 
 use std::alloc::{AllocError, Global};
 

@@ -3,7 +3,7 @@ ghost use Rattle.std.specs.Prelude.{◌≡◌, ◌≤◌, ◌<◌, ℕ, [], ⊤,
 ghost use Rattle.std.specs.Bool.{OnTrue, OnFalse};
 ghost use Rattle.route_model.specs.Placement.{is_reached, place_of, Offers};
 ghost use Rattle.route_solve.specs.Graphs.{capacity, edges, interrupts_in, IsBlocked, IsGraph, IsMatching, IsSized, IsUnplaced};
-ghost use Rattle.route_solve.specs.Levels.{at};
+ghost use Rattle.route_solve.specs.Capacities.{at};
 ghost use Rattle.route_solve.specs.Ready.{ready_at, AreReady, AreWays, IsSettled};
 
 use crate::graph::{Graph, has_room};

@@ -66,8 +66,7 @@ fn is_offered(
     place: Option<usize>,
 ) -> bool
     requires few { length offered.now.problem.now.links ≤ 256 }
-    requires offered { HasOffered (offers_of offered.now.problem.now.links) offered.now.numbers.now }
-    requires bits { HasRows (offers_of offered.now.problem.now.links) offered.now.numbers.now offered.now.rows.now }
+    requires numbers { HasNumbers offered.now }
     requires four { length row.now ≡ 4 }
     requires all { (l : ℕ) → is_reached marks.now l ≡ true → bit_of row.now 0 l ≡ 1 }
     requires only { (l : ℕ) → l < 256 → bit_of row.now 0 l ≡ 1 → is_reached marks.now l ≡ true }
@@ -107,9 +106,7 @@ fn keep_marked(places: &mut Vec<usize>, marks: &[bool])
 fn keep_offered(interrupts: &mut Vec<u32>, offered: &Offered<'_>, marks: &[bool])
     requires few { length offered.now.problem.now.links ≤ 256 }
     requires marks { length marks.now ≡ length offered.now.problem.now.links }
-    requires up { IsStrictlyIncreasing offered.now.numbers.now }
-    requires offered { HasOffered (offers_of offered.now.problem.now.links) offered.now.numbers.now }
-    requires bits { HasRows (offers_of offered.now.problem.now.links) offered.now.numbers.now offered.now.rows.now }
+    requires numbers { HasNumbers offered.now }
     ensures { interrupts.new.items ≡ filter (is_offered_by (offers_of offered.now.problem.now.links) marks.now) interrupts.old.items }
 {
     let mut row = [0u64; 4];

@@ -2,7 +2,7 @@ use Rattle.std.proofs.Common.{◌≡◌, ◌<◌, ◌+◌, ◌-◌, ℕ, List, O
 use Rattle.std.proofs.lemmas.Bool.{OnFalse_at}
 use Rattle.route_solve.specs.Certificate.{IsCertificate}
 use Rattle.route_solve.specs.Graphs.{edges}
-use Rattle.route_solve.specs.Levels.{capacity_at}
+use Rattle.route_solve.specs.Capacities.{capacity_at}
 use Rattle.route_solve.proofs.Handing.{settled_whole, settled_unplaced, settled_directly}
 use Rattle.route_solve.proofs.Matched.{matched}
 use Rattle.route_solve.proofs.Placing.{raised}

@@ -3,7 +3,7 @@ use Rattle.std.specs.Prelude.{◌⊎◌, IsSome}
 use Rattle.route_model.specs.Placement.{place_of}
 use Rattle.route_solve.specs.Certificate.{IsCertificate}
 use Rattle.route_solve.specs.Graphs.{edges, AreBuffers, IsMatched}
-use Rattle.route_solve.specs.Levels.{capacity_at}
+use Rattle.route_solve.specs.Capacities.{capacity_at}
 use Rattle.route_solve.proofs.fill.place_all.Given as goal
 
 abbrev pub invariant-loop-link : goal.invariant-loop-link

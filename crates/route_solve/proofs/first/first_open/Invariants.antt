@@ -1,6 +1,6 @@
 use Rattle.std.proofs.Common.{◌≤◌, ◌<◌, ℕ}
 use Rattle.route_solve.specs.Graphs.{capacity}
-use Rattle.route_solve.specs.Levels.{at}
+use Rattle.route_solve.specs.Capacities.{at}
 use Rattle.route_solve.proofs.first.first_open.Given as goal
 
 abbrev pub invariant-loop-i : goal.invariant-loop-i

@@ -1,7 +1,7 @@
 use Rattle.std.proofs.Common.{◌<◌, ◌+◌, ◌∙◌, length, sym, subst, arith, below_more, length-set}
 use Rattle.route_solve.specs.First.{IsLeastAt}
 use Rattle.route_solve.specs.Graphs.{capacity, edges}
-use Rattle.route_solve.specs.Levels.{at, IsCounted}
+use Rattle.route_solve.specs.Capacities.{at, IsCounted}
 use Rattle.route_solve.proofs.Counts.{counted_next}
 use Rattle.route_solve.proofs.Firsts.{least_kept}
 use Rattle.route_solve.proofs.first.fix_all.Goals as goal

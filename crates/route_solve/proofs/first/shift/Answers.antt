@@ -1,7 +1,7 @@
 use Rattle.std.proofs.Common.{◌<◌, length, arith, ◌∙◌, ap}
 use Rattle.std.proofs.lemmas.Bool.{OnTrue_at}
 use Rattle.route_solve.specs.Graphs.{capacity, edges}
-use Rattle.route_solve.specs.Levels.{at}
+use Rattle.route_solve.specs.Capacities.{at}
 use Rattle.route_solve.proofs.Fixing.{shifted_placed, shifted_whole, shifted_front, shifted_there}
 use Rattle.route_solve.proofs.Matched.{matched}
 use Rattle.route_solve.proofs.first.shift.Goals as goal

@@ -2,7 +2,8 @@ use Rattle.std.proofs.Common.{◌∙◌, ◌<◌, ◌≤◌, ℕ, subst, arith}
 use Rattle.std.specs.Prelude.{IsSome}
 use Rattle.route_model.specs.Placement.{place_of}
 use Rattle.route_solve.specs.Graphs.{capacity, edges}
-use Rattle.route_solve.specs.Levels.{at, IsTrail, IsFound, AreClosed}
+use Rattle.route_solve.specs.Capacities.{at}
+use Rattle.route_solve.specs.Levels.{IsTrail, IsFound, AreClosed}
 use Rattle.route_solve.proofs.Crowded.{certificate, last_is, nothing, unfound}
 use Rattle.route_solve.proofs.hall.mark_hall_set.Goals as goal
 

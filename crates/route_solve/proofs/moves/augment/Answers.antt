@@ -2,7 +2,7 @@ use Rattle.std.proofs.Common.{◌≡◌, ◌≤◌, ◌<◌, ℕ, List, Option, 
 use Rattle.std.proofs.lemmas.Bool.{OnTrue_at, OnFalse_at}
 use Rattle.route_model.specs.Placement.{taken}
 use Rattle.route_solve.specs.Graphs.{capacity, edges}
-use Rattle.route_solve.specs.Levels.{at}
+use Rattle.route_solve.specs.Capacities.{at}
 use Rattle.route_solve.specs.Ready.{way_at, ready_at}
 use Rattle.route_solve.proofs.Handing.{handed_none, passing, held_still, handed_on, last_placed, last_given, last_settled}
 use Rattle.route_solve.proofs.Matched.{matched}

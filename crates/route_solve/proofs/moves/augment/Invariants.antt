@@ -1,6 +1,6 @@
 use Rattle.std.proofs.Common.{◌≡◌, ◌<◌, length}
 use Rattle.route_solve.specs.Graphs.{capacity, edges, interrupts_in}
-use Rattle.route_solve.specs.Levels.{IsCounted}
+use Rattle.route_solve.specs.Capacities.{IsCounted}
 use Rattle.route_solve.proofs.Handing.{IsHanded}
 use Rattle.route_solve.proofs.moves.augment.Given as goal
 

@@ -3,7 +3,7 @@ use Rattle.std.specs.Global.{Vec}
 use Rattle.std.specs.Prelude.{Contains}
 use Rattle.route_model.specs.Placement.{Offers}
 use Rattle.route_solve.specs.Graphs.{capacity, edges}
-use Rattle.route_solve.specs.Levels.{at}
+use Rattle.route_solve.specs.Capacities.{at}
 use Rattle.route_solve.proofs.Exchange.{moved_directly}
 use Rattle.route_solve.proofs.Matched.{matched}
 use Rattle.route_solve.proofs.Numbered.{lists_at}

@@ -2,7 +2,8 @@ use Rattle.std.proofs.Common.{◌≤◌, ◌<◌, ◌-◌, ℕ, length}
 use Rattle.std.specs.Prelude.{IsSome}
 use Rattle.route_model.specs.Placement.{place_of}
 use Rattle.route_solve.specs.Graphs.{edges, ExtendsHall, SearchesHall}
-use Rattle.route_solve.specs.Levels.{at, AreDone}
+use Rattle.route_solve.specs.Capacities.{at}
+use Rattle.route_solve.specs.Levels.{AreDone}
 use Rattle.route_solve.proofs.hall.HallSearch.explore.Given as goal
 
 abbrev pub invariant-loop-pos : goal.invariant-loop-pos

@@ -3,7 +3,8 @@ use Rattle.std.specs.Prelude.{◌⊎◌}
 use Rattle.std.proofs.lemmas.Bool.{OnTrue_at, OnFalse_at, cases_lt}
 use Rattle.route_model.specs.Placement.{is_reached, place_of, Offers}
 use Rattle.route_solve.specs.Graphs.{capacity, edges}
-use Rattle.route_solve.specs.Levels.{at, IsKept}
+use Rattle.route_solve.specs.Capacities.{at}
+use Rattle.route_solve.specs.Levels.{IsKept}
 use Rattle.route_solve.proofs.Reaching.{queue_more, trail_more, longer_more, longer_still, kept_set, held_more, marked_now, some_is, closed_kept}
 use Rattle.route_solve.proofs.hall.HallSearch.reach.Goals as goal
 use Rattle.route_solve.proofs.hall.HallSearch.reach.Goals.{then-is_to_reach, else-is_to_reach}
@@ -34,7 +35,8 @@ loop-j-preserved c =
       | then-is_to_reach w ↦
           let yes = OnTrue_at w.if-is_to_reach.true c.is_to_reach.ensures.yes in
           let more = longer_more offers p low queue tail reached j i trail listed marks long bound yes.0 in
-          let parent_is : at queue c.args.parent ≡ at s0.queue.items c.args.parent = inv.further.longer.kept c.args.parent c.requires.parent in
+          let w0 = c.requires.offered in
+          let parent_is : at queue w0.0 ≡ at s0.queue.items w0.0 = inv.further.longer.kept w0.0 w0.1 in
           let kept = kept_set reached j (omega arith) in
           rw w.self-is (record {
             search = record {
@@ -43,7 +45,7 @@ loop-j-preserved c =
                 queue = length-set queue tail j ∙ sized.queue;
                 seen = sized.seen;
               };
-              trail = trail_more offers p low queue tail reached j i trail listed marks long bound yes.0 (omega arith) (λ x h. (c.args.parent, (let b = c.requires.parent in omega arith), subst (Offers offers (at queue c.args.parent)) (some_is (sym yes.1 ∙ h)) (subst (λ l. Offers offers l i) (sym parent_is) c.requires.offered)));
+              trail = trail_more offers p low queue tail reached j i trail listed marks long bound yes.0 (omega arith) (λ x h. (w0.0, (let b = w0.1 in omega arith), subst (Offers offers (at queue w0.0)) (some_is (sym yes.1 ∙ h)) (subst (λ l. Offers offers l i) (sym parent_is) w0.2)));
               listed = queue_more offers p low queue tail reached j i trail listed marks long bound yes.0;
               closed = λ k h. closed_kept (capacity g) p low reached (set reached j true) k kept (inv.search.closed k h);
             };

@@ -1,7 +1,7 @@
 use Rattle.std.proofs.Common.{◌≡◌, ◌≤◌, ◌<◌, ℕ, Some, true}
 use Rattle.route_model.specs.Placement.{is_reached, place_of}
 use Rattle.route_solve.specs.Graphs.{ExtendsHall, SearchesHall}
-use Rattle.route_solve.specs.Levels.{at}
+use Rattle.route_solve.specs.Capacities.{at}
 use Rattle.route_solve.proofs.hall.HallSearch.reach.Given as goal
 
 abbrev pub invariant-loop-j : goal.invariant-loop-j

@@ -5,7 +5,7 @@ use Rattle.std.proofs.lemmas.List.{get_or_default}
 use Rattle.std.proofs.lemmas.List.Elements.{Contains-get_or}
 use Rattle.route_model.specs.Placement.{is_reached, Offers}
 use Rattle.route_solve.specs.Graphs.{capacity, edges}
-use Rattle.route_solve.specs.Levels.{at}
+use Rattle.route_solve.specs.Capacities.{at}
 use Rattle.route_solve.proofs.Reaching.{longer_still, held_still, closed_more, kept_set, marked_now}
 use Rattle.route_solve.proofs.hall.HallSearch.visit.Goals as goal
 
@@ -27,6 +27,13 @@ has_room-requires-clause-known c =
     let e = c.requires.matching.interrupts in
     let d = ap length c.deref-counts.ensures.value in
     omega arith
+
+pub reach-requires-clause-offered : goal.reach-requires-clause-offered
+reach-requires-clause-offered c =
+    let inv = c.loop-i.invariant in
+    let longer = inv.further.longer in
+    let o = offered (edges c.args.graph.now) (at c.args.self.now.queue.items c.args.pos) c.loop-i.i-index c.deref-offers.result.now inv.items c.loop-i-test.true in
+    (c.args.pos, (let a = longer.longer in let b = c.requires.pos in omega arith), subst (λ l. Offers (edges c.args.graph.now) l (get_or c.deref-offers.result.now c.loop-i.i-index 0)) (sym (longer.kept c.args.pos c.requires.pos)) o)
 
 pub index_mut-requires : goal.index_mut-requires
 index_mut-requires c =

@@ -2,7 +2,7 @@ use Rattle.std.proofs.Common.{◌≡◌, ◌≤◌, ◌<◌, ℕ, [], true, get_
 use Rattle.std.specs.Prelude.{IsSome}
 use Rattle.route_model.specs.Placement.{is_reached, place_of}
 use Rattle.route_solve.specs.Graphs.{edges, ExtendsHall, SearchesHall}
-use Rattle.route_solve.specs.Levels.{at}
+use Rattle.route_solve.specs.Capacities.{at}
 use Rattle.route_solve.proofs.hall.HallSearch.visit.Given as goal
 
 abbrev pub invariant-loop-i : goal.invariant-loop-i

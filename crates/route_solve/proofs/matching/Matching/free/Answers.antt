@@ -1,6 +1,6 @@
 use Rattle.std.proofs.Common.{◌≡◌, arith, sym, ◌∙◌}
 use Rattle.std.proofs.lemmas.List.{get_or_default}
-use Rattle.route_solve.specs.Levels.{at}
+use Rattle.route_solve.specs.Capacities.{at}
 use Rattle.route_solve.proofs.Counts.{counted_less, held_counted}
 use Rattle.route_solve.proofs.matching.Matching.free.Goals as goal
 

@@ -2,7 +2,7 @@ use Rattle.std.proofs.Common.{◌≡◌, length, ◌<◌, true, arith, ap, below
 use Rattle.std.proofs.lemmas.Bool.{OnFalse_at}
 use Rattle.route_model.specs.Placement.{taken, is_reached}
 use Rattle.route_solve.specs.Graphs.{capacity, edges}
-use Rattle.route_solve.specs.Levels.{at}
+use Rattle.route_solve.specs.Capacities.{at}
 use Rattle.route_solve.proofs.Searching.{search_none}
 use Rattle.route_solve.proofs.search.Search.begin.Goals as goal
 use Rattle.route_solve.proofs.search.Search.begin.Goals.{then-has_room, else-has_room}

@@ -1,5 +1,5 @@
 use Rattle.route_solve.specs.Graphs.{Extends, Searches}
-use Rattle.route_solve.specs.Levels.{at}
+use Rattle.route_solve.specs.Capacities.{at}
 use Rattle.route_solve.proofs.search.Search.spread_word.Given as goal
 
 abbrev pub invariant-loop-link : goal.invariant-loop-link
