@@ -9,7 +9,7 @@ use Rattle.route_model.specs.Routing.{wired_to}
 use Rattle.route_model.specs.Placement.{Offers, IsPlacement}
 use Rattle.route_solve.specs.Room.{room_of}
 use Rattle.route_solve.specs.Certificate.{IsCertificate, IsSpread}
-use Rattle.route_solve.specs.Levels.{at, room_at}
+use Rattle.route_solve.specs.Capacities.{at, capacity_at}
 use Rattle.route_solve.specs.Named.{named, AreSources}
 use Rattle.route_solve.specs.Numbers.{number_at, IsNumbered}
 use Rattle.route_solve.proofs.Parts.{none_taken}
@@ -22,20 +22,20 @@ use Rattle.route_solve.proofs.Numbered.{offers_named, offers_unnamed, one_place}
 use Rattle.route_solve.proofs.Unnamed.{least_named, places_ascend}
 
 module _ (offers : List (List ℕ)) (wired : List (ℕ × ℕ)) (numbers : List ℕ) (places : List (List ℕ)) (sources : List ℕ) (up : IsStrictlyIncreasing numbers) (num : IsNumbered offers numbers places) (src : AreSources numbers wired sources) where
-  same_room : (limit i : ℕ) → i < length numbers → room_at limit sources i ≡ room_of limit wired [] (number_at numbers i)
+  same_room : (limit i : ℕ) → i < length numbers → capacity_at limit sources i ≡ room_of limit wired [] (number_at numbers i)
   same_room limit i b = let e = src.each i b in let z = none_taken [] (number_at numbers i) (λ k. get_or_past [] k None (omega arith)) in omega arith
 
-  pub placed_by_number : (limit : ℕ) (p : List (Option ℕ)) → IsPlacement places (room_at limit sources) p → IsPlacement offers (room_of limit wired []) (named numbers p)
-  placed_by_number limit p placed = subst (λ (os : List (List ℕ)). IsPlacement os (room_of limit wired []) (named numbers p)) num.named (placement_named numbers up places num.below (room_at limit sources) (room_of limit wired []) (same_room limit) p placed)
+  pub placed_by_number : (limit : ℕ) (p : List (Option ℕ)) → IsPlacement places (capacity_at limit sources) p → IsPlacement offers (room_of limit wired []) (named numbers p)
+  placed_by_number limit p placed = subst (λ (os : List (List ℕ)). IsPlacement os (room_of limit wired []) (named numbers p)) num.named (placement_named numbers up places num.below (capacity_at limit sources) (room_of limit wired []) (same_room limit) p placed)
 
-  pub spread_by_number : (floor limit : ℕ) (p : List (Option ℕ)) (reached : List Bool) → IsPlacement places (room_at limit sources) p → floor ≤ limit → (limit ≡ floor) ⊎ ((floor < limit) × IsCertificate places (room_at (limit - 1) sources) reached) → IsSpread offers wired floor limit (named numbers p) reached
+  pub spread_by_number : (floor limit : ℕ) (p : List (Option ℕ)) (reached : List Bool) → IsPlacement places (capacity_at limit sources) p → floor ≤ limit → (limit ≡ floor) ⊎ ((floor < limit) × IsCertificate places (capacity_at (limit - 1) sources) reached) → IsSpread offers wired floor limit (named numbers p) reached
   spread_by_number floor limit p reached placed above shown = record { placed = placed_by_number limit p placed; above = above; shown = go shown }
     where
-      go : (limit ≡ floor) ⊎ ((floor < limit) × IsCertificate places (room_at (limit - 1) sources) reached) → (limit ≡ floor) ⊎ ((level : ℕ) × (limit ≡ level + 1) × (floor ≤ level) × IsCertificate offers (room_of level wired []) reached)
+      go : (limit ≡ floor) ⊎ ((floor < limit) × IsCertificate places (capacity_at (limit - 1) sources) reached) → (limit ≡ floor) ⊎ ((level : ℕ) × (limit ≡ level + 1) × (floor ≤ level) × IsCertificate offers (room_of level wired []) reached)
       go (inl e) = inl e
       go (inr c) =
           let less = c.0 in
-          inr (limit - 1, omega arith, omega arith, subst (λ (os : List (List ℕ)). IsCertificate os (room_of (limit - 1) wired []) reached) num.named (cert_named numbers up places num.below (room_at (limit - 1) sources) (room_of (limit - 1) wired []) (same_room (limit - 1)) reached c.1))
+          inr (limit - 1, omega arith, omega arith, subst (λ (os : List (List ℕ)). IsCertificate os (room_of (limit - 1) wired []) reached) num.named (cert_named numbers up places num.below (capacity_at (limit - 1) sources) (room_of (limit - 1) wired []) (same_room (limit - 1)) reached c.1))
 
   pub sources_below : (floor : ℕ) → ((i : ℕ) → wired_to wired i ≤ floor) → (i : ℕ) → at sources i ≤ floor
   sources_below floor below i = go (cases_lt i (length numbers))
@@ -58,8 +58,8 @@ module _ (offers : List (List ℕ)) (wired : List (ℕ × ℕ)) (numbers : List 
   pub places_below : (l i : ℕ) → Offers places l i → i < length sources
   places_below l i o = let b = num.below l i o in let e = src.long in omega arith
 
-  pub least_by_number : (limit : ℕ) (p : List (Option ℕ)) → IsPlacement places (room_at limit sources) p → (l : ℕ) → IsLeastAt places (room_at limit sources) p l → IsLeastAt offers (room_of limit wired []) (named numbers p) l
-  least_by_number limit p placed l least = subst (λ (os : List (List ℕ)). IsLeastAt os (room_of limit wired []) (named numbers p) l) num.named (least_named numbers up places num.below (room_at limit sources) (room_of limit wired []) (same_room limit) p placed l least)
+  pub least_by_number : (limit : ℕ) (p : List (Option ℕ)) → IsPlacement places (capacity_at limit sources) p → (l : ℕ) → IsLeastAt places (capacity_at limit sources) p l → IsLeastAt offers (room_of limit wired []) (named numbers p) l
+  least_by_number limit p placed l least = subst (λ (os : List (List ℕ)). IsLeastAt os (room_of limit wired []) (named numbers p) l) num.named (least_named numbers up places num.below (capacity_at limit sources) (room_of limit wired []) (same_room limit) p placed l least)
 
   pub places_up : (l : ℕ) → IsStrictlyIncreasing (get_or offers l []) → AllPairs (λ m n. m < n) (get_or places l [])
   places_up l ascending = places_ascend numbers up (get_or places l []) (λ i c. num.below l i c) (subst IsStrictlyIncreasing (ap (λ (os : List (List ℕ)). get_or os l []) (sym num.named) ∙ list_n.get_or-map (map (number_at numbers)) places l []) ascending)

@@ -5,7 +5,7 @@ use Rattle.std.proofs.lemmas.Bool.{cases_eq, eq-eqb, ne_eqb}
 use Rattle.std.proofs.lemmas.List.Sums.{count_by-le-length, sum_by_more}
 use Rattle.route_model.specs.Placement.{is_at, place_of, taken}
 use Rattle.route_model.proofs.Counting.{one_if}
-use Rattle.route_solve.specs.Levels.{at, IsCounted}
+use Rattle.route_solve.specs.Capacities.{at, IsCounted}
 use Rattle.route_solve.proofs.Exchange.{taken-set}
 
 pub one_at : (n : ℕ) → one_if (is_at n (Some n)) ≡ 1

@@ -7,7 +7,7 @@ use Rattle.std.proofs.lemmas.List.Elements.{Contains-get_or}
 use Rattle.route_model.specs.Placement.{is_at, place_of, is_reached, Offers, taken, IsPlacement, IsWhole}
 use Rattle.route_model.proofs.Counting.{one_if}
 use Rattle.route_solve.specs.First.{Completes, IsFirstOpen, IsLeastAt}
-use Rattle.route_solve.specs.Levels.{at, IsCounted}
+use Rattle.route_solve.specs.Capacities.{at, IsCounted}
 use Rattle.route_solve.specs.Ready.{AreReady, IsSettled}
 use Rattle.route_solve.proofs.Counts.{one_at}
 use Rattle.route_solve.proofs.Exchange.{moved_directly, taken-set, place_same, place_other, place_cases, none_is_some}

@@ -27,3 +27,5 @@ pub mod Fixing
 pub mod Unnamed
 pub mod Wired
 pub mod Marked
+pub mod Matched
+pub mod Represented

@@ -4,7 +4,7 @@ use Rattle.std.specs.Prelude.{◌⊎◌}
 use Rattle.std.proofs.lemmas.Bool.{cases_lt}
 use Rattle.std.proofs.lemmas.List.{get_or-replicate, length-replicate, get_or_past}
 use Rattle.route_model.specs.Placement.{place_of, Offers, IsPlacement}
-use Rattle.route_solve.specs.Levels.{at, room_at}
+use Rattle.route_solve.specs.Capacities.{at, capacity_at}
 use Rattle.route_solve.proofs.Exchange.{moved_directly}
 use Rattle.route_solve.proofs.Parts.{none_taken}
 
@@ -16,10 +16,10 @@ pub placed_none : (offers : List (List ℕ)) (room : ℕ → ℕ) (p : List (Opt
 placed_none offers room p long none = record { same_length = long; offered = λ k n e. none_is (place_of p k) (none k) e; within = λ n. let e = none_taken p n none in omega arith }
 
 -- within a limit of one more each number that links have has room for one more
-pub raised : (offers : List (List ℕ)) (sources : List ℕ) (limit : ℕ) (p : List (Option ℕ)) (l i : ℕ) → ((j : ℕ) → at sources j ≤ limit) → l < length p → IsPlacement offers (room_at limit sources) p → Offers offers l i → IsPlacement offers (room_at (limit + 1) sources) (set p l (Some i))
+pub raised : (offers : List (List ℕ)) (sources : List ℕ) (limit : ℕ) (p : List (Option ℕ)) (l i : ℕ) → ((j : ℕ) → at sources j ≤ limit) → l < length p → IsPlacement offers (capacity_at limit sources) p → Offers offers l i → IsPlacement offers (capacity_at (limit + 1) sources) (set p l (Some i))
 raised offers sources limit p l i below b placed offered =
-    let wider : IsPlacement offers (room_at (limit + 1) sources) p = record { same_length = placed.same_length; offered = placed.offered; within = λ n. let w = placed.within n in omega arith } in
-    (moved_directly offers (room_at (limit + 1) sources) p [] l i b wider offered (let w = placed.within i in let s = below i in omega arith)).placed
+    let wider : IsPlacement offers (capacity_at (limit + 1) sources) p = record { same_length = placed.same_length; offered = placed.offered; within = λ n. let w = placed.within n in omega arith } in
+    (moved_directly offers (capacity_at (limit + 1) sources) p [] l i b wider offered (let w = placed.within i in let s = below i in omega arith)).placed
 
 pub zero_there : (n k : ℕ) → at (replicate n 0) k ≡ 0
 zero_there n k = go (cases_lt k n)

@@ -5,7 +5,8 @@ use Rattle.std.proofs.lemmas.Bool.{cases_eq, cases_lt, true≢false}
 use Rattle.std.proofs.lemmas.List.Sums.{sum_by-set}
 use Rattle.route_model.proofs.Counting.{one_if, count_yes}
 use Rattle.route_model.specs.Placement.{place_of, is_reached, Offers}
-use Rattle.route_solve.specs.Levels.{at, IsTrail, IsQueue, IsKept, IsLonger, IsClosed, AreClosed, AreDone}
+use Rattle.route_solve.specs.Capacities.{at}
+use Rattle.route_solve.specs.Levels.{IsTrail, IsQueue, IsKept, IsLonger, IsClosed, AreClosed, AreDone}
 
 pub some_is : {m n : ℕ} → Some m ≡ Some n → m ≡ n
 some_is e = cc
@@ -24,7 +25,7 @@ one_more reached j b fresh =
     let f : one_if (not (is_reached reached j)) ≡ 1 = ap (λ r. one_if (not r)) fresh in
     omega arith
 
-module _ (offers : List (List ℕ)) (p : List (Option ℕ)) (low : ℕ) (queue from : List ℕ) (tail : ℕ) (reached : List Bool) (j i parent : ℕ) (trail : IsTrail offers p low queue from tail) (q : IsQueue reached queue tail) (same : length reached ≡ length p) (lq : length queue ≡ length p) (lf : length from ≡ length p) (bj : j < length p) (fresh : is_reached reached j ≡ false) where
+module _ (offers : List (List ℕ)) (p : List (Option ℕ)) (low : ℕ) (queue : List ℕ) (tail : ℕ) (reached : List Bool) (j i : ℕ) (trail : IsTrail offers p low queue tail) (q : IsQueue reached queue tail) (same : length reached ≡ length p) (lq : length queue ≡ length p) (bj : j < length p) (fresh : is_reached reached j ≡ false) where
   pub tail_fits : tail < length p
   tail_fits = let e = one_more reached j (omega arith) fresh in omega (arith, q.counted)
 
@@ -33,12 +34,6 @@ module _ (offers : List (List ℕ)) (p : List (Option ℕ)) (low : ℕ) (queue f
 
   pub at_old : (k : ℕ) → k < tail → at (set queue tail j) k ≡ at queue k
   at_old k b = get_or-set_other queue tail k j 0 (λ e. absurd (omega arith))
-
-  from_new : at (set from tail parent) tail ≡ parent
-  from_new = get_or-set_same from tail parent 0 (let b = tail_fits in omega arith)
-
-  from_old : (k : ℕ) → k < tail → at (set from tail parent) k ≡ at from k
-  from_old k b = get_or-set_other from tail k parent 0 (λ e. absurd (omega arith))
 
   -- at each place of the longer queue
   at_each : (P : ℕ → Type 0) → ((k : ℕ) → k < tail → P k) → P tail → (k : ℕ) → k < tail + 1 → P k
@@ -60,26 +55,20 @@ module _ (offers : List (List ℕ)) (p : List (Option ℕ)) (low : ℕ) (queue f
       go l r (inl e) = (tail, omega arith, at_new ∙ sym e)
       go l r (inr ne) = let w = q.listed l (sym (get_or-set_other reached j l true false ne) ∙ r) in (w.0, omega (arith, w.1), at_old w.0 w.1 ∙ w.2)
 
-  pub longer_more : IsLonger queue from tail (set queue tail j) (set from tail parent) (tail + 1) parent
-  longer_more = record {
-    longer = omega arith;
-    kept = at_old;
-    kept_from = from_old;
-    from_later = λ k le b. at_each (λ m. tail ≤ m → parent ≤ at (set from tail parent) m) (λ m bm lm. absurd (omega arith)) (λ lm. rw from_new (omega arith)) k b le;
-  }
+  pub longer_more : IsLonger queue tail (set queue tail j) (tail + 1)
+  longer_more = record { longer = omega arith; kept = at_old }
 
   pub held_more : (first : ℕ) → ((k : ℕ) → first ≤ k → k < tail → place_of p (at queue k) ≡ Some i) → place_of p j ≡ Some i → (k : ℕ) → first ≤ k → k < tail + 1 → place_of p (at (set queue tail j) k) ≡ Some i
   held_more first old h k le b = at_each (λ m. first ≤ m → place_of p (at (set queue tail j) m) ≡ Some i) (λ m bm lm. ap (place_of p) (at_old m bm) ∙ old m lm bm) (λ _. ap (place_of p) at_new ∙ h) k b le
 
-  module _ (le : low ≤ j) (link : (x : ℕ) → place_of p j ≡ Some x → (parent < tail) × Offers offers (at queue parent) x) where
-    pub trail_more : IsTrail offers p low (set queue tail j) (set from tail parent) (tail + 1)
+  module _ (le : low ≤ j) (link : (x : ℕ) → place_of p j ≡ Some x → (k : ℕ) × (k < tail) × Offers offers (at queue k) x) where
+    pub trail_more : IsTrail offers p low (set queue tail j) (tail + 1)
     trail_more =
         record {
           known = at_each (λ k. at (set queue tail j) k < length p) (λ k b. rw (at_old k b) (trail.known k b)) (rw at_new bj);
           movable = at_each (λ k. low ≤ at (set queue tail j) k) (λ k b. rw (at_old k b) (trail.movable k b)) (rw at_new le);
           once = λ a k lt b. once a k lt b (cases_lt k tail);
           linked = λ k x b h. linked k x h (cases_lt k tail) b;
-          offered = λ k x b h. given k x h (cases_lt k tail) b;
         }
       where
         once : (a k : ℕ) → a < k → k < tail + 1 → (k < tail) ⊎ (tail ≤ k) → at (set queue tail j) a ≢ at (set queue tail j) k
@@ -89,44 +78,26 @@ module _ (offers : List (List ℕ)) (p : List (Option ℕ)) (low : ℕ) (queue f
             let f : at queue a ≡ j = sym (at_old a (omega arith)) ∙ (e ∙ (ap (at (set queue tail j)) is ∙ at_new)) in
             true≢false (sym (q.marked a (omega arith)) ∙ (ap (is_reached reached) f ∙ fresh))
 
-        linked : (k x : ℕ) → place_of p (at (set queue tail j) k) ≡ Some x → (k < tail) ⊎ (tail ≤ k) → k < tail + 1 → at (set from tail parent) k < k
-        linked k x h (inl before) b = let e = from_old k before in let f = trail.linked k x before (ap (place_of p) (sym (at_old k before)) ∙ h) in omega arith
+        linked : (k x : ℕ) → place_of p (at (set queue tail j) k) ≡ Some x → (k < tail) ⊎ (tail ≤ k) → k < tail + 1 → (m : ℕ) × (m < k) × Offers offers (at (set queue tail j) m) x
+        linked k x h (inl before) b =
+            let w = trail.linked k x before (ap (place_of p) (sym (at_old k before)) ∙ h) in
+            let less = w.1 in
+            (w.0, less, subst (λ l. Offers offers l x) (sym (at_old w.0 (omega arith))) w.2)
         linked k x h (inr past) b =
             let is : k ≡ tail = omega arith in
-            let e = ap (at (set from tail parent)) is ∙ from_new in
-            let f = (link x (ap (place_of p) (sym (ap (at (set queue tail j)) is ∙ at_new)) ∙ h)).0 in
-            omega arith
-
-        given : (k x : ℕ) → place_of p (at (set queue tail j) k) ≡ Some x → (k < tail) ⊎ (tail ≤ k) → k < tail + 1 → Offers offers (at (set queue tail j) (at (set from tail parent) k)) x
-        given k x h (inl before) b =
-            let here = ap (place_of p) (sym (at_old k before)) ∙ h in
-            let less = trail.linked k x before here in
-            let same = ap (at (set queue tail j)) (from_old k before) ∙ at_old (at from k) (omega arith) in
-            subst (λ l. Offers offers l x) (sym same) (trail.offered k x before here)
-        given k x h (inr past) b =
-            let is : k ≡ tail = omega arith in
-            let of = link x (ap (place_of p) (sym (ap (at (set queue tail j)) is ∙ at_new)) ∙ h) in
-            let same = ap (λ m. at (set queue tail j) (at (set from tail parent) m)) is ∙ (ap (at (set queue tail j)) from_new ∙ at_old parent of.0) in
-            subst (λ l. Offers offers l x) (sym same) of.1
+            let w = link x (ap (place_of p) (sym (ap (at (set queue tail j)) is ∙ at_new)) ∙ h) in
+            let less = w.1 in
+            (w.0, omega arith, subst (λ l. Offers offers l x) (sym (at_old w.0 less)) w.2)
 
 -- longer and longer
-pub longer_itself : (queue from : List ℕ) (tail low : ℕ) → IsLonger queue from tail queue from tail low
-longer_itself queue from tail low = record { longer = omega arith; kept = λ k b. refl; kept_from = λ k b. refl; from_later = λ k le b. absurd (omega arith) }
+pub longer_itself : (queue : List ℕ) (tail : ℕ) → IsLonger queue tail queue tail
+longer_itself queue tail = record { longer = omega arith; kept = λ k b. refl }
 
-pub longer_still : (queue from : List ℕ) (tail : ℕ) (queue1 from1 : List ℕ) (tail1 : ℕ) (queue2 from2 : List ℕ) (tail2 low low1 : ℕ) → IsLonger queue from tail queue1 from1 tail1 low → IsLonger queue1 from1 tail1 queue2 from2 tail2 low1 → low ≤ low1 → IsLonger queue from tail queue2 from2 tail2 low
-longer_still queue from tail queue1 from1 tail1 queue2 from2 tail2 low low1 a b le =
+pub longer_still : (queue : List ℕ) (tail : ℕ) (queue1 : List ℕ) (tail1 : ℕ) (queue2 : List ℕ) (tail2 : ℕ) → IsLonger queue tail queue1 tail1 → IsLonger queue1 tail1 queue2 tail2 → IsLonger queue tail queue2 tail2
+longer_still queue tail queue1 tail1 queue2 tail2 a b =
     let la = a.longer in
     let lb = b.longer in
-    record {
-      longer = omega arith;
-      kept = λ k bk. b.kept k (omega arith) ∙ a.kept k bk;
-      kept_from = λ k bk. b.kept_from k (omega arith) ∙ a.kept_from k bk;
-      from_later = λ k past bk. go k past bk (cases_lt k tail1);
-    }
-  where
-    go : (k : ℕ) → tail ≤ k → k < tail2 → (k < tail1) ⊎ (tail1 ≤ k) → low ≤ at from2 k
-    go k past bk (inl before) = let e = b.kept_from k before in let f = a.from_later k past before in omega arith
-    go k past bk (inr after) = let f = b.from_later k after bk in omega arith
+    record { longer = omega arith; kept = λ k bk. b.kept k (omega arith) ∙ a.kept k bk }
 
 -- more is reached, and what was closed stays so
 pub closed_kept : (room : ℕ → ℕ) (p : List (Option ℕ)) (low : ℕ) (reached reached' : List Bool) (i : ℕ) → IsKept reached reached' → IsClosed room p low reached i → IsClosed room p low reached' i
@@ -154,16 +125,16 @@ pub marked_now : (reached : List Bool) (j : ℕ) → j < length reached → is_r
 marked_now reached j b = get_or-set_same reached j true false b
 
 -- what the links of the queue hold, as it grows
-pub held_still : (p : List (Option ℕ)) (queue from : List ℕ) (tail : ℕ) (queue1 from1 : List ℕ) (tail1 low : ℕ) (first : ℕ) → first ≤ tail → IsLonger queue from tail queue1 from1 tail1 low → ((k : ℕ) → first ≤ k → k < tail → IsSome (place_of p (at queue k))) → ((k : ℕ) → tail ≤ k → k < tail1 → IsSome (place_of p (at queue1 k))) → (k : ℕ) → first ≤ k → k < tail1 → IsSome (place_of p (at queue1 k))
-held_still p queue from tail queue1 from1 tail1 low first le longer old new k a b = go (cases_lt k tail)
+pub held_still : (p : List (Option ℕ)) (queue : List ℕ) (tail : ℕ) (queue1 : List ℕ) (tail1 : ℕ) (first : ℕ) → first ≤ tail → IsLonger queue tail queue1 tail1 → ((k : ℕ) → first ≤ k → k < tail → IsSome (place_of p (at queue k))) → ((k : ℕ) → tail ≤ k → k < tail1 → IsSome (place_of p (at queue1 k))) → (k : ℕ) → first ≤ k → k < tail1 → IsSome (place_of p (at queue1 k))
+held_still p queue tail queue1 tail1 first le longer old new k a b = go (cases_lt k tail)
   where
     go : (k < tail) ⊎ (tail ≤ k) → IsSome (place_of p (at queue1 k))
     go (inl before) = ap (λ l. is_some (place_of p l)) (longer.kept k before) ∙ old k a before
     go (inr past) = new k past b
 
 -- an empty queue
-pub trail_none : (offers : List (List ℕ)) (p : List (Option ℕ)) (low : ℕ) (queue from : List ℕ) → IsTrail offers p low queue from 0
-trail_none offers p low queue from = record { known = λ k b. absurd (omega arith); movable = λ k b. absurd (omega arith); once = λ j k lt b. absurd (omega arith); linked = λ k i b h. absurd (omega arith); offered = λ k i b h. absurd (omega arith) }
+pub trail_none : (offers : List (List ℕ)) (p : List (Option ℕ)) (low : ℕ) (queue : List ℕ) → IsTrail offers p low queue 0
+trail_none offers p low queue = record { known = λ k b. absurd (omega arith); movable = λ k b. absurd (omega arith); once = λ j k lt b. absurd (omega arith); linked = λ k i b h. absurd (omega arith) }
 
 pub all_left : (reached : List Bool) → ((k : ℕ) → is_reached reached k ≡ false) → count_by not reached ≡ length reached
 all_left [] none = refl

@@ -1,11 +1,11 @@
 -- One more interrupt that is ready.
-use Rattle.std.proofs.Common.{◌≡◌, ◌≢◌, ℕ, ◌+◌, ◌<◌, ◌≤◌, Bool, true, false, List, length, refl, sym, ◌∙◌, ap, subst, arith, Option, Some, set, inl, inr, length-set, get_or-set_same, get_or-set_other}
+use Rattle.std.proofs.Common.{◌≡◌, ◌≢◌, ℕ, ◌+◌, ◌<◌, ◌≤◌, Bool, true, false, List, length, refl, sym, ◌∙◌, ap, subst, arith, Option, Some, set, inl, inr, length-set, take, get_or-set_same, get_or-set_other}
 use Rattle.std.specs.Prelude.{◌⊎◌}
 use Rattle.std.proofs.lemmas.Bool.{cases_eq, cases_lt, true≢false, false≢true}
-use Rattle.std.proofs.lemmas.List.{get_or_past}
+use Rattle.std.proofs.lemmas.List.{get_or_past, get_or-take, length-take}
 use Rattle.route_model.specs.Placement.{place_of, is_reached, Offers}
 use Rattle.route_solve.specs.declared.ways.Way.{Way}
-use Rattle.route_solve.specs.Ready.{no_way, way_at, ready_at, IsWay, IsSearch, IsFurther, IsCleared}
+use Rattle.route_solve.specs.Ready.{no_way, way_at, ready_at, AreWays, IsWay, IsSearch, IsFurther, IsCleared}
 use Rattle.route_solve.specs.Rows.{HasBit}
 use Rattle.route_solve.proofs.Reaching.{kept_set, marked_now, one_more, all_left}
 use Rattle.route_solve.proofs.Parts.{placed_within}
@@ -31,6 +31,10 @@ further_still r ws t r1 ws1 t1 r2 ws2 t2 a b =
       same = λ k bk. b.same k (omega arith) ∙ a.same k bk;
     }
 
+-- what stands among the ways stands among the first that were found
+pub listed_first : (ways : List Way) (tail i : ℕ) → tail ≤ length ways → (k : ℕ) × (k < tail) × (ready_at ways k ≡ i) → (k : ℕ) × (k < length (take tail ways)) × (ready_at (take tail ways) k ≡ i)
+listed_first ways tail i fits w = (w.0, let e = length-take tail ways in let b = w.1 in omega arith, ap (λ (v : Way). v.interrupt) (get_or-take tail ways w.0 no_way w.1) ∙ w.2)
+
 module _ (offers : List (List ℕ)) (room : ℕ → ℕ) (p : List (Option ℕ)) (low : ℕ) where
   way_kept : (ways ways' : List Way) (tail k : ℕ) (w : Way) → ((m : ℕ) → m < tail → way_at ways' m ≡ way_at ways m) → k ≤ tail → IsWay offers room p low ways k w → IsWay offers room p low ways' k w
   way_kept ways ways' tail k w same b (inl free) = inl free
@@ -42,6 +46,27 @@ module _ (offers : List (List ℕ)) (room : ℕ → ℕ) (p : List (Option ℕ))
         held = h.held;
         offered = subst (Offers offers w.link) (sym (ap (λ (v : Way). v.interrupt) (same w.next (omega arith)))) h.offered;
       })
+
+  -- the first ways, as many as were found, are ways
+  pub ways_first : (ways : List Way) (tail : ℕ) → tail ≤ length ways → AreWays offers room p low ways tail → AreWays offers room p low (take tail ways) (length (take tail ways))
+  ways_first ways tail fits all =
+      record {
+        once = λ j k lt b e. let l = long in all.once j k lt (omega arith) (sym (same_ready j (omega arith)) ∙ (e ∙ same_ready k (omega arith)));
+        each = λ k b. let l = long in subst (IsWay offers room p low (take tail ways) k) (sym (same k (omega arith))) (way_kept ways (take tail ways) k k (way_at ways k) (λ m bm. same m (omega arith)) (omega arith) (all.each k (omega arith)));
+      }
+    where
+      long : length (take tail ways) ≡ tail
+      long = let e = length-take tail ways in omega arith
+
+      same : (k : ℕ) → k < tail → way_at (take tail ways) k ≡ way_at ways k
+      same k b = get_or-take tail ways k no_way b
+
+      same_ready : (k : ℕ) → k < tail → ready_at (take tail ways) k ≡ ready_at ways k
+      same_ready k b = ap (λ (v : Way). v.interrupt) (same k b)
+
+  -- there is room for the ways that were found
+  pub ways_within : (left : List ℕ) (ready : List Bool) (ways : List Way) (tail : ℕ) → IsSearch offers room p low left ready ways tail → (k : ℕ) → k < tail → k < length ways
+  ways_within left ready ways tail s k b = let c = s.counted in let f = s.fits in omega arith
 
   module _ (left : List ℕ) (ready : List Bool) (ways : List Way) (tail : ℕ) (w : Way) (s : IsSearch offers room p low left ready ways tail) (known : w.interrupt < length ready) (is : IsWay offers room p low ways tail w) (fresh : is_reached ready w.interrupt ≡ false) where
     pub way_fits : tail < length ways

@@ -5,10 +5,11 @@ use Rattle.std.proofs.lemmas.Bool.{cases_eq, true≢false}
 use Rattle.std.proofs.lemmas.List.{length-replicate}
 use Rattle.route_model.specs.Placement.{place_of, is_reached, Offers, IsPlacement, IsWholeBut, CanPlaceBut, IsStuck}
 use Rattle.route_solve.specs.Search.{Spares}
-use Rattle.route_solve.specs.Levels.{at, IsTrail, IsQueue, AreClosed, AreDone}
+use Rattle.route_solve.specs.Capacities.{at}
+use Rattle.route_solve.specs.Levels.{IsTrail, IsQueue, AreClosed, AreDone}
 use Rattle.route_solve.proofs.Exchange.{spares_step, none_reached}
 
-module _ (offers : List (List ℕ)) (room : ℕ → ℕ) (p : List (Option ℕ)) (queue from : List ℕ) (tail : ℕ) (reached seen : List Bool) (trail : IsTrail offers p 0 queue from tail) (listed : IsQueue reached queue tail) (closed : AreClosed room p 0 reached seen) (done : AreDone offers seen queue 0 tail) (some : 0 < tail) (unplaced : place_of p (at queue 0) ≡ None) where
+module _ (offers : List (List ℕ)) (room : ℕ → ℕ) (p : List (Option ℕ)) (queue : List ℕ) (tail : ℕ) (reached seen : List Bool) (trail : IsTrail offers p 0 queue tail) (listed : IsQueue reached queue tail) (closed : AreClosed room p 0 reached seen) (done : AreDone offers seen queue 0 tail) (some : 0 < tail) (unplaced : place_of p (at queue 0) ≡ None) where
   seen_all : (k n : ℕ) → is_reached reached k ≡ true → Offers offers k n → is_reached seen n ≡ true
   seen_all k n r o = let w = listed.listed k r in done w.0 n (omega arith) w.1 (subst (λ l. Offers offers l n) (sym w.2) o)
 
@@ -50,14 +51,13 @@ module _ (offers : List (List ℕ)) (room : ℕ → ℕ) (p : List (Option ℕ))
             none : Some n ≡ None → ⊥
             none e = cc
 
-    step : (k n : ℕ) → k < tail → place_of p (at queue k) ≡ Some n → IsSpared (at from k) → IsSpared k
-    step k n b held s =
-        let l = at queue (at from k) in
+    step : (k n f : ℕ) → k < tail → place_of p (at queue k) ≡ Some n → f < k → Offers offers (at queue f) n → IsSpared f → IsSpared k
+    step k n f b held less offered s =
+        let l = at queue f in
         let j = at queue k in
-        let less = trail.linked k n b held in
-        let apart : j ≢ l = λ e. trail.once (at from k) k less b (sym e) in
+        let apart : j ≢ l = λ e. trail.once f k less b (sym e) in
         let long = placed.same_length in
-        let bl = trail.known (at from k) (omega arith) in
+        let bl = trail.known f (omega arith) in
         let bj = trail.known k b in
         let before : Spares offers room s.others (set (replicate (l + 1) false) l true) l = record {
           others = s.others;
@@ -66,14 +66,14 @@ module _ (offers : List (List ℕ)) (room : ℕ → ℕ) (p : List (Option ℕ))
           whole = s.whole;
           kept = λ m _ _. refl;
         } in
-        let after = spares_step offers room s.others (set (replicate (l + 1) false) l true) l j n (omega arith) (omega arith) before (only_itself l) (only_other l j apart) (trail.offered k n b held) (s.later k less b ∙ held) in
+        let after = spares_step offers room s.others (set (replicate (l + 1) false) l true) l j n (omega arith) (omega arith) before (only_itself l) (only_other l j apart) offered (s.later k less b ∙ held) in
         record {
           others = after.others;
           placed = after.placed;
           left_out = after.left_out;
           whole = after.whole;
           later = λ m lt bm.
-              after.kept (at queue m) (only_other l (at queue m) (λ e. trail.once (at from k) m (omega arith) bm (sym e))) (λ e. trail.once k m lt bm (sym e)) ∙ s.later m (omega arith) bm;
+              after.kept (at queue m) (only_other l (at queue m) (λ e. trail.once f m (omega arith) bm (sym e))) (λ e. trail.once k m lt bm (sym e)) ∙ s.later m (omega arith) bm;
         }
 
     spared_from : (m k : ℕ) → k < m → k < tail → IsSpared k
@@ -82,7 +82,10 @@ module _ (offers : List (List ℕ)) (room : ℕ → ℕ) (p : List (Option ℕ))
       where
         go : (o : Option ℕ) → place_of p (at queue k) ≡ o → ((f : ℕ) → f < m → f < tail → IsSpared f) → IsSpared k
         go None e ih = at_the_root k e b (cases_eq (at queue k) (at queue 0))
-        go (Some n) e ih = let less = trail.linked k n b e in step k n b e (ih (at from k) (omega arith) (omega arith))
+        go (Some n) e ih =
+            let w = trail.linked k n b e in
+            let less = w.1 in
+            step k n w.0 b e less w.2 (ih w.0 (omega arith) (omega arith))
 
     pub spared_all : (l : ℕ) → is_reached reached l ≡ true → CanPlaceBut offers room l
     spared_all l r =

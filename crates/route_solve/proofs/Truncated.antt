@@ -5,7 +5,8 @@ use Rattle.std.proofs.lemmas.List.{length-take, get_or-take, get_or-drop}
 use Rattle.std.proofs.lemmas.List.Sums.{sum_by-take-drop}
 use Rattle.std.proofs.Common.{cond}
 use Rattle.route_model.specs.Placement.{is_at, place_of, Offers, taken}
-use Rattle.route_solve.specs.Levels.{at, IsTrail, AreClosed, AreDone}
+use Rattle.route_solve.specs.Capacities.{at}
+use Rattle.route_solve.specs.Levels.{IsTrail, AreClosed, AreDone}
 use Rattle.route_solve.proofs.Parts.{none_taken, place-take}
 use Rattle.route_solve.proofs.Filtered.{offers_within}
 
@@ -25,17 +26,16 @@ module _ (offers : List (List ℕ)) (room : ℕ → ℕ) (p : List (Option ℕ))
       let none = none_taken (drop m p) n (λ k. get_or-drop m p k None ∙ rest (m + k) (omega arith)) in
       omega arith
 
-  module _ (queue from : List ℕ) (tail : ℕ) (reached seen : List Bool) (front : (k : ℕ) → k < tail → at queue k < m) (trail : IsTrail offers p 0 queue from tail) (closed : AreClosed room p 0 reached seen) (done : AreDone offers seen queue 0 tail) where
-    pub trail_take : IsTrail (take m offers) (take m p) 0 queue from tail
+  module _ (queue : List ℕ) (tail : ℕ) (reached seen : List Bool) (front : (k : ℕ) → k < tail → at queue k < m) (trail : IsTrail offers p 0 queue tail) (closed : AreClosed room p 0 reached seen) (done : AreDone offers seen queue 0 tail) where
+    pub trail_take : IsTrail (take m offers) (take m p) 0 queue tail
     trail_take = record {
       known = λ k b. let e = length-take m p in let f = front k b in omega arith;
       movable = λ k b. omega arith;
       once = trail.once;
-      linked = λ k i b h. trail.linked k i b (place-take m p (at queue k) i h).1;
-      offered = λ k i b h.
-          let w = (place-take m p (at queue k) i h).1 in
-          let less = trail.linked k i b w in
-          offers_to (at queue (at from k)) i (front (at from k) (omega arith)) (trail.offered k i b w);
+      linked = λ k i b h.
+          let w = trail.linked k i b (place-take m p (at queue k) i h).1 in
+          let less = w.1 in
+          (w.0, less, offers_to (at queue w.0) i (front w.0 (omega arith)) w.2);
     }
 
     pub closed_take : AreClosed room (take m p) 0 reached seen

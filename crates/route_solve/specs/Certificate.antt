@@ -2,8 +2,8 @@ use Rattle.std.specs.Prelude.{◌≡◌, ◌<◌, ◌≤◌, ◌+◌, ◌⊎◌,
 use Rattle.route_model.specs.Placement.{is_reached, IsPlacement, CanPlace, CanPlaceBut, IsStuck}
 use Rattle.route_solve.specs.Room.{room_of}
 
--- Why the rooms don't do: the links before the last one can be placed, the search from the last one is stuck,
--- and without any one of those that it reached the others can be placed.
+-- Why the capacities don't do: the links before the last one can be placed, the search from the last one is stuck, so that
+-- those that it reached are a Hall set, and without any one of these the others can be placed.
 pub record IsCertificate (offers : List (List ℕ)) (room : ℕ → ℕ) (reached : List Bool) : Type 0 where
   pub last : ℕ
   pub within : last < length offers

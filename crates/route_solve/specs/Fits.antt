@@ -18,3 +18,10 @@ pub record Fits (p : RoutingProblem) : Type 0 where
   pub offers : (k : ℕ) → k < length p.links → IsOffer (slice_index_or (offers_of p.links) k [])
   pub wired_in_order : IsStrictlyIncreasing (map (λ w. w.0) p.wired)
   pub counts : sum_by (λ w. w.1) p.wired ≤ 4096
+
+-- what a search needs of a problem: not the order of the links
+pub record IsSolvable (p : RoutingProblem) : Type 0 where
+  pub few : length p.links ≤ 256
+  pub offers : (k : ℕ) → k < length p.links → IsOffer (slice_index_or (offers_of p.links) k [])
+  pub wired_in_order : IsStrictlyIncreasing (map (λ w. w.0) p.wired)
+  pub counts : sum_by (λ w. w.1) p.wired ≤ 4096

@@ -1,28 +1,16 @@
--- A search by levels. The links that it reached stand in a queue, each with the place in the queue of the link from which
--- it was reached.
-use Rattle.std.specs.Prelude.{◌≡◌, ◌≢◌, ℕ, ◌+◌, ◌-◌, ◌<◌, ◌≤◌, Bool, true, Option, Some, List, length, not, count_by, slice_index_or}
+-- A search by levels along alternating paths: from a link to an interrupt that it offers, from there to the links that have it.
+-- The links that it reached stand in a queue.
+use Rattle.std.specs.Prelude.{◌≡◌, ◌≢◌, ℕ, ◌+◌, ◌<◌, ◌≤◌, Bool, true, Option, Some, List, length, not, count_by}
+use Rattle.route_solve.specs.Capacities.{at}
 use Rattle.route_model.specs.Placement.{place_of, is_reached, Offers, taken}
-
--- what stands at a place of a list of numbers
-abbrev pub at : List ℕ → ℕ → ℕ
-at xs k = slice_index_or xs k 0
-
--- how often an interrupt can be given within a limit
-abbrev pub room_at : ℕ → List ℕ → ℕ → ℕ
-room_at limit sources i = limit - at sources i
-
--- how many links have each interrupt
-abbrev pub IsCounted : List ℕ → List (Option ℕ) → Type 0
-IsCounted counts p = (i : ℕ) → i < length counts → at counts i ≡ taken p i
 
 -- the queue up to a place: no link twice, none below the first that may be moved, and each that has an interrupt was reached
 -- from an earlier one, which offers it
-pub record IsTrail (offers : List (List ℕ)) (p : List (Option ℕ)) (low : ℕ) (queue from : List ℕ) (tail : ℕ) : Type 0 where
+pub record IsTrail (offers : List (List ℕ)) (p : List (Option ℕ)) (low : ℕ) (queue : List ℕ) (tail : ℕ) : Type 0 where
   pub known : (k : ℕ) → k < tail → at queue k < length p
   pub movable : (k : ℕ) → k < tail → low ≤ at queue k
   pub once : (j k : ℕ) → j < k → k < tail → at queue j ≢ at queue k
-  pub linked : (k i : ℕ) → k < tail → place_of p (at queue k) ≡ Some i → at from k < k
-  pub offered : (k i : ℕ) → k < tail → place_of p (at queue k) ≡ Some i → Offers offers (at queue (at from k)) i
+  pub linked : (k i : ℕ) → k < tail → place_of p (at queue k) ≡ Some i → (j : ℕ) × (j < k) × Offers offers (at queue j) i
 
 -- the reached links are those of the queue
 pub record IsQueue (reached : List Bool) (queue : List ℕ) (tail : ℕ) : Type 0 where
@@ -34,12 +22,10 @@ pub record IsQueue (reached : List Bool) (queue : List ℕ) (tail : ℕ) : Type 
 abbrev pub IsKept : List Bool → List Bool → Type 0
 IsKept before after = (k : ℕ) → is_reached before k ≡ true → is_reached after k ≡ true
 
--- the queue grew by links that were reached from a place on
-pub record IsLonger (queue from : List ℕ) (tail : ℕ) (queue' from' : List ℕ) (tail' low : ℕ) : Type 0 where
+-- the queue grew, and what stood in it stands there
+pub record IsLonger (queue : List ℕ) (tail : ℕ) (queue' : List ℕ) (tail' : ℕ) : Type 0 where
   pub longer : tail ≤ tail'
   pub kept : (k : ℕ) → k < tail → at queue' k ≡ at queue k
-  pub kept_from : (k : ℕ) → k < tail → at from' k ≡ at from k
-  pub from_later : (k : ℕ) → tail ≤ k → k < tail' → low ≤ at from' k
 
 -- an interrupt is full, and all links there that may be moved are reached
 pub record IsClosed (room : ℕ → ℕ) (p : List (Option ℕ)) (low : ℕ) (reached : List Bool) (i : ℕ) : Type 0 where

@@ -9,6 +9,8 @@ pub mod Marks
 pub mod Shown
 pub mod Numbers
 pub mod Rows
+pub mod Capacities
 pub mod Levels
 pub mod Ready
 pub mod Named
+pub mod Graphs

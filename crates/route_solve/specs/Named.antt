@@ -1,7 +1,7 @@
 -- Placements by the places of the interrupts, and by their numbers.
 use Rattle.std.specs.Prelude.{◌≡◌, ◌<◌, length, ℕ, Option, Some, None, List, map}
 use Rattle.route_model.specs.Routing.{wired_to}
-use Rattle.route_solve.specs.Levels.{at}
+use Rattle.route_solve.specs.Capacities.{at}
 use Rattle.route_solve.specs.Numbers.{number_at}
 
 abbrev pub name_of : List ℕ → Option ℕ → Option ℕ

@@ -1,9 +1,10 @@
--- A search back from the interrupts that have room. An interrupt is ready if it has room, or if a link that has it can go to
--- one that is ready.
+-- A search for augmenting paths, back from the interrupts that have room. An interrupt is ready if an augmenting path begins
+-- there: it has room, or a link that has it can go to one that is ready.
 use Rattle.std.specs.Prelude.{◌≡◌, ◌≢◌, ◌⊎◌, ℕ, ◌+◌, ◌/◌, ◌<◌, ◌≤◌, Bool, true, Option, Some, None, IsSome, List, length, not, count_by, slice_index_or}
 use Rattle.route_model.specs.Placement.{place_of, is_reached, taken, Offers}
 use Rattle.route_solve.specs.declared.ways.Way.{Way}
-use Rattle.route_solve.specs.Levels.{at, IsKept}
+use Rattle.route_solve.specs.Capacities.{at}
+use Rattle.route_solve.specs.Levels.{IsKept}
 use Rattle.route_solve.specs.Rows.{HasBit}
 
 abbrev pub no_way : Way

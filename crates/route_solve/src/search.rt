@@ -1,78 +1,92 @@
-//! Finds all interrupts that are ready.
-ghost use Rattle.std.specs.Prelude.{◌≡◌, ◌≤◌, ◌<◌, ℕ, Some, true, length};
-ghost use Rattle.route_model.specs.Placement.{is_reached, place_of, taken, Offers};
-ghost use Rattle.route_solve.specs.Levels.{room_at, IsCounted};
-ghost use Rattle.route_solve.specs.Numbers.{lists_of};
-ghost use Rattle.route_solve.specs.Ready.{AreReady, IsSearch};
-ghost use Rattle.route_solve.specs.Rows.{AreRows};
+//! A search for augmenting paths, back from the interrupts that have room.
+ghost use Rattle.std.specs.Prelude.{◌≡◌, ◌<◌, ℕ, IfOk, true, false, length};
+ghost use Rattle.route_model.specs.Placement.{is_reached, taken};
+ghost use Rattle.route_solve.specs.Graphs.{capacity, edges, interrupts_in, HasVisitedFree, IsGraph, IsMatching, IsSized, Searches};
+ghost use Rattle.route_solve.specs.Ready.{AreReady};
 
+use crate::graph::{Graph, has_room};
 use crate::left::{begin_left, has_left};
-use crate::levels::{Board, has_room};
-use crate::ways::{Way, add_way, spread};
+use crate::matching::Matching;
+use crate::ways::{NO_WAY, Way};
+use std::alloc::{AllocError, Global};
 
-/// Begins with the interrupts that have room, and gives their number.
-fn begin(
-    board: &Board<'_>,
-    choice: &[Option<usize>],
-    counts: &[usize],
-    left: &mut [u64],
-    ready: &mut [bool],
-    ways: &mut [Way],
-) -> usize
-    requires few { length choice.now ≤ 256 }
-    requires four { length left.old ≡ 4 }
-    requires ready { length ready.old ≡ length counts.now }
-    requires ways { length ways.old ≡ length counts.now }
-    requires sources { length board.now.sources.now ≡ length counts.now }
-    requires counted { IsCounted counts.now choice.now }
-    ensures search { IsSearch (lists_of board.now.offers.now) (room_at board.now.limit board.now.sources.now) choice.now board.now.low left.new ready.new ways.new result }
-    ensures room { (i : ℕ) → i < length ready.new → taken choice.now i < room_at board.now.limit board.now.sources.now i → is_reached ready.new i ≡ true }
-{
-    begin_left(left, board.low, choice.len());
-    ready.fill(false);
-    let mut tail = 0;
-    for interrupt in 0..counts.len() {
-        if has_room(board, counts, interrupt) {
-            let way = Way {
-                interrupt,
-                link: 0,
-                next: 0,
-            };
-            tail = add_way(board, choice, left, ready, ways, tail, way);
-        }
-    }
-    tail
+/// A search back from the interrupts that are below their capacity, along the links that could go there, to all interrupts
+/// at which an augmenting path begins: these are ready for one link more.
+///
+/// It visits each interrupt and each link once at most.
+#[derive(Drop)]
+pub(crate) struct Search {
+    /// The links that it hasn't come to, a bit for each.
+    pub left: [u64; 4],
+    /// The interrupts that it has visited: they are ready.
+    pub visited: Vec<bool>,
+    /// The steps of the augmenting paths, in the order in which it found them.
+    pub ways: Vec<Way>,
+    /// How many steps it has found.
+    pub found: usize,
 }
 
-/// Finds all interrupts that are ready, where the links from one on may be moved, and gives their number.
-pub(crate) fn search(
-    board: &Board<'_>,
-    choice: &[Option<usize>],
-    counts: &[usize],
-    left: &mut [u64],
-    ready: &mut [bool],
-    ways: &mut [Way],
-) -> usize
-    requires few { length choice.now ≤ 256 }
-    requires choices { length choice.now ≡ length board.now.offers.now }
-    requires four { length left.old ≡ 4 }
-    requires ready { length ready.old ≡ length counts.now }
-    requires ways { length ways.old ≡ length counts.now }
-    requires sources { length board.now.sources.now ≡ length counts.now }
-    requires rows { AreRows (lists_of board.now.offers.now) (length counts.now) board.now.rows.now }
-    requires known { (l x : ℕ) → place_of choice.now l ≡ Some x → x < length counts.now }
-    requires counted { IsCounted counts.now choice.now }
-    ensures search { IsSearch (lists_of board.now.offers.now) (room_at board.now.limit board.now.sources.now) choice.now board.now.low left.new ready.new ways.new result }
-    ensures ready { AreReady (lists_of board.now.offers.now) (room_at board.now.limit board.now.sources.now) choice.now board.now.low ready.new }
+/// Nothing is marked.
+pub(crate) fn clear_marks(marks: &mut Vec<bool>)
+    ensures none { (k : ℕ) → is_reached marks.new.items k ≡ false }
+    ensures same { length marks.new.items ≡ length marks.old.items }
 {
-    let mut tail = begin(board, choice, counts, left, ready, ways);
-    let mut pos = 0;
-    while pos < tail {
-        if !has_left(left) {
-            return tail;
-        }
-        tail = spread(board, choice, left, ready, ways, tail, pos);
-        pos += 1;
+    marks.fill(false);
+}
+
+impl Search {
+    /// Takes memory for so many interrupts.
+    pub(crate) fn new(alloc: Global, interrupts: usize) -> Result<Search, AllocError>
+        ensures { IfOk result (λ search. IsSized interrupts search) }
+    {
+        Ok(Search {
+            left: [0; 4],
+            visited: vec![in alloc; false; interrupts]?,
+            ways: vec![in alloc; NO_WAY; interrupts]?,
+            found: 0,
+        })
     }
-    tail
+
+    /// Begins with the interrupts that have room.
+    fn begin(&mut self, graph: &Graph<'_>, matching: &Matching)
+        requires graph { IsGraph graph.now }
+        requires matching { IsMatching graph.now matching.now }
+        requires sized { IsSized (interrupts_in graph.now) self.old }
+        ensures search { Searches graph.now matching.now self.new }
+        ensures room { HasVisitedFree graph.now matching.now self.new }
+    {
+        begin_left(&mut self.left, graph.low, matching.choice.len());
+        clear_marks(&mut self.visited);
+        self.found = 0;
+        let counts: &[usize] = &matching.counts;
+        for interrupt in 0..counts.len() {
+            if has_room(graph, counts, interrupt) {
+                let way = Way {
+                    interrupt,
+                    link: 0,
+                    next: 0,
+                };
+                self.add_way(graph, matching, way);
+            }
+        }
+    }
+
+    /// Visits all interrupts that are ready, where the links from one on may be moved.
+    pub(crate) fn run(&mut self, graph: &Graph<'_>, matching: &Matching)
+        requires graph { IsGraph graph.now }
+        requires matching { IsMatching graph.now matching.now }
+        requires sized { IsSized (interrupts_in graph.now) self.old }
+        ensures search { Searches graph.now matching.now self.new }
+        ensures ready { AreReady (edges graph.now) (capacity graph.now) matching.now.choice.items graph.now.low self.new.visited.items }
+    {
+        self.begin(graph, matching);
+        let mut pos = 0;
+        while pos < self.found {
+            if !has_left(&self.left) {
+                return;
+            }
+            self.spread(graph, matching, pos);
+            pos += 1;
+        }
+    }
 }

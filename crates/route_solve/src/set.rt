@@ -6,19 +6,19 @@ ghost use Rattle.std.specs.List.Sorted.{IsStrictlyIncreasing};
 ghost use Rattle.route_model.specs.Links.{offers_of};
 ghost use Rattle.route_model.specs.Routing.{wired_to};
 ghost use Rattle.route_model.specs.Placement.{is_reached};
-ghost use Rattle.route_solve.specs.Certificate.{IsSpread};
-ghost use Rattle.route_solve.specs.Floor.{IsFloor};
+ghost use Rattle.route_solve.specs.Fits.{IsSolvable};
+ghost use Rattle.route_solve.specs.Graphs.{HasNumbers, IsGreatestWired, IsLeastWithin};
 ghost use Rattle.route_solve.specs.Marks.{is_offered_by, HasAll};
 ghost use Rattle.route_solve.specs.Numbers.{HasOffered};
 ghost use Rattle.route_solve.specs.Rows.{bit_of, HasBit, HasRows};
 ghost use Rattle.route_model.specs.Bound.{IsLowerBound};
 ghost use Rattle.route_solve.specs.Shown.{Shown};
 
+use crate::assign::Offered;
 use crate::left::next_left;
 use crate::numbers::place_from;
 use crate::rows::set_bit;
 use crate::sources::wired_sources;
-use route_model::Link;
 
 fn is_marked(marks: &[bool], link: usize) -> bool
     ensures { result ≡ is_reached marks.now link }
@@ -59,25 +59,22 @@ fn offers_at(rows: &[u64], row: &[u64], i: usize) -> bool
 
 /// Whether a marked link offers an interrupt, whose place is known if any link does.
 fn is_offered(
-    links: &[Link],
+    offered: &Offered<'_>,
     marks: &[bool],
-    numbers: &[u32],
-    rows: &[u64],
     row: &[u64],
     n: u32,
     place: Option<usize>,
 ) -> bool
-    requires few { length links.now ≤ 256 }
-    requires offered { HasOffered (offers_of links.now) numbers.now }
-    requires bits { HasRows (offers_of links.now) numbers.now rows.now }
+    requires few { length offered.now.problem.now.links ≤ 256 }
+    requires numbers { HasNumbers offered.now }
     requires four { length row.now ≡ 4 }
     requires all { (l : ℕ) → is_reached marks.now l ≡ true → bit_of row.now 0 l ≡ 1 }
     requires only { (l : ℕ) → l < 256 → bit_of row.now 0 l ≡ 1 → is_reached marks.now l ≡ true }
-    requires place { MatchOption place (Contains numbers.now n → ⊥) (λ i. (i < length numbers.now) × (slice_index_or numbers.now i 0 ≡ n)) }
-    ensures { result ≡ is_offered_by (offers_of links.now) marks.now n }
+    requires place { MatchOption place (Contains offered.now.numbers.now n → ⊥) (λ i. (i < length offered.now.numbers.now) × (slice_index_or offered.now.numbers.now i 0 ≡ n)) }
+    ensures { result ≡ is_offered_by (offers_of offered.now.problem.now.links) marks.now n }
 {
     match place {
-        Some(i) => offers_at(rows, row, i),
+        Some(i) => offers_at(offered.rows, row, i),
         None => false,
     }
 }
@@ -106,30 +103,21 @@ fn keep_marked(places: &mut Vec<usize>, marks: &[bool])
 }
 
 /// Keeps what the marked links offer.
-fn keep_offered(
-    interrupts: &mut Vec<u32>,
-    links: &[Link],
-    marks: &[bool],
-    numbers: &[u32],
-    rows: &[u64],
-    row: &mut [u64],
-)
-    requires few { length links.now ≤ 256 }
-    requires marks { length marks.now ≡ length links.now }
-    requires up { IsStrictlyIncreasing numbers.now }
-    requires offered { HasOffered (offers_of links.now) numbers.now }
-    requires bits { HasRows (offers_of links.now) numbers.now rows.now }
-    requires four { length row.old ≡ 4 }
-    ensures { interrupts.new.items ≡ filter (is_offered_by (offers_of links.now) marks.now) interrupts.old.items }
+fn keep_offered(interrupts: &mut Vec<u32>, offered: &Offered<'_>, marks: &[bool])
+    requires few { length offered.now.problem.now.links ≤ 256 }
+    requires marks { length marks.now ≡ length offered.now.problem.now.links }
+    requires numbers { HasNumbers offered.now }
+    ensures { interrupts.new.items ≡ filter (is_offered_by (offers_of offered.now.problem.now.links) marks.now) interrupts.old.items }
 {
-    mark_row(row, marks);
+    let mut row = [0u64; 4];
+    mark_row(&mut row, marks);
     let mut kept = 0;
     let mut next = 0;
     for i in 0..interrupts.len() {
         let n = interrupts[i];
-        let place = place_from(numbers, next, n);
+        let place = place_from(offered.numbers, next, n);
         next = place_after(place, next);
-        if is_offered(links, marks, numbers, rows, row, n, place) {
+        if is_offered(offered, marks, &row, n, place) {
             interrupts[kept] = n;
             kept += 1;
         }
@@ -153,45 +141,35 @@ fn keep_busy(interrupts: &mut Vec<u32>, wired: &[(u32, u32)], count: usize)
     interrupts.truncate(kept);
 }
 
-/// Makes of all places and all interrupts the set that is to be shown.
+/// Makes of all places and all interrupts the set that is to be shown: where the limit is above the greatest wired count, the
+/// Hall set that was reached, and all that it offers.
 pub(crate) fn show(
-    wired: &[(u32, u32)],
-    links: &[Link],
-    numbers: &[u32],
-    rows: &[u64],
-    stuck: &[bool],
-    row: &mut [u64],
+    offered: &Offered<'_>,
+    reached: &[bool],
     floor: usize,
     limit: usize,
     places: &mut Vec<usize>,
     interrupts: &mut Vec<u32>,
 )
-    requires few { length links.now ≤ 256 }
-    requires up { IsStrictlyIncreasing numbers.now }
-    requires numbers { HasOffered (offers_of links.now) numbers.now }
-    requires bits { HasRows (offers_of links.now) numbers.now rows.now }
-    requires four { length row.old ≡ 4 }
-    requires counts { sum_by (λ w. w.1) wired.now ≤ 4096 }
-    requires marks { length stuck.now ≡ length links.now }
-    requires offered { (k : ℕ) → k < length links.now → 0 < length (slice_index_or (offers_of links.now) k []) }
-    requires floor_is { IsFloor wired.now floor }
-    requires wired_below { (i : ℕ) → wired_to wired.now i ≤ floor }
-    requires limit { (p : List (Option ℕ)) × IsSpread (offers_of links.now) wired.now floor limit p stuck.now }
-    requires places { places.old.items ≡ range_with_len 0 (length links.now) }
+    requires fits { IsSolvable offered.now.problem.now }
+    requires numbers { HasNumbers offered.now }
+    requires floor { IsGreatestWired offered.now.problem.now.wired floor }
+    requires limit { IsLeastWithin offered.now.problem.now floor limit reached.now }
+    requires places { places.old.items ≡ range_with_len 0 (length offered.now.problem.now.links) }
     requires ascending { IsStrictlyIncreasing interrupts.old.items }
-    requires all { HasAll (offers_of links.now) wired.now interrupts.old.items }
-    ensures shown { Shown (offers_of links.now) wired.now limit places.new.items interrupts.new.items }
-    ensures bound { (limit ≡ 0) ⊎ IsLowerBound (offers_of links.now) wired.now limit places.new.items interrupts.new.items }
+    requires all { HasAll (offers_of offered.now.problem.now.links) offered.now.problem.now.wired interrupts.old.items }
+    ensures shown { Shown (offers_of offered.now.problem.now.links) offered.now.problem.now.wired limit places.new.items interrupts.new.items }
+    ensures bound { (limit ≡ 0) ⊎ IsLowerBound (offers_of offered.now.problem.now.links) offered.now.problem.now.wired limit places.new.items interrupts.new.items }
 {
     if limit == 0 {
         places.clear();
         interrupts.clear();
     } else if limit == floor {
         places.clear();
-        keep_busy(interrupts, wired, limit);
+        keep_busy(interrupts, offered.problem.wired(), limit);
         interrupts.truncate(1);
     } else {
-        keep_marked(places, stuck);
-        keep_offered(interrupts, links, stuck, numbers, rows, row);
+        keep_marked(places, reached);
+        keep_offered(interrupts, offered, reached);
     }
 }

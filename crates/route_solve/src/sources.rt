@@ -3,7 +3,7 @@ ghost use Rattle.std.specs.Prelude.{◌≡◌, ◌≤◌, ◌<◌, ◌+◌, ℕ,
 ghost use Rattle.std.specs.List.Sorted.{IsStrictlyIncreasing};
 ghost use Rattle.route_model.specs.Routing.{wired_to};
 ghost use Rattle.route_solve.specs.Numbers.{number_at};
-ghost use Rattle.route_solve.specs.Levels.{at};
+ghost use Rattle.route_solve.specs.Capacities.{at};
 ghost use Rattle.route_solve.specs.Named.{AreSources};
 
 use crate::numbers::place_among;

@@ -1,23 +1,29 @@
 use Rattle.std.proofs.Common.{sym, arith}
-use Rattle.route_solve.specs.Numbers.{lists_of}
-use Rattle.route_solve.specs.Levels.{room_at}
+use Rattle.route_solve.specs.Graphs.{capacity, edges}
 use Rattle.route_solve.proofs.Fixing.{freed_placed, fixed_whole, fixed_front, fixed_least}
+use Rattle.route_solve.proofs.Matched.{matched}
 use Rattle.route_solve.proofs.first.fix_by_search.Goals as goal
 
 pub free-requires-clause-known : goal.free-requires-clause-known
-free-requires-clause-known c = c.requires.below _ _ (c.requires.placed.offered _ _ c.holds-x.ensures)
+free-requires-clause-known c =
+    let b = c.requires.graph.below _ _ (c.requires.matching.matching.placed.offered _ _ c.held-x.ensures) in
+    let e = c.requires.matching.matching.interrupts in
+    omega arith
 
-pub settle-requires-clause-placed : goal.settle-requires-clause-placed
-settle-requires-clause-placed c = rw c.free.ensures.freed (freed_placed (lists_of c.args.board.now.offers.now) (room_at c.args.board.now.limit c.args.board.now.sources.now) c.args.choice.now c.args.link c.requires.link c.requires.placed)
+pub settle-requires-clause-matching : goal.settle-requires-clause-matching
+settle-requires-clause-matching c =
+    let g = c.args.graph.now in
+    let old = c.requires.matching.matching in
+    matched g.offers.now g.sources.now g.limit c.free.new.self (let a = c.free.ensures.same in let b = old.interrupts in omega arith) c.free.ensures.counted (rw c.free.ensures.freed (freed_placed (edges g) (capacity g) c.args.matching.now.choice.items c.args.link c.requires.link old.placed))
 
-pub returns-clause-whole : goal.returns-clause-whole
-returns-clause-whole c = fixed_whole (lists_of c.args.board.now.offers.now) (room_at c.args.board.now.limit c.args.board.now.sources.now) c.args.choice.now c.args.link c.holds-x.result c.requires.link c.requires.placed c.requires.whole c.holds-x.ensures c.settle.new.ready (λ k n o. let b = c.requires.below k n o in let e = c.settle.auto.ready in let g = c.requires.ready in omega arith) (rw (sym c.free.ensures.freed) c.settle.ensures.ready) c.settle.new.choice (let a = c.settle.auto.choice in let b = c.free.auto.choice in omega arith) c.settle.result c.settle.ensures.first (rw (sym c.free.ensures.freed) c.settle.ensures.settled)
+pub returns-clause-matching : goal.returns-clause-matching
+returns-clause-matching c = record {
+  matching = c.settle.ensures.matching;
+  whole = fixed_whole (edges c.args.graph.now) (capacity c.args.graph.now) c.args.matching.now.choice.items c.args.link c.held-x.result c.requires.link c.requires.matching.matching.placed c.requires.matching.whole c.held-x.ensures c.settle.new.search.visited.items (λ k n o. let b = c.requires.graph.below k n o in let e = c.settle.ensures.sized.marks in omega arith) (rw (sym c.free.ensures.freed) c.settle.ensures.ready) c.settle.new.matching.choice.items (let a = c.settle.ensures.matching.links in let b = c.requires.matching.matching.links in omega arith) c.settle.result c.settle.ensures.first (rw (sym c.free.ensures.freed) c.settle.ensures.settled);
+}
 
 pub returns-clause-kept : goal.returns-clause-kept
-returns-clause-kept c = fixed_front (lists_of c.args.board.now.offers.now) (room_at c.args.board.now.limit c.args.board.now.sources.now) c.args.choice.now c.args.link c.holds-x.result c.requires.link c.requires.placed c.requires.whole c.holds-x.ensures c.settle.new.ready (λ k n o. let b = c.requires.below k n o in let e = c.settle.auto.ready in let g = c.requires.ready in omega arith) (rw (sym c.free.ensures.freed) c.settle.ensures.ready) c.settle.new.choice (let a = c.settle.auto.choice in let b = c.free.auto.choice in omega arith) c.settle.result c.settle.ensures.first (rw (sym c.free.ensures.freed) c.settle.ensures.settled)
+returns-clause-kept c = fixed_front (edges c.args.graph.now) (capacity c.args.graph.now) c.args.matching.now.choice.items c.args.link c.held-x.result c.requires.link c.requires.matching.matching.placed c.requires.matching.whole c.held-x.ensures c.settle.new.search.visited.items (λ k n o. let b = c.requires.graph.below k n o in let e = c.settle.ensures.sized.marks in omega arith) (rw (sym c.free.ensures.freed) c.settle.ensures.ready) c.settle.new.matching.choice.items (let a = c.settle.ensures.matching.links in let b = c.requires.matching.matching.links in omega arith) c.settle.result c.settle.ensures.first (rw (sym c.free.ensures.freed) c.settle.ensures.settled)
 
 pub returns-clause-least : goal.returns-clause-least
-returns-clause-least c = fixed_least (lists_of c.args.board.now.offers.now) (room_at c.args.board.now.limit c.args.board.now.sources.now) c.args.choice.now c.args.link c.holds-x.result c.requires.link c.requires.placed c.requires.whole c.holds-x.ensures c.settle.new.ready (λ k n o. let b = c.requires.below k n o in let e = c.settle.auto.ready in let g = c.requires.ready in omega arith) (rw (sym c.free.ensures.freed) c.settle.ensures.ready) c.settle.new.choice (let a = c.settle.auto.choice in let b = c.free.auto.choice in omega arith) c.settle.result c.settle.ensures.first (rw (sym c.free.ensures.freed) c.settle.ensures.settled) c.requires.ascending (rw (sym c.free.ensures.freed) c.settle.ensures.given)
-
-pub settle-requires-clause-below : goal.settle-requires-clause-below
-settle-requires-clause-below c l i o = let b = c.requires.below l i o in let e = c.free.auto.counts in omega arith
+returns-clause-least c = fixed_least (edges c.args.graph.now) (capacity c.args.graph.now) c.args.matching.now.choice.items c.args.link c.held-x.result c.requires.link c.requires.matching.matching.placed c.requires.matching.whole c.held-x.ensures c.settle.new.search.visited.items (λ k n o. let b = c.requires.graph.below k n o in let e = c.settle.ensures.sized.marks in omega arith) (rw (sym c.free.ensures.freed) c.settle.ensures.ready) c.settle.new.matching.choice.items (let a = c.settle.ensures.matching.links in let b = c.requires.matching.matching.links in omega arith) c.settle.result c.settle.ensures.first (rw (sym c.free.ensures.freed) c.settle.ensures.settled) (c.requires.graph.ascending c.args.link (let b = c.requires.link in let e = c.requires.matching.matching.links in omega arith)) (rw (sym c.free.ensures.freed) c.settle.ensures.given)

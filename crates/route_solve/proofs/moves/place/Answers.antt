@@ -1,32 +1,40 @@
-use Rattle.std.proofs.Common.{◌≡◌, ℕ, List, [], get_or, arith, sym, ◌∙◌, ap, subst}
+use Rattle.std.proofs.Common.{◌≡◌, ◌<◌, ℕ, List, [], get_or, length, arith, sym, ◌∙◌, ap, subst}
 use Rattle.std.specs.Global.{Vec}
 use Rattle.std.specs.Prelude.{Contains}
 use Rattle.route_model.specs.Placement.{Offers}
-use Rattle.route_solve.specs.Numbers.{lists_of}
-use Rattle.route_solve.specs.Levels.{room_at}
+use Rattle.route_solve.specs.Graphs.{capacity, edges}
+use Rattle.route_solve.specs.Capacities.{at}
 use Rattle.route_solve.proofs.Exchange.{moved_directly}
-use Rattle.route_solve.proofs.Handing.{settled_directly}
+use Rattle.route_solve.proofs.Matched.{matched}
 use Rattle.route_solve.proofs.Numbered.{lists_at}
 use Rattle.route_solve.proofs.moves.place.Goals as goal
 
 pub first_free-requires-clause-known : goal.first_free-requires-clause-known
 first_free-requires-clause-known c i w =
-    let items : get_or (lists_of c.args.board.now.offers.now) c.args.link [] ≡ c.deref.result.now = lists_at c.args.board.now.offers.now c.args.link c.index-board-link.result (let b = c.requires.link in let e = c.requires.choices in omega arith) c.index-board-link.is ∙ (ap (λ (v : Vec ℕ). v.items) c.index-board-link.is ∙ sym c.deref.ensures.value) in
-    c.requires.below c.args.link i (subst (λ (xs : List ℕ). Contains xs i) (sym items) w)
+    let g = c.args.graph.now in
+    let items : get_or (edges g) c.args.link [] ≡ c.deref-2.result.now = lists_at g.offers.now c.args.link c.index-graph-link.result (let b = c.requires.link.within in let e = c.requires.matching.links in omega arith) c.index-graph-link.is ∙ (ap (λ (v : Vec ℕ). v.items) c.index-graph-link.is ∙ sym c.deref-2.ensures.value) in
+    let b = c.requires.graph.below c.args.link i (subst (λ (xs : List ℕ). Contains xs i) (sym items) w) in
+    let e = c.requires.matching.interrupts in
+    let d = ap length c.deref.ensures.value in
+    omega arith
 
 pub give-requires-clause-known : goal.give-requires-clause-known
 give-requires-clause-known c =
-    let items : get_or (lists_of c.args.board.now.offers.now) c.args.link [] ≡ c.deref.result.now = lists_at c.args.board.now.offers.now c.args.link c.index-board-link.result (let b = c.requires.link in let e = c.requires.choices in omega arith) c.index-board-link.is ∙ (ap (λ (v : Vec ℕ). v.items) c.index-board-link.is ∙ sym c.deref.ensures.value) in
-    c.requires.below c.args.link c.in-Some.i (subst (λ (xs : List ℕ). Contains xs c.in-Some.i) (sym items) c.in-Some.ensures.0)
+    let g = c.args.graph.now in
+    let items : get_or (edges g) c.args.link [] ≡ c.deref-2.result.now = lists_at g.offers.now c.args.link c.index-graph-link.result (let b = c.requires.link.within in let e = c.requires.matching.links in omega arith) c.index-graph-link.is ∙ (ap (λ (v : Vec ℕ). v.items) c.index-graph-link.is ∙ sym c.deref-2.ensures.value) in
+    let b = c.requires.graph.below c.args.link c.in-Some.i (subst (λ (xs : List ℕ). Contains xs c.in-Some.i) (sym items) c.in-Some.ensures.0) in
+    let e = c.requires.matching.interrupts in
+    omega arith
 
-pub returns-in-Some-clause-placed : goal.returns-in-Some-clause-placed
-returns-in-Some-clause-placed c =
-    let items : get_or (lists_of c.args.board.now.offers.now) c.args.link [] ≡ c.deref.result.now = lists_at c.args.board.now.offers.now c.args.link c.index-board-link.result (let b = c.requires.link in let e = c.requires.choices in omega arith) c.index-board-link.is ∙ (ap (λ (v : Vec ℕ). v.items) c.index-board-link.is ∙ sym c.deref.ensures.value) in
+pub returns-in-Some-clause-matching : goal.returns-in-Some-clause-matching
+returns-in-Some-clause-matching c =
+    let g = c.args.graph.now in
+    let m = c.args.matching.now in
+    let items : get_or (edges g) c.args.link [] ≡ c.deref-2.result.now = lists_at g.offers.now c.args.link c.index-graph-link.result (let b = c.requires.link.within in let e = c.requires.matching.links in omega arith) c.index-graph-link.is ∙ (ap (λ (v : Vec ℕ). v.items) c.index-graph-link.is ∙ sym c.deref-2.ensures.value) in
     let i = c.in-Some.i in
-    let o : Offers (lists_of c.args.board.now.offers.now) c.args.link i = subst (λ (xs : List ℕ). Contains xs i) (sym items) c.in-Some.ensures.0 in
-    let e = c.requires.counted i (c.requires.below c.args.link i o) in
+    let o : Offers (edges g) c.args.link i = subst (λ (xs : List ℕ). Contains xs i) (sym items) c.in-Some.ensures.0 in
+    let known : i < length m.counts.items = let b = c.requires.graph.below c.args.link i o in let e = c.requires.matching.interrupts in omega arith in
+    let e = c.requires.matching.counted i known in
     let f = c.in-Some.ensures.1 in
-    rw c.give.ensures.given (moved_directly (lists_of c.args.board.now.offers.now) (room_at c.args.board.now.limit c.args.board.now.sources.now) c.args.choice.now [] c.args.link i c.requires.link c.requires.placed o (omega arith)).placed
-
-pub returns-in-Some-clause-settled : goal.returns-in-Some-clause-settled
-returns-in-Some-clause-settled c = rw c.give.ensures.given (settled_directly (lists_of c.args.board.now.offers.now) (room_at c.args.board.now.limit c.args.board.now.sources.now) c.args.board.now.low c.args.choice.now c.args.link c.in-Some.i c.requires.link)
+    let d = ap (λ xs. at xs i) c.deref.ensures.value in
+    matched g.offers.now g.sources.now g.limit c.give.new.self (c.give.ensures.same ∙ c.requires.matching.interrupts) c.give.ensures.counted (rw c.give.ensures.given (moved_directly (edges g) (capacity g) m.choice.items [] c.args.link i c.requires.link.within c.requires.matching.placed o (omega arith)).placed)

@@ -10,14 +10,14 @@ use Rattle.route_solve.proofs.set.is_offered.Goals as goal
 pub returns-in-Some : goal.returns-in-Some
 returns-in-Some c = go c.offers_at.result refl
   where
-    place : (c.in-Some.i < length c.args.numbers.now) × (get_or c.args.numbers.now c.in-Some.i 0 ≡ c.args.n)
-    place = subst (λ (p : Option ℕ). MatchOption p (Contains c.args.numbers.now c.args.n → ⊥) (λ i. (i < length c.args.numbers.now) × (get_or c.args.numbers.now i 0 ≡ c.args.n))) c.in-Some.is c.requires.place
+    place : (c.in-Some.i < length c.args.offered.now.numbers.now) × (get_or c.args.offered.now.numbers.now c.in-Some.i 0 ≡ c.args.n)
+    place = subst (λ (p : Option ℕ). MatchOption p (Contains c.args.offered.now.numbers.now c.args.n → ⊥) (λ i. (i < length c.args.offered.now.numbers.now) × (get_or c.args.offered.now.numbers.now i 0 ≡ c.args.n))) c.in-Some.is c.requires.place
 
-    go : (b : Bool) → c.offers_at.result ≡ b → c.offers_at.result ≡ is_offered_by (offers_of c.args.links.now) c.args.marks.now c.args.n
-    go true e = e ∙ sym (offered_yes (offers_of c.args.links.now) c.args.marks.now c.args.numbers.now c.args.rows.now c.args.row.now (let l = offers_length c.args.links.now in let f = c.requires.few in omega arith) c.requires.bits c.requires.four c.requires.all c.requires.only c.args.n c.in-Some.i place.0 place.1 (OnTrue_at e c.offers_at.ensures.yes))
-    go false e = e ∙ sym (offered_no (offers_of c.args.links.now) c.args.marks.now c.args.numbers.now c.args.rows.now c.args.row.now (let l = offers_length c.args.links.now in let f = c.requires.few in omega arith) c.requires.bits c.requires.four c.requires.all c.requires.only c.args.n c.in-Some.i place.0 place.1 (OnFalse_at e c.offers_at.ensures.no))
+    go : (b : Bool) → c.offers_at.result ≡ b → c.offers_at.result ≡ is_offered_by (offers_of c.args.offered.now.problem.now.links) c.args.marks.now c.args.n
+    go true e = e ∙ sym (offered_yes (offers_of c.args.offered.now.problem.now.links) c.args.marks.now c.args.offered.now.numbers.now c.args.offered.now.rows.now c.args.row.now (let l = offers_length c.args.offered.now.problem.now.links in let f = c.requires.few in omega arith) c.requires.numbers.bits c.requires.four c.requires.all c.requires.only c.args.n c.in-Some.i place.0 place.1 (OnTrue_at e c.offers_at.ensures.yes))
+    go false e = e ∙ sym (offered_no (offers_of c.args.offered.now.problem.now.links) c.args.marks.now c.args.offered.now.numbers.now c.args.offered.now.rows.now c.args.row.now (let l = offers_length c.args.offered.now.problem.now.links in let f = c.requires.few in omega arith) c.requires.numbers.bits c.requires.four c.requires.all c.requires.only c.args.n c.in-Some.i place.0 place.1 (OnFalse_at e c.offers_at.ensures.no))
 
 pub returns-in-None : goal.returns-in-None
 returns-in-None c =
-    let none = subst (λ (p : Option ℕ). MatchOption p (Contains c.args.numbers.now c.args.n → ⊥) (λ i. (i < length c.args.numbers.now) × (get_or c.args.numbers.now i 0 ≡ c.args.n))) c.in-None.is c.requires.place in
-    sym (unoffered (offers_of c.args.links.now) c.args.marks.now c.args.numbers.now c.args.n c.requires.offered none)
+    let none = subst (λ (p : Option ℕ). MatchOption p (Contains c.args.offered.now.numbers.now c.args.n → ⊥) (λ i. (i < length c.args.offered.now.numbers.now) × (get_or c.args.offered.now.numbers.now i 0 ≡ c.args.n))) c.in-None.is c.requires.place in
+    sym (unoffered (offers_of c.args.offered.now.problem.now.links) c.args.marks.now c.args.offered.now.numbers.now c.args.n c.requires.numbers.offered none)

@@ -4,4 +4,4 @@ use Rattle.route_solve.specs.Marks.{is_offered_by}
 use Rattle.route_solve.proofs.set.keep_offered.Given as goal
 
 abbrev pub invariant-loop-i : goal.invariant-loop-i
-invariant-loop-i l = FiltersInPlace (is_offered_by (offers_of l.links) l.marks) l.initial.interrupts.items l.interrupts.items l.kept l.i
+invariant-loop-i l = FiltersInPlace (is_offered_by (offers_of l.offered.problem.now.links) l.marks) l.initial.interrupts.items l.interrupts.items l.kept l.i

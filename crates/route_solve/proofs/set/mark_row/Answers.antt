@@ -4,7 +4,7 @@ use Rattle.std.specs.Int.{bit_at}
 use Rattle.std.proofs.lemmas.Bool.{false≢true}
 use Rattle.std.proofs.lemmas.Nat.Bits.{bit_at-zero}
 use Rattle.route_model.specs.Placement.{is_reached}
-use Rattle.route_solve.specs.Levels.{at}
+use Rattle.route_solve.specs.Capacities.{at}
 use Rattle.route_solve.specs.Rows.{bit_of}
 use Rattle.route_solve.proofs.Marked.{marked_within}
 use Rattle.route_solve.proofs.Placing.{zero_there}

@@ -1,4 +1,4 @@
-use Rattle.std.proofs.Common.{◌≡◌, ◌≤◌, ◌<◌, get_or, subst, arith, inl, inr, below_more}
+use Rattle.std.proofs.Common.{◌≡◌, ◌≤◌, ◌<◌, ℕ, get_or, subst, arith, inl, inr, below_more}
 use Rattle.std.specs.Prelude.{◌⊎◌}
 use Rattle.route_model.specs.Routing.{wired_to}
 use Rattle.route_model.proofs.Hall.{zero_or_more}
@@ -33,11 +33,14 @@ loop-w-preserved c =
           })
     ]
 
-pub returns-clause-above : goal.returns-clause-above
-returns-clause-above c i = go (zero_or_more (wired_to c.args.wired.now i))
+above : (c : goal.After-loop-w) (i : ℕ) → wired_to c.args.wired.now i ≤ c.loop-w.greatest
+above c i = go (zero_or_more (wired_to c.args.wired.now i))
   where
     go : (wired_to c.args.wired.now i ≡ 0) ⊎ (0 < wired_to c.args.wired.now i) → wired_to c.args.wired.now i ≤ c.loop-w.greatest
     go (inl e) = omega arith
     go (inr more) =
         let k = wired_somewhere c.args.wired.now i more in
         subst (λ j. wired_to c.args.wired.now j ≤ c.loop-w.greatest) k.2 (c.loop-w.invariant.above k.0 (omega (arith, k.1)))
+
+pub returns : goal.returns
+returns c = record { small = c.loop-w.invariant.small; reached = c.loop-w.invariant.reached; above = above c }

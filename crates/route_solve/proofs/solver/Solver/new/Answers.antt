@@ -34,26 +34,20 @@ all_of links links' ws ws' ns ns' xs e f g h a b = record {
 
 pub invariant_of-result : goal.invariant_of-result
 invariant_of-result c = record {
-  few = search rules;
-  each_offer = search rules;
-  few_sources = search rules;
+  fits = record { few = c.requires.few; offers = c.requires.offers; wired_in_order = c.requires.wired_in_order; counts = c.requires.counts };
+  graph = record {
+    ascending = search rules;
+    offered = search rules;
+    long = long c.args.problem.now.links c.in_ok-numbers.numbers.items c.in_ok-offers.offers.items (numbered c.links-links.result.now c.args.problem.now.links c.deref-2.result.now c.in_ok-numbers.numbers.items (lists_of c.in_ok-offers.offers.items) c.links-links.ensures c.deref-2.ensures.value c.in_ok-offers.ensures);
+    numbered = numbered c.links-links.result.now c.args.problem.now.links c.deref-2.result.now c.in_ok-numbers.numbers.items (lists_of c.in_ok-offers.offers.items) c.links-links.ensures c.deref-2.ensures.value c.in_ok-offers.ensures;
+    wired = subst (λ (ns : List ℕ). AreSources ns c.args.problem.now.wired c.in_ok-sources.sources.items) c.deref-5.ensures.value (subst (λ (ws : List (ℕ × ℕ)). AreSources c.deref-5.result.now ws c.in_ok-sources.sources.items) c.wired-2.ensures c.in_ok-sources.ensures);
+    bits = has_rows (offers_of c.args.problem.now.links) c.in_ok-numbers.numbers.items (lists_of c.in_ok-offers.offers.items) c.in_ok-rows.rows.items c.in_ok-numbers.ensures.ascending (numbered c.links-links.result.now c.args.problem.now.links c.deref-2.result.now c.in_ok-numbers.numbers.items (lists_of c.in_ok-offers.offers.items) c.links-links.ensures c.deref-2.ensures.value c.in_ok-offers.ensures) (subst (λ (ns : List ℕ). AreRows (lists_of c.in_ok-offers.offers.items) (length ns) c.in_ok-rows.rows.items) c.deref-3.ensures.value (subst (λ (vs : List (Vec ℕ)). AreRows (lists_of vs) (length c.deref-3.result.now) c.in_ok-rows.rows.items) c.deref-4.ensures.value c.in_ok-rows.ensures));
+  };
   unplaced = search rules;
   uncounted = search rules;
-  keeps = search rules;
-  wired_up = search rules;
-  marks = search rules;
-  each_way = search rules;
-  reaches = search rules;
-  in_queue = search rules;
-  parents = search rules;
-  by_place = numbered c.links-links.result.now c.args.problem.now.links c.deref-2.result.now c.in_ok-numbers.numbers.items (lists_of c.in_ok-offers.offers.items) c.links-links.ensures c.deref-2.ensures.value c.in_ok-offers.ensures;
-  each_link = long c.args.problem.now.links c.in_ok-numbers.numbers.items c.in_ok-offers.offers.items (numbered c.links-links.result.now c.args.problem.now.links c.deref-2.result.now c.in_ok-numbers.numbers.items (lists_of c.in_ok-offers.offers.items) c.links-links.ensures c.deref-2.ensures.value c.in_ok-offers.ensures);
-  each_source = subst (λ (ns : List ℕ). AreSources ns c.args.problem.now.wired c.in_ok-sources.sources.items) c.deref-5.ensures.value (subst (λ (ws : List (ℕ × ℕ)). AreSources c.deref-5.result.now ws c.in_ok-sources.sources.items) c.wired-2.ensures c.in_ok-sources.ensures);
+  sized = search rules;
   answers = search rules;
   all_there = search rules;
   ascending = search rules;
   all = all_of c.links-links.result.now c.args.problem.now.links c.wired.result.now c.args.problem.now.wired c.in_ok-numbers.numbers.items c.deref.result.now c.in_ok-interrupts.interrupts.items c.links-links.ensures c.wired.ensures c.deref.ensures.value c.in_ok-numbers.ensures.all c.in_ok-interrupts.ensures.offered c.in_ok-interrupts.ensures.sources;
-  in_order = search rules;
-  offered = search rules;
-  bits = has_rows (offers_of c.args.problem.now.links) c.in_ok-numbers.numbers.items (lists_of c.in_ok-offers.offers.items) c.in_ok-rows.rows.items c.in_ok-numbers.ensures.ascending (numbered c.links-links.result.now c.args.problem.now.links c.deref-2.result.now c.in_ok-numbers.numbers.items (lists_of c.in_ok-offers.offers.items) c.links-links.ensures c.deref-2.ensures.value c.in_ok-offers.ensures) (subst (λ (ns : List ℕ). AreRows (lists_of c.in_ok-offers.offers.items) (length ns) c.in_ok-rows.rows.items) c.deref-3.ensures.value (subst (λ (vs : List (Vec ℕ)). AreRows (lists_of vs) (length c.deref-3.result.now) c.in_ok-rows.rows.items) c.deref-4.ensures.value c.in_ok-rows.ensures));
 }
