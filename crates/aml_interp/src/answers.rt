@@ -55,8 +55,8 @@ fn with_rest(value: Result<Value, Refusal>, rest: u64) -> Result<(Value, u64), R
 /// The value names no object of the world: a name that stands is given as its path, and so is an element of a package that is
 /// a name without a value, or that finds nothing.
 ///
-/// Refused as `eval` is. An argument is refused, behind `NotFound` and `ArityChanged` of the object and before it is evaluated,
-/// as `WrongType` where it is or holds `Datum::Reference`, as `NotFound` where nothing stands at the path of a `Datum::Named`, and as
+/// Refused as `eval` is. After `NotFound` and `ArityChanged` of the object, and before it is evaluated, an argument is refused as
+/// `WrongType` where it is or holds a `Datum::Reference`, as `NotFound` where nothing stands at the path of a `Datum::Named`, and as
 /// `ObjectLimit` where it is too large, nests packages more than 64 deep, or makes too many objects. The value is refused as
 /// `ObjectLimit` where its packages nest more than 64 deep, and as `OutOfSteps` where no step is left for an element.
 /// `OutOfMemory` where memory runs out: then nothing is said of the world. However else it ends, all mutexes are free after it.
