@@ -3,8 +3,8 @@
 
 Writes from tables/opcodes.txt the marked regions of the sources (the enum of opcodes, both tables of terms, and what is looked up by a
 byte), and then docs/OPCODES.md, one row for each opcode of AML: its row in the table with its section and its meaning, which rule it is
-evaluated by, where the rule is defined, which function evaluates it, and where it is tested. What the table doesn't have is read from
-the sources.
+evaluated by, where the rule is defined, which functions evaluate it, and where it is tested. A second table has what is evaluated without
+an opcode of its own. What the table doesn't have is read from the sources.
 
 With --check it writes nothing, and fails (status 1) where a region or the page differs, or where a row's kind isn't that of
 crates/aml_meaning/specs/Terms.antt."""
@@ -14,6 +14,7 @@ import sys
 
 import opcode_table
 import pages
+import steps
 from pages import Wrong, files_in, text_of
 
 PAGE = "docs/OPCODES.md"
@@ -42,10 +43,23 @@ RULES = {
 VALUES = {
     "integer_operator": "result_of_two", "two_operands": "result_of_two", "one_operand": "result_of_one", "test_kind": "result_of_test",
 }
-# The crate of the code, and its file in which some terms are done at once, as the others say.
-CODE, AT_ONCE = "crates/aml_frames/src", "known"
 # What waits for the value of a part of a term, or for its target: an arm of each goes on with it.
 WAITING = ("Monadic", "Dyadic", "TargetUse", "DeclarationPart")
+# What is evaluated without an opcode of its own: its definitions and its functions, each behind its file. Those without a crate are of
+# aml_frames.
+WITHOUT_OPCODE = [
+    ("A name where a value stands, and a call of a control method",
+     "InvocationTerms: name_value call_rule; Invocations: invoked",
+     "names: begin_name; calls: begin_call enter; stack: run_in end_call"),
+    ("A target: what is found and used", "TargetTerms: target_at targeted", "targets: begin_target; target_uses: use_target"),
+    ("RefOf, DerefOf and Index as targets", "TargetTerms: target_by_kind", "targets: begin_referring"),
+    ("A store to a field", "FieldCalls: stored_to; Fields: field_stored",
+     "target_uses: store_value; accesses: begin_write; field_access: begin_access; short_names: put_node"),
+    ("An access of an IndexField", "Fields: index_unit index_unit_written",
+     "index_access: begin_indexed; aml_interp/index_fields: index_bits"),
+    ("The address of a field in PCI_Config", "Fields: pci_address; PciFunctions: pci_function",
+     "pci: begin_pci; aml_interp/fields: pci_address"),
+]
 # The names that ASL has for opcodes which the grammar names otherwise.
 ASL_NAMES = {
     "OpRegion": "OperationRegion", "PowerRes": "PowerResource", "FromBcd": "FromBCD", "ToBcd": "ToBCD", "DataRegion": "DataTableRegion",
@@ -67,10 +81,11 @@ One row for each opcode of AML.
   of the kind `Target`.
 - **Kind** is the rule that evaluates the term (`crates/aml_meaning/specs/Terms.antt`; as code `crates/aml_meaning/src/kinds.rt`).
   *left out* means that the term is read, and refused by number 73 with its opcode where it is evaluated.
-- **Definition** is a function in `crates/aml_meaning/specs`, **Code** a function in `crates/aml_frames/src`, or in the crate that is
-  named: the one that begins the term, and, where that only says what waits for a part of it, the one that goes on once the part is
-  evaluated. What an operator makes *of values* is defined in `specs/Operations.antt`, and its code is in
-  `crates/aml_meaning/src/operations.rt`. What gives or takes an integer that is there already is done at once (`known`).
+- **Definition** is a function in `crates/aml_meaning/specs`. **Code** has functions of `crates/aml_frames/src`, or of the crate that is
+  named, each behind its file: the one that begins the term, those that this one calls to go on, and those that go on once a part is
+  evaluated (`resume_..`). What all terms share isn't named: lists, targets, stores and accesses of fields (the second table). What an
+  operator makes *of values* is defined in `specs/Operations.antt`, and its code is in `crates/aml_meaning/src/operations.rt`. What gives
+  or takes an integer that is there already is done at once (`known`).
 - **Field**, **IndexField** and the `Create` terms only declare fields. How a field of an operation region is read and written is in
   `specs/Fields.antt`, with its code in `crates/aml_frames/src/field_access.rt` and `index_access.rt`; for a buffer field in
   `crates/aml_fields/specs/BufferFields.antt`, with its code in `crates/aml_fields/src/buffer_fields.rt`.
@@ -79,6 +94,15 @@ One row for each opcode of AML.
 
 | Opcode | Name | Section | Meaning | Operands | Count | Targets | Kind | Definition | Code | Tests |
 |---|---|---|---|---|---|---|---|---|---|---|
+"""
+TAIL = """
+## What has no opcode of its own
+
+A name stands for itself, and targets, stores and accesses of fields are parts of many terms. What an integer is that such a part gives or
+takes at once is in `short_names` and `short_terms`. The functions of `aml_interp` do the same for a caller that reads a field from outside.
+
+| What | Definition | Code |
+|---|---|---|
 """
 
 
@@ -184,37 +208,13 @@ def files_by_name(files, form):
     return found
 
 
-HEAD_OF = r"^(?:pub(?:\(crate\))? )?fn (\w+)"
-
-
-def functions_of_evaluation():
-    """Each function of the machine of frames, with its file."""
-    return files_by_name(f"{CODE}/*.rt", HEAD_OF)
-
-
-def in_arm(pattern, functions):
-    """The function that an arm of this pattern calls first, or else the one that has the arm, each with its file; and the arm's text."""
-    for file in files_in(f"{CODE}/*.rt"):
-        text, name = text_of(file), os.path.basename(file).partition(".")[0]
-        found = re.search(rf"(?ms)^( *){pattern}\b(?:\([^)]*\))? =>(.*?)(?=^\1\w|^(?!\1))", text)
-        if found and name != AT_ONCE:
-            own = re.findall(HEAD_OF, text, re.MULTILINE)
-            called = re.match(r"\s*(?:\{\s*)?(?:let \w+ = )?(?:Ok\()?(\w+)\(", found[2])
-            if called and called[1] in functions and called[1] != "begin_target":
-                return (name if called[1] in own else functions[called[1]], called[1]), found[2]
-            return (name, re.findall(HEAD_OF, text[: found.start()], re.MULTILINE)[-1]), found[2]
-    return None, ""
-
-
-def code_of(function, kind, functions):
-    """The function that begins a kind, and the one that goes on where that only says what waits, each with its file."""
+def code_of(name, function, kind, sources):
+    """The functions that evaluate an opcode of a kind, each with its file."""
     inside, enum = KIND_FUNCTIONS[function]
-    begins, arm = in_arm(f"{enum}::{inside or kind[0]}", functions)
-    if not begins:
-        raise Wrong(f"no function evaluates {' '.join(kind)}")
-    waits = re.search(rf"\b({'|'.join(WAITING)})::\w+", arm)
-    goes_on = in_arm(waits[0], functions)[0] if waits else None
-    return [it for it in (begins, goes_on) if it]
+    try:
+        return steps.steps_of(sources["steps"], {*RULES, *WAITING}, enum, inside or kind[0])
+    except Wrong as wrong:
+        raise Wrong(f"no function evaluates {name}: {wrong}") from wrong
 
 
 # ---- tests
@@ -263,7 +263,7 @@ def how(name, sources):
     function, kind = sources["kinds"][name]
     file, rule = rule_of(function, kind)
     value = value_of(function, kind)
-    code = code_of(function, kind, sources["functions"])
+    code = code_of(name, function, kind, sources)
     definition = f"`{file}`: `{rule}`" + (f", of values `{value}`" if value else "")
     by = in_files(code) + (f", of values `{code_of_value(value)}`" if value else "")
     return kind_text(name, function, kind), definition, by
@@ -278,6 +278,28 @@ def page_row(row, sources):
     return f"| {row.code:02X} | {row.name} | {said} | {counts} | {kind} | {definition} | {code} | {tests} |"
 
 
+def listed(text):
+    """Names, each with its file, of `file: name name; file: name`."""
+    return [(file, name) for file, _, names in (it.strip().partition(": ") for it in text.split("; ")) for name in names.split()]
+
+
+def check_code(what, file, name, functions):
+    """Refuses a function that isn't in its file."""
+    crate, _, stem = file.rpartition("/")
+    is_there = f"fn {name}<" in text_of(f"crates/{crate}/src/{stem}.rt") if crate else (file, name) in functions
+    if not is_there:
+        raise Wrong(f"{what}: {file}.rt has no {name}")
+
+
+def row_without_opcode(what, definitions, code, functions):
+    """The row of what has no opcode. Each definition and each function has to be there."""
+    for file, name in listed(definitions):
+        pages.definition("crates/aml_meaning/specs", file, name)
+    for file, name in listed(code):
+        check_code(what, file, name, functions)
+    return f"| {what} | {in_files(listed(definitions))} | {in_files(listed(code))} |\n"
+
+
 def head(rows):
     """What stands above the rows."""
     titles = [f"{number} {title}" for number, title in opcode_table.SECTIONS.items()]
@@ -286,11 +308,11 @@ def head(rows):
 
 
 def page(rows):
-    sources = {"kinds": kinds(), "targets": target_kinds(), "functions": functions_of_evaluation(), "tests": grammar_tests(),
-               "lines": told_lines()}
+    sources = {"kinds": kinds(), "targets": target_kinds(), "steps": steps.Sources(), "tests": grammar_tests(), "lines": told_lines()}
     check_names(rows, sources)
     check_kinds(rows, sources["kinds"], sources["targets"])
-    return head(rows) + "\n".join(page_row(it, sources) for it in rows) + "\n"
+    without = (row_without_opcode(*it, sources["steps"].functions) for it in WITHOUT_OPCODE)
+    return head(rows) + "\n".join(page_row(it, sources) for it in rows) + "\n" + TAIL + "".join(without)
 
 
 def made():

@@ -289,36 +289,38 @@ static const char *with(const char *text, const char *old, const char *new) {
 
 static void judge_commands(void) {
     struct bytes machine = example("two-links.txt"), report = example("two-links.report"), bare = {(uint8_t *)"rsdp 0\n", 7};
-    struct question it = over("route", acpiroute_route, "", machine);
-    judge_reply(&it, 0, text_of("two-links.report"), "");
-    it = over("route --avoid 10", acpiroute_route, "--avoid 10", machine);
-    judge_reply(&it, 0, text_of("two-links.avoid.report"), "");
-    it = over("route --avoid 5", acpiroute_route, "--avoid 5", machine);
-    judge_reply(&it, 1, "", "refused 123 \\_SB_.LNKB\n");
-    it = over("route over another text", acpiroute_route, "", report);
-    judge_reply(&it, 1, "", "refused 140 line 1\n");
-    it = over("route \\xFF", acpiroute_route, "\xFF", machine);
+    const char *false_claim = with(text_of("two-links.report"), "busiest 2", "busiest 1");
+    const struct {
+        const char *name;
+        command *command;
+        const char *options;
+        struct bytes input;
+        uint8_t status;
+        const char *text, *line;
+    } rows[] = {
+        {"route", acpiroute_route, "", machine, 0, text_of("two-links.report"), ""},
+        {"route --avoid 10", acpiroute_route, "--avoid 10", machine, 0, text_of("two-links.avoid.report"), ""},
+        {"route --avoid 5", acpiroute_route, "--avoid 5", machine, 1, "", "refused 123 \\_SB_.LNKB\n"},
+        {"route --avoid none", acpiroute_route, "--avoid none", machine, 2, "", "bad --avoid\n"},
+        {"route over another text", acpiroute_route, "", report, 1, "", "refused 140 line 1\n"},
+        {"check", acpiroute_check, "", report, 0, "yes\n", ""},
+        {"check of a false claim", acpiroute_check, "", {(uint8_t *)false_claim, strlen(false_claim)}, 4, "no 4\n", ""},
+        {"check over another text", acpiroute_check, "", machine, 1, "", "refused 130 line 1\n"},
+        {"names over no tables", acpiroute_names, "", bare, 1, "", "refused 13\n"},
+        {"eval _HID", acpiroute_eval, "\\_SB_.LNKA._HID", machine, 0, "integer 252497985\n", ""},
+        {"eval of no object", acpiroute_eval, "\\NONE", machine, 1, "", "refused 61\n"},
+    };
+    for (size_t i = 0; i < sizeof rows / sizeof *rows; i++) {
+        struct question it = over(rows[i].name, rows[i].command, rows[i].options, rows[i].input);
+        judge_reply(&it, rows[i].status, rows[i].text, rows[i].line);
+    }
+    struct question it = over("route \\xFF", acpiroute_route, "\xFF", machine);
     judge_told(&it, ACPIROUTE_NOT_UTF8);
-    it = over("check", acpiroute_check, "", report);
-    judge_reply(&it, 0, "yes\n", "");
-    const char *claim = with(text_of("two-links.report"), "busiest 2", "busiest 1");
-    it = over("check of a false claim", acpiroute_check, "", (struct bytes){(uint8_t *)claim, strlen(claim)});
-    judge_reply(&it, 4, "no 4\n", "");
-    it = over("route --avoid none", acpiroute_route, "--avoid none", machine);
-    judge_reply(&it, 2, "", "bad --avoid\n");
-    it = over("check over another text", acpiroute_check, "", machine);
-    judge_reply(&it, 1, "", "refused 130 line 1\n");
     it = over("check \\xFF", acpiroute_check, "\xFF", report);
     judge_told(&it, ACPIROUTE_NOT_UTF8);
     it = over("names", acpiroute_names, "", machine);
     judge(&it, "the reply", ask(&it, ROOM, ROOM) == ACPIROUTE_REPLIED && now.reply.status == 0 &&
           strstr((char *)now.text, "\\_SB_.LNKB._PRS ") != NULL);
-    it = over("names over no tables", acpiroute_names, "", bare);
-    judge_reply(&it, 1, "", "refused 13\n");
-    it = over("eval _HID", acpiroute_eval, "\\_SB_.LNKA._HID", machine);
-    judge_reply(&it, 0, "integer 252497985\n", "");
-    it = over("eval of no object", acpiroute_eval, "\\NONE", machine);
-    judge_reply(&it, 1, "", "refused 61\n");
 }
 
 /* The lines `mem` of a machine text as parts of memory. */

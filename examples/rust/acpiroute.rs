@@ -99,62 +99,50 @@ macro_rules! commands {
 
 commands!(acpiroute_route, acpiroute_check, acpiroute_names, acpiroute_eval);
 
-extern "C" {
-    pub fn acpiroute_configure(
-        settings: *const Settings,
-        avoid: *const u32,
-        avoid_length: usize,
-        machine: *const u8,
-        machine_length: usize,
-        record: *const Access,
-        record_length: usize,
-        text: *mut u8,
-        text_capacity: usize,
-        line: *mut u8,
-        line_capacity: usize,
-        reply: *mut Reply,
-        wanted: *mut Wanted,
-    ) -> u32;
+/// The calls over a record of accesses: settings, what the call itself takes, the record, the two buffers, the reply, the access that is
+/// wanted.
+macro_rules! calls_over_a_record {
+    ($($name:ident($($own:ident: $of:ty),*);)*) => {
+        extern "C" {
+            $(pub fn $name(
+                settings: *const Settings,
+                $($own: $of,)*
+                record: *const Access,
+                record_length: usize,
+                text: *mut u8,
+                text_capacity: usize,
+                line: *mut u8,
+                line_capacity: usize,
+                reply: *mut Reply,
+                wanted: *mut Wanted,
+            ) -> u32;)*
+        }
+    };
+}
 
-    pub fn acpiroute_evaluate(
-        settings: *const Settings,
+calls_over_a_record! {
+    acpiroute_configure(avoid: *const u32, avoid_length: usize, machine: *const u8, machine_length: usize);
+
+    acpiroute_evaluate(
         path: *const u8,
         path_length: usize,
         arguments: *const u64,
         arguments_length: usize,
         machine: *const u8,
-        machine_length: usize,
-        record: *const Access,
-        record_length: usize,
-        text: *mut u8,
-        text_capacity: usize,
-        line: *mut u8,
-        line_capacity: usize,
-        reply: *mut Reply,
-        wanted: *mut Wanted,
-    ) -> u32;
+        machine_length: usize
+    );
 
-    pub fn acpiroute_configure_tables(
-        settings: *const Settings,
+    acpiroute_configure_tables(
         avoid: *const u32,
         avoid_length: usize,
         rsdp: u64,
         parts: *const Part,
         parts_length: usize,
         osi: *const u8,
-        osi_length: usize,
-        record: *const Access,
-        record_length: usize,
-        text: *mut u8,
-        text_capacity: usize,
-        line: *mut u8,
-        line_capacity: usize,
-        reply: *mut Reply,
-        wanted: *mut Wanted,
-    ) -> u32;
+        osi_length: usize
+    );
 
-    pub fn acpiroute_evaluate_tables(
-        settings: *const Settings,
+    acpiroute_evaluate_tables(
         path: *const u8,
         path_length: usize,
         arguments: *const u64,
@@ -163,14 +151,6 @@ extern "C" {
         parts: *const Part,
         parts_length: usize,
         osi: *const u8,
-        osi_length: usize,
-        record: *const Access,
-        record_length: usize,
-        text: *mut u8,
-        text_capacity: usize,
-        line: *mut u8,
-        line_capacity: usize,
-        reply: *mut Reply,
-        wanted: *mut Wanted,
-    ) -> u32;
+        osi_length: usize
+    );
 }

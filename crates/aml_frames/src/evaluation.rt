@@ -25,9 +25,10 @@ use ar_space::{Refusal, Space};
 use std::alloc::Global;
 
 /// Calls the control method at a path, with its body, where so many are being called already, and gives its value; one that gives none is
-/// uninitialized. However its body ends, the call ends: its frame of slots, and the names below it.
+/// uninitialized. However its body ends, unless memory runs out, the call ends: its frame of slots, and the names below it.
 ///
-/// Refused: `CallDepth` where 32 are being called, as a scan of the body refuses it, and as its evaluation is.
+/// Refused: `CallDepth` where 32 are being called, as a scan of the body refuses it, and as its evaluation is. `OutOfMemory` where memory
+/// runs out: then nothing is said of the world.
 #[tactic(auto, using(aml_meaning::proofs::Runs::running), unfolding(aml_meaning::specs::Invocations::method_value))]
 pub fn call_method<S: Space>(
     alloc: Global,
@@ -72,8 +73,8 @@ pub fn evaluate_list<S: Space>(
 
 /// The integer that the object at a path answers, without arguments, where so many calls may still be made one inside another.
 ///
-/// Refused: `CallDepth` where none is left, `NotFound` where nothing stands there, `WrongType` where it answers no integer, and as its
-/// evaluation is.
+/// Refused: `NotFound` where nothing stands there, `ArityChanged` where it takes arguments, `CallDepth` where no call is left, `NoValue`
+/// where it has no value, `WrongType` where it answers another one than an integer, and as its evaluation is.
 #[tactic(auto, using(crate::proofs::Entering::asked_whole))]
 pub fn ask_integer<S: Space>(
     alloc: Global,

@@ -24,7 +24,7 @@ pub(crate) const CALLS_OF_A_FIELD: usize = 31;
 /// A control method is called. A name that holds a value has that value, a field its bits, any other is a reference to
 /// it; reading one costs no step, but what the address of a field calls does. An alias at the path stands for its target.
 /// Refused: `NotFound` where nothing stands at the path, `ArityChanged` where it takes another number of arguments, and as its
-/// evaluation is.
+/// evaluation is. `OutOfMemory` where memory runs out: then nothing is said of the world.
 #[tactic(auto, using(aml_meaning::proofs::Runs::calling), unfolding(aml_meaning::specs::Calling::evaluated))]
 pub fn eval<S: Space>(
     alloc: Global,
@@ -53,8 +53,13 @@ fn with_rest(value: Result<Value, Refusal>, rest: u64) -> Result<(Value, u64), R
 /// What the object at a path answers, in so many steps: its value, with each package element costing a step.
 ///
 /// The value names no object of the world: a name that stands is given as its path, and so is an element of a package that is
-/// a name without a value, or that finds nothing. Refused as `eval` is, and `ObjectLimit` where packages nest more than 64
-/// deep, `OutOfSteps` where no step is left. However it ends, all mutexes are free after it.
+/// a name without a value, or that finds nothing.
+///
+/// Refused as `eval` is. After `NotFound` and `ArityChanged` of the object, and before it is evaluated, an argument is refused as
+/// `WrongType` where it is or holds a `Datum::Reference`, as `NotFound` where nothing stands at the path of a `Datum::Named`, and as
+/// `ObjectLimit` where it is too large, nests packages more than 64 deep, or makes too many objects. The value is refused as
+/// `ObjectLimit` where its packages nest more than 64 deep, and as `OutOfSteps` where no step is left for an element.
+/// `OutOfMemory` where memory runs out: then nothing is said of the world. However else it ends, all mutexes are free after it.
 #[tactic(auto, using(crate::proofs::Steps::answering))]
 pub fn answer<S: Space>(
     alloc: Global,

@@ -20,7 +20,8 @@ use std::alloc::Global;
 /// Names that it declares stand in the world from then on. The first refusal ends it, and what was declared before stays:
 /// those of reading (`BadName`, `AboveRoot`, and with an offset `BadOpcode`, `BadPkgLength`, `Truncated`, `TooDeep`,
 /// `NotInBody`), and those of evaluation, such as `Exists`, `NotFound`, `OutOfSteps`, `Unsupported` and `ObjectLimit`.
-/// However it ends, all mutexes are free after it. Its bytes are copied once, for as long as it is loaded: evaluation owns what it reads.
+/// `OutOfMemory` where memory runs out: then nothing is said of the world. However else it ends, all mutexes are free after it.
+/// Its bytes are copied once, for as long as it is loaded: evaluation owns what it reads.
 #[tactic(auto, using(aml_meaning::proofs::Runs::calling), unfolding(aml_meaning::specs::Calling::loaded))]
 pub fn load<S: Space>(
     alloc: Global,
