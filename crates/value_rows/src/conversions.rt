@@ -3,7 +3,7 @@
 use crate::answers::say_integer;
 use crate::operands::{integer_width, value_of};
 use aml_convert::{
-    Comparison, Joined, compare, concat, concat_resources, explicit_integer, holds, to_buffer,
+    Comparison, Formed, compare, concat, concat_resources, explicit_integer, holds, to_buffer,
     to_integer, to_text, truncate, truncate_integer,
 };
 use aml_objects::Octets;
@@ -84,11 +84,11 @@ pub fn joined(asked: &mut Exchange) {
     let first = value_of(asked);
     let second = value_of(asked);
     match concat(asked.alloc(), width, first.content(), second.content()) {
-        Ok(Joined::String(bytes)) => {
+        Ok(Formed::String(bytes)) => {
             asked.say("string");
             asked.say_quoted(bytes.as_slice());
         }
-        Ok(Joined::Buffer(bytes)) => {
+        Ok(Formed::Buffer(bytes)) => {
             asked.say("buffer");
             asked.say_bytes(bytes.as_slice());
         }
