@@ -1,2 +1,3 @@
 pub mod DigitLoops
+pub mod Respelling
 pub mod SetBits

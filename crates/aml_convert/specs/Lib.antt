@@ -1,6 +1,9 @@
 pub mod Concatenation
 pub mod Conversions
+pub mod Decimals
 pub mod Digits
+pub mod Formed
 pub mod Integers
-pub mod Joined
+pub mod Matching
 pub mod Operators
+pub mod Strings

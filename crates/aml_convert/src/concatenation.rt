@@ -3,9 +3,10 @@ ghost use Rattle.std.specs.Prelude.{◌≡◌, ◌++◌, ◌∷◌, [], Ok};
 ghost use Rattle.ar_space.specs.Outcome.{Answers, seen};
 ghost use Rattle.aml_objects.specs.Contents.{content_of, Integer, String, Buffer};
 ghost use Rattle.aml_convert.specs.Concatenation.{concatenated, resources_joined, before_end, buffer_bytes};
-ghost use Rattle.aml_convert.specs.Joined.{joined_content};
+ghost use Rattle.aml_convert.specs.Formed.{formed_content};
 
 use crate::buffers::{integer_bytes, to_buffer};
+use crate::formed::Formed;
 use crate::integers::integer;
 use crate::texts::to_text;
 use acpi_resources::length_before_end_tag;
@@ -15,13 +16,6 @@ use std::alloc::Global;
 
 /// The end tag of joined resource items, without a checksum.
 const END_TAG: [u8; 2] = [0x79, 0x00];
-
-/// What concatenation gives.
-#[derive(Debug, Drop)]
-pub enum Joined {
-    String(Octets),
-    Buffer(Octets),
-}
 
 /// Concatenate: two values joined, the second converted to the first's type.
 ///
@@ -33,8 +27,8 @@ pub fn concat(
     width: IntegerWidth,
     first: Content<'_>,
     second: Content<'_>,
-) -> Result<Joined, Refusal>
-    ensures { Answers (seen joined_content result) (concatenated width (content_of first.entry) (content_of second.entry)) }
+) -> Result<Formed, Refusal>
+    ensures { Answers (seen formed_content result) (concatenated width (content_of first.entry) (content_of second.entry)) }
 {
     match first {
         Content::Integer(n) => concat_integers(alloc, width, n, second),
@@ -50,13 +44,13 @@ fn concat_integers(
     width: IntegerWidth,
     first: u64,
     second: Content<'_>,
-) -> Result<Joined, Refusal>
-    ensures { Answers (seen joined_content result) (concatenated width (Integer first) (content_of second.entry)) }
+) -> Result<Formed, Refusal>
+    ensures { Answers (seen formed_content result) (concatenated width (Integer first) (content_of second.entry)) }
 {
     let second = integer(width, second)?;
     let front = integer_bytes(alloc, width, first)?;
     let back = integer_bytes(alloc, width, second)?;
-    Ok(Joined::Buffer(appended(alloc, &front, &back)?))
+    Ok(Formed::Buffer(appended(alloc, &front, &back)?))
 }
 
 #[tactic(auto, using(ar_space::specs::Outcome::answering), unfolding(crate::specs::Concatenation::concatenated))]
@@ -65,11 +59,11 @@ fn concat_strings(
     width: IntegerWidth,
     first: &[u8],
     second: Content<'_>,
-) -> Result<Joined, Refusal>
-    ensures { Answers (seen joined_content result) (concatenated width (String first.now) (content_of second.entry)) }
+) -> Result<Formed, Refusal>
+    ensures { Answers (seen formed_content result) (concatenated width (String first.now) (content_of second.entry)) }
 {
     let second = to_text(alloc, width, second)?;
-    Ok(Joined::String(appended(alloc, first, second.as_slice())?))
+    Ok(Formed::String(appended(alloc, first, second.as_slice())?))
 }
 
 #[tactic(auto, using(ar_space::specs::Outcome::answering), unfolding(crate::specs::Concatenation::concatenated))]
@@ -78,11 +72,11 @@ fn concat_buffers(
     width: IntegerWidth,
     first: &[u8],
     second: Content<'_>,
-) -> Result<Joined, Refusal>
-    ensures { Answers (seen joined_content result) (concatenated width (Buffer first.now) (content_of second.entry)) }
+) -> Result<Formed, Refusal>
+    ensures { Answers (seen formed_content result) (concatenated width (Buffer first.now) (content_of second.entry)) }
 {
     let second = to_buffer(alloc, width, second)?;
-    Ok(Joined::Buffer(appended(alloc, first, second.as_slice())?))
+    Ok(Formed::Buffer(appended(alloc, first, second.as_slice())?))
 }
 
 /// ConcatenateResTemplate: the resource items of two buffers before their end tags, and an end tag.

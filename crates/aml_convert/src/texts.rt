@@ -29,7 +29,8 @@ pub fn to_text(alloc: Global, width: IntegerWidth, content: Content<'_>) -> Resu
     }
 }
 
-fn integer_text(alloc: Global, width: IntegerWidth, n: u64) -> Result<Octets, Refusal>
+/// The digits of an integer.
+pub(crate) fn integer_text(alloc: Global, width: IntegerWidth, n: u64) -> Result<Octets, Refusal>
     ensures { Answers result (Ok (encode_upper (big_bytes (bytes_of width) (truncated width n)))) }
 {
     let kept = truncate_integer(width, n);
@@ -66,7 +67,7 @@ fn spaced_from(alloc: Global, first: u8, others: &[u8]) -> Result<Vec<u8>, Alloc
 }
 
 /// Two digits more.
-fn push_digits(alloc: Global, text: &mut Vec<u8>, byte: u8) -> Result<(), AllocError>
+pub(crate) fn push_digits(alloc: Global, text: &mut Vec<u8>, byte: u8) -> Result<(), AllocError>
     ensures { OnOk result (text.new.items ≡ text.old.items ++ two_digits byte) }
 {
     let digits = hex::encode_upper(alloc, [byte])?;

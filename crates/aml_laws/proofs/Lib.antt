@@ -69,6 +69,7 @@ pub mod OperandsAndCallsPreserve
 pub mod OperandsTogether
 pub mod OutsideOfMethods
 pub mod Preorders
+pub mod ProfileKept
 pub mod ReadTermsHoldBytes
 pub mod ReadingStepsGiveBytes
 pub mod ReferencesToNames

@@ -19,7 +19,7 @@ use Rattle.aml_laws.proofs.Together.{SideBySide, Shape, Together, Goes, spaces, 
 
 -- a world over another space
 abbrev pub world_over : {S T : Type 0} → State S → T → State T
-world_over w t = record { names = w.names; arities = w.arities; objects = w.objects; frames = w.frames; started = w.started; space = t; osi = w.osi; width = w.width }
+world_over w t = record { names = w.names; arities = w.arities; objects = w.objects; frames = w.frames; started = w.started; space = t; osi = w.osi; width = w.width; profile = w.profile }
 
 abbrev pub worlds : {S T : Type 0} → Shape S T (State S) (State T)
 worlds = record { left = λ w. w.space; right = λ w. w.space; over = world_over }

@@ -2,7 +2,7 @@
 ghost use Rattle.std.specs.Prelude.{◌≡◌, option_map};
 ghost use Rattle.ar_space.specs.Change.{Does};
 ghost use Rattle.ar_space.specs.Outcome.{Answers, NotMemory, seen};
-ghost use Rattle.aml_convert.specs.Joined.{joined_content};
+ghost use Rattle.aml_convert.specs.Formed.{formed_content};
 ghost use Rattle.aml_objects.specs.Contents as held;
 ghost use Rattle.aml_meaning.specs.State.{on_objects};
 ghost use Rattle.aml_meaning.specs.Operations.{operated, integers_operated, divided_in, operated_on_one, integer_operated, operated_logically, integers_tested, turned, integer_turned, next_integer, integer_before, compared_in, truth_of, joined_contents, joined, made_of, joined_items, joined_resources, to_integer_in, buffer_bytes, new_buffer_of, to_buffer_in, size_in, size_of_referent, size_of_value, size_of_object, as_integer, below, size_held, element_indexed, byte_indexed, indexed};
@@ -12,7 +12,7 @@ use crate::object_type::Referent;
 use crate::term_kind::{Count, OneOperand, Test, TwoOperands};
 use crate::world_state::WorldState;
 use aml_convert::{
-    BinaryOperator, Comparison, Division, Joined, LogicalOperator, UnaryOperator, compare, concat,
+    BinaryOperator, Comparison, Division, Formed, LogicalOperator, UnaryOperator, compare, concat,
     concat_resources, divide, explicit_integer, holds, logical_not, operate, operate_logically,
     operate_on_one, to_buffer, truncate, truth,
 };
@@ -284,12 +284,12 @@ impl<S> WorldState<S> {
         ensures { Does result self.new (joined first second) self.old }
     {
         let contents = self.joined_contents(alloc, first, second)?;
-        self.make_joined(contents)
+        self.make_formed(contents)
     }
 
     #[tactic(auto, unfolding(crate::specs::Operations::joined_contents))]
-    fn joined_contents(&self, alloc: Global, first: Value, second: Value) -> Result<Joined, Refusal>
-        ensures { Does (seen joined_content result) self.now (joined_contents first second) self.now }
+    fn joined_contents(&self, alloc: Global, first: Value, second: Value) -> Result<Formed, Refusal>
+        ensures { Does (seen formed_content result) self.now (joined_contents first second) self.now }
     {
         concat(
             alloc,
@@ -299,12 +299,12 @@ impl<S> WorldState<S> {
         )
     }
 
-    fn make_joined(&mut self, contents: Joined) -> Result<Value, Refusal>
-        ensures { Does result self.new (on_objects (made_of (joined_content contents))) self.old }
+    fn make_formed(&mut self, contents: Formed) -> Result<Value, Refusal>
+        ensures { Does result self.new (on_objects (made_of (formed_content contents))) self.old }
     {
         match contents {
-            Joined::String(bytes) => self.make_string(bytes),
-            Joined::Buffer(bytes) => self.make_buffer(bytes),
+            Formed::String(bytes) => self.make_string(bytes),
+            Formed::Buffer(bytes) => self.make_buffer(bytes),
         }
     }
 

@@ -1,9 +1,10 @@
 //! A world, as callers have it (ACPI 6.5, 5.3 and 5.5).
 ghost use Rattle.std.specs.Prelude.{◌≡◌, ◌≢◌, Ok, Err, IfOk, IfErr};
 ghost use Rattle.ar_space.specs.declared.refusal.Refusal.TheVariants.{OutOfMemory};
-ghost use Rattle.aml_meaning.specs.Predefined.{fresh, predefined};
+ghost use Rattle.aml_meaning.specs.Predefined.{fresh, fresh_as, predefined};
 ghost use Rattle.aml_meaning.specs.Validity.{is_valid_value};
 
+use crate::profile::Profile;
 use crate::running::Running;
 use crate::world_state::WorldState;
 use aml_namespace::Names;
@@ -33,8 +34,8 @@ impl<S> Model for World<S> {
 }
 
 impl<S> World<S> {
-    /// A world with the predefined names, over a register space, with the texts that `_OSI` knows and integers of a width.
-    /// Where it is refused, which only want of memory does, the register space comes back as it was.
+    /// A world of the core profile with the predefined names, over a register space, with the texts that `_OSI` knows and
+    /// integers of a width. Where it is refused, which only want of memory does, the register space comes back as it was.
     pub fn new(
         alloc: Global,
         width: IntegerWidth,
@@ -45,7 +46,22 @@ impl<S> World<S> {
         ensures space { IfErr result (λ refused. refused.1 ≡ space) }
         ensures refusal { IfErr result (λ refused. refused.0 ≢ OutOfMemory → (predefined (fresh width osi.items space)).0 ≡ Err refused.0) }
     {
-        match WorldState::new(alloc, width, osi, space) {
+        World::with_profile(alloc, Profile::Core, width, osi, space)
+    }
+
+    /// A world as `new` makes it, of a profile, which it keeps.
+    pub fn with_profile(
+        alloc: Global,
+        profile: Profile,
+        width: IntegerWidth,
+        osi: Vec<Octets>,
+        space: S,
+    ) -> Result<World<S>, (Refusal, S)>
+        ensures world { IfOk result (λ world. predefined (fresh_as profile width osi.items space) ≡ (Ok tt, world)) }
+        ensures space { IfErr result (λ refused. refused.1 ≡ space) }
+        ensures refusal { IfErr result (λ refused. refused.0 ≢ OutOfMemory → (predefined (fresh_as profile width osi.items space)).0 ≡ Err refused.0) }
+    {
+        match WorldState::new(alloc, profile, width, osi, space) {
             Ok(world) => Ok(World {
                 running: Running { world, steps: 0 },
             }),
@@ -79,6 +95,13 @@ impl<S> World<S> {
         ensures { result ≡ self.now.width }
     {
         self.running.world.width()
+    }
+
+    /// The profile, which nothing changes.
+    pub fn profile(&self) -> Profile
+        ensures { result ≡ self.now.profile }
+    {
+        self.running.world.profile()
     }
 
     /// The register space.

@@ -1,10 +1,11 @@
 //! The state of a world, which evaluation changes.
 ghost use Rattle.std.specs.Prelude.{◌≡◌, ◌≢◌, Ok, Err, IfOk, IfErr};
 ghost use Rattle.ar_space.specs.declared.refusal.Refusal.TheVariants.{OutOfMemory};
-ghost use Rattle.aml_meaning.specs.Predefined.{fresh, predefined};
+ghost use Rattle.aml_meaning.specs.Predefined.{fresh_as, predefined};
 
 use crate::frame::Frame;
 use crate::known_names::Declarations;
+use crate::profile::Profile;
 use aml_namespace::Names;
 use aml_objects::{Heap, Octets};
 use ar_space::{IntegerWidth, Refusal};
@@ -12,7 +13,7 @@ use std::alloc::Global;
 use std::marker::Model;
 
 /// The state of a world: what evaluation changes, the register space among it: the namespace, how many arguments its names take, the objects, the
-/// frames of the calls in progress with the number of the next one, the texts that `_OSI` knows, and how wide integers are.
+/// frames of the calls in progress with the number of the next one, the texts that `_OSI` knows, how wide integers are, and the profile.
 #[derive(Drop)]
 pub struct WorldState<S> {
     pub(crate) declarations: Declarations,
@@ -22,6 +23,7 @@ pub struct WorldState<S> {
     pub(crate) space: S,
     pub(crate) osi: Vec<Octets>,
     pub(crate) width: IntegerWidth,
+    pub(crate) profile: Profile,
 }
 
 impl<S> Model for WorldState<S> {
@@ -31,7 +33,7 @@ impl<S> Model for WorldState<S> {
 
     ghost coded = { state_code S.code };
 
-    ghost view = { λ w. record { names = w.declarations.names; arities = w.declarations.arities; objects = w.heap; frames = w.frames.items; started = w.started; space = w.space; osi = w.osi.items; width = w.width } };
+    ghost view = { λ w. record { names = w.declarations.names; arities = w.declarations.arities; objects = w.heap; frames = w.frames.items; started = w.started; space = w.space; osi = w.osi.items; width = w.width; profile = w.profile } };
 }
 
 impl<S> WorldState<S> {
@@ -39,13 +41,14 @@ impl<S> WorldState<S> {
     /// back as it was.
     pub(crate) fn new(
         alloc: Global,
+        profile: Profile,
         width: IntegerWidth,
         osi: Vec<Octets>,
         space: S,
     ) -> Result<WorldState<S>, (Refusal, S)>
-        ensures world { IfOk result (λ world. predefined (fresh width osi.items space) ≡ (Ok tt, world)) }
+        ensures world { IfOk result (λ world. predefined (fresh_as profile width osi.items space) ≡ (Ok tt, world)) }
         ensures space { IfErr result (λ refused. refused.1 ≡ space) }
-        ensures refusal { IfErr result (λ refused. refused.0 ≢ OutOfMemory → (predefined (fresh width osi.items space)).0 ≡ Err refused.0) }
+        ensures refusal { IfErr result (λ refused. refused.0 ≢ OutOfMemory → (predefined (fresh_as profile width osi.items space)).0 ≡ Err refused.0) }
     {
         let declarations = match Declarations::new(alloc) {
             Ok(declarations) => declarations,
@@ -59,6 +62,7 @@ impl<S> WorldState<S> {
             space,
             osi,
             width,
+            profile,
         };
         match world.predefine(alloc) {
             Ok(()) => Ok(world),
@@ -93,6 +97,13 @@ impl<S> WorldState<S> {
         ensures { result ≡ self.now.width }
     {
         self.width
+    }
+
+    /// The profile, which nothing changes.
+    pub fn profile(&self) -> Profile
+        ensures { result ≡ self.now.profile }
+    {
+        self.profile
     }
 
     /// The register space.

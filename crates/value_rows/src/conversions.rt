@@ -3,7 +3,7 @@
 use crate::answers::say_integer;
 use crate::operands::{integer_width, value_of};
 use aml_convert::{
-    Comparison, Joined, compare, concat, concat_resources, explicit_integer, holds, to_buffer,
+    Comparison, Formed, compare, concat, concat_resources, explicit_integer, holds, to_buffer,
     to_integer, to_text, truncate, truncate_integer,
 };
 use aml_objects::Octets;
@@ -26,6 +26,29 @@ fn say_octets(asked: &mut Exchange, outcome: Result<Octets, Refusal>) {
     }
 }
 
+/// Answers a string, or the refusal.
+pub fn say_text(asked: &mut Exchange, outcome: Result<Octets, Refusal>) {
+    match outcome {
+        Ok(text) => asked.say_quoted(text.as_slice()),
+        Err(refusal) => asked.refuse(refusal.number()),
+    }
+}
+
+/// Answers a string or a buffer behind its type, or the refusal.
+pub fn say_formed(asked: &mut Exchange, outcome: Result<Formed, Refusal>) {
+    match outcome {
+        Ok(Formed::String(bytes)) => {
+            asked.say("string");
+            asked.say_quoted(bytes.as_slice());
+        }
+        Ok(Formed::Buffer(bytes)) => {
+            asked.say("buffer");
+            asked.say_bytes(bytes.as_slice());
+        }
+        Err(refusal) => asked.refuse(refusal.number()),
+    }
+}
+
 /// `implicit-integer WIDTH VALUE`: the value where an integer is wanted.
 pub fn implicit_integer(asked: &mut Exchange) {
     let width = integer_width(asked);
@@ -44,10 +67,8 @@ pub fn explicitly_integer(asked: &mut Exchange) {
 pub fn implicit_string(asked: &mut Exchange) {
     let width = integer_width(asked);
     let value = value_of(asked);
-    match to_text(asked.alloc(), width, value.content()) {
-        Ok(text) => asked.say_quoted(text.as_slice()),
-        Err(refusal) => asked.refuse(refusal.number()),
-    }
+    let text = to_text(asked.alloc(), width, value.content());
+    say_text(asked, text);
 }
 
 /// `implicit-buffer WIDTH VALUE`: the value where a buffer is wanted.
@@ -83,17 +104,8 @@ pub fn joined(asked: &mut Exchange) {
     let width = integer_width(asked);
     let first = value_of(asked);
     let second = value_of(asked);
-    match concat(asked.alloc(), width, first.content(), second.content()) {
-        Ok(Joined::String(bytes)) => {
-            asked.say("string");
-            asked.say_quoted(bytes.as_slice());
-        }
-        Ok(Joined::Buffer(bytes)) => {
-            asked.say("buffer");
-            asked.say_bytes(bytes.as_slice());
-        }
-        Err(refusal) => asked.refuse(refusal.number()),
-    }
+    let formed = concat(asked.alloc(), width, first.content(), second.content());
+    say_formed(asked, formed);
 }
 
 /// `ConcatenateResTemplate VALUE and VALUE`: the resource items of both.

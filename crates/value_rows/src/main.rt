@@ -12,6 +12,7 @@ mod operators;
 mod places;
 mod questions;
 mod row;
+mod strings;
 
 use crate::row::Row;
 use std::io;

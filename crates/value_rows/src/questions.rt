@@ -1,7 +1,7 @@
 //! Which function answers which question.
 
 use crate::row::Row;
-use crate::{bits, conversions, every_field, fields, operators};
+use crate::{bits, conversions, every_field, fields, strings};
 use aml_convert::Comparison;
 use test_rows::Exchange;
 
@@ -14,7 +14,7 @@ fn of_pairs(asked: &mut Exchange, word: &str) {
         "LLess" => conversions::holds_of(asked, Comparison::Less),
         "Concatenate" => conversions::joined(asked),
         "ConcatenateResTemplate" => conversions::resources_joined(asked),
-        _ => operators::answer(asked, word),
+        _ => strings::answer(asked, word),
     }
 }
 

@@ -1,0 +1,8 @@
+-- the bytes so far, with commas between them
+use Rattle.std.proofs.Common.{◌≡◌, ◌∷◌, ◌++◌, take}
+use Rattle.std.specs.List.{flat_map}
+use Rattle.aml_convert.specs.Strings.{prefixed}
+use Rattle.aml_convert.proofs.strings.hexadecimals_from.Given as goal
+
+abbrev pub invariant-loop-byte : goal.invariant-loop-byte
+invariant-loop-byte l = l.text.items ≡ prefixed l.first ++ flat_map (λ b. 44 ∷ prefixed b) (take l.byte-index l.others)

@@ -1,0 +1,34 @@
+-- No change that a term makes of a world touches its profile.
+use Rattle.std.specs.Prelude.{◌≡◌, ℕ, List, refl}
+use Rattle.std.proofs.Common.{◌∙◌}
+use Rattle.ar_space.specs.Accesses.{Accesses}
+use Rattle.ar_space.specs.declared.integer_width.IntegerWidth.{IntegerWidth}
+use Rattle.aml_meaning.specs.declared.profile.Profile.{Profile}
+use Rattle.aml_meaning.specs.State.{State}
+use Rattle.aml_meaning.specs.Predefined.{fresh_as, predefined}
+use Rattle.aml_laws.specs.Becomes.{Becomes}
+use Rattle.aml_laws.proofs.WorldRelations.{WorldRelation}
+use Rattle.aml_laws.proofs.EvaluationsPreserve.{becomes_preserves, predefined_preserves}
+
+abbrev profile_relation : {S : Type 0} (accesses : Accesses S) → WorldRelation accesses
+profile_relation accesses = record {
+  Leads = λ w v. v.profile ≡ w.profile;
+  reflexive = λ w. refl;
+  transitive = λ u v w h i. i ∙ h;
+  objects_change = λ w h k. refl;
+  name_declared = λ w q o free. refl;
+  object_replaced = λ w q o e at is. refl;
+  slots_written = λ w frames is. refl;
+  frame_closed = λ w v vs h. h;
+  names_removed = λ u w q at h. h;
+  space_accessed = λ w s r. refl;
+  arities_set = λ w list. refl;
+  mutexes_released = λ w. refl;
+}
+
+pub profile_is_kept : {S : Type 0} (accesses : Accesses S) (w v : State S) → Becomes accesses w v → v.profile ≡ w.profile
+profile_is_kept accesses w v h = becomes_preserves (profile_relation accesses) w v h
+
+pub profile_is_given : {S : Type 0} (accesses : Accesses S) (profile : Profile) (width : IntegerWidth) (osi : List (List ℕ)) (space : S) (v : State S) → Becomes accesses (predefined (fresh_as profile width osi space)).1 v → v.profile ≡ profile
+profile_is_given accesses profile width osi space v h =
+    profile_is_kept accesses _ v h ∙ (predefined_preserves {relation = profile_relation accesses}).preserves (fresh_as profile width osi space)
