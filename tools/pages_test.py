@@ -54,7 +54,7 @@ CASES = {
         ("crates/aml_frames/src/operators.rt", "OperatorKind::Divide =>", "OperatorKind::Divided =>", "no function evaluates Divide"),
         ("crates/aml_frames/src/statements.rt", "If => begin_if(", "If => begin_while(", "docs/OPCODES.md is stale"),
         ("crates/aml_frames/src/resuming.rt", "Frame::Return =>", "Frame::Back =>", "evaluates Return: no step has an arm"),
-        ("crates/aml_frames/src/resuming.rt", "next_branch(run", "begin_branch(run", "docs/OPCODES.md is stale"),
+        ("crates/aml_frames/src/statements.rt", "choose_branch(run", "begin_branch(run", "docs/OPCODES.md is stale"),
         ("crates/aml_frames/src/accesses.rt", "fn begin_write<", "fn begin_put<", "A store to a field: accesses.rt has no begin_write"),
         ("crates/aml_meaning/specs/FieldCalls.antt", "stored_to :", "stored :", "specs/FieldCalls.antt has no stored_to"),
         ("docs/OPCODES.md", "| 72 | Add |", "| 72 | Sum |", "docs/OPCODES.md is stale"),

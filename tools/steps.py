@@ -129,3 +129,7 @@ def steps_of(sources, enums, enum, variant):
     trail = Trail(sources, enums)
     trail.follow_arm(enum, variant, {})
     return trail.steps
+
+
+if __name__ == "__main__":
+    print(__doc__)
