@@ -1,5 +1,5 @@
 -- Steps of the machine: each keeps what the machine means.
-use Rattle.std.specs.Prelude.{◌≡◌, ℕ, ◌+◌, ◌<◌, List, [], ◌∷◌, ◌++◌, length, Ok, Err, IsErr, IsErrAnd, refl}
+use Rattle.std.specs.Prelude.{◌≡◌, ℕ, ◌+◌, ◌-◌, ◌<◌, Bool, true, false, List, [], ◌∷◌, ◌++◌, length, Ok, Err, IsErr, IsErrAnd, refl}
 use Rattle.std.proofs.Common.{◌∙◌, ap, sym, arith}
 use Rattle.ar_space.specs.Accesses.{Accesses}
 use Rattle.ar_space.specs.declared.refusal.Refusal.{Refusal}
@@ -17,7 +17,7 @@ use Rattle.aml_meaning.specs.declared.flow.Flow.{Flow}
 use Rattle.aml_meaning.specs.declared.flow.Flow.TheVariants as flow
 use Rattle.aml_meaning.specs.State.{State}
 use Rattle.aml_meaning.specs.Run.{Run}
-use Rattle.aml_meaning.specs.Tasks.{Task}
+use Rattle.aml_meaning.specs.Tasks.{Task, goes_on}
 use Rattle.aml_meaning.specs.Invocations.{left, returned_by, leaving}
 use Rattle.aml_frames.specs.declared.frames.Control.{Control}
 use Rattle.aml_frames.specs.declared.frames.Control.TheVariants as control
@@ -40,6 +40,8 @@ use Rattle.aml_frames.specs.declared.uses.TargetUse.TheVariants as uses
 use Rattle.aml_meaning.specs.declared.store_target.StoreTarget.{StoreTarget}
 use Rattle.aml_meaning.specs.declared.term_kind.Count.{Count}
 use Rattle.aml_frames.specs.Uses.{optional, target_ends, target_run, access_run}
+use Rattle.aml_meaning.specs.Meaning.{meaning}
+use Rattle.aml_frames.proofs.Stepping.{leads_goes_on, leads_goes_off, leads_item, leads_no_item, leads_end}
 use Rattle.aml_frames.proofs.Weighing.{falling}
 use Rattle.aml_frames.specs.Places.{Site, behind_term}
 use Rattle.aml_frames.specs.Data.{package_run}
@@ -157,6 +159,28 @@ module _ {S : Type 0} {ac : Accesses S} {ev : Task → Run S Flow} where
   pub goes_leave : {s s1 : State S × ℕ} (a b : Site) (p : List Seg) (xs : List Entry) (f g : Flow) → s1 ≡ (left p s.0, s.1) → g ≡ returned_by f → Goes ac ev (Ok (control.Flow g)) b xs s1 (machine ac ev (control.Flow f) a (xs ++ entry.Leave b p ∷ [])) s
   unfolding then_all give leaving
   goes_leave {s = s} a b p xs f g h i = rw (h, i) (record { is = λ _. at_leave ac ev (give f) b a p xs s })
+
+module _ {S : Type 0} {ac : Accesses S} where
+  -- ---- an item of a list is done
+
+  -- the list ends with this flow
+  pub item_last : {s : State S × ℕ} (c d : Site) (xs : List Entry) (i : Items) (f : Flow) (on : Bool) → on ≡ goes_on f → on ≡ false → d ≡ at_position c i.outer → Goes ac (meaning ac) (Ok (control.Flow f)) d xs s (machine ac (meaning ac) (control.Flow f) c (xs ++ entry.Frame (frames.Items i) ∷ [])) s
+  item_last c d xs i f on e h j = goes_frame c xs (frames.Items i) f (goes_leads (next.Flow f) d (at_position c i.outer) xs _ (leads_goes_off c d i f on e h) j (goes_flow f))
+
+  -- no item is left
+  pub item_none : {s : State S × ℕ} (c d : Site) (xs : List Entry) (i : Items) (f : Flow) (on : Bool) → on ≡ goes_on f → on ≡ true → i.left ≡ 0 → d ≡ at_position c i.outer → Goes ac (meaning ac) (Ok (control.Flow flow.Next)) d xs s (machine ac (meaning ac) (control.Flow f) c (xs ++ entry.Frame (frames.Items i) ∷ [])) s
+  item_none c d xs i f on e h none j = goes_frame c xs (frames.Items i) f (goes_leads (next.Items i) c (at_position c i.outer) xs _ (leads_goes_on c c i f on e h refl) refl (goes_leads (next.Flow flow.Next) d (at_position c i.outer) xs _ (leads_no_item c d i none) j (goes_flow flow.Next)))
+
+  pub item_over : {s : State S × ℕ} (c d : Site) (xs : List Entry) (i : Items) (f : Flow) (on : Bool) → on ≡ goes_on f → on ≡ true → length c.place.rest ≡ 0 → d ≡ at_position c i.outer → Goes ac (meaning ac) (Ok (control.Flow flow.Next)) d xs s (machine ac (meaning ac) (control.Flow f) c (xs ++ entry.Frame (frames.Items i) ∷ [])) s
+  item_over c d xs i f on e h over j = goes_frame c xs (frames.Items i) f (goes_leads (next.Items i) c (at_position c i.outer) xs _ (leads_goes_on c c i f on e h refl) refl (goes_leads (next.Flow flow.Next) d (at_position c i.outer) xs _ (leads_end c d i over) j (goes_flow flow.Next)))
+
+  -- the next item
+  pub item_next : {s : State S × ℕ} (c : Site) (xs ys : List Entry) (i : Items) (n : ℕ) (f : Flow) (on : Bool) → on ≡ goes_on f → on ≡ true → 0 < i.left → 0 < length c.place.rest → n ≡ i.left - 1 → ys ≡ xs ++ entry.Frame (frames.Items (record { left = n; levels = i.levels; outer = i.outer })) ∷ [] → Goes ac (meaning ac) (Ok (control.Term i.levels)) c ys s (machine ac (meaning ac) (control.Flow f) c (xs ++ entry.Frame (frames.Items i) ∷ [])) s
+  item_next c xs ys i n f on e h some left one j =
+      let x = frames.Items (record { left = n; levels = i.levels; outer = i.outer }) in
+      goes_frame c xs (frames.Items i) f (goes_leads (next.Items i) c (at_position c i.outer) xs _ (leads_goes_on c c i f on e h refl) refl (goes_leads (next.Term i.levels x) c (at_position c i.outer) xs _ (leads_item c i n some left one) refl (goes_term xs ys i.levels x j)))
+
+pub ruleset listing_on = (weight_on, item_last, item_none, item_over, item_next, goes_memory)
 
 -- ---- the loop
 

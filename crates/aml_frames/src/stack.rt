@@ -427,6 +427,7 @@ fn step_entry<S: Space>(
         (machine S.accesses (meaning S.accesses) (control.Flow flow) stack.old.act (stack.old.entries.items ++ top ∷ [])) run.old }
 {
     match top {
+        Entry::Frame(Frame::Items(items)) => next_item(run, stack, items, flow),
         Entry::Frame(frame) => {
             let next = resume(alloc, run, &mut stack.act, frame, flow)?;
             follow(run, stack, next)
@@ -437,6 +438,40 @@ fn step_entry<S: Space>(
             Ok(Control::Flow(flow.of_call()))
         }
     }
+}
+
+/// A flow meets the list that it is an item of: the next item begins at once, or the list ends.
+#[inline(always)]
+#[tactic(auto, using(crate::proofs::Machine::listing_on))]
+fn next_item<S: Space>(
+    run: &Running<S>,
+    stack: &mut Stack,
+    items: Items,
+    flow: Flow,
+) -> Result<Control, Refusal>
+    ensures falls { IfOk result (λ c. stack_weight stack.new.entries.items + control_weight c < stack_weight stack.old.entries.items + 6) }
+    ensures means { Goes S.accesses (meaning S.accesses) result stack.new.act stack.new.entries.items run.now
+        (machine S.accesses (meaning S.accesses) (control.Flow flow) stack.old.act (stack.old.entries.items ++ entry.Frame (frames.Items items) ∷ [])) run.now }
+{
+    if !flow.goes_on() {
+        stack.act.go_to(items.outer);
+        return go_to_flow(flow);
+    }
+    if items.left == 0 {
+        stack.act.go_to(items.outer);
+        return go_to_flow(Flow::Next);
+    }
+    let rest = stack.act.rest().len();
+    if rest == 0 {
+        stack.act.go_to(items.outer);
+        return go_to_flow(Flow::Next);
+    }
+    let next = Items {
+        left: items.left - 1,
+        ..items
+    };
+    stack.entries.push(Entry::Frame(Frame::Items(next)))?;
+    Ok(Control::Term(items.levels))
 }
 
 /// A flow is handed to what waits.
