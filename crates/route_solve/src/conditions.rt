@@ -1,4 +1,4 @@
-//! Whether a problem is one that can be solved.
+//! Whether a problem fits: whether it is one that can be solved.
 ghost use Rattle.std.specs.Prelude.{◌↔◌, ◌≤◌, ◌<◌, ℕ, IsTrue, [], length, map, slice_index_or, sum_by};
 ghost use Rattle.std.specs.List.Sorted.{IsStrictlyIncreasing, IsStrictlySortedBy};
 ghost use Rattle.aml_path.specs.Paths.{path_cmp};

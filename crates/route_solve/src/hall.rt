@@ -22,7 +22,7 @@ pub(crate) struct HallSearch {
     pub queue: Vec<usize>,
     /// How many links it has reached.
     pub tail: usize,
-    /// The interrupts that it has seen: all links that have one are reached.
+    /// The interrupts that it has seen: all links that hold one are reached.
     pub seen: Vec<bool>,
 }
 
@@ -73,7 +73,7 @@ impl HallSearch {
         self.tail = 1;
     }
 
-    /// Whether a link has an interrupt and was not reached.
+    /// Whether link `j` holds interrupt `i` and was not reached.
     fn is_to_reach(&self, matching: &Matching, j: usize, i: usize) -> bool
         requires choices { j < length matching.now.choice.items }
         requires marks { length self.now.reached.items ≡ length matching.now.choice.items }
@@ -89,7 +89,7 @@ impl HallSearch {
         false
     }
 
-    /// Reaches the links that have an interrupt, which a reached link offers.
+    /// Reaches all links that hold interrupt `i`, which a reached link offers.
     fn reach(&mut self, graph: &Graph<'_>, matching: &Matching, i: usize)
         requires matching { IsMatching graph.now matching.now }
         requires search { SearchesHall graph.now matching.now self.old }

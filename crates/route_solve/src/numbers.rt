@@ -92,8 +92,8 @@ fn add_offers(
     Ok(())
 }
 
-/// Adds what a link offers to numbers of which the first so many ascend, and gives how many do then: all, if they are many and
-/// more than twice as many.
+/// Adds what a link offers to numbers of which the first so many ascend, and gives how many do then: all, if they are at least 512
+/// and at least twice as many.
 fn gather(
     numbers: &mut Vec<u32>,
     hints: &mut [usize],
