@@ -2,6 +2,7 @@
 ghost use Rattle.std.specs.Prelude.{◌≡◌, ◌≤◌, ◌<◌, ◌+◌, Ok, IfOk};
 ghost use Rattle.ar_space.specs.Change.{Does};
 ghost use Rattle.aml_marked.specs.Marked.{a_name};
+ghost use Rattle.ar_space.specs.Outcome.{NotMemory};
 ghost use Rattle.aml_meaning.specs.Meaning.{meaning};
 ghost use Rattle.aml_meaning.specs.Tasks.{module_level};
 ghost use Rattle.aml_meaning.specs.DeclarationTerms.{declaring, alias_rule, method_rule};
@@ -350,6 +351,7 @@ pub(crate) fn resume_scope<S: Space>(
     flow: Flow,
 ) -> Result<Next, Refusal>
     ensures falls { IfOk result (λ n. next_weight n < 6) }
+    ensures memory { NotMemory result }
     ensures means { Leads S.accesses (meaning S.accesses) result act.new run.now
         (resumed S.accesses (meaning S.accesses) (frames.Scope scope node) act.old flow) run.now }
     ensures ends { EndsAt result act.new (ends (frames.Scope scope node) act.old) }

@@ -21,7 +21,7 @@ use aml_objects::Value;
 use ar_space::{Refusal, Space};
 
 /// The integer that the term gives which stands next, where it is there already: that of a local, an argument, a constant, a name, or of a
-/// field unit whose bits are read at once. It takes a step, as the term does; in every other case nothing changes.
+/// field unit whose bits are read at once. It takes the steps that the term takes; in every other case nothing changes.
 #[inline(always)]
 pub(crate) fn known_integer<S: Space>(
     run: &mut Running<S>,

@@ -1,5 +1,6 @@
 //! Operators: terms that evaluate operands, form a value and store it to targets (ACPI 6.5, 19.6 and 20.2.5.4). The operands stand next.
-ghost use Rattle.std.specs.Prelude.{◌≡◌, ◌≤◌, ◌<◌, ◌+◌, ◌*◌, IfOk};
+ghost use Rattle.std.specs.Prelude.{◌≡◌, ◌≤◌, ◌<◌, ◌+◌, ◌*◌, IfOk, IfErr};
+ghost use Rattle.ar_space.specs.declared.refusal.Refusal.TheVariants.{OutOfMemory};
 ghost use Rattle.ar_space.specs.Outcome.{NotMemory};
 ghost use Rattle.aml_meaning.specs.Meaning.{meaning};
 ghost use Rattle.aml_frames.specs.declared.frames.Frame.TheVariants as frames;
@@ -94,6 +95,7 @@ fn begin_monadic<S: Space>(
 ) -> Result<Next, Refusal>
     ensures spent { run.new.1 ≤ run.old.1 }
     ensures falls { IfOk result (λ n. next_weight n < most + 15) }
+    ensures memory { IfErr result (λ e. e ≡ OutOfMemory → run.new.1 < run.old.1) }
     ensures means { Leads S.accesses (meaning S.accesses) result act.new run.new
         (next_run S.accesses (meaning S.accesses) (next.Term levels (frames.Operand kind levels)) act.old) run.old }
     ensures ends { EndsAt result act.new (next_ends (next.Term levels (frames.Operand kind levels)) act.old) }
@@ -116,6 +118,7 @@ fn begin_dyadic<S: Space>(
 ) -> Result<Next, Refusal>
     ensures spent { run.new.1 ≤ run.old.1 }
     ensures falls { IfOk result (λ n. next_weight n < 2 * most + 25) }
+    ensures memory { IfErr result (λ e. e ≡ OutOfMemory → run.new.1 < run.old.1) }
     ensures means { Leads S.accesses (meaning S.accesses) result act.new run.new
         (next_run S.accesses (meaning S.accesses) (next.Term levels (frames.First kind levels)) act.old) run.old }
     ensures ends { EndsAt result act.new (next_ends (next.Term levels (frames.First kind levels)) act.old) }
@@ -146,6 +149,7 @@ fn begin_second<S: Space>(
 ) -> Result<Next, Refusal>
     ensures spent { run.new.1 ≤ run.old.1 }
     ensures falls { IfOk result (λ n. next_weight n < 2 * most + 25) }
+    ensures memory { IfErr result (λ e. e ≡ OutOfMemory → run.new.1 < run.old.1) }
     ensures means { Leads S.accesses (meaning S.accesses) result act.new run.new
         (next_run S.accesses (meaning S.accesses) (next.Term operator.levels (frames.Second operator)) act.old) run.old }
     ensures ends { EndsAt result act.new (next_ends (next.Term operator.levels (frames.Second operator)) act.old) }

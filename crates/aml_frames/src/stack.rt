@@ -48,7 +48,7 @@ pub(crate) struct Stack {
 }
 
 /// Evaluates the body of a control method whose slots stand already, in one loop; `body` stands at its first byte. However the body ends,
-/// its call ends: its frame of slots, and the names below it.
+/// its call ends, unless memory runs out: its frame of slots, and the names below it.
 #[tactic(auto, using(crate::proofs::Machine::beginning))]
 pub fn evaluate<S: Space>(
     alloc: Global,
