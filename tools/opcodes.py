@@ -30,6 +30,7 @@ KIND_FUNCTIONS = {
     "one_operand": ("One", "OperatorKind"),
     "test_kind": ("Test", "OperatorKind"),
     "other_operator": (None, "OperatorKind"),
+    "wide_kind": (None, "WideKind"),
 }
 # The rules of each enum of kinds: the function that chooses among them, and its file.
 RULES = {
@@ -38,11 +39,17 @@ RULES = {
     "RegionKind": ("region_term_rule", "FieldTerms"),
     "StatementKind": ("statement_rule", "StatementTerms"),
     "OperatorKind": ("operator_rule", "OperatorTerms"),
+    "WideKind": ("wide_rule", "WideTerms"),
 }
 # The functions that give an operator's value of those of its operands.
 VALUES = {
     "integer_operator": "result_of_two", "two_operands": "result_of_two", "one_operand": "result_of_one", "test_kind": "result_of_test",
 }
+# The same of the wide profile, by the kind of the term: the definition, or the function that chooses it.
+WIDE_VALUES = {"ToString": "string_in", "Mid": "middle_in"}
+WIDE_CHOOSERS = {"Convert": "converted"}
+# The files of crates/aml_meaning/src that have the code of these values.
+OPERATIONS = ("operations", "wide_operations")
 # What waits for the value of a part of a term, or for its target: an arm of each goes on with it.
 WAITING = ("Monadic", "Dyadic", "TargetUse", "DeclarationPart")
 # What is evaluated without an opcode of its own: its definitions and its functions, each behind its file. Those without a crate are of
@@ -80,11 +87,13 @@ One row for each opcode of AML.
   stand. `in a package` means that a package length comes first. **Count** is how many there are, and **Targets** how many of them are
   of the kind `Target`.
 - **Kind** is the rule that evaluates the term (`crates/aml_meaning/specs/Terms.antt`; as code `crates/aml_meaning/src/kinds.rt`).
-  *left out* means that the term is read, and refused by number 73 with its opcode where it is evaluated.
+  *left out* means that the term is read, and refused by number 73 with its opcode where it is evaluated. A kind `wide` is that of a term
+  which the wide profile alone evaluates.
 - **Definition** is a function in `crates/aml_meaning/specs`. **Code** has functions of `crates/aml_frames/src`, or of the crate that is
   named, each behind its file: the one that begins the term, those that this one calls to go on, and those that go on once a part is
   evaluated (`resume_..`). What all terms share isn't named: lists, targets, stores and accesses of fields (the second table). What an
-  operator makes *of values* is defined in `specs/Operations.antt`, and its code is in `crates/aml_meaning/src/operations.rt`. What gives
+  operator makes *of values* is defined in `specs/Operations.antt`, and its code is in `crates/aml_meaning/src/operations.rt`; of the wide
+  profile in `specs/WideOperations.antt` and `wide_operations.rt`. What gives
   or takes an integer that is there already is done at once (`known`).
 - **Field**, **IndexField** and the `Create` terms only declare fields. How a field of an operation region is read and written is in
   `specs/Fields.antt`, with its code in `crates/aml_frames/src/field_access.rt` and `index_access.rt`; for a buffer field in
@@ -175,29 +184,33 @@ def rule_of(function, kind):
     if not found:
         raise Wrong(f"{file}.antt has no rule for {' '.join(kind)}")
     words = found[1].split()
-    return file, " ".join(words[:2]) if words[0] in ("give", "new_scope") else words[0]
+    elsewhere = re.search(rf"^use Rattle\.aml_meaning\.specs\.(\w+Terms)\.\{{[^}}]*\b{words[0]}\b", text, re.MULTILINE)
+    return elsewhere[1] if elsewhere else file, " ".join(words[:2]) if words[0] in ("give", "new_scope") else words[0]
 
 
 def value_of(function, kind):
     """The function that gives an operator's value of those of its operands, or None where the rule says all."""
-    chooser, word = VALUES.get(function), "Integers" if function == "integer_operator" else kind[0]
+    chooser, word, file = VALUES.get(function), "Integers" if function == "integer_operator" else kind[0], "OperatorTerms"
     if kind[0] == "Count":
         chooser, word = "counted_by", kind[1]
+    if function == "wide_kind" and kind[0] in WIDE_CHOOSERS:
+        chooser, word, file = WIDE_CHOOSERS[kind[0]], kind[1], "WideOperations"
     if not chooser:
-        return None
-    found = re.search(rf"^{chooser} \(?\w+\.{word}\b.*= (\w+)", text_of("crates/aml_meaning/specs/OperatorTerms.antt"), re.MULTILINE)
+        return WIDE_VALUES.get(kind[0]) if function == "wide_kind" else None
+    found = re.search(rf"^{chooser} \(?\w+\.{word}\b.*= (\w+)", text_of(f"crates/aml_meaning/specs/{file}.antt"), re.MULTILINE)
     if not found:
         raise Wrong(f"{chooser} has no clause for {word}")
     return found[1]
 
 
 def code_of_value(value):
-    """The function of crates/aml_meaning/src/operations.rt whose contract has this definition of an operator's value."""
+    """The function of crates/aml_meaning/src whose contract has this definition of an operator's value."""
     form = r"^ *(?:pub(?:\(crate\))? )?fn (\w+)[^\n]*\n?(.*?)^ *\{$"
-    for name, contract in re.findall(form, text_of("crates/aml_meaning/src/operations.rt"), re.MULTILINE | re.DOTALL):
-        if re.search(rf"\b{value}\b", contract):
-            return name
-    raise Wrong(f"no function of crates/aml_meaning/src/operations.rt has {value} in its contract")
+    for file in OPERATIONS:
+        for name, contract in re.findall(form, text_of(f"crates/aml_meaning/src/{file}.rt"), re.MULTILINE | re.DOTALL):
+            if re.search(rf"\b{value}\b", contract):
+                return name
+    raise Wrong(f"no function of {' or '.join(OPERATIONS)} in crates/aml_meaning/src has {value} in its contract")
 
 
 def files_by_name(files, form):
@@ -244,7 +257,9 @@ def evaluation_test(name, lines):
 
 def kind_text(name, function, kind):
     words = {"integer_operator": f"Integers {kind[0]}"}.get(function, "Constant" if kind[0] == "Constant" else " ".join(kind))
-    partly = f"; {PARTLY[name]} is left out: refused 73" if name in PARTLY else ""
+    partly = f"; {PARTLY[name]} is left out in the core profile: refused 73" if name in PARTLY else ""
+    if function == "wide_kind":
+        partly = "; in the core profile left out: refused 73"
     return f"{KIND_FUNCTIONS[function][1].removesuffix('Kind').lower()}: {words}{partly}"
 
 

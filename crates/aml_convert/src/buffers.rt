@@ -12,8 +12,8 @@ use std::alloc::{AllocError, Global};
 
 /// A value as a buffer.
 ///
-/// An integer is its 4 or 8 bytes, the lowest first. A string is its bytes and a zero, and an empty one is an empty buffer.
-/// A buffer is itself. Every other value is refused as `WrongType`.
+/// An integer is its 4 or 8 bytes, the lowest first. A string is its bytes and a zero, and an empty one is an empty
+/// buffer. A buffer is itself. Every other value is refused as `WrongType`.
 pub fn to_buffer(
     alloc: Global,
     width: IntegerWidth,

@@ -28,7 +28,8 @@ pub fn concat(
     first: Content<'_>,
     second: Content<'_>,
 ) -> Result<Formed, Refusal>
-    ensures { Answers (seen formed_content result) (concatenated width (content_of first.entry) (content_of second.entry)) }
+    ensures { Answers (seen formed_content result) (concatenated width (content_of first.entry)
+        (content_of second.entry)) }
 {
     match first {
         Content::Integer(n) => concat_integers(alloc, width, n, second),
@@ -81,8 +82,8 @@ fn concat_buffers(
 
 /// ConcatenateResTemplate: the resource items of two buffers before their end tags, and an end tag.
 ///
-/// An empty buffer counts as an end tag alone. Values that aren't both buffers are refused as `WrongType`, and then a buffer
-/// without a whole end tag among the items that it begins with as `NoEnd`.
+/// An empty buffer counts as an end tag alone. Values that aren't both buffers are refused as `WrongType`, and then a
+/// buffer without a whole end tag among the items that it begins with as `NoEnd`.
 #[tactic(auto, using(ar_space::specs::Outcome::answering), unfolding(crate::specs::Concatenation::resources_joined))]
 pub fn concat_resources(
     alloc: Global,

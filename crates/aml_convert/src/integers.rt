@@ -4,7 +4,8 @@ ghost use Rattle.byteorder.specs.Endian.{little_number};
 ghost use Rattle.ar_space.specs.Outcome.{Answers, NotMemory};
 ghost use Rattle.aml_objects.specs.Contents.{content_of};
 ghost use Rattle.aml_convert.specs.Integers.{bytes_of};
-ghost use Rattle.aml_convert.specs.Conversions.{to_integer_of, integer_in_string, integer_in_buffer, numeral, explicit_integer_of};
+ghost use Rattle.aml_convert.specs.Conversions.{to_integer_of, integer_in_string, integer_in_buffer, numeral};
+ghost use Rattle.aml_convert.specs.Conversions.{explicit_integer_of};
 
 use crate::digits::{Base, leading_number};
 use crate::widths::bytes;
@@ -14,9 +15,9 @@ use byteorder::{ByteOrder, LittleEndian};
 
 /// A value as an integer, as operators take their operands.
 ///
-/// An integer is itself. Of a string the hexadecimal digits count that it begins with, of either case, at most 8 or 16 of
-/// them; a string without any is 0. Of a buffer the first 4 or 8 bytes count, the lowest first; missing ones are 0. An
-/// empty string or buffer is refused as `EmptyValue`, every other value as `WrongType`.
+/// An integer is itself. Of a string the hexadecimal digits count that it begins with, of either case, at most 8 or
+/// 16 of them; a string without any is 0. Of a buffer the first 4 or 8 bytes count, the lowest first; missing ones
+/// are 0. An empty string or buffer is refused as `EmptyValue`, every other value as `WrongType`.
 pub fn to_integer(width: IntegerWidth, content: Content<'_>) -> Result<u64, Refusal>
     ensures answer { result ≡ to_integer_of width (content_of content.entry) }
     ensures memory { NotMemory result }
@@ -39,9 +40,9 @@ pub(crate) fn integer(width: IntegerWidth, content: Content<'_>) -> Result<u64, 
 
 /// A value as an integer, as ToInteger gives it (ACPI 6.5, 19.6.141).
 ///
-/// It differs from `to_integer` at strings: the decimal digits count that the string begins with, or after `0x` or `0X`
-/// the hexadecimal ones. The number is taken modulo 2^32 or 2^64. Refused are an empty string or buffer as `EmptyValue`, and as
-/// `WrongType` anything that is no integer, string or buffer.
+/// It differs from `to_integer` at strings: the decimal digits count that the string begins with, or after `0x` or
+/// `0X` the hexadecimal ones. The number is taken modulo 2^32 or 2^64. Refused are an empty string or buffer as
+/// `EmptyValue`, and as `WrongType` anything that is no integer, string or buffer.
 pub fn explicit_integer(width: IntegerWidth, content: Content<'_>) -> Result<u64, Refusal>
     ensures answer { result ≡ explicit_integer_of width (content_of content.entry) }
     ensures memory { NotMemory result }

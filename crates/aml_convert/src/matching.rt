@@ -61,9 +61,9 @@ impl MatchOperator {
 
 /// Whether an element matches an object under an operator.
 ///
-/// The element is converted to the object's type and compared as LEqual, LGreater and LLess compare, with the object as the
-/// first operand. Where that is refused the element does not match. `MatchOperator::Always` is met by every element, which
-/// is not converted then. Only want of memory is refused.
+/// The element is converted to the object's type and compared as LEqual, LGreater and LLess compare, with the object
+/// as the first operand. Where that is refused the element does not match. `MatchOperator::Always` is met by every
+/// element, which is not converted then. Only want of memory is refused.
 pub fn is_match(
     alloc: Global,
     width: IntegerWidth,
@@ -87,7 +87,8 @@ fn is_in_order(
     object: Content<'_>,
     element: Content<'_>,
 ) -> Result<bool, Refusal>
-    ensures { Answers result (Ok (is_met_by operator (compared width (content_of object.entry) (content_of element.entry)))) }
+    ensures { Answers result (Ok
+        (is_met_by operator (compared width (content_of object.entry) (content_of element.entry)))) }
 {
     match compare(alloc, width, object, element) {
         Ok(order) => Ok(operator.is_met(order)),

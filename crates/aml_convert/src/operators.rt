@@ -5,7 +5,8 @@ ghost use Rattle.std.specs.Int.RustNames.{bit_and, bit_or, bit_xor};
 ghost use Rattle.ar_space.specs.declared.refusal.Refusal.TheVariants.{Value};
 ghost use Rattle.ar_space.specs.declared.refusal.ValueFault.TheVariants.{DivideByZero};
 ghost use Rattle.aml_convert.specs.Integers.{bits_of, truncated};
-ghost use Rattle.aml_convert.specs.Operators.{result_of, unary_result_of, complement, remainder, shifted_left, shifted_right, highest_set_bit, lowest_set_bit, divided};
+ghost use Rattle.aml_convert.specs.Operators.{result_of, unary_result_of, complement, remainder, shifted_left};
+ghost use Rattle.aml_convert.specs.Operators.{shifted_right, highest_set_bit, lowest_set_bit, divided};
 
 use crate::widths::{bits, numbers, ones, truncate, truncate_integer};
 use ar_space::{IntegerWidth, Refusal, ValueFault};

@@ -4,7 +4,8 @@ ghost use Rattle.std.specs.List.{flat_map, position_or_len};
 ghost use Rattle.ar_space.specs.Outcome.{Answers, seen};
 ghost use Rattle.aml_objects.specs.Contents.{content_of};
 ghost use Rattle.aml_convert.specs.Formed.{formed_content};
-ghost use Rattle.aml_convert.specs.Strings.{decimal_string_of, hexadecimal_string_of, listed, prefixed, before_zero, string_of, part, part_of, middle_of};
+ghost use Rattle.aml_convert.specs.Strings.{decimal_string_of, hexadecimal_string_of, listed, prefixed, before_zero};
+ghost use Rattle.aml_convert.specs.Strings.{string_of, part, part_of, middle_of};
 
 use crate::buffers::{integer_bytes, to_buffer};
 use crate::formed::Formed;
@@ -17,8 +18,8 @@ use std::alloc::{AllocError, Global};
 
 /// ToDecimalString: a value as a string of decimal numbers (ACPI 6.5, 19.6.139).
 ///
-/// An integer is its decimal digits, without leading zeros. A string is itself. A buffer is each byte as such a number, with
-/// commas between them. Every other value is refused as `WrongType`.
+/// An integer is its decimal digits, without leading zeros. A string is itself. A buffer is each byte as such a
+/// number, with commas between them. Every other value is refused as `WrongType`.
 pub fn to_decimal_string(alloc: Global, content: Content<'_>) -> Result<Octets, Refusal>
     ensures { Answers result (decimal_string_of (content_of content.entry)) }
 {
@@ -32,8 +33,8 @@ pub fn to_decimal_string(alloc: Global, content: Content<'_>) -> Result<Octets, 
 
 /// ToHexString: a value as a string of hexadecimal numbers (ACPI 6.5, 19.6.140).
 ///
-/// An integer is 8 or 16 upper-case digits. A string is itself. A buffer is each byte as `0x` and two upper-case digits, with
-/// commas between them. Every other value is refused as `WrongType`.
+/// An integer is 8 or 16 upper-case digits. A string is itself. A buffer is each byte as `0x` and two upper-case
+/// digits, with commas between them. Every other value is refused as `WrongType`.
 pub fn to_hexadecimal_string(
     alloc: Global,
     width: IntegerWidth,
@@ -49,7 +50,8 @@ pub fn to_hexadecimal_string(
     }
 }
 
-/// ToString: the bytes of a value, as a buffer, before the first zero, at most as many as are asked for (ACPI 6.5, 19.6.143).
+/// ToString: the bytes of a value, as a buffer, before the first zero, at most as many as are asked for (ACPI 6.5,
+/// 19.6.143).
 ///
 /// The source is refused as its conversion to a buffer is, and then the count as its conversion to an integer.
 #[tactic(auto, using(ar_space::specs::Outcome::answering), unfolding(crate::specs::Strings::string_of))]
@@ -68,8 +70,9 @@ pub fn to_string(
 
 /// Mid: a part of a value, from a place on, at most as many bytes as are asked for (ACPI 6.5, 19.6).
 ///
-/// Of a string it is a string. Another value is converted to a buffer, refused as that conversion is, and gives a buffer. Then
-/// the place and the count are refused as their conversions to integers are. At the end and past it there is nothing.
+/// Of a string it is a string. Another value is converted to a buffer, refused as that conversion is, and gives a
+/// buffer. Then the place and the count are refused as their conversions to integers are. At the end and past it
+/// there is nothing.
 #[tactic(auto, using(ar_space::specs::Outcome::answering), unfolding(crate::specs::Strings::middle_of))]
 pub fn middle(
     alloc: Global,
@@ -78,7 +81,8 @@ pub fn middle(
     start: Content<'_>,
     count: Content<'_>,
 ) -> Result<Formed, Refusal>
-    ensures { Answers (seen formed_content result) (middle_of width (content_of source.entry) (content_of start.entry) (content_of count.entry)) }
+    ensures { Answers (seen formed_content result) (middle_of width (content_of source.entry) (content_of start.entry)
+        (content_of count.entry)) }
 {
     match source {
         Content::Integer(n) => {

@@ -108,9 +108,10 @@ fn write_unit<S: Space>(
 
 /// Writes a field of an operation region: the bits of `source`, lowest first, cut or with zeros behind them.
 ///
-/// Each unit is one access, lowest first; one that the field isn't all of is read before it is written where the update
-/// rule is Preserve, and else its other bits are written as ones or as zeros. A unit that doesn't lie within the region is
-/// refused as `RegionLimit` before its access. A fault of the space ends the write, and what was written stays.
+/// Each unit is one access, lowest first; one that the field isn't all of is read before it is written where the
+/// update rule is Preserve, and else its other bits are written as ones or as zeros. A unit that doesn't lie within
+/// the region is refused as `RegionLimit` before its access. A fault of the space ends the write, and what was
+/// written stays.
 pub fn write_field<S: Space>(
     space: &mut S,
     region: Region,
@@ -128,8 +129,8 @@ pub fn write_field<S: Space>(
 
 /// A read of a field of an operation region: its bits, lowest first, as bytes.
 ///
-/// Each unit is one access, lowest first. A unit that doesn't lie within the region is refused as `RegionLimit` before its
-/// access. A fault of the space ends the read.
+/// Each unit is one access, lowest first. A unit that doesn't lie within the region is refused as `RegionLimit`
+/// before its access. A fault of the space ends the read.
 #[tactic(auto, using(ar_space::specs::Change::changing), unfolding(crate::specs::UnitByUnit::bits_read))]
 pub fn read_field<S: Space>(
     alloc: Global,

@@ -37,7 +37,8 @@ pub fn copy_bits(target: &mut [u8], to: usize, source: &[u8], from: usize, count
     requires to { to + count < 2 ^ 64 }
     requires from { from + count < 2 ^ 64 }
     ensures bits { bits_of target.new ≡ put to (field_bits source.now from count) (bits_of target.old) }
-    ensures bytes { target.new ≡ bytes_within (length target.old) (put to (field_bits source.now from count) (bits_of target.old)) }
+    ensures bytes { target.new ≡ bytes_within (length target.old)
+        (put to (field_bits source.now from count) (bits_of target.old)) }
     ensures len { length target.new ≡ length target.old }
 {
     for n in 0..count {
@@ -45,8 +46,8 @@ pub fn copy_bits(target: &mut [u8], to: usize, source: &[u8], from: usize, count
     }
 }
 
-/// `count` bits of bytes, from the bit `offset` on, as bytes; bits past the end are 0, and so are those of the last byte
-/// that are not the field's.
+/// `count` bits of bytes, from the bit `offset` on, as bytes; bits past the end are 0, and so are those of the last
+/// byte that are not the field's.
 pub fn get_bits(
     alloc: Global,
     bytes: &[u8],

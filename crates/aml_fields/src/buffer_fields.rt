@@ -3,15 +3,16 @@ ghost use Rattle.std.specs.Prelude.{◌≡◌, ◌≤◌, ◌+◌, ◌*◌, ◌<
 ghost use Rattle.ar_space.specs.Change.{Does};
 ghost use Rattle.ar_space.specs.Outcome.{Answers, NotMemory, seen};
 ghost use Rattle.aml_fields.specs.Bits.{packed, field_bits};
-ghost use Rattle.aml_fields.specs.BufferFields.{lies_within, field_within, new_buffer_field, still_within, read_buffer_field, with_field, write_buffer_field};
+ghost use Rattle.aml_fields.specs.BufferFields.{lies_within, field_within, new_buffer_field, still_within};
+ghost use Rattle.aml_fields.specs.BufferFields.{read_buffer_field, with_field, write_buffer_field};
 
 use crate::bits::{copy_bits, get_bits};
 use aml_objects::{BufferField, Heap, Octets};
 use ar_space::{EvaluationFault, FieldFault, Refusal};
 use std::alloc::Global;
 
-/// A new buffer field of so many bits, from one bit of a buffer on. Refused as `WrongType` where the object is no buffer, and as
-/// `FieldLimit` where the field doesn't lie within it.
+/// A new buffer field of so many bits, from one bit of a buffer on. Refused as `WrongType` where the object is no
+/// buffer, and as `FieldLimit` where the field doesn't lie within it.
 #[tactic(auto, using(ar_space::specs::Change::changing), unfolding(crate::specs::BufferFields::new_buffer_field))]
 pub fn new_buffer_field(
     heap: &Heap,
@@ -38,8 +39,8 @@ pub fn read_buffer_field(alloc: Global, heap: &Heap, field: BufferField) -> Resu
     bits_of_field(alloc, field, bytes)
 }
 
-/// Writes a buffer field: the bits of `source`, lowest first, cut or with zeros behind them. The other bits of the buffer stay.
-/// Refused as `read_buffer_field` is, and then nothing changes.
+/// Writes a buffer field: the bits of `source`, lowest first, cut or with zeros behind them. The other bits of the
+/// buffer stay. Refused as `read_buffer_field` is, and then nothing changes.
 #[tactic(auto, using(ar_space::specs::Change::changing), unfolding(crate::specs::BufferFields::write_buffer_field))]
 pub fn write_buffer_field(
     alloc: Global,

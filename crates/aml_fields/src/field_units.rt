@@ -43,8 +43,8 @@ impl Model for FieldUnits {
     ghost invariant = { λ u. (u.unit + u.left) * bit_count u.width < u.bit_offset + u.bits + bit_count u.width };
 }
 
-/// The units of a field, lowest first: aligned pieces as wide as its accesses, from the one that holds its first bit to the
-/// one that holds its last. It takes no memory.
+/// The units of a field, lowest first: aligned pieces as wide as its accesses, from the one that holds its first bit
+/// to the one that holds its last. It takes no memory.
 #[tactic(auto, using(crate::proofs::Turns::none_left))]
 pub fn units(bit_offset: u64, bits: u32, width: Width) -> FieldUnits
     ensures { result ≡ units_of bit_offset bits width }

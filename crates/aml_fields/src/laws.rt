@@ -32,7 +32,8 @@ pub fn a_write_that_preserves_leaves_other_bits()
     ensures { (region : Region) (field : FieldUnit) (source : List ℕ) (before after : Bytes)
         → IsPlain region.space → field.update ≡ Preserve → AreBytes region.space before
         → write_field byte_accesses region field source before ≡ (Ok tt, after)
-        → OthersAreSame region.space before after × ((k : ℕ) → IsOutside region field k → bit_of region.space after k ≡ bit_of region.space before k) }
+        → OthersAreSame region.space before after × ((k : ℕ) → IsOutside region field k →
+        bit_of region.space after k ≡ bit_of region.space before k) }
 {}
 
 /// A read after such a write gives the bits that were written.

@@ -1,5 +1,6 @@
 //! Fields that lie within one unit, read and written as numbers (ACPI 6.5, 19.6.46). Nothing here takes memory.
-ghost use Rattle.std.specs.Prelude.{◌≡◌, ◌≤◌, ◌<◌, ◌+◌, ◌*◌, ◌/◌, ◌%◌, ◌^◌, ◌∷◌, [], ℕ, List, Ok, Err, true, false, MatchOption, MatchBool, IfOk, IfErr, IfSome};
+ghost use Rattle.std.specs.Prelude.{◌≡◌, ◌≤◌, ◌<◌, ◌+◌, ◌*◌, ◌/◌, ◌%◌, ◌^◌, ◌∷◌, [], ℕ, List, Ok, Err, true, false};
+ghost use Rattle.std.specs.Prelude.{MatchOption, MatchBool, IfOk, IfErr, IfSome};
 ghost use Rattle.ar_space.specs.Accesses.{bit_count};
 ghost use Rattle.ar_space.specs.Change.{Does};
 ghost use Rattle.ar_space.specs.Outcome.{NotMemory};
@@ -64,7 +65,8 @@ fn bits_within(number: u64, first: usize, count: usize) -> u64
     from % (1 << count)
 }
 
-/// The bits of a field that lies within one unit, as a number; none where it doesn't lie within one, and then nothing is read.
+/// The bits of a field that lies within one unit, as a number; none where it doesn't lie within one, and then nothing
+/// is read.
 ///
 /// One access reads it. It is refused as `read_field` is.
 pub fn read_number<S: Space>(
@@ -72,8 +74,11 @@ pub fn read_number<S: Space>(
     region: Region,
     field: FieldUnit,
 ) -> Result<Option<u64>, Refusal>
-    ensures read { IfOk result (λ read. MatchOption read (space.new ≡ space.old) (λ number. Does (Ok (packed (bits_from number 0 field.bits))) space.new (read_field S.accesses region field) space.old)) }
-    ensures refused { IfErr result (λ refusal. Does (Err refusal) space.new (read_field S.accesses region field) space.old) }
+    ensures read { IfOk result (λ read. MatchOption read (space.new ≡ space.old)
+        (λ number. Does (Ok (packed (bits_from number 0 field.bits))) space.new
+        (read_field S.accesses region field) space.old)) }
+    ensures refused { IfErr result (λ refusal. Does (Err refusal) space.new
+        (read_field S.accesses region field) space.old) }
     ensures fits { IfOk result (λ read. IfSome read (λ number. (0 < field.bits) × (number < 2 ^ field.bits))) }
     ensures memory { NotMemory result }
 {
@@ -114,8 +119,8 @@ fn bits_below(number: u64, bit: usize) -> u64
     number % (1 << bit)
 }
 
-/// Writes a number to a field that lies within one unit: as many of its bits as the field has. It answers no where the field doesn't lie
-/// within one unit, and then nothing is written.
+/// Writes a number to a field that lies within one unit: as many of its bits as the field has. It answers no where
+/// the field doesn't lie within one unit, and then nothing is written.
 ///
 /// It is refused as `write_field` is.
 pub fn write_number<S: Space>(
@@ -124,8 +129,12 @@ pub fn write_number<S: Space>(
     field: FieldUnit,
     number: u64,
 ) -> Result<bool, Refusal>
-    ensures written { IfOk result (λ done. MatchBool done ((source : List ℕ) → field_bits source 0 field.bits ≡ bits_from number 0 field.bits → Does (Ok tt) space.new (write_field S.accesses region field source) space.old) (space.new ≡ space.old)) }
-    ensures refused { IfErr result (λ refusal. (source : List ℕ) → field_bits source 0 field.bits ≡ bits_from number 0 field.bits → Does (Err refusal) space.new (write_field S.accesses region field source) space.old) }
+    ensures written { IfOk result (λ done. MatchBool done ((source : List ℕ) →
+        field_bits source 0 field.bits ≡ bits_from number 0 field.bits →
+        Does (Ok tt) space.new (write_field S.accesses region field source) space.old) (space.new ≡ space.old)) }
+    ensures refused { IfErr result (λ refusal. (source : List ℕ) →
+        field_bits source 0 field.bits ≡ bits_from number 0 field.bits →
+        Does (Err refusal) space.new (write_field S.accesses region field source) space.old) }
     ensures memory { NotMemory result }
 {
     let Some(unit) = one_unit(field) else {
@@ -148,7 +157,8 @@ fn write_in_unit<S: Space>(
 ) -> Result<(), Refusal>
     requires some { 0 < unit.count }
     requires within { unit.first + unit.count ≤ 64 }
-    ensures change { (source : List ℕ) → field_bits source unit.position unit.count ≡ bits_from number 0 unit.count → Does result space.new (write_unit S.accesses region field source unit) space.old }
+    ensures change { (source : List ℕ) → field_bits source unit.position unit.count ≡ bits_from number 0 unit.count →
+        Does result space.new (write_unit S.accesses region field source unit) space.old }
     ensures memory { NotMemory result }
 {
     let place = region.place(field.access, unit.offset)?;

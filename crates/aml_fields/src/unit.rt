@@ -1,7 +1,8 @@
 //! Units: what one access of a field reads or writes (ACPI 6.5, 19.6.46).
 ghost use Rattle.std.specs.Prelude.{◌≡◌, ◌≤◌, ◌+◌, ◌*◌, ◌^◌, ◌<◌, length, take, drop};
 ghost use Rattle.aml_objects.specs.declared.entry.UpdateRule.TheVariants.{WriteAsOnes};
-ghost use Rattle.aml_fields.specs.Bits.{bits_of, bits_from, field_bits, put, extended, bytes_within, number_of, rest_of_unit, merged};
+ghost use Rattle.aml_fields.specs.Bits.{bits_of, bits_from, field_bits, put, extended, bytes_within, number_of};
+ghost use Rattle.aml_fields.specs.Bits.{rest_of_unit, merged};
 
 use crate::bits::copy_bits;
 use aml_objects::UpdateRule;
@@ -49,8 +50,8 @@ fn unit_of(bytes: &[u8]) -> u64
     LittleEndian::read_u64(bytes)
 }
 
-/// What a unit is written with: `count` bits of `source`, from the bit `from` on, stand in it from the bit `first` on, and
-/// the other bits are what was read from it (`old`), ones or zeros, as the update rule says.
+/// What a unit is written with: `count` bits of `source`, from the bit `from` on, stand in it from the bit `first`
+/// on, and the other bits are what was read from it (`old`), ones or zeros, as the update rule says.
 pub fn merge(
     update: UpdateRule,
     width: Width,
@@ -74,8 +75,10 @@ pub fn copy_from_unit(target: &mut [u8], to: usize, unit: u64, first: usize, cou
     requires unit { first + count ≤ 64 }
     requires inside { to + count ≤ 8 * length target.old }
     requires to { to + count < 2 ^ 64 }
-    ensures bits { bits_of target.new ≡ put to (extended count (drop first (bits_from unit 0 64))) (bits_of target.old) }
-    ensures bytes { target.new ≡ bytes_within (length target.old) (put to (extended count (drop first (bits_from unit 0 64))) (bits_of target.old)) }
+    ensures bits { bits_of target.new ≡ put to (extended count (drop first (bits_from unit 0 64)))
+        (bits_of target.old) }
+    ensures bytes { target.new ≡ bytes_within (length target.old)
+        (put to (extended count (drop first (bits_from unit 0 64))) (bits_of target.old)) }
     ensures len { length target.new ≡ length target.old }
 {
     copy_bits(target, to, &bytes_of(unit), first, count);

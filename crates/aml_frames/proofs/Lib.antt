@@ -19,4 +19,7 @@ pub mod Forming
 pub mod Addressing
 pub mod Indexing
 pub mod Knowing
+pub mod Matching
+mod MatchShapes
 pub mod UnitSteps
+pub mod WideSteps

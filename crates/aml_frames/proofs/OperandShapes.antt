@@ -20,6 +20,7 @@ use Rattle.aml_meaning.specs.declared.term_kind.DeclarationKind.TheVariants as d
 use Rattle.aml_meaning.specs.declared.term_kind.RegionKind.TheVariants as region
 use Rattle.aml_meaning.specs.declared.term_kind.OperatorKind.TheVariants as operator
 use Rattle.aml_meaning.specs.declared.term_kind.StatementKind.TheVariants as statement
+use Rattle.aml_meaning.specs.declared.term_kind.WideKind.TheVariants as wide
 use Rattle.aml_meaning.specs.declared.store_target.TargetKind.{TargetKind}
 use Rattle.aml_meaning.specs.declared.store_target.TargetKind.TheVariants as target
 use Rattle.aml_meaning.specs.Terms.{kind_of, target_kind}
@@ -29,7 +30,7 @@ use Rattle.aml_frames.specs.RegionTerms.{behind_space, region_at, sized_field_at
 
 -- ---- operands that a row may have
 
-abbrev is_argument : OperandKind → Bool
+abbrev pub is_argument : OperandKind → Bool
 is_argument kinds.TermArg = true
 is_argument kinds.DataObject = true
 is_argument _ = false
@@ -53,7 +54,7 @@ is_list kinds.TermList = true
 is_list kinds.LoopTermList = true
 is_list _ = false
 
-abbrev is_byte : OperandKind → Bool
+abbrev pub is_byte : OperandKind → Bool
 is_byte kinds.ByteData = true
 is_byte _ = false
 
@@ -66,7 +67,7 @@ is_dword kinds.DWordData = true
 is_dword _ = false
 
 infixr 5 ◌and◌
-abbrev ◌and◌ : Bool → Bool → Bool
+abbrev pub ◌and◌ : Bool → Bool → Bool
 ◌and◌ x y = if x then y else false
 
 abbrev opposite : Bool → Bool
@@ -85,7 +86,7 @@ is_element_list kinds.PackageElementList = true
 is_element_list _ = false
 
 -- operands behind the opcode, without an Else behind them
-abbrev is_plain : Row → Bool
+abbrev pub is_plain : Row → Bool
 is_plain row = opposite row.2 and opposite (is_if row.0)
 
 abbrev fits : TermKind → Row → Bool
@@ -129,6 +130,10 @@ fits (term.Declaration declaration.Name) row = is_plain row and is_name row.3.0 
 fits (term.Region region.OperationRegion) row = is_plain row and is_name row.3.0 and is_byte row.3.1 and is_argument row.3.2 and is_argument row.3.3 and is_nothing row.3.4
 fits (term.Region (region.SizedBufferField size)) row = is_plain row and is_argument row.3.0 and is_argument row.3.1 and is_name row.3.2 and is_nothing row.3.3
 fits (term.Region region.BufferField) row = is_plain row and is_argument row.3.0 and is_argument row.3.1 and is_argument row.3.2 and is_name row.3.3 and is_nothing row.3.4
+fits (term.Wide (wide.Convert k)) row = is_plain row and is_argument row.3.0 and is_target row.3.1 and is_nothing row.3.2
+fits (term.Wide wide.ToString) row = is_plain row and is_argument row.3.0 and is_argument row.3.1 and is_target row.3.2 and is_nothing row.3.3
+fits (term.Wide wide.Mid) row = is_plain row and is_argument row.3.0 and is_argument row.3.1 and is_argument row.3.2 and is_target row.3.3 and is_nothing row.3.4
+fits (term.Wide wide.Match) row = is_plain row and is_argument row.3.0 and is_byte row.3.1 and is_argument row.3.2 and is_byte row.3.3 and is_argument row.3.4 and is_argument row.3.5
 fits _ row = true
 
 -- ---- every row has the operands of its kind
@@ -140,7 +145,7 @@ all_fit (r ∷ rows) = fits (kind_of r.0) r and all_fit rows
 table_fits : all_fit table ≡ true
 table_fits = refl
 
-both : (x y : Bool) → (x and y) ≡ true → (x ≡ true) × (y ≡ true)
+pub both : (x y : Bool) → (x and y) ≡ true → (x ≡ true) × (y ≡ true)
 both true y e = (refl, e)
 both false y e = absurd (cc e)
 
@@ -160,11 +165,11 @@ kind_fits r k row i s e h = let same : kind_of row.0 ≡ k = ap row_kind (sym e)
 
 module _ (b : Below) where
   -- an operand of a kind is what a walk reads
-  record Reads (k : OperandKind) (w : Walk Part) : Type 0 where
-    some : is_nothing k ≡ false
-    is : an_operand b k ≡ w
+  pub record Reads (k : OperandKind) (w : Walk Part) : Type 0 where
+    pub some : is_nothing k ≡ false
+    pub is : an_operand b k ≡ w
 
-  argument_reads : (k : OperandKind) → is_argument k ≡ true → Reads k (to_part inner (b false))
+  pub argument_reads : (k : OperandKind) → is_argument k ≡ true → Reads k (to_part inner (b false))
   unfolding an_operand
   argument_reads kinds.TermArg e = record { some = refl; is = refl }
   argument_reads kinds.DataObject e = record { some = refl; is = refl }
@@ -208,7 +213,7 @@ module _ (b : Below) where
   element_list_reads kinds.PackageElementList e = record { some = refl; is = refl }
   element_list_reads _ e = absurd (cc e)
 
-  byte_reads : (k : OperandKind) → is_byte k ≡ true → Reads k (to_part number (an_integer 1))
+  pub byte_reads : (k : OperandKind) → is_byte k ≡ true → Reads k (to_part number (an_integer 1))
   unfolding an_operand
   byte_reads kinds.ByteData e = record { some = refl; is = refl }
   byte_reads _ e = absurd (cc e)
@@ -227,7 +232,7 @@ module _ (b : Below) where
   unfolding all_operands gives
   no_more k ks p e = rw e refl
 
-  one_more : {k : OperandKind} {w : Walk Part} (ks : List OperandKind) (p : Place) → Reads k w → all_operands b (k ∷ ks) p ≡ ((w p).0 ∷ (all_operands b ks (w p).1).0, (all_operands b ks (w p).1).1)
+  pub one_more : {k : OperandKind} {w : Walk Part} (ks : List OperandKind) (p : Place) → Reads k w → all_operands b (k ∷ ks) p ≡ ((w p).0 ∷ (all_operands b ks (w p).1).0, (all_operands b ks (w p).1).1)
   unfolding all_operands after gives
   one_more ks p r = rw (r.some, r.is) refl
 
@@ -249,7 +254,7 @@ module _ (b : Below) where
 
   -- ---- whole terms
 
-  plain_row : (row : Row) (p : Place) → is_plain row ≡ true → with_row b (Some row) p ≡ (term (codes.Opcode row.0) (parts_of (all_operands b (kinds_of row.3) p).0), (all_operands b (kinds_of row.3) p).1)
+  pub plain_row : (row : Row) (p : Place) → is_plain row ≡ true → with_row b (Some row) p ≡ (term (codes.Opcode row.0) (parts_of (all_operands b (kinds_of row.3) p).0), (all_operands b (kinds_of row.3) p).1)
   unfolding with_row of_row inside after gives
   plain_row row p e = let f = both (opposite row.2) (opposite (is_if row.0)) e in rw (not_true row.2 f.0, not_true (is_if row.0) f.1) refl
 
@@ -303,6 +308,11 @@ module _ (b : Below) where
       → with_row b (Some row) p ≡ (term (codes.Opcode row.0) (part (inner (b false p).0) (part (inner (b false (behind_one b p)).0) (part (a_target b (behind_two b p)).0 (part (a_target b (a_target b (behind_two b p)).1).0 no_parts)))), (a_target b (a_target b (behind_two b p)).1).1)
   arguments_targets row p f = let x = both _ _ f in let y = both _ _ x.1 in let z = both _ _ y.1 in let v = both _ _ z.1 in let w = both _ _ v.1 in
       plain_row row p x.0 ∙ rw (then_four _ _ p (argument_reads row.3.0 y.0) (argument_reads row.3.1 z.0) (target_reads row.3.2 v.0) (target_reads row.3.3 w.0) w.1) refl
+
+  pub three_arguments_target : (row : Row) (p : Place) → (is_plain row and is_argument row.3.0 and is_argument row.3.1 and is_argument row.3.2 and is_target row.3.3 and is_nothing row.3.4) ≡ true
+      → with_row b (Some row) p ≡ (term (codes.Opcode row.0) (part (inner (b false p).0) (part (inner (b false (behind_one b p)).0) (part (inner (b false (behind_two b p)).0) (part (a_target b (behind_one b (behind_two b p))).0 no_parts)))), (a_target b (behind_one b (behind_two b p))).1)
+  three_arguments_target row p f = let x = both _ _ f in let y = both _ _ x.1 in let z = both _ _ y.1 in let v = both _ _ z.1 in let w = both _ _ v.1 in
+      plain_row row p x.0 ∙ rw (then_four _ _ p (argument_reads row.3.0 y.0) (argument_reads row.3.1 z.0) (argument_reads row.3.2 v.0) (target_reads row.3.3 w.0) w.1) refl
 
   pub super_word : (row : Row) (p : Place) → (is_plain row and is_super row.3.0 and is_word row.3.1 and is_nothing row.3.2) ≡ true
       → with_row b (Some row) p ≡ (term (codes.Opcode row.0) (part (a_super_name b p).0 (part (number (an_integer 2 (a_super_name b p).1).0) no_parts)), over 2 (a_super_name b p).1)

@@ -1,6 +1,6 @@
 -- A term whose opcode was read has the rule of its kind, over the operands that stand there.
 use Rattle.std.specs.Prelude.{◌≡◌, ◌≢◌, ℕ, List, Option, Some, None, refl}
-use Rattle.std.proofs.Common.{◌∙◌, ap}
+use Rattle.std.proofs.Common.{◌∙◌, ap, sym}
 use Rattle.ar_space.specs.Accesses.{Accesses}
 use Rattle.aml_path.specs.declared.segment.Seg.{Seg}
 use Rattle.aml_grammar.specs.declared.opcode.TermCode.{TermCode}
@@ -35,11 +35,16 @@ use Rattle.aml_meaning.specs.DeclarationTerms.{declaring, name_rule, alias_rule,
 use Rattle.aml_meaning.specs.FieldTerms.{region_rule, field_list_rule, index_list_rule, sized_field_rule, bits_field_rule, region_term_rule}
 use Rattle.aml_meaning.specs.OperatorTerms.{store_rule, copy_rule, two_rule, divide_rule, one_rule, test_rule, not_rule, count_rule, referent_of_target, referent_by_kind, referent_by, size_rule, type_rule, acquire_rule, reference_rule, dereference_rule, sought_name, sought_target, reference_stored, conditional_rule, operator_rule}
 use Rattle.aml_meaning.specs.StatementTerms.{if_rule, else_rule, while_rule, return_rule, release_rule, notify_rule, pause_rule, fatal_rule, statement_rule}
+use Rattle.aml_meaning.specs.declared.term_kind.WideKind.{WideKind}
+use Rattle.aml_meaning.specs.declared.term_kind.WideKind.TheVariants as wides
+use Rattle.aml_meaning.specs.WideTerms.{in_wide, formed_at, convert_rule, to_string_rule, middle_rule, wide_rule}
+use Rattle.aml_meaning.specs.MatchTerms.{match_rule}
 use Rattle.aml_meaning.specs.Evaluation.{kind_rule, code_rule}
 use Rattle.aml_frames.specs.Declarations.{datum_at, scope_at, power_resource_at, processor_at, declaration_tree, behind_declaration}
 use Rattle.aml_frames.specs.RegionTerms.{behind_space, region_at, sized_field_at, bits_field_at, region_tree, behind_region}
-use Rattle.aml_frames.specs.Operands.{row_kind, behind_one, behind_two, outside_at, text_at, buffer_at, package_at, var_package_at, operator_parts, behind_operator, statement_parts, behind_statement, operator_tree, statement_tree, data_tree, behind_data}
-use Rattle.aml_frames.proofs.OperandShapes.{stands, no_operand, an_argument, a_super, argument_super, argument_target, two_arguments, arguments_target, arguments_targets, super_word, super_target, super_argument, numbers_argument, an_if, an_else_row, a_while, a_string, a_buffer, a_package, a_var_package, a_datum, a_scope, a_power_resource, a_processor, a_region, a_sized_field, a_bits_field, code_stands}
+use Rattle.aml_frames.specs.Operands.{row_kind, behind_one, behind_two, outside_at, text_at, buffer_at, package_at, var_package_at, operator_parts, behind_operator, statement_parts, behind_statement, wide_parts, behind_wide, operator_tree, statement_tree, wide_tree, data_tree, behind_data}
+use Rattle.aml_frames.proofs.MatchShapes.{a_match}
+use Rattle.aml_frames.proofs.OperandShapes.{stands, no_operand, an_argument, a_super, argument_super, argument_target, two_arguments, arguments_target, arguments_targets, three_arguments_target, super_word, super_target, super_argument, numbers_argument, an_if, an_else_row, a_while, a_string, a_buffer, a_package, a_var_package, a_datum, a_scope, a_power_resource, a_processor, a_region, a_sized_field, a_bits_field, code_stands}
 
 -- ---- the operands of a term by its kind
 
@@ -80,6 +85,12 @@ statement_shape b statements.Release o p e = let x = stands (kinds.Statement sta
 statement_shape b statements.Notify o p e = let x = stands (kinds.Statement statements.Notify) o e (λ h. absurd (cc h)) in shaped x.0 x.1.0 (super_argument b x.0 p x.1.1)
 statement_shape b statements.Pause o p e = let x = stands (kinds.Statement statements.Pause) o e (λ h. absurd (cc h)) in shaped x.0 x.1.0 (an_argument b x.0 p x.1.1)
 statement_shape b statements.Fatal o p e = let x = stands (kinds.Statement statements.Fatal) o e (λ h. absurd (cc h)) in shaped x.0 x.1.0 (numbers_argument b x.0 p x.1.1)
+
+wide_shape : (b : Below) (k : WideKind) (o : RowPlace) (p : Place) → row_kind (row_at o) ≡ kinds.Wide k → Shape b o p (wide_parts b k p) (behind_wide b k p)
+wide_shape b (wides.Convert k) o p e = let x = stands (kinds.Wide (wides.Convert k)) o e (λ h. absurd (cc h)) in shaped x.0 x.1.0 (argument_target b x.0 p x.1.1)
+wide_shape b wides.ToString o p e = let x = stands (kinds.Wide wides.ToString) o e (λ h. absurd (cc h)) in shaped x.0 x.1.0 (arguments_target b x.0 p x.1.1)
+wide_shape b wides.Mid o p e = let x = stands (kinds.Wide wides.Mid) o e (λ h. absurd (cc h)) in shaped x.0 x.1.0 (three_arguments_target b x.0 p x.1.1)
+wide_shape b wides.Match o p e = let x = stands (kinds.Wide wides.Match) o e (λ h. absurd (cc h)) in shaped x.0 x.1.0 (a_match b x.0 p x.1.1)
 
 constant_shape : (b : Below) (n : ℕ) (o : RowPlace) (p : Place) → row_kind (row_at o) ≡ kinds.Data (datas.Constant n) → Shape b o p no_parts p
 constant_shape b n o p e = let x = stands (kinds.Data (datas.Constant n)) o e (λ h. absurd (cc h)) in shaped x.0 x.1.0 (no_operand b x.0 p x.1.1)
@@ -212,6 +223,13 @@ module _ {S : Type 0} (accesses : Accesses S) (ev : Task → Run S Flow) (scope 
   same_statement statements.Pause ps = refl
   same_statement statements.Fatal ps = refl
 
+  pub same_wide : (k : WideKind) (ps : Parts) → wide_rule accesses ev k scope depth (term c ps) ≡ wide_rule accesses ev k scope depth (term d ps)
+  unfolding convert_rule to_string_rule middle_rule match_rule formed_at value_at two_values targeted name_target
+  same_wide (wides.Convert k) ps = refl
+  same_wide wides.ToString ps = refl
+  same_wide wides.Mid ps = refl
+  same_wide wides.Match ps = refl
+
 -- ---- a term whose opcode was read
 
 row_of_kind : {x : Option Row} {row : Row} (k : TermKind) → x ≡ Some row → row_kind x ≡ k → kind_of row.0 ≡ k
@@ -291,6 +309,19 @@ module _ {S : Type 0} (accesses : Accesses S) (ev : Task → Run S Flow) (scope 
       ap (λ (y : Tree × Place). code_rule accesses ev (code_of y.0) scope depth y.0) x.is
       ∙ coded_as x.row (statement_parts b k p) (kinds.Statement k) (row_of_kind (kinds.Statement k) x.there e)
       ∙ same_statement accesses ev scope depth (codes.Opcode x.row.0) codes.Name k (statement_parts b k p)
+
+  -- a term of the wide profile, whose opcode is asked for
+  pub wide_is : (k : WideKind) (o : RowPlace) (p : Place) (row : Row) → Some row ≡ row_at o → row_kind (row_at o) ≡ kinds.Wide k → code_rule accesses ev (code_of (with_row b (row_at o) p).0) scope depth (with_row b (row_at o) p).0 ≡ in_wide row.0 (wide_rule accesses ev k scope depth (wide_tree b k p))
+  wide_is k o p row i e =
+      let x = wide_shape b k o p e in
+      let same : x.row ≡ row = cc (sym x.there ∙ sym i) in
+      ap (λ (y : Tree × Place). code_rule accesses ev (code_of y.0) scope depth y.0) x.is
+      ∙ coded_as x.row (wide_parts b k p) (kinds.Wide k) (row_of_kind (kinds.Wide k) x.there e)
+      ∙ ap (λ (m : Run S Flow). in_wide x.row.0 m) (same_wide accesses ev scope depth (codes.Opcode x.row.0) codes.Name k (wide_parts b k p))
+      ∙ ap (λ (r : Row). in_wide r.0 (wide_rule accesses ev k scope depth (wide_tree b k p))) same
+
+pub behind_wide_is : (b : Below) (k : WideKind) (o : RowPlace) (p : Place) → row_kind (row_at o) ≡ kinds.Wide k → (with_row b (row_at o) p).1 ≡ behind_wide b k p
+behind_wide_is b k o p e = let x = wide_shape b k o p e in ap (λ (y : Tree × Place). y.1) x.is
 
 pub behind_operator_is : (b : Below) (k : OperatorKind) (o : RowPlace) (p : Place) → row_kind (row_at o) ≡ kinds.Operator k → (with_row b (row_at o) p).1 ≡ behind_operator b k p
 behind_operator_is b k o p e = let x = operator_shape b k o p e in ap (λ (y : Tree × Place). y.1) x.is

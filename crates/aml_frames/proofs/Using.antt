@@ -62,7 +62,7 @@ use Rattle.aml_frames.proofs.Stepping.{bind_bind, leads_value, leads_value_at, l
 use Rattle.aml_frames.proofs.Targeting.{target_part_is, named_part, term_part, bind_as, bind_same, leads_nested, leads_given, aiming, names_of_targets, kinds_of_targets, operands_of_targets}
 use Rattle.aml_frames.proofs.Declaring.{leads_declaration, ends_declaration}
 use Rattle.aml_frames.proofs.Beginning.{leads_call, ends_call, leads_no_term, leads_unsupported}
-use Rattle.aml_frames.proofs.Weighing.{few_calls, charged_less, charged_paid}
+use Rattle.aml_frames.proofs.Weighing.{few_calls, charged_less, charged_paid, step_enough}
 
 abbrev writes : ℕ → Field → List ℕ → Access
 writes calls f bytes = record { calls = calls; object = object.Field f; doing = doing.Write bytes }
@@ -330,7 +330,7 @@ pub ruleset aimed_operands = (stepping, operands_of_targets, charged_less, charg
 
 pub ruleset seeking = (stepping, leads_conditional_name, ends_conditional_name)
 
-pub ruleset using_targets = (stepping, leads_nested, leads_given, leads_read, leads_told, leads_counted, leads_written, leads_stores, leads_found, few_calls)
+pub ruleset using_targets = (stepping, leads_nested, leads_given, leads_read, leads_told, leads_counted, leads_written, leads_stores, leads_found, few_calls, step_enough)
 
 pub ruleset beginning_terms = (using_targets, leads_call, ends_call, leads_no_term, leads_unsupported, leads_data, leads_declaration, ends_declaration)
 

@@ -94,6 +94,14 @@ declared_at o p c = do
   declared ← lift (new_name (module_level c.depth) q o)
   give flow.Next
 
+-- what a term that opens a new scope declares; of other terms a plain scope
+abbrev pub scope_object : DeclarationKind → NamedObject
+scope_object declarations.Device = object.Device
+scope_object declarations.Processor = object.Processor
+scope_object declarations.PowerResource = object.PowerResource
+scope_object declarations.ThermalZone = object.ThermalZone
+scope_object _ = object.Scope
+
 module _ {S : Type 0} (ev : Task → Run S Flow) where
   abbrev pub declaration_run : DeclarationKind → RowPlace → Site → ℕ → Run S Flow
   declaration_run k o c levels = declaration_rule ev k c.scope c.depth (declaration_tree (terms c levels) k o c.place)

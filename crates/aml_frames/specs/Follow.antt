@@ -7,6 +7,7 @@ use Rattle.ar_space.specs.declared.refusal.Refusal.TheVariants as refusal
 use Rattle.ar_space.specs.declared.refusal.EvaluationFault.TheVariants.{Fatal}
 use Rattle.aml_path.specs.declared.segment.Seg.{Seg}
 use Rattle.aml_grammar.specs.Apart.{code_of}
+use Rattle.aml_grammar.specs.declared.opcode.Opcode.{Opcode}
 use Rattle.aml_grammar.specs.Shape.{trees_of}
 use Rattle.aml_grammar.specs.Tree.{Trees}
 use Rattle.aml_marked.specs.Marked.{Place, count_at, a_name, turns_of, to_end, all_items, maybe_else, walk_levels, with_row}
@@ -23,6 +24,7 @@ use Rattle.aml_meaning.specs.declared.flow.Flow.TheVariants as flow
 use Rattle.aml_meaning.specs.declared.term_kind.OperatorKind.{OperatorKind}
 use Rattle.aml_meaning.specs.declared.term_kind.OperatorKind.TheVariants as operators
 use Rattle.aml_meaning.specs.declared.term_kind.StatementKind.{StatementKind}
+use Rattle.aml_meaning.specs.declared.term_kind.WideKind.{WideKind}
 use Rattle.aml_meaning.specs.State.{State}
 use Rattle.aml_meaning.specs.Run.{Run, lift}
 use Rattle.aml_meaning.specs.Readings.{value_in, integer_in, integer_kept}
@@ -39,6 +41,7 @@ use Rattle.aml_meaning.specs.Terms.{else_of}
 use Rattle.aml_meaning.specs.Tasks.{Task, task, operand_value, after_item, in_turn}
 use Rattle.aml_meaning.specs.Evaluation.{code_rule}
 use Rattle.aml_meaning.specs.OperatorTerms.{operator_rule}
+use Rattle.aml_meaning.specs.WideTerms.{in_wide, wide_rule}
 use Rattle.aml_meaning.specs.StatementTerms.{statement_rule, branch, turn_of, after_turn, loop, loop_end}
 use Rattle.aml_meaning.specs.InvocationTerms.{arguments_in_turn, invocation_rule}
 use Rattle.aml_meaning.specs.Invocations.{leaving, invoked, invocation_found, shallow}
@@ -66,8 +69,9 @@ use Rattle.aml_frames.specs.Data.{package_left, package_of_all, package_run}
 use Rattle.aml_frames.specs.Indexed.{writes_done, unit_given, unit_behind, unit_merged}
 use Rattle.aml_frames.specs.Declarations.{declared_at}
 use Rattle.aml_frames.specs.RegionTerms.{part_declared, part_ends}
-use Rattle.aml_frames.specs.Uses.{asking, optional, behind_target, use_ends, target_ends, monadic_ends, dyadic_ends, access_run, inquired, counted_back, used, target_run, monadic_done, dyadic_by, dyadic_done}
-use Rattle.aml_frames.specs.Operands.{operator_tree, statement_tree, behind_operator, behind_statement}
+use Rattle.aml_frames.specs.Matching.{match_left, match_ends, element_read}
+use Rattle.aml_frames.specs.Uses.{asking, optional, behind_target, use_ends, target_ends, monadic_ends, dyadic_ends, access_run, inquired, counted_back, used, target_run, monadic_done, middle_done, dyadic_by, dyadic_done}
+use Rattle.aml_frames.specs.Operands.{operator_tree, statement_tree, wide_tree, behind_operator, behind_statement, behind_wide}
 
 abbrev pub place_of : Site → Position → Place
 place_of c o = place_between c.bytes o.at o.end
@@ -106,6 +110,9 @@ behind_name_at c levels = at_place c (turns_of (terms c levels false) (count_at 
 abbrev pub behind_statement_at : StatementKind → Site → ℕ → Site
 behind_statement_at k c levels = at_place c (behind_statement (terms c levels) k c.place)
 
+abbrev pub behind_wide_at : WideKind → Site → ℕ → Site
+behind_wide_at k c levels = at_place c (behind_wide (terms c levels) k c.place)
+
 abbrev pub behind_coded : RowPlace → Site → ℕ → Site
 behind_coded o c levels = at_place c (with_row (terms c levels) (row_at o) c.place).1
 
@@ -139,6 +146,7 @@ ends (frames.Element k) c = at_position c k.outer
 ends (frames.Operand k levels) c = monadic_ends k levels c
 ends (frames.First k levels) c = dyadic_ends k levels (behind_term c levels)
 ends (frames.Second o) c = dyadic_ends o.kind o.levels c
+ends (frames.Third levels v u) c = behind_target (optional levels) c
 ends (frames.Give v) c = c
 ends (frames.Quotient levels q) c = behind_target (optional levels) c
 ends frames.Found c = c
@@ -154,6 +162,8 @@ ends (frames.UnitWritten x) c = c
 ends (frames.Named o) c = c
 ends (frames.Scope p node) c = record c { scope = p }
 ends (frames.Declaration d) c = part_ends d c
+ends (frames.Match levels part) c = match_ends part levels c
+ends (frames.Matched x) c = c
 
 -- and when all that a step leaves is done
 abbrev pub next_ends : Next → Site → Site
@@ -228,6 +238,13 @@ module _ {S : Type 0} (accesses : Accesses S) (ev : Task → Run S Flow) where
   abbrev pub statement_run : StatementKind → Site → ℕ → Run S Flow
   statement_run k c levels = statement_rule ev k c.scope c.depth (statement_tree (terms c levels) k c.place)
 
+  -- a term of the wide profile whose operands stand next, and the same where the profile is asked first
+  abbrev pub wide_run : WideKind → Site → ℕ → Run S Flow
+  wide_run k c levels = wide_rule accesses ev k c.scope c.depth (wide_tree (terms c levels) k c.place)
+
+  abbrev pub asked_run : Opcode → WideKind → Site → ℕ → Run S Flow
+  asked_run op k c levels = in_wide op (wide_run k c levels)
+
   -- the term that stands next, whose step is paid
   abbrev pub begun_run : Site → ℕ → Run S Flow
   begun_run c levels = code_rule accesses ev (code_of (next_term c levels)) c.scope c.depth (next_term c levels)
@@ -283,6 +300,9 @@ module _ {S : Type 0} (accesses : Accesses S) (ev : Task → Run S Flow) where
   resumed (frames.Second o) c f = do
     u ← settle (value_in f)
     dyadic_done accesses ev o u c
+  resumed (frames.Third levels v u) c f = do
+    n ← settle (value_in f)
+    middle_done accesses ev levels v u n c
   resumed (frames.Give v) c f = give (flow.Value v)
   resumed (frames.Quotient levels q) c f = target_run accesses ev (optional levels) (uses.Store q) c
   resumed frames.Found c f = do
@@ -317,6 +337,12 @@ module _ {S : Type 0} (accesses : Accesses S) (ev : Task → Run S Flow) where
   resumed (frames.Declaration d) c f = do
     v ← settle (value_in f)
     part_declared ev d v c
+  resumed (frames.Match levels part) c f = do
+    v ← settle (value_in f)
+    match_left accesses ev part levels v c
+  resumed (frames.Matched x) c f = do
+    v ← settle (value_in f)
+    element_read accesses ev c.depth x v
 
   -- the body of a control method that takes no arguments, and then a frame
   abbrev pub entered_then : ℕ → List Seg → List ℕ → Frame → Site → Run S Flow

@@ -4,6 +4,7 @@ pub mod Entering
 pub mod Declarations
 pub mod Follow
 pub mod Indexed
+pub mod Matching
 pub mod Operands
 pub mod Places
 pub mod ShortNames

@@ -15,6 +15,8 @@ use Rattle.aml_meaning.specs.declared.term_kind.OperatorKind.{OperatorKind}
 use Rattle.aml_meaning.specs.declared.term_kind.OperatorKind.TheVariants as operators
 use Rattle.aml_meaning.specs.declared.term_kind.StatementKind.{StatementKind}
 use Rattle.aml_meaning.specs.declared.term_kind.StatementKind.TheVariants as statements
+use Rattle.aml_meaning.specs.declared.term_kind.WideKind.{WideKind}
+use Rattle.aml_meaning.specs.declared.term_kind.WideKind.TheVariants as wides
 use Rattle.aml_meaning.specs.Terms.{kind_of}
 
 -- the place behind a term, and behind two
@@ -67,6 +69,28 @@ module _ (b : Below) where
 
   abbrev pub arguments_targets_at : Place → Parts
   arguments_targets_at p = part (inner (b false p).0) (part (inner (b false (behind_one b p)).0) (part (a_target b (behind_two b p)).0 (part (a_target b (a_target b (behind_two b p)).1).0 no_parts)))
+
+  abbrev pub three_arguments_target_at : Place → Parts
+  three_arguments_target_at p = part (inner (b false p).0) (part (inner (b false (behind_one b p)).0) (part (inner (b false (behind_two b p)).0) (part (a_target b (behind_one b (behind_two b p))).0 no_parts)))
+
+  -- Match: the byte of each operator stands behind the operand before it
+  abbrev pub behind_first : Place → Place
+  behind_first p = over 1 (behind_one b p)
+
+  abbrev pub behind_second : Place → Place
+  behind_second p = over 1 (behind_one b (behind_first p))
+
+  abbrev pub behind_match : Place → Place
+  behind_match p = behind_two b (behind_second p)
+
+  abbrev pub match_at : Place → Parts
+  match_at p =
+      part (inner (b false p).0)
+      (part (number (an_integer 1 (behind_one b p)).0)
+      (part (inner (b false (behind_first p)).0)
+      (part (number (an_integer 1 (behind_one b (behind_first p))).0)
+      (part (inner (b false (behind_second p)).0)
+      (part (inner (b false (behind_one b (behind_second p))).0) no_parts)))))
 
   abbrev pub super_at : Place → Parts
   super_at p = part (a_super_name b p).0 no_parts
@@ -163,12 +187,27 @@ module _ (b : Below) where
   behind_statement statements.Pause p = behind_one b p
   behind_statement statements.Fatal p = behind_one b (over 4 (over 1 p))
 
+  abbrev pub wide_parts : WideKind → Place → Parts
+  wide_parts (wides.Convert k) p = argument_target_at p
+  wide_parts wides.ToString p = arguments_target_at p
+  wide_parts wides.Mid p = three_arguments_target_at p
+  wide_parts wides.Match p = match_at p
+
+  abbrev pub behind_wide : WideKind → Place → Place
+  behind_wide (wides.Convert k) p = (a_target b (behind_one b p)).1
+  behind_wide wides.ToString p = (a_target b (behind_two b p)).1
+  behind_wide wides.Mid p = (a_target b (behind_one b (behind_two b p))).1
+  behind_wide wides.Match p = behind_match p
+
   -- the term of an operator or a statement whose operands stand there: rules don't ask for its opcode
   abbrev pub operator_tree : OperatorKind → Place → Tree
   operator_tree k p = term codes.Name (operator_parts k p)
 
   abbrev pub statement_tree : StatementKind → Place → Tree
   statement_tree k p = term codes.Name (statement_parts k p)
+
+  abbrev pub wide_tree : WideKind → Place → Tree
+  wide_tree k p = term codes.Name (wide_parts k p)
 
   -- the same of data; how many bytes an integer takes, its opcode says
   abbrev pub data_tree : DataKind → RowPlace → Place → Tree

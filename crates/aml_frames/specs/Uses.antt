@@ -27,6 +27,8 @@ use Rattle.aml_meaning.specs.Stores.{copied_to}
 use Rattle.aml_meaning.specs.Mutexes.{acquired_at, given_back_at}
 use Rattle.aml_meaning.specs.Operations.{divided_in, turned, size_in, type_of_referent, type_number}
 use Rattle.aml_meaning.specs.OperatorTerms.{result_of_one, result_of_two, result_of_test, counted_by}
+use Rattle.aml_meaning.specs.FormedStores.{formed_to}
+use Rattle.aml_meaning.specs.WideOperations.{converted, string_in, middle_in}
 use Rattle.aml_meaning.specs.Regions.{value_of_bits, integer_of_bits, integer_alone, referent_of_bits}
 use Rattle.aml_meaning.specs.Fields.{unit_of, bits_in, written_in, region_bits, region_written}
 use Rattle.aml_meaning.specs.FieldCalls.{asked, answer_within, field_written, completed, stored_to, stored_back, held_value, held_integer, referent_read}
@@ -75,6 +77,7 @@ behind_target t c = at_place c (part_formed t.form (terms c t.levels) c.place).1
 abbrev pub use_ends : TargetUse → Site → Site
 use_ends (uses.Store v) c = c
 use_ends (uses.CopyObject v) c = c
+use_ends (uses.Form v) c = c
 use_ends (uses.Count k) c = c
 use_ends (uses.Inquire i) c = c
 use_ends uses.Acquire c = at_place c (over 2 c.place)
@@ -91,6 +94,7 @@ abbrev pub monadic_ends : Monadic → ℕ → Site → Site
 monadic_ends monadic.Store levels c = behind_target (super levels) c
 monadic_ends monadic.CopyObject levels c = behind_target (super levels) c
 monadic_ends (monadic.One k) levels c = behind_target (optional levels) c
+monadic_ends (monadic.Convert k) levels c = behind_target (optional levels) c
 monadic_ends monadic.LogicalNot levels c = c
 monadic_ends monadic.DerefOf levels c = c
 
@@ -98,6 +102,8 @@ abbrev pub dyadic_ends : Dyadic → ℕ → Site → Site
 dyadic_ends (dyadic.Two k) levels c = behind_target (optional levels) c
 dyadic_ends dyadic.Divide levels c = behind_target (optional levels) (behind_target (optional levels) c)
 dyadic_ends (dyadic.Test k) levels c = c
+dyadic_ends dyadic.ToString levels c = behind_target (optional levels) c
+dyadic_ends dyadic.Mid levels c = behind_target (optional levels) (behind_term c levels)
 
 -- ---- what is told of what an operand refers to
 
@@ -214,6 +220,9 @@ module _ {S : Type 0} (accesses : Accesses S) (ev : Task → Run S Flow) where
   used (uses.CopyObject v) c p = do
     s ← lift (copied_to p v)
     put_complete s v c
+  used (uses.Form v) c p = do
+    s ← lift (formed_to p v)
+    put_complete s v c
   used (uses.Count k) c p = do
     h ← lift (target_read p)
     n ← held_integer accesses ev c.depth h
@@ -257,6 +266,9 @@ module _ {S : Type 0} (accesses : Accesses S) (ev : Task → Run S Flow) where
   monadic_done (monadic.One k) levels v c = do
     r ← lift (result_of_one k v)
     target_run (optional levels) (uses.Store r) c
+  monadic_done (monadic.Convert k) levels v c = do
+    r ← lift (converted k v)
+    target_run (optional levels) (uses.Form r) c
   monadic_done monadic.LogicalNot levels v c = do
     r ← lift (turned v)
     give (flow.Value r)
@@ -264,6 +276,12 @@ module _ {S : Type 0} (accesses : Accesses S) (ev : Task → Run S Flow) where
     r ← settle (reference_in v)
     h ← lift (dereferenced r)
     held_given h c
+
+  -- Mid, with the values of its three operands
+  abbrev pub middle_done : ℕ → Value → Value → Value → Site → Run S Flow
+  middle_done levels v u n c = do
+    r ← lift (middle_in v u n)
+    target_run (optional levels) (uses.Store r) c
 
   abbrev pub dyadic_by : Dyadic → ℕ → Value → Value → Site → Run S Flow
   dyadic_by (dyadic.Two k) levels v u c = do
@@ -276,6 +294,12 @@ module _ {S : Type 0} (accesses : Accesses S) (ev : Task → Run S Flow) where
   dyadic_by (dyadic.Test k) levels v u c = do
     r ← lift (result_of_test k v u)
     give (flow.Value r)
+  dyadic_by dyadic.ToString levels v u c = do
+    r ← lift (string_in v u)
+    target_run (optional levels) (uses.Form r) c
+  dyadic_by dyadic.Mid levels v u c = do
+    n ← operand_value ev c.scope c.depth (next_term c levels)
+    middle_done levels v u n (behind_term c levels)
 
   abbrev pub dyadic_done : SecondOperand → Value → Site → Run S Flow
   dyadic_done o u c = dyadic_by o.kind o.levels o.first u c

@@ -1,5 +1,5 @@
 -- How much each frame may ask for without a step being paid: the sum falls while no term begins.
-use Rattle.std.specs.Prelude.{ℕ, zero, suc, ◌+◌, ◌*◌, List, length}
+use Rattle.std.specs.Prelude.{ℕ, zero, suc, ◌+◌, ◌*◌, ◌-◌, List, length}
 use Rattle.aml_fields.specs.declared.field_units.Unit.{Unit}
 use Rattle.aml_frames.specs.declared.frames.Frame.{Frame}
 use Rattle.aml_frames.specs.declared.frames.Frame.TheVariants as frames
@@ -57,6 +57,7 @@ most = field_weight 32
 abbrev pub use_weight : TargetUse → ℕ
 use_weight (uses.Store v) = most + 4
 use_weight (uses.CopyObject v) = most + 4
+use_weight (uses.Form v) = most + 4
 use_weight (uses.Count k) = 2 * most + 12
 use_weight (uses.Inquire i) = most + 4
 use_weight uses.Acquire = 4
@@ -99,6 +100,20 @@ abbrev pub left_weight : UnitsLeft → ℕ
 left_weight (units_left.Reads x) = reads_weight x
 left_weight (units_left.Writes x) = writes_weight x
 
+-- ---- Match: each element of a package may be the name of a field, which is read
+
+-- more than the elements of any package
+abbrev pub most_elements : ℕ
+most_elements = 18446744073709551616
+
+-- so many elements
+unfoldable pub search_weight : ℕ → ℕ
+search_weight left = left * (most + 10)
+
+-- the most that a search asks for
+unfoldable pub most_searched : ℕ
+most_searched = search_weight most_elements
+
 -- ---- frames: one that waits for a list weighs 1, and one that waits for a term 3 and what it asks for then
 
 abbrev pub weight : Frame → ℕ
@@ -106,6 +121,7 @@ weight (frames.Turn l) = 1
 weight (frames.Operand k levels) = most + 12
 weight (frames.First k levels) = 2 * most + 22
 weight (frames.Second o) = 2 * most + 22
+weight (frames.Third levels v u) = most + 12
 weight (frames.Quotient levels q) = most + 10
 weight (frames.IndexTarget u) = use_weight u + 5
 weight (frames.DerefTarget u) = use_weight u + 5
@@ -116,6 +132,8 @@ weight (frames.UnitChosen l u) = left_weight l + 3 * region_weight (field_access
 weight (frames.UnitRead l u) = left_weight l + 2 * region_weight (field_accessed l).calls + 1
 weight (frames.UnitMerged x n) = writes_weight x + region_weight x.field.calls + 1
 weight (frames.UnitWritten x) = writes_weight x + 1
+weight (frames.Match levels part) = most_searched + 4
+weight (frames.Matched x) = search_weight (x.left - 1) + 1
 weight _ = 3
 
 abbrev pub next_weight : Next → ℕ
@@ -136,8 +154,9 @@ next_weight (next.AccessThen a x) = access_weight a + weight x
 
 -- ---- steps: each pays for what a term asks for when it begins
 
+-- the most that a term asks for: that of a Match, and of any other
 unfoldable pub step_weight : ℕ
-step_weight = 3 * most + 100
+step_weight = most_searched + (3 * most + 100)
 
 unfoldable pub charged : ℕ → ℕ
 charged steps = step_weight * steps

@@ -6,7 +6,8 @@ ghost use Rattle.aml_grammar.specs.declared.opcode.TermCode.TheVariants as codes
 ghost use Rattle.aml_grammar.specs.Apart.{code_of, operand_of};
 ghost use Rattle.aml_grammar.specs.Names.{starts_name};
 ghost use Rattle.aml_grammar.specs.State.{is_next};
-ghost use Rattle.aml_marked.specs.Marked.{Below, count_at, first, over, name_length, a_name, a_size, a_term, a_call, a_target, turns_of, with_row, maybe_else};
+ghost use Rattle.aml_marked.specs.Marked.{Below, count_at, first, over, name_length, a_name, a_size, a_term, a_call};
+ghost use Rattle.aml_marked.specs.Marked.{a_target, turns_of, with_row, maybe_else};
 ghost use Rattle.aml_scan.specs.RowsAt.{row_at};
 ghost use Rattle.aml_scan.specs.declared.row_places.RowPlace.{RowPlace};
 ghost use Rattle.aml_terms.specs.AtTree.{at_tree};
@@ -26,7 +27,8 @@ use std::marker::Model;
 use std::mem;
 use std::rc::Rc;
 
-/// Where evaluation stands in a list of bytes: the offset of the next byte, and that behind the last one of its list or package.
+/// Where evaluation stands in a list of bytes: the offset of the next byte, and that behind the last one of its list
+/// or package.
 #[derive(Clone, Copy, Debug)]
 pub struct Position {
     pub at: usize,
@@ -58,7 +60,8 @@ impl MethodPath {
         })
     }
 
-    /// Another share of the same path. It takes no memory, and is refused as `OutOfMemory` where no more shares can be counted.
+    /// Another share of the same path. It takes no memory, and is refused as `OutOfMemory` where no more shares can
+    /// be counted.
     pub fn share(&self) -> Result<MethodPath, Refusal>
         ensures { Answers result (Ok self.now) }
     {
@@ -75,8 +78,8 @@ impl MethodPath {
     }
 }
 
-/// The table or the control method that is being evaluated: a share of its bytes and their marks, the scope that its names stand in, how
-/// many control methods are being called, and the place of the next byte.
+/// The table or the control method that is being evaluated: a share of its bytes and their marks, the scope that its
+/// names stand in, how many control methods are being called, and the place of the next byte.
 #[derive(Drop)]
 pub struct Activation {
     bytes: Body,
@@ -115,7 +118,13 @@ impl Activation {
         node: NodeId,
         depth: usize,
     ) -> Activation
-        ensures { result ≡ record { bytes = bytes; marks = marks; scope = scope; depth = depth; place = record { at = 0; rest = bytes } } }
+        ensures { result ≡ record {
+          bytes = bytes;
+          marks = marks;
+          scope = scope;
+          depth = depth;
+          place = record { at = 0; rest = bytes };
+        } }
     {
         let end = bytes.as_slice().len();
         Activation {
@@ -192,15 +201,19 @@ impl Activation {
         Cursor::new(self.position.at, rest)
     }
 
-    /// Goes over the opcode of the term that stands next, and gives the place of its row, as `Cursor::take_opcode` does.
+    /// Goes over the opcode of the term that stands next, and gives the place of its row, as `Cursor::take_opcode`
+    /// does.
     #[inline(always)]
     #[tactic(auto, using(crate::proofs::Between::moving))]
     pub fn take_opcode(&mut self, levels: u8) -> Option<RowPlace>
         ensures some { (place : RowPlace) → result ≡ Some place → 0 < levels }
-        ensures term { (place : RowPlace) → (count : ℕ → ℕ) → (element : Bool) → result ≡ Some place → a_term count levels element self.old.place ≡ with_row (a_term count (levels - 1)) (row_at place) self.new.place }
+        ensures term { (place : RowPlace) → (count : ℕ → ℕ) → (element : Bool) → result ≡ Some place →
+            a_term count levels element self.old.place ≡ with_row (a_term count (levels - 1))
+            (row_at place) self.new.place }
         ensures none { result ≡ None → self.new ≡ self.old }
         ensures moves { self.new ≡ at_place self.old self.new.place }
-        ensures uncoded { (count : ℕ → ℕ) → (element : Bool) → (opcode : Opcode) → result ≡ None → code_of (a_term count levels element self.old.place).0 ≢ codes.Opcode opcode }
+        ensures uncoded { (count : ℕ → ℕ) → (element : Bool) → (opcode : Opcode) → result ≡ None →
+            code_of (a_term count levels element self.old.place).0 ≢ codes.Opcode opcode }
     {
         let mut cursor = self.cursor();
         let place = cursor.take_opcode(levels);
@@ -220,8 +233,10 @@ impl Activation {
     /// Whether a call begins here: a name, with a level left for its arguments.
     pub fn is_at_call(&self, levels: u8) -> bool
         ensures levels { result ≡ true → 0 < levels }
-        ensures call { (count : ℕ → ℕ) → result ≡ true → a_term count levels false self.now.place ≡ a_call (a_term count (levels - 1)) count self.now.place }
-        ensures none { (count : ℕ → ℕ) → result ≡ false → code_of (a_term count levels false self.now.place).0 ≢ codes.MethodInvocation }
+        ensures call { (count : ℕ → ℕ) → result ≡ true → a_term count levels false self.now.place ≡
+            a_call (a_term count (levels - 1)) count self.now.place }
+        ensures none { (count : ℕ → ℕ) → result ≡ false → code_of (a_term count levels false self.now.place).0 ≢
+            codes.MethodInvocation }
     {
         self.cursor().is_at_call(levels)
     }
@@ -311,7 +326,8 @@ impl Activation {
 
     /// The number that is the operand of a term, by the place of its row.
     pub fn number(&self, levels: u8, place: RowPlace) -> Result<u64, Refusal>
-        ensures answer { Answers result (number_of (operand_of (with_row (terms self.now levels) (row_at place) self.now.place).0 0)) }
+        ensures answer { Answers result
+            (number_of (operand_of (with_row (terms self.now levels) (row_at place) self.now.place).0 0)) }
         ensures memory { NotMemory result }
     {
         match self
@@ -382,8 +398,13 @@ impl Activation {
     /// Goes into the package whose length stands next, and gives what stands behind it.
     #[tactic(auto, using(crate::proofs::Between::moving))]
     pub fn open(&mut self) -> Position
-        ensures inside { self.new ≡ at_place self.old (record (a_size self.old.place).1 { rest = take (a_size self.old.place).0 (a_size self.old.place).1.rest }) }
-        ensures outer { place_between self.old.bytes result.at result.end ≡ over (a_size self.old.place).0 (a_size self.old.place).1 }
+        ensures inside { self.new ≡
+            at_place self.old (record (a_size self.old.place).1 {
+              rest =
+                  take (a_size self.old.place).0 (a_size self.old.place).1.rest;
+            }) }
+        ensures outer { place_between self.old.bytes result.at result.end ≡
+            over (a_size self.old.place).0 (a_size self.old.place).1 }
     {
         let mut cursor = self.cursor();
         let outer = cursor.open();
@@ -404,7 +425,8 @@ impl Activation {
     /// What stands behind the Else that may follow at a position.
     #[tactic(auto, using(crate::proofs::Between::moving))]
     pub fn behind_else(&self, outer: Position) -> Position
-        ensures { (below : Below) → place_between self.now.bytes result.at result.end ≡ (maybe_else below (place_between self.now.bytes outer.at outer.end)).1 }
+        ensures { (below : Below) → place_between self.now.bytes result.at result.end ≡
+            (maybe_else below (place_between self.now.bytes outer.at outer.end)).1 }
     {
         let mut cursor = self.cursor_at(outer);
         cursor.over_else();

@@ -1,5 +1,5 @@
-//! What an object answers that is a part of an address (ACPI 6.5, 5.5.2.4): one more call is made, of those that may be made one inside
-//! another.
+//! What an object answers that is a part of an address (ACPI 6.5, 5.5.2.4): one more call is made, of those that may
+//! be made one inside another.
 ghost use Rattle.std.specs.Prelude.{◌≡◌, ◌≤◌, [], IfOk, Ok};
 ghost use Rattle.ar_space.specs.Change.{Does, settle};
 ghost use Rattle.ar_space.specs.Outcome.{Answers, NotMemory};
@@ -30,7 +30,8 @@ pub(crate) fn ask<S: Space>(
 ) -> Result<Asked, Refusal>
     ensures spent { run.new.1 ≤ run.old.1 }
     ensures few { IfOk result (λ a. asked_weight a ≤ part_weight calls) }
-    ensures means { Asks S.accesses (meaning S.accesses) result run.new (asking S.accesses (meaning S.accesses) calls path.now) run.old }
+    ensures means { Asks S.accesses (meaning S.accesses) result run.new
+        (asking S.accesses (meaning S.accesses) calls path.now) run.old }
 {
     let found = invocation(alloc, &run.world, path)?;
     answer(run, calls, found)
@@ -41,7 +42,8 @@ pub(crate) fn ask<S: Space>(
 fn answer<S: Space>(run: &Running<S>, calls: usize, found: Invocation) -> Result<Asked, Refusal>
     ensures memory { NotMemory result }
     ensures few { IfOk result (λ a. asked_weight a ≤ part_weight calls) }
-    ensures means { Asks S.accesses (meaning S.accesses) result run.now (answer_within S.accesses (meaning S.accesses) calls found) run.now }
+    ensures means { Asks S.accesses (meaning S.accesses) result run.now
+        (answer_within S.accesses (meaning S.accesses) calls found) run.now }
 {
     if calls == 0 {
         return Err(Refusal::Evaluation(EvaluationFault::CallDepth));

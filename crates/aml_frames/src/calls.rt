@@ -6,7 +6,8 @@ ghost use Rattle.aml_meaning.specs.Meaning.{meaning};
 ghost use Rattle.aml_meaning.specs.Invocations.{shallow, frame_arguments, invoked};
 ghost use Rattle.aml_frames.specs.declared.frames.Frame.TheVariants as frames;
 ghost use Rattle.aml_frames.specs.Entering.{Enters};
-ghost use Rattle.aml_frames.specs.Follow.{called, entered_then, arguments_left, behind_arguments, resumed, ends, Leads, EndsAt};
+ghost use Rattle.aml_frames.specs.Follow.{called, entered_then, arguments_left, behind_arguments, resumed, ends, Leads};
+ghost use Rattle.aml_frames.specs.Follow.{EndsAt};
 ghost use Rattle.aml_frames.specs.Weights.{weight, next_weight};
 
 use crate::activation::{Activation, MethodPath};

@@ -1,4 +1,5 @@
-//! Data that terms form: integers, strings and buffers; how packages begin (ACPI 6.5, 19.6 and 20.2.3). The parts stand next.
+//! Data that terms form: integers, strings and buffers; how packages begin (ACPI 6.5, 19.6 and 20.2.3). The parts
+//! stand next.
 ghost use Rattle.std.specs.Prelude.{◌≡◌, ◌≤◌, ◌<◌, ◌+◌, OnOk, IfOk, Ok};
 ghost use Rattle.ar_space.specs.Outcome.{Answers, NotMemory};
 ghost use Rattle.aml_marked.specs.Marked.{a_text, with_row};

@@ -1,4 +1,5 @@
-//! Terms that declare something, and the scopes that they stand in (ACPI 6.5, 19.6 and 20.2.5). The operands stand next.
+//! Terms that declare something, and the scopes that they stand in (ACPI 6.5, 19.6 and 20.2.5). The operands stand
+//! next.
 ghost use Rattle.std.specs.Prelude.{◌≡◌, ◌≤◌, ◌<◌, ◌+◌, Ok, IfOk};
 ghost use Rattle.ar_space.specs.Change.{Does};
 ghost use Rattle.aml_marked.specs.Marked.{a_name};
@@ -11,7 +12,9 @@ ghost use Rattle.aml_frames.specs.declared.frames.Frame.TheVariants as frames;
 ghost use Rattle.aml_frames.specs.declared.frames.Next.TheVariants as next;
 ghost use Rattle.aml_frames.specs.Places.{at_place, terms};
 ghost use Rattle.aml_frames.specs.Operands.{behind_one, outside_at};
-ghost use Rattle.aml_frames.specs.Declarations.{coded_tree, behind_numbers, declaration_run, behind_declaration_at, declared_at, named_run, list_in, scope_run, new_scope_run};
+ghost use Rattle.aml_frames.specs.Declarations.{coded_tree, behind_numbers, declaration_run, behind_declaration_at};
+ghost use Rattle.aml_frames.specs.Declarations.{declared_at, named_run, list_in, scope_run, new_scope_run};
+ghost use Rattle.aml_frames.specs.Declarations.{scope_object};
 ghost use Rattle.aml_frames.specs.Follow.{place_of, at_position, behind_coded, resumed, ends, next_ends, Leads, EndsAt};
 ghost use Rattle.aml_frames.specs.Weights.{next_weight};
 
@@ -26,7 +29,8 @@ use aml_terms::RowPlace;
 use ar_space::{Refusal, Space};
 use std::alloc::Global;
 
-/// A term that declares something, or a Scope, by its kind and the place of its row: it is done, or its first part is evaluated.
+/// A term that declares something, or a Scope, by its kind and the place of its row: it is done, or its first part is
+/// evaluated.
 #[tactic(auto, using(crate::proofs::Declaring::declaring_terms))]
 pub fn begin_declaration<S: Space>(
     alloc: Global,
@@ -44,40 +48,10 @@ pub fn begin_declaration<S: Space>(
 {
     match kind {
         DeclarationKind::Scope => begin_scope(alloc, run, act, levels),
-        DeclarationKind::Device => {
-            begin_new_scope(
-                alloc,
-                run,
-                act,
-                levels,
-                DeclarationKind::Device,
-                NamedObject::Device,
-            )
-        }
-        DeclarationKind::Processor => begin_new_scope(
-            alloc,
-            run,
-            act,
-            levels,
-            DeclarationKind::Processor,
-            NamedObject::Processor,
-        ),
-        DeclarationKind::PowerResource => begin_new_scope(
-            alloc,
-            run,
-            act,
-            levels,
-            DeclarationKind::PowerResource,
-            NamedObject::PowerResource,
-        ),
-        DeclarationKind::ThermalZone => begin_new_scope(
-            alloc,
-            run,
-            act,
-            levels,
-            DeclarationKind::ThermalZone,
-            NamedObject::ThermalZone,
-        ),
+        DeclarationKind::Device => begin_new_scope(alloc, run, act, levels, kind),
+        DeclarationKind::Processor => begin_new_scope(alloc, run, act, levels, kind),
+        DeclarationKind::PowerResource => begin_new_scope(alloc, run, act, levels, kind),
+        DeclarationKind::ThermalZone => begin_new_scope(alloc, run, act, levels, kind),
         DeclarationKind::Name => Ok(begin_named(run, act, levels)),
         DeclarationKind::Alias => {
             let flow = declare_alias(alloc, run, act, levels, place)?;
@@ -122,7 +96,8 @@ fn declare<S: Space>(
 ) -> Result<Flow, Refusal>
     ensures spent { run.new.1 ≤ run.old.1 }
     ensures means { Does result run.new
-        (declaring (meaning S.accesses) act.now.scope act.now.depth (coded_tree place act.now levels) 0 object) run.old }
+        (declaring (meaning S.accesses) act.now.scope act.now.depth
+        (coded_tree place act.now levels) 0 object) run.old }
 {
     let name = act.coded_term(levels, place).name(alloc, 0)?;
     let path = name.resolve_in(alloc, act.scope().path)?;
@@ -187,7 +162,8 @@ fn begin_named<S: Space>(run: &Running<S>, act: &mut Activation, levels: u8) -> 
     ensures falls { next_weight result < 6 }
     ensures means { Leads S.accesses (meaning S.accesses) (Ok result) act.new run.now
         (named_run (meaning S.accesses) act.old levels) run.now }
-    ensures ends { next_ends result act.new ≡ at_place act.old (behind_one (terms act.old levels) (a_name act.old.place).1) }
+    ensures ends { next_ends result act.new ≡
+        at_place act.old (behind_one (terms act.old levels) (a_name act.old.place).1) }
 {
     let name = act.position();
     act.over_name();
@@ -267,23 +243,41 @@ fn begin_new_scope<S: Space>(
     act: &mut Activation,
     levels: u8,
     kind: DeclarationKind,
-    object: NamedObject,
 ) -> Result<Next, Refusal>
     ensures spent { run.new.1 ≤ run.old.1 }
     ensures falls { IfOk result (λ n. next_weight n < 10) }
     ensures means { Leads S.accesses (meaning S.accesses) result act.new run.new
-        (new_scope_run (meaning S.accesses) kind object act.old levels) run.old }
+        (new_scope_run (meaning S.accesses) kind (scope_object kind) act.old levels) run.old }
     ensures ends { EndsAt result act.new (at_place act.old (outside_at act.old.place)) }
 {
     let outer = act.open();
     let name = act.name(alloc)?;
     let path = name.resolve_in(alloc, act.scope().path)?;
-    declare_scope(alloc, &mut run.world, act.depth(), &path, object)?;
+    declare_scope(
+        alloc,
+        &mut run.world,
+        act.depth(),
+        &path,
+        scope_object(kind),
+    )?;
     let node = run.world.scope(&path).node;
     let scope = MethodPath::new(alloc, path)?;
     act.over_name();
     over_numbers(act, kind);
     Ok(begin_list_in(run, act, levels, outer, (scope, node)))
+}
+
+/// What a term that opens a new scope declares; of other terms a plain scope.
+fn scope_object(kind: DeclarationKind) -> NamedObject
+    ensures { result ≡ scope_object kind }
+{
+    match kind {
+        DeclarationKind::Device => NamedObject::Device,
+        DeclarationKind::Processor => NamedObject::Processor,
+        DeclarationKind::PowerResource => NamedObject::PowerResource,
+        DeclarationKind::ThermalZone => NamedObject::ThermalZone,
+        _ => NamedObject::Scope,
+    }
 }
 
 /// Declares a name at a path that is used again.

@@ -1,4 +1,5 @@
-//! Evaluations from outside: a call of a control method, the terms of a table, and the integer that an object answers (ACPI 6.5, 5.5).
+//! Evaluations from outside: a call of a control method, the terms of a table, and the integer that an object answers
+//! (ACPI 6.5, 5.5).
 ghost use Rattle.std.specs.Prelude.{◌≡◌, ℕ, [], Ok};
 ghost use Rattle.ar_space.specs.Change.{Does};
 ghost use Rattle.ar_space.specs.Outcome.{Answers, seen};
@@ -24,11 +25,12 @@ use aml_terms::{Arities, scan_list};
 use ar_space::{Refusal, Space};
 use std::alloc::Global;
 
-/// Calls the control method at a path, with its body, where so many are being called already, and gives its value; one that gives none is
-/// uninitialized. However its body ends, unless memory runs out, the call ends: its frame of slots, and the names below it.
+/// Calls the control method at a path, with its body, where so many are being called already, and gives its value;
+/// one that gives none is uninitialized. However its body ends, unless memory runs out, the call ends: its frame of
+/// slots, and the names below it.
 ///
-/// Refused: `CallDepth` where 32 are being called, as a scan of the body refuses it, and as its evaluation is. `OutOfMemory` where memory
-/// runs out: then nothing is said of the world.
+/// Refused: `CallDepth` where 32 are being called, as a scan of the body refuses it, and as its evaluation is.
+/// `OutOfMemory` where memory runs out: then nothing is said of the world.
 #[tactic(auto, using(aml_meaning::proofs::Runs::running), unfolding(aml_meaning::specs::Invocations::method_value))]
 pub fn call_method<S: Space>(
     alloc: Global,
@@ -71,10 +73,12 @@ pub fn evaluate_list<S: Space>(
     run_list(alloc, run, list)
 }
 
-/// The integer that the object at a path answers, without arguments, where so many calls may still be made one inside another.
+/// The integer that the object at a path answers, without arguments, where so many calls may still be made one inside
+/// another.
 ///
-/// Refused: `NotFound` where nothing stands there, `ArityChanged` where it takes arguments, `CallDepth` where no call is left, `NoValue`
-/// where it has no value, `WrongType` where it answers another one than an integer, and as its evaluation is.
+/// Refused: `NotFound` where nothing stands there, `ArityChanged` where it takes arguments, `CallDepth` where no call
+/// is left, `NoValue` where it has no value, `WrongType` where it answers another one than an integer, and as its
+/// evaluation is.
 #[tactic(auto, using(crate::proofs::Entering::asked_whole))]
 pub fn ask_integer<S: Space>(
     alloc: Global,

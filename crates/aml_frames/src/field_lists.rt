@@ -1,20 +1,24 @@
-//! Lists of fields in an operation region, and behind an index field (ACPI 6.5, 19.6: Field, IndexField; 20.2.5.2: FieldList).
+//! Lists of fields in an operation region, and behind an index field (ACPI 6.5, 19.6: Field, IndexField; 20.2.5.2:
+//! FieldList).
 ghost use Rattle.std.specs.Prelude.{◌≡◌, ◌≤◌};
 ghost use Rattle.ar_space.specs.Change.{Does};
-ghost use Rattle.ar_space.specs.Outcome.{Answers};
+ghost use Rattle.ar_space.specs.Outcome.{NotMemory};
 ghost use Rattle.aml_grammar.specs.Apart.{code_of};
 ghost use Rattle.aml_terms.specs.AtTree.{at_tree, at_list};
 ghost use Rattle.aml_meaning.specs.Meaning.{meaning};
-ghost use Rattle.aml_meaning.specs.FieldTerms.{field_list_rule, index_list_rule, fields_laid, elements_laid, element_laid, named_field, reserved_field, access_field, is_connection, has_connection, unconnected};
+ghost use Rattle.aml_meaning.specs.FieldTerms.{field_list_rule, index_list_rule, fields_laid, elements_laid};
+ghost use Rattle.aml_meaning.specs.FieldTerms.{element_laid, named_field, reserved_field, access_field};
+ghost use Rattle.aml_meaning.specs.FieldTerms.{named_connection, connection_if, connected_field, is_connection};
+ghost use Rattle.aml_meaning.specs.FieldTerms.{has_connection, connections_asked};
 ghost use Rattle.aml_frames.specs.Declarations.{coded_tree};
 
 use crate::activation::Activation;
-use crate::operands::{list, number};
+use crate::operands::{is_named, list, number};
 use aml_grammar::{Opcode, TermCode, TermReader};
 use aml_meaning::{FieldGroup, FieldLayout, Flow, Running, WorldState, access_width, update_rule};
 use aml_objects::FieldSource;
 use aml_terms::{At, RowPlace};
-use ar_space::{EvaluationFault, NameFault, Refusal, Space};
+use ar_space::{NameFault, Refusal, Space};
 use std::alloc::Global;
 
 /// Field: the fields of an operation region.
@@ -32,7 +36,7 @@ pub(crate) fn declare_fields<S: Space>(
 {
     let term = act.coded_term(levels, place);
     let elements = list(&term, 2)?;
-    unconnected(Opcode::Field, elements)?;
+    ask_for_connections(&run.world, Opcode::Field, elements)?;
     let name = term.name(alloc, 0)?;
     let region = run.world.region_found(act.scope(), &name)?;
     let flags = number(&term, 1)?;
@@ -61,7 +65,7 @@ pub(crate) fn declare_index_fields<S: Space>(
 {
     let term = act.coded_term(levels, place);
     let elements = list(&term, 3)?;
-    unconnected(Opcode::IndexField, elements)?;
+    ask_for_connections(&run.world, Opcode::IndexField, elements)?;
     let name = term.name(alloc, 0)?;
     let index = run.world.field_found(act.scope(), &name)?;
     let name = term.name(alloc, 1)?;
@@ -88,7 +92,8 @@ fn lay_fields<S: Space>(
     elements: At<'_>,
 ) -> Result<Flow, Refusal>
     ensures spent { run.new.1 ≤ run.old.1 }
-    ensures means { Does result run.new (fields_laid act.now.scope act.now.depth source flags (at_list elements.entry)) run.old }
+    ensures means { Does result run.new (fields_laid act.now.scope act.now.depth source flags
+        (at_list elements.entry)) run.old }
 {
     let group = FieldGroup {
         source,
@@ -111,7 +116,8 @@ fn lay_elements<S: Space>(
     first: FieldLayout,
     elements: &At<'_>,
 ) -> Result<(), Refusal>
-    ensures { Does result world.new (elements_laid group act.now.scope act.now.depth first (at_list elements.now)) world.old }
+    ensures { Does result world.new (elements_laid group act.now.scope act.now.depth first
+        (at_list elements.now)) world.old }
 {
     let mut at = first;
     let mut rest = *elements;
@@ -137,14 +143,15 @@ fn lay_element<S: Space>(
     element: &At<'_>,
 ) -> Result<FieldLayout, Refusal>
     ensures { Does result world.new
-        (element_laid group act.now.scope act.now.depth (code_of (at_tree element.now)) at (at_tree element.now)) world.old }
+        (element_laid group act.now.scope act.now.depth (code_of (at_tree element.now)) at
+        (at_tree element.now)) world.old }
 {
     match element.code() {
         TermCode::NamedField => lay_named(alloc, world, act, group, at, element),
         TermCode::ReservedField => lay_reserved(world, act, group, at, element),
         TermCode::AccessField => lay_access(world, act, group, at, element),
         TermCode::ExtendedAccessField => lay_access(world, act, group, at, element),
-        TermCode::ConnectField => Err(Refusal::Name(NameFault::BadName)),
+        TermCode::ConnectField => lay_connection(alloc, world, act, group, at, element),
         TermCode::Name => Err(Refusal::Name(NameFault::BadName)),
         TermCode::MethodInvocation => Err(Refusal::Name(NameFault::BadName)),
         TermCode::Opcode(_) => Err(Refusal::Name(NameFault::BadName)),
@@ -178,7 +185,8 @@ fn lay_reserved<S: Space>(
     at: FieldLayout,
     element: &At<'_>,
 ) -> Result<FieldLayout, Refusal>
-    ensures { Does result world.now (reserved_field group act.now.scope act.now.depth at (at_tree element.now)) world.now }
+    ensures { Does result world.now (reserved_field group act.now.scope act.now.depth at
+        (at_tree element.now)) world.now }
 {
     let count = number(element, 0)?;
     at.further(count)
@@ -193,21 +201,64 @@ fn lay_access<S: Space>(
     at: FieldLayout,
     element: &At<'_>,
 ) -> Result<FieldLayout, Refusal>
-    ensures { Does result world.now (access_field group act.now.scope act.now.depth at (at_tree element.now)) world.now }
+    ensures { Does result world.now (access_field group act.now.scope act.now.depth at
+        (at_tree element.now)) world.now }
 {
     let flags = number(element, 0)?;
     Ok(at.with_access(flags))
 }
 
-/// A list in which a connection stands is not evaluated.
-fn unconnected(opcode: Opcode, elements: At<'_>) -> Result<(), Refusal>
-    ensures { Answers result (unconnected opcode (at_list elements.entry)) }
+/// A Connection: the fields behind it go on where they would without it.
+#[tactic(auto, using(aml_meaning::proofs::Runs::running))]
+fn lay_connection<S: Space>(
+    alloc: Global,
+    world: &WorldState<S>,
+    act: &Activation,
+    group: FieldGroup,
+    at: FieldLayout,
+    element: &At<'_>,
+) -> Result<FieldLayout, Refusal>
+    ensures { Does result world.now (connected_field group act.now.scope act.now.depth at
+        (at_tree element.now)) world.now }
+{
+    if is_named(element, 0) {
+        return test_connection(alloc, world, act, group, at, element);
+    }
+    Ok(at)
+}
+
+/// A Connection that is a name has to be that of a buffer.
+#[tactic(auto, using(aml_meaning::proofs::Runs::running), unfolding(aml_meaning::specs::FieldTerms::named_connection))]
+fn test_connection<S: Space>(
+    alloc: Global,
+    world: &WorldState<S>,
+    act: &Activation,
+    group: FieldGroup,
+    at: FieldLayout,
+    element: &At<'_>,
+) -> Result<FieldLayout, Refusal>
+    ensures { Does result world.now (named_connection group act.now.scope act.now.depth at
+        (at_tree element.now)) world.now }
+{
+    let name = element.name(alloc, 0)?;
+    world.connection_found(act.scope(), &name)?;
+    Ok(at)
+}
+
+/// A list in which a Connection stands is one of the wide profile.
+#[tactic(auto, using(aml_meaning::proofs::Runs::running))]
+fn ask_for_connections<S: Space>(
+    world: &WorldState<S>,
+    opcode: Opcode,
+    elements: At<'_>,
+) -> Result<(), Refusal>
+    ensures answer { Does result world.now (connections_asked opcode (at_list elements.entry)) world.now }
+    ensures memory { NotMemory result }
 {
     if has_connection(elements) {
-        Err(Refusal::Evaluation(EvaluationFault::Unsupported(opcode.number())))
-    } else {
-        Ok(())
+        return world.ask_for(opcode);
     }
+    Ok(())
 }
 
 fn has_connection(elements: At<'_>) -> bool

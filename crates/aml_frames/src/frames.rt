@@ -8,7 +8,7 @@ use crate::boxed::Boxed;
 use crate::indexed::{UnitWrites, UnitsLeft};
 use crate::uses::{Access, Dyadic, Inquiry, Monadic, Reading, SecondOperand, Target, TargetUse};
 use aml_fields::Unit;
-use aml_meaning::{BufferFieldSize, Count, Flow, StoreTarget};
+use aml_meaning::{BufferFieldSize, Count, Flow, Searching, StoreTarget};
 use aml_objects::{Body, Elements, Field, NodeId, Reference, Value};
 use aml_path::Path;
 use ar_space::Refusal;
@@ -74,7 +74,8 @@ pub struct Package {
     pub done: Elements,
 }
 
-/// An operand of a declaration of a region or of a buffer field, while it is evaluated, with what was read and evaluated before it.
+/// An operand of a declaration of a region or of a buffer field, while it is evaluated, with what was read and
+/// evaluated before it.
 #[derive(Clone, Copy, Debug)]
 pub enum DeclarationPart {
     /// The offset of an operation region with so many levels below it: its address space, and where its name stands.
@@ -91,6 +92,20 @@ pub enum DeclarationPart {
     BitsIndex(u8, Value),
     /// How many bits such a field has: its buffer, and the index of its first bit.
     BitsCount(Value, Value),
+}
+
+/// An operand of a Match, while it is evaluated, with what was read and evaluated before it. The bytes of operators
+/// stand behind the operands before them.
+#[derive(Clone, Copy, Debug)]
+pub enum MatchPart {
+    /// The package.
+    Package,
+    /// The first object: the package, and the byte of the first operator.
+    First(Value, u8),
+    /// The second object: the package, the first operator with its object, and the byte of the second operator.
+    Second(Value, (u8, Value), u8),
+    /// The start: the package, and both operators with their objects.
+    Start(Value, (u8, Value), (u8, Value)),
 }
 
 /// A term that is half done, which waits for what a part of it leaves.
@@ -114,7 +129,8 @@ pub enum Frame {
     Argument(Boxed<Call>),
     /// A Buffer, while its size is evaluated: where evaluation goes on behind it.
     Buffer(Position),
-    /// A VarPackage with so many levels below it, while the number of its elements is evaluated: where evaluation goes on behind it.
+    /// A VarPackage with so many levels below it, while the number of its elements is evaluated: where evaluation
+    /// goes on behind it.
     VarPackage(u8, Position),
     /// A package, while one of its elements is evaluated; those behind it are left.
     Element(Boxed<Package>),
@@ -124,6 +140,8 @@ pub enum Frame {
     First(Dyadic, u8),
     /// The same, while the second one is.
     Second(SecondOperand),
+    /// A Mid with so many levels below it, while the third of its operands is evaluated: the first two.
+    Third(u8, Value, Value),
     /// A term whose value this is, while a field is written with it.
     Give(Value),
     /// A Divide with so many levels below it, while its remainder is stored: its quotient.
@@ -140,22 +158,27 @@ pub enum Frame {
     Counted(Count, Boxed<(StoreTarget, Field)>),
     /// An access of a field of PCI_Config, while a part of its address is asked for.
     Address(Boxed<PciAccess>),
-    /// An access of a field behind an index field, while the offset of this unit is written to the index field: the data field is read
-    /// then.
+    /// An access of a field behind an index field, while the offset of this unit is written to the index field: the
+    /// data field is read then.
     UnitChosen(Boxed<UnitsLeft>, Unit),
     /// The same, while the data field is read.
     UnitRead(Boxed<UnitsLeft>, Unit),
-    /// A write of a field behind an index field, while the offset of a unit is written to the index field: the data field is written with
-    /// this number then.
+    /// A write of a field behind an index field, while the offset of a unit is written to the index field: the data
+    /// field is written with this number then.
     UnitMerged(Boxed<UnitWrites>, u64),
     /// The same, while the data field is written.
     UnitWritten(Boxed<UnitWrites>),
     /// A Name, while its datum is evaluated: where its name stands.
     Named(Position),
-    /// A Scope, a Device, a Processor, a PowerResource or a ThermalZone, while its list is evaluated: the scope around it, and its node.
+    /// A Scope, a Device, a Processor, a PowerResource or a ThermalZone, while its list is evaluated: the scope
+    /// around it, and its node.
     Scope(MethodPath, NodeId),
     /// A declaration of an operation region or of a buffer field, while one of its operands is evaluated.
     Declaration(DeclarationPart),
+    /// A Match with so many levels below it, while one of its operands is evaluated.
+    Match(u8, Boxed<MatchPart>),
+    /// A Match, while the field is read that its next element is the name of.
+    Matched(Boxed<Searching>),
 }
 
 /// What a step leaves to do.

@@ -1,5 +1,6 @@
-//! Accesses of fields behind an index field and a data field, one unit after another, lowest first (ACPI 6.5, 19.6: IndexField). The offset
-//! of a unit is written to the index field before the data field is read or written, and each of these accesses is waited for.
+//! Accesses of fields behind an index field and a data field, one unit after another, lowest first (ACPI 6.5, 19.6:
+//! IndexField). The offset of a unit is written to the index field before the data field is read or written, and each
+//! of these accesses is waited for.
 ghost use Rattle.std.specs.Prelude.{◌≡◌, ◌≤◌, ◌<◌, ◌+◌, ◌*◌, IfOk, Ok};
 ghost use Rattle.ar_space.specs.Outcome.{Answers};
 ghost use Rattle.aml_fields.specs.Units.{units_of};
@@ -7,8 +8,10 @@ ghost use Rattle.aml_meaning.specs.Fields.{unit_bytes};
 ghost use Rattle.aml_meaning.specs.Meaning.{meaning};
 ghost use Rattle.aml_frames.specs.declared.indexed.UnitsLeft.TheVariants as units_left;
 ghost use Rattle.aml_frames.specs.Follow.{number_written_then, ends, next_ends, Leads, EndsAt};
-ghost use Rattle.aml_frames.specs.Indexed.{field_accessed, reads_done, writes_done, unit_met, unit_given, unit_behind, unit_chosen, unit_merged, indexed_done};
-ghost use Rattle.aml_frames.specs.Weights.{reads_weight, writes_weight, left_weight, region_weight, field_weight, weight, next_weight};
+ghost use Rattle.aml_frames.specs.Indexed.{field_accessed, reads_done, writes_done, unit_met, unit_given, unit_behind};
+ghost use Rattle.aml_frames.specs.Indexed.{unit_chosen, unit_merged, indexed_done};
+ghost use Rattle.aml_frames.specs.Weights.{reads_weight, writes_weight, left_weight, region_weight, field_weight};
+ghost use Rattle.aml_frames.specs.Weights.{weight, next_weight};
 
 use crate::activation::Activation;
 use crate::boxed::Boxed;
@@ -25,7 +28,8 @@ use aml_objects::{FieldUnit, Octets};
 use ar_space::{Refusal, Space, Width};
 use std::alloc::Global;
 
-/// The index field and the data field with these numbers of declarations are looked up, and the units of a field behind them are accessed.
+/// The index field and the data field with these numbers of declarations are looked up, and the units of a field
+/// behind them are accessed.
 #[tactic(auto, using(crate::proofs::UnitSteps::indexed))]
 pub(crate) fn begin_indexed<S: Space>(
     alloc: Global,
@@ -75,7 +79,8 @@ fn field_units(bit_offset: u64, bits: u32, width: Width) -> FieldUnits
     units(bit_offset, bits, width)
 }
 
-/// The next unit is read: its offset is written to the index field first. Behind the last unit the bits are read as a value.
+/// The next unit is read: its offset is written to the index field first. Behind the last unit the bits are read as a
+/// value.
 #[tactic(auto, using(crate::proofs::UnitSteps::unit_by_unit))]
 fn next_read<S: Space>(
     alloc: Global,
@@ -132,7 +137,8 @@ fn choose<S: Space>(
     units: UnitsLeft,
     unit: Unit,
 ) -> Result<Next, Refusal>
-    ensures falls { IfOk result (λ n. next_weight n ≤ left_weight units + 4 * region_weight (field_accessed units).calls + 1) }
+    ensures falls { IfOk result (λ n. next_weight n ≤ left_weight units + 4 *
+        region_weight (field_accessed units).calls + 1) }
     ensures means { Leads S.accesses (meaning S.accesses) result act.now run.now
         (unit_chosen S.accesses (meaning S.accesses) units unit) run.now }
     ensures ends { EndsAt result act.now act.now }
@@ -152,7 +158,8 @@ pub(crate) fn read_chosen<S: Space>(
     units: Boxed<UnitsLeft>,
     unit: Unit,
 ) -> Result<Next, Refusal>
-    ensures falls { IfOk result (λ n. next_weight n ≤ left_weight units + 3 * region_weight (field_accessed units).calls + 1) }
+    ensures falls { IfOk result (λ n. next_weight n ≤ left_weight units + 3 *
+        region_weight (field_accessed units).calls + 1) }
     ensures means { Leads S.accesses (meaning S.accesses) result act.now run.now
         (unit_behind S.accesses (meaning S.accesses) units unit) run.now }
     ensures ends { EndsAt result act.now act.now }
@@ -166,7 +173,8 @@ pub(crate) fn read_chosen<S: Space>(
     Ok(Next::AccessThen(Boxed::new(alloc, access)?, Frame::UnitRead(units, unit)))
 }
 
-/// The data field was read: its bits are those of the unit. They are put where they are in the field, or kept by the write.
+/// The data field was read: its bits are those of the unit. They are put where they are in the field, or kept by the
+/// write.
 #[tactic(auto, using(crate::proofs::UnitSteps::unit_by_unit))]
 pub(crate) fn resume_unit<S: Space>(
     alloc: Global,
@@ -177,7 +185,8 @@ pub(crate) fn resume_unit<S: Space>(
     flow: Flow,
 ) -> Result<Next, Refusal>
     ensures spent { run.new.1 ≤ run.old.1 }
-    ensures falls { IfOk result (λ n. next_weight n < left_weight units + 2 * region_weight (field_accessed units).calls + 4) }
+    ensures falls { IfOk result (λ n. next_weight n < left_weight units + 2 *
+        region_weight (field_accessed units).calls + 4) }
     ensures means { Leads S.accesses (meaning S.accesses) result act.now run.new
         (unit_given S.accesses (meaning S.accesses) units unit flow) run.old }
     ensures ends { EndsAt result act.now act.now }

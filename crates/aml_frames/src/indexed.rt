@@ -1,4 +1,5 @@
-//! Fields behind an index field and a data field: the units of such a field, which are accessed one by one (ACPI 6.5, 19.6: IndexField).
+//! Fields behind an index field and a data field: the units of such a field, which are accessed one by one (ACPI 6.5,
+//! 19.6: IndexField).
 ghost use Rattle.std.specs.Prelude.{◌≡◌, ◌≤◌, ◌+◌, length, replicate, Ok};
 ghost use Rattle.ar_space.specs.Outcome.{Answers, seen};
 ghost use Rattle.aml_fields.specs.Bits.{byte_count};

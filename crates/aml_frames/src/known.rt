@@ -1,5 +1,5 @@
-//! What is there already when a term needs it: operands that are integers, and targets that take or hold one. They are read and stored to
-//! at once. Everything else is left to the machine (`stack`), and then nothing changes.
+//! What is there already when a term needs it: operands that are integers, and targets that take or hold one. They
+//! are read and stored to at once. Everything else is left to the machine (`stack`), and then nothing changes.
 ghost use Rattle.std.specs.Prelude.{◌≡◌, ◌≤◌, ◌<◌, None, Ok, Err, true, false, IfOk, IfErr, IfSome};
 ghost use Rattle.ar_space.specs.Change.{Does};
 ghost use Rattle.ar_space.specs.Outcome.{NotMemory};
@@ -20,16 +20,20 @@ use aml_meaning::{Count, Running};
 use aml_objects::Value;
 use ar_space::{Refusal, Space};
 
-/// The integer that the term gives which stands next, where it is there already: that of a local, an argument, a constant, a name, or of a
-/// field unit whose bits are read at once. It takes the steps that the term takes; in every other case nothing changes.
+/// The integer that the term gives which stands next, where it is there already: that of a local, an argument, a
+/// constant, a name, or of a field unit whose bits are read at once. It takes the steps that the term takes; in every
+/// other case nothing changes.
 #[inline(always)]
 pub(crate) fn known_integer<S: Space>(
     run: &mut Running<S>,
     act: &mut Activation,
     levels: u8,
 ) -> Result<Option<u64>, Refusal>
-    ensures integer { IfOk result (λ known. IfSome known (λ number. Does (Ok (flows.Value (values.Integer number))) run.new (term_run S.accesses (meaning S.accesses) act.old levels) run.old)) }
-    ensures refused { IfErr result (λ refusal. Does (Err refusal) run.new (term_run S.accesses (meaning S.accesses) act.old levels) run.old) }
+    ensures integer { IfOk result
+        (λ known. IfSome known (λ number. Does (Ok (flows.Value (values.Integer number))) run.new
+        (term_run S.accesses (meaning S.accesses) act.old levels) run.old)) }
+    ensures refused { IfErr result (λ refusal. Does (Err refusal) run.new
+        (term_run S.accesses (meaning S.accesses) act.old levels) run.old) }
     ensures spent { run.new.1 ≤ run.old.1 }
     ensures paid { IfOk result (λ known. IfSome known (λ number. run.new.1 < run.old.1)) }
     ensures behind { IfOk result (λ known. IfSome known (λ number. act.new ≡ behind_term act.old levels)) }
@@ -46,8 +50,9 @@ pub(crate) fn known_integer<S: Space>(
     integer_at_name(run, act, levels)
 }
 
-/// What is done with the target that stands next, where it is done at once: an integer is stored to a local, an argument, or a name that
-/// takes one, or what one of these holds is counted. It gives the value of the term; in every other case nothing changes.
+/// What is done with the target that stands next, where it is done at once: an integer is stored to a local, an
+/// argument, or a name that takes one, or what one of these holds is counted. It gives the value of the term; in
+/// every other case nothing changes.
 #[inline(always)]
 pub(crate) fn use_known<S: Space>(
     run: &mut Running<S>,
@@ -55,10 +60,14 @@ pub(crate) fn use_known<S: Space>(
     levels: u8,
     target_use: TargetUse,
 ) -> Result<Option<Value>, Refusal>
-    ensures done { IfOk result (λ known. IfSome known (λ value. Does (Ok (flows.Value value)) run.new (target_run S.accesses (meaning S.accesses) (super levels) target_use act.old) run.old)) }
-    ensures refused { IfErr result (λ refusal. Does (Err refusal) run.new (target_run S.accesses (meaning S.accesses) (super levels) target_use act.old) run.old) }
+    ensures done { IfOk result
+        (λ known. IfSome known (λ value. Does (Ok (flows.Value value)) run.new
+        (target_run S.accesses (meaning S.accesses) (super levels) target_use act.old) run.old)) }
+    ensures refused { IfErr result (λ refusal. Does (Err refusal) run.new
+        (target_run S.accesses (meaning S.accesses) (super levels) target_use act.old) run.old) }
     ensures spent { run.new.1 ≤ run.old.1 }
-    ensures behind { IfOk result (λ known. IfSome known (λ value. act.new ≡ target_ends (super levels) target_use act.old)) }
+    ensures behind { IfOk result (λ known. IfSome known (λ value. act.new ≡
+        target_ends (super levels) target_use act.old)) }
     ensures none { IfOk result (λ known. known ≡ None → run.new ≡ run.old) }
     ensures stays { IfOk result (λ known. known ≡ None → act.new ≡ act.old) }
     ensures memory { NotMemory result }
@@ -78,8 +87,13 @@ fn put_known<S: Space>(
     levels: u8,
     number: u64,
 ) -> Result<Option<Value>, Refusal>
-    ensures done { IfOk result (λ known. IfSome known (λ value. Does (Ok (flows.Value value)) run.new (target_run S.accesses (meaning S.accesses) (super levels) (uses.Store (values.Integer number)) act.old) run.old)) }
-    ensures refused { IfErr result (λ refusal. Does (Err refusal) run.new (target_run S.accesses (meaning S.accesses) (super levels) (uses.Store (values.Integer number)) act.old) run.old) }
+    ensures done { IfOk result
+        (λ known. IfSome known (λ value. Does (Ok (flows.Value value)) run.new
+        (target_run S.accesses (meaning S.accesses) (super levels)
+        (uses.Store (values.Integer number)) act.old) run.old)) }
+    ensures refused { IfErr result (λ refusal. Does (Err refusal) run.new
+        (target_run S.accesses (meaning S.accesses) (super levels)
+        (uses.Store (values.Integer number)) act.old) run.old) }
     ensures spent { run.new.1 ≤ run.old.1 }
     ensures behind { IfOk result (λ known. IfSome known (λ value. act.new ≡ behind_target (super levels) act.old)) }
     ensures none { IfOk result (λ known. known ≡ None → run.new ≡ run.old) }
@@ -103,7 +117,8 @@ fn count_known<S: Space>(
     levels: u8,
     count: Count,
 ) -> Option<Value>
-    ensures done { IfSome result (λ value. Does (Ok (flows.Value value)) run.new (target_run S.accesses (meaning S.accesses) (super levels) (uses.Count count) act.old) run.old) }
+    ensures done { IfSome result (λ value. Does (Ok (flows.Value value)) run.new
+        (target_run S.accesses (meaning S.accesses) (super levels) (uses.Count count) act.old) run.old) }
     ensures spent { run.new.1 ≤ run.old.1 }
     ensures behind { IfSome result (λ value. act.new ≡ behind_target (super levels) act.old) }
     ensures none { result ≡ None → run.new ≡ run.old }

@@ -1,7 +1,9 @@
-//! The frames of evaluation: what waits, in memory and not on the processor's stack, for a term that is being evaluated.
+//! The frames of evaluation: what waits, in memory and not on the processor's stack, for a term that is being
+//! evaluated.
 //!
-//! Begin with `call_method` and `evaluate_list`, which evaluate the body of a control method and a list of terms in one loop. A step of a
-//! term takes it up to the first part that is evaluated, and leaves what is to be done then (`Next`).
+//! Begin with `call_method` and `evaluate_list`, which evaluate the body of a control method and a list of terms in
+//! one loop. A step of a term takes it up to the first part that is evaluated, and leaves what is to be done then
+//! (`Next`).
 #![tactic(auto)]
 
 mod accesses;
@@ -28,6 +30,7 @@ mod pci;
 mod references;
 mod regions;
 mod resuming;
+mod searching;
 mod short_names;
 mod short_operations;
 mod short_terms;
@@ -38,6 +41,8 @@ mod targets;
 mod terms;
 mod uses;
 mod values;
+mod waiting;
+mod wide;
 
 pub use activation::{Activation, MethodPath, Position};
 pub use addresses::{AddressPart, PciAccess, RegionAccess};
@@ -47,7 +52,7 @@ pub use declarations::begin_declaration;
 pub use evaluation::{ask_integer, call_method, evaluate_list};
 pub use field_access::begin_region;
 pub use frames::{
-    Call, Callee, Control, DeclarationPart, Entry, Frame, Items, Loop, Next, Package,
+    Call, Callee, Control, DeclarationPart, Entry, Frame, Items, Loop, MatchPart, Next, Package,
 };
 pub use indexed::{
     IndexedField, UnitReads, UnitWrites, UnitsLeft, is_kept, merge_unit, put_unit, zeros,

@@ -84,8 +84,10 @@ fn begin_invocation<S: Space>(
     ensures spent { run.new.1 ≤ run.old.1 }
     ensures falls { IfOk result (λ n. next_weight n < 3 * most + 100) }
     ensures means { Leads S.accesses (meaning S.accesses) result act.new run.new
-        (invocation_rule S.accesses (meaning S.accesses) act.old.scope act.old.depth (trees_of (turns_of (terms act.old levels false) count act.old.place).0) invocation) run.old }
-    ensures ends { EndsAt result act.new (at_place act.old (turns_of (terms act.old levels false) count act.old.place).1) }
+        (invocation_rule S.accesses (meaning S.accesses) act.old.scope act.old.depth
+        (trees_of (turns_of (terms act.old levels false) count act.old.place).0) invocation) run.old }
+    ensures ends { EndsAt result act.new
+        (at_place act.old (turns_of (terms act.old levels false) count act.old.place).1) }
 {
     match invocation {
         Invocation::Value(value) => {

@@ -1,8 +1,9 @@
 //! Operands of terms of which no part is evaluated, by the kind that the grammar gives them.
+ghost use Rattle.std.specs.Prelude.{◌≡◌};
 ghost use Rattle.ar_space.specs.Outcome.{Answers, NotMemory, seen};
 ghost use Rattle.aml_terms.specs.AtTree.{at_tree, at_list};
 ghost use Rattle.aml_grammar.specs.Apart.{operand_of, bytes_of};
-ghost use Rattle.aml_meaning.specs.Terms.{number_of, list_of};
+ghost use Rattle.aml_meaning.specs.Terms.{number_of, list_of, is_named};
 
 use aml_grammar::{OperandView, TermReader};
 use aml_objects::Octets;
@@ -18,6 +19,16 @@ pub(crate) fn number(term: &At<'_>, index: usize) -> Result<u64, Refusal>
     match term.operand(index) {
         OperandView::Number(number) => Ok(number),
         _ => Err(Refusal::Name(NameFault::BadName)),
+    }
+}
+
+/// Whether an operand is a name.
+pub(crate) fn is_named(term: &At<'_>, index: usize) -> bool
+    ensures { result ≡ is_named (operand_of (at_tree term.now) index) }
+{
+    match term.operand(index) {
+        OperandView::Name => true,
+        _ => false,
     }
 }
 

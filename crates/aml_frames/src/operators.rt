@@ -1,11 +1,13 @@
-//! Operators: terms that evaluate operands, form a value and store it to targets (ACPI 6.5, 19.6 and 20.2.5.4). The operands stand next.
+//! Operators: terms that evaluate operands, form a value and store it to targets (ACPI 6.5, 19.6 and 20.2.5.4). The
+//! operands stand next.
 ghost use Rattle.std.specs.Prelude.{◌≡◌, ◌≤◌, ◌<◌, ◌+◌, ◌*◌, IfOk, IfErr};
 ghost use Rattle.ar_space.specs.declared.refusal.Refusal.TheVariants.{OutOfMemory};
 ghost use Rattle.ar_space.specs.Outcome.{NotMemory};
 ghost use Rattle.aml_meaning.specs.Meaning.{meaning};
 ghost use Rattle.aml_frames.specs.declared.frames.Frame.TheVariants as frames;
 ghost use Rattle.aml_frames.specs.declared.frames.Next.TheVariants as next;
-ghost use Rattle.aml_frames.specs.Follow.{operator_run, behind_operator_at, resumed, ends, next_run, next_ends, Leads, EndsAt};
+ghost use Rattle.aml_frames.specs.Follow.{operator_run, behind_operator_at, resumed, ends, next_run, next_ends, Leads};
+ghost use Rattle.aml_frames.specs.Follow.{EndsAt};
 ghost use Rattle.aml_frames.specs.Uses.{held_given, monadic_done, monadic_ends, dyadic_done, dyadic_ends};
 ghost use Rattle.aml_frames.specs.Weights.{most, weight, next_weight};
 
@@ -37,6 +39,7 @@ pub fn begin_operator<S: Space>(
         (operator_run S.accesses (meaning S.accesses) kind act.old levels) run.old }
     ensures ends { EndsAt result act.new (behind_operator_at kind act.old levels) }
 {
+    let name = Target::super_name(levels);
     match kind {
         OperatorKind::Slot(slot) => {
             let value = run.world.slot_read(slot)?;
@@ -49,35 +52,11 @@ pub fn begin_operator<S: Space>(
         OperatorKind::One(one) => begin_monadic(alloc, run, act, Monadic::One(one), levels),
         OperatorKind::Test(test) => begin_dyadic(alloc, run, act, Dyadic::Test(test), levels),
         OperatorKind::LogicalNot => begin_monadic(alloc, run, act, Monadic::LogicalNot, levels),
-        OperatorKind::Count(count) => {
-            begin_target(
-                alloc,
-                run,
-                act,
-                Target::super_name(levels),
-                TargetUse::Count(count),
-            )
-        }
+        OperatorKind::Count(count) => begin_target(alloc, run, act, name, TargetUse::Count(count)),
         OperatorKind::SizeOf => begin_inquiry(alloc, run, act, levels, Inquiry::SizeOf),
         OperatorKind::ObjectType => begin_inquiry(alloc, run, act, levels, Inquiry::ObjectType),
-        OperatorKind::Acquire => {
-            begin_target(
-                alloc,
-                run,
-                act,
-                Target::super_name(levels),
-                TargetUse::Acquire,
-            )
-        }
-        OperatorKind::RefOf => {
-            begin_target(
-                alloc,
-                run,
-                act,
-                Target::super_name(levels),
-                TargetUse::RefOf,
-            )
-        }
+        OperatorKind::Acquire => begin_target(alloc, run, act, name, TargetUse::Acquire),
+        OperatorKind::RefOf => begin_target(alloc, run, act, name, TargetUse::RefOf),
         OperatorKind::CondRefOf => begin_conditional(alloc, run, act, levels),
         OperatorKind::DerefOf => begin_monadic(alloc, run, act, Monadic::DerefOf, levels),
     }
@@ -86,7 +65,7 @@ pub fn begin_operator<S: Space>(
 /// An operator with one operand: an integer that is there already is used at once.
 #[inline(always)]
 #[tactic(auto, using(crate::proofs::Knowing::taking_known))]
-fn begin_monadic<S: Space>(
+pub(crate) fn begin_monadic<S: Space>(
     alloc: Global,
     run: &mut Running<S>,
     act: &mut Activation,
@@ -109,7 +88,7 @@ fn begin_monadic<S: Space>(
 /// An operator with two operands.
 #[inline(always)]
 #[tactic(auto, using(crate::proofs::Knowing::taking_known))]
-fn begin_dyadic<S: Space>(
+pub(crate) fn begin_dyadic<S: Space>(
     alloc: Global,
     run: &mut Running<S>,
     act: &mut Activation,
@@ -151,7 +130,8 @@ fn begin_second<S: Space>(
     ensures falls { IfOk result (λ n. next_weight n < 2 * most + 25) }
     ensures memory { IfErr result (λ e. e ≡ OutOfMemory → run.new.1 < run.old.1) }
     ensures means { Leads S.accesses (meaning S.accesses) result act.new run.new
-        (next_run S.accesses (meaning S.accesses) (next.Term operator.levels (frames.Second operator)) act.old) run.old }
+        (next_run S.accesses (meaning S.accesses) (next.Term operator.levels (frames.Second operator)) act.old)
+        run.old }
     ensures ends { EndsAt result act.new (next_ends (next.Term operator.levels (frames.Second operator)) act.old) }
 {
     match known_integer(run, act, operator.levels)? {
@@ -198,34 +178,18 @@ fn finish_monadic<S: Space>(
         (monadic_done S.accesses (meaning S.accesses) kind levels value act.old) run.old }
     ensures ends { EndsAt result act.new (monadic_ends kind levels act.old) }
 {
+    let name = Target::super_name(levels);
+    let target = Target::optional(levels);
     match kind {
-        Monadic::Store => {
-            begin_target(
-                alloc,
-                run,
-                act,
-                Target::super_name(levels),
-                TargetUse::Store(value),
-            )
-        }
-        Monadic::CopyObject => {
-            begin_target(
-                alloc,
-                run,
-                act,
-                Target::super_name(levels),
-                TargetUse::CopyObject(value),
-            )
-        }
+        Monadic::Store => begin_target(alloc, run, act, name, TargetUse::Store(value)),
+        Monadic::CopyObject => begin_target(alloc, run, act, name, TargetUse::CopyObject(value)),
         Monadic::One(one) => {
             let result = run.world.operate_on_one(alloc, one, value)?;
-            begin_target(
-                alloc,
-                run,
-                act,
-                Target::optional(levels),
-                TargetUse::Store(result),
-            )
+            begin_target(alloc, run, act, target, TargetUse::Store(result))
+        }
+        Monadic::Convert(conversion) => {
+            let result = run.world.convert(alloc, conversion, value)?;
+            begin_target(alloc, run, act, target, TargetUse::Form(result))
         }
         Monadic::LogicalNot => {
             let result = run.world.logical_not(value)?;
@@ -344,6 +308,17 @@ fn finish_dyadic<S: Space>(
             let result = run.world.test(alloc, test, first, second)?;
             leave(Flow::Value(result))
         }
+        Dyadic::ToString => {
+            let result = run.world.to_string(alloc, first, second)?;
+            begin_target(
+                alloc,
+                run,
+                act,
+                Target::optional(levels),
+                TargetUse::Form(result),
+            )
+        }
+        Dyadic::Mid => Ok(Next::Term(levels, Frame::Third(levels, first, second))),
     }
 }
 

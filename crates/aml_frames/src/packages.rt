@@ -1,11 +1,12 @@
-//! Packages: their elements are evaluated one after another, and a name that is an element is searched for at each use (ACPI 6.5, 19.6:
-//! Package, VarPackage, and 20.2.5.4).
+//! Packages: their elements are evaluated one after another, and a name that is an element is searched for at each
+//! use (ACPI 6.5, 19.6: Package, VarPackage, and 20.2.5.4).
 ghost use Rattle.std.specs.Prelude.{◌≡◌, ◌≤◌, ◌<◌, ◌+◌, ◌-◌, OnOk, IfOk, Ok};
 ghost use Rattle.aml_meaning.specs.Meaning.{meaning};
 ghost use Rattle.aml_frames.specs.declared.frames.Frame.TheVariants as frames;
 ghost use Rattle.aml_frames.specs.Places.{at_place};
 ghost use Rattle.aml_frames.specs.Operands.{outside_at};
-ghost use Rattle.aml_frames.specs.Data.{package_term_run, var_package_run, package_run, package_made, named_left, unfilled, one_fewer};
+ghost use Rattle.aml_frames.specs.Data.{package_term_run, var_package_run, package_run, package_made, named_left};
+ghost use Rattle.aml_frames.specs.Data.{unfilled, one_fewer};
 ghost use Rattle.aml_frames.specs.Follow.{at_position, resumed, ends, next_ends, Leads, EndsAt};
 ghost use Rattle.aml_frames.specs.Weights.{next_weight, charged};
 

@@ -1,13 +1,15 @@
-//! The address of a function of PCI_Config: its segment group, its bus and its address are asked for, in this order (ACPI 6.5, 5.5.2.4,
-//! 6.1.1, 6.5.5 and 6.5.6). A control method or a field that gives one of them is waited for.
+//! The address of a function of PCI_Config: its segment group, its bus and its address are asked for, in this order
+//! (ACPI 6.5, 5.5.2.4, 6.1.1, 6.5.5 and 6.5.6). A control method or a field that gives one of them is waited for.
 ghost use Rattle.std.specs.Prelude.{◌≡◌, ◌≤◌, ◌<◌, ◌+◌, ◌*◌, ◌++◌, ◌∷◌, [], IfOk};
 ghost use Rattle.aml_meaning.specs.Meaning.{meaning};
 ghost use Rattle.aml_meaning.specs.Fields.{inherited};
 ghost use Rattle.aml_meaning.specs.PciFunctions.{adr};
-ghost use Rattle.aml_frames.specs.Addresses.{pci_run, device_known, segment_known, bus_known, function_known, waited_met, part_met, Asks};
+ghost use Rattle.aml_frames.specs.Addresses.{pci_run, device_known, segment_known, bus_known, function_known};
+ghost use Rattle.aml_frames.specs.Addresses.{waited_met, part_met, Asks};
 ghost use Rattle.aml_frames.specs.Follow.{Leads, EndsAt};
 ghost use Rattle.aml_frames.specs.Uses.{asking};
-ghost use Rattle.aml_frames.specs.Weights.{part_weight, region_weight, address_weight, asked_weight, waited_weight, next_weight};
+ghost use Rattle.aml_frames.specs.Weights.{part_weight, region_weight, address_weight, asked_weight, waited_weight};
+ghost use Rattle.aml_frames.specs.Weights.{next_weight};
 
 use crate::activation::Activation;
 use crate::addresses::{AddressPart, Asked, FunctionAddress, PciAccess, RegionAccess, Waited};
@@ -167,7 +169,8 @@ fn ask_address<S: Space>(
 ) -> Result<Asked, Refusal>
     ensures spent { run.new.1 ≤ run.old.1 }
     ensures few { IfOk result (λ a. asked_weight a ≤ part_weight calls) }
-    ensures means { Asks S.accesses (meaning S.accesses) result run.new (asking S.accesses (meaning S.accesses) calls (device.now ++ adr ∷ [])) run.old }
+    ensures means { Asks S.accesses (meaning S.accesses) result run.new
+        (asking S.accesses (meaning S.accesses) calls (device.now ++ adr ∷ [])) run.old }
 {
     let object = device.child(alloc, adr())?;
     ask(alloc, run, calls, &object)
@@ -183,7 +186,8 @@ fn wait<S: Space>(
     waited: Waited,
 ) -> Result<Next, Refusal>
     ensures spent { run.new.1 ≤ run.old.1 }
-    ensures falls { IfOk result (λ n. next_weight n ≤ waited_weight waited + address_weight pci.part pci.access.calls + 6) }
+    ensures falls { IfOk result (λ n. next_weight n ≤ waited_weight waited +
+        address_weight pci.part pci.access.calls + 6) }
     ensures means { Leads S.accesses (meaning S.accesses) result act.now run.new
         (waited_met S.accesses (meaning S.accesses) waited pci) run.old }
     ensures ends { EndsAt result act.now act.now }
@@ -254,7 +258,8 @@ fn ask_inherited<S: Space>(
 ) -> Result<Asked, Refusal>
     ensures spent { run.new.1 ≤ run.old.1 }
     ensures few { IfOk result (λ a. asked_weight a ≤ part_weight calls) }
-    ensures means { Asks S.accesses (meaning S.accesses) result run.new (inherited S.accesses (asking S.accesses (meaning S.accesses) calls) name device.now) run.old }
+    ensures means { Asks S.accesses (meaning S.accesses) result run.new
+        (inherited S.accesses (asking S.accesses (meaning S.accesses) calls) name device.now) run.old }
 {
     match run.world.nearest(alloc, Sought::Parent(name), device)? {
         None => Ok(Asked::Known(0)),

@@ -1,11 +1,14 @@
-//! Terms that declare operation regions and fields (ACPI 6.5, 19.6: OperationRegion, CreateField and its like). The operands stand next.
+//! Terms that declare operation regions and fields (ACPI 6.5, 19.6: OperationRegion, CreateField and its like). The
+//! operands stand next.
 ghost use Rattle.std.specs.Prelude.{◌≡◌, ◌≤◌, ◌<◌, ◌+◌, ◌%◌, Ok, IfOk};
 ghost use Rattle.aml_marked.specs.Marked.{an_integer};
 ghost use Rattle.aml_meaning.specs.Meaning.{meaning};
 ghost use Rattle.aml_frames.specs.declared.frames.Frame.TheVariants as frames;
 ghost use Rattle.aml_frames.specs.Places.{at_place, terms};
 ghost use Rattle.aml_frames.specs.Operands.{behind_two};
-ghost use Rattle.aml_frames.specs.RegionTerms.{behind_name, behind_space, operation_region_run, region_term_run, behind_region_at, part_declared, part_ends, region_declared, sized_field_declared, bits_field_declared};
+ghost use Rattle.aml_frames.specs.RegionTerms.{behind_name, behind_space, operation_region_run, region_term_run};
+ghost use Rattle.aml_frames.specs.RegionTerms.{behind_region_at, part_declared, part_ends, region_declared};
+ghost use Rattle.aml_frames.specs.RegionTerms.{sized_field_declared, bits_field_declared};
 ghost use Rattle.aml_frames.specs.Declarations.{declared_at};
 ghost use Rattle.aml_frames.specs.Follow.{place_of, resumed, ends, next_ends, Leads, EndsAt};
 ghost use Rattle.aml_frames.specs.Weights.{next_weight};
@@ -21,8 +24,8 @@ use aml_terms::RowPlace;
 use ar_space::{Refusal, Space};
 use std::alloc::Global;
 
-/// A term that declares an operation region, fields or a buffer field, by its kind and the place of its row: it is done, or its first
-/// part is evaluated.
+/// A term that declares an operation region, fields or a buffer field, by its kind and the place of its row: it is
+/// done, or its first part is evaluated.
 #[tactic(auto, using(crate::proofs::DeclaringFields::region_terms))]
 pub fn begin_region_term<S: Space>(
     alloc: Global,
@@ -65,7 +68,8 @@ fn begin_operation_region<S: Space>(run: &Running<S>, act: &mut Activation, leve
     ensures falls { next_weight result < 6 }
     ensures means { Leads S.accesses (meaning S.accesses) (Ok result) act.new run.now
         (operation_region_run (meaning S.accesses) act.old levels) run.now }
-    ensures ends { next_ends result act.new ≡ at_place act.old (behind_two (terms act.old levels) (behind_space act.old.place)) }
+    ensures ends { next_ends result act.new ≡
+        at_place act.old (behind_two (terms act.old levels) (behind_space act.old.place)) }
 {
     let name = act.position();
     act.over_name();
@@ -173,7 +177,8 @@ fn declare_region<S: Space>(
     declare_at(alloc, run, act, name, NamedObject::OperationRegion(region))
 }
 
-/// A buffer field whose term says how many bits it has: its buffer and its index were evaluated, and its name stands next.
+/// A buffer field whose term says how many bits it has: its buffer and its index were evaluated, and its name stands
+/// next.
 #[tactic(auto, using(crate::proofs::Stepping::stepping), unfolding(crate::specs::RegionTerms::sized_field_declared))]
 fn declare_sized_field<S: Space>(
     alloc: Global,
@@ -196,7 +201,8 @@ fn declare_sized_field<S: Space>(
     declare_next(alloc, run, act, NamedObject::BufferField(field))
 }
 
-/// CreateField: its buffer, the index of its first bit and the number of its bits were evaluated, and its name stands next.
+/// CreateField: its buffer, the index of its first bit and the number of its bits were evaluated, and its name stands
+/// next.
 #[tactic(auto, using(crate::proofs::Stepping::stepping), unfolding(crate::specs::RegionTerms::bits_field_declared))]
 fn declare_bits_field<S: Space>(
     alloc: Global,

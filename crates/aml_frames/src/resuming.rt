@@ -19,10 +19,12 @@ use crate::packages::{resume_element, resume_var_package};
 use crate::pci::resume_address;
 use crate::references::{resume_found, resume_referent};
 use crate::regions::resume_declaration;
+use crate::searching::{resume_match, resume_matched};
 use crate::statements::next_branch;
 use crate::target_uses::resume_counted;
 use crate::targets::{resume_dereferenced, resume_index_target};
 use crate::values::integer_of;
+use crate::wide::resume_third;
 use aml_convert::is_true;
 use aml_meaning::{Flow, Running};
 use ar_space::{EvaluationFault, Refusal, Space};
@@ -244,6 +246,9 @@ pub fn resume<S: Space>(
         Frame::Operand(kind, levels) => resume_operand(alloc, run, act, kind, levels, flow),
         Frame::First(kind, levels) => resume_first(alloc, run, act, kind, levels, flow),
         Frame::Second(operator) => resume_second(alloc, run, act, operator, flow),
+        Frame::Third(levels, source, start) => {
+            resume_third(alloc, run, act, levels, (source, start), flow)
+        }
         Frame::Give(value) => leave(Flow::Value(value)),
         Frame::Quotient(levels, quotient) => {
             resume_quotient(alloc, run, act, levels, quotient, flow)
@@ -261,5 +266,7 @@ pub fn resume<S: Space>(
         Frame::Declaration(part) => resume_declaration(alloc, run, act, part, flow),
         Frame::Scope(scope, node) => resume_scope(run, act, scope, node, flow),
         Frame::Counted(count, counted) => resume_counted(alloc, run, act, count, counted, flow),
+        Frame::Match(levels, part) => resume_match(alloc, run, act, levels, part, flow),
+        Frame::Matched(searching) => resume_matched(alloc, run, act, searching, flow),
     }
 }

@@ -1,5 +1,6 @@
-//! Names of one segment without a prefix that stand next: they are read, stored to and counted without a name being made (ACPI 6.5, 5.3
-//! and 20.2.2). Where that isn't quick, each of these functions answers that it did nothing, and then nothing changes.
+//! Names of one segment without a prefix that stand next: they are read, stored to and counted without a name being
+//! made (ACPI 6.5, 5.3 and 20.2.2). Where that isn't quick, each of these functions answers that it did nothing, and
+//! then nothing changes.
 ghost use Rattle.std.specs.Prelude.{◌≡◌, ◌≤◌, ◌<◌, None, Ok, Err, true, false, IfOk, IfErr, IfSome};
 ghost use Rattle.ar_space.specs.Change.{Does};
 ghost use Rattle.ar_space.specs.Outcome.{NotMemory};
@@ -65,9 +66,12 @@ fn node_of_value<S>(world: &WorldState<S>, act: &Activation, levels: u8) -> Opti
     node_at(world, act)
 }
 
-/// The integer that a name holds which is the node with an id, if it holds one, or the bits of a field unit that are read at once.
+/// The integer that a name holds which is the node with an id, if it holds one, or the bits of a field unit that are
+/// read at once.
 fn read_node<S: Space>(world: &mut WorldState<S>, id: NodeId) -> Result<Option<u64>, Refusal>
-    ensures read { IfOk result (λ read. IfSome read (λ number. Reads S.accesses id.number (Ok (flows.Value (values.Integer number))) world.new world.old)) }
+    ensures read { IfOk result
+        (λ read. IfSome read (λ number. Reads S.accesses id.number (Ok (flows.Value (values.Integer number)))
+        world.new world.old)) }
     ensures refused { IfErr result (λ refusal. Reads S.accesses id.number (Err refusal) world.new world.old) }
     ensures none { IfOk result (λ read. read ≡ None → world.new ≡ world.old) }
     ensures memory { NotMemory result }
@@ -81,16 +85,19 @@ fn read_node<S: Space>(world: &mut WorldState<S>, id: NodeId) -> Result<Option<u
     }
 }
 
-/// The integer that the term gives which stands next, where it is a name of one segment that no argument follows, and the name holds an
-/// integer or is a field unit whose bits are read at once. It takes a step, as the term does.
+/// The integer that the term gives which stands next, where it is a name of one segment that no argument follows, and
+/// the name holds an integer or is a field unit whose bits are read at once. It takes a step, as the term does.
 #[tactic(auto, using(crate::proofs::ShortNames::short_values))]
 pub(crate) fn integer_at_name<S: Space>(
     run: &mut Running<S>,
     act: &mut Activation,
     levels: u8,
 ) -> Result<Option<u64>, Refusal>
-    ensures integer { IfOk result (λ read. IfSome read (λ number. Does (Ok (flows.Value (values.Integer number))) run.new (term_run S.accesses (meaning S.accesses) act.old levels) run.old)) }
-    ensures refused { IfErr result (λ refusal. Does (Err refusal) run.new (term_run S.accesses (meaning S.accesses) act.old levels) run.old) }
+    ensures integer { IfOk result
+        (λ read. IfSome read (λ number. Does (Ok (flows.Value (values.Integer number))) run.new
+        (term_run S.accesses (meaning S.accesses) act.old levels) run.old)) }
+    ensures refused { IfErr result (λ refusal. Does (Err refusal) run.new
+        (term_run S.accesses (meaning S.accesses) act.old levels) run.old) }
     ensures spent { run.new.1 ≤ run.old.1 }
     ensures paid { IfOk result (λ read. IfSome read (λ number. run.new.1 < run.old.1)) }
     ensures behind { IfOk result (λ read. IfSome read (λ number. act.new ≡ behind_term act.old levels)) }
@@ -117,11 +124,14 @@ pub(crate) fn integer_at_name<S: Space>(
     }
 }
 
-/// Stores an integer to the node with an id, where a name holds an integer there, or it is a field unit whose bits are written at once.
+/// Stores an integer to the node with an id, where a name holds an integer there, or it is a field unit whose bits
+/// are written at once.
 #[tactic(auto, using(crate::proofs::ShortNames::puts_integer))]
 fn put_node<S: Space>(world: &mut WorldState<S>, id: NodeId, number: u64) -> Result<bool, Refusal>
-    ensures done { IfOk result (λ done. done ≡ true → Puts S.accesses id.number (values.Integer number) (Ok tt) world.new world.old) }
-    ensures refused { IfErr result (λ refusal. Puts S.accesses id.number (values.Integer number) (Err refusal) world.new world.old) }
+    ensures done { IfOk result (λ done. done ≡ true → Puts S.accesses id.number (values.Integer number) (Ok tt)
+        world.new world.old) }
+    ensures refused { IfErr result (λ refusal. Puts S.accesses id.number (values.Integer number) (Err refusal)
+        world.new world.old) }
     ensures none { IfOk result (λ done. done ≡ false → world.new ≡ world.old) }
     ensures memory { NotMemory result }
 {
@@ -134,8 +144,8 @@ fn put_node<S: Space>(world: &mut WorldState<S>, id: NodeId, number: u64) -> Res
     }
 }
 
-/// Stores an integer to the name that stands next, where it is one segment, and holds an integer or is a field unit whose bits are written at
-/// once.
+/// Stores an integer to the name that stands next, where it is one segment, and holds an integer or is a field unit
+/// whose bits are written at once.
 #[tactic(auto, using(crate::proofs::ShortNames::short_targets))]
 pub(crate) fn put_integer_at_name<S: Space>(
     run: &mut Running<S>,
@@ -143,8 +153,12 @@ pub(crate) fn put_integer_at_name<S: Space>(
     levels: u8,
     number: u64,
 ) -> Result<bool, Refusal>
-    ensures done { IfOk result (λ done. done ≡ true → Does (Ok (flows.Value (values.Integer number))) run.new (target_run S.accesses (meaning S.accesses) (super levels) (uses.Store (values.Integer number)) act.old) run.old) }
-    ensures refused { IfErr result (λ refusal. Does (Err refusal) run.new (target_run S.accesses (meaning S.accesses) (super levels) (uses.Store (values.Integer number)) act.old) run.old) }
+    ensures done { IfOk result (λ done. done ≡ true → Does (Ok (flows.Value (values.Integer number))) run.new
+        (target_run S.accesses (meaning S.accesses) (super levels)
+        (uses.Store (values.Integer number)) act.old) run.old) }
+    ensures refused { IfErr result (λ refusal. Does (Err refusal) run.new
+        (target_run S.accesses (meaning S.accesses) (super levels)
+        (uses.Store (values.Integer number)) act.old) run.old) }
     ensures spent { run.new.1 ≤ run.old.1 }
     ensures behind { IfOk result (λ done. done ≡ true → act.new ≡ behind_target (super levels) act.old) }
     ensures none { IfOk result (λ done. done ≡ false → run.new ≡ run.old) }
@@ -169,7 +183,8 @@ pub(crate) fn count_at_name<S: Space>(
     levels: u8,
     kind: Count,
 ) -> Option<u64>
-    ensures counted { IfSome result (λ number. Does (Ok (flows.Value (values.Integer number))) run.new (target_run S.accesses (meaning S.accesses) (super levels) (uses.Count kind) act.old) run.old) }
+    ensures counted { IfSome result (λ number. Does (Ok (flows.Value (values.Integer number))) run.new
+        (target_run S.accesses (meaning S.accesses) (super levels) (uses.Count kind) act.old) run.old) }
     ensures spent { run.new.1 ≤ run.old.1 }
     ensures behind { IfSome result (λ number. act.new ≡ behind_target (super levels) act.old) }
     ensures none { result ≡ None → run.new ≡ run.old }

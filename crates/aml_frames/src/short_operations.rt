@@ -1,4 +1,5 @@
-//! Operators without a target whose operands are locals, arguments or constants that are integers (ACPI 6.5, 19.6): most predicates.
+//! Operators without a target whose operands are locals, arguments or constants that are integers (ACPI 6.5, 19.6):
+//! most predicates.
 //!
 //! Each function answers at once. Where it doesn't, only steps were taken, and `operation_integer` gives these back.
 ghost use Rattle.std.specs.Prelude.{◌≡◌, ◌≤◌, ◌<◌, Ok, None, IfSome};
@@ -9,7 +10,8 @@ ghost use Rattle.aml_meaning.specs.declared.term_kind.OperatorKind.TheVariants a
 ghost use Rattle.aml_meaning.specs.declared.term_kind.TwoOperands.TheVariants as two;
 ghost use Rattle.aml_meaning.specs.Meaning.{meaning};
 ghost use Rattle.aml_frames.specs.declared.frames.Next.TheVariants as next;
-ghost use Rattle.aml_frames.specs.Follow.{term_run, begun_run, coded_run, operator_run, behind_coded, behind_operator_at, Leads};
+ghost use Rattle.aml_frames.specs.Follow.{term_run, begun_run, coded_run, operator_run, behind_coded};
+ghost use Rattle.aml_frames.specs.Follow.{behind_operator_at, Leads};
 ghost use Rattle.aml_frames.specs.Places.{at_place, behind_term};
 
 use crate::activation::Activation;
@@ -19,15 +21,16 @@ use aml_meaning::{OperatorKind, Running, TermKind, Test, TwoOperands, kind_of};
 use aml_terms::RowPlace;
 use ar_space::Space;
 
-/// The integer that an operator gives which stands next, where its operands are there already and it has no target. It takes the steps of
-/// the operator and of its operands. In every other case nothing changes.
+/// The integer that an operator gives which stands next, where its operands are there already and it has no target.
+/// It takes the steps of the operator and of its operands. In every other case nothing changes.
 #[tactic(auto, using(crate::proofs::ShortOperations::giving))]
 pub(crate) fn operation_integer<S: Space>(
     run: &mut Running<S>,
     act: &mut Activation,
     levels: u8,
 ) -> Option<u64>
-    ensures integer { IfSome result (λ n. Does (Ok (flows.Value (values.Integer n))) run.new (term_run S.accesses (meaning S.accesses) act.old levels) run.old) }
+    ensures integer { IfSome result (λ n. Does (Ok (flows.Value (values.Integer n))) run.new
+        (term_run S.accesses (meaning S.accesses) act.old levels) run.old) }
     ensures behind { IfSome result (λ n. act.new ≡ behind_term act.old levels) }
     ensures paid { IfSome result (λ n. run.new.1 < run.old.1) }
     ensures none { result ≡ None → run.new ≡ run.old }
@@ -49,7 +52,9 @@ pub(crate) fn operation_integer<S: Space>(
 #[inline(always)]
 #[tactic(auto, using(crate::proofs::ShortOperations::operations), unfolding(aml_meaning::specs::Evaluation::rule))]
 fn operation<S: Space>(run: &mut Running<S>, act: &mut Activation, levels: u8) -> Option<u64>
-    ensures integer { IfSome result (λ n. Leads S.accesses (meaning S.accesses) (Ok (next.Flow (flows.Value (values.Integer n)))) act.new run.new (term_run S.accesses (meaning S.accesses) act.old levels) run.old) }
+    ensures integer { IfSome result (λ n. Leads S.accesses (meaning S.accesses)
+        (Ok (next.Flow (flows.Value (values.Integer n)))) act.new run.new
+        (term_run S.accesses (meaning S.accesses) act.old levels) run.old) }
     ensures behind { IfSome result (λ n. act.new ≡ behind_term act.old levels) }
     ensures paid { IfSome result (λ n. run.new.1 < run.old.1) }
     ensures kept { run.new.0 ≡ run.old.0 }
@@ -68,7 +73,9 @@ fn operation<S: Space>(run: &mut Running<S>, act: &mut Activation, levels: u8) -
 #[inline(always)]
 #[tactic(auto, using(crate::proofs::ShortOperations::operations))]
 fn paid_operation<S: Space>(run: &mut Running<S>, act: &mut Activation, levels: u8) -> Option<u64>
-    ensures integer { IfSome result (λ n. Leads S.accesses (meaning S.accesses) (Ok (next.Flow (flows.Value (values.Integer n)))) act.new run.new (begun_run S.accesses (meaning S.accesses) act.old levels) run.old) }
+    ensures integer { IfSome result (λ n. Leads S.accesses (meaning S.accesses)
+        (Ok (next.Flow (flows.Value (values.Integer n)))) act.new run.new
+        (begun_run S.accesses (meaning S.accesses) act.old levels) run.old) }
     ensures behind { IfSome result (λ n. act.new ≡ behind_term act.old levels) }
     ensures spent { run.new.1 ≤ run.old.1 }
     ensures kept { run.new.0 ≡ run.old.0 }
@@ -92,7 +99,9 @@ fn coded_operation<S: Space>(
     levels: u8,
     place: RowPlace,
 ) -> Option<u64>
-    ensures integer { IfSome result (λ n. Leads S.accesses (meaning S.accesses) (Ok (next.Flow (flows.Value (values.Integer n)))) act.new run.new (coded_run S.accesses (meaning S.accesses) place act.old levels) run.old) }
+    ensures integer { IfSome result (λ n. Leads S.accesses (meaning S.accesses)
+        (Ok (next.Flow (flows.Value (values.Integer n)))) act.new run.new
+        (coded_run S.accesses (meaning S.accesses) place act.old levels) run.old) }
     ensures behind { IfSome result (λ n. act.new ≡ behind_coded place act.old levels) }
     ensures spent { run.new.1 ≤ run.old.1 }
     ensures kept { run.new.0 ≡ run.old.0 }
@@ -116,7 +125,9 @@ fn operator_integer<S: Space>(
     levels: u8,
     kind: OperatorKind,
 ) -> Option<u64>
-    ensures integer { IfSome result (λ n. Leads S.accesses (meaning S.accesses) (Ok (next.Flow (flows.Value (values.Integer n)))) act.new run.new (operator_run S.accesses (meaning S.accesses) kind act.old levels) run.old) }
+    ensures integer { IfSome result (λ n. Leads S.accesses (meaning S.accesses)
+        (Ok (next.Flow (flows.Value (values.Integer n)))) act.new run.new
+        (operator_run S.accesses (meaning S.accesses) kind act.old levels) run.old) }
     ensures behind { IfSome result (λ n. act.new ≡ behind_operator_at kind act.old levels) }
     ensures spent { run.new.1 ≤ run.old.1 }
     ensures kept { run.new.0 ≡ run.old.0 }
@@ -141,8 +152,11 @@ fn two_integers<S: Space>(
     levels: u8,
     operator: BinaryOperator,
 ) -> Option<u64>
-    ensures integer { IfSome result (λ n. Leads S.accesses (meaning S.accesses) (Ok (next.Flow (flows.Value (values.Integer n)))) act.new run.new (operator_run S.accesses (meaning S.accesses) (operators.Two (two.Integers operator)) act.old levels) run.old) }
-    ensures behind { IfSome result (λ n. act.new ≡ behind_operator_at (operators.Two (two.Integers operator)) act.old levels) }
+    ensures integer { IfSome result (λ n. Leads S.accesses (meaning S.accesses)
+        (Ok (next.Flow (flows.Value (values.Integer n)))) act.new run.new
+        (operator_run S.accesses (meaning S.accesses) (operators.Two (two.Integers operator)) act.old levels) run.old) }
+    ensures behind { IfSome result (λ n. act.new ≡ behind_operator_at
+        (operators.Two (two.Integers operator)) act.old levels) }
     ensures spent { run.new.1 ≤ run.old.1 }
     ensures kept { run.new.0 ≡ run.old.0 }
     ensures moves { act.new ≡ at_place act.old act.new.place }
@@ -172,7 +186,9 @@ fn test_of_integers<S: Space>(
     levels: u8,
     test: Test,
 ) -> Option<u64>
-    ensures integer { IfSome result (λ n. Leads S.accesses (meaning S.accesses) (Ok (next.Flow (flows.Value (values.Integer n)))) act.new run.new (operator_run S.accesses (meaning S.accesses) (operators.Test test) act.old levels) run.old) }
+    ensures integer { IfSome result (λ n. Leads S.accesses (meaning S.accesses)
+        (Ok (next.Flow (flows.Value (values.Integer n)))) act.new run.new
+        (operator_run S.accesses (meaning S.accesses) (operators.Test test) act.old levels) run.old) }
     ensures behind { IfSome result (λ n. act.new ≡ behind_operator_at (operators.Test test) act.old levels) }
     ensures spent { run.new.1 ≤ run.old.1 }
     ensures kept { run.new.0 ≡ run.old.0 }
@@ -191,7 +207,9 @@ fn test_of_integers<S: Space>(
 #[inline(always)]
 #[tactic(auto, using(crate::proofs::ShortOperations::integers))]
 fn not_of_integer<S: Space>(run: &mut Running<S>, act: &mut Activation, levels: u8) -> Option<u64>
-    ensures integer { IfSome result (λ n. Leads S.accesses (meaning S.accesses) (Ok (next.Flow (flows.Value (values.Integer n)))) act.new run.new (operator_run S.accesses (meaning S.accesses) operators.LogicalNot act.old levels) run.old) }
+    ensures integer { IfSome result (λ n. Leads S.accesses (meaning S.accesses)
+        (Ok (next.Flow (flows.Value (values.Integer n)))) act.new run.new
+        (operator_run S.accesses (meaning S.accesses) operators.LogicalNot act.old levels) run.old) }
     ensures behind { IfSome result (λ n. act.new ≡ behind_operator_at operators.LogicalNot act.old levels) }
     ensures spent { run.new.1 ≤ run.old.1 }
     ensures kept { run.new.0 ≡ run.old.0 }

@@ -1,5 +1,5 @@
-//! The commonest terms, where they give integers: locals, arguments, constants and integers behind their opcodes (ACPI 6.5, 19.6 and
-//! 20.2.3).
+//! The commonest terms, where they give integers: locals, arguments, constants and integers behind their opcodes
+//! (ACPI 6.5, 19.6 and 20.2.3).
 //!
 //! Each function answers at once, or leaves everything as it was: then the term is evaluated as any other is.
 ghost use Rattle.std.specs.Prelude.{◌≡◌, ◌≤◌, ◌<◌, ℕ, Ok, None, true, false, take, IfSome};
@@ -87,15 +87,17 @@ pub(crate) fn take_step<S>(run: &mut Running<S>) -> bool
     true
 }
 
-/// The integer of a short term that stands next: a local or an argument that holds an integer, a constant, or an integer behind its
-/// opcode. It takes a step, and evaluation goes behind the term. In every other case, where no step is left among them, nothing changes.
+/// The integer of a short term that stands next: a local or an argument that holds an integer, a constant, or an
+/// integer behind its opcode. It takes a step, and evaluation goes behind the term. In every other case, where no
+/// step is left among them, nothing changes.
 #[inline(always)]
 pub(crate) fn short_integer<S: Space>(
     run: &mut Running<S>,
     act: &mut Activation,
     levels: u8,
 ) -> Option<u64>
-    ensures integer { IfSome result (λ n. Does (Ok (flows.Value (values.Integer n))) run.new (term_run S.accesses (meaning S.accesses) act.old levels) run.old) }
+    ensures integer { IfSome result (λ n. Does (Ok (flows.Value (values.Integer n))) run.new
+        (term_run S.accesses (meaning S.accesses) act.old levels) run.old) }
     ensures behind { IfSome result (λ n. act.new ≡ behind_term act.old levels) }
     ensures kept { run.new.0 ≡ run.old.0 }
     ensures paid { IfSome result (λ n. run.new.1 < run.old.1) }
@@ -123,7 +125,8 @@ fn short_slot<S: Space>(
 ) -> Option<u64>
     requires deep { 0 < levels }
     requires short { IsShort (shorts.Slot slot) (row_alone (first act.old.place.rest)) }
-    ensures integer { IfSome result (λ n. Does (Ok (flows.Value (values.Integer n))) run.new (term_run S.accesses (meaning S.accesses) act.old levels) run.old) }
+    ensures integer { IfSome result (λ n. Does (Ok (flows.Value (values.Integer n))) run.new
+        (term_run S.accesses (meaning S.accesses) act.old levels) run.old) }
     ensures behind { IfSome result (λ n. act.new ≡ behind_term act.old levels) }
     ensures kept { run.new.0 ≡ run.old.0 }
     ensures paid { IfSome result (λ n. run.new.1 < run.old.1) }
@@ -152,7 +155,8 @@ fn short_constant<S: Space>(
 ) -> Option<u64>
     requires deep { 0 < levels }
     requires short { IsShort (shorts.Constant number) (row_alone (first act.old.place.rest)) }
-    ensures integer { IfSome result (λ n. Does (Ok (flows.Value (values.Integer n))) run.new (term_run S.accesses (meaning S.accesses) act.old levels) run.old) }
+    ensures integer { IfSome result (λ n. Does (Ok (flows.Value (values.Integer n))) run.new
+        (term_run S.accesses (meaning S.accesses) act.old levels) run.old) }
     ensures behind { IfSome result (λ n. act.new ≡ behind_term act.old levels) }
     ensures kept { run.new.0 ≡ run.old.0 }
     ensures paid { IfSome result (λ n. run.new.1 < run.old.1) }
@@ -177,7 +181,8 @@ fn short_number<S: Space>(
     requires deep { 0 < levels }
     requires bound { count ≤ 8 }
     requires short { IsShort (shorts.Number count) (row_alone (first act.old.place.rest)) }
-    ensures integer { IfSome result (λ n. Does (Ok (flows.Value (values.Integer n))) run.new (term_run S.accesses (meaning S.accesses) act.old levels) run.old) }
+    ensures integer { IfSome result (λ n. Does (Ok (flows.Value (values.Integer n))) run.new
+        (term_run S.accesses (meaning S.accesses) act.old levels) run.old) }
     ensures behind { IfSome result (λ n. act.new ≡ behind_term act.old levels) }
     ensures kept { run.new.0 ≡ run.old.0 }
     ensures paid { IfSome result (λ n. run.new.1 < run.old.1) }
@@ -256,8 +261,8 @@ fn number_of(bytes: &[u8], count: usize) -> u64
     little_endian(&bytes[..here])
 }
 
-/// Stores an integer to a local or an argument that stands next. Where another term stands, or no control method runs, or the argument
-/// holds a reference, it answers no, and nothing changes.
+/// Stores an integer to a local or an argument that stands next. Where another term stands, or no control method
+/// runs, or the argument holds a reference, it answers no, and nothing changes.
 #[inline(always)]
 pub(crate) fn put_integer_to_slot<S: Space>(
     run: &mut Running<S>,
@@ -265,7 +270,9 @@ pub(crate) fn put_integer_to_slot<S: Space>(
     levels: u8,
     number: u64,
 ) -> bool
-    ensures done { result ≡ true → Does (Ok (flows.Value (values.Integer number))) run.new (target_run S.accesses (meaning S.accesses) (super levels) (uses.Store (values.Integer number)) act.old) run.old }
+    ensures done { result ≡ true → Does (Ok (flows.Value (values.Integer number))) run.new
+        (target_run S.accesses (meaning S.accesses) (super levels)
+        (uses.Store (values.Integer number)) act.old) run.old }
     ensures behind { result ≡ true → act.new ≡ behind_target (super levels) act.old }
     ensures spent { run.new.1 ≤ run.old.1 }
     ensures none { result ≡ false → run.new ≡ run.old }
@@ -291,7 +298,9 @@ fn put_integer_in_slot<S: Space>(
 ) -> bool
     requires deep { 0 < levels }
     requires short { IsShort (shorts.Slot slot) (row_alone (first act.old.place.rest)) }
-    ensures done { result ≡ true → Does (Ok (flows.Value (values.Integer number))) run.new (target_run S.accesses (meaning S.accesses) (super levels) (uses.Store (values.Integer number)) act.old) run.old }
+    ensures done { result ≡ true → Does (Ok (flows.Value (values.Integer number))) run.new
+        (target_run S.accesses (meaning S.accesses) (super levels)
+        (uses.Store (values.Integer number)) act.old) run.old }
     ensures behind { result ≡ true → act.new ≡ behind_target (super levels) act.old }
     ensures spent { run.new.1 ≤ run.old.1 }
     ensures none { result ≡ false → run.new ≡ run.old }
@@ -304,8 +313,8 @@ fn put_integer_in_slot<S: Space>(
     true
 }
 
-/// Increments or decrements a local or an argument that stands next and holds an integer, and gives its new value. In every other case
-/// nothing changes.
+/// Increments or decrements a local or an argument that stands next and holds an integer, and gives its new value. In
+/// every other case nothing changes.
 #[inline(always)]
 pub(crate) fn count_slot<S: Space>(
     run: &mut Running<S>,
@@ -313,7 +322,8 @@ pub(crate) fn count_slot<S: Space>(
     levels: u8,
     kind: Count,
 ) -> Option<u64>
-    ensures counted { IfSome result (λ n. Does (Ok (flows.Value (values.Integer n))) run.new (target_run S.accesses (meaning S.accesses) (super levels) (uses.Count kind) act.old) run.old) }
+    ensures counted { IfSome result (λ n. Does (Ok (flows.Value (values.Integer n))) run.new
+        (target_run S.accesses (meaning S.accesses) (super levels) (uses.Count kind) act.old) run.old) }
     ensures behind { IfSome result (λ n. act.new ≡ behind_target (super levels) act.old) }
     ensures spent { run.new.1 ≤ run.old.1 }
     ensures none { result ≡ None → run.new ≡ run.old }
@@ -339,7 +349,8 @@ fn count_in_slot<S: Space>(
 ) -> Option<u64>
     requires deep { 0 < levels }
     requires short { IsShort (shorts.Slot slot) (row_alone (first act.old.place.rest)) }
-    ensures counted { IfSome result (λ n. Does (Ok (flows.Value (values.Integer n))) run.new (target_run S.accesses (meaning S.accesses) (super levels) (uses.Count kind) act.old) run.old) }
+    ensures counted { IfSome result (λ n. Does (Ok (flows.Value (values.Integer n))) run.new
+        (target_run S.accesses (meaning S.accesses) (super levels) (uses.Count kind) act.old) run.old) }
     ensures behind { IfSome result (λ n. act.new ≡ behind_target (super levels) act.old) }
     ensures spent { run.new.1 ≤ run.old.1 }
     ensures none { result ≡ None → run.new ≡ run.old }

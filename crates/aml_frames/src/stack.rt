@@ -32,6 +32,7 @@ use crate::resuming::resume;
 use crate::targets::begin_target;
 use crate::terms::begin_term;
 use crate::uses::{Access, Accessed, Doing, Reading, Target, TargetUse};
+use crate::waiting::{Stack, go_to_flow, go_to_items, go_to_package, go_to_read, go_to_target};
 use aml_meaning::{Count, Flow, Running, StoreTarget};
 use aml_objects::{Field, NodeId, Reference, Value};
 use aml_path::Path;
@@ -40,15 +41,8 @@ use ar_space::{Refusal, Space};
 use std::alloc::Global;
 use std::mem;
 
-/// What is evaluated, and what waits for it.
-#[derive(Drop)]
-pub(crate) struct Stack {
-    pub(crate) act: Activation,
-    pub(crate) entries: Vec<Entry>,
-}
-
-/// Evaluates the body of a control method whose slots stand already, in one loop; `body` stands at its first byte. However the body ends,
-/// its call ends, unless memory runs out: its frame of slots, and the names below it.
+/// Evaluates the body of a control method whose slots stand already, in one loop; `body` stands at its first byte.
+/// However the body ends, its call ends, unless memory runs out: its frame of slots, and the names below it.
 #[tactic(auto, using(crate::proofs::Machine::beginning))]
 pub fn evaluate<S: Space>(
     alloc: Global,
@@ -92,7 +86,8 @@ pub(crate) fn access_field<S: Space>(
     calls: usize,
     field: Field,
 ) -> Result<Flow, Refusal>
-    ensures { Does result run.new (access_done S.accesses (meaning S.accesses) calls (object.Field field) (doing.Read reading.Part)) run.old }
+    ensures { Does result run.new (access_done S.accesses (meaning S.accesses) calls (object.Field field)
+        (doing.Read reading.Part)) run.old }
 {
     let access = Access {
         calls,
@@ -121,120 +116,6 @@ fn whole(body: &Activation) -> Items
     body.items(LEVELS, Position { at: 0, end: 0 })
 }
 
-impl Stack {
-    /// A stack on which nothing waits.
-    fn new(alloc: Global, act: Activation) -> Stack
-        ensures act { result.act ≡ act }
-        ensures empty { result.entries.items ≡ [] }
-    {
-        Stack {
-            act,
-            entries: Vec::new(alloc),
-        }
-    }
-
-    /// The term that stands next, and the frame that waits for it.
-    #[inline(always)]
-    fn wait_for_term(&mut self, levels: u8, frame: Frame) -> Result<Control, Refusal>
-        ensures act { OnOk result (self.new.act ≡ self.old.act) }
-        ensures pushed { OnOk result (self.new.entries.items ≡ self.old.entries.items ++ entry.Frame frame ∷ []) }
-        ensures next { IfOk result (λ c. c ≡ control.Term levels) }
-        ensures memory { IfErr result (λ e. e ≡ OutOfMemory) }
-    {
-        self.entries.push(Entry::Frame(frame))?;
-        Ok(Control::Term(levels))
-    }
-
-    /// The list of a While, and what is left of the While.
-    #[inline(always)]
-    fn wait_for_turn(&mut self, turn: Loop) -> Result<Control, Refusal>
-        ensures act { OnOk result (self.new.act ≡ self.old.act) }
-        ensures pushed { OnOk result (self.new.entries.items ≡ self.old.entries.items ++ entry.Frame (frames.Turn turn) ∷ []) }
-        ensures next { IfOk result (λ c. c ≡ control.Items (turn_items turn self.old.act)) }
-        ensures memory { IfErr result (λ e. e ≡ OutOfMemory) }
-    {
-        let items = self.act.items(turn.levels, turn.outer);
-        self.entries.push(Entry::Frame(Frame::Turn(turn)))?;
-        Ok(Control::Items(items))
-    }
-
-    /// The list of a scope, and the scope around it.
-    fn wait_for_scope(
-        &mut self,
-        items: Items,
-        path: MethodPath,
-        node: NodeId,
-    ) -> Result<Control, Refusal>
-        ensures act { OnOk result (self.new.act ≡ self.old.act) }
-        ensures pushed { OnOk result (self.new.entries.items ≡ self.old.entries.items ++ entry.Frame (frames.Scope path node) ∷ []) }
-        ensures next { IfOk result (λ c. c ≡ control.Items items) }
-        ensures memory { IfErr result (λ e. e ≡ OutOfMemory) }
-    {
-        self.entries.push(Entry::Frame(Frame::Scope(path, node)))?;
-        Ok(Control::Items(items))
-    }
-
-    /// The remainder of a Divide is stored, and its quotient waits.
-    fn wait_for_remainder(
-        &mut self,
-        levels: u8,
-        remainder: Value,
-        quotient: Value,
-    ) -> Result<Control, Refusal>
-        ensures act { OnOk result (self.new.act ≡ self.old.act) }
-        ensures pushed { OnOk result (self.new.entries.items ≡ self.old.entries.items ++ entry.Frame (frames.Quotient levels quotient) ∷ []) }
-        ensures next { IfOk result (λ c. c ≡ control.Target (optional levels) (uses.Store remainder)) }
-        ensures memory { IfErr result (λ e. e ≡ OutOfMemory) }
-    {
-        self.entries
-            .push(Entry::Frame(Frame::Quotient(levels, quotient)))?;
-        Ok(Control::Target(Target::optional(levels), TargetUse::Store(remainder)))
-    }
-
-    /// The reference of a CondRefOf is stored.
-    fn wait_for_reference(&mut self, levels: u8, reference: Reference) -> Result<Control, Refusal>
-        ensures act { OnOk result (self.new.act ≡ self.old.act) }
-        ensures pushed { OnOk result (self.new.entries.items ≡ self.old.entries.items ++ entry.Frame frames.Found ∷ []) }
-        ensures next { IfOk result (λ c. c ≡ control.Target (optional levels) (uses.Store (values.Reference reference))) }
-        ensures memory { IfErr result (λ e. e ≡ OutOfMemory) }
-    {
-        self.entries.push(Entry::Frame(Frame::Found))?;
-        Ok(Control::Target(
-            Target::optional(levels),
-            TargetUse::Store(Value::Reference(reference)),
-        ))
-    }
-
-    /// A field is read that is counted.
-    fn wait_for_count(
-        &mut self,
-        count: Count,
-        counted: Boxed<(StoreTarget, Field)>,
-    ) -> Result<Control, Refusal>
-        ensures act { OnOk result (self.new.act ≡ self.old.act) }
-        ensures pushed { OnOk result (self.new.entries.items ≡ self.old.entries.items ++ entry.Frame (frames.Counted count counted) ∷ []) }
-        ensures next { IfOk result (λ c. c ≡ control.Read counted.1 reading.Integer) }
-        ensures memory { IfErr result (λ e. e ≡ OutOfMemory) }
-    {
-        let field = counted.get().1;
-        self.entries
-            .push(Entry::Frame(Frame::Counted(count, counted)))?;
-        Ok(Control::Read(field, Reading::Integer))
-    }
-
-    /// An access of a field, and the frame that waits for it.
-    #[inline(always)]
-    fn wait_for_access(&mut self, access: Boxed<Access>, frame: Frame) -> Result<Control, Refusal>
-        ensures act { OnOk result (self.new.act ≡ self.old.act) }
-        ensures pushed { OnOk result (self.new.entries.items ≡ self.old.entries.items ++ entry.Frame frame ∷ []) }
-        ensures next { IfOk result (λ c. c ≡ control.Access access) }
-        ensures memory { IfErr result (λ e. e ≡ OutOfMemory) }
-    {
-        self.entries.push(Entry::Frame(frame))?;
-        Ok(Control::Access(access))
-    }
-}
-
 /// The loop.
 fn execute<S: Space>(
     alloc: Global,
@@ -242,7 +123,8 @@ fn execute<S: Space>(
     stack: Stack,
     first: Control,
 ) -> Result<Flow, Refusal>
-    ensures { Does result run.new (machine S.accesses (meaning S.accesses) first stack.act stack.entries.items) run.old }
+    ensures { Does result run.new (machine S.accesses (meaning S.accesses) first stack.act
+        stack.entries.items) run.old }
 {
     let mut stack = stack;
     let mut control = first;
@@ -250,58 +132,35 @@ fn execute<S: Space>(
         match control {
             Control::Term(levels) => match step_term(alloc, run, &mut stack, levels) {
                 Ok(after) => control = after,
-                Err(refusal) => {
-                    unwind(run, &mut stack, &refusal);
-                    return Err(refusal);
-                }
+                Err(refusal) => return Err(unwind(run, &mut stack, refusal)),
             },
             Control::Items(items) => match step_items(run, &mut stack, items) {
                 Ok(after) => control = after,
-                Err(refusal) => {
-                    unwind(run, &mut stack, &refusal);
-                    return Err(refusal);
-                }
+                Err(refusal) => return Err(unwind(run, &mut stack, refusal)),
             },
             Control::Package(filling) => match step_package(alloc, run, &mut stack, filling) {
                 Ok(after) => control = after,
-                Err(refusal) => {
-                    unwind(run, &mut stack, &refusal);
-                    return Err(refusal);
-                }
+                Err(refusal) => return Err(unwind(run, &mut stack, refusal)),
             },
-            Control::Target(target, target_use) => {
-                match step_target(alloc, run, &mut stack, target, target_use) {
-                    Ok(after) => control = after,
-                    Err(refusal) => {
-                        unwind(run, &mut stack, &refusal);
-                        return Err(refusal);
-                    }
-                }
-            }
+            Control::Target(target, aim) => match step_target(alloc, run, &mut stack, target, aim) {
+                Ok(after) => control = after,
+                Err(refusal) => return Err(unwind(run, &mut stack, refusal)),
+            },
             Control::Read(field, reading) => match step_read(
                 alloc, run, &mut stack, field, reading,
             ) {
                 Ok(after) => control = after,
-                Err(refusal) => {
-                    unwind(run, &mut stack, &refusal);
-                    return Err(refusal);
-                }
+                Err(refusal) => return Err(unwind(run, &mut stack, refusal)),
             },
             Control::Access(access) => match step_access(alloc, run, &mut stack, access) {
                 Ok(after) => control = after,
-                Err(refusal) => {
-                    unwind(run, &mut stack, &refusal);
-                    return Err(refusal);
-                }
+                Err(refusal) => return Err(unwind(run, &mut stack, refusal)),
             },
             Control::Flow(flow) => match stack.entries.pop() {
                 None => return Ok(flow),
                 Some(top) => match step_entry(alloc, run, &mut stack, top, flow) {
                     Ok(after) => control = after,
-                    Err(refusal) => {
-                        unwind(run, &mut stack, &refusal);
-                        return Err(refusal);
-                    }
+                    Err(refusal) => return Err(unwind(run, &mut stack, refusal)),
                 },
             },
         }
@@ -317,7 +176,8 @@ fn step_term<S: Space>(
     stack: &mut Stack,
     levels: u8,
 ) -> Result<Control, Refusal>
-    ensures falls { IfOk result (λ c. charged run.new.1 + (stack_weight stack.new.entries.items + control_weight c) < charged run.old.1 + stack_weight stack.old.entries.items) }
+    ensures falls { IfOk result (λ c. charged run.new.1 + (stack_weight stack.new.entries.items + control_weight c) <
+        charged run.old.1 + stack_weight stack.old.entries.items) }
     ensures means { Goes S.accesses (meaning S.accesses) result stack.new.act stack.new.entries.items run.new
         (machine S.accesses (meaning S.accesses) (control.Term levels) stack.old.act stack.old.entries.items) run.old }
 {
@@ -333,7 +193,8 @@ fn step_items<S: Space>(
     stack: &mut Stack,
     items: Items,
 ) -> Result<Control, Refusal>
-    ensures falls { IfOk result (λ c. charged run.new.1 + (stack_weight stack.new.entries.items + control_weight c) < charged run.old.1 + (stack_weight stack.old.entries.items + 4)) }
+    ensures falls { IfOk result (λ c. charged run.new.1 + (stack_weight stack.new.entries.items + control_weight c) <
+        charged run.old.1 + (stack_weight stack.old.entries.items + 4)) }
     ensures means { Goes S.accesses (meaning S.accesses) result stack.new.act stack.new.entries.items run.new
         (machine S.accesses (meaning S.accesses) (control.Items items) stack.old.act stack.old.entries.items) run.old }
 {
@@ -350,9 +211,11 @@ fn step_package<S: Space>(
     stack: &mut Stack,
     filling: Boxed<Package>,
 ) -> Result<Control, Refusal>
-    ensures falls { IfOk result (λ c. charged run.new.1 + (stack_weight stack.new.entries.items + control_weight c) < charged run.old.1 + (stack_weight stack.old.entries.items + 4)) }
+    ensures falls { IfOk result (λ c. charged run.new.1 + (stack_weight stack.new.entries.items + control_weight c) <
+        charged run.old.1 + (stack_weight stack.old.entries.items + 4)) }
     ensures means { Goes S.accesses (meaning S.accesses) result stack.new.act stack.new.entries.items run.new
-        (machine S.accesses (meaning S.accesses) (control.Package filling) stack.old.act stack.old.entries.items) run.old }
+        (machine S.accesses (meaning S.accesses) (control.Package filling) stack.old.act
+        stack.old.entries.items) run.old }
 {
     let next = begin_element(alloc, run, &mut stack.act, filling)?;
     follow(run, stack, next)
@@ -368,9 +231,11 @@ fn step_target<S: Space>(
     target: Target,
     target_use: TargetUse,
 ) -> Result<Control, Refusal>
-    ensures falls { IfOk result (λ c. charged run.new.1 + (stack_weight stack.new.entries.items + control_weight c) < charged run.old.1 + (stack_weight stack.old.entries.items + target_weight target_use)) }
+    ensures falls { IfOk result (λ c. charged run.new.1 + (stack_weight stack.new.entries.items + control_weight c) <
+        charged run.old.1 + (stack_weight stack.old.entries.items + target_weight target_use)) }
     ensures means { Goes S.accesses (meaning S.accesses) result stack.new.act stack.new.entries.items run.new
-        (machine S.accesses (meaning S.accesses) (control.Target target target_use) stack.old.act stack.old.entries.items) run.old }
+        (machine S.accesses (meaning S.accesses) (control.Target target target_use) stack.old.act
+        stack.old.entries.items) run.old }
 {
     let next = begin_target(alloc, run, &mut stack.act, target, target_use)?;
     follow(run, stack, next)
@@ -385,9 +250,11 @@ fn step_access<S: Space>(
     stack: &mut Stack,
     access: Boxed<Access>,
 ) -> Result<Control, Refusal>
-    ensures falls { IfOk result (λ c. charged run.new.1 + (stack_weight stack.new.entries.items + control_weight c) < charged run.old.1 + (stack_weight stack.old.entries.items + access_weight access)) }
+    ensures falls { IfOk result (λ c. charged run.new.1 + (stack_weight stack.new.entries.items + control_weight c) <
+        charged run.old.1 + (stack_weight stack.old.entries.items + access_weight access)) }
     ensures means { Goes S.accesses (meaning S.accesses) result stack.new.act stack.new.entries.items run.new
-        (machine S.accesses (meaning S.accesses) (control.Access access) stack.old.act stack.old.entries.items) run.old }
+        (machine S.accesses (meaning S.accesses) (control.Access access) stack.old.act
+        stack.old.entries.items) run.old }
 {
     let next = begin_access(alloc, run, &stack.act, access.into_inner())?;
     follow(run, stack, next)
@@ -403,9 +270,11 @@ fn step_read<S: Space>(
     field: Field,
     reading: Reading,
 ) -> Result<Control, Refusal>
-    ensures falls { IfOk result (λ c. charged run.new.1 + (stack_weight stack.new.entries.items + control_weight c) < charged run.old.1 + (stack_weight stack.old.entries.items + most)) }
+    ensures falls { IfOk result (λ c. charged run.new.1 + (stack_weight stack.new.entries.items + control_weight c) <
+        charged run.old.1 + (stack_weight stack.old.entries.items + most)) }
     ensures means { Goes S.accesses (meaning S.accesses) result stack.new.act stack.new.entries.items run.new
-        (machine S.accesses (meaning S.accesses) (control.Read field reading) stack.old.act stack.old.entries.items) run.old }
+        (machine S.accesses (meaning S.accesses) (control.Read field reading) stack.old.act
+        stack.old.entries.items) run.old }
 {
     let access = begin_read(&stack.act, field, reading);
     let next = begin_access(alloc, run, &stack.act, access)?;
@@ -422,9 +291,11 @@ fn step_entry<S: Space>(
     top: Entry,
     flow: Flow,
 ) -> Result<Control, Refusal>
-    ensures falls { IfOk result (λ c. charged run.new.1 + (stack_weight stack.new.entries.items + control_weight c) < charged run.old.1 + (stack_weight stack.old.entries.items + entry_weight top + 3)) }
+    ensures falls { IfOk result (λ c. charged run.new.1 + (stack_weight stack.new.entries.items + control_weight c) <
+        charged run.old.1 + (stack_weight stack.old.entries.items + entry_weight top + 3)) }
     ensures means { Goes S.accesses (meaning S.accesses) result stack.new.act stack.new.entries.items run.new
-        (machine S.accesses (meaning S.accesses) (control.Flow flow) stack.old.act (stack.old.entries.items ++ top ∷ [])) run.old }
+        (machine S.accesses (meaning S.accesses) (control.Flow flow) stack.old.act
+        (stack.old.entries.items ++ top ∷ [])) run.old }
 {
     match top {
         Entry::Frame(Frame::Items(items)) => next_item(run, stack, items, flow),
@@ -449,9 +320,11 @@ fn next_item<S: Space>(
     items: Items,
     flow: Flow,
 ) -> Result<Control, Refusal>
-    ensures falls { IfOk result (λ c. stack_weight stack.new.entries.items + control_weight c < stack_weight stack.old.entries.items + 6) }
+    ensures falls { IfOk result (λ c. stack_weight stack.new.entries.items + control_weight c <
+        stack_weight stack.old.entries.items + 6) }
     ensures means { Goes S.accesses (meaning S.accesses) result stack.new.act stack.new.entries.items run.now
-        (machine S.accesses (meaning S.accesses) (control.Flow flow) stack.old.act (stack.old.entries.items ++ entry.Frame (frames.Items items) ∷ [])) run.now }
+        (machine S.accesses (meaning S.accesses) (control.Flow flow) stack.old.act
+        (stack.old.entries.items ++ entry.Frame (frames.Items items) ∷ [])) run.now }
 {
     if !flow.goes_on() {
         stack.act.go_to(items.outer);
@@ -474,53 +347,15 @@ fn next_item<S: Space>(
     Ok(Control::Term(items.levels))
 }
 
-/// A flow is handed to what waits.
-#[inline(always)]
-fn go_to_flow(flow: Flow) -> Result<Control, Refusal>
-    ensures { result ≡ Ok (control.Flow flow) }
-{
-    Ok(Control::Flow(flow))
-}
-
-/// A list begins next.
-#[inline(always)]
-fn go_to_items(items: Items) -> Result<Control, Refusal>
-    ensures { result ≡ Ok (control.Items items) }
-{
-    Ok(Control::Items(items))
-}
-
-/// The next element of a package begins next.
-#[inline(always)]
-fn go_to_package(filling: Boxed<Package>) -> Result<Control, Refusal>
-    ensures { result ≡ Ok (control.Package filling) }
-{
-    Ok(Control::Package(filling))
-}
-
-/// A target is found next.
-#[inline(always)]
-fn go_to_target(target: Target, target_use: TargetUse) -> Result<Control, Refusal>
-    ensures { result ≡ Ok (control.Target target target_use) }
-{
-    Ok(Control::Target(target, target_use))
-}
-
-/// A field is read next.
-#[inline(always)]
-fn go_to_read(field: Field, reading: Reading) -> Result<Control, Refusal>
-    ensures { result ≡ Ok (control.Read field reading) }
-{
-    Ok(Control::Read(field, reading))
-}
-
 /// What is left to do is put on the stack.
 #[inline(always)]
 #[tactic(auto, using(crate::proofs::Machine::going))]
 fn follow<S: Space>(run: &mut Running<S>, stack: &mut Stack, next: Next) -> Result<Control, Refusal>
-    ensures falls { IfOk result (λ c. charged run.new.1 + (stack_weight stack.new.entries.items + control_weight c) ≤ charged run.old.1 + (stack_weight stack.old.entries.items + next_weight next)) }
+    ensures falls { IfOk result (λ c. charged run.new.1 + (stack_weight stack.new.entries.items + control_weight c) ≤
+        charged run.old.1 + (stack_weight stack.old.entries.items + next_weight next)) }
     ensures means { Goes S.accesses (meaning S.accesses) result stack.new.act stack.new.entries.items run.new
-        (then_all S.accesses (meaning S.accesses) (next_run S.accesses (meaning S.accesses) next stack.old.act) (next_ends next stack.old.act) stack.old.entries.items) run.old }
+        (then_all S.accesses (meaning S.accesses) (next_run S.accesses (meaning S.accesses) next stack.old.act)
+        (next_ends next stack.old.act) stack.old.entries.items) run.old }
 {
     match next {
         Next::Flow(flow) => go_to_flow(flow),
@@ -550,9 +385,11 @@ fn run_then<S: Space>(
     body: Activation,
     asked: Boxed<PciAccess>,
 ) -> Result<Control, Refusal>
-    ensures falls { IfOk result (λ c. charged run.new.1 + (stack_weight stack.new.entries.items + control_weight c) ≤ charged run.old.1 + (stack_weight stack.old.entries.items + next_weight (next.BodyThen body asked))) }
+    ensures falls { IfOk result (λ c. charged run.new.1 + (stack_weight stack.new.entries.items + control_weight c) ≤
+        charged run.old.1 + (stack_weight stack.old.entries.items + next_weight (next.BodyThen body asked))) }
     ensures means { Goes S.accesses (meaning S.accesses) result stack.new.act stack.new.entries.items run.new
-        (then_all S.accesses (meaning S.accesses) (next_run S.accesses (meaning S.accesses) (next.BodyThen body asked) stack.old.act) (next_ends (next.BodyThen body asked) stack.old.act) stack.old.entries.items) run.old }
+        (then_all S.accesses (meaning S.accesses) (next_run S.accesses (meaning S.accesses) (next.BodyThen body asked)
+        stack.old.act) (next_ends (next.BodyThen body asked) stack.old.act) stack.old.entries.items) run.old }
 {
     push_frame(run, stack, &body, Frame::Address(asked))?;
     run_in(run, stack, body)
@@ -590,7 +427,8 @@ fn run_in<S: Space>(
     ensures steps { run.new.1 ≡ run.old.1 }
     ensures kept { OnOk result (run.new ≡ run.old) }
     ensures act { OnOk result (stack.new.act ≡ body) }
-    ensures pushed { OnOk result (stack.new.entries.items ≡ stack.old.entries.items ++ entry.Leave stack.old.act body.scope ∷ []) }
+    ensures pushed { OnOk result (stack.new.entries.items ≡ stack.old.entries.items ++
+        entry.Leave stack.old.act body.scope ∷ []) }
     ensures list { IfOk result (λ c. c ≡ control.Items (whole body)) }
     ensures ended { IfErr result (λ e. run.new ≡ (left body.scope run.old.0, run.old.1)) }
     ensures memory { IfErr result (λ e. e ≡ OutOfMemory) }
@@ -613,13 +451,15 @@ fn run_in<S: Space>(
     }
 }
 
-/// A refusal: what waits is given up, and each call that is being evaluated ends.
-fn unwind<S: Space>(run: &mut Running<S>, stack: &mut Stack, refusal: &Refusal)
-    ensures { then_all S.accesses (meaning S.accesses) (stop refusal.now) stack.old.act stack.old.entries.items run.old ≡ (Err refusal.now, run.new) }
+/// A refusal, which is handed on: what waits is given up, and each call that is being evaluated ends.
+fn unwind<S: Space>(run: &mut Running<S>, stack: &mut Stack, refusal: Refusal) -> Refusal
+    ensures same { result ≡ refusal }
+    ensures ended { then_all S.accesses (meaning S.accesses) (stop refusal) stack.old.act stack.old.entries.items
+        run.old ≡ (Err refusal, run.new) }
 {
     'entries: loop {
         match stack.entries.pop() {
-            None => return,
+            None => return refusal,
             Some(Entry::Frame(frame)) => drop(frame),
             Some(Entry::Leave(caller, method)) => {
                 end_call(run, method.path());

@@ -1,4 +1,5 @@
-//! Statements: what is done before their first part is evaluated (ACPI 6.5, 19.6 and 20.2.5.3). The operands stand next.
+//! Statements: what is done before their first part is evaluated (ACPI 6.5, 19.6 and 20.2.5.3). The operands stand
+//! next.
 ghost use Rattle.std.specs.Prelude.{◌≡◌, ◌≤◌, ◌<◌, ◌+◌, ◌*◌, Ok, Some, IfOk};
 ghost use Rattle.aml_marked.specs.Marked.{maybe_else};
 ghost use Rattle.ar_space.specs.Outcome.{NotMemory};
@@ -9,7 +10,8 @@ ghost use Rattle.aml_meaning.specs.declared.term_kind.StatementKind.TheVariants 
 ghost use Rattle.aml_frames.specs.declared.frames.Frame.TheVariants as frames;
 ghost use Rattle.aml_frames.specs.declared.frames.Next.TheVariants as next;
 ghost use Rattle.aml_frames.specs.Places.{at_place, terms};
-ghost use Rattle.aml_frames.specs.Follow.{behind_else, statement_run, branch_at, behind_statement_at, next_run, next_ends, Leads, EndsAt};
+ghost use Rattle.aml_frames.specs.Follow.{behind_else, statement_run, branch_at, behind_statement_at, next_run};
+ghost use Rattle.aml_frames.specs.Follow.{next_ends, Leads, EndsAt};
 ghost use Rattle.aml_frames.specs.Weights.{most, next_weight};
 
 use crate::activation::{Activation, Position};
@@ -200,7 +202,8 @@ fn next_otherwise<S: Space>(
     ensures falls { IfOk result (λ n. next_weight n < 6) }
     ensures memory { NotMemory result }
     ensures means { Leads S.accesses (meaning S.accesses) result act.new run.new
-        (otherwise (meaning S.accesses) act.old.scope act.old.depth (else_of (Some (maybe_else (terms act.old levels) act.old.place).0))) run.old }
+        (otherwise (meaning S.accesses) act.old.scope act.old.depth
+        (else_of (Some (maybe_else (terms act.old levels) act.old.place).0))) run.old }
     ensures ends { EndsAt result act.new (at_place act.old (maybe_else (terms act.old levels) act.old.place).1) }
 {
     if act.is_next(ELSE) {

@@ -45,6 +45,10 @@ pub(crate) fn use_target<S: Space>(
             let stored = run.world.copy_to(alloc, &target, value)?;
             complete(alloc, run, act, stored, value)
         }
+        TargetUse::Form(value) => {
+            let stored = run.world.store_formed(alloc, &target, value)?;
+            complete(alloc, run, act, stored, value)
+        }
         TargetUse::Count(count) => count_target(alloc, run, act, target, count),
         TargetUse::Inquire(inquiry) => {
             let referent = run.world.target_referent(&target)?;
@@ -160,8 +164,8 @@ pub(crate) fn resume_counted<S: Space>(
     store_back(alloc, run, act, &target, Held::Field(field), result)
 }
 
-/// A store to a target whose value was read before; a field that was read is the one that is written, unless an element of a
-/// package named it: then the element is replaced.
+/// A store to a target whose value was read before; a field that was read is the one that is written, unless an
+/// element of a package named it: then the element is replaced.
 #[tactic(auto, using(crate::proofs::Using::using_targets), unfolding(crate::specs::Uses::stored_at))]
 fn store_back<S: Space>(
     alloc: Global,

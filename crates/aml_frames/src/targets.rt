@@ -12,7 +12,8 @@ ghost use Rattle.aml_meaning.specs.declared.store_target.TargetKind.TheVariants 
 ghost use Rattle.aml_frames.specs.declared.frames.Frame.TheVariants as frames;
 ghost use Rattle.aml_frames.specs.Follow.{resumed, ends, Leads, EndsAt};
 ghost use Rattle.aml_frames.specs.Places.{next_term, behind_term};
-ghost use Rattle.aml_frames.specs.Uses.{super, optional, target_ends, use_ends, target_run, operand_used, dereferenced_used};
+ghost use Rattle.aml_frames.specs.Uses.{super, optional, target_ends, use_ends, target_run, operand_used};
+ghost use Rattle.aml_frames.specs.Uses.{dereferenced_used};
 ghost use Rattle.aml_frames.specs.Weights.{use_weight, target_weight, next_weight, charged};
 
 use crate::activation::Activation;
@@ -36,7 +37,8 @@ pub(crate) fn begin_target<S: Space>(
 ) -> Result<Next, Refusal>
     ensures spent { run.new.1 ≤ run.old.1 }
     ensures few { IfOk result (λ n. next_weight n ≤ target_weight target_use) }
-    ensures falls { IfOk result (λ n. charged run.new.1 + next_weight n < charged run.old.1 + target_weight target_use) }
+    ensures falls { IfOk result (λ n. charged run.new.1 + next_weight n <
+        charged run.old.1 + target_weight target_use) }
     ensures means { Leads S.accesses (meaning S.accesses) result act.new run.new
         (target_run S.accesses (meaning S.accesses) target target_use act.old) run.old }
     ensures ends { EndsAt result act.new (target_ends target target_use act.old) }
@@ -59,7 +61,8 @@ fn begin_optional<S: Space>(
 ) -> Result<Next, Refusal>
     ensures spent { run.new.1 ≤ run.old.1 }
     ensures few { IfOk result (λ n. next_weight n ≤ target_weight target_use) }
-    ensures falls { IfOk result (λ n. charged run.new.1 + next_weight n < charged run.old.1 + target_weight target_use) }
+    ensures falls { IfOk result (λ n. charged run.new.1 + next_weight n <
+        charged run.old.1 + target_weight target_use) }
     ensures means { Leads S.accesses (meaning S.accesses) result act.new run.new
         (target_run S.accesses (meaning S.accesses) (optional levels) target_use act.old) run.old }
     ensures ends { EndsAt result act.new (target_ends (optional levels) target_use act.old) }
@@ -84,7 +87,8 @@ fn begin_super_name<S: Space>(
 ) -> Result<Next, Refusal>
     ensures spent { run.new.1 ≤ run.old.1 }
     ensures few { IfOk result (λ n. next_weight n ≤ target_weight target_use) }
-    ensures falls { IfOk result (λ n. charged run.new.1 + next_weight n < charged run.old.1 + target_weight target_use) }
+    ensures falls { IfOk result (λ n. charged run.new.1 + next_weight n <
+        charged run.old.1 + target_weight target_use) }
     ensures means { Leads S.accesses (meaning S.accesses) result act.new run.new
         (target_run S.accesses (meaning S.accesses) (super levels) target_use act.old) run.old }
     ensures ends { EndsAt result act.new (target_ends (super levels) target_use act.old) }
@@ -106,7 +110,8 @@ fn begin_any_super_name<S: Space>(
 ) -> Result<Next, Refusal>
     ensures spent { run.new.1 ≤ run.old.1 }
     ensures few { IfOk result (λ n. next_weight n ≤ target_weight target_use) }
-    ensures falls { IfOk result (λ n. charged run.new.1 + next_weight n < charged run.old.1 + target_weight target_use) }
+    ensures falls { IfOk result (λ n. charged run.new.1 + next_weight n <
+        charged run.old.1 + target_weight target_use) }
     ensures means { Leads S.accesses (meaning S.accesses) result act.new run.new
         (target_run S.accesses (meaning S.accesses) (super levels) target_use act.old) run.old }
     ensures ends { EndsAt result act.new (target_ends (super levels) target_use act.old) }
@@ -130,7 +135,8 @@ fn begin_named<S: Space>(
     requires { starts_name (first act.old.place.rest) ≡ true }
     ensures spent { run.new.1 ≤ run.old.1 }
     ensures few { IfOk result (λ n. next_weight n ≤ target_weight target_use) }
-    ensures falls { IfOk result (λ n. charged run.new.1 + next_weight n < charged run.old.1 + target_weight target_use) }
+    ensures falls { IfOk result (λ n. charged run.new.1 + next_weight n <
+        charged run.old.1 + target_weight target_use) }
     ensures means { Leads S.accesses (meaning S.accesses) result act.new run.new
         (target_run S.accesses (meaning S.accesses) (super levels) target_use act.old) run.old }
     ensures ends { EndsAt result act.new (target_ends (super levels) target_use act.old) }
@@ -165,7 +171,8 @@ fn begin_referring<S: Space>(
     requires { starts_name (first act.old.place.rest) ≡ false }
     ensures spent { run.new.1 ≤ run.old.1 }
     ensures few { IfOk result (λ n. next_weight n ≤ target_weight target_use) }
-    ensures falls { IfOk result (λ n. charged run.new.1 + next_weight n < charged run.old.1 + target_weight target_use) }
+    ensures falls { IfOk result (λ n. charged run.new.1 + next_weight n <
+        charged run.old.1 + target_weight target_use) }
     ensures means { Leads S.accesses (meaning S.accesses) result act.new run.new
         (target_run S.accesses (meaning S.accesses) (super levels) target_use act.old) run.old }
     ensures ends { EndsAt result act.new (target_ends (super levels) target_use act.old) }
@@ -197,7 +204,8 @@ fn begin_operand_target<S: Space>(
     requires { target_kind (code_of (next_term act.old levels)) ≡ kinds.RefOf }
     ensures spent { run.new.1 ≤ run.old.1 }
     ensures few { IfOk result (λ n. next_weight n ≤ target_weight target_use) }
-    ensures falls { IfOk result (λ n. charged run.new.1 + next_weight n < charged run.old.1 + target_weight target_use) }
+    ensures falls { IfOk result (λ n. charged run.new.1 + next_weight n <
+        charged run.old.1 + target_weight target_use) }
     ensures means { Leads S.accesses (meaning S.accesses) result act.new run.new
         (operand_used S.accesses (meaning S.accesses) levels target_use act.old) run.old }
     ensures ends { EndsAt result act.new (use_ends target_use (behind_term act.old levels)) }

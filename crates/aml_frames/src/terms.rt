@@ -1,4 +1,5 @@
-//! How terms begin: what is done before the first part of a term is evaluated. The machine goes on with what is left to do.
+//! How terms begin: what is done before the first part of a term is evaluated. The machine goes on with what is left
+//! to do.
 ghost use Rattle.std.specs.Prelude.{◌≡◌, ◌≢◌, ◌≤◌, ◌<◌, ◌+◌, ◌*◌, OnOk, IfOk};
 ghost use Rattle.aml_grammar.specs.Apart.{code_of};
 ghost use Rattle.aml_grammar.specs.declared.opcode.Opcode.{Opcode};
@@ -6,7 +7,7 @@ ghost use Rattle.aml_grammar.specs.declared.opcode.TermCode.TheVariants as codes
 ghost use Rattle.aml_meaning.specs.Meaning.{meaning};
 ghost use Rattle.aml_frames.specs.Places.{next_term, behind_term};
 ghost use Rattle.aml_frames.specs.Follow.{term_run, begun_run, coded_run, behind_coded, Leads, EndsAt};
-ghost use Rattle.aml_frames.specs.Weights.{most, next_weight};
+ghost use Rattle.aml_frames.specs.Weights.{step_weight, next_weight};
 
 use crate::activation::Activation;
 use crate::data::begin_data;
@@ -16,6 +17,7 @@ use crate::names::begin_name;
 use crate::operators::begin_operator;
 use crate::regions::begin_region_term;
 use crate::statements::begin_statement;
+use crate::wide::begin_wide;
 use aml_meaning::{Running, TermKind, kind_of};
 use aml_terms::RowPlace;
 use ar_space::{EvaluationFault, NameFault, Refusal, Space};
@@ -31,7 +33,7 @@ pub(crate) fn begin_term<S: Space>(
     levels: u8,
 ) -> Result<Next, Refusal>
     ensures paid { OnOk result (run.new.1 < run.old.1) }
-    ensures falls { IfOk result (λ n. next_weight n < 3 * most + 100) }
+    ensures falls { IfOk result (λ n. next_weight n < step_weight) }
     ensures means { Leads S.accesses (meaning S.accesses) result act.new run.new
         (term_run S.accesses (meaning S.accesses) act.old levels) run.old }
     ensures ends { EndsAt result act.new (behind_term act.old levels) }
@@ -50,7 +52,7 @@ fn begin_paid<S: Space>(
     levels: u8,
 ) -> Result<Next, Refusal>
     ensures spent { run.new.1 ≤ run.old.1 }
-    ensures falls { IfOk result (λ n. next_weight n < 3 * most + 100) }
+    ensures falls { IfOk result (λ n. next_weight n < step_weight) }
     ensures means { Leads S.accesses (meaning S.accesses) result act.new run.new
         (begun_run S.accesses (meaning S.accesses) act.old levels) run.old }
     ensures ends { EndsAt result act.new (behind_term act.old levels) }
@@ -71,7 +73,7 @@ fn begin_uncoded<S: Space>(
 ) -> Result<Next, Refusal>
     requires { (opcode : Opcode) → code_of (next_term act.old levels) ≢ codes.Opcode opcode }
     ensures spent { run.new.1 ≤ run.old.1 }
-    ensures falls { IfOk result (λ n. next_weight n < 3 * most + 100) }
+    ensures falls { IfOk result (λ n. next_weight n < step_weight) }
     ensures means { Leads S.accesses (meaning S.accesses) result act.new run.new
         (begun_run S.accesses (meaning S.accesses) act.old levels) run.old }
     ensures ends { EndsAt result act.new (behind_term act.old levels) }
@@ -84,7 +86,7 @@ fn begin_uncoded<S: Space>(
 
 /// A term whose opcode was read, by the place of its row: its operands stand next.
 #[inline(always)]
-#[tactic(auto, using(crate::proofs::Using::beginning_terms, crate::proofs::Stepping::coding, crate::proofs::DeclaringFields::coded_regions))]
+#[tactic(auto, using(crate::proofs::Using::beginning_terms, crate::proofs::Stepping::coding, crate::proofs::DeclaringFields::coded_regions, crate::proofs::WideSteps::beginning_wide))]
 fn begin_coded<S: Space>(
     alloc: Global,
     run: &mut Running<S>,
@@ -93,7 +95,7 @@ fn begin_coded<S: Space>(
     place: RowPlace,
 ) -> Result<Next, Refusal>
     ensures spent { run.new.1 ≤ run.old.1 }
-    ensures falls { IfOk result (λ n. next_weight n < 3 * most + 100) }
+    ensures falls { IfOk result (λ n. next_weight n < step_weight) }
     ensures means { Leads S.accesses (meaning S.accesses) result act.new run.new
         (coded_run S.accesses (meaning S.accesses) place act.old levels) run.old }
     ensures ends { EndsAt result act.new (behind_coded place act.old levels) }
@@ -104,6 +106,7 @@ fn begin_coded<S: Space>(
         TermKind::Data(kind) => begin_data(alloc, run, act, levels, place, kind),
         TermKind::Declaration(kind) => begin_declaration(alloc, run, act, levels, place, kind),
         TermKind::Region(kind) => begin_region_term(alloc, run, act, levels, place, kind),
+        TermKind::Wide(kind) => begin_wide(alloc, run, act, levels, place.row().0, kind),
         TermKind::Unsupported => {
             Err(Refusal::Evaluation(EvaluationFault::Unsupported(place.row().0.number())))
         }

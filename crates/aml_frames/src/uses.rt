@@ -2,7 +2,7 @@
 ghost use Rattle.std.specs.Prelude.{◌≡◌};
 ghost use Rattle.aml_frames.specs.Uses.{super, optional};
 
-use aml_meaning::{Count, OneOperand, RegionField, Test, TwoOperands};
+use aml_meaning::{Conversion, Count, OneOperand, RegionField, Test, TwoOperands};
 use aml_objects::{Field, Octets, Value};
 use ar_space::Width;
 
@@ -15,6 +15,8 @@ pub enum Monadic {
     CopyObject,
     /// An operand and a target.
     One(OneOperand),
+    /// An operand and a target, which takes what is formed.
+    Convert(Conversion),
     LogicalNot,
     DerefOf,
 }
@@ -28,6 +30,10 @@ pub enum Dyadic {
     Divide,
     /// Two operands, and no target.
     Test(Test),
+    /// ToString: two operands and a target, which takes what is formed.
+    ToString,
+    /// Mid: a third operand, and a target.
+    Mid,
 }
 
 /// An operator whose first operand has a value: the second one is evaluated.
@@ -92,6 +98,8 @@ pub enum TargetUse {
     Store(Value),
     /// A value is stored to it without a conversion, and is the value of the term.
     CopyObject(Value),
+    /// What a conversion formed is stored to it, and is the value of the term.
+    Form(Value),
     /// Increment and Decrement.
     Count(Count),
     /// SizeOf and ObjectType.

@@ -33,8 +33,8 @@ pub trait ArgumentCounts {
     fn latest(&self, path: &Path, external: bool) -> Option<u8>
         ensures { result ≡ latest path.now external (counts self.now) };
 
-    /// How many segments of a scope lead to the place below which some segments are a path with a count: of all such places, from the
-    /// root down to the scope itself, the deepest. It takes no memory.
+    /// How many segments of a scope lead to the place below which some segments are a path with a count: of all such
+    /// places, from the root down to the scope itself, the deepest. It takes no memory.
     fn deepest(&self, scope: &Path, segments: &[Seg]) -> Option<usize>
         ensures { result ≡ greatest (is_known_below (counts self.now) scope.now segments.now) (length scope.now) };
 }
@@ -49,8 +49,8 @@ struct Entry {
 
 /// The argument counts of declared paths and of Externals, in the order in which they came.
 ///
-/// At one path a declared name counts before an External, and of two of the same sort the later. Each path is kept once, as a
-/// node of a tree, and a count is found from the root down.
+/// At one path a declared name counts before an External, and of two of the same sort the later. Each path is kept
+/// once, as a node of a tree, and a count is found from the root down.
 #[derive(Debug, Drop)]
 pub struct Arities {
     alloc: Global,
@@ -96,10 +96,15 @@ impl Arities {
         self.entries.is_empty()
     }
 
-    /// Adds a path, declared or named by an External, as the latest. All memory is taken before the list changes. It is refused
-    /// also where the tree would have more than 2^32 nodes. Nodes that were made until then stay, without counts.
+    /// Adds a path, declared or named by an External, as the latest. All memory is taken before the list changes. It
+    /// is refused also where the tree would have more than 2^32 nodes. Nodes that were made until then stay, without
+    /// counts.
     pub fn add(&mut self, path: Path, count: u8, external: bool) -> Result<(), AllocError>
-        ensures ok { OnOk result (self.new ≡ self.old ++ record { path = path; count = count; external = external } ∷ []) }
+        ensures ok { OnOk result (self.new ≡ self.old ++ record {
+          path = path;
+          count = count;
+          external = external;
+        } ∷ []) }
         ensures err { OnErr result (self.new ≡ self.old) }
     {
         self.entries.reserve(1)?;
@@ -113,10 +118,11 @@ impl Arities {
         Ok(())
     }
 
-    /// Adds all entries of others behind its own. Where memory runs out, or a tree would have more than 2^32 nodes, the list is as it was.
+    /// Adds all entries of others behind its own. Where memory runs out, or a tree would have more than 2^32 nodes,
+    /// the list is as it was.
     ///
-    /// The nodes of the list with fewer entries are found or made in the tree of the other. Then its own counts are put under those that
-    /// are added, or those that are added over its own.
+    /// The nodes of the list with fewer entries are found or made in the tree of the other. Then its own counts are
+    /// put under those that are added, or those that are added over its own.
     pub fn append(&mut self, added: Arities) -> Result<(), AllocError>
         ensures ok { OnOk result (self.new ≡ self.old ++ added) }
         ensures err { OnErr result (self.new ≡ self.old) }
@@ -128,8 +134,8 @@ impl Arities {
         }
     }
 
-    /// Takes entries over behind its own, with their tree, under whose counts it puts its own. All memory is taken before anything of its
-    /// own changes.
+    /// Takes entries over behind its own, with their tree, under whose counts it puts its own. All memory is taken
+    /// before anything of its own changes.
     fn take_over_with_names(&mut self, added: Arities) -> Result<(), AllocError>
         ensures ok { OnOk result (self.new ≡ self.old ++ added) }
         ensures err { OnErr result (self.new ≡ self.old) }
@@ -144,8 +150,8 @@ impl Arities {
         Ok(())
     }
 
-    /// Takes entries over behind its own, into its own tree, over whose counts it puts theirs. All memory is taken before the list or a
-    /// count changes; nodes that were made until then stay, without counts.
+    /// Takes entries over behind its own, into its own tree, over whose counts it puts theirs. All memory is taken
+    /// before the list or a count changes; nodes that were made until then stay, without counts.
     fn take_over(&mut self, added: Arities) -> Result<(), AllocError>
         ensures ok { OnOk result (self.new ≡ self.old ++ added) }
         ensures err { OnErr result (self.new ≡ self.old) }
@@ -188,10 +194,11 @@ impl ArgumentCounts for Arities {
     }
 }
 
-/// The greater of two depths: of the greatest of which one thing holds and the greatest of which another does, the greatest of which
-/// either holds.
+/// The greater of two depths: of the greatest of which one thing holds and the greatest of which another does, the
+/// greatest of which either holds.
 pub fn deeper(first: Option<usize>, second: Option<usize>) -> Option<usize>
-    ensures { (f g : ℕ → Bool) (n : ℕ) → first ≡ greatest f n → second ≡ greatest g n → result ≡ greatest (λ k. f k || g k) n }
+    ensures { (f g : ℕ → Bool) (n : ℕ) → first ≡ greatest f n → second ≡ greatest g n →
+        result ≡ greatest (λ k. f k || g k) n }
 {
     match first {
         None => second,

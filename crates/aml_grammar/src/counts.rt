@@ -1,9 +1,11 @@
 //! The latest argument counts, by path.
-ghost use Rattle.std.specs.Prelude.{◌≡◌, ◌<◌, ◌≤◌, ◌++◌, ℕ, List, [], ◌∷◌, Some, IfOk, OnOk, length, get_or, if◌then◌else◌};
+ghost use Rattle.std.specs.Prelude.{◌≡◌, ◌<◌, ◌≤◌, ◌++◌, ℕ, List, [], ◌∷◌, Some, IfOk, OnOk, length, get_or};
+ghost use Rattle.std.specs.Prelude.{if◌then◌else◌};
 ghost use Rattle.aml_path.specs.declared.segment.Seg.{Seg as Segment};
 ghost use Rattle.aml_grammar.specs.PathTree.{number_of, Kept, Leads};
 ghost use Rattle.aml_grammar.specs.Arities.{greatest};
-ghost use Rattle.aml_grammar.specs.Counts.{count_of, counts_at, with_count, over, shown, is_counted, is_shown, is_shown_below, with_added, SameCounts, BothCounts};
+ghost use Rattle.aml_grammar.specs.Counts.{count_of, counts_at, with_count, over, shown, is_counted, is_shown};
+ghost use Rattle.aml_grammar.specs.Counts.{is_shown_below, with_added, SameCounts, BothCounts};
 
 use crate::path_tree::PathTree;
 use aml_path::{Path, Seg};
@@ -68,8 +70,9 @@ impl CountTree {
         }
     }
 
-    /// How many segments of a scope lead to the place below which some segments have a count, the longest such way from the root
-    /// down: a count that an External tells, or, with `any`, also one that a declaration has. It takes no memory.
+    /// How many segments of a scope lead to the place below which some segments have a count, the longest such way
+    /// from the root down: a count that an External tells, or, with `any`, also one that a declaration has. It takes
+    /// no memory.
     pub(crate) fn deepest(&self, any: bool, scope: &Path, segments: &[Seg]) -> Option<usize>
         ensures { result ≡ greatest (is_shown_below any self.now scope.now segments.now) (length scope.now) }
     {
@@ -118,8 +121,8 @@ impl CountTree {
         }
     }
 
-    /// The number of a path, and room for its counts, so that adding one takes no memory. It is refused also where no number is
-    /// left.
+    /// The number of a path, and room for its counts, so that adding one takes no memory. It is refused also where no
+    /// number is left.
     pub(crate) fn make(&mut self, path: &Path) -> Result<u32, AllocError>
         ensures kept { Kept self.old.paths self.new.paths }
         ensures same { SameCounts self.old self.new }
@@ -182,7 +185,9 @@ fn put_over(counts: &mut Vec<Counts>, later: &[Counts], nodes: &[u32])
     requires many { length later.now ≤ length nodes.now }
     requires within { (n : ℕ) → n < length nodes.now → get_or nodes.now n 0 < length counts.old.items }
     ensures long { length counts.new.items ≡ length counts.old.items }
-    ensures both { (ps qs : List (List Segment)) → Leads ps qs nodes.now → BothCounts (record { paths = ps; counts = counts.old.items }) (record { paths = qs; counts = later.now }) (record { paths = ps; counts = counts.new.items }) }
+    ensures both { (ps qs : List (List Segment)) → Leads ps qs nodes.now →
+        BothCounts (record { paths = ps; counts = counts.old.items }) (record { paths = qs; counts = later.now })
+        (record { paths = ps; counts = counts.new.items }) }
 {
     for node in 0..later.len() {
         let place = nodes[node] as usize;
@@ -195,7 +200,9 @@ fn put_under(counts: &mut Vec<Counts>, earlier: &[Counts], nodes: &[u32])
     requires many { length earlier.now ≤ length nodes.now }
     requires within { (n : ℕ) → n < length nodes.now → get_or nodes.now n 0 < length counts.old.items }
     ensures long { length counts.new.items ≡ length counts.old.items }
-    ensures both { (ps qs : List (List Segment)) → Leads ps qs nodes.now → BothCounts (record { paths = qs; counts = earlier.now }) (record { paths = ps; counts = counts.old.items }) (record { paths = ps; counts = counts.new.items }) }
+    ensures both { (ps qs : List (List Segment)) → Leads ps qs nodes.now →
+        BothCounts (record { paths = qs; counts = earlier.now }) (record { paths = ps; counts = counts.old.items })
+        (record { paths = ps; counts = counts.new.items }) }
 {
     for node in 0..earlier.len() {
         let place = nodes[node] as usize;

@@ -1,5 +1,5 @@
-//! The grammar of AML as definitions (ACPI 6.5, 20.2): opcodes, what operands a term has, what a list of bytes reads as, and the
-//! trees of terms, taken apart through one trait. `aml_terms` reads bytes by it.
+//! The grammar of AML as definitions (ACPI 6.5, 20.2): opcodes, what operands a term has, what a list of bytes reads
+//! as, and the trees of terms, taken apart through one trait. `aml_terms` reads bytes by it.
 #![tactic(auto)]
 
 mod arities;

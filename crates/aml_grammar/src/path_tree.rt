@@ -8,7 +8,8 @@ use std::alloc::{AllocError, Global};
 use std::collections::BTreeMap;
 use std::marker::Model;
 
-/// Paths by their numbers, as a tree of nodes. The root's is 0, and each other node is one step from a node with a lower number.
+/// Paths by their numbers, as a tree of nodes. The root's is 0, and each other node is one step from a node with a
+/// lower number.
 ///
 /// It is seen as the list of the paths. Numbers are `u32` to save memory.
 #[derive(Debug, Drop)]
@@ -60,7 +61,8 @@ impl PathTree {
     pub(crate) fn below(&self, parent: u32, segment: Seg) -> Option<u32>
         requires { parent < length self.now }
         ensures here { result ≡ number_of (get_or self.now parent [] ++ segment ∷ []) self.now }
-        ensures deeper { result ≡ None → (rest : List Segment) → number_of (get_or self.now parent [] ++ segment ∷ rest) self.now ≡ None }
+        ensures deeper { result ≡ None → (rest : List Segment) → number_of
+            (get_or self.now parent [] ++ segment ∷ rest) self.now ≡ None }
     {
         self.index.get(&(parent, segment)).copied()
     }
@@ -69,7 +71,8 @@ impl PathTree {
     fn child(&mut self, parent: u32, segment: Seg) -> Result<u32, AllocError>
         requires { parent < length self.old }
         ensures kept { Kept self.old self.new }
-        ensures node { IfOk result (λ node. number_of (get_or self.old parent [] ++ segment ∷ []) self.new ≡ Some node) }
+        ensures node { IfOk result (λ node. number_of (get_or self.old parent [] ++ segment ∷ [])
+            self.new ≡ Some node) }
     {
         match self.below(parent, segment) {
             Some(node) => Ok(node),
@@ -82,7 +85,8 @@ impl PathTree {
         requires within { parent < length self.old }
         requires free { number_of (get_or self.old parent [] ++ segment ∷ []) self.old ≡ None }
         ensures kept { Kept self.old self.new }
-        ensures node { IfOk result (λ node. number_of (get_or self.old parent [] ++ segment ∷ []) self.new ≡ Some node) }
+        ensures node { IfOk result (λ node. number_of (get_or self.old parent [] ++ segment ∷ [])
+            self.new ≡ Some node) }
     {
         let before = self.steps.len();
         if before >= u32::MAX as usize {
@@ -141,7 +145,8 @@ impl PathTree {
         Ok(node)
     }
 
-    /// The numbers of another tree's paths, which are given some where they have none. It is refused also where no number is left.
+    /// The numbers of another tree's paths, which are given some where they have none. It is refused also where no
+    /// number is left.
     pub(crate) fn make_all(
         &mut self,
         alloc: Global,

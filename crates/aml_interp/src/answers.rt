@@ -5,7 +5,8 @@ ghost use Rattle.ar_space.specs.Change.{Does};
 ghost use Rattle.aml_meaning.specs.Given.{given_of};
 ghost use Rattle.aml_meaning.specs.Readings.{absolute};
 ghost use Rattle.aml_meaning.specs.Invocations.{invocation_found};
-ghost use Rattle.aml_meaning.specs.Calling.{called, counted, evaluated, with_rest, with_steps, answer_exported, answered, value_of};
+ghost use Rattle.aml_meaning.specs.Calling.{called, counted, evaluated, with_rest, with_steps, answer_exported};
+ghost use Rattle.aml_meaning.specs.Calling.{answered, value_of};
 
 use crate::export::exported;
 use crate::fields::field_value;
@@ -21,10 +22,10 @@ pub(crate) const CALLS_OF_A_FIELD: usize = 31;
 
 /// The value of the object at a path, and how many of the steps are left.
 ///
-/// A control method is called. A name that holds a value has that value, a field its bits, any other is a reference to
-/// it; reading one costs no step, but what the address of a field calls does. An alias at the path stands for its target.
-/// Refused: `NotFound` where nothing stands at the path, `ArityChanged` where it takes another number of arguments, and as its
-/// evaluation is. `OutOfMemory` where memory runs out: then nothing is said of the world.
+/// A control method is called. A name that holds a value has that value, a field its bits, any other is a reference
+/// to it; reading one costs no step, but what the address of a field calls does. An alias at the path stands for its
+/// target. Refused: `NotFound` where nothing stands at the path, `ArityChanged` where it takes another number of
+/// arguments, and as its evaluation is. `OutOfMemory` where memory runs out: then nothing is said of the world.
 #[tactic(auto, using(aml_meaning::proofs::Runs::calling), unfolding(aml_meaning::specs::Calling::evaluated))]
 pub fn eval<S: Space>(
     alloc: Global,
@@ -52,14 +53,15 @@ fn with_rest(value: Result<Value, Refusal>, rest: u64) -> Result<(Value, u64), R
 
 /// What the object at a path answers, in so many steps: its value, with each package element costing a step.
 ///
-/// The value names no object of the world: a name that stands is given as its path, and so is an element of a package that is
-/// a name without a value, or that finds nothing.
+/// The value names no object of the world: a name that stands is given as its path, and so is an element of a package
+/// that is a name without a value, or that finds nothing.
 ///
-/// Refused as `eval` is. After `NotFound` and `ArityChanged` of the object, and before it is evaluated, an argument is refused as
-/// `WrongType` where it is or holds a `Datum::Reference`, as `NotFound` where nothing stands at the path of a `Datum::Named`, and as
-/// `ObjectLimit` where it is too large, nests packages more than 64 deep, or makes too many objects. The value is refused as
-/// `ObjectLimit` where its packages nest more than 64 deep, and as `OutOfSteps` where no step is left for an element.
-/// `OutOfMemory` where memory runs out: then nothing is said of the world. However else it ends, all mutexes are free after it.
+/// Refused as `eval` is. After `NotFound` and `ArityChanged` of the object, and before it is evaluated, an argument
+/// is refused as `WrongType` where it is or holds a `Datum::Reference`, as `NotFound` where nothing stands at the
+/// path of a `Datum::Named`, and as `ObjectLimit` where it is too large, nests packages more than 64 deep, or makes
+/// too many objects. The value is refused as `ObjectLimit` where its packages nest more than 64 deep, and as
+/// `OutOfSteps` where no step is left for an element. `OutOfMemory` where memory runs out: then nothing is said of
+/// the world. However else it ends, all mutexes are free after it.
 #[tactic(auto, using(crate::proofs::Steps::answering))]
 pub fn answer<S: Space>(
     alloc: Global,
@@ -68,7 +70,8 @@ pub fn answer<S: Space>(
     arguments: Vec<Datum>,
     budget: u64,
 ) -> Result<Datum, Refusal>
-    ensures { Does (seen given_of result) world.new (answered S.accesses path.now (map given_of arguments.items) budget) world.old }
+    ensures { Does (seen given_of result) world.new (answered S.accesses path.now
+        (map given_of arguments.items) budget) world.old }
 {
     let run = &mut world.running;
     let outcome = with_steps(alloc, run, path, &arguments, budget);
@@ -84,7 +87,8 @@ fn with_steps<S: Space>(
     arguments: &[Datum],
     steps: u64,
 ) -> Result<Datum, Refusal>
-    ensures { Does (seen given_of result) run.new.0 (with_steps steps (answer_exported S.accesses path.now (length arguments.now) (map given_of arguments.now))) run.old.0 }
+    ensures { Does (seen given_of result) run.new.0 (with_steps steps
+        (answer_exported S.accesses path.now (length arguments.now) (map given_of arguments.now))) run.old.0 }
 {
     run.steps = steps;
     answer_exported(alloc, run, path, arguments)
@@ -97,7 +101,8 @@ fn answer_exported<S: Space>(
     path: &Path,
     arguments: &[Datum],
 ) -> Result<Datum, Refusal>
-    ensures { Does (seen given_of result) run.new (answer_exported S.accesses path.now (length arguments.now) (map given_of arguments.now)) run.old }
+    ensures { Does (seen given_of result) run.new (answer_exported S.accesses path.now (length arguments.now)
+        (map given_of arguments.now)) run.old }
 {
     let invocation = invocation(alloc, &run.world, path, arguments.len())?;
     let values = run.world.import_all(alloc, arguments)?;

@@ -4,7 +4,9 @@ ghost use Rattle.ar_space.specs.Outcome.{seen};
 ghost use Rattle.ar_space.specs.Change.{Does};
 ghost use Rattle.aml_objects.specs.Objects.{string_at, buffer_at};
 ghost use Rattle.aml_meaning.specs.Given as given;
-ghost use Rattle.aml_meaning.specs.Exporting.{text_exported, bytes_exported, reference_exported, value_exported, use_exported, name_exported, held_exported, element_exported, each_exported, elements_exported, package_exported, exported};
+ghost use Rattle.aml_meaning.specs.Exporting.{text_exported, bytes_exported, reference_exported, value_exported};
+ghost use Rattle.aml_meaning.specs.Exporting.{use_exported, name_exported, held_exported, element_exported};
+ghost use Rattle.aml_meaning.specs.Exporting.{each_exported, elements_exported, package_exported, exported};
 
 use crate::answers::CALLS_OF_A_FIELD;
 use crate::fields::field_given;
@@ -76,7 +78,8 @@ fn value_exported<S: Space>(
     levels: usize,
     value: Value,
 ) -> Result<Datum, Refusal>
-    ensures { Does (seen given.given_of result) run.new (value_exported S.accesses (package_exported S.accesses levels) value) run.old }
+    ensures { Does (seen given.given_of result) run.new (value_exported S.accesses
+        (package_exported S.accesses levels) value) run.old }
 {
     match value {
         Value::Uninitialized => Ok(Datum::Nothing),
@@ -112,7 +115,8 @@ fn elements_exported<S: Space>(
     levels: usize,
     object: u32,
 ) -> Result<Datum, Refusal>
-    ensures { Does (seen given.given_of result) run.new (elements_exported S.accesses (package_exported S.accesses levels) object) run.old }
+    ensures { Does (seen given.given_of result) run.new (elements_exported S.accesses
+        (package_exported S.accesses levels) object) run.old }
 {
     let elements = run.world.elements(alloc, object)?;
     let list = each_exported(alloc, run, levels, elements.as_slice())?;
@@ -127,7 +131,8 @@ fn each_exported<S: Space>(
     levels: usize,
     elements: &[Element],
 ) -> Result<Vec<Datum>, Refusal>
-    ensures { Does (seen (λ v. map given.given_of v.items) result) run.new (each_exported S.accesses (package_exported S.accesses levels) elements.now []) run.old }
+    ensures { Does (seen (λ v. map given.given_of v.items) result) run.new
+        (each_exported S.accesses (package_exported S.accesses levels) elements.now []) run.old }
 {
     let mut done = Vec::new(alloc);
     for element in elements {
@@ -146,7 +151,8 @@ fn element_exported<S: Space>(
     levels: usize,
     element: &Element,
 ) -> Result<Datum, Refusal>
-    ensures { Does (seen given.given_of result) run.new (element_exported S.accesses (package_exported S.accesses levels) element.now) run.old }
+    ensures { Does (seen given.given_of result) run.new (element_exported S.accesses
+        (package_exported S.accesses levels) element.now) run.old }
 {
     run.charge()?;
     held_exported(alloc, run, levels, element)
@@ -160,7 +166,8 @@ fn held_exported<S: Space>(
     levels: usize,
     element: &Element,
 ) -> Result<Datum, Refusal>
-    ensures { Does (seen given.given_of result) run.new (held_exported S.accesses (package_exported S.accesses levels) element.now) run.old }
+    ensures { Does (seen given.given_of result) run.new (held_exported S.accesses (package_exported S.accesses levels)
+        element.now) run.old }
 {
     match element {
         Element::Value(value) => value_exported(alloc, run, levels, *value),
@@ -177,7 +184,8 @@ fn name_exported<S: Space>(
     name: &NameString,
     scope: &Path,
 ) -> Result<Datum, Refusal>
-    ensures { Does (seen given.given_of result) run.new (name_exported S.accesses (package_exported S.accesses levels) name.now scope.now) run.old }
+    ensures { Does (seen given.given_of result) run.new (name_exported S.accesses (package_exported S.accesses levels)
+        name.now scope.now) run.old }
 {
     let found = run.world.name_use(alloc, name, scope)?;
     use_exported(alloc, run, levels, found)
@@ -191,7 +199,8 @@ fn use_exported<S: Space>(
     levels: usize,
     found: NameUse,
 ) -> Result<Datum, Refusal>
-    ensures { Does (seen given.given_of result) run.new (use_exported S.accesses (package_exported S.accesses levels) found) run.old }
+    ensures { Does (seen given.given_of result) run.new (use_exported S.accesses
+        (package_exported S.accesses levels) found) run.old }
 {
     match found {
         NameUse::Value(value) => value_exported(alloc, run, levels, value),

@@ -3,7 +3,8 @@ ghost use Rattle.std.specs.Prelude.{◌≡◌};
 ghost use Rattle.ar_space.specs.Change.{Does};
 ghost use Rattle.ar_space.specs.Outcome.{seen};
 ghost use Rattle.aml_meaning.specs.Meaning.{meaning};
-ghost use Rattle.aml_meaning.specs.Fields.{inherited, pci_address, space_at, located, region_bits, region_written, bits_in, field_value, field_given};
+ghost use Rattle.aml_meaning.specs.Fields.{inherited, pci_address, space_at, located, region_bits, region_written};
+ghost use Rattle.aml_meaning.specs.Fields.{bits_in, field_value, field_given};
 ghost use Rattle.aml_meaning.specs.Given.{given_of};
 ghost use Rattle.aml_frames.specs.Uses.{asking};
 
@@ -27,7 +28,8 @@ pub(crate) fn field_value<S: Space>(
     calls: usize,
     field: Field,
 ) -> Result<Value, Refusal>
-    ensures { Does result run.new (field_value S.accesses (asking S.accesses (meaning S.accesses) calls) field) run.old }
+    ensures { Does result run.new
+        (field_value S.accesses (asking S.accesses (meaning S.accesses) calls) field) run.old }
 {
     let bytes = bits_in(alloc, run, calls, field)?;
     run.world
@@ -42,7 +44,8 @@ pub(crate) fn field_given<S: Space>(
     calls: usize,
     field: Field,
 ) -> Result<Datum, Refusal>
-    ensures { Does (seen given_of result) run.new (field_given S.accesses (asking S.accesses (meaning S.accesses) calls) field) run.old }
+    ensures { Does (seen given_of result) run.new (field_given S.accesses
+        (asking S.accesses (meaning S.accesses) calls) field) run.old }
 {
     let bytes = bits_in(alloc, run, calls, field)?;
     run.world
@@ -56,7 +59,8 @@ fn bits_in<S: Space>(
     calls: usize,
     field: Field,
 ) -> Result<Vec<u8>, Refusal>
-    ensures { Does (seen (λ v. v.items) result) run.new (bits_in S.accesses (asking S.accesses (meaning S.accesses) calls) field) run.old }
+    ensures { Does (seen (λ v. v.items) result) run.new (bits_in S.accesses
+        (asking S.accesses (meaning S.accesses) calls) field) run.old }
 {
     match field {
         Field::Unit(unit) => match unit.source {
@@ -79,7 +83,8 @@ pub(crate) fn region_bits<S: Space>(
     calls: usize,
     field: RegionField,
 ) -> Result<Vec<u8>, Refusal>
-    ensures { Does (seen (λ v. v.items) result) run.new (region_bits S.accesses (asking S.accesses (meaning S.accesses) calls) field) run.old }
+    ensures { Does (seen (λ v. v.items) result) run.new (region_bits S.accesses
+        (asking S.accesses (meaning S.accesses) calls) field) run.old }
 {
     let region = located(alloc, run, calls, field.region)?;
     run.world.read_field(alloc, region, field.unit)
@@ -94,7 +99,8 @@ pub(crate) fn region_written<S: Space>(
     field: RegionField,
     bytes: &[u8],
 ) -> Result<(), Refusal>
-    ensures { Does result run.new (region_written S.accesses (asking S.accesses (meaning S.accesses) calls) field bytes.now) run.old }
+    ensures { Does result run.new (region_written S.accesses (asking S.accesses (meaning S.accesses) calls)
+        field bytes.now) run.old }
 {
     let region = located(alloc, run, calls, field.region)?;
     run.world.write_field(region, field.unit, bytes)
@@ -128,7 +134,8 @@ fn space_at<S: Space>(
     kind: RegionSpace,
     scope: &Path,
 ) -> Result<AddressSpace, Refusal>
-    ensures { Does result run.new (space_at S.accesses (asking S.accesses (meaning S.accesses) calls) kind scope.now) run.old }
+    ensures { Does result run.new (space_at S.accesses (asking S.accesses (meaning S.accesses) calls)
+        kind scope.now) run.old }
 {
     match kind {
         RegionSpace::SystemMemory => Ok(AddressSpace::Memory),
@@ -138,8 +145,8 @@ fn space_at<S: Space>(
     }
 }
 
-/// The registers of the PCI function that a scope belongs to: its segment group, its bus and its address are asked for, in this
-/// order.
+/// The registers of the PCI function that a scope belongs to: its segment group, its bus and its address are asked
+/// for, in this order.
 #[tactic(auto, using(aml_meaning::proofs::Runs::running), unfolding(aml_meaning::specs::Fields::pci_address))]
 fn pci_address<S: Space>(
     alloc: Global,
@@ -147,7 +154,8 @@ fn pci_address<S: Space>(
     calls: usize,
     scope: &Path,
 ) -> Result<AddressSpace, Refusal>
-    ensures { Does result run.new (pci_address S.accesses (asking S.accesses (meaning S.accesses) calls) scope.now) run.old }
+    ensures { Does result run.new
+        (pci_address S.accesses (asking S.accesses (meaning S.accesses) calls) scope.now) run.old }
 {
     let device = run.world.pci_function(alloc, scope)?;
     let segment = inherited(alloc, run, calls, segment_group(), &device)?;
@@ -166,7 +174,8 @@ fn inherited<S: Space>(
     name: Seg,
     device: &Path,
 ) -> Result<u64, Refusal>
-    ensures { Does result run.new (inherited S.accesses (asking S.accesses (meaning S.accesses) calls) name device.now) run.old }
+    ensures { Does result run.new (inherited S.accesses (asking S.accesses (meaning S.accesses) calls) name
+        device.now) run.old }
 {
     match run.world.nearest(alloc, Sought::Parent(name), device)? {
         None => Ok(0),

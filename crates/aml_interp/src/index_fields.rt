@@ -1,5 +1,5 @@
-//! Fields behind an index field and a data field, read for a caller outside of AML: the offset of each unit is written to the index field
-//! first (ACPI 6.5, 19.6: IndexField).
+//! Fields behind an index field and a data field, read for a caller outside of AML: the offset of each unit is
+//! written to the index field first (ACPI 6.5, 19.6: IndexField).
 ghost use Rattle.std.specs.Prelude.{◌≡◌, ◌≤◌};
 ghost use Rattle.ar_space.specs.Change.{Does};
 ghost use Rattle.ar_space.specs.Accesses.{bit_count};
@@ -26,7 +26,8 @@ pub(crate) fn index_bits<S: Space>(
     behind: u64,
     field: FieldUnit,
 ) -> Result<Vec<u8>, Refusal>
-    ensures { Does (seen (λ v. v.items) result) run.new (index_bits S.accesses (asking S.accesses (meaning S.accesses) calls) index behind field) run.old }
+    ensures { Does (seen (λ v. v.items) result) run.new (index_bits S.accesses
+        (asking S.accesses (meaning S.accesses) calls) index behind field) run.old }
 {
     let index = run.world.field_declared(index)?;
     let behind = run.world.field_declared(behind)?;
@@ -43,7 +44,9 @@ fn index_reads<S: Space>(
     behind: RegionField,
     field: FieldUnit,
 ) -> Result<Vec<u8>, Refusal>
-    ensures { Does (seen (λ v. v.items) result) run.new (bits_read (index_unit S.accesses (asking S.accesses (meaning S.accesses) calls) index behind field.access) field) run.old }
+    ensures { Does (seen (λ v. v.items) result) run.new (bits_read
+        (index_unit S.accesses (asking S.accesses (meaning S.accesses) calls) index behind field.access) field)
+        run.old }
 {
     let mut bits = vec![in alloc; 0; bytes_for(field.bits as usize)]?;
     for unit in units(field.bit_offset, field.bits, field.access) {
@@ -64,7 +67,8 @@ fn index_unit<S: Space>(
     width: Width,
     unit: Unit,
 ) -> Result<u64, Refusal>
-    ensures { Does result run.new (index_unit S.accesses (asking S.accesses (meaning S.accesses) calls) index behind width unit) run.old }
+    ensures { Does result run.new (index_unit S.accesses (asking S.accesses (meaning S.accesses) calls) index behind
+        width unit) run.old }
 {
     region_written(alloc, run, calls, index, &bytes_of(unit.offset))?;
     let bytes = region_bits(alloc, run, calls, behind)?;

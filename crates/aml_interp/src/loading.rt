@@ -15,13 +15,14 @@ use aml_terms::Marks;
 use ar_space::{Refusal, Space};
 use std::alloc::Global;
 
-/// Loads a table, given without its header of 36 bytes: reads its terms and evaluates them at the root, in so many steps.
+/// Loads a table, given without its header of 36 bytes: reads its terms and evaluates them at the root, in so many
+/// steps.
 ///
-/// Names that it declares stand in the world from then on. The first refusal ends it, and what was declared before stays:
-/// those of reading (`BadName`, `AboveRoot`, and with an offset `BadOpcode`, `BadPkgLength`, `Truncated`, `TooDeep`,
-/// `NotInBody`), and those of evaluation, such as `Exists`, `NotFound`, `OutOfSteps`, `Unsupported` and `ObjectLimit`.
-/// `OutOfMemory` where memory runs out: then nothing is said of the world. However else it ends, all mutexes are free after it.
-/// Its bytes are copied once, for as long as it is loaded: evaluation owns what it reads.
+/// Names that it declares stand in the world from then on. The first refusal ends it, and what was declared before
+/// stays: those of reading (`BadName`, `AboveRoot`, and with an offset `BadOpcode`, `BadPkgLength`, `Truncated`,
+/// `TooDeep`, `NotInBody`), and those of evaluation, such as `Exists`, `NotFound`, `OutOfSteps`, `Unsupported` and
+/// `ObjectLimit`. `OutOfMemory` where memory runs out: then nothing is said of the world. However else it ends, all
+/// mutexes are free after it. Its bytes are copied once, for as long as it is loaded: evaluation owns what it reads.
 #[tactic(auto, using(aml_meaning::proofs::Runs::calling), unfolding(aml_meaning::specs::Calling::loaded))]
 pub fn load<S: Space>(
     alloc: Global,
@@ -59,7 +60,8 @@ fn in_frame<S: Space>(
     list: (Body, Marks),
     steps: u64,
 ) -> Result<(), Refusal>
-    ensures { Does result run.new.0 (in_frame (replicate 7 Uninitialized) (with_steps steps (at_root S.accesses (trees_of (trees_by list.1 list.0))))) run.old.0 }
+    ensures { Does result run.new.0 (in_frame (replicate 7 Uninitialized)
+        (with_steps steps (at_root S.accesses (trees_of (trees_by list.1 list.0))))) run.old.0 }
 {
     run.world.open_frame([Value::Uninitialized; 7])?;
     framed(alloc, run, list, steps)
@@ -72,7 +74,8 @@ fn framed<S: Space>(
     list: (Body, Marks),
     steps: u64,
 ) -> Result<(), Refusal>
-    ensures { Does result run.new.0 (framed (with_steps steps (at_root S.accesses (trees_of (trees_by list.1 list.0))))) run.old.0 }
+    ensures { Does result run.new.0
+        (framed (with_steps steps (at_root S.accesses (trees_of (trees_by list.1 list.0))))) run.old.0 }
 {
     let outcome = with_steps(alloc, run, list, steps);
     run.world.close_frame();
@@ -86,7 +89,8 @@ fn with_steps<S: Space>(
     list: (Body, Marks),
     steps: u64,
 ) -> Result<(), Refusal>
-    ensures { Does result run.new.0 (with_steps steps (at_root S.accesses (trees_of (trees_by list.1 list.0)))) run.old.0 }
+    ensures { Does result run.new.0
+        (with_steps steps (at_root S.accesses (trees_of (trees_by list.1 list.0)))) run.old.0 }
 {
     run.steps = steps;
     at_root(alloc, run, list)

@@ -10,8 +10,8 @@ use aml_terms::{Marks, scan_table};
 use ar_space::Refusal;
 use std::alloc::Global;
 
-/// The marks of a table, given without its header; the names that it declares take their arguments from now on. It is refused as
-/// `scan_table` refuses it, and then nothing changes.
+/// The marks of a table, given without its header; the names that it declares take their arguments from now on. It is
+/// refused as `scan_table` refuses it, and then nothing changes.
 #[tactic(auto, using(crate::proofs::Tables::table_read))]
 pub(crate) fn read_table<S>(
     alloc: Global,

@@ -1,6 +1,7 @@
 -- Taking arguments in and handing an answer out go the same way over two register spaces.
 use Rattle.std.specs.Prelude.{◌≡◌, ℕ, zero, suc, List, [], ◌∷◌, length, Ok, Err, refl}
 use Rattle.ar_space.specs.Accesses.{Accesses}
+use Rattle.ar_space.specs.declared.refusal.Refusal.{Refusal}
 use Rattle.ar_space.specs.Outcome.{Outcome}
 use Rattle.ar_space.specs.Change.{Change}
 use Rattle.aml_path.specs.declared.segment.Seg.{Seg}
@@ -11,6 +12,7 @@ use Rattle.aml_objects.specs.declared.value.Reference.{Reference}
 use Rattle.aml_objects.specs.declared.value.Reference.TheVariants as reference
 use Rattle.aml_objects.specs.declared.object.Element.{Element}
 use Rattle.aml_objects.specs.declared.object.Element.TheVariants as element
+use Rattle.aml_meaning.specs.declared.profile.Profile.{Profile}
 use Rattle.aml_meaning.specs.declared.name_use.NameUse.{NameUse}
 use Rattle.aml_meaning.specs.declared.name_use.NameUse.TheVariants as uses
 use Rattle.aml_meaning.specs.Given.{Given, Nothing, Integer, Text, Bytes, Package, Named, Reference as Unnamed, Givens, none, more}
@@ -18,7 +20,7 @@ use Rattle.aml_meaning.specs.State.{State}
 use Rattle.aml_meaning.specs.Run.{Run}
 use Rattle.aml_meaning.specs.Importing.{reference_to, imported_by, each_imported, elements_imported, package_imported, taken_back, imported, all_imported}
 use Rattle.aml_meaning.specs.Exporting.{text_exported, bytes_exported, path_of, reference_exported, value_exported, name_use, use_exported, name_exported, held_exported, element_exported, each_exported, elements_exported, package_exported, exported}
-use Rattle.aml_laws.proofs.Together.{SideBySide, Together, give_together, plain, stop_together, then_together, wrapped_together}
+use Rattle.aml_laws.proofs.Together.{IsEnded, Sides, Together, give_together, plain, stop_together, then_together, wrapped_together}
 use Rattle.aml_laws.proofs.WorldsTogether.{charge_together, lift_together, objects_together, runs, world_over, worlds}
 use Rattle.aml_laws.proofs.ChangesTogether.{entry_found_together, integer_kept_together}
 use Rattle.aml_laws.proofs.FieldsTogether.{field_given_together}
@@ -27,7 +29,7 @@ use Rattle.aml_laws.proofs.MeaningTogether.{meaning_together}
 
 -- ---- arguments
 
-module _ {S T : Type 0} {accesses : Accesses S} {accesses2 : Accesses T} {side : SideBySide accesses accesses2} where
+module _ {S T : Type 0} {accesses : Accesses S} {accesses2 : Accesses T} {side : Sides accesses accesses2} where
   reference_to_together : (p : List Seg) → Together side worlds (reference_to p) (reference_to p)
   unfolding reference_to
   reference_to_together p = then_together (entry_found_together _ _) (λ e. give_together _)
@@ -61,15 +63,19 @@ taken_back_space : {S : Type 0} (count : ℕ) (p : Outcome Value × State S) →
 taken_back_space count (Ok v, w) = refl
 taken_back_space count (Err e, w) = refl
 
-taken_back_over : {S T : Type 0} (count : ℕ) (r : Outcome Value) (w : State S) (t : T) → taken_back count (r, world_over w t) ≡ ((taken_back count (r, w)).0, world_over (taken_back count (r, w)).1 t)
-taken_back_over count (Ok v) w t = refl
-taken_back_over count (Err e) w t = refl
+taken_back_over : {S T : Type 0} (raise : Profile → Profile) (count : ℕ) (r : Outcome Value) (w : State S) (t : T) → taken_back count (r, world_over raise w t) ≡ ((taken_back count (r, w)).0, world_over raise (taken_back count (r, w)).1 t)
+taken_back_over raise count (Ok v) w t = refl
+taken_back_over raise count (Err e) w t = refl
 
-module _ {S T : Type 0} {accesses : Accesses S} {accesses2 : Accesses T} {side : SideBySide accesses accesses2} where
+taken_back_ended : {S : Type 0} (Ends : Refusal → Type 0) (count : ℕ) (r : Outcome Value) (w : State S) → IsEnded Ends r → IsEnded Ends (taken_back count (r, w)).0
+taken_back_ended Ends count (Ok v) w h = absurd h
+taken_back_ended Ends count (Err e) w h = h
+
+module _ {S T : Type 0} {accesses : Accesses S} {accesses2 : Accesses T} {side : Sides accesses accesses2} where
   imported_together : (g : Given) → Together side worlds (imported g) (imported g)
   unfolding imported
   imported_together g = wrapped_together (λ w. w) (λ w. w) (λ w p. taken_back (length w.objects) p) (λ w p. taken_back (length w.objects) p)
-      (λ w. refl) (λ w. refl) (λ w t. refl) (λ w p. taken_back_space _ p) (λ w q. taken_back_space _ q) (λ w u r v t. taken_back_over _ r v t) (imported_by_together (package_imported_together 64) g)
+      (λ w. refl) (λ w. refl) (λ w t. refl) (λ w p. taken_back_space _ p) (λ w q. taken_back_space _ q) (λ w u r v t. taken_back_over side.raise _ r v t) (λ w p e. taken_back_ended _ _ p.0 p.1 e) (imported_by_together (package_imported_together 64) g)
 
   pub all_imported_together : (gs : List Given) (done : List Value) → Together side worlds (all_imported gs done) (all_imported gs done)
   unfolding all_imported
@@ -101,7 +107,7 @@ module _ {S T : Type 0} {accesses : Accesses S} {accesses2 : Accesses T} {side :
   unfolding name_use
   name_use_together n scope = plain (λ w. refl) (λ w. refl) (λ w t. refl)
 
-module _ {S T : Type 0} {accesses : Accesses S} {accesses2 : Accesses T} {side : SideBySide accesses accesses2} {out : ℕ → Run S Given} {out2 : ℕ → Run T Given} (outs : (o : ℕ) → Together side runs (out o) (out2 o)) where
+module _ {S T : Type 0} {accesses : Accesses S} {accesses2 : Accesses T} {side : Sides accesses accesses2} {out : ℕ → Run S Given} {out2 : ℕ → Run T Given} (outs : (o : ℕ) → Together side runs (out o) (out2 o)) where
   value_exported_together : (v : Value) → Together side runs (value_exported accesses out v) (value_exported accesses2 out2 v)
   unfolding value_exported
   value_exported_together value.Uninitialized = give_together _
@@ -139,7 +145,7 @@ module _ {S T : Type 0} {accesses : Accesses S} {accesses2 : Accesses T} {side :
   unfolding elements_exported
   elements_exported_together o = then_together (lift_together (objects_together _)) (λ es. then_together (each_exported_together es []) (λ gs. give_together _))
 
-module _ {S T : Type 0} {accesses : Accesses S} {accesses2 : Accesses T} {side : SideBySide accesses accesses2} where
+module _ {S T : Type 0} {accesses : Accesses S} {accesses2 : Accesses T} {side : Sides accesses accesses2} where
   package_exported_together : (n o : ℕ) → Together side runs (package_exported accesses n o) (package_exported accesses2 n o)
   unfolding package_exported
   package_exported_together zero o = stop_together _

@@ -40,7 +40,7 @@ use Rattle.aml_laws.proofs.Preorders.{give_respects, stop_respects}
 use Rattle.aml_laws.proofs.FoundNamesStand.{called_method_stands}
 use Rattle.aml_laws.proofs.WorldRelations.{WorldRelation, Preserves, FindsInvocation, then_finds_invocation, unchanged_preserves, give_preserves, settle_preserves, then_preserves, on_objects_preserves, declared_preserves, stop_preserves}
 
-made_of_keeps_kinds : (c : Content) → KeepsObjectKinds (made_of c)
+pub made_of_keeps_kinds : (c : Content) → KeepsObjectKinds (made_of c)
 made_of_keeps_kinds (held.Integer n) = give_respects _
 made_of_keeps_kinds (held.String bytes) = make_string_keeps_kinds bytes
 made_of_keeps_kinds (held.Buffer bytes) = make_buffer_keeps_kinds bytes
@@ -193,7 +193,7 @@ module _ {S : Type 0} {accesses : Accesses S} {relation : WorldRelation accesses
   unfolding size_in
   size_in_preserves r = unchanged_preserves _ (λ w. refl)
 
-  size_held_preserves : (v : Value) → Preserves relation (size_held v)
+  pub size_held_preserves : (v : Value) → Preserves relation (size_held v)
   unfolding size_held
   size_held_preserves v = unchanged_preserves _ (λ w. refl)
 

@@ -29,10 +29,10 @@ use Rattle.aml_meaning.specs.Osi.{osi_answered}
 use Rattle.aml_meaning.specs.Operations.{integers_operated, operated, divided_in, integer_operated, operated_on_one, integers_tested, operated_logically, integer_turned, turned, next_integer, integer_before, compared_in, joined_contents, joined, joined_items, joined_resources, to_integer_in, buffer_bytes, new_buffer_of, to_buffer_in, size_held, element_indexed, byte_indexed, indexed, size_in}
 use Rattle.aml_meaning.specs.OperatorTerms.{result_of_two, result_of_one, result_of_test, counted_by}
 use Rattle.aml_meaning.specs.Invocations.{body_terms, named_use, invocation_found}
-use Rattle.aml_laws.proofs.Together.{SideBySide, Together, give_together, plain, settle_together, stop_together, then_together}
+use Rattle.aml_laws.proofs.Together.{Sides, Together, give_together, plain, settle_together, stop_together, then_together}
 use Rattle.aml_laws.proofs.WorldsTogether.{names_together, objects_together, worlds}
 
-module _ {S T : Type 0} {accesses : Accesses S} {accesses2 : Accesses T} {side : SideBySide accesses accesses2} where
+module _ {S T : Type 0} {accesses : Accesses S} {accesses2 : Accesses T} {side : Sides accesses accesses2} where
   -- ---- what names find, and what values are
 
   pub integer_kept_together : (n : ℕ) → Together side worlds (integer_kept n) (integer_kept n)
@@ -179,7 +179,7 @@ module _ {S T : Type 0} {accesses : Accesses S} {accesses2 : Accesses T} {side :
   unfolding size_in
   size_in_together r = plain (λ w. refl) (λ w. refl) (λ w t. refl)
 
-  size_held_together : (v : Value) → Together side worlds (size_held v) (size_held v)
+  pub size_held_together : (v : Value) → Together side worlds (size_held v) (size_held v)
   unfolding size_held
   size_held_together v = plain (λ w. refl) (λ w. refl) (λ w t. refl)
 

@@ -25,7 +25,7 @@ use Rattle.aml_objects.specs.declared.value.Value.TheVariants as value
 use Rattle.aml_objects.specs.declared.value.Value.{Value}
 use Rattle.aml_meaning.specs.Declaring.{no_method, no_method_in}
 use Rattle.aml_meaning.specs.Exporting.{held_or_path, use_of, value_or_path}
-use Rattle.aml_meaning.specs.FieldTerms.{buffer_of, field_number, further, has_connection, in_region, region_number, sized, unconnected}
+use Rattle.aml_meaning.specs.FieldTerms.{buffer_of, connection_buffer, field_number, further, in_region, region_number, sized}
 use Rattle.aml_meaning.specs.Invocations.{invocation_of, invocation_of_body, invocation_of_object, shallow}
 use Rattle.aml_meaning.specs.Mutexes.{count_in, count_of_object, once_less, once_more}
 use Rattle.aml_meaning.specs.Operations.{below, made_of, size_of_object, size_of_referent, size_of_value}
@@ -225,9 +225,6 @@ sized_clean count = if_clean (count == 0 || nat_lt 8388608 count) _ _ tt tt
 pub further_clean : (at : FieldLayout) (count : ℕ) → Clean (further at count)
 further_clean at count = if_clean (nat_lt (at.bit_offset + count) (2 ^ 64)) _ _ tt tt
 
-pub unconnected_clean : (op : Opcode) (ts : Trees) → Clean (unconnected op ts)
-unconnected_clean op ts = if_clean (has_connection ts) _ _ tt tt
-
 pub region_number_clean : (n : ℕ) (ob : NamedObject) → Clean (region_number n ob)
 region_number_clean n (object.OperationRegion r) = tt
 region_number_clean n _ = tt
@@ -243,6 +240,10 @@ field_number_clean n _ = tt
 pub buffer_of_clean : (v : Value) → Clean (buffer_of v)
 buffer_of_clean (value.Buffer o) = tt
 buffer_of_clean _ = tt
+
+pub connection_buffer_clean : (ob : NamedObject) → Clean (connection_buffer ob)
+connection_buffer_clean (object.Data v) = buffer_of_clean v
+connection_buffer_clean _ = tt
 
 -- ---- regions
 

@@ -1,5 +1,5 @@
 -- Reading, writing and declaring fields do what they do without the counter, over calls that do.
-use Rattle.std.specs.Prelude.{ℕ, nat_lt, List, Bool, Option, Some, None, refl}
+use Rattle.std.specs.Prelude.{ℕ, nat_lt, List, Bool, Option, Some, None, refl, true, false}
 use Rattle.ar_space.specs.Accesses.{Accesses}
 use Rattle.ar_space.specs.declared.space.Width.{Width}
 use Rattle.aml_path.specs.declared.segment.Seg.{Seg}
@@ -7,7 +7,7 @@ use Rattle.aml_path.specs.Paths.{Name}
 use Rattle.aml_grammar.specs.declared.opcode.TermCode.{TermCode}
 use Rattle.aml_grammar.specs.declared.opcode.TermCode.TheVariants as codes
 use Rattle.aml_grammar.specs.Tree.{Tree, Trees, no_trees, tree}
-use Rattle.aml_grammar.specs.Apart.{code_of}
+use Rattle.aml_grammar.specs.Apart.{code_of, operand_of}
 use Rattle.aml_objects.specs.Objects.{make_buffer}
 use Rattle.aml_objects.specs.declared.value.Value.{Value}
 use Rattle.aml_objects.specs.declared.entry.Field.{Field}
@@ -28,7 +28,8 @@ use Rattle.aml_meaning.specs.Run.{Run}
 use Rattle.aml_meaning.specs.PciFunctions.{nearest, pci_function}
 use Rattle.aml_meaning.specs.Regions.{region_declared, field_declared, integer_of_bits, integer_value, value_of_bits, integer_alone, referent_of_bits, given_of_bits}
 use Rattle.aml_meaning.specs.Fields.{part_in, inherited, pci_address, space_at, located, region_bits, region_written, index_unit, index_unit_written, index_bits, index_written, field_unit_bits, field_unit_written, bits_in, written_in, field_value, field_integer, field_part, field_referent, field_stored, field_given}
-use Rattle.aml_meaning.specs.FieldTerms.{new_field, named_field, reserved_field, access_field, element_laid, elements_laid, region_found, field_found}
+use Rattle.aml_meaning.specs.Terms.{is_named}
+use Rattle.aml_meaning.specs.FieldTerms.{connection_found, named_connection, connection_if, new_field, named_field, reserved_field, access_field, element_laid, elements_laid, region_found, field_found}
 use Rattle.ar_space.specs.Change.{stop}
 use Rattle.aml_meaning.specs.State.{on_objects}
 use Rattle.aml_laws.specs.Counted.{beside_counter}
@@ -97,12 +98,21 @@ module _ {S : Type 0} where
   unfolding access_field
   access_field_counts group scope depth at t = then_counts _ _ _ _ (settle_counts _) (λ flags. give_counts _)
 
+  connection_found_counts : (scope : List Seg) (n : Name) → Counts {S = S} (connection_found scope n) (connection_found scope n)
+  unfolding connection_found
+  connection_found_counts scope n = then_counts _ _ _ _ (entry_found_counts scope n) (λ e. settle_counts _)
+
+  connection_if_counts : (group : FieldGroup) (scope : List Seg) (depth : ℕ) (named : Bool) (at : FieldLayout) (t : Tree) → Counts {S = S} (connection_if group scope depth named at t) (connection_if group scope depth named at t)
+  unfolding named_connection
+  connection_if_counts group scope depth true at t = then_counts _ _ _ _ (settle_counts _) (λ n. then_counts _ _ _ _ (connection_found_counts scope n) (λ buffer. give_counts _))
+  connection_if_counts group scope depth false at t = give_counts _
+
   element_laid_counts : (group : FieldGroup) (scope : List Seg) (depth : ℕ) (c : TermCode) (at : FieldLayout) (t : Tree) → Counts {S = S} (element_laid group scope depth c at t) (element_laid group scope depth c at t)
   element_laid_counts group scope depth codes.NamedField at t = named_field_counts group scope depth at t
   element_laid_counts group scope depth codes.ReservedField at t = reserved_field_counts group scope depth at t
   element_laid_counts group scope depth codes.AccessField at t = access_field_counts group scope depth at t
   element_laid_counts group scope depth codes.ExtendedAccessField at t = access_field_counts group scope depth at t
-  element_laid_counts group scope depth codes.ConnectField at t = stop_counts _
+  element_laid_counts group scope depth codes.ConnectField at t = connection_if_counts group scope depth (is_named (operand_of t 0)) at t
   element_laid_counts group scope depth codes.Name at t = stop_counts _
   element_laid_counts group scope depth codes.MethodInvocation at t = stop_counts _
   element_laid_counts group scope depth (codes.Opcode op) at t = stop_counts _

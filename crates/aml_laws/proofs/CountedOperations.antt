@@ -177,7 +177,7 @@ module _ {S : Type 0} where
   unfolding size_in
   size_in_counts r = direct_counts _ _ (λ w. refl) (λ w. refl)
 
-  size_held_counts : (v : Value) → Counts {S = S} (size_held v) (size_held v)
+  pub size_held_counts : (v : Value) → Counts {S = S} (size_held v) (size_held v)
   unfolding size_held
   size_held_counts v = direct_counts _ _ (λ w. refl) (λ w. refl)
 

@@ -51,6 +51,7 @@ use Rattle.aml_laws.proofs.CountedOperations.{integer_kept_counts, integer_in_co
 use Rattle.aml_laws.proofs.CountedStoreTargets.{slot_read_counts, tested_counts, dereferenced_counts, target_read_counts, reference_of_counts, if_initialized_counts, reference_if_found_counts, target_referent_counts, value_referent_counts, copied_to_counts, acquired_at_counts, given_back_at_counts}
 use Rattle.aml_laws.proofs.CountedFields.{elements_laid_counts, region_found_counts, field_found_counts}
 use Rattle.aml_laws.proofs.CountedCalls.{operand_value_counts, operand_integer_counts, value_at_counts, two_values_counts, in_turn_counts, invoked_counts, field_read_counts, held_integer_counts, referent_read_counts, completed_counts, stored_to_counts, held_value_counts, stored_back_counts}
+use Rattle.aml_laws.proofs.CountedWideTerms.{connections_asked_counts, in_wide_counts}
 
 -- uncounted: what a part evaluates to without the counter
 module _ {S : Type 0} (accesses : Accesses S) (ev : Task → Run (S × ℕ) Flow) (uncounted : Task → Run S Flow) (parts : (t : Task) → RunCounts (ev t) (uncounted t)) where
@@ -440,9 +441,9 @@ module _ {S : Type 0} (accesses : Accesses S) (ev : Task → Run (S × ℕ) Flow
   unfolding field_list_rule index_list_rule fields_laid sized_field_rule bits_field_rule
   region_term_rule_counts regions.OperationRegion scope depth t = region_rule_counts scope depth t
   region_term_rule_counts regions.Field scope depth t =
-      then_counts _ _ _ _ (settle_counts _) (λ ts. then_counts _ _ _ _ (settle_counts _) (λ no_names. then_counts _ _ _ _ (settle_counts _) (λ x. then_counts _ _ _ _ (lift_counts _ _ (region_found_counts scope x)) (λ region. then_counts _ _ _ _ (settle_counts _) (λ flags. then_counts _ _ _ _ (lift_counts _ _ (elements_laid_counts _ scope depth _ ts)) (λ laid. give_counts _))))))
+      then_counts _ _ _ _ (settle_counts _) (λ ts. then_counts _ _ _ _ (lift_counts _ _ (connections_asked_counts _ ts)) (λ asked. then_counts _ _ _ _ (settle_counts _) (λ x. then_counts _ _ _ _ (lift_counts _ _ (region_found_counts scope x)) (λ region. then_counts _ _ _ _ (settle_counts _) (λ flags. then_counts _ _ _ _ (lift_counts _ _ (elements_laid_counts _ scope depth _ ts)) (λ laid. give_counts _))))))
   region_term_rule_counts regions.IndexField scope depth t =
-      then_counts _ _ _ _ (settle_counts _) (λ ts. then_counts _ _ _ _ (settle_counts _) (λ no_names. then_counts _ _ _ _ (settle_counts _) (λ x. then_counts _ _ _ _ (lift_counts _ _ (field_found_counts scope x)) (λ index. then_counts _ _ _ _ (settle_counts _) (λ y. then_counts _ _ _ _ (lift_counts _ _ (field_found_counts scope y)) (λ behind. then_counts _ _ _ _ (settle_counts _) (λ flags. then_counts _ _ _ _ (lift_counts _ _ (elements_laid_counts _ scope depth _ ts)) (λ laid. give_counts _))))))))
+      then_counts _ _ _ _ (settle_counts _) (λ ts. then_counts _ _ _ _ (lift_counts _ _ (connections_asked_counts _ ts)) (λ asked. then_counts _ _ _ _ (settle_counts _) (λ x. then_counts _ _ _ _ (lift_counts _ _ (field_found_counts scope x)) (λ index. then_counts _ _ _ _ (settle_counts _) (λ y. then_counts _ _ _ _ (lift_counts _ _ (field_found_counts scope y)) (λ behind. then_counts _ _ _ _ (settle_counts _) (λ flags. then_counts _ _ _ _ (lift_counts _ _ (elements_laid_counts _ scope depth _ ts)) (λ laid. give_counts _))))))))
   region_term_rule_counts (regions.SizedBufferField size) scope depth t =
       then_counts _ _ _ _ (two_values_counts accesses ev uncounted parts scope depth t) (λ x. then_counts _ _ _ _ (settle_counts _) (λ o. then_counts _ _ _ _ (lift_counts _ _ (integer_in_counts _)) (λ i. then_counts _ _ _ _ (lift_counts _ _ (on_objects_counts _)) (λ b. declaring_counts scope depth t _ _))))
   region_term_rule_counts regions.BufferField scope depth t =
@@ -457,6 +458,7 @@ module _ {S : Type 0} (accesses : Accesses S) (ev : Task → Run (S × ℕ) Flow
   kind_rule_counts (kinds.Region k) op scope depth t = region_term_rule_counts k scope depth t
   kind_rule_counts (kinds.Operator k) op scope depth t = operator_rule_counts k scope depth t
   kind_rule_counts (kinds.Statement k) op scope depth t = statement_rule_counts k scope depth t
+  kind_rule_counts (kinds.Wide k) op scope depth t = in_wide_counts accesses ev uncounted parts target_at_counts targeted_counts op k scope depth t
   kind_rule_counts kinds.Unsupported op scope depth t = stop_counts _
 
   code_rule_counts : (c : TermCode) (scope : List Seg) (depth : ℕ) (t : Tree) → RunCounts {S = S} (code_rule (beside_counter accesses) ev c scope depth t) (code_rule accesses uncounted c scope depth t)

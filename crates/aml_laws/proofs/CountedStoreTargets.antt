@@ -321,7 +321,7 @@ module _ {S : Type 0} where
   unfolding store_in_name
   store_in_name_counts q v = then_counts _ _ _ _ (held_at_counts q) (λ h. store_over_counts h q v)
 
-  store_to_counts : (r : Reference) (v : Value) → Counts {S = S} (store_to r v) (store_to r v)
+  pub store_to_counts : (r : Reference) (v : Value) → Counts {S = S} (store_to r v) (store_to r v)
   unfolding store_in_declared
   store_to_counts (reference.Name n) v = then_counts _ _ _ _ (declaration_counts n) (λ e. store_over_counts _ e.0 v)
   store_to_counts (reference.Slot slot n) v = store_in_frame_numbered_counts _ _ (stored_through_counts _) n slot v

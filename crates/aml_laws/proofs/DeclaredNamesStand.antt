@@ -185,6 +185,7 @@ module _ {S : Type 0} (accesses : Accesses S) (scope : List Seg) (depth : ℕ) (
   kind_rule_declares_name (kinds.Data k) op i e named at = absurd (cc e)
   kind_rule_declares_name (kinds.Operator k) op i e named at = absurd (cc e)
   kind_rule_declares_name (kinds.Statement k) op i e named at = absurd (cc e)
+  kind_rule_declares_name (kinds.Wide k) op i e named at = absurd (cc e)
   kind_rule_declares_name kinds.Unsupported op i e named at = absurd (cc e)
 
   code_rule_declares_name : (c : TermCode) (i : ℕ) → place_in c ≡ Some i → name_of (operand_of t i) ≡ Ok n → resolved n scope ≡ Ok p → DeclaresName (code_rule accesses (meaning accesses) c scope depth t) p

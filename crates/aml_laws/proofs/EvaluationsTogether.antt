@@ -11,10 +11,11 @@ use Rattle.aml_objects.specs.declared.entry.NamedObject.{NamedObject}
 use Rattle.aml_meaning.specs.declared.invocation.Invocation.{Invocation}
 use Rattle.aml_meaning.specs.declared.invocation.Invocation.TheVariants as invocations
 use Rattle.aml_meaning.specs.Given.{Given}
+use Rattle.aml_meaning.specs.declared.profile.Profile.{Profile}
 use Rattle.aml_meaning.specs.State.{State}
 use Rattle.aml_meaning.specs.Predefined as predefined
 use Rattle.aml_meaning.specs.Calling.{terms_kept, table_terms, at_root, table_run, loaded, value_of, called, evaluated, answer_exported, answered}
-use Rattle.aml_laws.proofs.Together.{SideBySide, Together, give_together, plain, settle_together, then_together}
+use Rattle.aml_laws.proofs.Together.{Sides, Together, give_together, plain, settle_together, then_together}
 use Rattle.aml_laws.proofs.WorldsTogether.{counted_together, ending_together, in_frame_together, lift_together, names_together, objects_together, runs, with_steps_together, world_over, worlds}
 use Rattle.aml_laws.proofs.ChangesTogether.{invocation_found_together, osi_answered_together}
 use Rattle.aml_laws.proofs.OperandsTogether.{field_read_together, method_value_together}
@@ -25,16 +26,16 @@ terms_kept_space : {S : Type 0} (r : Outcome (List Tree × List Arity)) (w : Sta
 terms_kept_space (Ok (ts, after)) w = refl
 terms_kept_space (Err e) w = refl
 
-terms_kept_over : {S T : Type 0} (r : Outcome (List Tree × List Arity)) (w : State S) (t : T) → terms_kept r (world_over w t) ≡ ((terms_kept r w).0, world_over (terms_kept r w).1 t)
-terms_kept_over (Ok (ts, after)) w t = refl
-terms_kept_over (Err e) w t = refl
+terms_kept_over : {S T : Type 0} (raise : Profile → Profile) (r : Outcome (List Tree × List Arity)) (w : State S) (t : T) → terms_kept r (world_over raise w t) ≡ ((terms_kept r w).0, world_over raise (terms_kept r w).1 t)
+terms_kept_over raise (Ok (ts, after)) w t = refl
+terms_kept_over raise (Err e) w t = refl
 
-module _ {S T : Type 0} {accesses : Accesses S} {accesses2 : Accesses T} {side : SideBySide accesses accesses2} where
+module _ {S T : Type 0} {accesses : Accesses S} {accesses2 : Accesses T} {side : Sides accesses accesses2} where
   -- ---- tables
 
   table_terms_together : (bytes : List ℕ) → Together side worlds (table_terms bytes) (table_terms bytes)
   unfolding table_terms
-  table_terms_together bytes = plain (λ w. terms_kept_space (table_reading bytes w.arities) w) (λ w. terms_kept_space (table_reading bytes w.arities) w) (λ w t. terms_kept_over (table_reading bytes w.arities) w t)
+  table_terms_together bytes = plain (λ w. terms_kept_space (table_reading bytes w.arities) w) (λ w. terms_kept_space (table_reading bytes w.arities) w) (λ w t. terms_kept_over side.raise (table_reading bytes w.arities) w t)
 
   at_root_together : (ts : Trees) → Together side runs (at_root accesses ts) (at_root accesses2 ts)
   unfolding at_root

@@ -1,11 +1,11 @@
 -- Where a read or a write of a field refuses by a fault of the register space, its last access answered with it, over calls that do so.
-use Rattle.std.specs.Prelude.{Bool, List, None, Option, Some, nat_lt, refl, ℕ}
+use Rattle.std.specs.Prelude.{Bool, List, None, Option, Some, nat_lt, refl, ℕ, true, false}
 use Rattle.ar_space.specs.Accesses.{Accesses}
 use Rattle.ar_space.specs.Change.{stop}
 use Rattle.ar_space.specs.declared.space.Width.{Width}
 use Rattle.aml_path.specs.Paths.{Name}
 use Rattle.aml_path.specs.declared.segment.Seg.{Seg}
-use Rattle.aml_grammar.specs.Apart.{code_of}
+use Rattle.aml_grammar.specs.Apart.{code_of, operand_of}
 use Rattle.aml_grammar.specs.Tree.{Tree, Trees, no_trees, tree}
 use Rattle.aml_grammar.specs.declared.opcode.TermCode.TheVariants as codes
 use Rattle.aml_grammar.specs.declared.opcode.TermCode.{TermCode}
@@ -21,7 +21,8 @@ use Rattle.aml_convert.specs.Conversions.{to_integer_of}
 use Rattle.aml_convert.specs.Integers.{bits_of}
 use Rattle.aml_fields.specs.Units.{units_of}
 use Rattle.aml_fields.specs.declared.field_units.Unit.{Unit as Access}
-use Rattle.aml_meaning.specs.FieldTerms.{access_field, element_laid, elements_laid, field_found, named_field, new_field, region_found, reserved_field}
+use Rattle.aml_meaning.specs.Terms.{is_named}
+use Rattle.aml_meaning.specs.FieldTerms.{connection_found, named_connection, connection_if, access_field, element_laid, elements_laid, field_found, named_field, new_field, region_found, reserved_field}
 use Rattle.aml_meaning.specs.Fields.{bits_in, field_given, field_integer, field_part, field_referent, field_stored, field_unit_bits, field_unit_written, field_value, index_bits, index_unit, index_unit_written, index_written, inherited, located, part_in, pci_address, region_bits, region_written, space_at, written_in}
 use Rattle.aml_meaning.specs.Given as given
 use Rattle.aml_meaning.specs.PciFunctions.{nearest, pci_function}
@@ -38,7 +39,7 @@ use Rattle.aml_meaning.specs.declared.regions.RegionSpace.{RegionSpace}
 use Rattle.aml_laws.proofs.CleanObjects.{make_buffer_clean, read_buffer_field_clean, write_buffer_field_clean}
 use Rattle.aml_laws.proofs.CleanOutcomes.{seen_clean}
 use Rattle.aml_laws.proofs.CleanValues.{resolved_clean, to_integer_of_clean}
-use Rattle.aml_laws.proofs.CleanWorlds.{field_number_clean, field_of_object_clean, further_clean, name_of_clean, number_of_clean, or_behind_clean, or_deep_clean, pci_space_clean, region_number_clean, region_of_object_clean, sized_clean}
+use Rattle.aml_laws.proofs.CleanWorlds.{connection_buffer_clean, field_number_clean, field_of_object_clean, further_clean, name_of_clean, number_of_clean, or_behind_clean, or_deep_clean, pci_space_clean, region_number_clean, region_of_object_clean, sized_clean}
 use Rattle.aml_laws.proofs.FaultsOfChanges.{RunExplains, WorldExplains, bits_read_explains, direct_explains, either_branch_explains, give_explains, kept_explains, lift_explains, on_objects_explains, on_space_explains, read_field_explains, settle_explains, stop_explains, then_explains, write_field_explains, write_units_explains}
 use Rattle.aml_laws.proofs.FaultsOfOperations.{entry_found_explains, new_name_explains}
 use Rattle.aml_laws.proofs.FaultsOfStoreTargets.{bytes_in_explains, declaration_explains}
@@ -104,12 +105,21 @@ module _ {S : Type 0} {accesses : Accesses S} where
   unfolding access_field
   access_field_explains group scope depth at t = then_explains _ _ (settle_explains _ (number_of_clean _)) (λ flags. give_explains _)
 
+  connection_found_explains : (scope : List Seg) (n : Name) → WorldExplains accesses (connection_found scope n)
+  unfolding connection_found
+  connection_found_explains scope n = then_explains _ _ (entry_found_explains scope n) (λ e. settle_explains _ (connection_buffer_clean _))
+
+  connection_if_explains : (group : FieldGroup) (scope : List Seg) (depth : ℕ) (named : Bool) (at : FieldLayout) (t : Tree) → WorldExplains accesses (connection_if group scope depth named at t)
+  unfolding named_connection
+  connection_if_explains group scope depth true at t = then_explains _ _ (settle_explains _ (name_of_clean _)) (λ n. then_explains _ _ (connection_found_explains scope n) (λ buffer. give_explains _))
+  connection_if_explains group scope depth false at t = give_explains _
+
   element_laid_explains : (group : FieldGroup) (scope : List Seg) (depth : ℕ) (c : TermCode) (at : FieldLayout) (t : Tree) → WorldExplains accesses (element_laid group scope depth c at t)
   element_laid_explains group scope depth codes.NamedField at t = named_field_explains group scope depth at t
   element_laid_explains group scope depth codes.ReservedField at t = reserved_field_explains group scope depth at t
   element_laid_explains group scope depth codes.AccessField at t = access_field_explains group scope depth at t
   element_laid_explains group scope depth codes.ExtendedAccessField at t = access_field_explains group scope depth at t
-  element_laid_explains group scope depth codes.ConnectField at t = stop_explains _ tt
+  element_laid_explains group scope depth codes.ConnectField at t = connection_if_explains group scope depth (is_named (operand_of t 0)) at t
   element_laid_explains group scope depth codes.Name at t = stop_explains _ tt
   element_laid_explains group scope depth codes.MethodInvocation at t = stop_explains _ tt
   element_laid_explains group scope depth (codes.Opcode op) at t = stop_explains _ tt

@@ -193,7 +193,7 @@ module _ {S : Type 0} {accesses : Accesses S} where
   unfolding size_in
   size_in_explains r = direct_explains _ (λ w. seen_clean value.Integer (size_of_referent w.objects r) (size_of_referent_clean w.objects r)) (λ w. refl)
 
-  size_held_explains : (v : Value) → WorldExplains accesses (size_held v)
+  pub size_held_explains : (v : Value) → WorldExplains accesses (size_held v)
   unfolding size_held
   size_held_explains v = direct_explains _ (λ w. size_of_value_clean w.objects v) (λ w. refl)
 

@@ -48,12 +48,13 @@ use Rattle.aml_meaning.specs.declared.term_kind.Test.{Test}
 use Rattle.aml_meaning.specs.declared.term_kind.TwoOperands.{TwoOperands}
 use Rattle.aml_laws.proofs.CleanObjects.{make_string_clean, new_buffer_field_clean}
 use Rattle.aml_laws.proofs.CleanValues.{resolved_clean}
-use Rattle.aml_laws.proofs.CleanWorlds.{buffer_of_clean, bytes_of_clean, inner_of_clean, list_of_clean, name_of_clean, number_of_clean, reference_in_clean, shallow_clean, sized_clean, unconnected_clean}
+use Rattle.aml_laws.proofs.CleanWorlds.{buffer_of_clean, bytes_of_clean, inner_of_clean, list_of_clean, name_of_clean, number_of_clean, reference_in_clean, shallow_clean, sized_clean}
 use Rattle.aml_laws.proofs.FaultsOfCalls.{completed_explains, field_read_explains, held_integer_explains, held_value_explains, in_turn_explains, invoked_explains, operand_integer_explains, operand_value_explains, referent_read_explains, stored_back_explains, stored_to_explains, two_values_explains, value_at_explains}
 use Rattle.aml_laws.proofs.FaultsOfChanges.{RunExplains, charge_explains, give_explains, lift_explains, on_objects_explains, settle_explains, stop_explains, then_explains}
 use Rattle.aml_laws.proofs.FaultsOfFields.{elements_laid_explains, field_found_explains, region_found_explains}
 use Rattle.aml_laws.proofs.FaultsOfOperations.{counted_by_explains, divided_in_explains, integer_in_explains, integer_kept_explains, invocation_found_explains, new_buffer_explains, new_method_explains, new_name_explains, new_package_explains, osi_answered_explains, path_found_explains, result_of_one_explains, result_of_test_explains, result_of_two_explains, scope_found_explains, size_in_explains, target_named_explains, turned_explains, within_explains}
 use Rattle.aml_laws.proofs.FaultsOfStoreTargets.{acquired_at_explains, copied_to_explains, dereferenced_explains, given_back_at_explains, if_initialized_explains, reference_if_found_explains, reference_of_explains, slot_read_explains, target_read_explains, target_referent_explains, tested_explains, value_referent_explains}
+use Rattle.aml_laws.proofs.FaultsOfWideTerms.{connections_asked_explains, in_wide_explains}
 
 module _ {S : Type 0} (accesses : Accesses S) (ev : Task → Run S Flow) (parts : (t : Task) → RunExplains accesses (ev t)) where
   constant_rule_explains : (k : ℕ) → RunExplains accesses (constant_rule ev k)
@@ -442,9 +443,9 @@ module _ {S : Type 0} (accesses : Accesses S) (ev : Task → Run S Flow) (parts 
   unfolding field_list_rule index_list_rule fields_laid sized_field_rule bits_field_rule
   region_term_rule_explains regions.OperationRegion scope depth t = region_rule_explains scope depth t
   region_term_rule_explains regions.Field scope depth t =
-      then_explains _ _ (settle_explains _ (list_of_clean _)) (λ ts. then_explains _ _ (settle_explains _ (unconnected_clean opcodes.Field ts)) (λ no_names. then_explains _ _ (settle_explains _ (name_of_clean _)) (λ x. then_explains _ _ (lift_explains _ (region_found_explains scope x)) (λ region. then_explains _ _ (settle_explains _ (number_of_clean _)) (λ flags. then_explains _ _ (lift_explains _ (elements_laid_explains _ scope depth _ ts)) (λ laid. give_explains _))))))
+      then_explains _ _ (settle_explains _ (list_of_clean _)) (λ ts. then_explains _ _ (lift_explains _ (connections_asked_explains opcodes.Field ts)) (λ asked. then_explains _ _ (settle_explains _ (name_of_clean _)) (λ x. then_explains _ _ (lift_explains _ (region_found_explains scope x)) (λ region. then_explains _ _ (settle_explains _ (number_of_clean _)) (λ flags. then_explains _ _ (lift_explains _ (elements_laid_explains _ scope depth _ ts)) (λ laid. give_explains _))))))
   region_term_rule_explains regions.IndexField scope depth t =
-      then_explains _ _ (settle_explains _ (list_of_clean _)) (λ ts. then_explains _ _ (settle_explains _ (unconnected_clean opcodes.IndexField ts)) (λ no_names. then_explains _ _ (settle_explains _ (name_of_clean _)) (λ x. then_explains _ _ (lift_explains _ (field_found_explains scope x)) (λ index. then_explains _ _ (settle_explains _ (name_of_clean _)) (λ y. then_explains _ _ (lift_explains _ (field_found_explains scope y)) (λ behind. then_explains _ _ (settle_explains _ (number_of_clean _)) (λ flags. then_explains _ _ (lift_explains _ (elements_laid_explains _ scope depth _ ts)) (λ laid. give_explains _))))))))
+      then_explains _ _ (settle_explains _ (list_of_clean _)) (λ ts. then_explains _ _ (lift_explains _ (connections_asked_explains opcodes.IndexField ts)) (λ asked. then_explains _ _ (settle_explains _ (name_of_clean _)) (λ x. then_explains _ _ (lift_explains _ (field_found_explains scope x)) (λ index. then_explains _ _ (settle_explains _ (name_of_clean _)) (λ y. then_explains _ _ (lift_explains _ (field_found_explains scope y)) (λ behind. then_explains _ _ (settle_explains _ (number_of_clean _)) (λ flags. then_explains _ _ (lift_explains _ (elements_laid_explains _ scope depth _ ts)) (λ laid. give_explains _))))))))
   region_term_rule_explains (regions.SizedBufferField size) scope depth t =
       then_explains _ _ (two_values_explains accesses ev parts scope depth t) (λ x. then_explains _ _ (settle_explains _ (buffer_of_clean _)) (λ o. then_explains _ _ (lift_explains _ (integer_in_explains _)) (λ i. then_explains _ _ (lift_explains _ (on_objects_explains _ (new_buffer_field_clean _ _ _))) (λ b. declaring_explains scope depth t _ _))))
   region_term_rule_explains regions.BufferField scope depth t =
@@ -459,6 +460,7 @@ module _ {S : Type 0} (accesses : Accesses S) (ev : Task → Run S Flow) (parts 
   kind_rule_explains (kinds.Region k) op scope depth t = region_term_rule_explains k scope depth t
   kind_rule_explains (kinds.Operator k) op scope depth t = operator_rule_explains k scope depth t
   kind_rule_explains (kinds.Statement k) op scope depth t = statement_rule_explains k scope depth t
+  kind_rule_explains (kinds.Wide k) op scope depth t = in_wide_explains accesses ev parts target_at_explains targeted_explains op k scope depth t
   kind_rule_explains kinds.Unsupported op scope depth t = stop_explains _ tt
 
   code_rule_explains : (c : TermCode) (scope : List Seg) (depth : ℕ) (t : Tree) → RunExplains accesses (code_rule accesses ev c scope depth t)

@@ -333,7 +333,7 @@ module _ {S : Type 0} {accesses : Accesses S} where
   unfolding store_in_name
   store_in_name_explains q v = then_explains _ _ (held_at_explains q) (λ h. store_over_explains h q v)
 
-  store_to_explains : (r : Reference) (v : Value) → WorldExplains accesses (store_to r v)
+  pub store_to_explains : (r : Reference) (v : Value) → WorldExplains accesses (store_to r v)
   unfolding store_in_declared
   store_to_explains (reference.Name n) v = then_explains _ _ (declaration_explains n) (λ e. store_over_explains _ e.0 v)
   store_to_explains (reference.Slot slot n) v = store_in_frame_numbered_explains _ (stored_through_explains _) n slot v

@@ -1,5 +1,5 @@
 -- Reading, writing and declaring fields preserve every world relation.
-use Rattle.std.specs.Prelude.{ℕ, nat_lt, List, Bool, Option, Some, None, refl}
+use Rattle.std.specs.Prelude.{ℕ, nat_lt, List, Bool, Option, Some, None, refl, true, false}
 use Rattle.ar_space.specs.Accesses.{Accesses}
 use Rattle.ar_space.specs.Outcome.{Outcome}
 use Rattle.ar_space.specs.declared.space.Width.{Width}
@@ -8,7 +8,7 @@ use Rattle.aml_path.specs.Paths.{Name}
 use Rattle.aml_grammar.specs.declared.opcode.TermCode.{TermCode}
 use Rattle.aml_grammar.specs.declared.opcode.TermCode.TheVariants as codes
 use Rattle.aml_grammar.specs.Tree.{Tree, Trees, no_trees, tree}
-use Rattle.aml_grammar.specs.Apart.{code_of}
+use Rattle.aml_grammar.specs.Apart.{code_of, operand_of}
 use Rattle.aml_objects.specs.Objects.{make_buffer}
 use Rattle.aml_objects.specs.declared.value.Value.{Value}
 use Rattle.aml_objects.specs.declared.entry.Field.{Field}
@@ -33,7 +33,8 @@ use Rattle.aml_meaning.specs.Given.{Given}
 use Rattle.aml_meaning.specs.PciFunctions.{nearest, pci_function}
 use Rattle.aml_meaning.specs.Regions.{region_declared, field_declared, integer_of_bits, integer_value, value_of_bits, integer_alone, referent_of_bits, given_of_bits}
 use Rattle.aml_meaning.specs.Fields.{part_in, inherited, pci_address, space_at, located, region_bits, region_written, index_unit, index_unit_written, index_bits, index_written, field_unit_bits, field_unit_written, bits_in, written_in, field_value, field_integer, field_part, field_referent, field_stored, field_given}
-use Rattle.aml_meaning.specs.FieldTerms.{new_field, named_field, reserved_field, access_field, element_laid, elements_laid, region_found, field_found}
+use Rattle.aml_meaning.specs.Terms.{is_named}
+use Rattle.aml_meaning.specs.FieldTerms.{connection_found, named_connection, connection_if, new_field, named_field, reserved_field, access_field, element_laid, elements_laid, region_found, field_found}
 use Rattle.aml_laws.proofs.Preorders.{either_branch, bits_read_respects, write_units_respects, kept_respects}
 use Rattle.aml_laws.proofs.ObjectKinds.{make_buffer_keeps_kinds, read_buffer_field_keeps_kinds, write_buffer_field_keeps_kinds}
 use Rattle.aml_laws.proofs.RegisterAccesses.{read_field_only_accesses, write_field_only_accesses}
@@ -102,12 +103,21 @@ module _ {S : Type 0} {accesses : Accesses S} {relation : WorldRelation accesses
   unfolding access_field
   access_field_preserves group scope depth at t = then_preserves _ _ (settle_preserves _) (λ flags. give_preserves _)
 
+  connection_found_preserves : (scope : List Seg) (n : Name) → Preserves relation (connection_found scope n)
+  unfolding connection_found
+  connection_found_preserves scope n = then_preserves _ _ (entry_found_preserves scope n) (λ e. settle_preserves _)
+
+  connection_if_preserves : (group : FieldGroup) (scope : List Seg) (depth : ℕ) (named : Bool) (at : FieldLayout) (t : Tree) → Preserves relation (connection_if group scope depth named at t)
+  unfolding named_connection
+  connection_if_preserves group scope depth true at t = then_preserves _ _ (settle_preserves _) (λ n. then_preserves _ _ (connection_found_preserves scope n) (λ buffer. give_preserves _))
+  connection_if_preserves group scope depth false at t = give_preserves _
+
   element_laid_preserves : (group : FieldGroup) (scope : List Seg) (depth : ℕ) (c : TermCode) (at : FieldLayout) (t : Tree) → Preserves relation (element_laid group scope depth c at t)
   element_laid_preserves group scope depth codes.NamedField at t = named_field_preserves group scope depth at t
   element_laid_preserves group scope depth codes.ReservedField at t = reserved_field_preserves group scope depth at t
   element_laid_preserves group scope depth codes.AccessField at t = access_field_preserves group scope depth at t
   element_laid_preserves group scope depth codes.ExtendedAccessField at t = access_field_preserves group scope depth at t
-  element_laid_preserves group scope depth codes.ConnectField at t = stop_preserves _
+  element_laid_preserves group scope depth codes.ConnectField at t = connection_if_preserves group scope depth (is_named (operand_of t 0)) at t
   element_laid_preserves group scope depth codes.Name at t = stop_preserves _
   element_laid_preserves group scope depth codes.MethodInvocation at t = stop_preserves _
   element_laid_preserves group scope depth (codes.Opcode op) at t = stop_preserves _

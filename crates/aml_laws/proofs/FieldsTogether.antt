@@ -1,5 +1,5 @@
 -- Reading, writing and declaring fields go the same way over two register spaces.
-use Rattle.std.specs.Prelude.{ℕ, nat_lt, List, Bool, Option, Some, None, refl}
+use Rattle.std.specs.Prelude.{ℕ, nat_lt, List, Bool, Option, Some, None, refl, true, false}
 use Rattle.ar_space.specs.Accesses.{Accesses}
 use Rattle.ar_space.specs.declared.space.Width.{Width}
 use Rattle.aml_path.specs.declared.segment.Seg.{Seg}
@@ -7,7 +7,7 @@ use Rattle.aml_path.specs.Paths.{Name}
 use Rattle.aml_grammar.specs.declared.opcode.TermCode.{TermCode}
 use Rattle.aml_grammar.specs.declared.opcode.TermCode.TheVariants as codes
 use Rattle.aml_grammar.specs.Tree.{Tree, Trees, no_trees, tree}
-use Rattle.aml_grammar.specs.Apart.{code_of}
+use Rattle.aml_grammar.specs.Apart.{code_of, operand_of}
 use Rattle.aml_objects.specs.declared.value.Value.{Value}
 use Rattle.aml_objects.specs.declared.entry.Field.{Field}
 use Rattle.aml_objects.specs.declared.entry.Field.TheVariants as field
@@ -27,14 +27,15 @@ use Rattle.aml_meaning.specs.Run.{Run}
 use Rattle.aml_meaning.specs.PciFunctions.{nearest, pci_function}
 use Rattle.aml_meaning.specs.Regions.{region_declared, field_declared, integer_of_bits, integer_value, value_of_bits, integer_alone, referent_of_bits, given_of_bits}
 use Rattle.aml_meaning.specs.Fields.{part_in, inherited, pci_address, space_at, located, region_bits, region_written, index_unit, index_unit_written, index_bits, index_written, field_unit_bits, field_unit_written, bits_in, written_in, field_value, field_integer, field_part, field_referent, field_stored, field_given}
-use Rattle.aml_meaning.specs.FieldTerms.{new_field, named_field, reserved_field, access_field, element_laid, elements_laid, region_found, field_found}
-use Rattle.aml_laws.proofs.Together.{SideBySide, Together, choice_together, give_together, plain, settle_together, stop_together, then_together}
+use Rattle.aml_meaning.specs.Terms.{is_named}
+use Rattle.aml_meaning.specs.FieldTerms.{connection_found, named_connection, connection_if, new_field, named_field, reserved_field, access_field, element_laid, elements_laid, region_found, field_found}
+use Rattle.aml_laws.proofs.Together.{Sides, Together, choice_together, give_together, plain, settle_together, stop_together, then_together}
 use Rattle.aml_laws.proofs.WorldsTogether.{lift_together, objects_together, runs, space_together, worlds}
 use Rattle.aml_laws.proofs.UnitsTogether.{bits_read_together, kept_together, read_field_together, write_field_together, write_units_together}
 use Rattle.aml_laws.proofs.ChangesTogether.{entry_found_together, new_name_together}
 use Rattle.aml_laws.proofs.StoreTargetsTogether.{bytes_in_together, declaration_together}
 
-module _ {S T : Type 0} {accesses : Accesses S} {accesses2 : Accesses T} {side : SideBySide accesses accesses2} where
+module _ {S T : Type 0} {accesses : Accesses S} {accesses2 : Accesses T} {side : Sides accesses accesses2} where
   -- ---- changes of the world
 
   nearest_together : (x : Sought) (q : List Seg) → Together side worlds (nearest x q) (nearest x q)
@@ -95,12 +96,21 @@ module _ {S T : Type 0} {accesses : Accesses S} {accesses2 : Accesses T} {side :
   unfolding access_field
   access_field_together group scope depth at t = then_together (settle_together _) (λ flags. give_together _)
 
+  connection_found_together : (scope : List Seg) (n : Name) → Together side worlds (connection_found scope n) (connection_found scope n)
+  unfolding connection_found
+  connection_found_together scope n = then_together (entry_found_together scope n) (λ e. settle_together _)
+
+  connection_if_together : (group : FieldGroup) (scope : List Seg) (depth : ℕ) (named : Bool) (at : FieldLayout) (t : Tree) → Together side worlds (connection_if group scope depth named at t) (connection_if group scope depth named at t)
+  unfolding named_connection
+  connection_if_together group scope depth true at t = then_together (settle_together _) (λ n. then_together (connection_found_together scope n) (λ buffer. give_together _))
+  connection_if_together group scope depth false at t = give_together _
+
   element_laid_together : (group : FieldGroup) (scope : List Seg) (depth : ℕ) (c : TermCode) (at : FieldLayout) (t : Tree) → Together side worlds (element_laid group scope depth c at t) (element_laid group scope depth c at t)
   element_laid_together group scope depth codes.NamedField at t = named_field_together group scope depth at t
   element_laid_together group scope depth codes.ReservedField at t = reserved_field_together group scope depth at t
   element_laid_together group scope depth codes.AccessField at t = access_field_together group scope depth at t
   element_laid_together group scope depth codes.ExtendedAccessField at t = access_field_together group scope depth at t
-  element_laid_together group scope depth codes.ConnectField at t = stop_together _
+  element_laid_together group scope depth codes.ConnectField at t = connection_if_together group scope depth (is_named (operand_of t 0)) at t
   element_laid_together group scope depth codes.Name at t = stop_together _
   element_laid_together group scope depth codes.MethodInvocation at t = stop_together _
   element_laid_together group scope depth (codes.Opcode op) at t = stop_together _
@@ -120,7 +130,7 @@ module _ {S T : Type 0} {accesses : Accesses S} {accesses2 : Accesses T} {side :
 
 -- ---- field units
 
-module _ {S T : Type 0} {accesses : Accesses S} {accesses2 : Accesses T} {side : SideBySide accesses accesses2} {call : List Seg → Run S ℕ} {call2 : List Seg → Run T ℕ} (each : (q : List Seg) → Together side runs (call q) (call2 q)) where
+module _ {S T : Type 0} {accesses : Accesses S} {accesses2 : Accesses T} {side : Sides accesses accesses2} {call : List Seg → Run S ℕ} {call2 : List Seg → Run T ℕ} (each : (q : List Seg) → Together side runs (call q) (call2 q)) where
   part_in_together : (s : Seg) (o : Option (List Seg)) → Together side runs (part_in accesses call s o) (part_in accesses2 call2 s o)
   part_in_together s None = give_together _
   part_in_together s (Some q) = each _

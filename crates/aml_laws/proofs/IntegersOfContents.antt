@@ -37,12 +37,12 @@ upper_digits_are_bytes : AreBytes upper_digits
 unfolding all_below_256
 upper_digits_are_bytes = bytes_by_test upper_digits refl
 
-encode_upper_gives_bytes : (bs : List ℕ) → AreBytes (encode_upper bs)
+pub encode_upper_gives_bytes : (bs : List ℕ) → AreBytes (encode_upper bs)
 unfolding encode_with
 encode_upper_gives_bytes [] = no_bytes
 encode_upper_gives_bytes (b ∷ bs) = byte_before_bytes _ (slice_index upper_digits (b % 16) ∷ encode_upper bs) (upper_digits_are_bytes (b / 16)) (byte_before_bytes _ (encode_upper bs) (upper_digits_are_bytes (b % 16)) (encode_upper_gives_bytes bs))
 
-flat_map_gives_bytes : (f : ℕ → List ℕ) (bs : List ℕ) → ((b : ℕ) → AreBytes (f b)) → AreBytes (flat_map f bs)
+pub flat_map_gives_bytes : (f : ℕ → List ℕ) (bs : List ℕ) → ((b : ℕ) → AreBytes (f b)) → AreBytes (flat_map f bs)
 flat_map_gives_bytes f [] h = no_bytes
 flat_map_gives_bytes f (b ∷ bs) h = joined_bytes (f b) (flat_map f bs) (h b) (flat_map_gives_bytes f bs h)
 
@@ -87,12 +87,12 @@ buffer_is_bytes width (String s) bs h e = ok_fits AreBytes _ bs e (terminated_is
 buffer_is_bytes width (Buffer b) bs h e = ok_fits AreBytes b bs e h
 buffer_is_bytes width Other bs h e = absurd (cc e)
 
-then_content_fits : {A : Type 0} (width : IntegerWidth) (r : Outcome A) (k : A → Content) (c : Content) → ((a : A) → r ≡ Ok a → ContentFits width (k a)) → outcome.◌>>=◌ r (λ a. Ok (k a)) ≡ Ok c → ContentFits width c
+pub then_content_fits : {A : Type 0} (width : IntegerWidth) (r : Outcome A) (k : A → Content) (c : Content) → ((a : A) → r ≡ Ok a → ContentFits width (k a)) → outcome.◌>>=◌ r (λ a. Ok (k a)) ≡ Ok c → ContentFits width c
 unfolding outcome.◌>>=◌
 then_content_fits width (Ok a) k c h e = ok_fits (ContentFits width) (k a) c e (h a refl)
 then_content_fits width (Err x) k c h e = absurd (cc e)
 
-integer_bytes_are_bytes : (width : IntegerWidth) (n : ℕ) → AreBytes (integer_bytes width n)
+pub integer_bytes_are_bytes : (width : IntegerWidth) (n : ℕ) → AreBytes (integer_bytes width n)
 integer_bytes_are_bytes width n = bytes_low_first_are_bytes 0 _ _
 
 pub concatenated_fits : (width : IntegerWidth) (a b c : Content) → ContentFits width a → ContentFits width b → concatenated width a b ≡ Ok c → ContentFits width c

@@ -78,6 +78,7 @@ use Rattle.aml_meaning.specs.TargetTerms.{target_named}
 use Rattle.aml_meaning.specs.declared.flow.Flow.TheVariants as flow
 use Rattle.aml_meaning.specs.Tasks.{task}
 use Rattle.aml_meaning.specs.Terms.{else_of}
+use Rattle.aml_laws.proofs.IntegersOfWideTerms.{connections_asked_maintains, in_wide_maintains}
 
 module _ (S : Type 0) (width : IntegerWidth) (accesses : Accesses S) (ev : Task → Run S Flow) (parts : (t : Task) → PlainTree t.term → Maintains (RunWithin S width) (FlowFits width) (ev t)) where
   value_given_maintains : (m : Change (State S) Value) → Maintains (WorldWithin S width) (WithinWidth width) m → Maintains (RunWithin S width) (FlowFits width) (lift m >>= (λ v. give (flow.Value v)))
@@ -390,10 +391,10 @@ module _ (S : Type 0) (width : IntegerWidth) (accesses : Accesses S) (ev : Task 
       then_maintains _ _ (any_settle_maintains _) (λ space u. then_maintains _ _ (value_at_maintains S width accesses ev parts scope depth t 2 h) (λ offset f. then_maintains _ _ (value_at_maintains S width accesses ev parts scope depth t 3 h) (λ size g.
       then_maintains _ _ (lift_maintains S width _ (integer_in_maintains S width offset f)) (λ x v. then_maintains _ _ (lift_maintains S width _ (integer_in_maintains S width size g)) (λ y z. declaring_maintains scope depth t _ _ tt)))))
   region_term_rule_maintains regions.Field scope depth t h =
-      then_maintains _ _ (any_settle_maintains _) (λ ts u. then_maintains _ _ (any_settle_maintains _) (λ plain v. then_maintains _ _ (any_settle_maintains _) (λ n x. then_maintains _ _ (lift_maintains S width _ (then_maintains _ _ (entry_found_maintains S width scope n) (λ e f. any_settle_maintains _))) (λ region y. then_maintains _ _ (any_settle_maintains _) (λ flags z.
+      then_maintains _ _ (any_settle_maintains _) (λ ts u. then_maintains _ _ (lift_maintains S width _ (connections_asked_maintains S width _ ts)) (λ asked v. then_maintains _ _ (any_settle_maintains _) (λ n x. then_maintains _ _ (lift_maintains S width _ (then_maintains _ _ (entry_found_maintains S width scope n) (λ e f. any_settle_maintains _))) (λ region y. then_maintains _ _ (any_settle_maintains _) (λ flags z.
       then_maintains _ _ (lift_maintains S width _ (elements_laid_maintains S width _ scope depth _ ts)) (λ laid a. give_maintains _ tt))))))
   region_term_rule_maintains regions.IndexField scope depth t h =
-      then_maintains _ _ (any_settle_maintains _) (λ ts u. then_maintains _ _ (any_settle_maintains _) (λ plain v. then_maintains _ _ (any_settle_maintains _) (λ m x. then_maintains _ _ (lift_maintains S width _ (then_maintains _ _ (entry_found_maintains S width scope m) (λ e f. any_settle_maintains _))) (λ index y. then_maintains _ _ (any_settle_maintains _) (λ n z.
+      then_maintains _ _ (any_settle_maintains _) (λ ts u. then_maintains _ _ (lift_maintains S width _ (connections_asked_maintains S width _ ts)) (λ asked v. then_maintains _ _ (any_settle_maintains _) (λ m x. then_maintains _ _ (lift_maintains S width _ (then_maintains _ _ (entry_found_maintains S width scope m) (λ e f. any_settle_maintains _))) (λ index y. then_maintains _ _ (any_settle_maintains _) (λ n z.
       then_maintains _ _ (lift_maintains S width _ (then_maintains _ _ (entry_found_maintains S width scope n) (λ e f. any_settle_maintains _))) (λ behind a. then_maintains _ _ (any_settle_maintains _) (λ flags b. then_maintains _ _ (lift_maintains S width _ (elements_laid_maintains S width _ scope depth _ ts)) (λ laid c. give_maintains _ tt))))))))
   region_term_rule_maintains (regions.SizedBufferField size) scope depth t h =
       then_maintains _ _ (two_values_maintains S width accesses ev parts scope depth t h) (λ x f. then_maintains _ _ (any_settle_maintains _) (λ o u. then_maintains _ _ (lift_maintains S width _ (integer_in_maintains S width x.1 f.1)) (λ i v.
@@ -409,6 +410,7 @@ module _ (S : Type 0) (width : IntegerWidth) (accesses : Accesses S) (ev : Task 
   kind_rule_maintains (kinds.Region k) op scope depth t h = region_term_rule_maintains k scope depth t h
   kind_rule_maintains (kinds.Operator k) op scope depth t h = operator_rule_maintains k scope depth t h
   kind_rule_maintains (kinds.Statement k) op scope depth t h = statement_rule_maintains k scope depth t h
+  kind_rule_maintains (kinds.Wide k) op scope depth t h = in_wide_maintains S width accesses ev parts target_at_maintains targeted_maintains op k scope depth t h
   kind_rule_maintains kinds.Unsupported op scope depth t h = stop_maintains _
 
   code_rule_maintains : (c : TermCode) (scope : List Seg) (depth : ℕ) (t : Tree) → PlainTree t → Maintains (RunWithin S width) (FlowFits width) (code_rule accesses ev c scope depth t)

@@ -13,7 +13,7 @@ use Rattle.aml_path.specs.declared.segment.Seg.{Seg}
 use Rattle.aml_grammar.specs.declared.opcode.TermCode.{TermCode}
 use Rattle.aml_grammar.specs.declared.opcode.TermCode.TheVariants as codes
 use Rattle.aml_grammar.specs.Tree.{Tree, Trees, no_trees, tree}
-use Rattle.aml_grammar.specs.Apart.{code_of}
+use Rattle.aml_grammar.specs.Apart.{code_of, operand_of}
 use Rattle.aml_objects.specs.Contents.{Content, Integer, String, Buffer, Other}
 use Rattle.aml_objects.specs.declared.object.Object.{Object}
 use Rattle.aml_objects.specs.declared.object.Object.TheVariants as object
@@ -30,7 +30,8 @@ use Rattle.aml_meaning.specs.declared.store_target.StoreTarget.{StoreTarget}
 use Rattle.aml_meaning.specs.declared.store_target.StoreTarget.TheVariants as targets
 use Rattle.aml_meaning.specs.Operations.{joined_items, joined_resources, size_of_object, size_of_value, size_of_referent, size_in, size_held, element_indexed, byte_indexed, indexed}
 use Rattle.aml_meaning.specs.Mutexes.{mutex_count, acquired, given_back, acquired_by_number, given_back_by_number, acquired_at, given_back_at}
-use Rattle.aml_meaning.specs.FieldTerms.{new_field, named_field, reserved_field, access_field, element_laid, elements_laid}
+use Rattle.aml_meaning.specs.Terms.{is_named}
+use Rattle.aml_meaning.specs.FieldTerms.{connection_found, named_connection, connection_if, new_field, named_field, reserved_field, access_field, element_laid, elements_laid}
 use Rattle.aml_laws.specs.Plain.{AreBytes}
 use Rattle.aml_laws.specs.Within.{WithinWidth}
 use Rattle.aml_laws.specs.AllWithin.{Each, ObjectFits, FewBits}
@@ -39,7 +40,7 @@ use Rattle.aml_laws.proofs.Invariants.{Maintains, ok_fits, settled_maintained, g
 use Rattle.aml_laws.proofs.IntegersOfObjects.{make_buffer_maintains}
 use Rattle.aml_laws.proofs.IntegersOfOperators.{seen_integer_within}
 use Rattle.aml_laws.proofs.IntegersOfContents.{ContentFits}
-use Rattle.aml_laws.proofs.IntegersOfWorlds.{WorldWithin, content_in_fits, on_objects_maintains, integer_in_maintains, replaced_maintains, new_name_maintains}
+use Rattle.aml_laws.proofs.IntegersOfWorlds.{WorldWithin, content_in_fits, on_objects_maintains, integer_in_maintains, entry_found_maintains, replaced_maintains, new_name_maintains}
 use Rattle.aml_laws.proofs.IntegersOfTargets.{ReferentFits, declaration_maintains}
 
 outcome_then_fits : {A B : Type 0} (Fit : A → Type 0) (Fits : B → Type 0) (r : Outcome A) (k : A → Outcome B) (b : B) → ((a : A) → r ≡ Ok a → Fit a) → ((a : A) → Fit a → (x : B) → k a ≡ Ok x → Fits x) → outcome.◌>>=◌ r k ≡ Ok b → Fits b
@@ -72,7 +73,7 @@ size_fits_width Bits32 n l = omega arith
 size_fits_width Bits64 n l = omega arith
 
 module _ (width : IntegerWidth) where
-  abbrev SizeFits : ℕ → Type 0
+  abbrev pub SizeFits : ℕ → Type 0
   SizeFits n = WithinWidth width (value.Integer n)
 
   object_size_fits : (o : Option Object) (n : ℕ) → ((x : Object) → o ≡ Some x → ObjectFits width x) → size_of_object o ≡ Ok n → SizeFits n
@@ -104,9 +105,9 @@ module _ (S : Type 0) (width : IntegerWidth) where
   reference_below_fits true r v e = ok_fits (WithinWidth width) _ v e tt
   reference_below_fits false r v e = absurd (cc e)
 
-  size_held_maintains : (v : Value) → Maintains (WorldWithin S width) Any (size_held v)
+  pub size_held_maintains : (v : Value) → Maintains (WorldWithin S width) (SizeFits width) (size_held v)
   unfolding size_held
-  size_held_maintains v = record { maintains = λ w i. settled_maintained _ w i (λ n e. tt) }
+  size_held_maintains v = record { maintains = λ w i. settled_maintained _ w i (λ n e. value_size_fits width w.objects v n i.objects e) }
 
   pub indexed_maintains : (a b : Value) → WithinWidth width b → Maintains (WorldWithin S width) (WithinWidth width) (indexed a b)
   unfolding element_indexed byte_indexed
@@ -157,13 +158,18 @@ module _ (S : Type 0) (width : IntegerWidth) where
   unfolding new_field
   new_field_maintains group module_level q at count = then_maintains {Fit = FewBits} _ _ (settle_maintains _ (λ n e. field_has_few_bits (count == 0) count _ n e)) (λ bits l. then_maintains _ _ (new_name_maintains S width module_level q _ l) (λ number u. settle_maintains _ (λ a e. tt)))
 
+  connection_if_maintains : (group : FieldGroup) (scope : List Seg) (depth : ℕ) (named : Bool) (at : FieldLayout) (t : Tree) → Maintains (WorldWithin S width) Any (connection_if group scope depth named at t)
+  unfolding named_connection connection_found
+  connection_if_maintains group scope depth true at t = then_maintains {Fit = Any} _ _ (settle_maintains _ (λ a e. tt)) (λ n u. then_maintains {Fit = Any} _ _ (then_maintains _ _ (entry_found_maintains S width scope n) (λ e f. settle_maintains _ (λ a g. tt))) (λ buffer v. give_maintains _ tt))
+  connection_if_maintains group scope depth false at t = give_maintains _ tt
+
   element_laid_maintains : (group : FieldGroup) (scope : List Seg) (depth : ℕ) (c : TermCode) (at : FieldLayout) (t : Tree) → Maintains (WorldWithin S width) Any (element_laid group scope depth c at t)
   unfolding named_field reserved_field access_field
   element_laid_maintains group scope depth codes.NamedField at t = then_maintains {Fit = Any} _ _ (settle_maintains _ (λ a e. tt)) (λ n u. then_maintains {Fit = Any} _ _ (settle_maintains _ (λ a e. tt)) (λ p v. then_maintains {Fit = Any} _ _ (settle_maintains _ (λ a e. tt)) (λ count x. new_field_maintains group _ p at count)))
   element_laid_maintains group scope depth codes.ReservedField at t = then_maintains {Fit = Any} _ _ (settle_maintains _ (λ a e. tt)) (λ count u. settle_maintains _ (λ a e. tt))
   element_laid_maintains group scope depth codes.AccessField at t = then_maintains {Fit = Any} _ _ (settle_maintains _ (λ a e. tt)) (λ flags u. give_maintains _ tt)
   element_laid_maintains group scope depth codes.ExtendedAccessField at t = then_maintains {Fit = Any} _ _ (settle_maintains _ (λ a e. tt)) (λ flags u. give_maintains _ tt)
-  element_laid_maintains group scope depth codes.ConnectField at t = stop_maintains _
+  element_laid_maintains group scope depth codes.ConnectField at t = connection_if_maintains group scope depth (is_named (operand_of t 0)) at t
   element_laid_maintains group scope depth codes.Name at t = stop_maintains _
   element_laid_maintains group scope depth codes.MethodInvocation at t = stop_maintains _
   element_laid_maintains group scope depth (codes.Opcode op) at t = stop_maintains _

@@ -68,7 +68,7 @@ module _ (width : IntegerWidth) where
   ReferentFits (referent.Field f) = FewBits (bits_of_field f)
   ReferentFits (referent.Bytes n) = WithinWidth width (value.Integer n)
 
-  holding_of_fits : (o : NamedObject) → NamedFits width o → HoldingFits (holding_of o)
+  pub holding_of_fits : (o : NamedObject) → NamedFits width o → HoldingFits (holding_of o)
   holding_of_fits (object.Data v) f = f
   holding_of_fits (object.FieldUnit u) f = f
   holding_of_fits (object.BufferField b) f = f
@@ -128,7 +128,7 @@ module _ (width : IntegerWidth) where
   with_frame_fits (Some f) k slot v frames at h g = each_set (FrameFits width) frames k _ h (with_slot_fits f slot v (each_at (FrameFits width) frames k f h at) g)
 
 module _ (S : Type 0) (width : IntegerWidth) where
-  held_at_maintains : (q : List Seg) → Maintains (WorldWithin S width) (HoldingFits width) (held_at q)
+  pub held_at_maintains : (q : List Seg) → Maintains (WorldWithin S width) (HoldingFits width) (held_at q)
   unfolding held_at
   held_at_maintains q = record { maintains = λ w i. settled_maintained _ w i (λ h e. holding_in_fits width (get w.names.map q) h (λ x. i.names q x) e) }
 
@@ -177,7 +177,7 @@ module _ (S : Type 0) (width : IntegerWidth) where
   once_fits n (object.BufferField b) f = f
   once_fits n _ f = tt
 
-  named_once_fits : (n : ℕ) (o : NamedObject) → NamedFits width o → HeldFits width (named_once n o)
+  pub named_once_fits : (n : ℕ) (o : NamedObject) → NamedFits width o → HeldFits width (named_once n o)
   named_once_fits n (object.Data v) f = read_as_fits S width n v f
   named_once_fits n (object.FieldUnit u) f = f
   named_once_fits n (object.BufferField b) f = f
@@ -304,7 +304,7 @@ module _ (S : Type 0) (width : IntegerWidth) where
   unfolding copy_into_slot
   copy_into_slot_maintains k slot v f = then_maintains _ _ (on_objects_maintains S width _ (copied_maintains width v f)) (λ c g. then_maintains _ _ (slot_put_maintains k slot c g) (λ put u. give_maintains _ tt))
 
-  copy_into_name_maintains : (q : List Seg) (v : Value) → WithinWidth width v → Maintains (WorldWithin S width) (StoredFits width) (copy_into_name q v)
+  pub copy_into_name_maintains : (q : List Seg) (v : Value) → WithinWidth width v → Maintains (WorldWithin S width) (StoredFits width) (copy_into_name q v)
   unfolding copy_into_name
   copy_into_name_maintains q v f = then_maintains _ _ (on_objects_maintains S width _ (copied_maintains width v f)) (λ c g. then_maintains _ _ (replaced_maintains S width q _ g) (λ put u. give_maintains _ tt))
 
@@ -326,7 +326,7 @@ module _ (S : Type 0) (width : IntegerWidth) where
   unfolding bytes_in
   bytes_in_maintains v f = record { maintains = λ w i. settled_maintained _ w i (λ bs e. buffer_is_bytes w.width _ bs (content_at_own_width S width w _ i (content_in_fits S width w v i f)) e) }
 
-  store_over_value_maintains : (old : Value) (q : List Seg) (v : Value) → WithinWidth width v → Maintains (WorldWithin S width) (StoredFits width) (store_over_value old q v)
+  pub store_over_value_maintains : (old : Value) (q : List Seg) (v : Value) → WithinWidth width v → Maintains (WorldWithin S width) (StoredFits width) (store_over_value old q v)
   unfolding store_integer store_text store_bytes
   store_over_value_maintains (value.Integer n) q v f = then_maintains _ _ (integer_in_maintains S width v f) (λ m g. then_maintains _ _ (replaced_maintains S width q _ g) (λ put u. give_maintains _ tt))
   store_over_value_maintains (value.String o) q v f = then_maintains _ _ (text_in_maintains v f) (λ bs h. then_maintains _ _ (on_objects_maintains S width _ (write_string_maintains width o bs h)) (λ put u. give_maintains _ tt))
@@ -389,11 +389,11 @@ module _ (S : Type 0) (width : IntegerWidth) where
   stored_through_maintains zero r v f = stop_maintains _
   stored_through_maintains (suc n) r v f = store_at_reference_maintains (stored_through n) (stored_through_maintains n) r v f
 
-  store_in_slot_maintains : (slot : Slot) (v : Value) → WithinWidth width v → Maintains (WorldWithin S width) (StoredFits width) (store_in_slot slot v)
+  pub store_in_slot_maintains : (slot : Slot) (v : Value) → WithinWidth width v → Maintains (WorldWithin S width) (StoredFits width) (store_in_slot slot v)
   unfolding store_in_slot
   store_in_slot_maintains slot v f = then_maintains _ _ latest_frame_maintains (λ k u. store_in_frame_maintains _ (stored_through_maintains most_references) k slot v f)
 
-  store_to_maintains : (r : Reference) (v : Value) → WithinWidth width v → Maintains (WorldWithin S width) (StoredFits width) (store_to r v)
+  pub store_to_maintains : (r : Reference) (v : Value) → WithinWidth width v → Maintains (WorldWithin S width) (StoredFits width) (store_to r v)
   unfolding store_in_declared store_in_frame_numbered
   store_to_maintains (reference.Name n) v f = then_maintains _ _ (declaration_maintains n) (λ e g. store_over_maintains _ e.0 v (holding_of_fits width e.1.object g) f)
   store_to_maintains (reference.Slot slot n) v f = then_maintains _ _ (frame_found_maintains n) (λ k u. store_in_frame_maintains _ (stored_through_maintains most_references) k slot v f)

@@ -132,7 +132,7 @@ module _ (S : Type 0) (width : IntegerWidth) where
   pub integer_at_width : (w : State S) (n : ℕ) → WorldWithin w → WithinWidth w.width (value.Integer n) → IntegerFits n
   integer_at_width w n i h = subst (λ (x : IntegerWidth). WithinWidth x (value.Integer n)) i.wide h
 
-  integer_at_own_width : (w : State S) (n : ℕ) → WorldWithin w → IntegerFits n → WithinWidth w.width (value.Integer n)
+  pub integer_at_own_width : (w : State S) (n : ℕ) → WorldWithin w → IntegerFits n → WithinWidth w.width (value.Integer n)
   integer_at_own_width w n i h = subst (λ (x : IntegerWidth). WithinWidth x (value.Integer n)) (sym i.wide) h
 
   pub content_at_own_width : (w : State S) (c : Content) → WorldWithin w → ContentFits width c → ContentFits w.width c
@@ -154,7 +154,7 @@ module _ (S : Type 0) (width : IntegerWidth) where
   read_as_fits n (value.Package o) f = tt
   read_as_fits n (value.Reference r) f = tt
 
-  seen_entry_fits : (m : Map) (r : Outcome Found) (e : Entry) → ((path : List Seg) (x : Entry) → get m path ≡ Some x → NamedFits width x.object) → ((f : Found) → r ≡ Ok f → FoundStands m f) → seen (λ f. f.1) r ≡ Ok e → EntryFits width e
+  pub seen_entry_fits : (m : Map) (r : Outcome Found) (e : Entry) → ((path : List Seg) (x : Entry) → get m path ≡ Some x → NamedFits width x.object) → ((f : Found) → r ≡ Ok f → FoundStands m f) → seen (λ f. f.1) r ≡ Ok e → EntryFits width e
   seen_entry_fits m (Ok f) e h s is = ok_fits (EntryFits width) f.1 e is (h f.0 f.1 (s f refl).there)
   seen_entry_fits m (Err x) e h s is = absurd (cc is)
 
@@ -198,7 +198,7 @@ module _ (S : Type 0) (width : IntegerWidth) where
 
   -- ---- operators
 
-  value_at_width : (w : State S) (v : Value) → WorldWithin w → WithinWidth w.width v → WithinWidth width v
+  pub value_at_width : (w : State S) (v : Value) → WorldWithin w → WithinWidth w.width v → WithinWidth width v
   value_at_width w v i h = subst (λ (x : IntegerWidth). WithinWidth x v) i.wide h
 
   -- an operator that changes no world but by new objects
@@ -241,7 +241,7 @@ module _ (S : Type 0) (width : IntegerWidth) where
   unfolding osi_answered
   osi_answered_maintains arguments = record { maintains = λ w i. settled_maintained _ w i (λ v e. value_at_width w v i (osi_answer_within w.width w.osi _ v e)) }
 
-  made_of_maintains : (c : Content) → ContentFits width c → Maintains WorldWithin (WithinWidth width) (on_objects (made_of c))
+  pub made_of_maintains : (c : Content) → ContentFits width c → Maintains WorldWithin (WithinWidth width) (on_objects (made_of c))
   made_of_maintains (Integer n) h = on_objects_maintains _ (give_maintains _ h)
   made_of_maintains (String bs) h = on_objects_maintains _ (make_string_maintains width bs h)
   made_of_maintains (Buffer bs) h = on_objects_maintains _ (make_buffer_maintains width bs h)

@@ -26,6 +26,8 @@ pub mod CountedOperations
 pub mod CountedRules
 pub mod CountedStoreTargets
 pub mod CountedTerms
+pub mod CountedMatches
+pub mod CountedWideTerms
 pub mod DeclarationNumbers
 pub mod DeclaredNamesStand
 pub mod EndOfCalls
@@ -39,6 +41,8 @@ pub mod FaultsOfOperations
 pub mod FaultsOfRules
 pub mod FaultsOfStoreTargets
 pub mod FaultsOfTerms
+pub mod FaultsOfMatches
+pub mod FaultsOfWideTerms
 pub mod FieldsPreserve
 pub mod FieldsTogether
 pub mod FoundNamesStand
@@ -54,6 +58,8 @@ pub mod IntegersOfRules
 pub mod IntegersOfSizes
 pub mod IntegersOfTables
 pub mod IntegersOfTargets
+pub mod IntegersOfMatches
+pub mod IntegersOfWideTerms
 pub mod IntegersOfWorlds
 pub mod Invariants
 pub mod MeaningTogether
@@ -87,5 +93,10 @@ pub mod StoreTargetsPreserve
 pub mod StoreTargetsTogether
 pub mod Together
 pub mod UnitsTogether
+pub mod MatchesPreserve
+pub mod WideTermsPreserve
+pub mod MatchesTogether
+pub mod WideTermsTogether
 pub mod WorldRelations
 pub mod WorldsTogether
+pub mod Widening

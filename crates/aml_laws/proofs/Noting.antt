@@ -16,7 +16,7 @@ use Rattle.aml_meaning.specs.Invocations.{invoked}
 use Rattle.aml_meaning.specs.Meaning.{meaning}
 use Rattle.aml_meaning.specs.Calling.{loaded, evaluated, answered}
 use Rattle.aml_laws.specs.Noted.{WithNotes, noted, without_notes, outcome_without_notes}
-use Rattle.aml_laws.proofs.Together.{SideBySide, Shape, Goes, spaces}
+use Rattle.aml_laws.proofs.Together.{SideBySide, Shape, Goes, alike, goes_from, spaces}
 use Rattle.aml_laws.proofs.WorldsTogether.{worlds, runs, world_over}
 use Rattle.aml_laws.proofs.UnitsTogether.{read_field_together, write_field_together}
 use Rattle.aml_laws.proofs.OperandsTogether.{invoked_together}
@@ -38,13 +38,13 @@ module _ {S : Type 0} (accesses : Accesses S) where
   }
 
   -- what goes the same way is the same but for the notes
-  pub goes_unnoted : {X Y A : Type 0} (shape : Shape S (WithNotes S) X Y) (without : Y → X) → ((x : X) (t : WithNotes S) → t.0 ≡ shape.left x → without (shape.over x t) ≡ x) → (p : Outcome A × X) (q : Outcome A × Y) → Goes noting shape p q → p ≡ (q.0, without q.1)
+  pub goes_unnoted : {X Y A : Type 0} (shape : Shape S (WithNotes S) X Y) (without : Y → X) → ((x : X) (t : WithNotes S) → t.0 ≡ shape.left x → without (shape.over (λ r. r) x t) ≡ x) → (p : Outcome A × X) (q : Outcome A × Y) → Goes noting shape p q → p ≡ (q.0, without q.1)
   unfolding noting
   goes_unnoted shape without back p q (inl parted) = absurd parted
   goes_unnoted shape without back p q (inr (t, same, i)) = ap (λ x. (p.0, x)) (sym (back p.1 t i)) ∙ sym (ap (λ (y : Outcome _ × _). (y.0, without y.1)) same)
 
-  world_back : (w : State S) (t : WithNotes S) → t.0 ≡ w.space → without_notes (world_over w t) ≡ w
-  world_back w t i = ap (λ s. world_over w s) i
+  world_back : (w : State S) (t : WithNotes S) → t.0 ≡ w.space → without_notes (world_over (λ r. r) w t) ≡ w
+  world_back w t i = ap (λ s. world_over (λ r. r) w s) i
 
   pub world_unnoted : {A : Type 0} (p : Outcome A × State S) (q : Outcome A × State (WithNotes S)) → Goes noting worlds p q → p ≡ (q.0, without_notes q.1)
   world_unnoted p q g = goes_unnoted worlds without_notes world_back p q g
@@ -59,34 +59,34 @@ module _ {S : Type 0} (accesses : Accesses S) where
 
   pub term_unnoted : (t : Task) (s : State (WithNotes S) × ℕ) → meaning accesses t (without_notes s.0, s.1) ≡ outcome_without_notes (meaning (noted accesses) t s)
   unfolding noting
-  term_unnoted t s = run_unnoted _ _ ((meaning_together {side = noting} t).goes (without_notes s.0, s.1) s.0.space refl)
+  term_unnoted t s = run_unnoted _ _ (goes_from noting runs _ _ ((meaning_together {side = alike noting} t).goes (without_notes s.0, s.1) s.0.space refl))
 
   pub list_unnoted : (scope : List Seg) (depth : ℕ) (ts : Trees) (s : State (WithNotes S) × ℕ) → in_turn (meaning accesses) scope depth ts (without_notes s.0, s.1) ≡ outcome_without_notes (in_turn (meaning (noted accesses)) scope depth ts s)
   unfolding noting
-  list_unnoted scope depth ts s = run_unnoted _ _ ((list_together {side = noting} scope depth ts).goes (without_notes s.0, s.1) s.0.space refl)
+  list_unnoted scope depth ts s = run_unnoted _ _ (goes_from noting runs _ _ ((list_together {side = alike noting} scope depth ts).goes (without_notes s.0, s.1) s.0.space refl))
 
   pub call_unnoted : (depth : ℕ) (p : List Seg) (body : List ℕ) (arguments : List Value) (s : State (WithNotes S) × ℕ) → invoked (meaning accesses) depth p body arguments (without_notes s.0, s.1) ≡ outcome_without_notes (invoked (meaning (noted accesses)) depth p body arguments s)
   unfolding noting
-  call_unnoted depth p body arguments s = run_unnoted _ _ ((invoked_together {side = noting} meaning_together depth p body arguments).goes (without_notes s.0, s.1) s.0.space refl)
+  call_unnoted depth p body arguments s = run_unnoted _ _ (goes_from noting runs _ _ ((invoked_together {side = alike noting} meaning_together depth p body arguments).goes (without_notes s.0, s.1) s.0.space refl))
 
   pub table_unnoted : (bytes : List ℕ) (steps : ℕ) (w : State (WithNotes S)) → loaded accesses bytes steps (without_notes w) ≡ ((loaded (noted accesses) bytes steps w).0, without_notes (loaded (noted accesses) bytes steps w).1)
   unfolding noting
-  table_unnoted bytes steps w = world_unnoted _ _ ((loaded_together {side = noting} bytes steps).goes (without_notes w) w.space refl)
+  table_unnoted bytes steps w = world_unnoted _ _ (goes_from noting worlds _ _ ((loaded_together {side = alike noting} bytes steps).goes (without_notes w) w.space refl))
 
   pub value_unnoted : (p : List Seg) (arguments : List Value) (steps : ℕ) (w : State (WithNotes S)) → evaluated accesses p arguments steps (without_notes w) ≡ ((evaluated (noted accesses) p arguments steps w).0, without_notes (evaluated (noted accesses) p arguments steps w).1)
   unfolding noting
-  value_unnoted p arguments steps w = world_unnoted _ _ ((evaluated_together {side = noting} p arguments steps).goes (without_notes w) w.space refl)
+  value_unnoted p arguments steps w = world_unnoted _ _ (goes_from noting worlds _ _ ((evaluated_together {side = alike noting} p arguments steps).goes (without_notes w) w.space refl))
 
   pub answer_unnoted : (p : List Seg) (arguments : List Given) (steps : ℕ) (w : State (WithNotes S)) → answered accesses p arguments steps (without_notes w) ≡ ((answered (noted accesses) p arguments steps w).0, without_notes (answered (noted accesses) p arguments steps w).1)
   unfolding noting
-  answer_unnoted p arguments steps w = world_unnoted _ _ ((answered_together {side = noting} p arguments steps).goes (without_notes w) w.space refl)
+  answer_unnoted p arguments steps w = world_unnoted _ _ (goes_from noting worlds _ _ ((answered_together {side = alike noting} p arguments steps).goes (without_notes w) w.space refl))
 
   -- ---- fields of regions
 
   pub field_read_unnoted : (r : Region) (f : FieldUnit) (s : WithNotes S) → read_field accesses r f s.0 ≡ ((read_field (noted accesses) r f s).0, (read_field (noted accesses) r f s).1.0)
   unfolding noting
-  field_read_unnoted r f s = space_unnoted _ _ ((read_field_together {side = noting} r f).goes s.0 s refl)
+  field_read_unnoted r f s = space_unnoted _ _ (goes_from noting spaces _ _ ((read_field_together {side = alike noting} r f).goes s.0 s refl))
 
   pub field_written_unnoted : (r : Region) (f : FieldUnit) (source : List ℕ) (s : WithNotes S) → write_field accesses r f source s.0 ≡ ((write_field (noted accesses) r f source s).0, (write_field (noted accesses) r f source s).1.0)
   unfolding noting
-  field_written_unnoted r f source s = space_unnoted _ _ ((write_field_together {side = noting} r f source).goes s.0 s refl)
+  field_written_unnoted r f source s = space_unnoted _ _ (goes_from noting spaces _ _ ((write_field_together {side = alike noting} r f source).goes s.0 s refl))

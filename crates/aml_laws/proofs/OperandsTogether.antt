@@ -20,13 +20,13 @@ use Rattle.aml_meaning.specs.Run.{Run}
 use Rattle.aml_meaning.specs.Tasks.{Task, operand_value, value_at, two_values, operand_integer, goes_on, in_turn}
 use Rattle.aml_meaning.specs.Invocations.{invoked, method_value}
 use Rattle.aml_meaning.specs.FieldCalls.{called_at, asked, method_integer, answer_over, answer_within, field_read, held_value, held_integer, referent_read, completed, stored_to, is_element, back_to, stored_back}
-use Rattle.aml_laws.proofs.Together.{SideBySide, Together, give_together, settle_together, stop_together, then_together}
+use Rattle.aml_laws.proofs.Together.{Sides, Together, give_together, settle_together, stop_together, then_together}
 use Rattle.aml_laws.proofs.WorldsTogether.{leaving_together, lift_together, opened_together, runs}
 use Rattle.aml_laws.proofs.ChangesTogether.{body_terms_together, integer_in_together, invocation_found_together}
 use Rattle.aml_laws.proofs.StoreTargetsTogether.{stored_together}
 use Rattle.aml_laws.proofs.FieldsTogether.{field_integer_together, field_part_together, field_referent_together, field_stored_together, field_value_together}
 
-module _ {S T : Type 0} {accesses : Accesses S} {accesses2 : Accesses T} {side : SideBySide accesses accesses2} {ev : Task → Run S Flow} {ev2 : Task → Run T Flow} (parts : (t : Task) → Together side runs (ev t) (ev2 t)) where
+module _ {S T : Type 0} {accesses : Accesses S} {accesses2 : Accesses T} {side : Sides accesses accesses2} {ev : Task → Run S Flow} {ev2 : Task → Run T Flow} (parts : (t : Task) → Together side runs (ev t) (ev2 t)) where
   pub operand_value_together : (scope : List Seg) (depth : ℕ) (t : Tree) → Together side runs (operand_value ev scope depth t) (operand_value ev2 scope depth t)
   unfolding operand_value
   operand_value_together scope depth t = then_together (parts _) (λ f. settle_together _)

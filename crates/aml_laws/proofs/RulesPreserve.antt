@@ -54,6 +54,7 @@ use Rattle.aml_laws.proofs.WorldRelations.{WorldRelation, RunPreserves, RunPrese
 use Rattle.aml_laws.proofs.ChangesPreserve.{integer_kept_preserves, integer_in_preserves, path_found_preserves, scope_found_preserves, target_named_preserves, within_preserves, new_buffer_preserves, new_package_preserves, new_name_preserves, new_method_preserves, divided_in_preserves, turned_preserves, size_in_preserves, result_of_two_preserves, result_of_one_preserves, result_of_test_preserves, counted_by_preserves, osi_answered_preserves, invocation_found_finds_invocation}
 use Rattle.aml_laws.proofs.StoreTargetsPreserve.{slot_read_preserves, tested_preserves, dereferenced_preserves, target_read_preserves, reference_of_preserves, if_initialized_preserves, reference_if_found_preserves, target_referent_preserves, value_referent_preserves, copied_to_preserves, acquired_at_preserves, given_back_at_preserves}
 use Rattle.aml_laws.proofs.OperandsAndCallsPreserve.{operand_value_preserves, operand_integer_preserves, value_at_preserves, two_values_preserves, in_turn_preserves, invoked_preserves_from, field_read_preserves, held_integer_preserves, referent_read_preserves, completed_preserves, stored_to_preserves, held_value_preserves, stored_back_preserves}
+use Rattle.aml_laws.proofs.WideTermsPreserve.{connections_asked_preserves, in_wide_preserves}
 
 module _ {S : Type 0} {accesses : Accesses S} {relation : WorldRelation accesses} (ev : Task → Run S Flow) (parts : (t : Task) → RunPreserves relation (ev t)) where
   constant_rule_preserves : (k : ℕ) → RunPreserves relation (constant_rule ev k)
@@ -446,9 +447,9 @@ module _ {S : Type 0} {accesses : Accesses S} {relation : WorldRelation accesses
   unfolding field_list_rule index_list_rule fields_laid sized_field_rule bits_field_rule
   region_term_rule_preserves regions.OperationRegion scope depth t = region_rule_preserves scope depth t
   region_term_rule_preserves regions.Field scope depth t =
-      run_then_preserves _ _ (run_settle_preserves _) (λ ts. run_then_preserves _ _ (run_settle_preserves _) (λ plain. run_then_preserves _ _ (run_settle_preserves _) (λ x. run_then_preserves _ _ (lift_preserves _ (region_found_preserves scope x)) (λ region. run_then_preserves _ _ (run_settle_preserves _) (λ flags. run_then_preserves _ _ (lift_preserves _ (elements_laid_preserves _ scope depth _ ts)) (λ laid. run_give_preserves _))))))
+      run_then_preserves _ _ (run_settle_preserves _) (λ ts. run_then_preserves _ _ (lift_preserves _ (connections_asked_preserves _ ts)) (λ asked. run_then_preserves _ _ (run_settle_preserves _) (λ x. run_then_preserves _ _ (lift_preserves _ (region_found_preserves scope x)) (λ region. run_then_preserves _ _ (run_settle_preserves _) (λ flags. run_then_preserves _ _ (lift_preserves _ (elements_laid_preserves _ scope depth _ ts)) (λ laid. run_give_preserves _))))))
   region_term_rule_preserves regions.IndexField scope depth t =
-      run_then_preserves _ _ (run_settle_preserves _) (λ ts. run_then_preserves _ _ (run_settle_preserves _) (λ plain. run_then_preserves _ _ (run_settle_preserves _) (λ x. run_then_preserves _ _ (lift_preserves _ (field_found_preserves scope x)) (λ index. run_then_preserves _ _ (run_settle_preserves _) (λ y. run_then_preserves _ _ (lift_preserves _ (field_found_preserves scope y)) (λ behind. run_then_preserves _ _ (run_settle_preserves _) (λ flags. run_then_preserves _ _ (lift_preserves _ (elements_laid_preserves _ scope depth _ ts)) (λ laid. run_give_preserves _))))))))
+      run_then_preserves _ _ (run_settle_preserves _) (λ ts. run_then_preserves _ _ (lift_preserves _ (connections_asked_preserves _ ts)) (λ asked. run_then_preserves _ _ (run_settle_preserves _) (λ x. run_then_preserves _ _ (lift_preserves _ (field_found_preserves scope x)) (λ index. run_then_preserves _ _ (run_settle_preserves _) (λ y. run_then_preserves _ _ (lift_preserves _ (field_found_preserves scope y)) (λ behind. run_then_preserves _ _ (run_settle_preserves _) (λ flags. run_then_preserves _ _ (lift_preserves _ (elements_laid_preserves _ scope depth _ ts)) (λ laid. run_give_preserves _))))))))
   region_term_rule_preserves (regions.SizedBufferField size) scope depth t =
       run_then_preserves _ _ (two_values_preserves ev parts scope depth t) (λ x. run_then_preserves _ _ (run_settle_preserves _) (λ o. run_then_preserves _ _ (lift_preserves _ (integer_in_preserves _)) (λ i. run_then_preserves _ _ (lift_preserves _ (on_objects_preserves _ (new_buffer_field_keeps_kinds o _ _))) (λ b. declaring_preserves scope depth t _ _))))
   region_term_rule_preserves regions.BufferField scope depth t =
@@ -463,6 +464,7 @@ module _ {S : Type 0} {accesses : Accesses S} {relation : WorldRelation accesses
   kind_rule_preserves (kinds.Region k) op scope depth t = region_term_rule_preserves k scope depth t
   kind_rule_preserves (kinds.Operator k) op scope depth t = operator_rule_preserves k scope depth t
   kind_rule_preserves (kinds.Statement k) op scope depth t = statement_rule_preserves k scope depth t
+  kind_rule_preserves (kinds.Wide k) op scope depth t = in_wide_preserves ev parts target_at_preserves targeted_preserves op k scope depth t
   kind_rule_preserves kinds.Unsupported op scope depth t = run_stop_preserves _
 
   code_rule_preserves : (c : TermCode) (scope : List Seg) (depth : ℕ) (t : Tree) → RunPreserves relation (code_rule accesses ev c scope depth t)

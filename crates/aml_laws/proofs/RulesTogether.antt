@@ -45,14 +45,15 @@ use Rattle.aml_meaning.specs.StatementTerms.{otherwise, branch, if_rule, else_ru
 use Rattle.aml_meaning.specs.InvocationTerms.{arguments_in_turn, call_rule, osi_rule, field_rule, invocation_rule, name_value}
 use Rattle.aml_meaning.specs.FieldTerms.{fields_laid, region_rule, field_list_rule, index_list_rule, sized_field_rule, bits_field_rule, region_term_rule}
 use Rattle.aml_meaning.specs.Evaluation.{kind_rule, code_rule, rule}
-use Rattle.aml_laws.proofs.Together.{SideBySide, Together, give_together, settle_together, stop_together, then_together}
+use Rattle.aml_laws.proofs.Together.{Sides, Together, give_together, settle_together, stop_together, then_together}
 use Rattle.aml_laws.proofs.WorldsTogether.{charge_together, lift_together, objects_together, runs}
 use Rattle.aml_laws.proofs.ChangesTogether.{counted_by_together, divided_in_together, integer_in_together, integer_kept_together, new_buffer_together, new_method_together, new_name_together, new_package_together, osi_answered_together, path_found_together, result_of_one_together, result_of_test_together, result_of_two_together, scope_found_together, size_in_together, target_named_together, turned_together, within_together, invocation_found_together}
 use Rattle.aml_laws.proofs.StoreTargetsTogether.{acquired_at_together, copied_to_together, dereferenced_together, given_back_at_together, if_initialized_together, reference_if_found_together, reference_of_together, slot_read_together, target_read_together, target_referent_together, tested_together, value_referent_together}
 use Rattle.aml_laws.proofs.FieldsTogether.{elements_laid_together, field_found_together, region_found_together}
 use Rattle.aml_laws.proofs.OperandsTogether.{completed_together, field_read_together, held_integer_together, held_value_together, in_turn_together, invoked_together, operand_integer_together, operand_value_together, referent_read_together, stored_back_together, stored_to_together, two_values_together, value_at_together}
+use Rattle.aml_laws.proofs.WideTermsTogether.{connections_asked_together, in_wide_together}
 
-module _ {S T : Type 0} {accesses : Accesses S} {accesses2 : Accesses T} {side : SideBySide accesses accesses2} {ev : Task → Run S Flow} {ev2 : Task → Run T Flow} (parts : (t : Task) → Together side runs (ev t) (ev2 t)) where
+module _ {S T : Type 0} {accesses : Accesses S} {accesses2 : Accesses T} {side : Sides accesses accesses2} {ev : Task → Run S Flow} {ev2 : Task → Run T Flow} (parts : (t : Task) → Together side runs (ev t) (ev2 t)) where
   constant_rule_together : (k : ℕ) → Together side runs (constant_rule ev k) (constant_rule ev2 k)
   unfolding constant_rule
   constant_rule_together k = then_together (lift_together (integer_kept_together k)) (λ v. give_together _)
@@ -447,9 +448,9 @@ module _ {S T : Type 0} {accesses : Accesses S} {accesses2 : Accesses T} {side :
   unfolding field_list_rule index_list_rule fields_laid sized_field_rule bits_field_rule
   region_term_rule_together regions.OperationRegion scope depth t = region_rule_together scope depth t
   region_term_rule_together regions.Field scope depth t =
-      then_together (settle_together _) (λ ts. then_together (settle_together _) (λ plain. then_together (settle_together _) (λ x. then_together (lift_together (region_found_together scope x)) (λ region. then_together (settle_together _) (λ flags. then_together (lift_together (elements_laid_together _ scope depth _ ts)) (λ laid. give_together _))))))
+      then_together (settle_together _) (λ ts. then_together (lift_together (connections_asked_together _ ts)) (λ asked. then_together (settle_together _) (λ x. then_together (lift_together (region_found_together scope x)) (λ region. then_together (settle_together _) (λ flags. then_together (lift_together (elements_laid_together _ scope depth _ ts)) (λ laid. give_together _))))))
   region_term_rule_together regions.IndexField scope depth t =
-      then_together (settle_together _) (λ ts. then_together (settle_together _) (λ plain. then_together (settle_together _) (λ x. then_together (lift_together (field_found_together scope x)) (λ index. then_together (settle_together _) (λ y. then_together (lift_together (field_found_together scope y)) (λ behind. then_together (settle_together _) (λ flags. then_together (lift_together (elements_laid_together _ scope depth _ ts)) (λ laid. give_together _))))))))
+      then_together (settle_together _) (λ ts. then_together (lift_together (connections_asked_together _ ts)) (λ asked. then_together (settle_together _) (λ x. then_together (lift_together (field_found_together scope x)) (λ index. then_together (settle_together _) (λ y. then_together (lift_together (field_found_together scope y)) (λ behind. then_together (settle_together _) (λ flags. then_together (lift_together (elements_laid_together _ scope depth _ ts)) (λ laid. give_together _))))))))
   region_term_rule_together (regions.SizedBufferField size) scope depth t =
       then_together (two_values_together parts scope depth t) (λ x. then_together (settle_together _) (λ o. then_together (lift_together (integer_in_together _)) (λ i. then_together (lift_together (objects_together _)) (λ b. declaring_together scope depth t _ _))))
   region_term_rule_together regions.BufferField scope depth t =
@@ -464,6 +465,7 @@ module _ {S T : Type 0} {accesses : Accesses S} {accesses2 : Accesses T} {side :
   kind_rule_together (kinds.Region k) op scope depth t = region_term_rule_together k scope depth t
   kind_rule_together (kinds.Operator k) op scope depth t = operator_rule_together k scope depth t
   kind_rule_together (kinds.Statement k) op scope depth t = statement_rule_together k scope depth t
+  kind_rule_together (kinds.Wide k) op scope depth t = in_wide_together parts target_at_together targeted_together op k scope depth t
   kind_rule_together kinds.Unsupported op scope depth t = stop_together _
 
   code_rule_together : (c : TermCode) (scope : List Seg) (depth : ℕ) (t : Tree) → Together side runs (code_rule accesses ev c scope depth t) (code_rule accesses2 ev2 c scope depth t)

@@ -341,7 +341,7 @@ module _ {S : Type 0} {accesses : Accesses S} {relation : WorldRelation accesses
   unfolding store_in_name
   store_in_name_preserves q v = then_preserves _ _ (held_at_preserves q) (λ h. store_over_preserves h q v)
 
-  store_to_preserves : (r : Reference) (v : Value) → Preserves relation (store_to r v)
+  pub store_to_preserves : (r : Reference) (v : Value) → Preserves relation (store_to r v)
   unfolding store_in_declared
   store_to_preserves (reference.Name n) v = then_preserves _ _ (declaration_preserves n) (λ e. store_over_preserves _ e.0 v)
   store_to_preserves (reference.Slot slot n) v = store_in_frame_numbered_preserves _ (stored_through_preserves _) n slot v

@@ -15,9 +15,9 @@ use Rattle.aml_fields.specs.declared.field_units.Unit.{Unit as Access}
 use Rattle.aml_fields.specs.Units.{units_of}
 use Rattle.aml_fields.specs.UnitByUnit.{read_units, bits_read, write_units, kept_by, kept}
 use Rattle.aml_fields.specs.Regions.{faulted, read_access, read_unit, read_field, write_access, write_unit, write_field}
-use Rattle.aml_laws.proofs.Together.{SideBySide, Shape, spaces, Together, Goes, plain, give_together, settle_together, then_together, either_together}
+use Rattle.aml_laws.proofs.Together.{Sides, Shape, spaces, Together, Comes, plain, give_together, settle_together, then_together, either_together}
 
-module _ {S T X Y : Type 0} {accesses : Accesses S} {accesses2 : Accesses T} {side : SideBySide accesses accesses2} {shape : Shape S T X Y} where
+module _ {S T X Y : Type 0} {accesses : Accesses S} {accesses2 : Accesses T} {side : Sides accesses accesses2} {shape : Shape S T X Y} where
   read_units_together : {read : Access → Change X ℕ} {read2 : Access → Change Y ℕ} → ((u : Access) → Together side shape (read u) (read2 u)) → (us : List Access) → Together side shape (read_units read us) (read_units read2 us)
   unfolding read_units
   read_units_together each [] = give_together _
@@ -43,25 +43,25 @@ module _ {S T X Y : Type 0} {accesses : Accesses S} {accesses2 : Accesses T} {si
 
 -- ---- accesses
 
-answered_goes : {S T A : Type 0} {accesses : Accesses S} {accesses2 : Accesses T} (side : SideBySide accesses accesses2) (p : Result A SpaceFault × S) (q : Result A SpaceFault × T) → side.Parted p.1 q.1 ⊎ ((q.0 ≡ p.0) × side.InStep p.1 q.1) → Goes side spaces (faulted p.0, p.1) (faulted q.0, q.1)
+answered_goes : {S T A : Type 0} {accesses : Accesses S} {accesses2 : Accesses T} (side : Sides accesses accesses2) (p : Result A SpaceFault × S) (q : Result A SpaceFault × T) → side.beside.Parted p.1 q.1 ⊎ ((q.0 ≡ p.0) × side.beside.InStep p.1 q.1) → Comes side spaces (faulted p.0, p.1) (faulted q.0, q.1)
 answered_goes side p q (inl parted) = inl parted
-answered_goes side p q (inr (same, i)) = inr (q.1, ap (λ r. (faulted r, q.1)) same, i)
+answered_goes side p q (inr (same, i)) = inr (inr (q.1, ap (λ r. (faulted r, q.1)) same, i))
 
-module _ {S T : Type 0} {accesses : Accesses S} {accesses2 : Accesses T} {side : SideBySide accesses accesses2} where
+module _ {S T : Type 0} {accesses : Accesses S} {accesses2 : Accesses T} {side : Sides accesses accesses2} where
   read_access_together : (p : Place) (width : Width) → Together side spaces (read_access accesses p width) (read_access accesses2 p width)
   unfolding read_access
   read_access_together p width = record {
-    left_parted = λ s t h. side.left_reads s t p width h;
-    right_parted = λ s t h. side.right_reads s t p width h;
-    goes = λ s t i. answered_goes side (accesses.reads s p width) (accesses2.reads t p width) (side.reads s t p width i);
+    left_parted = λ s t h. side.beside.left_reads s t p width h;
+    right_parted = λ s t h. side.beside.right_reads s t p width h;
+    goes = λ s t i. answered_goes side (accesses.reads s p width) (accesses2.reads t p width) (side.beside.reads s t p width i);
   }
 
   write_access_together : (p : Place) (width : Width) (value : ℕ) → Together side spaces (write_access accesses p width value) (write_access accesses2 p width value)
   unfolding write_access
   write_access_together p width value = record {
-    left_parted = λ s t h. side.left_writes s t p width value h;
-    right_parted = λ s t h. side.right_writes s t p width value h;
-    goes = λ s t i. answered_goes side (accesses.writes s p width value) (accesses2.writes t p width value) (side.writes s t p width value i);
+    left_parted = λ s t h. side.beside.left_writes s t p width value h;
+    right_parted = λ s t h. side.beside.right_writes s t p width value h;
+    goes = λ s t i. answered_goes side (accesses.writes s p width value) (accesses2.writes t p width value) (side.beside.writes s t p width value i);
   }
 
   read_unit_together : (r : Region) (width : Width) (u : Access) → Together side spaces (read_unit accesses r width u) (read_unit accesses2 r width u)

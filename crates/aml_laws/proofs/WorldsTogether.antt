@@ -1,5 +1,6 @@
 -- Changes of worlds, of worlds with the steps that are left, and of register spaces themselves.
-use Rattle.std.specs.Prelude.{ℕ, ◌-◌, ◌==◌, ◌^◌, List, refl}
+use Rattle.std.specs.Prelude.{ℕ, ◌-◌, ◌==◌, ◌^◌, List, Ok, Err, refl}
+use Rattle.ar_space.specs.declared.refusal.Refusal.{Refusal}
 use Rattle.ar_space.specs.Accesses.{Accesses}
 use Rattle.ar_space.specs.Outcome.{Outcome}
 use Rattle.ar_space.specs.Change.{Change}
@@ -8,6 +9,7 @@ use Rattle.aml_objects.specs.declared.value.Value.{Value}
 use Rattle.aml_objects.specs.Objects.{Objects}
 use Rattle.aml_namespace.specs.Namespace.{Namespace}
 use Rattle.aml_meaning.specs.declared.flow.Flow.{Flow}
+use Rattle.aml_meaning.specs.declared.profile.Profile.{Profile}
 use Rattle.aml_meaning.specs.State.{State, on_objects, on_names, on_space}
 use Rattle.aml_meaning.specs.Run.{Run, lift, charge}
 use Rattle.aml_meaning.specs.Slots.{opened, closed}
@@ -15,25 +17,31 @@ use Rattle.aml_meaning.specs.Invocations.{leaving, left, returned_by}
 use Rattle.aml_meaning.specs.Calling.{released, ending, with_steps, framed, in_frame, with_rest, counted}
 use Rattle.ar_space.specs.Outcome.{seen}
 use Rattle.std.proofs.Common.{inl, inr, ap}
-use Rattle.aml_laws.proofs.Together.{SideBySide, Shape, Together, Goes, spaces, plain, then_together, choice_together, wrapped_together}
+use Rattle.aml_laws.proofs.Together.{Sides, Shape, Together, Comes, IsEnded, spaces, plain, then_together, choice_together, wrapped_together}
 
--- a world over another space
-abbrev pub world_over : {S T : Type 0} → State S → T → State T
-world_over w t = record { names = w.names; arities = w.arities; objects = w.objects; frames = w.frames; started = w.started; space = t; osi = w.osi; width = w.width; profile = w.profile }
+-- a world over another space, in another profile
+abbrev pub world_over : {S T : Type 0} → (Profile → Profile) → State S → T → State T
+world_over raise w t = record { names = w.names; arities = w.arities; objects = w.objects; frames = w.frames; started = w.started; space = t; osi = w.osi; width = w.width; profile = raise w.profile }
 
 abbrev pub worlds : {S T : Type 0} → Shape S T (State S) (State T)
 worlds = record { left = λ w. w.space; right = λ w. w.space; over = world_over }
 
 abbrev pub runs : {S T : Type 0} → Shape S T (State S × ℕ) (State T × ℕ)
-runs = record { left = λ s. s.0.space; right = λ s. s.0.space; over = λ s t. (world_over s.0 t, s.1) }
+runs = record { left = λ s. s.0.space; right = λ s. s.0.space; over = λ raise s t. (world_over raise s.0 t, s.1) }
 
 -- what two changes of the spaces came to, in worlds that are the same else
-space_goes : {S T A : Type 0} {accesses : Accesses S} {accesses2 : Accesses T} (side : SideBySide accesses accesses2) (w : State S) (p : Outcome A × S) (q : Outcome A × T) → Goes side spaces p q
-    → Goes side worlds (p.0, record w { space = p.1 }) (q.0, world_over w q.1)
+space_goes : {S T A : Type 0} {accesses : Accesses S} {accesses2 : Accesses T} (side : Sides accesses accesses2) (w : State S) (p : Outcome A × S) (q : Outcome A × T) → Comes side spaces p q
+    → Comes side worlds (p.0, record w { space = p.1 }) (q.0, world_over side.raise w q.1)
 space_goes side w p q (inl parted) = inl parted
-space_goes {T = T} side w p q (inr (t, same, i)) = inr (t, ap (λ (x : Outcome _ × T). (x.0, world_over w x.1)) same, i)
+space_goes side w p q (inr (inl ended)) = inr (inl ended)
+space_goes {T = T} side w p q (inr (inr (t, same, i))) = inr (inr (t, ap (λ (x : Outcome _ × T). (x.0, world_over side.raise w x.1)) same, i))
 
-module _ {S T A : Type 0} {accesses : Accesses S} {accesses2 : Accesses T} {side : SideBySide accesses accesses2} where
+-- what is made of a value ends no likeness
+seen_ended : {A B : Type 0} (Ends : Refusal → Type 0) (view : A → B) (r : Outcome A) → IsEnded Ends r → IsEnded Ends (seen view r)
+seen_ended Ends view (Ok a) h = absurd h
+seen_ended Ends view (Err e) h = h
+
+module _ {S T A : Type 0} {accesses : Accesses S} {accesses2 : Accesses T} {side : Sides accesses accesses2} where
   pub objects_together : (m : Change Objects A) → Together side worlds (on_objects m) (on_objects m)
   unfolding on_objects
   objects_together m = plain (λ w. refl) (λ w. refl) (λ w t. refl)
@@ -53,33 +61,33 @@ module _ {S T A : Type 0} {accesses : Accesses S} {accesses2 : Accesses T} {side
   pub lift_together : {m : Change (State S) A} {n : Change (State T) A} → Together side worlds m n → Together side runs (lift m) (lift n)
   unfolding lift
   lift_together h = wrapped_together (λ s. s.0) (λ s. s.0) (λ s p. (p.0, (p.1, s.1))) (λ s p. (p.0, (p.1, s.1)))
-      (λ s. refl) (λ s. refl) (λ s t. refl) (λ s p. refl) (λ s q. refl) (λ s u r w t. refl) h
+      (λ s. refl) (λ s. refl) (λ s t. refl) (λ s p. refl) (λ s q. refl) (λ s u r w t. refl) (λ s p e. e) h
 
   pub with_steps_together : (steps : ℕ) {m : Run S A} {n : Run T A} → Together side runs m n → Together side worlds (with_steps steps m) (with_steps steps n)
   unfolding with_steps
   with_steps_together steps h = wrapped_together (λ w. (w, steps)) (λ w. (w, steps)) (λ w p. (p.0, p.1.0)) (λ w p. (p.0, p.1.0))
-      (λ w. refl) (λ w. refl) (λ w t. refl) (λ w p. refl) (λ w q. refl) (λ w u r s t. refl) h
+      (λ w. refl) (λ w. refl) (λ w t. refl) (λ w p. refl) (λ w q. refl) (λ w u r s t. refl) (λ s p e. e) h
 
   pub ending_together : {m : Change (State S) A} {n : Change (State T) A} → Together side worlds m n → Together side worlds (ending m) (ending n)
   unfolding ending
   ending_together h = wrapped_together (λ w. w) (λ w. w) (λ w p. (p.0, released p.1)) (λ w p. (p.0, released p.1))
-      (λ w. refl) (λ w. refl) (λ w t. refl) (λ w p. refl) (λ w q. refl) (λ w u r s t. refl) h
+      (λ w. refl) (λ w. refl) (λ w t. refl) (λ w p. refl) (λ w q. refl) (λ w u r s t. refl) (λ s p e. e) h
 
   framed_together : {m : Change (State S) A} {n : Change (State T) A} → Together side worlds m n → Together side worlds (framed m) (framed n)
   unfolding framed
   framed_together h = wrapped_together (λ w. w) (λ w. w) (λ w p. (p.0, closed p.1)) (λ w p. (p.0, closed p.1))
-      (λ w. refl) (λ w. refl) (λ w t. refl) (λ w p. refl) (λ w q. refl) (λ w u r s t. refl) h
+      (λ w. refl) (λ w. refl) (λ w t. refl) (λ w p. refl) (λ w q. refl) (λ w u r s t. refl) (λ s p e. e) h
 
-module _ {S T : Type 0} {accesses : Accesses S} {accesses2 : Accesses T} {side : SideBySide accesses accesses2} where
+module _ {S T : Type 0} {accesses : Accesses S} {accesses2 : Accesses T} {side : Sides accesses accesses2} where
   pub counted_together : (steps : ℕ) {m : Run S Value} {n : Run T Value} → Together side runs m n → Together side worlds (counted steps m) (counted steps n)
   unfolding counted
   counted_together steps h = wrapped_together (λ w. (w, steps)) (λ w. (w, steps)) (λ w p. (with_rest p.0 p.1.1, p.1.0)) (λ w p. (with_rest p.0 p.1.1, p.1.0))
-      (λ w. refl) (λ w. refl) (λ w t. refl) (λ w p. refl) (λ w q. refl) (λ w u r s t. refl) h
+      (λ w. refl) (λ w. refl) (λ w t. refl) (λ w p. refl) (λ w q. refl) (λ w u r s t. refl) (λ s p e. seen_ended _ _ p.0 e) h
 
   pub leaving_together : (q : List Seg) {m : Run S Flow} {n : Run T Flow} → Together side runs m n → Together side runs (leaving q m) (leaving q n)
   unfolding leaving
   leaving_together q h = wrapped_together (λ s. s) (λ s. s) (λ s p. (seen returned_by p.0, (left q p.1.0, p.1.1))) (λ s p. (seen returned_by p.0, (left q p.1.0, p.1.1)))
-      (λ s. refl) (λ s. refl) (λ s t. refl) (λ s p. refl) (λ s q. refl) (λ s u r w t. refl) h
+      (λ s. refl) (λ s. refl) (λ s t. refl) (λ s p. refl) (λ s q. refl) (λ s u r w t. refl) (λ s p e. seen_ended _ _ p.0 e) h
 
   pub charge_together : Together side runs charge charge
   unfolding charge

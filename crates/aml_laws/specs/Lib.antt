@@ -15,4 +15,5 @@ pub mod Parts
 pub mod Plain
 pub mod Reached
 pub mod SpaceFaults
+pub mod Widened
 pub mod Within

@@ -7,10 +7,13 @@ ghost use Rattle.aml_objects.specs.declared.entry.NamedObject.{NamedObject};
 ghost use Rattle.aml_meaning.specs.State.{State};
 ghost use Rattle.aml_meaning.specs.Declaring.{new_name, new_method};
 
-/// A name that can't be declared, where another stands, for want of a parent, or in a control method, leaves the world as it is:
-/// it has neither the name, nor the body of the control method that it was to be.
+/// A name that can't be declared, where another stands, for want of a parent, or in a control method, leaves the
+/// world as it is: it has neither the name, nor the body of the control method that it was to be.
 #[tactic(auto, using(crate::proofs::RefusedDeclarations::refused_name_changes_nothing, crate::proofs::RefusedDeclarations::refused_method_changes_nothing))]
 pub fn refused_names_change_nothing<S>()
-    ensures names { (module_level : Bool) (path : List Seg) (object : NamedObject) (w : State S) (e : Refusal) → (new_name module_level path object w).0 ≡ Err e → (new_name module_level path object w).1 ≡ w }
-    ensures methods { (module_level : Bool) (path : List Seg) (flags : MethodFlags) (body : List ℕ) (w : State S) (e : Refusal) → (new_method module_level path flags body w).0 ≡ Err e → (new_method module_level path flags body w).1 ≡ w }
+    ensures names { (module_level : Bool) (path : List Seg) (object : NamedObject) (w : State S) (e : Refusal) →
+        (new_name module_level path object w).0 ≡ Err e → (new_name module_level path object w).1 ≡ w }
+    ensures methods { (module_level : Bool) (path : List Seg) (flags : MethodFlags) (body : List ℕ) (w : State S)
+        (e : Refusal) → (new_method module_level path flags body w).0 ≡ Err e →
+        (new_method module_level path flags body w).1 ≡ w }
 {}

@@ -9,19 +9,26 @@ ghost use Rattle.aml_meaning.specs.Predefined.{fresh, predefined};
 ghost use Rattle.aml_laws.specs.Becomes.{Becomes};
 ghost use Rattle.aml_laws.specs.Numbers.{numbers_of, RiseTo};
 
-/// Each frame that is opened is closed, however the evaluation ends: the same frames stand after it as before, in their order.
+/// Each frame that is opened is closed, however the evaluation ends: the same frames stand after it as before, in
+/// their order.
 #[tactic(auto, using(crate::proofs::FrameNumbers::frames_are_balanced))]
 pub fn frames_are_balanced<S>()
-    ensures balanced { (accesses : Accesses S) (w v : State S) → Becomes accesses w v → numbers_of v.frames ≡ numbers_of w.frames }
+    ensures balanced { (accesses : Accesses S) (w v : State S) → Becomes accesses w v →
+        numbers_of v.frames ≡ numbers_of w.frames }
 {}
 
-/// No frame's number is ever given again. Those that stand have rising numbers, all below the next frame's, after whatever is
-/// evaluated from the predefined names on; and a frame that is opened stands behind them, under the next number.
+/// No frame's number is ever given again. Those that stand have rising numbers, all below the next frame's, after
+/// whatever is evaluated from the predefined names on; and a frame that is opened stands behind them, under the next
+/// number.
 #[tactic(auto, using(crate::proofs::FrameNumbers::frames_rise, crate::proofs::FrameNumbers::frames_rise_always, crate::proofs::FrameNumbers::frames_rise_opened, crate::proofs::FrameNumbers::frame_is_new))]
 pub fn frame_numbers_are_given_once<S>()
-    ensures kept { (accesses : Accesses S) (w v : State S) → Becomes accesses w v → RiseTo w.started (numbers_of w.frames) → RiseTo v.started (numbers_of v.frames) }
-    ensures always { (accesses : Accesses S) (width : IntegerWidth) (osi : List (List ℕ)) (space : S) (w : State S) → Becomes accesses (predefined (fresh width osi space)).1 w → RiseTo w.started (numbers_of w.frames) }
-    ensures opened { (arguments : List Value) (w : State S) (number : ℕ) → RiseTo w.started (numbers_of w.frames) → (opened arguments w).0 ≡ Ok number →
+    ensures kept { (accesses : Accesses S) (w v : State S) → Becomes accesses w v →
+        RiseTo w.started (numbers_of w.frames) → RiseTo v.started (numbers_of v.frames) }
+    ensures always { (accesses : Accesses S) (width : IntegerWidth) (osi : List (List ℕ)) (space : S) (w : State S) →
+        Becomes accesses (predefined (fresh width osi space)).1 w → RiseTo w.started (numbers_of w.frames) }
+    ensures opened { (arguments : List Value) (w : State S) (number : ℕ) → RiseTo w.started (numbers_of w.frames) →
+        (opened arguments w).0 ≡ Ok number →
         RiseTo (opened arguments w).1.started (numbers_of (opened arguments w).1.frames) }
-    ensures behind { (arguments : List Value) (w : State S) (number : ℕ) → (opened arguments w).0 ≡ Ok number → numbers_of (opened arguments w).1.frames ≡ numbers_of w.frames ++ number ∷ [] }
+    ensures behind { (arguments : List Value) (w : State S) (number : ℕ) → (opened arguments w).0 ≡ Ok number →
+        numbers_of (opened arguments w).1.frames ≡ numbers_of w.frames ++ number ∷ [] }
 {}

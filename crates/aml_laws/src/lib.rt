@@ -25,7 +25,7 @@ pub use names::{declared_names_stand, names_stay, outside_of_control_methods};
 pub use notes::{noting_changes_nothing, space_faults_are_answers_of_the_last_access};
 pub use numbers::{numbers_are_given_once, numbers_never_fall, what_is_gone_stays_gone};
 pub use objects::objects_keep_number_and_kind;
-pub use profiles::evaluation_keeps_the_profile;
+pub use profiles::{evaluation_keeps_the_profile, the_wide_profile_answers_what_the_core_one_does};
 pub use reading::terms_of_bytes_hold_bytes;
 pub use references::{
     a_reference_refers_to_its_target, a_reference_to_a_name_finds_its_declaration,

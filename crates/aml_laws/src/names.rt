@@ -13,31 +13,39 @@ ghost use Rattle.aml_laws.specs.Becomes.{Becomes};
 ghost use Rattle.aml_laws.specs.Outside.{Outside, Stands, is_open, number_at};
 ghost use Rattle.aml_laws.specs.Declares.{Declares, IsItem};
 
-/// A path is outside of control methods where at each path above it stands a name, and that of no control method. So the root
-/// is, and each path one level below a name that is outside of control methods and is none itself.
+/// A path is outside of control methods where at each path above it stands a name, and that of no control method. So
+/// the root is, and each path one level below a name that is outside of control methods and is none itself.
 #[tactic(auto, using(crate::proofs::OutsideOfMethods::outside_root, crate::proofs::OutsideOfMethods::outside_below))]
 pub fn outside_of_control_methods<S>()
     ensures root { (w : State S) → Outside w [] }
-    ensures below { (w : State S) (path : List Seg) (segment : Seg) → Outside w path → is_open (get w.names.map path) ≡ true → Outside w (path ++ segment ∷ []) }
+    ensures below { (w : State S) (path : List Seg) (segment : Seg) → Outside w path →
+        is_open (get w.names.map path) ≡ true → Outside w (path ++ segment ∷ []) }
 {}
 
-/// No evaluation removes a name that stands outside of control methods, or declares it anew, nor does it declare a control method
-/// above one, however it ends. At the end of a call the names below its control method are removed.
+/// No evaluation removes a name that stands outside of control methods, or declares it anew, nor does it declare a
+/// control method above one, however it ends. At the end of a call the names below its control method are removed.
 #[tactic(auto, using(crate::proofs::NamesStay::outside_stays, crate::proofs::NamesStay::names_stay, crate::proofs::NamesStay::numbers_stay))]
 pub fn names_stay<S>()
-    ensures outside { (accesses : Accesses S) (w v : State S) (path : List Seg) → Becomes accesses w v → Outside w path → Outside v path }
-    ensures stands { (accesses : Accesses S) (w v : State S) (path : List Seg) → Becomes accesses w v → Outside w path → Stands w path → Stands v path }
-    ensures numbers { (accesses : Accesses S) (w v : State S) (path : List Seg) (number : ℕ) → Becomes accesses w v → Outside w path → number_at w path ≡ Some number → number_at v path ≡ Some number }
+    ensures outside { (accesses : Accesses S) (w v : State S) (path : List Seg) → Becomes accesses w v →
+        Outside w path → Outside v path }
+    ensures stands { (accesses : Accesses S) (w v : State S) (path : List Seg) → Becomes accesses w v →
+        Outside w path → Stands w path → Stands v path }
+    ensures numbers { (accesses : Accesses S) (w v : State S) (path : List Seg) (number : ℕ) → Becomes accesses w v →
+        Outside w path → number_at w path ≡ Some number → number_at v path ≡ Some number }
 {}
 
-/// A term that declares a name outside of control methods by one of its operands, and is not refused, leaves it at the path that
-/// the operand stands for in its scope (the fields of a list, whose names its elements declare, aren't meant); and a list that is
-/// evaluated to its end leaves there the names of all its terms whose paths were outside of control methods when it began. The
-/// list of a device or another scope is evaluated so in the path of that scope.
+/// A term that declares a name outside of control methods by one of its operands, and is not refused, leaves it at
+/// the path that the operand stands for in its scope (the fields of a list, whose names its elements declare, aren't
+/// meant); and a list that is evaluated to its end leaves there the names of all its terms whose paths were outside
+/// of control methods when it began. The list of a device or another scope is evaluated so in the path of that scope.
 #[tactic(auto, using(crate::proofs::DeclaredNamesStand::term_declares_name, crate::proofs::DeclaredNamesStand::items_stand))]
 pub fn declared_names_stand<S>()
-    ensures term { (accesses : Accesses S) (scope : List Seg) (depth : ℕ) (t : Tree) (path : List Seg) (s : State S × ℕ) (f : Flow) →
-        Declares scope t path → Outside s.0 path → (meaning accesses (task scope depth t) s).0 ≡ Ok f → Stands (meaning accesses (task scope depth t) s).1.0 path }
-    ensures list { (accesses : Accesses S) (scope : List Seg) (depth : ℕ) (t : Tree) (ts : Trees) (path : List Seg) (s : State S × ℕ) →
-        IsItem t ts → Declares scope t path → Outside s.0 path → (in_turn (meaning accesses) scope depth ts s).0 ≡ Ok flow.Next → Stands (in_turn (meaning accesses) scope depth ts s).1.0 path }
+    ensures term { (accesses : Accesses S) (scope : List Seg) (depth : ℕ) (t : Tree) (path : List Seg)
+        (s : State S × ℕ) (f : Flow) →
+        Declares scope t path → Outside s.0 path → (meaning accesses (task scope depth t) s).0 ≡ Ok f →
+        Stands (meaning accesses (task scope depth t) s).1.0 path }
+    ensures list { (accesses : Accesses S) (scope : List Seg) (depth : ℕ) (t : Tree) (ts : Trees)
+        (path : List Seg) (s : State S × ℕ) →
+        IsItem t ts → Declares scope t path → Outside s.0 path → (in_turn (meaning accesses) scope depth ts s).0 ≡
+        Ok flow.Next → Stands (in_turn (meaning accesses) scope depth ts s).1.0 path }
 {}

@@ -10,5 +10,6 @@ ghost use Rattle.aml_laws.specs.Plain.{AreBytes, PlainTrees};
 /// The strings and byte lists of terms that are read of bytes are bytes too: numbers below 256.
 #[tactic(auto, using(crate::proofs::ReadTermsHoldBytes::read_terms_plain))]
 pub fn terms_of_bytes_hold_bytes()
-    ensures plain { (bytes : List ℕ) (scope : List Seg) (body : Bool) (arities : List Arity) (ts : List Tree) → AreBytes bytes → Reads bytes scope body arities ts → PlainTrees (trees_of ts) }
+    ensures plain { (bytes : List ℕ) (scope : List Seg) (body : Bool) (arities : List Arity) (ts : List Tree) →
+        AreBytes bytes → Reads bytes scope body arities ts → PlainTrees (trees_of ts) }
 {}

@@ -18,36 +18,52 @@ ghost use Rattle.aml_meaning.specs.Stores.{stored, copied_to};
 ghost use Rattle.aml_meaning.specs.Mutexes.{acquired_at, given_back_at};
 ghost use Rattle.aml_laws.specs.Numbers.{numbers_of, RiseTo};
 
-/// RefOf of a name gives a reference to the declaration that stands at its path, and to no other: the number of that declaration
-/// finds its path and its object. DerefOf of the reference reads that object; where it holds neither a value nor a field, it gives
-/// the reference again. CopyObject through it takes its copy to the name.
+/// RefOf of a name gives a reference to the declaration that stands at its path, and to no other: the number of that
+/// declaration finds its path and its object. DerefOf of the reference reads that object; where it holds neither a
+/// value nor a field, it gives the reference again. CopyObject through it takes its copy to the name.
 #[tactic(auto, using(crate::proofs::ReferencesToNames::name_reference_is, crate::proofs::ReferencesToNames::declaration_is, crate::proofs::ReferencesToNames::declared_once_is, crate::proofs::ReferencesToNames::name_copies))]
 pub fn a_reference_to_a_name_finds_its_declaration<S>()
-    ensures given { (w : State S) (path : List Seg) (e : Entry) → get w.names.map path ≡ Some e → (reference_of (targets.Name path) w).0 ≡ Ok (reference.Name e.number) }
-    ensures found { (w : State S) (path : List Seg) (e : Entry) → Numbered w.names → get w.names.map path ≡ Some e → (declaration e.number w).0 ≡ Ok (path, e) }
-    ensures read { (w : State S) (path : List Seg) (e : Entry) → Numbered w.names → get w.names.map path ≡ Some e → (dereferenced (reference.Name e.number) w).0 ≡ Ok (once e.number e.object) }
-    ensures copied { (w : State S) (path : List Seg) (r : Reference) (v : Value) → Numbered w.names → (reference_of (targets.Name path) w).0 ≡ Ok r → copied_to (targets.Refers r) v w ≡ copied_to (targets.Name path) v w }
+    ensures given { (w : State S) (path : List Seg) (e : Entry) → get w.names.map path ≡ Some e →
+        (reference_of (targets.Name path) w).0 ≡ Ok (reference.Name e.number) }
+    ensures found { (w : State S) (path : List Seg) (e : Entry) → Numbered w.names → get w.names.map path ≡ Some e →
+        (declaration e.number w).0 ≡ Ok (path, e) }
+    ensures read { (w : State S) (path : List Seg) (e : Entry) → Numbered w.names → get w.names.map path ≡ Some e →
+        (dereferenced (reference.Name e.number) w).0 ≡ Ok (once e.number e.object) }
+    ensures copied { (w : State S) (path : List Seg) (r : Reference) (v : Value) → Numbered w.names →
+        (reference_of (targets.Name path) w).0 ≡ Ok r → copied_to (targets.Refers r) v w ≡
+        copied_to (targets.Name path) v w }
 {}
 
-/// RefOf of a local or an argument gives a reference to that slot of the control method that runs: DerefOf of it gives, or is
-/// refused, just as the slot is read. CopyObject through a reference to a local copies to that local.
+/// RefOf of a local or an argument gives a reference to that slot of the control method that runs: DerefOf of it
+/// gives, or is refused, just as the slot is read. CopyObject through a reference to a local copies to that local.
 #[tactic(auto, using(crate::proofs::ReferencesToSlots::slot_reads, crate::proofs::ReferencesToSlots::local_copies))]
 pub fn a_reference_to_a_slot_reads_that_slot<S>()
-    ensures read { (w : State S) (slot : Slot) (r : Reference) → RiseTo w.started (numbers_of w.frames) → (reference_of (targets.Slot slot) w).0 ≡ Ok r → dereferenced r w ≡ target_read (targets.Slot slot) w }
-    ensures copied { (w : State S) (i : ℕ) (r : Reference) (v : Value) → RiseTo w.started (numbers_of w.frames) → (reference_of (targets.Slot (Local i)) w).0 ≡ Ok r → copied_to (targets.Refers r) v w ≡ copied_to (targets.Slot (Local i)) v w }
+    ensures read { (w : State S) (slot : Slot) (r : Reference) → RiseTo w.started (numbers_of w.frames) →
+        (reference_of (targets.Slot slot) w).0 ≡ Ok r → dereferenced r w ≡ target_read (targets.Slot slot) w }
+    ensures copied { (w : State S) (i : ℕ) (r : Reference) (v : Value) → RiseTo w.started (numbers_of w.frames) →
+        (reference_of (targets.Slot (Local i)) w).0 ≡ Ok r → copied_to (targets.Refers r) v w ≡
+        copied_to (targets.Slot (Local i)) v w }
 {}
 
-/// What RefOf gives refers to just what its operand names: a name, a local, an argument, or what another reference refers to. DerefOf
-/// of it reads what the operand holds, a Store to what it refers to is a Store to the operand, and a mutex is acquired and released
-/// through it as by the operand. So it is where the numbers of declarations are apart and those of frames rise, as they are and do
-/// in each world that evaluations make of the predefined names, and in each frame that is opened then. Giving the reference and
-/// reading through it change nothing.
+/// What RefOf gives refers to just what its operand names: a name, a local, an argument, or what another reference
+/// refers to. DerefOf of it reads what the operand holds, a Store to what it refers to is a Store to the operand, and
+/// a mutex is acquired and released through it as by the operand. So it is where the numbers of declarations are
+/// apart and those of frames rise, as they are and do in each world that evaluations make of the predefined names,
+/// and in each frame that is opened then. Giving the reference and reading through it change nothing.
 #[tactic(auto, using(crate::proofs::ReferencesToTargets::reads_as_target, crate::proofs::ReferencesToTargets::stores_as_target, crate::proofs::ReferencesToTargets::acquires_as_target, crate::proofs::ReferencesToTargets::gives_back_as_target, crate::proofs::ChangesNothing::reference_of_changes_nothing, crate::proofs::ChangesNothing::dereferenced_changes_nothing))]
 pub fn a_reference_refers_to_its_target<S>()
-    ensures read { (w : State S) (at : StoreTarget) (r : Reference) (held : Held) → Numbered w.names → RiseTo w.started (numbers_of w.frames) → (reference_of at w).0 ≡ Ok r → (target_read at w).0 ≡ Ok held → (dereferenced r w).0 ≡ Ok held }
-    ensures stored { (w : State S) (at : StoreTarget) (r : Reference) (v : Value) → Numbered w.names → RiseTo w.started (numbers_of w.frames) → (reference_of at w).0 ≡ Ok r → stored (targets.Refers r) v w ≡ stored at v w }
-    ensures acquired { (w : State S) (at : StoreTarget) (r : Reference) → Numbered w.names → RiseTo w.started (numbers_of w.frames) → (reference_of at w).0 ≡ Ok r → acquired_at (targets.Refers r) w ≡ acquired_at at w }
-    ensures given_back { (w : State S) (at : StoreTarget) (r : Reference) → Numbered w.names → RiseTo w.started (numbers_of w.frames) → (reference_of at w).0 ≡ Ok r → given_back_at (targets.Refers r) w ≡ given_back_at at w }
+    ensures read { (w : State S) (at : StoreTarget) (r : Reference) (held : Held) → Numbered w.names →
+        RiseTo w.started (numbers_of w.frames) → (reference_of at w).0 ≡ Ok r → (target_read at w).0 ≡ Ok held →
+        (dereferenced r w).0 ≡ Ok held }
+    ensures stored { (w : State S) (at : StoreTarget) (r : Reference) (v : Value) → Numbered w.names →
+        RiseTo w.started (numbers_of w.frames) → (reference_of at w).0 ≡ Ok r →
+        stored (targets.Refers r) v w ≡ stored at v w }
+    ensures acquired { (w : State S) (at : StoreTarget) (r : Reference) → Numbered w.names →
+        RiseTo w.started (numbers_of w.frames) → (reference_of at w).0 ≡ Ok r →
+        acquired_at (targets.Refers r) w ≡ acquired_at at w }
+    ensures given_back { (w : State S) (at : StoreTarget) (r : Reference) → Numbered w.names →
+        RiseTo w.started (numbers_of w.frames) → (reference_of at w).0 ≡ Ok r →
+        given_back_at (targets.Refers r) w ≡ given_back_at at w }
     ensures given_unchanged { (w : State S) (at : StoreTarget) → (reference_of at w).1 ≡ w }
     ensures read_unchanged { (w : State S) (r : Reference) → (dereferenced r w).1 ≡ w }
 {}

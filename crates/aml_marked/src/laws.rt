@@ -8,19 +8,21 @@ ghost use Rattle.aml_grammar.specs.Grammar.{term_list, by_arities};
 ghost use Rattle.aml_marked.specs.Marked.{Ascending, Place, a_term, trees_by};
 ghost use Rattle.aml_marked.specs.Moving.{MovesOn};
 
-/// Where a list of terms reads as trees, its bytes and the marks that reading leaves give the same trees again, in no scope and
-/// with nothing known; and the marks stand in the order of their offsets, no two at one.
+/// Where a list of terms reads as trees, its bytes and the marks that reading leaves give the same trees again, in no
+/// scope and with nothing known; and the marks stand in the order of their offsets, no two at one.
 pub fn marks_give_the_trees_again()
     ensures list { (bs : List ℕ) (scope : List Seg) (body : Bool) (known : List Arity) (ts : List Tree) (s : State) →
         term_list by_arities bs scope body known ≡ (Ok ts, s) → trees_by s.marks bs ≡ ts }
-    ensures ascending { (bs : List ℕ) (scope : List Seg) (body : Bool) (known : List Arity) (ts : List Tree) (s : State) →
+    ensures ascending { (bs : List ℕ) (scope : List Seg) (body : Bool) (known : List Arity)
+        (ts : List Tree) (s : State) →
         term_list by_arities bs scope body known ≡ (Ok ts, s) → Ascending s.marks }
 {}
 
-/// What stands behind a term is what is left of the same bytes, so many bytes further on. A term takes at least one byte, where a
-/// level and a byte are left.
+/// What stands behind a term is what is left of the same bytes, so many bytes further on. A term takes at least one
+/// byte, where a level and a byte are left.
 pub fn terms_only_move_on()
-    ensures on { (count : ℕ → ℕ) (levels : ℕ) (element : Bool) (p : Place) → MovesOn p (a_term count levels element p).1 }
+    ensures on { (count : ℕ → ℕ) (levels : ℕ) (element : Bool) (p : Place) →
+        MovesOn p (a_term count levels element p).1 }
     ensures byte { (count : ℕ → ℕ) (levels : ℕ) (element : Bool) (p : Place) → 0 < levels → 0 < length p.rest →
         p.at < (a_term count levels element p).1.at }
 {}

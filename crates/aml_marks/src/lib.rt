@@ -1,5 +1,5 @@
-//! Scans of tables and of the bodies of control methods, and the marks that they leave (ACPI 6.5, 20.2): by its marks a list is read from
-//! its bytes from then on, and never scanned again.
+//! Scans of tables and of the bodies of control methods, and the marks that they leave (ACPI 6.5, 20.2): by its marks
+//! a list is read from its bytes from then on, and never scanned again.
 #![tactic(auto)]
 
 mod marks;

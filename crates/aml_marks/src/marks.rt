@@ -12,7 +12,8 @@ use std::rc::Rc;
 
 /// Where the calls of a scanned list begin, and how many arguments each has. A call without arguments has no mark.
 ///
-/// They are a counted share of one list, so that who keeps them and who reads by them have the same. A list without marks takes no memory.
+/// They are a counted share of one list, so that who keeps them and who reads by them have the same. A list without
+/// marks takes no memory.
 #[derive(Debug, Drop)]
 pub struct Marks {
     list: Option<Rc<Vec<Mark>>>,
@@ -45,7 +46,8 @@ impl Marks {
         })
     }
 
-    /// Another share of the same marks. It takes no memory, and is refused as `OutOfMemory` where no more shares can be counted.
+    /// Another share of the same marks. It takes no memory, and is refused as `OutOfMemory` where no more shares can
+    /// be counted.
     pub fn share(&self) -> Result<Marks, Refusal>
         ensures { Answers result (Ok self.now) }
     {

@@ -12,9 +12,9 @@ use aml_scan::scan;
 use ar_space::Refusal;
 use std::alloc::Global;
 
-/// Scans a list of terms: of a table after its header, or, where `body` is true, of the body of a control method. From its bytes
-/// and the marks that are answered, the terms are read that the grammar gives. It makes no trees, and takes memory for names, paths and
-/// marks alone.
+/// Scans a list of terms: of a table after its header, or, where `body` is true, of the body of a control method.
+/// From its bytes and the marks that are answered, the terms are read that the grammar gives. It makes no trees, and
+/// takes memory for names, paths and marks alone.
 ///
 /// Names stand in `scope`, and `counts` says how many arguments a name takes; outside a body, names that the list
 /// declares itself count too, from where they stand on. The first fault from left to right is refused:
@@ -31,7 +31,8 @@ pub fn scan_list<C: ArgumentCounts>(
     counts: &C,
 ) -> Result<Marks, Refusal>
     ensures marks { Answers result (marked (term_list by_arities bytes.now scope.now body (C.counts counts.now))) }
-    ensures terms { Answers (seen (λ m. trees_by m bytes.now) result) (reading bytes.now scope.now body (C.counts counts.now)) }
+    ensures terms { Answers (seen (λ m. trees_by m bytes.now) result)
+        (reading bytes.now scope.now body (C.counts counts.now)) }
 {
     let noted = scan(alloc, bytes, scope, body, counts)?;
     Marks::new(alloc, noted.marks)
@@ -46,15 +47,16 @@ pub struct ScannedTable {
     pub added: Arities,
 }
 
-/// Scans a table after its header, whose names stand at the root, and leaves the argument counts of names that it declares to the
-/// caller. It is refused as `scan_list` refuses it.
+/// Scans a table after its header, whose names stand at the root, and leaves the argument counts of names that it
+/// declares to the caller. It is refused as `scan_list` refuses it.
 #[tactic(auto, using(crate::proofs::Scans::scanning))]
 pub fn scan_table_apart(
     alloc: Global,
     bytes: &[u8],
     arities: &Arities,
 ) -> Result<ScannedTable, Refusal>
-    ensures { Answers (seen (λ t. (t.marks, arities.now ++ t.added)) result) (noted (term_list by_arities bytes.now [] false arities.now)) }
+    ensures { Answers (seen (λ t. (t.marks, arities.now ++ t.added)) result)
+        (noted (term_list by_arities bytes.now [] false arities.now)) }
 {
     let root = Path::root(alloc);
     let noted = scan(alloc, bytes, &root, false, arities)?;
@@ -65,12 +67,14 @@ pub fn scan_table_apart(
     })
 }
 
-/// Scans a table after its header, whose names stand at the root; the argument counts of names that it declares are appended to
-/// `arities`. It is refused as `scan_list` refuses it, and then no name takes other arguments.
+/// Scans a table after its header, whose names stand at the root; the argument counts of names that it declares are
+/// appended to `arities`. It is refused as `scan_list` refuses it, and then no name takes other arguments.
 #[tactic(auto, using(crate::proofs::Scans::scanning))]
 pub fn scan_table(alloc: Global, bytes: &[u8], arities: &mut Arities) -> Result<Marks, Refusal>
-    ensures marks { Answers (seen (λ m. (m, arities.new)) result) (noted (term_list by_arities bytes.now [] false arities.old)) }
-    ensures table { Answers (seen (λ m. (trees_by m bytes.now, arities.new)) result) (table_reading bytes.now arities.old) }
+    ensures marks { Answers (seen (λ m. (m, arities.new)) result)
+        (noted (term_list by_arities bytes.now [] false arities.old)) }
+    ensures table { Answers (seen (λ m. (trees_by m bytes.now, arities.new)) result)
+        (table_reading bytes.now arities.old) }
     ensures refused { OnErr result (arities.new ≡ arities.old) }
 {
     let scanned = scan_table_apart(alloc, bytes, arities)?;

@@ -56,6 +56,12 @@ use Rattle.aml_meaning.specs.InvocationTerms.{arguments_in_turn, call_rule, osi_
 use Rattle.aml_meaning.specs.FieldCalls.{asked, method_integer, answer_over, answer_within, field_read, held_value, held_integer, referent_read, completed, stored_to, is_element, back_to, stored_back}
 use Rattle.aml_meaning.specs.FieldTerms.{fields_laid, region_rule, field_list_rule, index_list_rule, sized_field_rule, bits_field_rule, region_term_rule}
 use Rattle.aml_meaning.proofs.AgreeFields.{agree_field_value, agree_field_integer, agree_field_part, agree_field_referent, agree_field_stored}
+use Rattle.aml_meaning.specs.declared.term_kind.WideKind.{WideKind}
+use Rattle.aml_meaning.specs.declared.term_kind.WideKind.TheVariants as wides
+use Rattle.aml_meaning.specs.declared.term_kind.Conversion.{Conversion}
+use Rattle.aml_meaning.specs.declared.searches.Search.{Search}
+use Rattle.aml_meaning.specs.MatchTerms.{held_meets, if_held, element_meets, found_or, none_matches, searched_last, match_rule}
+use Rattle.aml_meaning.specs.WideTerms.{formed_at, convert_rule, to_string_rule, middle_rule, wide_rule}
 use Rattle.aml_meaning.specs.Evaluation.{kind_rule, code_rule, rule}
 
 module _ {S : Type 0} {n : ℕ} (accesses : Accesses S) (ev ew : Task → Run S Flow) (parts : (t : Task) → Agree n (ev t) (ew t)) where
@@ -537,13 +543,57 @@ module _ {S : Type 0} {n : ℕ} (accesses : Accesses S) (ev ew : Task → Run S 
   unfolding field_list_rule index_list_rule fields_laid sized_field_rule bits_field_rule
   agree_region_term regions.OperationRegion scope depth t = agree_region scope depth t
   agree_region_term regions.Field scope depth t =
-      agree_bind _ _ _ _ (agree_settle _) (λ ts. agree_bind _ _ _ _ (agree_settle _) (λ plain. agree_bind _ _ _ _ (agree_settle _) (λ x. agree_bind _ _ _ _ (agree_lift _) (λ region. agree_bind _ _ _ _ (agree_settle _) (λ flags. agree_bind _ _ _ _ (agree_lift _) (λ laid. agree_give _))))))
+      agree_bind _ _ _ _ (agree_settle _) (λ ts. agree_bind _ _ _ _ (agree_lift _) (λ asked. agree_bind _ _ _ _ (agree_settle _) (λ x. agree_bind _ _ _ _ (agree_lift _) (λ region. agree_bind _ _ _ _ (agree_settle _) (λ flags. agree_bind _ _ _ _ (agree_lift _) (λ laid. agree_give _))))))
   agree_region_term regions.IndexField scope depth t =
-      agree_bind _ _ _ _ (agree_settle _) (λ ts. agree_bind _ _ _ _ (agree_settle _) (λ plain. agree_bind _ _ _ _ (agree_settle _) (λ x. agree_bind _ _ _ _ (agree_lift _) (λ index. agree_bind _ _ _ _ (agree_settle _) (λ y. agree_bind _ _ _ _ (agree_lift _) (λ behind. agree_bind _ _ _ _ (agree_settle _) (λ flags. agree_bind _ _ _ _ (agree_lift _) (λ laid. agree_give _))))))))
+      agree_bind _ _ _ _ (agree_settle _) (λ ts. agree_bind _ _ _ _ (agree_lift _) (λ asked. agree_bind _ _ _ _ (agree_settle _) (λ x. agree_bind _ _ _ _ (agree_lift _) (λ index. agree_bind _ _ _ _ (agree_settle _) (λ y. agree_bind _ _ _ _ (agree_lift _) (λ behind. agree_bind _ _ _ _ (agree_settle _) (λ flags. agree_bind _ _ _ _ (agree_lift _) (λ laid. agree_give _))))))))
   agree_region_term (regions.SizedBufferField size) scope depth t =
       agree_bind _ _ _ _ (agree_two_values scope depth t) (λ x. agree_bind _ _ _ _ (agree_settle _) (λ o. agree_bind _ _ _ _ (agree_lift _) (λ i. agree_bind _ _ _ _ (agree_lift _) (λ b. agree_declaring scope depth t _ _))))
   agree_region_term regions.BufferField scope depth t =
       agree_bind _ _ _ _ (agree_value_at scope depth t 0) (λ source. agree_bind _ _ _ _ (agree_value_at scope depth t 1) (λ index. agree_bind _ _ _ _ (agree_value_at scope depth t 2) (λ count. agree_bind _ _ _ _ (agree_settle _) (λ o. agree_bind _ _ _ _ (agree_lift _) (λ i. agree_bind _ _ _ _ (agree_lift _) (λ k. agree_bind _ _ _ _ (agree_settle _) (λ bits. agree_bind _ _ _ _ (agree_lift _) (λ b. agree_declaring scope depth t _ _))))))))
+
+  -- ---- terms of the wide profile
+
+  agree_formed : (scope : List Seg) (depth : ℕ) (t : Tree) (i : ℕ) (v : Value) → Agree n (formed_at accesses ev scope depth t i v) (formed_at accesses ew scope depth t i v)
+  unfolding formed_at
+  agree_formed scope depth t i v = agree_bind _ _ _ _ (agree_target scope depth t i) (λ p. agree_bind _ _ _ _ (agree_lift _) (λ s. agree_bind _ _ _ _ (agree_completed depth s v) (λ done. agree_give _)))
+
+  agree_convert : (k : Conversion) (scope : List Seg) (depth : ℕ) (t : Tree) → Agree n (convert_rule accesses ev k scope depth t) (convert_rule accesses ew k scope depth t)
+  unfolding convert_rule
+  agree_convert k scope depth t = agree_bind _ _ _ _ (agree_value_at scope depth t 0) (λ v. agree_bind _ _ _ _ (agree_lift _) (λ r. agree_formed scope depth t 1 r))
+
+  agree_to_string : (scope : List Seg) (depth : ℕ) (t : Tree) → Agree n (to_string_rule accesses ev scope depth t) (to_string_rule accesses ew scope depth t)
+  unfolding to_string_rule
+  agree_to_string scope depth t = agree_bind _ _ _ _ (agree_two_values scope depth t) (λ x. agree_bind _ _ _ _ (agree_lift _) (λ r. agree_formed scope depth t 2 r))
+
+  agree_middle : (scope : List Seg) (depth : ℕ) (t : Tree) → Agree n (middle_rule accesses ev scope depth t) (middle_rule accesses ew scope depth t)
+  unfolding middle_rule
+  agree_middle scope depth t = agree_bind _ _ _ _ (agree_two_values scope depth t) (λ x. agree_bind _ _ _ _ (agree_value_at scope depth t 2) (λ k. agree_bind _ _ _ _ (agree_lift _) (λ r. agree_targeted scope depth t 3 r)))
+
+  agree_if_held : (depth : ℕ) (x : Search) (o : Option Held) → Agree n (if_held accesses ev depth x o) (if_held accesses ew depth x o)
+  unfolding held_meets
+  agree_if_held depth x None = agree_give _
+  agree_if_held depth x (Some h) = agree_bind _ _ _ _ (agree_held_value depth h) (λ v. agree_lift _)
+
+  agree_found_or : (met : Bool) (i : ℕ) (m k : Run S Flow) → Agree n m k → Agree n (found_or met i m) (found_or met i k)
+  agree_found_or true i m k h = agree_give _
+  agree_found_or false i m k h = h
+
+  agree_searched : (depth : ℕ) (x : Search) (left : ℕ) → Agree n (searched_last accesses ev depth x left) (searched_last accesses ew depth x left)
+  unfolding searched_last none_matches element_meets
+  agree_searched depth x zero = agree_bind _ _ _ _ (agree_lift _) (λ v. agree_give _)
+  agree_searched depth x (suc k) = agree_bind _ _ _ _ (agree_bind _ _ _ _ (agree_lift _) (λ o. agree_if_held depth x o)) (λ met. agree_found_or met _ _ _ (agree_searched depth x k))
+
+  agree_match : (scope : List Seg) (depth : ℕ) (t : Tree) → Agree n (match_rule accesses ev scope depth t) (match_rule accesses ew scope depth t)
+  unfolding match_rule
+  agree_match scope depth t =
+      agree_bind _ _ _ _ (agree_value_at scope depth t 0) (λ p. agree_bind _ _ _ _ (agree_settle _) (λ k. agree_bind _ _ _ _ (agree_value_at scope depth t 2) (λ a. agree_bind _ _ _ _ (agree_settle _) (λ l. agree_bind _ _ _ _ (agree_value_at scope depth t 4) (λ b.
+      agree_bind _ _ _ _ (agree_value_at scope depth t 5) (λ i. agree_bind _ _ _ _ (agree_lift _) (λ x. agree_searched depth x.search x.left)))))))
+
+  agree_wide : (k : WideKind) (scope : List Seg) (depth : ℕ) (t : Tree) → Agree n (wide_rule accesses ev k scope depth t) (wide_rule accesses ew k scope depth t)
+  agree_wide (wides.Convert k) scope depth t = agree_convert k scope depth t
+  agree_wide wides.ToString scope depth t = agree_to_string scope depth t
+  agree_wide wides.Mid scope depth t = agree_middle scope depth t
+  agree_wide wides.Match scope depth t = agree_match scope depth t
 
   -- ---- which rule
 
@@ -553,6 +603,7 @@ module _ {S : Type 0} {n : ℕ} (accesses : Accesses S) (ev ew : Task → Run S 
   agree_kind (kinds.Region k) op scope depth t = agree_region_term k scope depth t
   agree_kind (kinds.Operator k) op scope depth t = agree_operator k scope depth t
   agree_kind (kinds.Statement k) op scope depth t = agree_statement k scope depth t
+  agree_kind (kinds.Wide k) op scope depth t = agree_bind _ _ _ _ (agree_lift _) (λ wide. agree_wide k scope depth t)
   agree_kind kinds.Unsupported op scope depth t = agree_stop _
 
   agree_code : (c : TermCode) (scope : List Seg) (depth : ℕ) (t : Tree) → Agree n (code_rule accesses ev c scope depth t) (code_rule accesses ew c scope depth t)

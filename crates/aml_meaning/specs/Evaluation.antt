@@ -25,6 +25,7 @@ use Rattle.aml_meaning.specs.OperatorTerms.{operator_rule}
 use Rattle.aml_meaning.specs.StatementTerms.{statement_rule}
 use Rattle.aml_meaning.specs.FieldTerms.{region_term_rule}
 use Rattle.aml_meaning.specs.InvocationTerms.{name_value}
+use Rattle.aml_meaning.specs.WideTerms.{in_wide, wide_rule}
 
 -- accesses: what the register space makes of them; ev: what a part evaluates to
 module _ {S : Type 0} (accesses : Accesses S) (ev : Task → Run S Flow) where
@@ -34,6 +35,7 @@ module _ {S : Type 0} (accesses : Accesses S) (ev : Task → Run S Flow) where
   kind_rule (kinds.Region k) op scope depth t = region_term_rule ev k scope depth t
   kind_rule (kinds.Operator k) op scope depth t = operator_rule accesses ev k scope depth t
   kind_rule (kinds.Statement k) op scope depth t = statement_rule ev k scope depth t
+  kind_rule (kinds.Wide k) op scope depth t = in_wide op (wide_rule accesses ev k scope depth t)
   kind_rule kinds.Unsupported op scope depth t = stop (refusal.Evaluation (Unsupported (opcodes.number_of op)))
 
   abbrev pub code_rule : TermCode → List Seg → ℕ → Tree → Run S Flow

@@ -4,7 +4,6 @@ use Rattle.std.specs.Prelude.{ℕ, ◌+◌, ◌*◌, ◌^◌, ◌/◌, ◌%◌, 
 use Rattle.ar_space.specs.declared.space.Width.{Width}
 use Rattle.ar_space.specs.declared.space.Width.TheVariants.{W8, W16, W32, W64}
 use Rattle.ar_space.specs.declared.refusal.Refusal.TheVariants as refusal
-use Rattle.ar_space.specs.declared.refusal.EvaluationFault.TheVariants.{Unsupported}
 use Rattle.ar_space.specs.declared.refusal.FieldFault.TheVariants.{FieldLimit}
 use Rattle.ar_space.specs.declared.refusal.NameFault.TheVariants.{BadName}
 use Rattle.ar_space.specs.declared.refusal.ValueFault.TheVariants.{WrongType}
@@ -16,7 +15,6 @@ use Rattle.aml_grammar.specs.declared.opcode.Opcode.{Opcode}
 use Rattle.aml_grammar.specs.declared.opcode.Opcode.TheVariants as opcodes
 use Rattle.aml_grammar.specs.declared.opcode.TermCode.{TermCode}
 use Rattle.aml_grammar.specs.declared.opcode.TermCode.TheVariants as codes
-use Rattle.aml_grammar.specs.Opcodes as opcode
 use Rattle.aml_grammar.specs.Tree.{Tree, Trees, no_trees, tree}
 use Rattle.aml_grammar.specs.Apart.{code_of, operand_of, name_of}
 use Rattle.aml_objects.specs.declared.value.Value.{Value}
@@ -38,7 +36,8 @@ use Rattle.aml_meaning.specs.declared.term_kind.BufferFieldSize.{BufferFieldSize
 use Rattle.aml_meaning.specs.declared.term_kind.BufferFieldSize.TheVariants as sizes
 use Rattle.aml_meaning.specs.State.{State, on_objects}
 use Rattle.aml_meaning.specs.Run.{Run, lift}
-use Rattle.aml_meaning.specs.Terms.{number_of, list_of}
+use Rattle.aml_meaning.specs.Profiles.{asked_for}
+use Rattle.aml_meaning.specs.Terms.{number_of, list_of, is_named}
 use Rattle.aml_meaning.specs.Readings.{integer_in, entry_found}
 use Rattle.aml_meaning.specs.Declaring.{new_name}
 use Rattle.aml_meaning.specs.Tasks.{Task, module_level, value_at, two_values}
@@ -77,6 +76,25 @@ new_field group module_level p at count = do
   number ← new_name module_level p (object.FieldUnit (record { source = group.source; bit_offset = at.bit_offset; bits = bits; access = at.access; update = group.update }))
   settle (further at count)
 
+-- the object of a value that is a buffer
+abbrev pub buffer_of : Value → Outcome ℕ
+buffer_of (value.Buffer o) = Ok o
+buffer_of value.Uninitialized = Err (refusal.Value WrongType)
+buffer_of (value.Integer n) = Err (refusal.Value WrongType)
+buffer_of (value.String o) = Err (refusal.Value WrongType)
+buffer_of (value.Package o) = Err (refusal.Value WrongType)
+buffer_of (value.Reference r) = Err (refusal.Value WrongType)
+
+-- the buffer that a Connection names
+abbrev pub connection_buffer : NamedObject → Outcome ℕ
+connection_buffer (object.Data v) = buffer_of v
+connection_buffer _ = Err (refusal.Value WrongType)
+
+unfoldable pub connection_found : {S : Type 0} → List Seg → Name → Change (State S) ℕ
+connection_found scope n = do
+  e ← entry_found scope n
+  settle (connection_buffer e.object)
+
 module _ {S : Type 0} (group : FieldGroup) (scope : List Seg) (depth : ℕ) where
   unfoldable pub named_field : FieldLayout → Tree → Change (State S) FieldLayout
   named_field at t = do
@@ -95,12 +113,27 @@ module _ {S : Type 0} (group : FieldGroup) (scope : List Seg) (depth : ℕ) wher
     flags ← settle (number_of (operand_of t 0))
     give (record at { access = access_width flags })
 
+  -- a Connection that is a name has to be that of a buffer; nothing of it is read
+  unfoldable pub named_connection : FieldLayout → Tree → Change (State S) FieldLayout
+  named_connection at t = do
+    n ← settle (name_of (operand_of t 0))
+    buffer ← connection_found scope n
+    give at
+
+  -- one that is a term isn't evaluated; the fields behind it go on where they would without it
+  abbrev pub connection_if : Bool → FieldLayout → Tree → Change (State S) FieldLayout
+  connection_if true at t = named_connection at t
+  connection_if false at t = give at
+
+  abbrev pub connected_field : FieldLayout → Tree → Change (State S) FieldLayout
+  connected_field at t = connection_if (is_named (operand_of t 0)) at t
+
   abbrev pub element_laid : TermCode → FieldLayout → Tree → Change (State S) FieldLayout
   element_laid codes.NamedField at t = named_field at t
   element_laid codes.ReservedField at t = reserved_field at t
   element_laid codes.AccessField at t = access_field at t
   element_laid codes.ExtendedAccessField at t = access_field at t
-  element_laid codes.ConnectField at t = stop (refusal.Name BadName)
+  element_laid codes.ConnectField at t = connected_field at t
   element_laid codes.Name at t = stop (refusal.Name BadName)
   element_laid codes.MethodInvocation at t = stop (refusal.Name BadName)
   element_laid (codes.Opcode op) at t = stop (refusal.Name BadName)
@@ -111,7 +144,7 @@ module _ {S : Type 0} (group : FieldGroup) (scope : List Seg) (depth : ℕ) wher
     next ← element_laid (code_of t) at t
     elements_laid next ts
 
--- a list in which a Connection stands is not evaluated
+-- a list in which a Connection stands is one of the wide profile
 abbrev pub is_connection : TermCode → Bool
 is_connection codes.ConnectField = true
 is_connection _ = false
@@ -120,8 +153,12 @@ unfoldable pub has_connection : Trees → Bool
 has_connection no_trees = false
 has_connection (tree t ts) = is_connection (code_of t) || has_connection ts
 
-abbrev pub unconnected : Opcode → Trees → Outcome (Unit {0})
-unconnected op ts = if has_connection ts then Err (refusal.Evaluation (Unsupported (opcode.number_of op))) else Ok tt
+abbrev pub asked_if : {S : Type 0} → Bool → Opcode → Change (State S) (Unit {0})
+asked_if true op = asked_for op
+asked_if false op = give tt
+
+abbrev pub connections_asked : {S : Type 0} → Opcode → Trees → Change (State S) (Unit {0})
+connections_asked op ts = asked_if (has_connection ts) op
 
 -- ---- what lists of fields lie in
 
@@ -155,15 +192,6 @@ fields_laid scope depth source flags ts = do
 
 -- ---- buffer fields
 
--- the buffer that a field lies in
-abbrev pub buffer_of : Value → Outcome ℕ
-buffer_of (value.Buffer o) = Ok o
-buffer_of value.Uninitialized = Err (refusal.Value WrongType)
-buffer_of (value.Integer n) = Err (refusal.Value WrongType)
-buffer_of (value.String o) = Err (refusal.Value WrongType)
-buffer_of (value.Package o) = Err (refusal.Value WrongType)
-buffer_of (value.Reference r) = Err (refusal.Value WrongType)
-
 -- CreateBitField counts bits, the others of its kind bytes; and how many bits a field of a kind has
 abbrev pub bits_of_step : BufferFieldSize → ℕ
 bits_of_step sizes.Bit = 1
@@ -193,7 +221,7 @@ module _ {S : Type 0} (ev : Task → Run S Flow) where
   unfoldable pub field_list_rule : List Seg → ℕ → Tree → Run S Flow
   field_list_rule scope depth t = do
     ts ← settle (list_of (operand_of t 2))
-    plain ← settle (unconnected opcodes.Field ts)
+    asked ← lift (connections_asked opcodes.Field ts)
     n ← settle (name_of (operand_of t 0))
     region ← lift (region_found scope n)
     flags ← settle (number_of (operand_of t 1))
@@ -202,7 +230,7 @@ module _ {S : Type 0} (ev : Task → Run S Flow) where
   unfoldable pub index_list_rule : List Seg → ℕ → Tree → Run S Flow
   index_list_rule scope depth t = do
     ts ← settle (list_of (operand_of t 3))
-    plain ← settle (unconnected opcodes.IndexField ts)
+    asked ← lift (connections_asked opcodes.IndexField ts)
     m ← settle (name_of (operand_of t 0))
     index ← lift (field_found scope m)
     n ← settle (name_of (operand_of t 1))

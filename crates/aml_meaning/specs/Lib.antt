@@ -1,4 +1,3 @@
-pub mod Validity
 pub mod Calling
 pub mod DataTerms
 pub mod DeclarationTerms
@@ -9,12 +8,14 @@ pub mod Exporting
 pub mod FieldCalls
 pub mod FieldTerms
 pub mod Fields
+pub mod FormedStores
 pub mod Given
 pub mod Importing
 pub mod InvocationTerms
 pub mod Invocations
 pub mod KeptBody
 pub mod Known
+pub mod MatchTerms
 pub mod Meaning
 pub mod Mutexes
 pub mod NewObjects
@@ -24,6 +25,7 @@ pub mod Osi
 pub mod PciFunctions
 pub mod PlainRegions
 pub mod Predefined
+pub mod Profiles
 pub mod Readings
 pub mod Regions
 pub mod Run
@@ -36,3 +38,6 @@ pub mod Stores
 pub mod TargetTerms
 pub mod Tasks
 pub mod Terms
+pub mod Validity
+pub mod WideOperations
+pub mod WideTerms

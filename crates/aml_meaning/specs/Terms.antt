@@ -1,5 +1,5 @@
 -- Which rule a term is evaluated by, and its operands.
-use Rattle.std.specs.Prelude.{ℕ, suc, Option, Some, None, Ok, Err}
+use Rattle.std.specs.Prelude.{ℕ, suc, Bool, true, false, Option, Some, None, Ok, Err}
 use Rattle.ar_space.specs.declared.refusal.Refusal.TheVariants as refusal
 use Rattle.ar_space.specs.declared.refusal.NameFault.TheVariants.{BadName}
 use Rattle.ar_space.specs.Outcome.{Outcome}
@@ -7,7 +7,7 @@ use Rattle.aml_grammar.specs.declared.opcode.Opcode.{Opcode}
 use Rattle.aml_grammar.specs.declared.opcode.Opcode.TheVariants as opcodes
 use Rattle.aml_grammar.specs.declared.opcode.TermCode.{TermCode}
 use Rattle.aml_grammar.specs.declared.opcode.TermCode.TheVariants as codes
-use Rattle.aml_grammar.specs.Tree.{Tree, Part, number, inner, list, Trees, no_trees, tree}
+use Rattle.aml_grammar.specs.Tree.{Tree, Part, null, name, number, bytes, inner, list, Trees, no_trees, tree}
 use Rattle.aml_objects.specs.declared.value.Slot.{Slot}
 use Rattle.aml_objects.specs.declared.value.Slot.TheVariants as slots
 use Rattle.aml_convert.specs.declared.operators.BinaryOperator.{BinaryOperator}
@@ -37,6 +37,9 @@ use Rattle.aml_meaning.specs.declared.term_kind.OneOperand.TheVariants as one
 use Rattle.aml_meaning.specs.declared.term_kind.Test.{Test}
 use Rattle.aml_meaning.specs.declared.term_kind.Test.TheVariants as tests
 use Rattle.aml_meaning.specs.declared.term_kind.Count.TheVariants as counts
+use Rattle.aml_meaning.specs.declared.term_kind.WideKind.{WideKind}
+use Rattle.aml_meaning.specs.declared.term_kind.WideKind.TheVariants as wide
+use Rattle.aml_meaning.specs.declared.term_kind.Conversion.TheVariants as conversions
 
 -- data
 abbrev pub data_kind : Opcode → Option DataKind
@@ -174,14 +177,29 @@ other_operator opcodes.CondRefOf = Some operators.CondRefOf
 other_operator opcodes.DerefOf = Some operators.DerefOf
 other_operator _ = None
 
+-- terms of the wide profile
+abbrev pub wide_kind : Opcode → Option WideKind
+wide_kind opcodes.ToDecimalString = Some (wide.Convert conversions.DecimalString)
+wide_kind opcodes.ToHexString = Some (wide.Convert conversions.HexadecimalString)
+wide_kind opcodes.FromBcd = Some (wide.Convert conversions.FromDecimal)
+wide_kind opcodes.ToBcd = Some (wide.Convert conversions.ToDecimal)
+wide_kind opcodes.ToString = Some wide.ToString
+wide_kind opcodes.Mid = Some wide.Mid
+wide_kind opcodes.Match = Some wide.Match
+wide_kind _ = None
+
 -- the kind of a term: one of those above, or it is not evaluated
-abbrev pub other_or : Option OperatorKind → TermKind
-other_or (Some k) = kinds.Operator k
-other_or None = kinds.Unsupported
+abbrev pub wide_or : Option WideKind → TermKind
+wide_or (Some k) = kinds.Wide k
+wide_or None = kinds.Unsupported
+
+abbrev pub other_or : Opcode → Option OperatorKind → TermKind
+other_or op (Some k) = kinds.Operator k
+other_or op None = wide_or (wide_kind op)
 
 abbrev pub test_or : Opcode → Option Test → TermKind
 test_or op (Some k) = kinds.Operator (operators.Test k)
-test_or op None = other_or (other_operator op)
+test_or op None = other_or op (other_operator op)
 
 abbrev pub one_or : Opcode → Option OneOperand → TermKind
 one_or op (Some k) = kinds.Operator (operators.One k)
@@ -246,6 +264,16 @@ inner_of _ = Err (refusal.Name BadName)
 abbrev pub list_of : Option Part → Outcome Trees
 list_of (Some (list ts)) = Ok ts
 list_of _ = Err (refusal.Name BadName)
+
+-- whether an operand is a name
+abbrev pub is_named : Option Part → Bool
+is_named None = false
+is_named (Some null) = false
+is_named (Some (name n)) = true
+is_named (Some (number n)) = false
+is_named (Some (bytes bs)) = false
+is_named (Some (inner t)) = false
+is_named (Some (list ts)) = false
 
 -- the Else of an If, where it has one
 abbrev pub else_of : Option Part → Option Tree

@@ -12,8 +12,8 @@ use aml_namespace::Names;
 use aml_objects::{Entry, NamedObject, NodeId};
 use aml_path::{Path, Seg};
 
-/// In the body of a control method: how many arguments the names take that stand, and those of which an External told. Each is
-/// looked up where it stands, so that a scan copies none.
+/// In the body of a control method: how many arguments the names take that stand, and those of which an External
+/// told. Each is looked up where it stands, so that a scan copies none.
 impl ArgumentCounts for Declarations {
     ghost counts = { known_arities };
 

@@ -19,12 +19,14 @@ use std::alloc::Global;
 use std::mem;
 
 impl<S> WorldState<S> {
-    /// The marks of the body of the control method at a path, with the arguments that names take now; refused as `scan_list` refuses
-    /// it. The body that was read last is not scanned again, unless a name came or went, or a control method or an alias was replaced.
+    /// The marks of the body of the control method at a path, with the arguments that names take now; refused as
+    /// `scan_list` refuses it. The body that was read last is not scanned again, unless a name came or went, or a
+    /// control method or an alias was replaced.
     ///
     /// They are good for the whole call: names that it declares or removes don't change how its body reads.
     pub fn body_marks(&mut self, alloc: Global, path: &Path, body: &Body) -> Result<Marks, Refusal>
-        ensures marks { Does (seen (λ m. trees_of (trees_by m body.now)) result) self.new (body_terms path.now body.now) self.old }
+        ensures marks { Does (seen (λ m. trees_of (trees_by m body.now)) result) self.new
+            (body_terms path.now body.now) self.old }
         ensures unchanged { self.new ≡ self.old }
     {
         self.declarations.body_marks(alloc, path, body)
@@ -39,7 +41,8 @@ impl Declarations {
         path: &Path,
         body: &Body,
     ) -> Result<Marks, Refusal>
-        ensures marks { Answers (seen (λ m. trees_by m body.now) result) (reading body.now path.now true (known_arities self.old)) }
+        ensures marks { Answers (seen (λ m. trees_by m body.now) result)
+            (reading body.now path.now true (known_arities self.old)) }
         ensures unchanged { self.new ≡ self.old }
     {
         if let Some(marks) = self.kept_marks(path, body) {
@@ -52,7 +55,8 @@ impl Declarations {
 
     /// The marks that are kept, where they are those of this body of the control method at this path.
     fn kept_marks(&self, path: &Path, body: &Body) -> Option<&Marks>
-        ensures { IfSome result (λ m. reading body.now path.now true (known_arities self.now) ≡ Ok (trees_by m.now body.now)) }
+        ensures { IfSome result (λ m. reading body.now path.now true (known_arities self.now) ≡
+            Ok (trees_by m.now body.now)) }
     {
         match &self.kept {
             None => None,
@@ -66,7 +70,8 @@ impl Declarations {
         }
     }
 
-    /// Keeps the marks of a body that was scanned now, and no others. Where there is no memory for it, what is kept stays.
+    /// Keeps the marks of a body that was scanned now, and no others. Where there is no memory for it, what is kept
+    /// stays.
     fn keep(
         &mut self,
         alloc: Global,
@@ -101,8 +106,8 @@ impl ScannedBody {
         })
     }
 
-    /// Whether this is the body of the control method at a path. The bytes are compared, since another table may have told of a method
-    /// at the same path before.
+    /// Whether this is the body of the control method at a path. The bytes are compared, since another table may have
+    /// told of a method at the same path before.
     fn is_of(&self, path: &Path, body: &Body) -> bool
         ensures path { result ≡ true → self.now.path ≡ path.now }
         ensures body { result ≡ true → self.now.body ≡ body.now }

@@ -15,8 +15,8 @@ use std::alloc::Global;
 impl<S> WorldState<S> {
     /// Declares a name, and gives the number of the declaration, which is never given again.
     ///
-    /// A name whose parent doesn't stand is refused as `NotFound`, one that stands already as `Exists`, and one for which no
-    /// number is left as `ObjectLimit`. Where a name is refused, nothing changes.
+    /// A name whose parent doesn't stand is refused as `NotFound`, one that stands already as `Exists`, and one for
+    /// which no number is left as `ObjectLimit`. Where a name is refused, nothing changes.
     #[tactic(auto, using(crate::proofs::Lifted::parts))]
     pub fn declare(&mut self, path: Path, object: NamedObject) -> Result<u64, Refusal>
         ensures world { Does result self.new (on_names (declared path object)) self.old }
@@ -42,7 +42,8 @@ impl<S> WorldState<S> {
         self.declare(path, object)
     }
 
-    /// Declares a control method with its flags and its body; refused as `new_name` refuses it, and then nothing changes.
+    /// Declares a control method with its flags and its body; refused as `new_name` refuses it, and then nothing
+    /// changes.
     #[tactic(auto, unfolding(crate::specs::Declaring::new_method))]
     pub fn new_method(
         &mut self,

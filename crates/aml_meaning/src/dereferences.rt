@@ -1,9 +1,15 @@
-//! What references refer to, one step on, and references to what targets name (ACPI 6.5, 19.6: DerefOf, RefOf, CondRefOf).
+//! What references refer to, one step on, and references to what targets name (ACPI 6.5, 19.6: DerefOf, RefOf,
+//! CondRefOf).
 ghost use Rattle.std.specs.Prelude.{◌≡◌, option_map};
 ghost use Rattle.ar_space.specs.Change.{Does};
 ghost use Rattle.ar_space.specs.Outcome.{Answers, NotMemory, seen};
 ghost use Rattle.aml_namespace.specs.Search.{found};
-ghost use Rattle.aml_meaning.specs.StoreTargets.{name_tested, frame_tested, byte_tested, tested, once, declared_once, value_once, slot_once, named_once, name_once, element_once, held_once, byte_once, dereferenced, number_in_frame, frame_number, slot_reference, number_in_entry, declared_number, name_reference, reference_of, unless_empty, slot_initialized, unless_empty_element, element_initialized, if_initialized, where_found, reference_if_found};
+ghost use Rattle.aml_meaning.specs.StoreTargets.{name_tested, frame_tested, byte_tested, tested, once, declared_once};
+ghost use Rattle.aml_meaning.specs.StoreTargets.{value_once, slot_once, named_once, name_once, element_once, held_once};
+ghost use Rattle.aml_meaning.specs.StoreTargets.{byte_once, dereferenced, number_in_frame, frame_number};
+ghost use Rattle.aml_meaning.specs.StoreTargets.{slot_reference, number_in_entry, declared_number, name_reference};
+ghost use Rattle.aml_meaning.specs.StoreTargets.{reference_of, unless_empty, slot_initialized, unless_empty_element};
+ghost use Rattle.aml_meaning.specs.StoreTargets.{element_initialized, if_initialized, where_found, reference_if_found};
 ghost use Rattle.aml_meaning.specs.TargetTerms.{reference_in};
 
 use crate::readings::read_as;
@@ -58,9 +64,9 @@ impl<S> WorldState<S> {
         Ok(())
     }
 
-    /// What a reference refers to, one step on: a value, or a field, whose bits are read next. A name that holds no value
-    /// is a reference to it again. Refused: what is gone as `DeadReference`, what is uninitialized as `NoValue`, and a name in a
-    /// package that isn't found as `NotFound`.
+    /// What a reference refers to, one step on: a value, or a field, whose bits are read next. A name that holds no
+    /// value is a reference to it again. Refused: what is gone as `DeadReference`, what is uninitialized as
+    /// `NoValue`, and a name in a package that isn't found as `NotFound`.
     #[tactic(auto, using(ar_space::specs::Change::changing))]
     pub fn dereference(&self, reference: Reference) -> Result<Held, Refusal>
         ensures answer { Does result self.now (dereferenced reference) self.now }
@@ -197,8 +203,8 @@ impl<S> WorldState<S> {
         }
     }
 
-    /// A reference, unless it refers to a slot or an element that holds no value yet. Refused as `DeadReference` where what it
-    /// refers to is gone.
+    /// A reference, unless it refers to a slot or an element that holds no value yet. Refused as `DeadReference`
+    /// where what it refers to is gone.
     #[tactic(auto, using(ar_space::specs::Change::changing))]
     pub fn if_initialized(&self, reference: Reference) -> Result<Option<Reference>, Refusal>
         ensures answer { Does result self.now (if_initialized reference) self.now }
@@ -277,7 +283,7 @@ fn once(number: u64, object: &NamedObject) -> Held
 }
 
 /// What the name in an element of a package stands for: its data or its field, and else a reference to it.
-fn named_once(number: u64, object: &NamedObject) -> Held
+pub(crate) fn named_once(number: u64, object: &NamedObject) -> Held
     ensures { result ≡ named_once number object.now }
 {
     match object {

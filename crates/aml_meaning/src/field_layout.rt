@@ -2,8 +2,11 @@
 ghost use Rattle.std.specs.Prelude.{◌≡◌};
 ghost use Rattle.ar_space.specs.Change.{Does};
 ghost use Rattle.ar_space.specs.Outcome.{Answers, NotMemory};
-ghost use Rattle.aml_meaning.specs.FieldTerms.{width_numbered, access_width, rule_numbered, update_rule, sized, further, new_field, region_number, region_found, in_region, field_number, field_found};
+ghost use Rattle.aml_meaning.specs.FieldTerms.{width_numbered, access_width, rule_numbered, update_rule, sized};
+ghost use Rattle.aml_meaning.specs.FieldTerms.{further, new_field, region_number, region_found, in_region};
+ghost use Rattle.aml_meaning.specs.FieldTerms.{field_number, field_found, connection_buffer, connection_found};
 
+use crate::buffer_fields::buffer_of;
 use crate::world_state::WorldState;
 use aml_namespace::Scope;
 use aml_objects::{FieldSource, FieldUnit, NamedObject, UpdateRule};
@@ -55,8 +58,8 @@ impl FieldLayout {
     }
 }
 
-/// How wide the accesses are that field flags or an access type ask for: their lowest four bits. Any other than word, double
-/// word and quad word access is byte access.
+/// How wide the accesses are that field flags or an access type ask for: their lowest four bits. Any other than word,
+/// double word and quad word access is byte access.
 pub fn access_width(flags: u64) -> Width
     ensures { result ≡ access_width flags }
 {
@@ -89,7 +92,8 @@ pub fn update_rule(flags: u64) -> UpdateRule
 impl<S> WorldState<S> {
     /// Declares a field unit of so many bits where a list of fields has come to, and gives where it goes on.
     ///
-    /// A field of no bits, or of more than 8,388,608, is refused as `FieldLimit`, and its name as `new_name` refuses it.
+    /// A field of no bits, or of more than 8,388,608, is refused as `FieldLimit`, and its name as `new_name` refuses
+    /// it.
     #[tactic(auto, using(ar_space::specs::Change::changing), unfolding(crate::specs::FieldTerms::new_field))]
     pub fn new_field(
         &mut self,
@@ -114,8 +118,8 @@ impl<S> WorldState<S> {
         at.further(count)
     }
 
-    /// The number of the declaration of the operation region that a name finds; anything else is refused as `WrongType`, and
-    /// a name that isn't found as `Names::lookup` refuses it.
+    /// The number of the declaration of the operation region that a name finds; anything else is refused as
+    /// `WrongType`, and a name that isn't found as `Names::lookup` refuses it.
     #[tactic(auto, using(ar_space::specs::Change::changing), unfolding(crate::specs::FieldTerms::region_found))]
     pub fn region_found(&self, scope: Scope<'_>, name: &NameString) -> Result<u64, Refusal>
         ensures answer { Does result self.now (region_found scope.entry.path.now name.now) self.now }
@@ -125,8 +129,8 @@ impl<S> WorldState<S> {
         region_number(entry.number, &entry.object)
     }
 
-    /// The number of the declaration of the field that a name finds, which lies in an operation region; anything else is
-    /// refused as `WrongType`, and a name that isn't found as `Names::lookup` refuses it.
+    /// The number of the declaration of the field that a name finds, which lies in an operation region; anything else
+    /// is refused as `WrongType`, and a name that isn't found as `Names::lookup` refuses it.
     #[tactic(auto, using(ar_space::specs::Change::changing), unfolding(crate::specs::FieldTerms::field_found))]
     pub fn field_found(&self, scope: Scope<'_>, name: &NameString) -> Result<u64, Refusal>
         ensures answer { Does result self.now (field_found scope.entry.path.now name.now) self.now }
@@ -134,6 +138,17 @@ impl<S> WorldState<S> {
     {
         let entry = self.entry_in(scope, name)?;
         field_number(entry.number, &entry.object)
+    }
+
+    /// The buffer that a name in a Connection finds; anything else is refused as `WrongType`, and a name that isn't
+    /// found as `Names::lookup` refuses it.
+    #[tactic(auto, using(ar_space::specs::Change::changing), unfolding(crate::specs::FieldTerms::connection_found))]
+    pub fn connection_found(&self, scope: Scope<'_>, name: &NameString) -> Result<u32, Refusal>
+        ensures answer { Does result self.now (connection_found scope.entry.path.now name.now) self.now }
+        ensures memory { NotMemory result }
+    {
+        let entry = self.entry_in(scope, name)?;
+        connection_buffer(&entry.object)
     }
 }
 
@@ -155,6 +170,16 @@ fn region_number(number: u64, object: &NamedObject) -> Result<u64, Refusal>
 {
     match object {
         NamedObject::OperationRegion(_) => Ok(number),
+        _ => Err(Refusal::Value(ValueFault::WrongType)),
+    }
+}
+
+fn connection_buffer(object: &NamedObject) -> Result<u32, Refusal>
+    ensures answer { Answers result (connection_buffer object.now) }
+    ensures memory { NotMemory result }
+{
+    match object {
+        NamedObject::Data(value) => buffer_of(*value),
         _ => Err(Refusal::Value(ValueFault::WrongType)),
     }
 }

@@ -7,7 +7,8 @@ ghost use Rattle.aml_meaning.specs.State.{on_objects};
 ghost use Rattle.aml_meaning.specs.Given.{given_of, givens};
 ghost use Rattle.aml_meaning.specs.Readings.{absolute};
 ghost use Rattle.aml_meaning.specs.Drafted.{drafted};
-ghost use Rattle.aml_meaning.specs.Importing.{reference_to, imported_by, each_imported, elements_imported, package_imported, imported, all_imported};
+ghost use Rattle.aml_meaning.specs.Importing.{reference_to, imported_by, each_imported, elements_imported};
+ghost use Rattle.aml_meaning.specs.Importing.{package_imported, imported, all_imported};
 
 use crate::datum::Datum;
 use crate::world_state::WorldState;
@@ -22,9 +23,9 @@ const MAX_NESTING: usize = 64;
 impl<S> WorldState<S> {
     /// A value that is handed in, as a value of this world.
     ///
-    /// An integer is imported as wide as integers are, and a name as a reference to it. Refused: a name that isn't found as
-    /// `NotFound`, a reference as `WrongType`, and as `ObjectLimit` what is too large, packages that nest more than 64 deep,
-    /// and too many objects. A refused value makes no object.
+    /// An integer is imported as wide as integers are, and a name as a reference to it. Refused: a name that isn't
+    /// found as `NotFound`, a reference as `WrongType`, and as `ObjectLimit` what is too large, packages that nest
+    /// more than 64 deep, and too many objects. A refused value makes no object.
     #[tactic(auto, using(crate::proofs::Imports::appending))]
     pub fn import(&mut self, alloc: Global, datum: &Datum) -> Result<Value, Refusal>
         ensures { Does result self.new (imported (given_of datum.now)) self.old }
@@ -35,10 +36,11 @@ impl<S> WorldState<S> {
         Ok(value)
     }
 
-    /// Values that are handed in, one after another, each refused as `import` refuses it; the objects of those before a refused one
-    /// stay.
+    /// Values that are handed in, one after another, each refused as `import` refuses it; the objects of those before
+    /// a refused one stay.
     pub fn import_all(&mut self, alloc: Global, arguments: &[Datum]) -> Result<Vec<Value>, Refusal>
-        ensures { Does (seen (λ list. list.items) result) self.new (all_imported (map given_of arguments.now) []) self.old }
+        ensures { Does (seen (λ list. list.items) result) self.new
+            (all_imported (map given_of arguments.now) []) self.old }
     {
         let mut values = Vec::new(alloc);
         for datum in arguments {
@@ -61,7 +63,8 @@ impl<S> WorldState<S> {
     /// A new string of these bytes, in a draft.
     #[tactic(auto, using(crate::proofs::Imports::importing))]
     fn draft_text(&self, alloc: Global, draft: &mut Draft, bytes: &Octets) -> Result<Value, Refusal>
-        ensures { Does result (drafted self.now draft.new) (on_objects (make_string bytes.now)) (drafted self.now draft.old) }
+        ensures { Does result (drafted self.now draft.new) (on_objects (make_string bytes.now))
+            (drafted self.now draft.old) }
     {
         match bytes.copy(alloc) {
             Ok(bytes) => draft.make_string(&self.heap, bytes),
@@ -77,7 +80,8 @@ impl<S> WorldState<S> {
         draft: &mut Draft,
         bytes: &Octets,
     ) -> Result<Value, Refusal>
-        ensures { Does result (drafted self.now draft.new) (on_objects (make_buffer bytes.now)) (drafted self.now draft.old) }
+        ensures { Does result (drafted self.now draft.new) (on_objects (make_buffer bytes.now))
+            (drafted self.now draft.old) }
     {
         match bytes.copy(alloc) {
             Ok(bytes) => draft.make_buffer(&self.heap, bytes),
@@ -88,7 +92,8 @@ impl<S> WorldState<S> {
     /// A new package of these elements, in a draft.
     #[tactic(auto, using(crate::proofs::Imports::importing))]
     fn draft_package(&self, draft: &mut Draft, elements: Elements) -> Result<Value, Refusal>
-        ensures { Does result (drafted self.now draft.new) (on_objects (make_package elements)) (drafted self.now draft.old) }
+        ensures { Does result (drafted self.now draft.new) (on_objects (make_package elements))
+            (drafted self.now draft.old) }
     {
         draft.make_package(&self.heap, elements)
     }
@@ -111,7 +116,8 @@ fn import_by<S>(
     levels: usize,
     datum: &Datum,
 ) -> Result<Value, Refusal>
-    ensures { Does result (drafted world.now draft.new) (imported_by (package_imported levels) (given_of datum.now)) (drafted world.now draft.old) }
+    ensures { Does result (drafted world.now draft.new) (imported_by (package_imported levels) (given_of datum.now))
+        (drafted world.now draft.old) }
 {
     match datum {
         Datum::Nothing => Ok(Value::Uninitialized),
@@ -133,7 +139,8 @@ fn import_package<S>(
     levels: usize,
     list: &[Datum],
 ) -> Result<Value, Refusal>
-    ensures { Does result (drafted world.now draft.new) (package_imported levels (givens (map given_of list.now))) (drafted world.now draft.old) }
+    ensures { Does result (drafted world.now draft.new) (package_imported levels (givens (map given_of list.now)))
+        (drafted world.now draft.old) }
 {
     if levels == 0 {
         return Err(Refusal::Evaluation(EvaluationFault::ObjectLimit));
@@ -150,7 +157,8 @@ fn import_elements<S>(
     levels: usize,
     list: &[Datum],
 ) -> Result<Value, Refusal>
-    ensures { Does result (drafted world.now draft.new) (elements_imported (package_imported levels) (givens (map given_of list.now))) (drafted world.now draft.old) }
+    ensures { Does result (drafted world.now draft.new) (elements_imported (package_imported levels)
+        (givens (map given_of list.now))) (drafted world.now draft.old) }
 {
     let elements = import_each(alloc, world, draft, levels, list)?;
     world.draft_package(draft, elements)
@@ -165,7 +173,8 @@ fn import_each<S>(
     levels: usize,
     list: &[Datum],
 ) -> Result<Elements, Refusal>
-    ensures { Does result (drafted world.now draft.new) (each_imported (package_imported levels) (givens (map given_of list.now)) []) (drafted world.now draft.old) }
+    ensures { Does result (drafted world.now draft.new) (each_imported (package_imported levels)
+        (givens (map given_of list.now)) []) (drafted world.now draft.old) }
 {
     let mut done = Elements::new(alloc);
     for datum in list {

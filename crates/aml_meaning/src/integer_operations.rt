@@ -26,7 +26,8 @@ impl<S> WorldState<S> {
         x: u64,
         y: u64,
     ) -> Result<u64, Refusal>
-        ensures answer { Does (seen Integer result) self.now (result_of_two (two.Integers operator) (Integer x) (Integer y)) self.now }
+        ensures answer { Does (seen Integer result) self.now (result_of_two (two.Integers operator) (Integer x)
+            (Integer y)) self.now }
         ensures memory { NotMemory result }
     {
         operate(operator, self.width, x, y)

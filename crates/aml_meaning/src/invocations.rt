@@ -7,7 +7,8 @@ ghost use Rattle.aml_objects.specs.declared.entry.Entry.{Entry};
 ghost use Rattle.aml_namespace.specs.Namespace.{numbered};
 ghost use Rattle.aml_namespace.specs.Search.{found};
 ghost use Rattle.aml_meaning.specs.Readings.{arguments_of};
-ghost use Rattle.aml_meaning.specs.Invocations.{invocation_of_body, invocation_of_object, invocation_of, named_use, invocation_found, use_found, left};
+ghost use Rattle.aml_meaning.specs.Invocations.{invocation_of_body, invocation_of_object, invocation_of, named_use};
+ghost use Rattle.aml_meaning.specs.Invocations.{invocation_found, use_found, left};
 
 use crate::invocation::Invocation;
 use crate::readings::{arguments_of, as_many, read_as};
@@ -21,9 +22,9 @@ use std::alloc::Global;
 impl<S> WorldState<S> {
     /// What a name is where a value stands, with so many arguments.
     ///
-    /// A name that holds a value is that value, a field its bits, a control method a call, and anything else a reference to it;
-    /// so is a name that holds a reference. Refused: a name that isn't found as `NotFound`, and another count than it takes as
-    /// `ArityChanged`.
+    /// A name that holds a value is that value, a field its bits, a control method a call, and anything else a
+    /// reference to it; so is a name that holds a reference. Refused: a name that isn't found as `NotFound`, and
+    /// another count than it takes as `ArityChanged`.
     pub fn invocation(
         &self,
         alloc: Global,
@@ -41,7 +42,8 @@ impl<S> WorldState<S> {
 
     /// The node that a name finds from a scope.
     pub fn search(&self, scope: Scope<'_>, name: &NameString) -> Result<NodeId, Refusal>
-        ensures answer { seen (λ id. numbered id.number self.now.names.map) result ≡ seen Some (found self.now.names.map scope.entry.path.now name.now) }
+        ensures answer { seen (λ id. numbered id.number self.now.names.map) result ≡
+            seen Some (found self.now.names.map scope.entry.path.now name.now) }
         ensures memory { NotMemory result }
     {
         self.names().search_in(scope, name)
@@ -49,7 +51,8 @@ impl<S> WorldState<S> {
 
     /// How many arguments it takes to evaluate the node with an id: those of a control method, none of anything else.
     fn arguments_at(&self, id: NodeId) -> u8
-        ensures { (f : List Segment × Entry) → numbered id.number self.now.names.map ≡ Some f → result ≡ arguments_of f.1.object }
+        ensures { (f : List Segment × Entry) → numbered id.number self.now.names.map ≡ Some f →
+            result ≡ arguments_of f.1.object }
     {
         match self.names().node(id) {
             None => 0,
@@ -57,11 +60,12 @@ impl<S> WorldState<S> {
         }
     }
 
-    /// What the node is that a name finds, where a value stands with so many arguments; refused as `ArityChanged` where it takes
-    /// another count.
+    /// What the node is that a name finds, where a value stands with so many arguments; refused as `ArityChanged`
+    /// where it takes another count.
     #[tactic(auto, using(ar_space::specs::Change::changing), unfolding(crate::specs::Invocations::use_found))]
     pub fn use_with(&self, alloc: Global, id: NodeId, count: usize) -> Result<Invocation, Refusal>
-        ensures { (f : List Segment × Entry) → numbered id.number self.now.names.map ≡ Some f → Does result self.now (use_found f count) self.now }
+        ensures { (f : List Segment × Entry) → numbered id.number self.now.names.map ≡ Some f →
+            Does result self.now (use_found f count) self.now }
     {
         as_many(self.arguments_at(id), count)?;
         self.use_of(alloc, id)
@@ -85,7 +89,8 @@ impl<S> WorldState<S> {
 
     /// What the node is that a name finds, where a value stands.
     fn use_of(&self, alloc: Global, id: NodeId) -> Result<Invocation, Refusal>
-        ensures { (f : List Segment × Entry) → numbered id.number self.now.names.map ≡ Some f → Answers result (invocation_of_object f.0 f.1.number f.1.object) }
+        ensures { (f : List Segment × Entry) → numbered id.number self.now.names.map ≡ Some f →
+            Answers result (invocation_of_object f.0 f.1.number f.1.object) }
     {
         let Some(entry) = self.names().node(id) else {
             return Err(Refusal::Namespace(NamespaceFault::NotFound));
@@ -100,7 +105,8 @@ impl<S> WorldState<S> {
     }
 
     fn call_of(&self, alloc: Global, id: NodeId, body: &MethodBody) -> Result<Invocation, Refusal>
-        ensures { (f : List Segment × Entry) → numbered id.number self.now.names.map ≡ Some f → Answers result (invocation_of_body f.0 body.now) }
+        ensures { (f : List Segment × Entry) → numbered id.number self.now.names.map ≡ Some f →
+            Answers result (invocation_of_body f.0 body.now) }
     {
         match body {
             MethodBody::Osi => Ok(Invocation::Osi),

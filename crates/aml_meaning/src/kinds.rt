@@ -1,11 +1,15 @@
 //! The rule by which a term with an opcode is evaluated.
 ghost use Rattle.std.specs.Prelude.{◌≡◌};
-ghost use Rattle.aml_meaning.specs.Terms.{data_kind, declaration_kind, region_kind, statement_kind, slot_kind, integer_operator, two_operands, one_operand, test_kind, other_operator, kind_of, declaration_or, region_or, statement_or, slot_or, integers_or, two_or, one_or, test_or, other_or, slot_target, target_kind_of, target_kind};
+ghost use Rattle.aml_meaning.specs.Terms.{data_kind, declaration_kind, region_kind, statement_kind, slot_kind};
+ghost use Rattle.aml_meaning.specs.Terms.{integer_operator, two_operands, one_operand, test_kind, other_operator};
+ghost use Rattle.aml_meaning.specs.Terms.{wide_kind, kind_of, declaration_or, region_or, statement_or, slot_or};
+ghost use Rattle.aml_meaning.specs.Terms.{integers_or, two_or, one_or, test_or, other_or, wide_or, slot_target};
+ghost use Rattle.aml_meaning.specs.Terms.{target_kind_of, target_kind};
 
 use crate::store_target::TargetKind;
 use crate::term_kind::{
-    BufferFieldSize, Count, DataKind, DeclarationKind, OneOperand, OperatorKind, RegionKind,
-    StatementKind, TermKind, Test, TwoOperands,
+    BufferFieldSize, Conversion, Count, DataKind, DeclarationKind, OneOperand, OperatorKind,
+    RegionKind, StatementKind, TermKind, Test, TwoOperands, WideKind,
 };
 use aml_convert::{BinaryOperator, Comparison, LogicalOperator, UnaryOperator};
 use aml_grammar::{Opcode, TermCode};
@@ -204,8 +208,25 @@ fn other_operator(opcode: Opcode) -> Option<OperatorKind>
     }
 }
 
-/// The rule by which a term with an opcode is evaluated. Every term asks it, so all of its parts are compiled as one: there each opcode is
-/// looked at once.
+/// Terms of the wide profile.
+#[inline(always)]
+fn wide_kind(opcode: Opcode) -> Option<WideKind>
+    ensures { result ≡ wide_kind opcode }
+{
+    match opcode {
+        Opcode::ToDecimalString => Some(WideKind::Convert(Conversion::DecimalString)),
+        Opcode::ToHexString => Some(WideKind::Convert(Conversion::HexadecimalString)),
+        Opcode::FromBcd => Some(WideKind::Convert(Conversion::FromDecimal)),
+        Opcode::ToBcd => Some(WideKind::Convert(Conversion::ToDecimal)),
+        Opcode::ToString => Some(WideKind::ToString),
+        Opcode::Mid => Some(WideKind::Mid),
+        Opcode::Match => Some(WideKind::Match),
+        _ => None,
+    }
+}
+
+/// The rule by which a term with an opcode is evaluated. Every term asks it, so all of its parts are compiled as one:
+/// there each opcode is looked at once.
 #[inline(always)]
 pub fn kind_of(opcode: Opcode) -> TermKind
     ensures { result ≡ kind_of opcode }
@@ -298,10 +319,20 @@ fn test_or_other(opcode: Opcode) -> TermKind
 
 #[inline(always)]
 fn other_kind(opcode: Opcode) -> TermKind
-    ensures { result ≡ other_or (other_operator opcode) }
+    ensures { result ≡ other_or opcode (other_operator opcode) }
 {
     match other_operator(opcode) {
         Some(kind) => TermKind::Operator(kind),
+        None => wide_or_unsupported(opcode),
+    }
+}
+
+#[inline(always)]
+fn wide_or_unsupported(opcode: Opcode) -> TermKind
+    ensures { result ≡ wide_or (wide_kind opcode) }
+{
+    match wide_kind(opcode) {
+        Some(kind) => TermKind::Wide(kind),
         None => TermKind::Unsupported,
     }
 }

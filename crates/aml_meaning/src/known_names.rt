@@ -6,7 +6,8 @@ ghost use Rattle.aml_path.specs.declared.segment.Seg.{Seg as Segment};
 ghost use Rattle.aml_objects.specs.declared.entry.Entry.{Entry};
 ghost use Rattle.aml_objects.specs.declared.entry.NamedObject.TheVariants.{Data};
 ghost use Rattle.aml_objects.specs.declared.value.Value.TheVariants.{Integer};
-ghost use Rattle.aml_namespace.specs.Namespace.{root_alone, declared, without_below, replaced, mutexes_released, numbered};
+ghost use Rattle.aml_namespace.specs.Namespace.{root_alone, declared, without_below, replaced, mutexes_released};
+ghost use Rattle.aml_namespace.specs.Namespace.{numbered};
 ghost use Rattle.aml_meaning.specs.Known.{on_known, is_plain};
 
 use aml_grammar::Arities;
@@ -19,7 +20,8 @@ use std::alloc::Global;
 use std::marker::Model;
 use std::mem;
 
-/// The body of a control method that was scanned: the path of the method, a share of its bytes, and the marks that the scan left.
+/// The body of a control method that was scanned: the path of the method, a share of its bytes, and the marks that
+/// the scan left.
 #[derive(Drop)]
 pub(crate) struct ScannedBody {
     pub(crate) path: Path,
@@ -29,8 +31,8 @@ pub(crate) struct ScannedBody {
 
 /// The names that are declared, and how many arguments they take as the tables tell.
 ///
-/// How a body reads is up to the arguments that names take. So the marks of the body that was scanned last are kept, until another body
-/// is scanned or names come to take other arguments. What is kept is not seen.
+/// How a body reads is up to the arguments that names take. So the marks of the body that was scanned last are kept,
+/// until another body is scanned or names come to take other arguments. What is kept is not seen.
 #[derive(Drop)]
 pub(crate) struct Declarations {
     pub(crate) names: Names,
@@ -105,7 +107,14 @@ impl Declarations {
     /// A path takes so many arguments from now on, as `Arities::add` has it.
     #[tactic(auto, using(crate::proofs::BodyMarks::forgotten))]
     pub(crate) fn add_arity(&mut self, path: Path, count: u8) -> Result<(), Refusal>
-        ensures change { Answers (seen (λ _. self.new) result) (Ok (record self.old { arities = self.old.arities ++ record { path = path; count = count; external = false } ∷ [] })) }
+        ensures change { Answers (seen (λ _. self.new) result) (Ok
+            (record self.old {
+              arities = self.old.arities ++ record {
+                path = path;
+                count = count;
+                external = false;
+              } ∷ [];
+            })) }
         ensures refused { OnErr result (self.new ≡ self.old) }
     {
         forget(&mut self.kept);
@@ -140,24 +149,28 @@ impl Declarations {
         self.names.release_mutexes();
     }
 
-    /// Puts an integer in place of another, as `Names::put_integer` does. An integer takes no arguments, so what is kept stays.
+    /// Puts an integer in place of another, as `Names::put_integer` does. An integer takes no arguments, so what is
+    /// kept stays.
     #[tactic(auto, using(crate::proofs::KnownNames::keeping))]
     #[inline]
     pub(crate) fn put_integer(&mut self, id: NodeId, number: u64) -> bool
-        ensures change { result ≡ true → (f : List Segment × Entry) → numbered id.number self.old.names.map ≡ Some f → replaced f.0 (Data (Integer number)) self.old.names ≡ (Ok tt, self.new.names) }
+        ensures change { result ≡ true → (f : List Segment × Entry) → numbered id.number self.old.names.map ≡ Some f →
+            replaced f.0 (Data (Integer number)) self.old.names ≡ (Ok tt, self.new.names) }
         ensures arities { self.new.arities ≡ self.old.arities }
-        ensures held { result ≡ true → (f : List Segment × Entry) → numbered id.number self.old.names.map ≡ Some f → (n : ℕ) × (f.1.object ≡ Data (Integer n)) }
+        ensures held { result ≡ true → (f : List Segment × Entry) → numbered id.number self.old.names.map ≡ Some f →
+            (n : ℕ) × (f.1.object ≡ Data (Integer n)) }
         ensures gone { numbered id.number self.old.names.map ≡ None → result ≡ false }
         ensures unchanged { result ≡ false → self.new ≡ self.old }
     {
         self.names.put_integer(id, number)
     }
 
-    /// Puts another object into a node, as `Names::replace_node` does. Where neither object takes arguments or is an alias, what is kept
-    /// stays.
+    /// Puts another object into a node, as `Names::replace_node` does. Where neither object takes arguments or is an
+    /// alias, what is kept stays.
     #[tactic(auto, using(crate::proofs::KnownNames::keeping))]
     pub(crate) fn replace_node(&mut self, id: NodeId, object: NamedObject)
-        ensures change { (f : List Segment × Entry) → numbered id.number self.old.names.map ≡ Some f → replaced f.0 object self.old.names ≡ (Ok tt, self.new.names) }
+        ensures change { (f : List Segment × Entry) → numbered id.number self.old.names.map ≡ Some f →
+            replaced f.0 object self.old.names ≡ (Ok tt, self.new.names) }
         ensures arities { self.new.arities ≡ self.old.arities }
         ensures unchanged { numbered id.number self.old.names.map ≡ None → self.new ≡ self.old }
     {
@@ -166,8 +179,8 @@ impl Declarations {
         self.names.replace_node(id, object);
     }
 
-    /// Puts another object at a path, as `Names::replace_located` does. Where neither object takes arguments or is an alias, what is kept
-    /// stays.
+    /// Puts another object at a path, as `Names::replace_located` does. Where neither object takes arguments or is an
+    /// alias, what is kept stays.
     #[tactic(auto, using(crate::proofs::KnownNames::keeping))]
     pub(crate) fn replace_located(
         &mut self,
@@ -203,7 +216,8 @@ fn keep_where(kept: &mut Option<ScannedBody>, stays: bool)
 /// Whether an object and the one that stands where it is to stand take no arguments, and are no aliases.
 fn both_plain(object: &NamedObject, standing: Option<&Entry>) -> bool
     ensures new { result ≡ true → is_plain object.now ≡ true }
-    ensures old { result ≡ true → (e : Entry) → option_map (λ e. e.now) standing.entry ≡ Some e → is_plain e.object ≡ true }
+    ensures old { result ≡ true → (e : Entry) → option_map (λ e. e.now) standing.entry ≡ Some e →
+        is_plain e.object ≡ true }
 {
     match standing {
         None => false,

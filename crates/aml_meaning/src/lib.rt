@@ -9,6 +9,7 @@ mod declarations;
 mod dereferences;
 mod field_layout;
 mod flow;
+mod formed_stores;
 mod frame;
 mod import;
 mod integer_operations;
@@ -32,6 +33,7 @@ mod references;
 mod referents;
 mod regions;
 mod running;
+mod searches;
 mod slots;
 mod store_target;
 mod stores;
@@ -40,6 +42,7 @@ mod targets;
 mod term_kind;
 mod unit_integers;
 mod validity;
+mod wide_operations;
 mod world;
 mod world_state;
 
@@ -57,10 +60,11 @@ pub use pci_functions::{Sought, adr, base_bus, segment_group};
 pub use profile::Profile;
 pub use regions::{RegionField, RegionSpace, integer_only, pci_space, space_numbered};
 pub use running::Running;
+pub use searches::{MatchTest, Search, Searching};
 pub use store_target::{Held, Holding, StoreTarget, Stored, TargetKind};
 pub use term_kind::{
-    BufferFieldSize, Count, DataKind, DeclarationKind, OneOperand, OperatorKind, RegionKind,
-    StatementKind, TermKind, Test, TwoOperands,
+    BufferFieldSize, Conversion, Count, DataKind, DeclarationKind, OneOperand, OperatorKind,
+    RegionKind, StatementKind, TermKind, Test, TwoOperands, WideKind,
 };
 pub use world::World;
 pub use world_state::WorldState;

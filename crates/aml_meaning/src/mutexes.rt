@@ -8,7 +8,9 @@ ghost use Rattle.aml_objects.specs.declared.entry.NamedObject.TheVariants as obj
 ghost use Rattle.aml_namespace.specs.Namespace.{numbered, replaced};
 ghost use Rattle.aml_meaning.specs.declared.store_target.StoreTarget.TheVariants as targets;
 ghost use Rattle.aml_meaning.specs.State.{on_names};
-ghost use Rattle.aml_meaning.specs.Mutexes.{count_of_object, mutex_count, once_more, once_less, acquired, given_back, acquired_by_number, given_back_by_number, acquired_by, given_back_by, acquired_at, given_back_at};
+ghost use Rattle.aml_meaning.specs.Mutexes.{count_of_object, mutex_count, once_more, once_less, acquired, given_back};
+ghost use Rattle.aml_meaning.specs.Mutexes.{acquired_by_number, given_back_by_number, acquired_by, given_back_by};
+ghost use Rattle.aml_meaning.specs.Mutexes.{acquired_at, given_back_at};
 
 use crate::store_target::StoreTarget;
 use crate::world_state::WorldState;
@@ -18,9 +20,9 @@ use ar_space::{EvaluationFault, NamespaceFault, Refusal, ValueFault};
 use std::alloc::Global;
 
 impl<S> WorldState<S> {
-    /// Acquires the mutex that is named, by a path or by a reference. Refused: a path where nothing stands as `NotFound`, a reference
-    /// to a name that is gone as `DeadReference`, anything else that is no mutex as `WrongType`, and a mutex that is acquired
-    /// 2^64 - 1 times as `ObjectLimit`.
+    /// Acquires the mutex that is named, by a path or by a reference. Refused: a path where nothing stands as
+    /// `NotFound`, a reference to a name that is gone as `DeadReference`, anything else that is no mutex as
+    /// `WrongType`, and a mutex that is acquired 2^64 - 1 times as `ObjectLimit`.
     #[tactic(auto, using(ar_space::specs::Change::changing))]
     pub fn acquire(&mut self, alloc: Global, target: &StoreTarget) -> Result<(), Refusal>
         ensures { Does result self.new (acquired_at target.now) self.old }
@@ -33,9 +35,9 @@ impl<S> WorldState<S> {
         }
     }
 
-    /// Releases the mutex that is named, by a path or by a reference. Refused: a path where nothing stands as `NotFound`, a reference
-    /// to a name that is gone as `DeadReference`, anything else that is no mutex as `WrongType`, and a mutex that nobody has
-    /// acquired as `NotAcquired`.
+    /// Releases the mutex that is named, by a path or by a reference. Refused: a path where nothing stands as
+    /// `NotFound`, a reference to a name that is gone as `DeadReference`, anything else that is no mutex as
+    /// `WrongType`, and a mutex that nobody has acquired as `NotAcquired`.
     #[tactic(auto, using(ar_space::specs::Change::changing))]
     pub fn release(&mut self, alloc: Global, target: &StoreTarget) -> Result<(), Refusal>
         ensures { Does result self.new (given_back_at target.now) self.old }
@@ -110,10 +112,11 @@ impl<S> WorldState<S> {
         self.put_count(path, less)
     }
 
-    /// Acquires the mutex that the node with an id is. Where it is none, or is acquired 2^64 - 1 times, it answers no, and nothing changes:
-    /// `acquire` says why. It takes no memory.
+    /// Acquires the mutex that the node with an id is. Where it is none, or is acquired 2^64 - 1 times, it answers
+    /// no, and nothing changes: `acquire` says why. It takes no memory.
     pub fn acquire_node(&mut self, id: NodeId) -> bool
-        ensures change { result ≡ true → (f : List Segment × Entry) → numbered id.number self.old.names.map ≡ Some f → Does (Ok tt) self.new (acquired_at (targets.Name f.0)) self.old }
+        ensures change { result ≡ true → (f : List Segment × Entry) → numbered id.number self.old.names.map ≡ Some f →
+            Does (Ok tt) self.new (acquired_at (targets.Name f.0)) self.old }
         ensures unchanged { result ≡ false → self.new ≡ self.old }
         ensures gone { numbered id.number self.old.names.map ≡ None → result ≡ false }
     {
@@ -128,10 +131,11 @@ impl<S> WorldState<S> {
         true
     }
 
-    /// Releases the mutex that the node with an id is. Where it is none, or nobody has acquired it, it answers no, and nothing changes:
-    /// `release` says why. It takes no memory.
+    /// Releases the mutex that the node with an id is. Where it is none, or nobody has acquired it, it answers no,
+    /// and nothing changes: `release` says why. It takes no memory.
     pub fn release_node(&mut self, id: NodeId) -> bool
-        ensures change { result ≡ true → (f : List Segment × Entry) → numbered id.number self.old.names.map ≡ Some f → Does (Ok tt) self.new (given_back_at (targets.Name f.0)) self.old }
+        ensures change { result ≡ true → (f : List Segment × Entry) → numbered id.number self.old.names.map ≡ Some f →
+            Does (Ok tt) self.new (given_back_at (targets.Name f.0)) self.old }
         ensures unchanged { result ≡ false → self.new ≡ self.old }
         ensures gone { numbered id.number self.old.names.map ≡ None → result ≡ false }
     {
@@ -148,7 +152,8 @@ impl<S> WorldState<S> {
 
     /// How often the mutex is acquired that the node with an id is, if it is one.
     fn count_at(&self, id: NodeId) -> Option<u64>
-        ensures held { IfSome result (λ count. (f : List Segment × Entry) → numbered id.number self.now.names.map ≡ Some f → f.1.object ≡ object.Mutex count) }
+        ensures held { IfSome result (λ count. (f : List Segment × Entry) →
+            numbered id.number self.now.names.map ≡ Some f → f.1.object ≡ object.Mutex count) }
         ensures gone { numbered id.number self.now.names.map ≡ None → result ≡ None }
     {
         match self.names().node(id) {

@@ -49,7 +49,8 @@ impl<S> WorldState<S> {
         name: &NameString,
         scope: &Path,
     ) -> Result<NameUse, Refusal>
-        ensures { Answers result (held_or_path object.now (seen (λ f. f.0) (found self.now.names.map scope.now name.now))) }
+        ensures { Answers result (held_or_path object.now (seen (λ f. f.0)
+            (found self.now.names.map scope.now name.now))) }
     {
         match object {
             NamedObject::Data(value) => self.value_or_path(alloc, *value, name, scope),

@@ -17,8 +17,8 @@ const MAX_BYTES: u64 = 1_048_576;
 const MAX_ELEMENTS: u64 = 65_535;
 
 impl<S> WorldState<S> {
-    /// A new buffer as long as its size says, or as its bytes where they are more, zero-filled; refused as `ObjectLimit`
-    /// where it is too long, or one object too many.
+    /// A new buffer as long as its size says, or as its bytes where they are more, zero-filled; refused as
+    /// `ObjectLimit` where it is too long, or one object too many.
     #[tactic(auto, using(ar_space::specs::Change::changing), unfolding(crate::specs::NewObjects::new_buffer))]
     pub fn new_buffer(&mut self, size: u64, bytes: Octets) -> Result<Value, Refusal>
         ensures { Does result self.new (new_buffer size bytes) self.old }
@@ -53,8 +53,8 @@ impl<S> WorldState<S> {
         Ok(())
     }
 
-    /// A new package with as many elements as it says; those that are left out are uninitialized. Refused as `ObjectLimit`
-    /// where it has too many, or one object too many.
+    /// A new package with as many elements as it says; those that are left out are uninitialized. Refused as
+    /// `ObjectLimit` where it has too many, or one object too many.
     #[tactic(auto, unfolding(crate::specs::NewObjects::new_package))]
     pub fn new_package(&mut self, count: usize, elements: Elements) -> Result<Value, Refusal>
         ensures { Does result self.new (new_package count elements) self.old }

@@ -1,5 +1,5 @@
-//! Names of one segment that hold integers or are field units, by the nodes that they find, so that no name and no value is made (ACPI 6.5,
-//! 5.3 and 19.3.5.8).
+//! Names of one segment that hold integers or are field units, by the nodes that they find, so that no name and no
+//! value is made (ACPI 6.5, 5.3 and 19.3.5.8).
 ghost use Rattle.std.specs.Prelude.{◌≡◌, List, Some, None, Ok, true, false, IfSome};
 ghost use Rattle.ar_space.specs.Change.{Does};
 ghost use Rattle.ar_space.specs.Outcome.{seen};
@@ -26,21 +26,29 @@ use aml_objects::{FieldUnit, NamedObject, NodeId, Value};
 use aml_path::Seg;
 
 impl<S> WorldState<S> {
-    /// The node that a name of one segment, without a prefix, finds from a scope, as `search` finds it; none where that refuses the
-    /// name, which it does as `NotFound` alone. The path of the node is the target that the name stands for.
+    /// The node that a name of one segment, without a prefix, finds from a scope, as `search` finds it; none where
+    /// that refuses the name, which it does as `NotFound` alone. The path of the node is the target that the name
+    /// stands for.
     #[inline]
     pub fn node_named(&self, scope: Scope<'_>, segment: Seg) -> Option<NodeId>
-        ensures found { seen (λ id. numbered id.number self.now.names.map) (found_or_not result) ≡ seen Some (found self.now.names.map scope.entry.path.now (segment_name segment)) }
-        ensures target { IfSome result (λ id. (f : List Segment × Entry) → numbered id.number self.now.names.map ≡ Some f → Does (Ok (targets.Name f.0)) self.now (target_named scope.entry.path.now (segment_name segment)) self.now) }
+        ensures found { seen (λ id. numbered id.number self.now.names.map) (found_or_not result) ≡
+            seen Some (found self.now.names.map scope.entry.path.now (segment_name segment)) }
+        ensures target { IfSome result (λ id. (f : List Segment × Entry) →
+            numbered id.number self.now.names.map ≡ Some f → Does (Ok (targets.Name f.0)) self.now
+            (target_named scope.entry.path.now (segment_name segment)) self.now) }
     {
         self.names().search_segment(scope, segment)
     }
 
-    /// The integer that a name holds which is the node with an id, if it holds one: what the name is where a value stands.
+    /// The integer that a name holds which is the node with an id, if it holds one: what the name is where a value
+    /// stands.
     #[inline]
     pub fn node_integer(&self, id: NodeId) -> Option<u64>
-        ensures held { IfSome result (λ number. (f : List Segment × Entry) → numbered id.number self.now.names.map ≡ Some f → f.1.object ≡ Data (Integer number)) }
-        ensures used { IfSome result (λ number. (f : List Segment × Entry) → numbered id.number self.now.names.map ≡ Some f → Does (Ok (invocation.Value (Integer number))) self.now (use_found f 0) self.now) }
+        ensures held { IfSome result (λ number. (f : List Segment × Entry) →
+            numbered id.number self.now.names.map ≡ Some f → f.1.object ≡ Data (Integer number)) }
+        ensures used { IfSome result (λ number. (f : List Segment × Entry) →
+            numbered id.number self.now.names.map ≡ Some f → Does (Ok (invocation.Value (Integer number))) self.now
+            (use_found f 0) self.now) }
         ensures gone { numbered id.number self.now.names.map ≡ None → result ≡ None }
     {
         match self.names().node(id) {
@@ -49,11 +57,16 @@ impl<S> WorldState<S> {
         }
     }
 
-    /// The field unit that the node with an id is, if it is one: what the name is where a value stands, and what a store to it leads to.
+    /// The field unit that the node with an id is, if it is one: what the name is where a value stands, and what a
+    /// store to it leads to.
     #[inline]
     pub fn node_unit(&self, id: NodeId) -> Option<FieldUnit>
-        ensures used { IfSome result (λ unit. (f : List Segment × Entry) → numbered id.number self.now.names.map ≡ Some f → Does (Ok (invocation.Field (field.Unit unit))) self.now (use_found f 0) self.now) }
-        ensures written { IfSome result (λ unit. (f : List Segment × Entry) → numbered id.number self.now.names.map ≡ Some f → (value : AnyValue) → Does (Ok (Field (field.Unit unit))) self.now (stored (targets.Name f.0) value) self.now) }
+        ensures used { IfSome result (λ unit. (f : List Segment × Entry) →
+            numbered id.number self.now.names.map ≡ Some f → Does (Ok (invocation.Field (field.Unit unit))) self.now
+            (use_found f 0) self.now) }
+        ensures written { IfSome result (λ unit. (f : List Segment × Entry) →
+            numbered id.number self.now.names.map ≡ Some f → (value : AnyValue) →
+            Does (Ok (Field (field.Unit unit))) self.now (stored (targets.Name f.0) value) self.now) }
         ensures gone { numbered id.number self.now.names.map ≡ None → result ≡ None }
     {
         match self.names().node(id) {
@@ -62,11 +75,12 @@ impl<S> WorldState<S> {
         }
     }
 
-    /// Stores an integer to the node with an id, where a name holds an integer there. Where it holds anything else, it answers no, and
-    /// nothing changes: `store` says what comes of it. It takes no memory.
+    /// Stores an integer to the node with an id, where a name holds an integer there. Where it holds anything else,
+    /// it answers no, and nothing changes: `store` says what comes of it. It takes no memory.
     #[inline]
     pub fn put_integer_at(&mut self, id: NodeId, number: u64) -> bool
-        ensures change { result ≡ true → (f : List Segment × Entry) → numbered id.number self.old.names.map ≡ Some f → Does (Ok Done) self.new (stored (targets.Name f.0) (Integer number)) self.old }
+        ensures change { result ≡ true → (f : List Segment × Entry) → numbered id.number self.old.names.map ≡ Some f →
+            Does (Ok Done) self.new (stored (targets.Name f.0) (Integer number)) self.old }
         ensures gone { numbered id.number self.old.names.map ≡ None → result ≡ false }
         ensures unchanged { result ≡ false → self.new ≡ self.old }
     {

@@ -4,7 +4,9 @@ ghost use Rattle.ar_space.specs.Change.{Does};
 ghost use Rattle.ar_space.specs.Outcome.{NotMemory, seen};
 ghost use Rattle.aml_objects.specs.Contents.{content_of, content_in};
 ghost use Rattle.aml_objects.specs.Copies.{copied};
-ghost use Rattle.aml_objects.specs.Objects.{make_string, make_buffer, make_package, string_at, buffer_at, elements_at, element_at, element_there, byte_at, write_buffer, write_string, write_element, write_byte};
+ghost use Rattle.aml_objects.specs.Objects.{make_string, make_buffer, make_package, string_at, buffer_at, elements_at};
+ghost use Rattle.aml_objects.specs.Objects.{element_at, element_there, byte_at, write_buffer, write_string};
+ghost use Rattle.aml_objects.specs.Objects.{write_element, write_byte};
 ghost use Rattle.aml_meaning.specs.State.{on_objects};
 
 use crate::world_state::WorldState;
@@ -45,8 +47,8 @@ impl<S> WorldState<S> {
         self.heap.make_package(elements)
     }
 
-    /// A deep copy of a value; refused as `ObjectLimit` where packages nest too deeply or objects are too many, and then
-    /// nothing changes.
+    /// A deep copy of a value; refused as `ObjectLimit` where packages nest too deeply or objects are too many, and
+    /// then nothing changes.
     #[tactic(auto, using(crate::proofs::Lifted::parts))]
     pub fn copy(&mut self, alloc: Global, value: Value) -> Result<Value, Refusal>
         ensures { Does result self.new (on_objects (copied value)) self.old }
@@ -114,7 +116,8 @@ impl<S> WorldState<S> {
         self.heap.byte(object, index)
     }
 
-    /// Tests that a package has an element there; past its end, and of another kind of object, this is refused as `DeadReference`.
+    /// Tests that a package has an element there; past its end, and of another kind of object, this is refused as
+    /// `DeadReference`.
     #[tactic(auto, using(crate::proofs::Lifted::parts))]
     pub(crate) fn element_there(&self, object: u32, index: usize) -> Result<(), Refusal>
         ensures answer { Does result self.now (on_objects (element_there object index)) self.now }

@@ -5,7 +5,13 @@ ghost use Rattle.ar_space.specs.Outcome.{Answers, NotMemory, seen};
 ghost use Rattle.aml_convert.specs.Formed.{formed_content};
 ghost use Rattle.aml_objects.specs.Contents as held;
 ghost use Rattle.aml_meaning.specs.State.{on_objects};
-ghost use Rattle.aml_meaning.specs.Operations.{operated, integers_operated, divided_in, operated_on_one, integer_operated, operated_logically, integers_tested, turned, integer_turned, next_integer, integer_before, compared_in, truth_of, joined_contents, joined, made_of, joined_items, joined_resources, to_integer_in, buffer_bytes, new_buffer_of, to_buffer_in, size_in, size_of_referent, size_of_value, size_of_object, as_integer, below, size_held, element_indexed, byte_indexed, indexed};
+ghost use Rattle.aml_meaning.specs.Operations.{operated, integers_operated, divided_in, operated_on_one};
+ghost use Rattle.aml_meaning.specs.Operations.{integer_operated, operated_logically, integers_tested, turned};
+ghost use Rattle.aml_meaning.specs.Operations.{integer_turned, next_integer, integer_before, compared_in, truth_of};
+ghost use Rattle.aml_meaning.specs.Operations.{joined_contents, joined, made_of, joined_items, joined_resources};
+ghost use Rattle.aml_meaning.specs.Operations.{to_integer_in, buffer_bytes, new_buffer_of, to_buffer_in, size_in};
+ghost use Rattle.aml_meaning.specs.Operations.{size_of_referent, size_of_value, size_of_object, as_integer, below};
+ghost use Rattle.aml_meaning.specs.Operations.{size_held, element_indexed, byte_indexed, indexed};
 ghost use Rattle.aml_meaning.specs.OperatorTerms.{result_of_two, result_of_one, result_of_test, counted_by};
 
 use crate::object_type::Referent;
@@ -59,8 +65,8 @@ impl<S> WorldState<S> {
         }
     }
 
-    /// Whether a test holds of two values: True or False. Both are converted to integers first, or, where they are compared, the
-    /// second to the type of the first, and refused as that is.
+    /// Whether a test holds of two values: True or False. Both are converted to integers first, or, where they are
+    /// compared, the second to the type of the first, and refused as that is.
     #[inline(never)]
     #[tactic(auto, using(ar_space::specs::Change::changing))]
     pub fn test(
@@ -112,8 +118,8 @@ impl<S> WorldState<S> {
         }
     }
 
-    /// How many bytes a string or a buffer has, or elements a package. Anything else, a field unit that isn't read among it, is
-    /// refused as `WrongType`, and what is uninitialized as `NoValue`.
+    /// How many bytes a string or a buffer has, or elements a package. Anything else, a field unit that isn't read
+    /// among it, is refused as `WrongType`, and what is uninitialized as `NoValue`.
     #[tactic(auto, unfolding(crate::specs::Operations::size_in))]
     pub fn size(&self, referent: Referent) -> Result<Value, Refusal>
         ensures answer { Does result self.now (size_in referent) self.now }
@@ -125,8 +131,8 @@ impl<S> WorldState<S> {
         }
     }
 
-    /// A reference to an element of a package, or to a byte of a string or a buffer. Another source is refused as `WrongType`, and
-    /// an index past the end as `IndexLimit`.
+    /// A reference to an element of a package, or to a byte of a string or a buffer. Another source is refused as
+    /// `WrongType`, and an index past the end as `IndexLimit`.
     #[tactic(auto, using(ar_space::specs::Change::changing))]
     fn index(&self, source: Value, index: Value) -> Result<Value, Refusal>
         ensures answer { Does result self.now (indexed source index) self.now }
@@ -164,7 +170,7 @@ impl<S> WorldState<S> {
 
     /// How many bytes or elements a value has.
     #[tactic(auto, unfolding(crate::specs::Operations::size_held))]
-    fn size_held(&self, value: Value) -> Result<u64, Refusal>
+    pub(crate) fn size_held(&self, value: Value) -> Result<u64, Refusal>
         ensures answer { Does result self.now (size_held value) self.now }
         ensures memory { NotMemory result }
     {
@@ -299,7 +305,7 @@ impl<S> WorldState<S> {
         )
     }
 
-    fn make_formed(&mut self, contents: Formed) -> Result<Value, Refusal>
+    pub(crate) fn make_formed(&mut self, contents: Formed) -> Result<Value, Refusal>
         ensures { Does result self.new (on_objects (made_of (formed_content contents))) self.old }
     {
         match contents {
@@ -404,7 +410,7 @@ fn below(count: u64, index: u64, reference: Reference) -> Result<Value, Refusal>
     }
 }
 
-fn integer(number: Result<u64, Refusal>) -> Result<Value, Refusal>
+pub(crate) fn integer(number: Result<u64, Refusal>) -> Result<Value, Refusal>
     ensures answer { result ≡ as_integer number }
     ensures memory { NotMemory number → NotMemory result }
 {

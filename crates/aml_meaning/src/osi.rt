@@ -12,8 +12,8 @@ use aml_objects::{Content, Octets, Value};
 use ar_space::{IntegerWidth, Refusal, ValueFault};
 
 impl<S> WorldState<S> {
-    /// What `\_OSI` answers to these arguments: True where the first is a string among the texts that the world knows, False
-    /// where it is another string. Anything but a string is refused as `WrongType`. It takes no memory.
+    /// What `\_OSI` answers to these arguments: True where the first is a string among the texts that the world
+    /// knows, False where it is another string. Anything but a string is refused as `WrongType`. It takes no memory.
     #[tactic(auto, unfolding(crate::specs::Osi::osi_answered))]
     pub fn osi(&self, arguments: &[Value]) -> Result<Value, Refusal>
         ensures answer { Does result self.now (osi_answered arguments.now) self.now }

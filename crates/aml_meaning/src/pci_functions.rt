@@ -5,7 +5,9 @@ ghost use Rattle.ar_space.specs.Outcome.{Answers};
 ghost use Rattle.std.specs.FinMap.{get};
 ghost use Rattle.aml_namespace.specs.Namespace.{numbered};
 ghost use Rattle.aml_namespace.specs.Search.{Found};
-ghost use Rattle.aml_meaning.specs.PciFunctions.{adr, hid, segment_group, base_bus, is_device_object, is_device, has, is_function, fits, nearest_from, nearest, or_deep, or_behind, pci_function};
+ghost use Rattle.aml_meaning.specs.PciFunctions.{adr, hid, segment_group, base_bus, is_device_object, is_device, has};
+ghost use Rattle.aml_meaning.specs.PciFunctions.{is_function, fits, nearest_from, nearest, or_deep, or_behind};
+ghost use Rattle.aml_meaning.specs.PciFunctions.{pci_function};
 
 use crate::world_state::WorldState;
 use aml_namespace::Names;
@@ -74,8 +76,8 @@ impl<S> WorldState<S> {
         }
     }
 
-    /// The device of the PCI function that a scope belongs to: the nearest one with an address. Where there is none, or a
-    /// bridge stands above it, this is refused as `DeepPci`.
+    /// The device of the PCI function that a scope belongs to: the nearest one with an address. Where there is none,
+    /// or a bridge stands above it, this is refused as `DeepPci`.
     #[tactic(auto, using(ar_space::specs::Change::changing), unfolding(crate::specs::PciFunctions::pci_function))]
     pub fn pci_function(&self, alloc: Global, scope: &Path) -> Result<Path, Refusal>
         ensures { Does result self.now (pci_function scope.now) self.now }
@@ -89,9 +91,11 @@ impl<S> WorldState<S> {
     }
 }
 
-/// How many segments of a path lead to the nearest scope that is what is sought. It goes down the path once, as far as nodes stand.
+/// How many segments of a path lead to the nearest scope that is what is sought. It goes down the path once, as far
+/// as nodes stand.
 fn nearest_depth(names: &Names, sought: Sought, path: &Path) -> Option<usize>
-    ensures depth { option_map (λ n. take n path.now) result ≡ nearest_from names.now.map sought path.now (length path.now) }
+    ensures depth { option_map (λ n. take n path.now) result ≡ nearest_from names.now.map sought
+        path.now (length path.now) }
     ensures within { IfSome result (λ n. n ≤ length path.now) }
 {
     let mut current = names.root();

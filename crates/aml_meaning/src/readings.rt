@@ -3,7 +3,8 @@ ghost use Rattle.std.specs.Prelude.{◌≡◌, Ok};
 ghost use Rattle.ar_space.specs.Change.{Does};
 ghost use Rattle.ar_space.specs.Outcome.{Answers, NotMemory, seen};
 ghost use Rattle.aml_objects.specs.declared.value.Value.TheVariants.{Integer};
-ghost use Rattle.aml_meaning.specs.Readings.{integer_kept, integer_in, entry_found, path_found, is_scope, scope_or_not, scope_found, arguments_of, arguments_found, as_many, read_as};
+ghost use Rattle.aml_meaning.specs.Readings.{integer_kept, integer_in, entry_found, path_found, is_scope, scope_or_not};
+ghost use Rattle.aml_meaning.specs.Readings.{scope_found, arguments_of, arguments_found, as_many, read_as};
 
 use crate::world_state::WorldState;
 use aml_convert::{to_integer, truncate_integer};
@@ -79,8 +80,8 @@ impl<S> WorldState<S> {
         self.names().locate_in(alloc, scope, name)
     }
 
-    /// The path of the scope that a name finds: a predefined scope, a device, a processor, a power resource or a thermal
-    /// zone. Anything else is refused as `WrongType` (ACPI 6.5, 19.6, Scope).
+    /// The path of the scope that a name finds: a predefined scope, a device, a processor, a power resource or a
+    /// thermal zone. Anything else is refused as `WrongType` (ACPI 6.5, 19.6, Scope).
     #[tactic(auto, using(ar_space::specs::Change::changing), unfolding(crate::specs::Readings::scope_found))]
     pub fn locate_scope(
         &self,
@@ -95,8 +96,8 @@ impl<S> WorldState<S> {
         self.locate(alloc, scope, name)
     }
 
-    /// How many arguments it takes to evaluate what a name finds: those of a control method, none of anything else. Refused
-    /// as `Names::lookup` refuses it.
+    /// How many arguments it takes to evaluate what a name finds: those of a control method, none of anything else.
+    /// Refused as `Names::lookup` refuses it.
     #[tactic(auto, using(ar_space::specs::Change::changing), unfolding(crate::specs::Readings::arguments_found))]
     pub fn arguments(&self, scope: Scope<'_>, name: &NameString) -> Result<u8, Refusal>
         ensures answer { Does result self.now (arguments_found scope.entry.path.now name.now) self.now }

@@ -3,7 +3,9 @@ ghost use Rattle.std.specs.Prelude.{◌≡◌};
 ghost use Rattle.ar_space.specs.Change.{Does};
 ghost use Rattle.ar_space.specs.Outcome.{Answers, NotMemory};
 ghost use Rattle.aml_objects.specs.Contents.{content_of};
-ghost use Rattle.aml_meaning.specs.Stores.{first_byte, byte_of, byte_in, store_byte, copy_into_element, copy_into_declared, store_in_declared, store_to, store_over_slot, store_in_frame, store_in_frame_numbered, store_at_reference, stored_through};
+ghost use Rattle.aml_meaning.specs.Stores.{first_byte, byte_of, byte_in, store_byte, copy_into_element};
+ghost use Rattle.aml_meaning.specs.Stores.{copy_into_declared, store_in_declared, store_to, store_over_slot};
+ghost use Rattle.aml_meaning.specs.Stores.{store_in_frame, store_in_frame_numbered, store_at_reference, stored_through};
 
 use crate::referents::MOST_REFERENCES;
 use crate::store_target::Stored;
@@ -13,7 +15,8 @@ use aml_objects::{Content, Element, Reference, Slot, Value};
 use ar_space::{EvaluationFault, Refusal, ValueFault};
 use std::alloc::Global;
 
-/// Stores a value to a slot of the frame at an index: an argument that holds a reference stands for what that refers to.
+/// Stores a value to a slot of the frame at an index: an argument that holds a reference stands for what that refers
+/// to.
 #[cycle(through)]
 #[tactic(auto, using(ar_space::specs::Change::changing), unfolding(crate::specs::Stores::store_in_frame))]
 pub(crate) fn store_in_frame<S>(

@@ -2,7 +2,11 @@
 ghost use Rattle.std.specs.Prelude.{◌≡◌};
 ghost use Rattle.ar_space.specs.Change.{Does};
 ghost use Rattle.ar_space.specs.Outcome.{NotMemory};
-ghost use Rattle.aml_meaning.specs.StoreTargets.{referent_of, element_named, value_followed, referent_followed, declared_followed, slot_followed, name_followed, element_followed, held_followed, byte_followed, reference_followed, followed, most_references, slot_referent, declared_referent, name_referent, target_referent};
+ghost use Rattle.aml_meaning.specs.StoreTargets.{referent_of, element_named, value_followed, referent_followed};
+ghost use Rattle.aml_meaning.specs.StoreTargets.{declared_followed, slot_followed, name_followed, element_followed};
+ghost use Rattle.aml_meaning.specs.StoreTargets.{held_followed, byte_followed, reference_followed, followed};
+ghost use Rattle.aml_meaning.specs.StoreTargets.{most_references, slot_referent, declared_referent, name_referent};
+ghost use Rattle.aml_meaning.specs.StoreTargets.{target_referent};
 
 use crate::object_type::{ObjectType, Referent};
 use crate::readings::read_as;
@@ -240,7 +244,8 @@ fn name_followed<S>(
     element_named(world, levels, entry.number, &entry.object)
 }
 
-/// What the name in an element of a package stands for: the value of its data or of its field, and else a reference to it.
+/// What the name in an element of a package stands for: the value of its data or of its field, and else a reference
+/// to it.
 #[cycle(following)]
 #[tactic(auto, using(ar_space::specs::Change::changing))]
 fn element_named<S>(

@@ -1,4 +1,5 @@
-//! Operation regions and the field units in them, as they were declared, and accesses of their registers (ACPI 6.5, 5.5.2.4).
+//! Operation regions and the field units in them, as they were declared, and accesses of their registers (ACPI 6.5,
+//! 5.5.2.4).
 ghost use Rattle.std.specs.Prelude.{◌≡◌, nat_lt};
 ghost use Rattle.ar_space.specs.Change.{Does};
 ghost use Rattle.ar_space.specs.Outcome.{Answers, NotMemory, seen};
@@ -6,7 +7,10 @@ ghost use Rattle.aml_convert.specs.Integers.{bits_of};
 ghost use Rattle.aml_fields.specs.Regions.{read_field, write_field};
 ghost use Rattle.aml_namespace.specs.Namespace.{above};
 ghost use Rattle.aml_meaning.specs.State.{on_space};
-ghost use Rattle.aml_meaning.specs.Regions.{space_numbered, integer_only, pci_space, region_of_object, region_declared, region_field, field_of_object, field_declared, integer_of_bits, integer_value, value_of_bits, integer_alone, given_of_bits, referent_of_bits};
+ghost use Rattle.aml_meaning.specs.Regions.{space_numbered, integer_only, pci_space, region_of_object, region_declared};
+ghost use Rattle.aml_meaning.specs.Regions.{region_field, field_of_object, field_declared, integer_of_bits};
+ghost use Rattle.aml_meaning.specs.Regions.{integer_value, value_of_bits, integer_alone, given_of_bits};
+ghost use Rattle.aml_meaning.specs.Regions.{referent_of_bits};
 ghost use Rattle.aml_meaning.specs.Given.{given_of};
 
 use crate::datum::Datum;
@@ -67,8 +71,8 @@ pub fn integer_only(value: Value) -> Result<u64, Refusal>
     }
 }
 
-/// The registers of a PCI function, by its segment group, its bus, and its address (device in the high word, function in the
-/// low one). A number that is out of range is refused as `RegionLimit`.
+/// The registers of a PCI function, by its segment group, its bus, and its address (device in the high word, function
+/// in the low one). A number that is out of range is refused as `RegionLimit`.
 pub fn pci_space(segment: u64, bus: u64, address: u64) -> Result<AddressSpace, Refusal>
     ensures answer { Answers result (pci_space segment bus address) }
     ensures memory { NotMemory result }
@@ -88,8 +92,8 @@ pub fn pci_space(segment: u64, bus: u64, address: u64) -> Result<AddressSpace, R
 }
 
 impl<S> WorldState<S> {
-    /// The operation region with the number of a declaration, and the scope that it was declared in; one that is gone is
-    /// refused as `DeadReference`.
+    /// The operation region with the number of a declaration, and the scope that it was declared in; one that is gone
+    /// is refused as `DeadReference`.
     #[tactic(auto, using(ar_space::specs::Change::changing), unfolding(crate::specs::Regions::region_declared))]
     pub fn region_declared(
         &self,
@@ -113,8 +117,8 @@ impl<S> WorldState<S> {
         field_of_object(&entry.object)
     }
 
-    /// The bits of a field as a value: an integer where they are no more than an integer has, else a new buffer, refused as
-    /// `make_buffer` refuses it.
+    /// The bits of a field as a value: an integer where they are no more than an integer has, else a new buffer,
+    /// refused as `make_buffer` refuses it.
     #[tactic(auto, unfolding(crate::specs::Regions::value_of_bits))]
     pub fn value_of_bits(&mut self, count: u32, bytes: Octets) -> Result<Value, Refusal>
         ensures { Does result self.new (value_of_bits count bytes) self.old }
@@ -148,8 +152,8 @@ impl<S> WorldState<S> {
         }
     }
 
-    /// The bits of a field as they are handed out: an integer where they are no more than an integer has, else bytes. No object
-    /// is made.
+    /// The bits of a field as they are handed out: an integer where they are no more than an integer has, else bytes.
+    /// No object is made.
     #[tactic(auto, unfolding(crate::specs::Regions::given_of_bits))]
     pub fn datum_of_bits(&self, count: u32, bytes: Octets) -> Result<Datum, Refusal>
         ensures answer { Does (seen given_of result) self.now (given_of_bits count bytes) self.now }
@@ -164,8 +168,8 @@ impl<S> WorldState<S> {
         }
     }
 
-    /// The bits of a field as what SizeOf and ObjectType speak of: an integer where they are no more than an integer has, else
-    /// so many bytes. No object is made.
+    /// The bits of a field as what SizeOf and ObjectType speak of: an integer where they are no more than an integer
+    /// has, else so many bytes. No object is made.
     #[tactic(auto, unfolding(crate::specs::Regions::referent_of_bits))]
     pub fn referent_of_bits(&self, count: u32, bytes: &[u8]) -> Result<Referent, Refusal>
         ensures answer { Does result self.now (referent_of_bits count bytes.now) self.now }
@@ -191,8 +195,8 @@ impl<S> WorldState<S> {
 }
 
 impl<S: Space> WorldState<S> {
-    /// A read of a field of a region that is located: its bits, lowest first, as bytes. Refused as `aml_fields::read_field`
-    /// refuses it.
+    /// A read of a field of a region that is located: its bits, lowest first, as bytes. Refused as
+    /// `aml_fields::read_field` refuses it.
     #[tactic(auto, using(crate::proofs::Lifted::parts))]
     pub fn read_field(
         &mut self,

@@ -8,7 +8,8 @@ use crate::world_state::WorldState;
 use ar_space::{EvaluationFault, Refusal};
 use std::marker::Model;
 
-/// The state of a world, and how many steps are left to what is evaluated in it (ACPI 6.5, 5.5: no evaluation runs for ever).
+/// The state of a world, and how many steps are left to what is evaluated in it (ACPI 6.5, 5.5: no evaluation runs
+/// for ever).
 ///
 /// Between two evaluations the steps mean nothing: each call that evaluates is told how many it may take.
 #[derive(Drop)]

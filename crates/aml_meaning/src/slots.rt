@@ -1,5 +1,6 @@
 //! Frames, and the slots in them (ACPI 6.5, 5.5.2.3 and 19.6: ArgX, LocalX).
-ghost use Rattle.std.specs.Prelude.{◌≡◌, ◌≢◌, ◌==◌, ◌<◌, ℕ, Ok, true, false, not, length, position, slice_index_or, slice_set, IfSome, IfNone};
+ghost use Rattle.std.specs.Prelude.{◌≡◌, ◌≢◌, ◌==◌, ◌<◌, ℕ, Ok, true, false, not, length, position, slice_index_or};
+ghost use Rattle.std.specs.Prelude.{slice_set, IfSome, IfNone};
 ghost use Rattle.ar_space.specs.Change.{Does};
 ghost use Rattle.ar_space.specs.Outcome.{NotMemory};
 ghost use Rattle.aml_meaning.specs.Slots.{slot_in, with_slot, slot_of, opened, closed};
@@ -146,7 +147,8 @@ impl<S> WorldState<S> {
         }
     }
 
-    /// The integer that a local or an argument of the latest frame holds, if it holds one; none where no frame stands. It takes no memory.
+    /// The integer that a local or an argument of the latest frame holds, if it holds one; none where no frame
+    /// stands. It takes no memory.
     #[inline(always)]
     pub fn slot_integer(&self, slot: Slot) -> Option<u64>
         ensures held { IfSome result (λ number. Does (Ok (Integer number)) self.now (slot_read slot) self.now) }
@@ -159,12 +161,14 @@ impl<S> WorldState<S> {
         self.frames[count - 1].integer(slot)
     }
 
-    /// Stores an integer to a local or an argument of the latest frame. Where an argument holds a reference, or no frame stands, it
-    /// answers no, and nothing changes: `store` says what comes of it. It takes no memory.
+    /// Stores an integer to a local or an argument of the latest frame. Where an argument holds a reference, or no
+    /// frame stands, it answers no, and nothing changes: `store` says what comes of it. It takes no memory.
     #[inline(always)]
     pub fn put_slot_integer(&mut self, slot: Slot, number: u64) -> bool
-        ensures change { result ≡ true → Does (Ok Done) self.new (stored (targets.Slot slot) (Integer number)) self.old }
-        ensures reference { result ≡ false → (held : AnyValue) → (own_slot slot self.old).0 ≡ Ok held → takes_copy slot held ≡ false }
+        ensures change { result ≡ true →
+            Does (Ok Done) self.new (stored (targets.Slot slot) (Integer number)) self.old }
+        ensures reference { result ≡ false → (held : AnyValue) → (own_slot slot self.old).0 ≡ Ok held →
+            takes_copy slot held ≡ false }
         ensures unchanged { result ≡ false → self.new ≡ self.old }
     {
         let count = self.frames.len();
@@ -174,8 +178,8 @@ impl<S> WorldState<S> {
         self.frames[count - 1].put_integer(slot, number)
     }
 
-    /// Opens a frame with these arguments, and gives its number, which is never given again; refused as `ObjectLimit` where
-    /// no number is left.
+    /// Opens a frame with these arguments, and gives its number, which is never given again; refused as `ObjectLimit`
+    /// where no number is left.
     #[tactic(auto, unfolding(crate::specs::Slots::opened))]
     pub fn open_frame(&mut self, arguments: [Value; 7]) -> Result<u64, Refusal>
         ensures { Does result self.new (opened arguments) self.old }

@@ -5,7 +5,9 @@ ghost use Rattle.ar_space.specs.Outcome.{Answers, NotMemory};
 ghost use Rattle.aml_objects.specs.declared.entry.NamedObject.TheVariants.{Data};
 ghost use Rattle.aml_namespace.specs.Namespace.{replaced};
 ghost use Rattle.aml_meaning.specs.State.{on_names};
-ghost use Rattle.aml_meaning.specs.Stores.{slot_put, copy_into_slot, copy_into_name, copy_over, text_in, bytes_in, store_integer, store_text, store_bytes, store_package, store_over_value, store_over, store_in_slot, store_in_name, stored, copy_in_name, copied_to};
+ghost use Rattle.aml_meaning.specs.Stores.{slot_put, copy_into_slot, copy_into_name, copy_over, text_in, bytes_in};
+ghost use Rattle.aml_meaning.specs.Stores.{store_integer, store_text, store_bytes, store_package, store_over_value};
+ghost use Rattle.aml_meaning.specs.Stores.{store_over, store_in_slot, store_in_name, stored, copy_in_name, copied_to};
 
 use crate::references::{store_in_frame, store_through};
 use crate::referents::MOST_REFERENCES;
@@ -21,10 +23,10 @@ impl<S> WorldState<S> {
     /// Stores a value to a target.
     ///
     /// A local takes a copy. So does an argument; where it holds a reference, that is followed, at most 64 times
-    /// (`DeadReference`). A name that holds an integer, a string or a buffer takes the value converted, as conversions are
-    /// refused; one that holds a package takes a copy of a package alone, and one that holds a reference a copy of anything.
-    /// Where the target is a field, nothing is stored yet: the caller writes it next. Other names are refused as `WrongType`. A
-    /// refused store changes nothing.
+    /// (`DeadReference`). A name that holds an integer, a string or a buffer takes the value converted, as
+    /// conversions are refused; one that holds a package takes a copy of a package alone, and one that holds a
+    /// reference a copy of anything. Where the target is a field, nothing is stored yet: the caller writes it next.
+    /// Other names are refused as `WrongType`. A refused store changes nothing.
     #[tactic(auto, using(ar_space::specs::Change::changing))]
     pub fn store(
         &mut self,
@@ -42,8 +44,8 @@ impl<S> WorldState<S> {
         }
     }
 
-    /// Stores a copy of a value to a target, without conversion: a name that holds a value holds the copy after it. Anything
-    /// else is as `store` has it.
+    /// Stores a copy of a value to a target, without conversion: a name that holds a value holds the copy after it.
+    /// Anything else is as `store` has it.
     #[inline(never)]
     #[tactic(auto, using(ar_space::specs::Change::changing))]
     pub fn copy_to(
@@ -65,7 +67,12 @@ impl<S> WorldState<S> {
     }
 
     #[tactic(auto, using(ar_space::specs::Change::changing), unfolding(crate::specs::Stores::store_in_slot))]
-    fn store_in_slot(&mut self, alloc: Global, slot: Slot, value: Value) -> Result<Stored, Refusal>
+    pub(crate) fn store_in_slot(
+        &mut self,
+        alloc: Global,
+        slot: Slot,
+        value: Value,
+    ) -> Result<Stored, Refusal>
         ensures { Does result self.new (store_in_slot slot value) self.old }
     {
         let frame = self.latest_frame()?;
@@ -116,7 +123,7 @@ impl<S> WorldState<S> {
     }
 
     #[tactic(auto, using(ar_space::specs::Change::changing))]
-    fn store_over_value(
+    pub(crate) fn store_over_value(
         &mut self,
         alloc: Global,
         old: Value,
@@ -201,7 +208,7 @@ impl<S> WorldState<S> {
     }
 
     #[tactic(auto, using(ar_space::specs::Change::changing), unfolding(crate::specs::Stores::copy_into_name))]
-    fn copy_into_name(
+    pub(crate) fn copy_into_name(
         &mut self,
         alloc: Global,
         path: &Located,

@@ -14,7 +14,8 @@ impl<S> WorldState<S> {
         self.declarations.arities()
     }
 
-    /// Hands out the arguments that names take, and keeps none: they are set again once more are declared. It takes no memory.
+    /// Hands out the arguments that names take, and keeps none: they are set again once more are declared. It takes
+    /// no memory.
     pub fn take_arities(&mut self, alloc: Global) -> Arities
         ensures arities { result ≡ self.old.arities }
         ensures none { self.new ≡ record self.old { arities = [] } }

@@ -2,7 +2,9 @@
 ghost use Rattle.std.specs.Prelude.{◌≡◌, ◌<◌, IfOk, length};
 ghost use Rattle.ar_space.specs.Change.{Does};
 ghost use Rattle.ar_space.specs.Outcome.{Answers, NotMemory, seen};
-ghost use Rattle.aml_meaning.specs.StoreTargets.{holding_of, held_at, latest_frame, frame_found, slot_held, own_slot, initialized, slot_read, held_in, held_in_slot, name_read, target_read, declaration, entry_declared};
+ghost use Rattle.aml_meaning.specs.StoreTargets.{holding_of, held_at, latest_frame, frame_found, slot_held, own_slot};
+ghost use Rattle.aml_meaning.specs.StoreTargets.{initialized, slot_read, held_in, held_in_slot, name_read, target_read};
+ghost use Rattle.aml_meaning.specs.StoreTargets.{declaration, entry_declared};
 ghost use Rattle.aml_meaning.specs.TargetTerms.{target_named};
 
 use crate::slots::frame_index;
@@ -97,8 +99,8 @@ impl<S> WorldState<S> {
         initialized(value)
     }
 
-    /// What a target holds, for what is stored there next. A target that holds no value is refused as `WrongType`, and an
-    /// uninitialized slot as `NoValue`.
+    /// What a target holds, for what is stored there next. A target that holds no value is refused as `WrongType`,
+    /// and an uninitialized slot as `NoValue`.
     #[tactic(auto, using(ar_space::specs::Change::changing))]
     pub fn target_read(&self, target: &StoreTarget) -> Result<Held, Refusal>
         ensures answer { Does result self.now (target_read target.now) self.now }

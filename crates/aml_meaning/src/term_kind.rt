@@ -11,6 +11,8 @@ pub enum TermKind {
     Region(RegionKind),
     Operator(OperatorKind),
     Statement(StatementKind),
+    /// A term that the wide profile evaluates, and the core profile doesn't.
+    Wide(WideKind),
     /// A term that is not evaluated.
     Unsupported,
 }
@@ -138,4 +140,27 @@ pub enum StatementKind {
     /// Stall and Sleep.
     Pause,
     Fatal,
+}
+
+/// A term of the wide profile.
+#[derive(Clone, Copy, Debug, PartialEq, Eq)]
+pub enum WideKind {
+    /// An operand and a target, which takes what is formed.
+    Convert(Conversion),
+    /// ToString: two operands and a target, which takes what is formed.
+    ToString,
+    /// Three operands and a target.
+    Mid,
+    Match,
+}
+
+/// An explicit conversion of one operand.
+#[derive(Clone, Copy, Debug, PartialEq, Eq)]
+pub enum Conversion {
+    DecimalString,
+    HexadecimalString,
+    /// FromBCD.
+    FromDecimal,
+    /// ToBCD.
+    ToDecimal,
 }

@@ -1,6 +1,7 @@
-//! Field units of one access unit in SystemMemory or SystemIO, read and written as integers: no object of an address is called, and no
-//! memory is taken (ACPI 6.5, 5.5.2.4 and 19.6.46).
-ghost use Rattle.std.specs.Prelude.{◌≡◌, ℕ, List, Ok, Err, MatchOption, MatchBool, IfOk, IfErr, IfSome, option_and_then, option_map};
+//! Field units of one access unit in SystemMemory or SystemIO, read and written as integers: no object of an address
+//! is called, and no memory is taken (ACPI 6.5, 5.5.2.4 and 19.6.46).
+ghost use Rattle.std.specs.Prelude.{◌≡◌, ℕ, List, Ok, Err, MatchOption, MatchBool, IfOk, IfErr, IfSome};
+ghost use Rattle.std.specs.Prelude.{option_and_then, option_map};
 ghost use Rattle.ar_space.specs.Change.{Does};
 ghost use Rattle.ar_space.specs.Outcome.{NotMemory};
 ghost use Rattle.ar_space.specs.Accesses.{Accesses};
@@ -33,11 +34,16 @@ impl<S> WorldState<S> {
 }
 
 impl<S: Space> WorldState<S> {
-    /// The bits of a field unit as an integer, which is its value, where it lies within one access unit of SystemMemory or SystemIO and has
-    /// no more bits than an integer; none where it doesn't, and then nothing changes. Refused as `read_field` refuses it.
+    /// The bits of a field unit as an integer, which is its value, where it lies within one access unit of
+    /// SystemMemory or SystemIO and has no more bits than an integer; none where it doesn't, and then nothing
+    /// changes. Refused as `read_field` refuses it.
     pub fn unit_integer(&mut self, unit: FieldUnit) -> Result<Option<u64>, Refusal>
-        ensures read { IfOk result (λ read. MatchOption read (self.new ≡ self.old) (λ number. (call : List Segment → Run S ℕ) (steps : ℕ) → Does (Ok (Integer number)) (self.new, steps) (field_value S.accesses call (field.Unit unit)) (self.old, steps))) }
-        ensures refused { IfErr result (λ refusal. (call : List Segment → Run S ℕ) (steps : ℕ) → Does (Err refusal) (self.new, steps) (field_value S.accesses call (field.Unit unit)) (self.old, steps)) }
+        ensures read { IfOk result (λ read. MatchOption read (self.new ≡ self.old)
+            (λ number. (call : List Segment → Run S ℕ) (steps : ℕ) →
+            Does (Ok (Integer number)) (self.new, steps) (field_value S.accesses call (field.Unit unit))
+            (self.old, steps))) }
+        ensures refused { IfErr result (λ refusal. (call : List Segment → Run S ℕ) (steps : ℕ) →
+            Does (Err refusal) (self.new, steps) (field_value S.accesses call (field.Unit unit)) (self.old, steps)) }
         ensures memory { NotMemory result }
     {
         if is_wide(self.width, unit.bits) {
@@ -49,11 +55,16 @@ impl<S: Space> WorldState<S> {
         read_number(&mut self.space, region, unit)
     }
 
-    /// Stores an integer to a field unit that lies within one access unit of SystemMemory or SystemIO and has no more bits than an integer.
-    /// It answers no where the unit is another, and then nothing changes. Refused as `write_field` refuses it.
+    /// Stores an integer to a field unit that lies within one access unit of SystemMemory or SystemIO and has no more
+    /// bits than an integer. It answers no where the unit is another, and then nothing changes. Refused as
+    /// `write_field` refuses it.
     pub fn put_unit_integer(&mut self, unit: FieldUnit, number: u64) -> Result<bool, Refusal>
-        ensures written { IfOk result (λ done. MatchBool done ((call : List Segment → Run S ℕ) (steps : ℕ) → Does (Ok tt) (self.new, steps) (field_stored S.accesses call (field.Unit unit) (Integer number)) (self.old, steps)) (self.new ≡ self.old)) }
-        ensures refused { IfErr result (λ refusal. (call : List Segment → Run S ℕ) (steps : ℕ) → Does (Err refusal) (self.new, steps) (field_stored S.accesses call (field.Unit unit) (Integer number)) (self.old, steps)) }
+        ensures written { IfOk result (λ done. MatchBool done ((call : List Segment → Run S ℕ) (steps : ℕ) →
+            Does (Ok tt) (self.new, steps) (field_stored S.accesses call (field.Unit unit) (Integer number))
+            (self.old, steps)) (self.new ≡ self.old)) }
+        ensures refused { IfErr result (λ refusal. (call : List Segment → Run S ℕ) (steps : ℕ) →
+            Does (Err refusal) (self.new, steps) (field_stored S.accesses call (field.Unit unit)
+            (Integer number)) (self.old, steps)) }
         ensures memory { NotMemory result }
     {
         if is_wide(self.width, unit.bits) {

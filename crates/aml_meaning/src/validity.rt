@@ -6,7 +6,8 @@ use crate::world_state::WorldState;
 use aml_objects::{Reference, Value};
 
 impl<S> WorldState<S> {
-    /// Whether each object, declaration and frame that a value names was given its number by this world. It takes no memory.
+    /// Whether each object, declaration and frame that a value names was given its number by this world. It takes no
+    /// memory.
     pub(crate) fn is_valid(&self, value: &Value) -> bool
         ensures { result ≡ is_valid_value self.now value.now }
     {

@@ -15,8 +15,8 @@ use std::marker::Model;
 
 /// A world: the namespace with its objects, and the register space under it, which evaluation changes.
 ///
-/// Tables are loaded into it, and its objects are evaluated, by the calls of `aml_interp`. What changes it without evaluating
-/// are calls of its state, `world.running.world`.
+/// Tables are loaded into it, and its objects are evaluated, by the calls of `aml_interp`. What changes it without
+/// evaluating are calls of its state, `world.running.world`.
 #[derive(Drop)]
 pub struct World<S> {
     /// The world's state, and the steps of the evaluation in progress.
@@ -34,8 +34,9 @@ impl<S> Model for World<S> {
 }
 
 impl<S> World<S> {
-    /// A world of the core profile with the predefined names, over a register space, with the texts that `_OSI` knows and
-    /// integers of a width. Where it is refused, which only want of memory does, the register space comes back as it was.
+    /// A world of the core profile with the predefined names, over a register space, with the texts that `_OSI` knows
+    /// and integers of a width. Where it is refused, which only want of memory does, the register space comes back as
+    /// it was.
     pub fn new(
         alloc: Global,
         width: IntegerWidth,
@@ -44,7 +45,8 @@ impl<S> World<S> {
     ) -> Result<World<S>, (Refusal, S)>
         ensures world { IfOk result (λ world. predefined (fresh width osi.items space) ≡ (Ok tt, world)) }
         ensures space { IfErr result (λ refused. refused.1 ≡ space) }
-        ensures refusal { IfErr result (λ refused. refused.0 ≢ OutOfMemory → (predefined (fresh width osi.items space)).0 ≡ Err refused.0) }
+        ensures refusal { IfErr result (λ refused. refused.0 ≢ OutOfMemory →
+            (predefined (fresh width osi.items space)).0 ≡ Err refused.0) }
     {
         World::with_profile(alloc, Profile::Core, width, osi, space)
     }
@@ -59,7 +61,8 @@ impl<S> World<S> {
     ) -> Result<World<S>, (Refusal, S)>
         ensures world { IfOk result (λ world. predefined (fresh_as profile width osi.items space) ≡ (Ok tt, world)) }
         ensures space { IfErr result (λ refused. refused.1 ≡ space) }
-        ensures refusal { IfErr result (λ refused. refused.0 ≢ OutOfMemory → (predefined (fresh_as profile width osi.items space)).0 ≡ Err refused.0) }
+        ensures refusal { IfErr result (λ refused. refused.0 ≢ OutOfMemory →
+            (predefined (fresh_as profile width osi.items space)).0 ≡ Err refused.0) }
     {
         match WorldState::new(alloc, profile, width, osi, space) {
             Ok(world) => Ok(World {
@@ -111,9 +114,9 @@ impl<S> World<S> {
         self.running.world.space()
     }
 
-    /// Whether a value is one of this world: each object, declaration and frame that it names was given its number by this
-    /// world, though a declaration or a frame may have ended since. Neither the elements of a package are looked at, nor whether
-    /// an object is of the value's kind. It takes no memory.
+    /// Whether a value is one of this world: each object, declaration and frame that it names was given its number by
+    /// this world, though a declaration or a frame may have ended since. Neither the elements of a package are looked
+    /// at, nor whether an object is of the value's kind. It takes no memory.
     pub fn is_valid(&self, value: &Value) -> bool
         ensures { result ≡ is_valid_value self.now value.now }
     {

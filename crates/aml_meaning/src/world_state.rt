@@ -12,8 +12,9 @@ use ar_space::{IntegerWidth, Refusal};
 use std::alloc::Global;
 use std::marker::Model;
 
-/// The state of a world: what evaluation changes, the register space among it: the namespace, how many arguments its names take, the objects, the
-/// frames of the calls in progress with the number of the next one, the texts that `_OSI` knows, how wide integers are, and the profile.
+/// The state of a world: what evaluation changes, the register space among it: the namespace, how many arguments its
+/// names take, the objects, the frames of the calls in progress with the number of the next one, the texts that
+/// `_OSI` knows, how wide integers are, and the profile.
 #[derive(Drop)]
 pub struct WorldState<S> {
     pub(crate) declarations: Declarations,
@@ -37,8 +38,8 @@ impl<S> Model for WorldState<S> {
 }
 
 impl<S> WorldState<S> {
-    /// The state with the predefined names alone. Where it is refused, which only want of memory does, the register space comes
-    /// back as it was.
+    /// The state with the predefined names alone. Where it is refused, which only want of memory does, the register
+    /// space comes back as it was.
     pub(crate) fn new(
         alloc: Global,
         profile: Profile,
@@ -48,7 +49,8 @@ impl<S> WorldState<S> {
     ) -> Result<WorldState<S>, (Refusal, S)>
         ensures world { IfOk result (λ world. predefined (fresh_as profile width osi.items space) ≡ (Ok tt, world)) }
         ensures space { IfErr result (λ refused. refused.1 ≡ space) }
-        ensures refusal { IfErr result (λ refused. refused.0 ≢ OutOfMemory → (predefined (fresh_as profile width osi.items space)).0 ≡ Err refused.0) }
+        ensures refusal { IfErr result (λ refused. refused.0 ≢ OutOfMemory →
+            (predefined (fresh_as profile width osi.items space)).0 ≡ Err refused.0) }
     {
         let declarations = match Declarations::new(alloc) {
             Ok(declarations) => declarations,

@@ -2,7 +2,8 @@
 ghost use Rattle.std.specs.Prelude.{◌≡◌, false, true, IsErr, IfOk, OnErr, OnOk, IsOkUnless};
 ghost use Rattle.ar_space.specs.declared.refusal.Refusal.TheVariants.{OutOfMemory};
 ghost use Rattle.ar_space.specs.Outcome.{NotMemory, seen};
-ghost use Rattle.aml_namespace.specs.Calls.{answered, inserted, removed, looked_up, located, children_listed, all_listed, object_replaced, all_released, replies_to, left_by};
+ghost use Rattle.aml_namespace.specs.Calls.{answered, inserted, removed, looked_up, located, children_listed};
+ghost use Rattle.aml_namespace.specs.Calls.{all_listed, object_replaced, all_released, replies_to, left_by};
 
 use crate::names::Names;
 use aml_objects::{Entry, NamedObject};
@@ -101,8 +102,8 @@ impl PathList {
 }
 
 impl Names {
-    /// Answers calls in order. Each reply, and the namespace after them, are those of the finite map of paths and of the
-    /// next declaration's number. Only want of memory ends the run.
+    /// Answers calls in order. Each reply, and the namespace after them, are those of the finite map of paths and of
+    /// the next declaration's number. Only want of memory ends the run.
     pub fn answer_all(
         &mut self,
         alloc: Global,

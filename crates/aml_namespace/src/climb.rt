@@ -1,5 +1,6 @@
 //! Ways through the tree by ids: up to the nodes above, and down to those below.
-ghost use Rattle.std.specs.Prelude.{◌≡◌, ◌<◌, ◌++◌, List, [], ◌∷◌, None, Some, Ok, IfSome, MatchOption, length, option_map};
+ghost use Rattle.std.specs.Prelude.{◌≡◌, ◌<◌, ◌++◌, List, [], ◌∷◌, None, Some, Ok, IfSome, MatchOption, length};
+ghost use Rattle.std.specs.Prelude.{option_map};
 ghost use Rattle.std.specs.FinMap.{get};
 ghost use Rattle.ar_space.specs.Outcome.{Answers};
 ghost use Rattle.aml_path.specs.declared.segment.Seg.{Seg};
@@ -27,7 +28,8 @@ impl Names {
     /// The node above one that stands, and the segment between them; none above the root.
     pub(crate) fn above(&self, id: NodeId) -> Option<(NodeId, Seg)>
         ensures lower { IfSome result (λ above. above.0.number < id.number) }
-        ensures parent { (f : List Seg × Entry) → numbered id.number self.now.map ≡ Some f → MatchOption result (f.0 ≡ []) (λ above. IsParent self.now.map f.0 above.0.number above.1) }
+        ensures parent { (f : List Seg × Entry) → numbered id.number self.now.map ≡ Some f →
+            MatchOption result (f.0 ≡ []) (λ above. IsParent self.now.map f.0 above.0.number above.1) }
     {
         match self.nodes.get(id) {
             None => None,
@@ -43,7 +45,8 @@ impl Names {
 
     /// The node so many levels above one that stands, if it has so many.
     pub(crate) fn ancestor(&self, id: NodeId, count: usize) -> Option<NodeId>
-        ensures { (f : List Seg × Entry) → numbered id.number self.now.map ≡ Some f → MatchOption result (length f.0 < count) (λ above. IsAncestor self.now.map f.0 above.number count) }
+        ensures { (f : List Seg × Entry) → numbered id.number self.now.map ≡ Some f →
+            MatchOption result (length f.0 < count) (λ above. IsAncestor self.now.map f.0 above.number count) }
     {
         let mut current = id;
         for level in 0..count {
@@ -57,22 +60,29 @@ impl Names {
 
     /// What stands at the path of a node that stands. It takes no memory.
     pub fn standing_at(&self, id: NodeId) -> Option<&Entry>
-        ensures { (f : List Seg × Entry) → numbered id.number self.now.map ≡ Some f → option_map (λ entry. entry.now) result ≡ get self.now.map f.0 }
+        ensures { (f : List Seg × Entry) → numbered id.number self.now.map ≡ Some f →
+            option_map (λ entry. entry.now) result ≡ get self.now.map f.0 }
     {
         self.node(id)
     }
 
     /// The node that some segments lead to, from one that stands.
     pub(crate) fn below(&self, id: NodeId, segments: &[Seg]) -> Option<NodeId>
-        ensures { (f : List Seg × Entry) → numbered id.number self.now.map ≡ Some f → option_map (λ id. numbered id.number self.now.map) result ≡ option_map Some (at_path self.now.map (f.0 ++ segments.now)) }
+        ensures { (f : List Seg × Entry) → numbered id.number self.now.map ≡ Some f →
+            option_map (λ id. numbered id.number self.now.map) result ≡
+            option_map Some (at_path self.now.map (f.0 ++ segments.now)) }
     {
         descend(&self.nodes, &self.index, id, segments)
     }
 
-    /// The node one segment below one that stands. Where there is none, nothing stands further below either. It takes no memory.
+    /// The node one segment below one that stands. Where there is none, nothing stands further below either. It takes
+    /// no memory.
     pub fn child_of(&self, id: NodeId, segment: Seg) -> Option<NodeId>
-        ensures here { (f : List Seg × Entry) → numbered id.number self.now.map ≡ Some f → option_map (λ id. numbered id.number self.now.map) result ≡ option_map Some (at_path self.now.map (f.0 ++ segment ∷ [])) }
-        ensures deeper { (f : List Seg × Entry) → numbered id.number self.now.map ≡ Some f → result ≡ None → (rest : List Seg) → at_path self.now.map (f.0 ++ segment ∷ rest) ≡ None }
+        ensures here { (f : List Seg × Entry) → numbered id.number self.now.map ≡ Some f →
+            option_map (λ id. numbered id.number self.now.map) result ≡
+            option_map Some (at_path self.now.map (f.0 ++ segment ∷ [])) }
+        ensures deeper { (f : List Seg × Entry) → numbered id.number self.now.map ≡ Some f → result ≡ None →
+            (rest : List Seg) → at_path self.now.map (f.0 ++ segment ∷ rest) ≡ None }
     {
         child(&self.nodes, &self.index, id.number, segment)
     }

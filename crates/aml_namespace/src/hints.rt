@@ -18,8 +18,9 @@ const LEAST: usize = 16;
 
 /// Keys of nodes, at places that the parents' numbers and the segments choose.
 ///
-/// Nothing is promised of what it holds, since the node under a key is read before the hint is believed. A key whose node was
-/// removed, one that was never noted, or many nodes that would lie at one place cost a search by the index, and nothing else.
+/// Nothing is promised of what it holds, since the node under a key is read before the hint is believed. A key whose
+/// node was removed, one that was never noted, or many nodes that would lie at one place cost a search by the index,
+/// and nothing else.
 #[derive(Drop)]
 pub(crate) struct Hints {
     /// No key, or as many as a power of two.
@@ -74,15 +75,17 @@ impl Hints {
         first
     }
 
-    /// Whether the table is to be renewed before more is noted. So there are free places, at which a search for a hint stops early.
+    /// Whether the table is to be renewed before more is noted. So there are free places, at which a search for a
+    /// hint stops early.
     pub(crate) fn is_full(&self) -> bool {
         self.noted >= self.keys.len() / 2
     }
 
-    /// Forgets all hints, and makes room for those of so many nodes. Where there is no memory for them, nothing changes.
+    /// Forgets all hints, and makes room for those of so many nodes. Where there is no memory for them, nothing
+    /// changes.
     ///
-    /// A table whose nodes were removed keeps its length, so it doesn't grow with what was ever declared. Either way as many
-    /// nodes as a quarter of the length can be noted before it is full again, which pays for noting all anew.
+    /// A table whose nodes were removed keeps its length, so it doesn't grow with what was ever declared. Either way
+    /// as many nodes as a quarter of the length can be noted before it is full again, which pays for noting all anew.
     pub(crate) fn renew(&mut self, nodes: usize) -> Result<(), Refusal>
         ensures memory { IsOkUnless result OutOfMemory }
     {
@@ -99,9 +102,9 @@ impl Hints {
     }
 }
 
-/// The first place to look at for the node below a parent by a segment. The number and the segment are multiplied by an odd
-/// number without a pattern. The last bits of the place, which a small table uses, come from the segment and the last bits of the
-/// number.
+/// The first place to look at for the node below a parent by a segment. The number and the segment are multiplied by
+/// an odd number without a pattern. The last bits of the place, which a small table uses, come from the segment and
+/// the last bits of the number.
 #[tactic(auto, unfolding(crate::specs::Places::place_of))]
 pub(crate) fn first_place(parent: u64, segment: Seg) -> usize
     ensures { result ≡ place_of parent segment }

@@ -1,5 +1,6 @@
 //! An index of nodes by their parents and segments.
-ghost use Rattle.std.specs.Prelude.{◌≡◌, ◌<◌, ◌+◌, ◌^◌, ℕ, [], ◌∷◌, Some, None, Ok, true, false, is_some, OnOk, OnErr, IfOk, IsOkUnless, MatchOption, cond, option_map};
+ghost use Rattle.std.specs.Prelude.{◌≡◌, ◌<◌, ◌+◌, ◌^◌, ℕ, [], ◌∷◌, Some, None, Ok, true, false, is_some, OnOk, OnErr};
+ghost use Rattle.std.specs.Prelude.{IfOk, IsOkUnless, MatchOption, cond, option_map};
 ghost use Rattle.std.specs.List.Sorted.{IsStrictlySortedBy};
 ghost use Rattle.std.specs.Map.{keys_of};
 ghost use Rattle.std.specs.Ordering.{eq_by_cmp};
@@ -21,7 +22,8 @@ use std::marker::Model;
 
 /// The nodes by their parents' numbers and their segments, seen as the list of all in this order.
 ///
-/// Which nodes are parents, and at which places names may be, are kept beside it, so that little is searched for in vain.
+/// Which nodes are parents, and at which places names may be, are kept beside it, so that little is searched for in
+/// vain.
 #[derive(Drop)]
 pub(crate) struct Index {
     places: BTreeMap<(u64, Seg), NodeId>,
@@ -71,7 +73,8 @@ impl Index {
         self.parents.contains(parent)
     }
 
-    /// Whether a node may have a child with this segment. Most of those that have none are known by this. It takes no memory.
+    /// Whether a node may have a child with this segment. Most of those that have none are known by this. It takes no
+    /// memory.
     pub(crate) fn may_have_child(&self, parent: u64, segment: Seg) -> bool
         ensures { result ≡ false → child_in self.now parent segment ≡ None }
     {
@@ -87,7 +90,8 @@ impl Index {
 
     /// Puts a node below a parent by a segment. Where there is no memory for it, nothing changes.
     pub(crate) fn insert(&mut self, parent: u64, segment: Seg, id: NodeId) -> Result<(), Refusal>
-        ensures children { OnOk result ((p : ℕ) (s : Seg) → child_in self.new p s ≡ cond (eq_by_cmp index_cmp (parent, segment) (p, s)) (Some id.number) (child_in self.old p s)) }
+        ensures children { OnOk result ((p : ℕ) (s : Seg) → child_in self.new p s ≡
+            cond (eq_by_cmp index_cmp (parent, segment) (p, s)) (Some id.number) (child_in self.old p s)) }
         ensures unchanged { OnErr result (self.new ≡ self.old) }
         ensures memory { IsOkUnless result OutOfMemory }
     {
@@ -100,14 +104,17 @@ impl Index {
 
     /// Takes out what lies below a parent by a segment. It takes no memory.
     pub(crate) fn remove(&mut self, parent: u64, segment: Seg)
-        ensures { (p : ℕ) (s : Seg) → child_in self.new p s ≡ cond (eq_by_cmp index_cmp (parent, segment) (p, s)) None (child_in self.old p s) }
+        ensures { (p : ℕ) (s : Seg) → child_in self.new p s ≡ cond (eq_by_cmp index_cmp (parent, segment) (p, s)) None
+            (child_in self.old p s) }
     {
         self.places.remove(&(parent, segment));
     }
 
-    /// A child of a node with its segment, if the node has one: which of them, the contract leaves open. It takes no memory.
+    /// A child of a node with its segment, if the node has one: which of them, the contract leaves open. It takes no
+    /// memory.
     pub(crate) fn first_child(&self, parent: u64) -> Option<(Seg, NodeId)>
-        ensures { MatchOption result ((s : Seg) → child_in self.now parent s ≡ None) (λ first. child_in self.now parent first.0 ≡ Some first.1.number) }
+        ensures { MatchOption result ((s : Seg) → child_in self.now parent s ≡ None)
+            (λ first. child_in self.now parent first.0 ≡ Some first.1.number) }
     {
         if !self.may_have_children(parent) {
             return None;

@@ -21,14 +21,18 @@ pub fn names_are_walked_in_path_order()
     ensures { (names : Map) → Ascending path_cmp (walked names) }
 {}
 
-/// After the mutexes are released, a path has what it had, under the same number: a mutex released, anything else as it was.
+/// After the mutexes are released, a path has what it had, under the same number: a mutex released, anything else as
+/// it was.
 #[tactic(auto, using(crate::proofs::Changes::released_at))]
 pub fn releasing_changes_mutexes_alone()
-    ensures { (names : Namespace) (path : List Seg) → get (mutexes_released names).map path ≡ option_map entry_released (get names.map path) }
+    ensures { (names : Namespace) (path : List Seg) → get (mutexes_released names).map path ≡
+        option_map entry_released (get names.map path) }
 {}
 
-/// What stands at a path stands under its number, so the node that is found at a path has the entry at it, and its path.
+/// What stands at a path stands under its number, so the node that is found at a path has the entry at it, and its
+/// path.
 #[tactic(auto, using(crate::proofs::Finding::numbered_found))]
 pub fn what_is_found_stands_under_its_number()
-    ensures { (names : Namespace) (path : List Seg) (entry : Entry) → Numbered names → get names.map path ≡ Some entry → numbered entry.number names.map ≡ Some (path, entry) }
+    ensures { (names : Namespace) (path : List Seg) (entry : Entry) → Numbered names →
+        get names.map path ≡ Some entry → numbered entry.number names.map ≡ Some (path, entry) }
 {}

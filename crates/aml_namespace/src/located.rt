@@ -16,8 +16,9 @@ use std::marker::Model;
 
 /// A name that was found: its path, and the node that stood there.
 ///
-/// The path alone says which name it is, so it is seen as its path; what is declared there anew stands for it from then on. The
-/// node is a hint: while it stands at this path, it is gone to at once. Any other node costs the way down from the root.
+/// The path alone says which name it is, so it is seen as its path; what is declared there anew stands for it from
+/// then on. The node is a hint: while it stands at this path, it is gone to at once. Any other node costs the way
+/// down from the root.
 #[derive(Debug, Drop)]
 pub struct Located {
     path: Path,
@@ -79,7 +80,8 @@ impl Names {
 
     /// The node that stands at the path of a name that was found. It takes no memory.
     fn node_at(&self, located: &Located) -> Option<NodeId>
-        ensures { option_map (λ id. numbered id.number self.now.map) result ≡ option_map Some (at_path self.now.map located.now) }
+        ensures { option_map (λ id. numbered id.number self.now.map) result ≡
+            option_map Some (at_path self.now.map located.now) }
     {
         if self.is_at(located.node, located.path.segments()) {
             Some(located.node)
@@ -98,7 +100,8 @@ impl Names {
         }
     }
 
-    /// Puts another object in place of what stands at the path of a name that was found, as `replace` does. It takes no memory.
+    /// Puts another object in place of what stands at the path of a name that was found, as `replace` does. It takes
+    /// no memory.
     ///
     /// Where nothing stands at the path this is refused as `NotFound`, and nothing changes.
     pub fn replace_located(&mut self, located: &Located, object: NamedObject) -> Result<(), Refusal>

@@ -1,10 +1,12 @@
 //! The names that are declared, as numbered nodes.
-ghost use Rattle.std.specs.Prelude.{◌≡◌, ◌++◌, ◌+◌, ◌<◌, ◌≤◌, ◌^◌, nat_lt, List, Some, Ok, Err, None, OnOk, OnErr, IfOk, IsErr, IsOkUnless, option_map, ◌∷◌, [], is_some, true};
+ghost use Rattle.std.specs.Prelude.{◌≡◌, ◌++◌, ◌+◌, ◌<◌, ◌≤◌, ◌^◌, nat_lt, List, Some, Ok, Err, None, OnOk, OnErr};
+ghost use Rattle.std.specs.Prelude.{IfOk, IsErr, IsOkUnless, option_map, ◌∷◌, [], is_some, true};
 ghost use Rattle.std.specs.FinMap as map;
 ghost use Rattle.ar_space.specs.declared.refusal.Refusal.TheVariants.{OutOfMemory};
 ghost use Rattle.ar_space.specs.Outcome.{Answers, NotMemory};
 ghost use Rattle.ar_space.specs.Change.{Does};
-ghost use Rattle.aml_namespace.specs.Namespace.{root_alone, declared, without_below, replaced, mutexes_released, numbered};
+ghost use Rattle.aml_namespace.specs.Namespace.{root_alone, declared, without_below, replaced, mutexes_released};
+ghost use Rattle.aml_namespace.specs.Namespace.{numbered};
 ghost use Rattle.aml_objects.specs.declared.entry.NamedObject.TheVariants as object;
 ghost use Rattle.aml_namespace.specs.Search.{at_path};
 ghost use Rattle.aml_namespace.specs.Numbering.{Numbered};
@@ -21,9 +23,9 @@ use std::marker::Model;
 
 /// The namespace: what stands at each path, and the number of the next declaration.
 ///
-/// It is seen as a finite map of paths and that number. Each declaration's number is below the next one, and no two that stand
-/// have the same: a number that was given is never given again. Each name is a node under its parent's, and a path is the way
-/// down from the root, number 0.
+/// It is seen as a finite map of paths and that number. Each declaration's number is below the next one, and no two
+/// that stand have the same: a number that was given is never given again. Each name is a node under its parent's,
+/// and a path is the way down from the root, number 0.
 #[derive(Drop)]
 pub struct Names {
     pub(crate) nodes: Nodes,
@@ -66,8 +68,8 @@ impl Names {
         })
     }
 
-    /// What stands at the node with an id, whatever its key; none where its declaration doesn't stand any more, or never
-    /// did. It takes no memory.
+    /// What stands at the node with an id, whatever its key; none where its declaration doesn't stand any more, or
+    /// never did. It takes no memory.
     pub fn node(&self, id: NodeId) -> Option<&Entry>
         ensures { option_map (λ entry. entry.now) result ≡ option_map (λ f. f.1) (numbered id.number self.now.map) }
     {
@@ -79,7 +81,8 @@ impl Names {
 
     /// The node that some segments lead to from the root, and then some more. It takes no memory.
     pub(crate) fn at(&self, front: &[Seg], back: &[Seg]) -> Option<NodeId>
-        ensures { option_map (λ id. numbered id.number self.now.map) result ≡ option_map Some (at_path self.now.map (front.now ++ back.now)) }
+        ensures { option_map (λ id. numbered id.number self.now.map) result ≡
+            option_map Some (at_path self.now.map (front.now ++ back.now)) }
     {
         match descend(&self.nodes, &self.index, root_id(), front) {
             None => None,
@@ -89,7 +92,8 @@ impl Names {
 
     /// The node at a path. It takes no memory.
     pub fn find(&self, path: &Path) -> Option<NodeId>
-        ensures { option_map (λ id. id.number) result ≡ option_map (λ entry. entry.number) (map.get self.now.map path.now) }
+        ensures { option_map (λ id. id.number) result ≡ option_map (λ entry. entry.number)
+            (map.get self.now.map path.now) }
     {
         descend(&self.nodes, &self.index, root_id(), path.segments())
     }
@@ -104,7 +108,8 @@ impl Names {
         }
     }
 
-    /// Each declaration's number is below the next one, and no two that stand have the same. It is a law: it does nothing.
+    /// Each declaration's number is below the next one, and no two that stand have the same. It is a law: it does
+    /// nothing.
     pub fn numbers_are_given_once(&self)
         ensures { Numbered self.now }
     {
@@ -120,8 +125,8 @@ impl Names {
 
     /// Declares a name, and gives the number of the declaration.
     ///
-    /// A name whose parent doesn't stand is refused as `NotFound`, one that stands already as `Exists`, and one for which
-    /// no number is left as `ObjectLimit`. Where a name is refused, as for want of memory, nothing changes.
+    /// A name whose parent doesn't stand is refused as `NotFound`, one that stands already as `Exists`, and one for
+    /// which no number is left as `ObjectLimit`. Where a name is refused, as for want of memory, nothing changes.
     pub fn insert(&mut self, path: Path, object: NamedObject) -> Result<u64, Refusal>
         ensures change { Does result self.new (declared path object) self.old }
         ensures refused { OnErr result (self.new ≡ self.old) }

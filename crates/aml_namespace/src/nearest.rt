@@ -8,13 +8,15 @@ use aml_objects::NodeId;
 use aml_path::{Path, Seg};
 
 impl Names {
-    /// What stands at some segments in a scope's path, or in the nearest scope above it: how many segments of the path lead to that
-    /// scope, and the node. The scope need not stand. It takes no memory.
+    /// What stands at some segments in a scope's path, or in the nearest scope above it: how many segments of the
+    /// path lead to that scope, and the node. The scope need not stand. It takes no memory.
     ///
     /// It goes down the path once, as far as nodes stand.
     pub fn nearest(&self, scope: &Path, segments: &[Seg]) -> Option<(usize, NodeId)>
-        ensures node { option_map (λ near. numbered near.1.number self.now.map) result ≡ option_map Some (search_up self.now.map scope.now segments.now (length scope.now)) }
-        ensures depth { option_map (λ near. near.0) result ≡ option_map (λ f. length f.0 - length segments.now) (search_up self.now.map scope.now segments.now (length scope.now)) }
+        ensures node { option_map (λ near. numbered near.1.number self.now.map) result ≡
+            option_map Some (search_up self.now.map scope.now segments.now (length scope.now)) }
+        ensures depth { option_map (λ near. near.0) result ≡ option_map (λ f. length f.0 - length segments.now)
+            (search_up self.now.map scope.now segments.now (length scope.now)) }
     {
         let mut current = self.root();
         let mut depth = 0;

@@ -10,20 +10,23 @@ use crate::names::Names;
 use aml_objects::{NamedObject, NodeId};
 
 impl Names {
-    /// Puts another object into the node with an id, under the number of its declaration. Where that doesn't stand, nothing
-    /// changes. It takes no memory.
+    /// Puts another object into the node with an id, under the number of its declaration. Where that doesn't stand,
+    /// nothing changes. It takes no memory.
     pub fn replace_node(&mut self, id: NodeId, object: NamedObject)
-        ensures change { (f : List Segment × Entry) → numbered id.number self.old.map ≡ Some f → replaced f.0 object self.old ≡ (Ok tt, self.new) }
+        ensures change { (f : List Segment × Entry) → numbered id.number self.old.map ≡ Some f →
+            replaced f.0 object self.old ≡ (Ok tt, self.new) }
         ensures unchanged { numbered id.number self.old.map ≡ None → self.new ≡ self.old }
     {
         self.nodes.replace(id, object);
     }
 
-    /// Puts an integer into the node with an id, where a name holds an integer there. Where it doesn't, or the id has not the node's
-    /// key, it answers no, and nothing changes. It takes no memory.
+    /// Puts an integer into the node with an id, where a name holds an integer there. Where it doesn't, or the id has
+    /// not the node's key, it answers no, and nothing changes. It takes no memory.
     pub fn put_integer(&mut self, id: NodeId, number: u64) -> bool
-        ensures change { result ≡ true → (f : List Segment × Entry) → numbered id.number self.old.map ≡ Some f → replaced f.0 (Data (Integer number)) self.old ≡ (Ok tt, self.new) }
-        ensures held { result ≡ true → (f : List Segment × Entry) → numbered id.number self.old.map ≡ Some f → (n : ℕ) × (f.1.object ≡ Data (Integer n)) }
+        ensures change { result ≡ true → (f : List Segment × Entry) → numbered id.number self.old.map ≡ Some f →
+            replaced f.0 (Data (Integer number)) self.old ≡ (Ok tt, self.new) }
+        ensures held { result ≡ true → (f : List Segment × Entry) → numbered id.number self.old.map ≡ Some f →
+            (n : ℕ) × (f.1.object ≡ Data (Integer n)) }
         ensures gone { numbered id.number self.old.map ≡ None → result ≡ false }
         ensures unchanged { result ≡ false → self.new ≡ self.old }
     {

@@ -1,5 +1,6 @@
 //! Nodes by id: each under the key that the slab picks, and found by its number where the key isn't known.
-ghost use Rattle.std.specs.Prelude.{◌≡◌, ◌≢◌, ℕ, Some, None, true, false, OnOk, OnErr, IfOk, IfSome, IsOkUnless, option_map};
+ghost use Rattle.std.specs.Prelude.{◌≡◌, ◌≢◌, ℕ, Some, None, true, false, OnOk, OnErr, IfOk, IfSome, IsOkUnless};
+ghost use Rattle.std.specs.Prelude.{option_map};
 ghost use Rattle.std.specs.FinMap as map;
 ghost use Rattle.slab.specs.Slab as slots;
 ghost use Rattle.ar_space.specs.declared.refusal.Refusal.TheVariants.{OutOfMemory};
@@ -23,8 +24,8 @@ use std::marker::Model;
 
 /// The nodes that stand, seen as a finite map by the numbers of their declarations.
 ///
-/// How many mutexes are acquired is kept beside them, so that nothing is searched for these where there are none. The hints say
-/// where the node below another may lie, and each is checked before it is believed.
+/// How many mutexes are acquired is kept beside them, so that nothing is searched for these where there are none. The
+/// hints say where the node below another may lie, and each is checked before it is believed.
 #[derive(Drop)]
 pub(crate) struct Nodes {
     slab: Slab<Node>,
@@ -105,9 +106,11 @@ impl Nodes {
         }
     }
 
-    /// A node below a parent by a segment, if a hint leads to one; where none does, there may be one all the same. It takes no memory.
+    /// A node below a parent by a segment, if a hint leads to one; where none does, there may be one all the same. It
+    /// takes no memory.
     pub(crate) fn hinted(&self, parent: u64, segment: Seg) -> Option<NodeId>
-        ensures { IfSome result (λ id. (x : Seen) × (map.get self.now id.number ≡ Some x) × (x.parent.number ≡ parent) × (x.segment ≡ segment)) }
+        ensures { IfSome result (λ id. (x : Seen) × (map.get self.now id.number ≡ Some x) ×
+            (x.parent.number ≡ parent) × (x.segment ≡ segment)) }
     {
         let first = first_place(parent, segment);
         for step in 0..PROBES {
@@ -168,11 +171,12 @@ impl Nodes {
         self.acquired = self.acquired - before + after;
     }
 
-    /// Puts an integer into the node with an id, if an integer is held there and the id has the node's key; else nothing changes. It takes
-    /// no memory.
+    /// Puts an integer into the node with an id, if an integer is held there and the id has the node's key; else
+    /// nothing changes. It takes no memory.
     pub(crate) fn put_integer(&mut self, id: NodeId, number: u64) -> bool
         ensures put { result ≡ true → self.new ≡ object_put self.old id.number (Data (Integer number)) }
-        ensures held { result ≡ true → (x : Seen) → map.get self.old id.number ≡ Some x → (n : ℕ) × (x.entry.object ≡ Data (Integer n)) }
+        ensures held { result ≡ true → (x : Seen) → map.get self.old id.number ≡ Some x → (n : ℕ) ×
+            (x.entry.object ≡ Data (Integer n)) }
         ensures gone { map.get self.old id.number ≡ None → result ≡ false }
         ensures unchanged { result ≡ false → self.new ≡ self.old }
     {
@@ -195,7 +199,8 @@ impl Nodes {
     }
 }
 
-/// The key of the node with an id, while it stands: the id's own, where that node is in its slot, or the one of the number.
+/// The key of the node with an id, while it stands: the id's own, where that node is in its slot, or the one of the
+/// number.
 fn key_of(slab: &Slab<Node>, keys: &BTreeMap<u64, usize>, id: NodeId) -> Option<usize>
     ensures { Keyed slab.now.slots keys.now.entries → result ≡ key_of keys.now.entries id.number }
 {
@@ -210,7 +215,8 @@ fn key_of(slab: &Slab<Node>, keys: &BTreeMap<u64, usize>, id: NodeId) -> Option<
 
 /// The id of the node in the slot with a key, if that lies below a parent by a segment.
 fn node_in(slab: &Slab<Node>, key: usize, parent: u64, segment: Seg) -> Option<NodeId>
-    ensures { IfSome result (λ id. (x : Seen) × (slots.get slab.now key ≡ Some x) × (x.entry.number ≡ id.number) × (x.parent.number ≡ parent) × (x.segment ≡ segment)) }
+    ensures { IfSome result (λ id. (x : Seen) × (slots.get slab.now key ≡ Some x) × (x.entry.number ≡ id.number) ×
+        (x.parent.number ≡ parent) × (x.segment ≡ segment)) }
 {
     match slab.get(key) {
         Some(node) if node.parent.number == parent && node.segment == segment => Some(NodeId {
@@ -261,7 +267,8 @@ fn put_object(node: &mut Node, object: NamedObject)
 
 /// Whether the node with an id is in the slot with the id's key, and holds an integer.
 fn is_integer_at(slab: &Slab<Node>, id: NodeId) -> bool
-    ensures { result ≡ true → (x : Seen) × (slots.get slab.now id.key ≡ Some x) × (x.entry.number ≡ id.number) × ((n : ℕ) × (x.entry.object ≡ Data (Integer n))) }
+    ensures { result ≡ true → (x : Seen) × (slots.get slab.now id.key ≡ Some x) × (x.entry.number ≡ id.number) ×
+        ((n : ℕ) × (x.entry.object ≡ Data (Integer n))) }
 {
     match slab.get(id.key) {
         None => false,

@@ -27,13 +27,14 @@ impl Names {
     }
 }
 
-/// Removes the nodes below one that stands: down to a leaf by first children, and on from the leaf's parent once it is removed.
-/// Every number is below the next one. It tells whether there were any.
+/// Removes the nodes below one that stands: down to a leaf by first children, and on from the leaf's parent once it
+/// is removed. Every number is below the next one. It tells whether there were any.
 fn cut_below(nodes: &mut Nodes, index: &mut Index, next: u64, start: NodeId) -> bool
     requires linked { Linked nodes.old (child_in index.old) next }
     requires stands { is_some (map.get nodes.old start.number) ≡ true }
     ensures linked { Linked nodes.new (child_in index.new) next }
-    ensures left { map_of nodes.new ≡ map.retain_keys (map_of nodes.old) (λ q. not (is_below (path_to nodes.old start.number) q)) }
+    ensures left { map_of nodes.new ≡ map.retain_keys (map_of nodes.old)
+        (λ q. not (is_below (path_to nodes.old start.number) q)) }
     ensures kept { result ≡ false → nodes.new ≡ nodes.old }
     ensures removed { result ≡ true → HasBelow (path_to nodes.old start.number) (map_of nodes.old) }
 {
@@ -55,7 +56,8 @@ fn cut_below(nodes: &mut Nodes, index: &mut Index, next: u64, start: NodeId) -> 
 
 /// Removes a node, and gives its parent; where none stands with the id, the id itself.
 fn cut_leaf(nodes: &mut Nodes, index: &mut Index, id: NodeId) -> NodeId
-    ensures { (x : Node) → map.get nodes.old id.number ≡ Some x → Cut nodes.old nodes.new (child_in index.old) (child_in index.new) id.number x result.number }
+    ensures { (x : Node) → map.get nodes.old id.number ≡ Some x →
+        Cut nodes.old nodes.new (child_in index.old) (child_in index.new) id.number x result.number }
 {
     match nodes.get(id) {
         None => id,

@@ -17,8 +17,8 @@ use std::alloc::Global;
 
 /// A scope: its path, and the node that is expected to stand there.
 ///
-/// The path alone says which scope it is. The node is a hint: while it stands at this path, the scope is found on the way up from it,
-/// without a search. Any other node costs the way down from the root.
+/// The path alone says which scope it is. The node is a hint: while it stands at this path, the scope is found on the
+/// way up from it, without a search. Any other node costs the way down from the root.
 #[derive(Clone, Copy)]
 pub struct Scope<'a> {
     pub path: &'a Path,
@@ -42,7 +42,8 @@ impl Names {
 
     /// The node that a name finds from a scope, refused as `lookup` is. It takes no memory.
     pub fn search_in(&self, scope: Scope<'_>, name: &NameString) -> Result<NodeId, Refusal>
-        ensures answer { seen (λ id. numbered id.number self.now.map) result ≡ seen Some (found self.now.map scope.entry.path.now name.now) }
+        ensures answer { seen (λ id. numbered id.number self.now.map) result ≡
+            seen Some (found self.now.map scope.entry.path.now name.now) }
         ensures memory { NotMemory result }
     {
         if self.is_at(scope.node, scope.path.segments()) {
@@ -52,10 +53,11 @@ impl Names {
         }
     }
 
-    /// The node that a name of one segment, without a prefix, finds from a scope; none where `lookup` refuses that name, which it does
-    /// as `NotFound` alone. No name is made, and it takes no memory.
+    /// The node that a name of one segment, without a prefix, finds from a scope; none where `lookup` refuses that
+    /// name, which it does as `NotFound` alone. No name is made, and it takes no memory.
     pub fn search_segment(&self, scope: Scope<'_>, segment: Seg) -> Option<NodeId>
-        ensures { seen (λ id. numbered id.number self.now.map) (found_or_not result) ≡ seen Some (found self.now.map scope.entry.path.now (segment_name segment)) }
+        ensures { seen (λ id. numbered id.number self.now.map) (found_or_not result) ≡
+            seen Some (found self.now.map scope.entry.path.now (segment_name segment)) }
     {
         match self.nearest_in(scope, segment) {
             None => None,
@@ -65,7 +67,8 @@ impl Names {
 
     /// The node with a segment in a scope, or in the nearest scope above it, aliases not followed.
     fn nearest_in(&self, scope: Scope<'_>, segment: Seg) -> Option<NodeId>
-        ensures { option_map (λ id. numbered id.number self.now.map) result ≡ option_map Some (search_up self.now.map scope.entry.path.now (segment ∷ []) (length scope.entry.path.now)) }
+        ensures { option_map (λ id. numbered id.number self.now.map) result ≡
+            option_map Some (search_up self.now.map scope.entry.path.now (segment ∷ []) (length scope.entry.path.now)) }
     {
         let segments = [segment];
         if self.is_at(scope.node, scope.path.segments()) {
@@ -77,7 +80,8 @@ impl Names {
 
     /// What a name finds from a scope, refused as `lookup` is. It takes no memory.
     pub fn lookup_in(&self, scope: Scope<'_>, name: &NameString) -> Result<&Entry, Refusal>
-        ensures answer { seen (λ entry. entry.now) result ≡ seen (λ f. f.1) (found self.now.map scope.entry.path.now name.now) }
+        ensures answer { seen (λ entry. entry.now) result ≡ seen (λ f. f.1)
+            (found self.now.map scope.entry.path.now name.now) }
         ensures memory { NotMemory result }
     {
         match self.search_in(scope, name) {
@@ -105,8 +109,8 @@ impl Names {
         }
     }
 
-    /// Whether a node stands at a path. It goes up from the node. Where it says no, it may stand there all the same: the search
-    /// then finds the scope from the root.
+    /// Whether a node stands at a path. It goes up from the node. Where it says no, it may stand there all the same:
+    /// the search then finds the scope from the root.
     pub(crate) fn is_at(&self, id: NodeId, segments: &[Seg]) -> bool
         ensures { result ≡ true → option_map (λ f. f.0) (numbered id.number self.now.map) ≡ Some segments.now }
     {

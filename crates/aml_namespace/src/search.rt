@@ -1,11 +1,13 @@
 //! What a name finds from a scope (ACPI 6.5, 5.3).
-ghost use Rattle.std.specs.Prelude.{◌≡◌, ◌++◌, List, Some, None, Ok, Err, length, option_map, IsErr, MatchOption, MatchResult, ◌-◌, ◌≤◌, take};
+ghost use Rattle.std.specs.Prelude.{◌≡◌, ◌++◌, List, Some, None, Ok, Err, length, option_map, IsErr, MatchOption};
+ghost use Rattle.std.specs.Prelude.{MatchResult, ◌-◌, ◌≤◌, take};
 ghost use Rattle.ar_space.specs.Outcome.{Answers, NotMemory, seen};
 ghost use Rattle.aml_path.specs.declared.segment.Seg.{Seg};
 ghost use Rattle.aml_path.specs.Paths.{resolved};
 ghost use Rattle.aml_objects.specs.declared.entry.Entry.{Entry};
 ghost use Rattle.aml_namespace.specs.Namespace.{numbered};
-ghost use Rattle.aml_namespace.specs.Search.{at_path, aliased, search_up, found_or_not, first_found, through, target_of, found, found_from, IsFront};
+ghost use Rattle.aml_namespace.specs.Search.{at_path, aliased, search_up, found_or_not, first_found, through};
+ghost use Rattle.aml_namespace.specs.Search.{target_of, found, found_from, IsFront};
 
 use crate::names::Names;
 use aml_objects::{Entry, NamedObject, NodeId};
@@ -16,10 +18,10 @@ use std::alloc::Global;
 impl Names {
     /// What a name finds from a scope. It takes no memory.
     ///
-    /// A single segment without a prefix is searched for in the scope, then in each scope above it; every other name stands
-    /// for one path. An alias gives what stands at its target, in one step. Where nothing is found, or an alias leads to
-    /// nothing or to another alias, the name is refused as `NotFound`; the null name is refused as `BadName`, and a name
-    /// with more `^` than the scope has parents as `AboveRoot`.
+    /// A single segment without a prefix is searched for in the scope, then in each scope above it; every other name
+    /// stands for one path. An alias gives what stands at its target, in one step. Where nothing is found, or an
+    /// alias leads to nothing or to another alias, the name is refused as `NotFound`; the null name is refused as
+    /// `BadName`, and a name with more `^` than the scope has parents as `AboveRoot`.
     pub fn lookup(&self, scope: &Path, name: &NameString) -> Result<&Entry, Refusal>
         ensures answer { seen (λ entry. entry.now) result ≡ seen (λ f. f.1) (found self.now.map scope.now name.now) }
         ensures memory { NotMemory result }
@@ -46,7 +48,8 @@ impl Names {
 
     /// The node that a name finds from a scope's path, refused as `lookup` is. It takes no memory.
     pub fn search_at(&self, scope: &Path, name: &NameString) -> Result<NodeId, Refusal>
-        ensures answer { seen (λ id. numbered id.number self.now.map) result ≡ seen Some (found self.now.map scope.now name.now) }
+        ensures answer { seen (λ id. numbered id.number self.now.map) result ≡
+            seen Some (found self.now.map scope.now name.now) }
         ensures memory { NotMemory result }
     {
         match self.first_at(scope, name) {
@@ -55,10 +58,11 @@ impl Names {
         }
     }
 
-    /// The node that a name finds from the scope that is the node with an id; refused as `lookup` is, and as `NotFound` where
-    /// the scope doesn't stand. It takes no memory.
+    /// The node that a name finds from the scope that is the node with an id; refused as `lookup` is, and as
+    /// `NotFound` where the scope doesn't stand. It takes no memory.
     pub fn search(&self, scope: NodeId, name: &NameString) -> Result<NodeId, Refusal>
-        ensures answer { seen (λ id. numbered id.number self.now.map) result ≡ seen Some (found_from self.now.map scope.number name.now) }
+        ensures answer { seen (λ id. numbered id.number self.now.map) result ≡
+            seen Some (found_from self.now.map scope.number name.now) }
         ensures memory { NotMemory result }
     {
         match self.node(scope) {
@@ -72,7 +76,8 @@ impl Names {
 
     /// What a name finds from a scope's path, aliases not followed.
     fn first_at(&self, scope: &Path, name: &NameString) -> Result<NodeId, Refusal>
-        ensures answer { seen (λ id. numbered id.number self.now.map) result ≡ seen Some (first_found self.now.map scope.now name.now) }
+        ensures answer { seen (λ id. numbered id.number self.now.map) result ≡
+            seen Some (first_found self.now.map scope.now name.now) }
         ensures memory { NotMemory result }
     {
         if name.is_searched() {
@@ -86,7 +91,8 @@ impl Names {
 
     /// What a name finds from a scope that stands, aliases not followed.
     fn first_from(&self, scope: NodeId, name: &NameString) -> Result<NodeId, Refusal>
-        ensures answer { (f : List Seg × Entry) → numbered scope.number self.now.map ≡ Some f → seen (λ id. numbered id.number self.now.map) result ≡ seen Some (first_found self.now.map f.0 name.now) }
+        ensures answer { (f : List Seg × Entry) → numbered scope.number self.now.map ≡ Some f →
+            seen (λ id. numbered id.number self.now.map) result ≡ seen Some (first_found self.now.map f.0 name.now) }
         ensures memory { NotMemory result }
     {
         if name.is_searched() {
@@ -100,7 +106,8 @@ impl Names {
 
     /// What stands at some segments in a scope's path, or in the nearest scope above it; the scope need not stand.
     pub(crate) fn search_from(&self, scope: &Path, segments: &[Seg]) -> Option<NodeId>
-        ensures { option_map (λ id. numbered id.number self.now.map) result ≡ option_map Some (search_up self.now.map scope.now segments.now (length scope.now)) }
+        ensures { option_map (λ id. numbered id.number self.now.map) result ≡
+            option_map Some (search_up self.now.map scope.now segments.now (length scope.now)) }
     {
         match self.nearest(scope, segments) {
             None => None,
@@ -110,7 +117,9 @@ impl Names {
 
     /// What stands at some segments in a scope that stands, or in the nearest scope above it.
     pub(crate) fn search_above(&self, scope: NodeId, segments: &[Seg]) -> Option<NodeId>
-        ensures { (f : List Seg × Entry) → numbered scope.number self.now.map ≡ Some f → option_map (λ id. numbered id.number self.now.map) result ≡ option_map Some (search_up self.now.map f.0 segments.now (length f.0)) }
+        ensures { (f : List Seg × Entry) → numbered scope.number self.now.map ≡ Some f →
+            option_map (λ id. numbered id.number self.now.map) result ≡
+            option_map Some (search_up self.now.map f.0 segments.now (length f.0)) }
     {
         let mut current = scope;
         'scopes: loop {
@@ -126,7 +135,9 @@ impl Names {
 
     /// The node below which a name's own segments stand, from a scope that stands.
     fn front_from(&self, scope: NodeId, name: &NameString) -> Result<NodeId, Refusal>
-        ensures front { (f : List Seg × Entry) → numbered scope.number self.now.map ≡ Some f → MatchResult result (λ front. IsFront self.now.map front.number name.now.segments (resolved name.now f.0)) (λ refusal. resolved name.now f.0 ≡ Err refusal) }
+        ensures front { (f : List Seg × Entry) → numbered scope.number self.now.map ≡ Some f →
+            MatchResult result (λ front. IsFront self.now.map front.number name.now.segments (resolved name.now f.0))
+            (λ refusal. resolved name.now f.0 ≡ Err refusal) }
         ensures memory { NotMemory result }
     {
         if name.is_null() {
@@ -143,7 +154,8 @@ impl Names {
 
     /// The target of an alias, in one step; any other node that stands is found itself.
     fn through(&self, id: NodeId) -> Result<NodeId, Refusal>
-        ensures answer { (f : List Seg × Entry) → numbered id.number self.now.map ≡ Some f → seen (λ id. numbered id.number self.now.map) result ≡ seen Some (through self.now.map f) }
+        ensures answer { (f : List Seg × Entry) → numbered id.number self.now.map ≡ Some f →
+            seen (λ id. numbered id.number self.now.map) result ≡ seen Some (through self.now.map f) }
         ensures memory { NotMemory result }
     {
         found_or_not(self.end_of(id))
@@ -151,7 +163,8 @@ impl Names {
 
     /// The same; none where an alias leads to nothing or to another alias.
     pub(crate) fn end_of(&self, id: NodeId) -> Option<NodeId>
-        ensures { (f : List Seg × Entry) → numbered id.number self.now.map ≡ Some f → seen (λ id. numbered id.number self.now.map) (found_or_not result) ≡ seen Some (through self.now.map f) }
+        ensures { (f : List Seg × Entry) → numbered id.number self.now.map ≡ Some f →
+            seen (λ id. numbered id.number self.now.map) (found_or_not result) ≡ seen Some (through self.now.map f) }
     {
         match self.alias_at(id) {
             None => Some(id),
@@ -161,7 +174,8 @@ impl Names {
 
     /// The target of an alias, which is no alias.
     fn target(&self, path: &Path) -> Option<NodeId>
-        ensures { seen (λ id. numbered id.number self.now.map) (found_or_not result) ≡ seen Some (target_of (at_path self.now.map path.now)) }
+        ensures { seen (λ id. numbered id.number self.now.map) (found_or_not result) ≡
+            seen Some (target_of (at_path self.now.map path.now)) }
     {
         match self.at(&[], path.segments()) {
             None => None,
@@ -174,7 +188,8 @@ impl Names {
 
     /// Where the alias leads that a node is, if it is one.
     fn alias_at(&self, id: NodeId) -> Option<&Path>
-        ensures { (f : List Seg × Entry) → numbered id.number self.now.map ≡ Some f → option_map (λ path. path.now) result ≡ aliased f.1.object }
+        ensures { (f : List Seg × Entry) → numbered id.number self.now.map ≡ Some f →
+            option_map (λ path. path.now) result ≡ aliased f.1.object }
     {
         match self.node(id) {
             None => None,
@@ -206,7 +221,8 @@ pub(crate) fn found_or_not<T: Drop>(found: Option<T>) -> Result<T, Refusal>
 /// The part of the scope that stands before a name's own segments in the path that it stands for.
 #[tactic(auto, unfolding(aml_path::specs::Paths::resolved))]
 fn front_of<'a>(name: &NameString, scope: &'a Path) -> Result<&'a [Seg], Refusal>
-    ensures front { MatchResult result (λ front. resolved name.now scope.now ≡ Ok (front.now ++ name.now.segments)) (λ refusal. resolved name.now scope.now ≡ Err refusal) }
+    ensures front { MatchResult result (λ front. resolved name.now scope.now ≡ Ok (front.now ++ name.now.segments))
+        (λ refusal. resolved name.now scope.now ≡ Err refusal) }
     ensures memory { NotMemory result }
 {
     if name.is_null() {

@@ -13,8 +13,9 @@ use aml_objects::NodeId;
 use aml_path::Seg;
 use ar_space::Refusal;
 
-/// The child of a node that has this segment. Most that don't stand are known by a mark, and a hint finds most that do, however
-/// many nodes there are. Else the index says it. The root is nobody's child, though it has a segment and a parent.
+/// The child of a node that has this segment. Most that don't stand are known by a mark, and a hint finds most that
+/// do, however many nodes there are. Else the index says it. The root is nobody's child, though it has a segment and
+/// a parent.
 pub(crate) fn child(nodes: &Nodes, index: &Index, parent: u64, segment: Seg) -> Option<NodeId>
     requires listed { AllListed nodes.now (child_in index.now) }
     ensures { option_map (λ id. id.number) result ≡ child_in index.now parent segment }
@@ -53,7 +54,9 @@ pub(crate) fn put(nodes: &mut Nodes, index: &mut Index, node: Node) -> Result<()
     requires new { map.get nodes.old node.entry.number ≡ None }
     requires free { child_in index.old node.parent.number node.segment ≡ None }
     ensures nodes { OnOk result (nodes.new ≡ map.insert nodes.old node.entry.number node) }
-    ensures children { OnOk result ((p : ℕ) (s : Seg) → child_in index.new p s ≡ cond (eq_by_cmp index_cmp (node.parent.number, node.segment) (p, s)) (Some node.entry.number) (child_in index.old p s)) }
+    ensures children { OnOk result ((p : ℕ) (s : Seg) → child_in index.new p s ≡
+        cond (eq_by_cmp index_cmp (node.parent.number, node.segment) (p, s)) (Some node.entry.number)
+        (child_in index.old p s)) }
     ensures nodes_unchanged { OnErr result (nodes.new ≡ nodes.old) }
     ensures index_unchanged { OnErr result (index.new ≡ index.old) }
     ensures memory { IsOkUnless result OutOfMemory }
@@ -73,7 +76,8 @@ pub(crate) fn put(nodes: &mut Nodes, index: &mut Index, node: Node) -> Result<()
 /// Takes the node with an id, which lies below a parent by a segment, out of the tree. It takes no memory.
 pub(crate) fn cut(nodes: &mut Nodes, index: &mut Index, id: NodeId, parent: u64, segment: Seg)
     ensures nodes { nodes.new ≡ map.remove nodes.old id.number }
-    ensures children { (p : ℕ) (s : Seg) → child_in index.new p s ≡ cond (eq_by_cmp index_cmp (parent, segment) (p, s)) None (child_in index.old p s) }
+    ensures children { (p : ℕ) (s : Seg) → child_in index.new p s ≡
+        cond (eq_by_cmp index_cmp (parent, segment) (p, s)) None (child_in index.old p s) }
 {
     nodes.remove(id);
     index.remove(parent, segment);

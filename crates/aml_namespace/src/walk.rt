@@ -42,7 +42,8 @@ impl Names {
 
 /// Puts a path among others, if there is one and it isn't the root's.
 fn put_named(paths: &mut BTreeSet<Path>, path: Option<Path>) -> Result<(), Refusal>
-    ensures put { OnOk result ((q : List Seg) → contains path_cmp paths.new q ≡ (contains path_cmp paths.old q || is_named q path)) }
+    ensures put { OnOk result ((q : List Seg) → contains path_cmp paths.new q ≡
+        (contains path_cmp paths.old q || is_named q path)) }
     ensures memory { IsOkUnless result OutOfMemory }
 {
     match path {

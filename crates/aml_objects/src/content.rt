@@ -6,8 +6,8 @@ use crate::heap::Heap;
 use crate::object::Object;
 use crate::value::Value;
 
-/// What a value holds, as conversions and operators see it (ACPI 6.5, 19.3.5): an integer, the bytes of a string or of a
-/// buffer, or something else, which none of them takes.
+/// What a value holds, as conversions and operators see it (ACPI 6.5, 19.3.5): an integer, the bytes of a string or
+/// of a buffer, or something else, which none of them takes.
 #[derive(Clone, Copy)]
 pub enum Content<'a> {
     Integer(u64),

@@ -1,7 +1,8 @@
 //! Deep copies of values.
 ghost use Rattle.std.specs.Prelude.{◌≡◌, ◌≤◌, List, [], length, take};
 ghost use Rattle.ar_space.specs.Change.{Does};
-ghost use Rattle.aml_objects.specs.Copies.{string_copy, buffer_copy, value_copy, held_copy, element_copy, copies_of, whole_copy, package_copy, copied};
+ghost use Rattle.aml_objects.specs.Copies.{string_copy, buffer_copy, value_copy, held_copy, element_copy, copies_of};
+ghost use Rattle.aml_objects.specs.Copies.{whole_copy, package_copy, copied};
 
 use crate::heap::Heap;
 use crate::object::{Element, Elements, Object};

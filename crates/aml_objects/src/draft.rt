@@ -11,8 +11,8 @@ use ar_space::Refusal;
 use std::alloc::Global;
 use std::marker::Model;
 
-/// Objects that are made for a value that may yet be refused. They are numbered as if they stood behind those of a heap, and
-/// `Heap::append` puts them there.
+/// Objects that are made for a value that may yet be refused. They are numbered as if they stood behind those of a
+/// heap, and `Heap::append` puts them there.
 #[derive(Debug, Drop)]
 pub struct Draft {
     made: Vec<Object>,

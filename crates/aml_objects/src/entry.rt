@@ -45,8 +45,8 @@ pub struct Method {
     pub body: MethodBody,
 }
 
-/// The flags of a control method (ACPI 6.5, 20.2.5.2, MethodFlags): bits 0 to 2 are how many arguments it takes, bit 3 is set
-/// where its calls are serialized, and bits 4 to 7 are its synchronization level.
+/// The flags of a control method (ACPI 6.5, 20.2.5.2, MethodFlags): bits 0 to 2 are how many arguments it takes, bit
+/// 3 is set where its calls are serialized, and bits 4 to 7 are its synchronization level.
 #[derive(Clone, Copy, Debug, PartialEq, Eq)]
 pub struct MethodFlags {
     pub byte: u8,
@@ -70,8 +70,8 @@ pub enum MethodBody {
     Aml(Body),
 }
 
-/// An operation region (ACPI 6.5, 5.5.2.4): its address space as AML numbers it, and where it begins and how long it is,
-/// in bytes. Its scope is the parent of its path.
+/// An operation region (ACPI 6.5, 5.5.2.4): its address space as AML numbers it, and where it begins and how long it
+/// is, in bytes. Its scope is the parent of its path.
 #[derive(Clone, Copy, Debug, PartialEq, Eq)]
 pub struct OperationRegion {
     pub space: u8,
@@ -79,8 +79,8 @@ pub struct OperationRegion {
     pub length: u64,
 }
 
-/// A field unit (ACPI 6.5, 19.6, Field and IndexField): what it lies in, the offset of its first bit, how many bits it has,
-/// how wide its accesses are, and what a write does with the other bits of a unit.
+/// A field unit (ACPI 6.5, 19.6, Field and IndexField): what it lies in, the offset of its first bit, how many bits
+/// it has, how wide its accesses are, and what a write does with the other bits of a unit.
 #[derive(Clone, Copy, Debug, PartialEq, Eq)]
 pub struct FieldUnit {
     pub source: FieldSource,
@@ -106,8 +106,8 @@ pub enum UpdateRule {
     WriteAsZeros,
 }
 
-/// A buffer field (ACPI 6.5, 19.6, CreateField and its like): the buffer's object, the offset of its first bit, and how many bits
-/// it has.
+/// A buffer field (ACPI 6.5, 19.6, CreateField and its like): the buffer's object, the offset of its first bit, and
+/// how many bits it has.
 #[derive(Clone, Copy, Debug, PartialEq, Eq)]
 pub struct BufferField {
     pub buffer: u32,

@@ -1,9 +1,14 @@
 //! The objects, each by its number.
-ghost use Rattle.std.specs.Prelude.{◌≡◌, ◌<◌, ◌++◌, ◌∷◌, [], List, length, take, ◌==◌, slice_get, slice_set, nat_lt, if◌then◌else◌, option_map, Some, Ok, Err, OnOk, OnErr, IsOkUnless};
+ghost use Rattle.std.specs.Prelude.{◌≡◌, ◌<◌, ◌++◌, ◌∷◌, [], List, length, take, ◌==◌, slice_get, slice_set, nat_lt};
+ghost use Rattle.std.specs.Prelude.{if◌then◌else◌, option_map, Some, Ok, Err, OnOk, OnErr, IsOkUnless};
 ghost use Rattle.ar_space.specs.Outcome.{Answers, NotMemory, seen};
 ghost use Rattle.ar_space.specs.declared.refusal.Refusal.TheVariants.{OutOfMemory};
 ghost use Rattle.ar_space.specs.Change.{Does};
-ghost use Rattle.aml_objects.specs.Objects.{make, make_string, make_buffer, make_package, string_at, buffer_at, elements_at, write_buffer, write_string, fitted_to, buffer_in, exchange_buffer, exchanged_with, write_byte, byte_outcome, byte_written, or_dead, element_at, byte_at, element_there, write_element, element_outcome, element_written};
+ghost use Rattle.aml_objects.specs.Objects.{make, make_string, make_buffer, make_package, string_at, buffer_at};
+ghost use Rattle.aml_objects.specs.Objects.{elements_at, write_buffer, write_string, fitted_to, buffer_in};
+ghost use Rattle.aml_objects.specs.Objects.{exchange_buffer, exchanged_with, write_byte, byte_outcome, byte_written};
+ghost use Rattle.aml_objects.specs.Objects.{or_dead, element_at, byte_at, element_there, write_element};
+ghost use Rattle.aml_objects.specs.Objects.{element_outcome, element_written};
 
 use crate::draft::Draft;
 use crate::making::{MAX_BYTES, make, make_buffer, make_package, make_string};
@@ -101,7 +106,8 @@ impl Heap {
         make_string(&[], &mut self.objects, bytes)
     }
 
-    /// A new package; too many elements, and one object too many, are refused as `ObjectLimit`, and then nothing changes.
+    /// A new package; too many elements, and one object too many, are refused as `ObjectLimit`, and then nothing
+    /// changes.
     pub fn make_package(&mut self, elements: Elements) -> Result<Value, Refusal>
         ensures { Does result self.new (make_package elements) self.old }
     {
@@ -157,8 +163,8 @@ impl Heap {
         }
     }
 
-    /// Puts bytes in place of those of a buffer, which are given back; another kind of object is refused as `WrongType`, and
-    /// then nothing changes.
+    /// Puts bytes in place of those of a buffer, which are given back; another kind of object is refused as
+    /// `WrongType`, and then nothing changes.
     #[tactic(auto, unfolding(crate::specs::Objects::exchange_buffer))]
     pub fn exchange_buffer(&mut self, object: u32, bytes: Octets) -> Result<Octets, Refusal>
         ensures change { Does result self.new (exchange_buffer object bytes) self.old }
@@ -185,7 +191,8 @@ impl Heap {
         }
     }
 
-    /// Writes one byte of a string or a buffer. Past its end, and of another object, this is refused as `DeadReference`.
+    /// Writes one byte of a string or a buffer. Past its end, and of another object, this is refused as
+    /// `DeadReference`.
     #[tactic(auto, unfolding(crate::specs::Objects::write_byte))]
     pub fn write_byte(&mut self, object: u32, index: usize, byte: u8) -> Result<(), Refusal>
         ensures change { Does result self.new (write_byte object index byte) self.old }
@@ -229,7 +236,8 @@ impl Heap {
         }
     }
 
-    /// Tests that a package has an element at an index. Past its end, and of another object, this is refused as `DeadReference`.
+    /// Tests that a package has an element at an index. Past its end, and of another object, this is refused as
+    /// `DeadReference`.
     #[tactic(auto, unfolding(crate::specs::Objects::element_there))]
     pub fn element_there(&self, object: u32, index: usize) -> Result<(), Refusal>
         ensures answer { Does result self.now (element_there object index) self.now }

@@ -8,5 +8,6 @@ ghost use Rattle.aml_objects.specs.Copies.{copied};
 /// stands behind them.
 #[tactic(auto, using(crate::proofs::Copying::copy_grows))]
 pub fn a_copy_leaves_objects_as_they_were()
-    ensures { (value : Value) (before : List Object) → (made : List Object) × ((copied value before).1 ≡ before ++ made) }
+    ensures { (value : Value) (before : List Object) → (made : List Object) ×
+        ((copied value before).1 ≡ before ++ made) }
 {}

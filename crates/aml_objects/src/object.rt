@@ -1,5 +1,6 @@
 //! Objects: strings, buffers and packages.
-ghost use Rattle.std.specs.Prelude.{◌≡◌, ◌++◌, ◌∷◌, [], OnOk, OnErr, IsOkUnless, Some, Ok, Err, length, slice_get, slice_set, nat_lt, if◌then◌else◌};
+ghost use Rattle.std.specs.Prelude.{◌≡◌, ◌++◌, ◌∷◌, [], OnOk, OnErr, IsOkUnless, Some, Ok, Err, length, slice_get};
+ghost use Rattle.std.specs.Prelude.{slice_set, nat_lt, if◌then◌else◌};
 ghost use Rattle.ar_space.specs.Outcome.{Answers, NotMemory, seen};
 ghost use Rattle.ar_space.specs.declared.refusal.Refusal.TheVariants.{OutOfMemory, Evaluation};
 ghost use Rattle.ar_space.specs.declared.refusal.EvaluationFault.TheVariants.{DeadReference};
@@ -182,7 +183,8 @@ impl Elements {
     /// Replaces one element; a reference past the end is dead, and nothing changes.
     pub(crate) fn set(&mut self, index: usize, element: Element) -> Result<(), Refusal>
         ensures outcome { result ≡ (if nat_lt index (length self.old) then Ok tt else Err (Evaluation DeadReference)) }
-        ensures set { self.new ≡ (if nat_lt index (length self.old) then slice_set self.old index element else self.old) }
+        ensures set { self.new ≡ (if nat_lt index (length self.old) then slice_set self.old index
+            element else self.old) }
     {
         if index >= self.list.len() {
             return Err(Refusal::Evaluation(EvaluationFault::DeadReference));

@@ -1,7 +1,8 @@
 //! The arities that hold while a list is read.
 ghost use Rattle.std.specs.Prelude.{◌≡◌, ◌≤◌, ◌++◌, ◌∷◌, [], Ok, OnOk, length};
 ghost use Rattle.ar_space.specs.Outcome.{Answers};
-ghost use Rattle.aml_grammar.specs.Arities.{latest, arity_at, known, greatest, is_known_below, search_up, found, arity_of, or_path};
+ghost use Rattle.aml_grammar.specs.Arities.{latest, arity_at, known, greatest, is_known_below, search_up, found};
+ghost use Rattle.aml_grammar.specs.Arities.{arity_of, or_path};
 
 use crate::before::Before;
 use aml_grammar::{ArgumentCounts, Arities, deeper};

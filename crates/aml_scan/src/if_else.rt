@@ -29,7 +29,8 @@ pub(crate) fn if_term<C: ArgumentCounts, B: Before>(
     start: usize,
     row: Row,
 ) -> Result<(), Refusal>
-    ensures reads { Does result reader.new (scanned (if_term (term_at by_arities levels) scope.now context start row)) reader.old }
+    ensures reads { Does result reader.new
+        (scanned (if_term (term_at by_arities levels) scope.now context start row)) reader.old }
     ensures kept { OnOk result (length reader.new.rest ≤ length reader.old.rest) }
 {
     row_operands(alloc, reader, levels, scope, context, start, row)?;
@@ -46,7 +47,8 @@ fn else_part<C: ArgumentCounts, B: Before>(
     context: Context,
     start: usize,
 ) -> Result<(), Refusal>
-    ensures reads { Does result reader.new (scanned (else_part (term_at by_arities levels) scope.now context start)) reader.old }
+    ensures reads { Does result reader.new
+        (scanned (else_part (term_at by_arities levels) scope.now context start)) reader.old }
     ensures kept { OnOk result (length reader.new.rest ≤ length reader.old.rest) }
 {
     let here = reader.at();
@@ -66,7 +68,8 @@ fn else_term<C: ArgumentCounts, B: Before>(
     scope: &Path,
     context: Context,
 ) -> Result<(), Refusal>
-    ensures reads { Does result reader.new (scanned (else_term (term_at by_arities levels) scope.now context)) reader.old }
+    ensures reads { Does result reader.new
+        (scanned (else_term (term_at by_arities levels) scope.now context)) reader.old }
     ensures kept { OnOk result (length reader.new.rest ≤ length reader.old.rest) }
 {
     reader.byte()?;
@@ -83,7 +86,9 @@ fn packed_list<C: ArgumentCounts, B: Before>(
     scope: &Path,
     context: Context,
 ) -> Result<(), Refusal>
-    ensures reads { Does result reader.new (scanned (packed true (list_operand (term_at by_arities levels) positions.ListItem scope.now context))) reader.old }
+    ensures reads { Does result reader.new
+        (scanned (packed true (list_operand (term_at by_arities levels) positions.ListItem scope.now context)))
+        reader.old }
     ensures kept { OnOk result (length reader.new.rest ≤ length reader.old.rest) }
 {
     let outer = reader.enter()?;

@@ -1,5 +1,5 @@
-//! Goes over the terms of AML in the bytes of a table or of the body of a control method, by the grammar that `aml_grammar` defines
-//! (ACPI 6.5, 20.2). `aml_terms` reads them.
+//! Goes over the terms of AML in the bytes of a table or of the body of a control method, by the grammar that
+//! `aml_grammar` defines (ACPI 6.5, 20.2). `aml_terms` reads them.
 #![tactic(auto)]
 
 mod before;

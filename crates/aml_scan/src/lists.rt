@@ -21,16 +21,17 @@ const MAX_DEPTH: usize = 64;
 pub struct Noted {
     /// The calls that have arguments, in the order in which they begin.
     pub marks: Vec<Mark>,
-    /// The names that the list declares or an External of it names, with the arguments that they take. A body adds none.
+    /// The names that the list declares or an External of it names, with the arguments that they take. A body adds
+    /// none.
     pub added: Arities,
 }
 
-/// Goes over a list of terms: of a table after its header, or, where `body` is true, of the body of a control method (TermList of
-/// ACPI 6.5, 20.2.5). It marks the calls, and notes the names that the list declares. It makes no trees, and takes memory for names,
-/// paths and marks alone.
+/// Goes over a list of terms: of a table after its header, or, where `body` is true, of the body of a control method
+/// (TermList of ACPI 6.5, 20.2.5). It marks the calls, and notes the names that the list declares. It makes no trees,
+/// and takes memory for names, paths and marks alone.
 ///
-/// Names stand in `scope`, and `counts` says how many arguments a name takes; outside a body, names that the list declares itself
-/// count too, from where they stand on. The first fault from left to right is refused:
+/// Names stand in `scope`, and `counts` says how many arguments a name takes; outside a body, names that the list
+/// declares itself count too, from where they stand on. The first fault from left to right is refused:
 ///
 /// - `BadName`: bytes that are no name where one must stand, or a declaration of a name without a segment;
 /// - `AboveRoot`: a name with more `^` than its scope has parents, where reading resolves it;
@@ -42,7 +43,8 @@ pub fn scan<C: ArgumentCounts>(
     body: bool,
     counts: &C,
 ) -> Result<Noted, Refusal>
-    ensures { Answers (seen (λ n. (n.marks.items, C.counts counts.now ++ n.added)) result) (noted (term_list by_arities bytes.now scope.now body (C.counts counts.now))) }
+    ensures { Answers (seen (λ n. (n.marks.items, C.counts counts.now ++ n.added)) result)
+        (noted (term_list by_arities bytes.now scope.now body (C.counts counts.now))) }
 {
     scan_behind::<C, Brand>(alloc, bytes, scope, body, counts)
 }
@@ -57,7 +59,8 @@ fn scan_behind<C: ArgumentCounts, B: Before>(
     counts: &C,
 ) -> Result<Noted, Refusal>
     requires { C.counts counts.now ≡ B.before }
-    ensures { Answers (seen (λ n. (n.marks.items, B.before ++ n.added)) result) (noted (term_list by_arities bytes.now scope.now body B.before)) }
+    ensures { Answers (seen (λ n. (n.marks.items, B.before ++ n.added)) result)
+        (noted (term_list by_arities bytes.now scope.now body B.before)) }
 {
     let context = Context {
         body,

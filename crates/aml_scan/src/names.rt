@@ -3,7 +3,9 @@ ghost use Rattle.std.specs.Prelude.{◌≡◌, ◌+◌, ◌<◌, ◌≤◌, ◌^
 ghost use Rattle.ar_space.specs.Outcome.{Answers, NotMemory, seen};
 ghost use Rattle.ar_space.specs.Change.{Does};
 ghost use Rattle.aml_grammar.specs.State.{times};
-ghost use Rattle.aml_grammar.specs.Names.{starts_name, lead_name_char, name_char, segment, counted_segments, multiple_segments, segments_at, segments, rooted_name, relative_name, name_at, name_string};
+ghost use Rattle.aml_grammar.specs.Names.{starts_name, lead_name_char, name_char, segment, counted_segments};
+ghost use Rattle.aml_grammar.specs.Names.{multiple_segments, segments_at, segments, rooted_name, relative_name};
+ghost use Rattle.aml_grammar.specs.Names.{name_at, name_string};
 
 use crate::before::Before;
 use crate::reader::Reader;

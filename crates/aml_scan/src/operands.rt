@@ -2,7 +2,9 @@
 ghost use Rattle.std.specs.Prelude.{◌≡◌, ◌≤◌, false, length, OnOk};
 ghost use Rattle.ar_space.specs.Outcome.{NotMemory, seen};
 ghost use Rattle.ar_space.specs.Change.{Does};
-ghost use Rattle.aml_grammar.specs.Operands.{name_operand, scope_name, alias_source, external_name, declared_name, integer_operand, method_flags, object_type, argument_count, text_operand, bytes_operand, holds_terms};
+ghost use Rattle.aml_grammar.specs.Operands.{name_operand, scope_name, alias_source, external_name, declared_name};
+ghost use Rattle.aml_grammar.specs.Operands.{integer_operand, method_flags, object_type, argument_count, text_operand};
+ghost use Rattle.aml_grammar.specs.Operands.{bytes_operand, holds_terms};
 ghost use Rattle.aml_grammar.specs.Grammar.{Inner, operand};
 ghost use Rattle.aml_scan.specs.Scanned.{kept, scanned};
 
@@ -38,7 +40,8 @@ fn scope_name<C: ArgumentCounts, B: Before>(
     scope: &Path,
     earlier: &mut Earlier,
 ) -> Result<(), Refusal>
-    ensures reads { Does (seen (λ _. earlier.new) result) reader.new (kept (λ x. x.1) (scope_name scope.now earlier.old)) reader.old }
+    ensures reads { Does (seen (λ _. earlier.new) result) reader.new
+        (kept (λ x. x.1) (scope_name scope.now earlier.old)) reader.old }
     ensures kept { OnOk result (length reader.new.rest ≤ length reader.old.rest) }
 {
     let name = name_string(alloc, reader)?;
@@ -55,7 +58,8 @@ fn alias_source<C: ArgumentCounts, B: Before>(
     scope: &Path,
     earlier: &mut Earlier,
 ) -> Result<(), Refusal>
-    ensures reads { Does (seen (λ _. earlier.new) result) reader.new (kept (λ x. x.1) (alias_source scope.now earlier.old)) reader.old }
+    ensures reads { Does (seen (λ _. earlier.new) result) reader.new
+        (kept (λ x. x.1) (alias_source scope.now earlier.old)) reader.old }
     ensures kept { OnOk result (length reader.new.rest ≤ length reader.old.rest) }
 {
     let name = name_string(alloc, reader)?;
@@ -72,7 +76,8 @@ fn external_name<C: ArgumentCounts, B: Before>(
     scope: &Path,
     earlier: &mut Earlier,
 ) -> Result<(), Refusal>
-    ensures reads { Does (seen (λ _. earlier.new) result) reader.new (kept (λ x. x.1) (external_name scope.now earlier.old)) reader.old }
+    ensures reads { Does (seen (λ _. earlier.new) result) reader.new
+        (kept (λ x. x.1) (external_name scope.now earlier.old)) reader.old }
     ensures kept { OnOk result (length reader.new.rest ≤ length reader.old.rest) }
 {
     let name = name_string(alloc, reader)?;
@@ -92,7 +97,8 @@ fn declared_name<C: ArgumentCounts, B: Before>(
     count: u8,
     earlier: &mut Earlier,
 ) -> Result<(), Refusal>
-    ensures reads { Does (seen (λ _. earlier.new) result) reader.new (kept (λ x. x.1) (declared_name scope.now context start count earlier.old)) reader.old }
+    ensures reads { Does (seen (λ _. earlier.new) result) reader.new
+        (kept (λ x. x.1) (declared_name scope.now context start count earlier.old)) reader.old }
     ensures kept { OnOk result (length reader.new.rest ≤ length reader.old.rest) }
 {
     let name = name_string(alloc, reader)?;
@@ -126,7 +132,8 @@ fn method_flags<C: ArgumentCounts, B: Before>(
     context: Context,
     earlier: &Earlier,
 ) -> Result<(), Refusal>
-    ensures reads { Does (seen (λ _. earlier.now) result) reader.new (kept (λ x. x.1) (method_flags context earlier.now)) reader.old }
+    ensures reads { Does (seen (λ _. earlier.now) result) reader.new
+        (kept (λ x. x.1) (method_flags context earlier.now)) reader.old }
     ensures kept { OnOk result (length reader.new.rest ≤ length reader.old.rest) }
 {
     let flags = reader.byte()?;
@@ -140,7 +147,8 @@ fn object_type<C: ArgumentCounts, B: Before>(
     reader: &mut Reader<'_, C, B>,
     earlier: &mut Earlier,
 ) -> Result<(), Refusal>
-    ensures reads { Does (seen (λ _. earlier.new) result) reader.new (kept (λ x. x.1) (object_type earlier.old)) reader.old }
+    ensures reads { Does (seen (λ _. earlier.new) result) reader.new
+        (kept (λ x. x.1) (object_type earlier.old)) reader.old }
     ensures kept { OnOk result (length reader.new.rest ≤ length reader.old.rest) }
     ensures memory { NotMemory result }
 {
@@ -160,7 +168,8 @@ fn argument_count<C: ArgumentCounts, B: Before>(
     context: Context,
     earlier: &Earlier,
 ) -> Result<(), Refusal>
-    ensures reads { Does (seen (λ _. earlier.now) result) reader.new (kept (λ x. x.1) (argument_count context earlier.now)) reader.old }
+    ensures reads { Does (seen (λ _. earlier.now) result) reader.new
+        (kept (λ x. x.1) (argument_count context earlier.now)) reader.old }
     ensures kept { OnOk result (length reader.new.rest ≤ length reader.old.rest) }
 {
     let given = reader.byte()?;

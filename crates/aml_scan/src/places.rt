@@ -1,7 +1,8 @@
 //! Operands that are places, and field elements, gone over (SuperName of ACPI 6.5, 20.2.2; FieldElement of 20.2.5.2).
 ghost use Rattle.std.specs.Prelude.{◌≡◌, ◌<◌, ◌≤◌, length, OnOk};
 ghost use Rattle.ar_space.specs.Change.{Does};
-ghost use Rattle.aml_grammar.specs.Grammar.{is_slot, super_name, target, simple_name, connection, connect_field, field, fields, fields_operand, by_arities, term_at};
+ghost use Rattle.aml_grammar.specs.Grammar.{is_slot, super_name, target, simple_name, connection, connect_field, field};
+ghost use Rattle.aml_grammar.specs.Grammar.{fields, fields_operand, by_arities, term_at};
 ghost use Rattle.aml_scan.specs.Scanned.{scanned};
 
 use crate::before::Before;
@@ -36,7 +37,8 @@ pub(crate) fn super_name<C: ArgumentCounts, B: Before>(
     scope: &Path,
     context: Context,
 ) -> Result<(), Refusal>
-    ensures reads { Does result reader.new (scanned (super_name (term_at by_arities levels) scope.now context)) reader.old }
+    ensures reads { Does result reader.new
+        (scanned (super_name (term_at by_arities levels) scope.now context)) reader.old }
     ensures kept { OnOk result (length reader.new.rest ≤ length reader.old.rest) }
 {
     let next = reader.peek()?;
@@ -81,7 +83,8 @@ pub(crate) fn simple_name<C: ArgumentCounts, B: Before>(
     scope: &Path,
     context: Context,
 ) -> Result<(), Refusal>
-    ensures reads { Does result reader.new (scanned (simple_name (term_at by_arities levels) scope.now context)) reader.old }
+    ensures reads { Does result reader.new
+        (scanned (simple_name (term_at by_arities levels) scope.now context)) reader.old }
     ensures kept { OnOk result (length reader.new.rest ≤ length reader.old.rest) }
 {
     let here = reader.at();
@@ -103,7 +106,8 @@ fn connection<C: ArgumentCounts, B: Before>(
     scope: &Path,
     context: Context,
 ) -> Result<(), Refusal>
-    ensures reads { Does result reader.new (scanned (connection (term_at by_arities levels) scope.now context)) reader.old }
+    ensures reads { Does result reader.new
+        (scanned (connection (term_at by_arities levels) scope.now context)) reader.old }
     ensures kept { OnOk result (length reader.new.rest ≤ length reader.old.rest) }
 {
     let next = reader.peek()?;
@@ -125,7 +129,8 @@ fn connect_field<C: ArgumentCounts, B: Before>(
     scope: &Path,
     context: Context,
 ) -> Result<(), Refusal>
-    ensures reads { Does result reader.new (scanned (connect_field (term_at by_arities levels) scope.now context)) reader.old }
+    ensures reads { Does result reader.new
+        (scanned (connect_field (term_at by_arities levels) scope.now context)) reader.old }
     ensures shorter { OnOk result (length reader.new.rest < length reader.old.rest) }
 {
     reader.byte()?;
@@ -186,7 +191,8 @@ pub(crate) fn fields_operand<C: ArgumentCounts, B: Before>(
     scope: &Path,
     context: Context,
 ) -> Result<(), Refusal>
-    ensures reads { Does result reader.new (scanned (fields_operand (term_at by_arities levels) scope.now context)) reader.old }
+    ensures reads { Does result reader.new
+        (scanned (fields_operand (term_at by_arities levels) scope.now context)) reader.old }
     ensures kept { OnOk result (length reader.new.rest ≤ length reader.old.rest) }
 {
     fields(alloc, reader, levels, scope, context)

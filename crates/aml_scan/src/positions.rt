@@ -2,7 +2,9 @@
 ghost use Rattle.std.specs.Prelude.{◌≡◌, ◌<◌, ◌≤◌, ◌∷◌, ◌++◌, [], length, map, Ok, OnOk};
 ghost use Rattle.ar_space.specs.Outcome.{Answers, NotMemory, seen};
 ghost use Rattle.ar_space.specs.Change.{Does};
-ghost use Rattle.aml_grammar.specs.Grammar.{stands, takes_name, costs_no_level, is_module_level, is_if, is_nothing, item_of, at_item, item_of_else, at_else, in_loop, opcode, admitted_row, admitted, row_at, argument_number, by_arities};
+ghost use Rattle.aml_grammar.specs.Grammar.{stands, takes_name, costs_no_level, is_module_level, is_if, is_nothing};
+ghost use Rattle.aml_grammar.specs.Grammar.{item_of, at_item, item_of_else, at_else, in_loop, opcode, admitted_row};
+ghost use Rattle.aml_grammar.specs.Grammar.{admitted, row_at, argument_number, by_arities};
 
 use crate::before::Before;
 use crate::reader::Reader;

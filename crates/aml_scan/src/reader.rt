@@ -1,8 +1,11 @@
 //! A reader over the bytes that are left of a list of terms.
-ghost use Rattle.std.specs.Prelude.{◌≡◌, ◌+◌, ◌*◌, ◌^◌, ◌-◌, ◌/◌, ◌<◌, ◌≤◌, ◌==◌, ◌++◌, ◌∷◌, ℕ, List, [], length, take, drop, IfOk, OnOk, Ok, if◌then◌else◌};
+ghost use Rattle.std.specs.Prelude.{◌≡◌, ◌+◌, ◌*◌, ◌^◌, ◌-◌, ◌/◌, ◌<◌, ◌≤◌, ◌==◌, ◌++◌, ◌∷◌, ℕ, List, [], length, take};
+ghost use Rattle.std.specs.Prelude.{drop, IfOk, OnOk, Ok, if◌then◌else◌};
 ghost use Rattle.ar_space.specs.Outcome.{Answers, NotMemory, seen};
 ghost use Rattle.ar_space.specs.Change.{Does};
-ghost use Rattle.aml_grammar.specs.State.{State, look, byte, peek, is_next, next_bytes, all_bytes, text, text_length, integer, little_endian, bit_count, size_after, package_size, length_of, enter, past, adding, marking};
+ghost use Rattle.aml_grammar.specs.State.{State, look, byte, peek, is_next, next_bytes, all_bytes, text, text_length};
+ghost use Rattle.aml_grammar.specs.State.{integer, little_endian, bit_count, size_after, package_size, length_of};
+ghost use Rattle.aml_grammar.specs.State.{enter, past, adding, marking};
 ghost use Rattle.aml_grammar.specs.Names.{carets, parents};
 ghost use Rattle.aml_grammar.specs.Arities.{found, or_path, arity_of};
 ghost use Rattle.aml_scan.specs.Scanned.{scanned};

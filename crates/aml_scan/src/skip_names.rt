@@ -3,7 +3,8 @@ ghost use Rattle.std.specs.Prelude.{◌≡◌, ◌+◌, ◌<◌, ◌≤◌, leng
 ghost use Rattle.ar_space.specs.Outcome.{NotMemory};
 ghost use Rattle.ar_space.specs.Change.{Does};
 ghost use Rattle.aml_grammar.specs.State.{times};
-ghost use Rattle.aml_grammar.specs.Names.{segment, multiple_segments, segments, rooted_name, relative_name, name_string};
+ghost use Rattle.aml_grammar.specs.Names.{segment, multiple_segments, segments, rooted_name, relative_name};
+ghost use Rattle.aml_grammar.specs.Names.{name_string};
 ghost use Rattle.aml_scan.specs.Scanned.{scanned};
 
 use crate::before::Before;

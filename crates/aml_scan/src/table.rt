@@ -358,7 +358,8 @@ static TABLE: [Row; 112] = [
 const NO_ROW: u8 = 0x70;
 // written by tools/opcodes.py from tables/opcodes.txt: number of rows: end
 
-/// The places in `TABLE` of the rows of opcodes of one byte, by that byte, sixteen a line; `NO_ROW` for the other bytes.
+/// The places in `TABLE` of the rows of opcodes of one byte, by that byte, sixteen a line; `NO_ROW` for the other
+/// bytes.
 ///
 /// A proof compares them with the table, so no row is passed over.
 static PLACES: [u8; 256] = [

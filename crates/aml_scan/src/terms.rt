@@ -3,7 +3,9 @@ ghost use Rattle.std.specs.Prelude.{◌≡◌, ◌<◌, ◌≤◌, length, OnOk,
 ghost use Rattle.ar_space.specs.Outcome.{NotMemory, seen};
 ghost use Rattle.ar_space.specs.Change.{Does};
 ghost use Rattle.aml_grammar.specs.State.{times};
-ghost use Rattle.aml_grammar.specs.Grammar.{named, named_term, element_name, invocation, coded_term, row_term, row_operands, packed, operands, operand, list_operand, items, by_arities, term_at, below, nothing_earlier, scope_of};
+ghost use Rattle.aml_grammar.specs.Grammar.{named, named_term, element_name, invocation, coded_term, row_term};
+ghost use Rattle.aml_grammar.specs.Grammar.{row_operands, packed, operands, operand, list_operand, items, by_arities};
+ghost use Rattle.aml_grammar.specs.Grammar.{term_at, below, nothing_earlier, scope_of};
 ghost use Rattle.aml_grammar.specs.declared.context.Position.TheVariants as positions;
 ghost use Rattle.aml_scan.specs.Scanned.{kept, scanned, has_no_operands};
 
@@ -59,7 +61,8 @@ fn named<C: ArgumentCounts, B: Before>(
     context: Context,
     start: usize,
 ) -> Result<(), Refusal>
-    ensures reads { Does result reader.new (scanned (named by_arities (below by_arities levels) position scope.now context start)) reader.old }
+    ensures reads { Does result reader.new
+        (scanned (named by_arities (below by_arities levels) position scope.now context start)) reader.old }
     ensures shorter { OnOk result (length reader.new.rest < length reader.old.rest) }
 {
     if !takes_name(position) {
@@ -82,7 +85,8 @@ fn named_term<C: ArgumentCounts, B: Before>(
     context: Context,
     start: usize,
 ) -> Result<(), Refusal>
-    ensures reads { Does result reader.new (scanned (named_term by_arities (term_at by_arities levels) position scope.now context start)) reader.old }
+    ensures reads { Does result reader.new
+        (scanned (named_term by_arities (term_at by_arities levels) position scope.now context start)) reader.old }
     ensures shorter { OnOk result (length reader.new.rest < length reader.old.rest) }
 {
     match position {
@@ -112,7 +116,8 @@ fn invocation<C: ArgumentCounts, B: Before>(
     context: Context,
     start: usize,
 ) -> Result<(), Refusal>
-    ensures reads { Does result reader.new (scanned (invocation by_arities (term_at by_arities levels) scope.now context start)) reader.old }
+    ensures reads { Does result reader.new
+        (scanned (invocation by_arities (term_at by_arities levels) scope.now context start)) reader.old }
     ensures shorter { OnOk result (length reader.new.rest < length reader.old.rest) }
 {
     let name = name_string(alloc, reader)?;
@@ -130,7 +135,8 @@ fn arguments<C: ArgumentCounts, B: Before>(
     context: Context,
     count: u8,
 ) -> Result<(), Refusal>
-    ensures reads { Does result reader.new (scanned (times (term_at by_arities levels positions.TermArg scope.now context) count)) reader.old }
+    ensures reads { Does result reader.new
+        (scanned (times (term_at by_arities levels positions.TermArg scope.now context) count)) reader.old }
     ensures kept { OnOk result (length reader.new.rest ≤ length reader.old.rest) }
 {
     'arguments: for _ in 0..count {
@@ -151,7 +157,8 @@ fn coded_term<C: ArgumentCounts, B: Before>(
     context: Context,
     start: usize,
 ) -> Result<(), Refusal>
-    ensures reads { Does result reader.new (scanned (coded_term (below by_arities levels) position scope.now context start)) reader.old }
+    ensures reads { Does result reader.new
+        (scanned (coded_term (below by_arities levels) position scope.now context start)) reader.old }
     ensures shorter { OnOk result (length reader.new.rest < length reader.old.rest) }
 {
     let row = row_at(reader, position, context, start)?;
@@ -175,7 +182,8 @@ fn row_term<C: ArgumentCounts, B: Before>(
     start: usize,
     row: Row,
 ) -> Result<(), Refusal>
-    ensures reads { Does result reader.new (scanned (row_term (term_at by_arities levels) scope.now context start row)) reader.old }
+    ensures reads { Does result reader.new
+        (scanned (row_term (term_at by_arities levels) scope.now context start row)) reader.old }
     ensures kept { OnOk result (length reader.new.rest ≤ length reader.old.rest) }
 {
     if is_if(row.0) {
@@ -205,7 +213,8 @@ pub(crate) fn row_operands<C: ArgumentCounts, B: Before>(
     start: usize,
     row: Row,
 ) -> Result<(), Refusal>
-    ensures reads { Does result reader.new (scanned (row_operands (term_at by_arities levels) scope.now context start row)) reader.old }
+    ensures reads { Does result reader.new
+        (scanned (row_operands (term_at by_arities levels) scope.now context start row)) reader.old }
     ensures kept { OnOk result (length reader.new.rest ≤ length reader.old.rest) }
 {
     if has_no_operands(&row) {
@@ -231,7 +240,9 @@ fn packed_operands<C: ArgumentCounts, B: Before>(
     start: usize,
     kinds: &[OperandKind],
 ) -> Result<(), Refusal>
-    ensures reads { Does result reader.new (scanned (packed true (operands (term_at by_arities levels) scope.now context start kinds.now nothing_earlier))) reader.old }
+    ensures reads { Does result reader.new
+        (scanned (packed true (operands (term_at by_arities levels) scope.now context start kinds.now
+        nothing_earlier))) reader.old }
     ensures kept { OnOk result (length reader.new.rest ≤ length reader.old.rest) }
 {
     let outer = reader.enter()?;
@@ -250,7 +261,8 @@ fn operands<C: ArgumentCounts, B: Before>(
     start: usize,
     kinds: &[OperandKind],
 ) -> Result<(), Refusal>
-    ensures reads { Does result reader.new (scanned (operands (term_at by_arities levels) scope.now context start kinds.now nothing_earlier)) reader.old }
+    ensures reads { Does result reader.new
+        (scanned (operands (term_at by_arities levels) scope.now context start kinds.now nothing_earlier)) reader.old }
     ensures kept { OnOk result (length reader.new.rest ≤ length reader.old.rest) }
 {
     let mut earlier = Earlier {
@@ -323,7 +335,9 @@ fn term_list<C: ArgumentCounts, B: Before>(
     earlier: &Earlier,
     context: Context,
 ) -> Result<(), Refusal>
-    ensures reads { Does result reader.new (scanned (list_operand (term_at by_arities levels) positions.ListItem (scope_of scope.now earlier.now.path) context)) reader.old }
+    ensures reads { Does result reader.new
+        (scanned (list_operand (term_at by_arities levels) positions.ListItem (scope_of scope.now earlier.now.path)
+        context)) reader.old }
     ensures kept { OnOk result (length reader.new.rest ≤ length reader.old.rest) }
 {
     match &earlier.path {
@@ -343,7 +357,9 @@ fn element_list<C: ArgumentCounts, B: Before>(
     earlier: &Earlier,
     context: Context,
 ) -> Result<(), Refusal>
-    ensures reads { Does result reader.new (scanned (list_operand (term_at by_arities levels) positions.PackageElement (scope_of scope.now earlier.now.path) context)) reader.old }
+    ensures reads { Does result reader.new
+        (scanned (list_operand (term_at by_arities levels) positions.PackageElement
+        (scope_of scope.now earlier.now.path) context)) reader.old }
     ensures kept { OnOk result (length reader.new.rest ≤ length reader.old.rest) }
 {
     match &earlier.path {
@@ -376,7 +392,8 @@ pub(crate) fn list_operand<C: ArgumentCounts, B: Before>(
     scope: &Path,
     context: Context,
 ) -> Result<(), Refusal>
-    ensures reads { Does result reader.new (scanned (list_operand (term_at by_arities levels) position scope.now context)) reader.old }
+    ensures reads { Does result reader.new
+        (scanned (list_operand (term_at by_arities levels) position scope.now context)) reader.old }
     ensures kept { OnOk result (length reader.new.rest ≤ length reader.old.rest) }
 {
     items(alloc, reader, levels, position, scope, context)
@@ -392,7 +409,8 @@ pub(crate) fn items<C: ArgumentCounts, B: Before>(
     scope: &Path,
     context: Context,
 ) -> Result<(), Refusal>
-    ensures reads { Does result reader.new (scanned (items (term_at by_arities levels) position scope.now context)) reader.old }
+    ensures reads { Does result reader.new
+        (scanned (items (term_at by_arities levels) position scope.now context)) reader.old }
     ensures kept { OnOk result (length reader.new.rest ≤ length reader.old.rest) }
 {
     'items: while !reader.is_empty() {

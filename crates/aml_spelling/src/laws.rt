@@ -12,29 +12,35 @@ ghost use Rattle.aml_scan.specs.Spelling.{IsSpelled};
 ghost use Rattle.aml_spelling.specs.Reach.{Stops, reach, Placed};
 ghost use Rattle.aml_spelling.specs.Stands.{MayStand};
 
-/// A list or a table is read as trees exactly if its bytes are a spelling of them and they may stand there: names resolve in
-/// their scopes, each name has as many arguments as it takes, with what is declared before it, and terms are at most 64 levels
-/// deep. The arities after a table are those that its trees declare.
+/// A list or a table is read as trees exactly if its bytes are a spelling of them and they may stand there: names
+/// resolve in their scopes, each name has as many arguments as it takes, with what is declared before it, and terms
+/// are at most 64 levels deep. The arities after a table are those that its trees declare.
 pub fn read_exactly_if_spelled()
     ensures list { (bs : List ℕ) (scope : List Seg) (body : Bool) (known : List Arity) (ts : List Tree) →
-        Reads bs scope body known ts ↔ (IsSpelled body ts bs × (after : List Arity) × MayStand scope body ts known after) }
+        Reads bs scope body known ts ↔ (IsSpelled body ts bs × (after : List Arity) ×
+        MayStand scope body ts known after) }
     ensures table { (bs : List ℕ) (known : List Arity) (ts : List Tree) (after : List Arity) →
         (table_reading bs known ≡ Ok (ts, after)) ↔ (IsSpelled false ts bs × MayStand [] false ts known after) }
 {}
 
-/// A fault depends on no byte after the one where it is found: as many other bytes may stand there, and the fault is the same.
+/// A fault depends on no byte after the one where it is found: as many other bytes may stand there, and the fault is
+/// the same.
 ///
-/// A missing byte is found at the end of the list or package that it is missing in, an opcode at its own byte or bytes, a
-/// package length once it is read; `reach` says it of each fault, and `Placed` where the offset stands.
+/// A missing byte is found at the end of the list or package that it is missing in, an opcode at its own byte or
+/// bytes, a package length once it is read; `reach` says it of each fault, and `Placed` where the offset stands.
 pub fn faults_depend_on_no_later_byte()
-    ensures fault { (front back other : List ℕ) (scope : List Seg) (body : Bool) (known : List Arity) (r : Refusal) (s : State) →
-        Stops (front ++ back) scope body known r s → reach r s ≤ length front → length other ≡ length back → Fails (front ++ other) scope body known r }
+    ensures fault { (front back other : List ℕ) (scope : List Seg) (body : Bool) (known : List Arity)
+        (r : Refusal) (s : State) →
+        Stops (front ++ back) scope body known r s → reach r s ≤ length front → length other ≡ length back →
+        Fails (front ++ other) scope body known r }
     ensures place { (bs : List ℕ) (scope : List Seg) (body : Bool) (known : List Arity) (r : Refusal) (s : State) →
         Stops bs scope body known r s → Placed r s }
     ensures truncated { (front back other : List ℕ) (scope : List Seg) (body : Bool) (known : List Arity) (offset : ℕ) →
-        Fails (front ++ back) scope body known (refusals.Term Truncated offset) → offset ≤ length front → length other ≡ length back →
+        Fails (front ++ back) scope body known (refusals.Term Truncated offset) → offset ≤ length front →
+        length other ≡ length back →
         Fails (front ++ other) scope body known (refusals.Term Truncated offset) }
     ensures opcode { (front back other : List ℕ) (scope : List Seg) (body : Bool) (known : List Arity) (offset : ℕ) →
-        Fails (front ++ back) scope body known (refusals.Term BadOpcode offset) → offset + 2 ≤ length front → length other ≡ length back →
+        Fails (front ++ back) scope body known (refusals.Term BadOpcode offset) → offset + 2 ≤ length front →
+        length other ≡ length back →
         Fails (front ++ other) scope body known (refusals.Term BadOpcode offset) }
 {}

@@ -1,4 +1,5 @@
-//! Laws of the grammar of AML (ACPI 6.5, 20.2): how terms are spelled and where faults are found, apart from how bytes are read.
+//! Laws of the grammar of AML (ACPI 6.5, 20.2): how terms are spelled and where faults are found, apart from how
+//! bytes are read.
 #![tactic(auto)]
 
 mod laws;

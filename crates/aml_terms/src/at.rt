@@ -29,7 +29,8 @@ pub(crate) enum Kind {
 
 /// A term, or a list of terms, in lent bytes: where it begins, what is left of its list, and the marks of the bytes.
 ///
-/// It reads any bytes by any marks: what is missing is read as zero. Where a list was scanned, its terms are those of the grammar.
+/// It reads any bytes by any marks: what is missing is read as zero. Where a list was scanned, its terms are those of
+/// the grammar.
 #[derive(Clone, Copy)]
 pub struct At<'a> {
     pub(crate) at: usize,

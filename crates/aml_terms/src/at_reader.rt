@@ -63,8 +63,10 @@ fn field_code(cursor: &Cursor<'_>) -> TermCode
 /// The term, or the element of a package, that is left first.
 fn term_of<'a>(part: &At<'a>, element: bool) -> At<'a>
     ensures marks { result.marks.now ≡ part.now.marks.now }
-    ensures tree { at_tree result ≡ (a_term (count_at part.now.marks.now) part.now.levels element (place_at part.now)).0 }
-    ensures behind { behind_of result.kind (count_at part.now.marks.now) result.levels (place_at result) ≡ (a_term (count_at part.now.marks.now) part.now.levels element (place_at part.now)).1 }
+    ensures tree { at_tree result ≡
+        (a_term (count_at part.now.marks.now) part.now.levels element (place_at part.now)).0 }
+    ensures behind { behind_of result.kind (count_at part.now.marks.now) result.levels (place_at result) ≡
+        (a_term (count_at part.now.marks.now) part.now.levels element (place_at part.now)).1 }
 {
     term_at(&cursor_of(part), part.marks, part.levels, element)
 }
@@ -72,8 +74,10 @@ fn term_of<'a>(part: &At<'a>, element: bool) -> At<'a>
 /// The field element that is left first.
 fn field_of<'a>(part: &At<'a>) -> At<'a>
     ensures marks { result.marks.now ≡ part.now.marks.now }
-    ensures tree { at_tree result ≡ (a_field (a_term (count_at part.now.marks.now) part.now.levels) (place_at part.now)).0 }
-    ensures behind { behind_of result.kind (count_at part.now.marks.now) result.levels (place_at result) ≡ (a_field (a_term (count_at part.now.marks.now) part.now.levels) (place_at part.now)).1 }
+    ensures tree { at_tree result ≡
+        (a_field (a_term (count_at part.now.marks.now) part.now.levels) (place_at part.now)).0 }
+    ensures behind { behind_of result.kind (count_at part.now.marks.now) result.levels (place_at result) ≡
+        (a_field (a_term (count_at part.now.marks.now) part.now.levels) (place_at part.now)).1 }
 {
     standing(&cursor_of(part), part.marks, part.levels, 0, Kind::Field)
 }
@@ -82,7 +86,9 @@ fn field_of<'a>(part: &At<'a>) -> At<'a>
 fn parted<'a>(part: &At<'a>, first: At<'a>) -> Item<At<'a>>
     requires { first.marks.now ≡ part.now.marks.now }
     ensures first { at_tree result.first ≡ at_tree first.entry }
-    ensures rest { at_list result.rest ≡ list_of part.now.kind (count_at part.now.marks.now) part.now.levels (part.now.turns - 1) (behind_of first.entry.kind (count_at part.now.marks.now) first.entry.levels (place_at first.entry)) }
+    ensures rest { at_list result.rest ≡ list_of part.now.kind (count_at part.now.marks.now) part.now.levels
+        (part.now.turns - 1) (behind_of first.entry.kind (count_at part.now.marks.now) first.entry.levels
+        (place_at first.entry)) }
 {
     let rest = standing(
         &behind(&first),

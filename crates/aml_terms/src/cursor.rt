@@ -1,12 +1,14 @@
 //! A cursor over lent bytes whose steps refuse nothing: what is missing is read as zero, and no step goes past the end.
 ghost use Rattle.std.specs.Prelude.{◌≡◌, ◌+◌, ◌^◌, ◌<◌, ◌≤◌, ◌==◌, length, take};
 ghost use Rattle.aml_grammar.specs.State.{text_length, is_next};
-ghost use Rattle.aml_marked.specs.Marked.{Place, past, over, first, an_integer, a_bit_count, a_size, prefix_length, segments_length, name_length};
+ghost use Rattle.aml_marked.specs.Marked.{Place, past, over, first, an_integer, a_bit_count, a_size, prefix_length};
+ghost use Rattle.aml_marked.specs.Marked.{segments_length, name_length};
 
 use aml_scan::{carets, length_of, little_endian, text_length};
 use std::marker::Model;
 
-/// Where the next byte stands, and what is left of the list or package. It moves over the terms of lent bytes (ACPI 6.5, 20.2).
+/// Where the next byte stands, and what is left of the list or package. It moves over the terms of lent bytes (ACPI
+/// 6.5, 20.2).
 ///
 /// No step refuses anything: what is missing is read as zero, and no step goes past the end.
 #[derive(Drop)]
@@ -27,8 +29,8 @@ impl<'a> Model for Cursor<'a> {
 }
 
 impl<'a> Cursor<'a> {
-    /// A cursor at the first of these bytes, which stands at an offset of those that were scanned. The offset behind the last byte is less
-    /// than 2^64.
+    /// A cursor at the first of these bytes, which stands at an offset of those that were scanned. The offset behind
+    /// the last byte is less than 2^64.
     pub fn new(at: usize, rest: &'a [u8]) -> Cursor<'a>
         requires { at + length rest.now < 2 ^ 64 }
         ensures { result ≡ record { at = at; rest = rest.now } }
@@ -132,7 +134,10 @@ impl<'a> Cursor<'a> {
 
     /// Leaves the bytes of a package alone, and gives what stands behind it.
     pub fn open(&mut self) -> Cursor<'a>
-        ensures inside { self.new ≡ record (a_size self.old).1 { rest = take (a_size self.old).0 (a_size self.old).1.rest } }
+        ensures inside { self.new ≡ record (a_size self.old).1 {
+          rest =
+              take (a_size self.old).0 (a_size self.old).1.rest;
+        } }
         ensures outer { result ≡ over (a_size self.old).0 (a_size self.old).1 }
     {
         let size = self.size();

@@ -5,7 +5,8 @@ ghost use Rattle.aml_grammar.specs.declared.opcode.Opcode.{Opcode};
 ghost use Rattle.aml_grammar.specs.declared.opcode.TermCode.TheVariants as codes;
 ghost use Rattle.aml_grammar.specs.Apart.{code_of};
 ghost use Rattle.aml_grammar.specs.Names.{starts_name};
-ghost use Rattle.aml_marked.specs.Marked.{Below, count_at, first, a_name, a_term, a_field, an_else, a_call, turns_of, with_row, a_target, maybe_else};
+ghost use Rattle.aml_marked.specs.Marked.{Below, count_at, first, a_name, a_term, a_field, an_else, a_call, turns_of};
+ghost use Rattle.aml_marked.specs.Marked.{with_row, a_target, maybe_else};
 ghost use Rattle.aml_marked.specs.Moving.{MovesOn};
 ghost use Rattle.aml_scan.specs.RowsAt.{row_at};
 ghost use Rattle.aml_scan.specs.declared.row_places.RowPlace.{RowPlace};
@@ -45,16 +46,18 @@ pub struct Call<'a> {
 }
 
 impl<'a> Cursor<'a> {
-    /// Goes over the opcode of the term that stands next, and gives the place of its row. Where a name stands, or no opcode of the table,
-    /// or no level is left, nothing changes.
+    /// Goes over the opcode of the term that stands next, and gives the place of its row. Where a name stands, or no
+    /// opcode of the table, or no level is left, nothing changes.
     #[inline(always)]
     #[tactic(auto, using(crate::proofs::CodedTerms::coded_term, crate::proofs::MovingOn::moving))]
     pub fn take_opcode(&mut self, levels: u8) -> Option<RowPlace>
         ensures some { (place : RowPlace) → result ≡ Some place → 0 < levels }
-        ensures term { (place : RowPlace) → (count : ℕ → ℕ) → (element : Bool) → result ≡ Some place → a_term count levels element self.old ≡ with_row (a_term count (levels - 1)) (row_at place) self.new }
+        ensures term { (place : RowPlace) → (count : ℕ → ℕ) → (element : Bool) → result ≡ Some place →
+            a_term count levels element self.old ≡ with_row (a_term count (levels - 1)) (row_at place) self.new }
         ensures none { result ≡ None → self.new ≡ self.old }
         ensures moves { MovesOn self.old self.new }
-        ensures uncoded { (count : ℕ → ℕ) → (element : Bool) → (opcode : Opcode) → result ≡ None → code_of (a_term count levels element self.old).0 ≢ codes.Opcode opcode }
+        ensures uncoded { (count : ℕ → ℕ) → (element : Bool) → (opcode : Opcode) → result ≡ None →
+            code_of (a_term count levels element self.old).0 ≢ codes.Opcode opcode }
     {
         if levels > 0 {
             if let Some(place) = row_place(u16::from(self.first())) {
@@ -70,10 +73,12 @@ impl<'a> Cursor<'a> {
     #[tactic(auto, using(aml_marked::specs::Walking::walking, crate::proofs::MovingOn::moving), unfolding(aml_marked::specs::Marked::a_call, aml_marked::specs::Marked::with_row, aml_marked::specs::Marked::a_coded, aml_marked::specs::Marked::a_term_in, aml_marked::specs::Marked::after, aml_marked::specs::Marked::gives))]
     fn take_any_opcode(&mut self, levels: u8) -> Option<RowPlace>
         ensures some { (place : RowPlace) → result ≡ Some place → 0 < levels }
-        ensures term { (place : RowPlace) → (count : ℕ → ℕ) → (element : Bool) → result ≡ Some place → a_term count levels element self.old ≡ with_row (a_term count (levels - 1)) (row_at place) self.new }
+        ensures term { (place : RowPlace) → (count : ℕ → ℕ) → (element : Bool) → result ≡ Some place →
+            a_term count levels element self.old ≡ with_row (a_term count (levels - 1)) (row_at place) self.new }
         ensures none { result ≡ None → self.new ≡ self.old }
         ensures moves { MovesOn self.old self.new }
-        ensures uncoded { (count : ℕ → ℕ) → (element : Bool) → (opcode : Opcode) → result ≡ None → code_of (a_term count levels element self.old).0 ≢ codes.Opcode opcode }
+        ensures uncoded { (count : ℕ → ℕ) → (element : Bool) → (opcode : Opcode) → result ≡ None →
+            code_of (a_term count levels element self.old).0 ≢ codes.Opcode opcode }
     {
         if levels == 0 || starts_name(self.first()) {
             return None;
@@ -101,8 +106,10 @@ impl<'a> Cursor<'a> {
     #[tactic(auto, using(crate::proofs::Calls::calls))]
     pub fn is_at_call(&self, levels: u8) -> bool
         ensures levels { result ≡ true → 0 < levels }
-        ensures call { (count : ℕ → ℕ) → result ≡ true → a_term count levels false self.now ≡ a_call (a_term count (levels - 1)) count self.now }
-        ensures none { (count : ℕ → ℕ) → result ≡ false → code_of (a_term count levels false self.now).0 ≢ codes.MethodInvocation }
+        ensures call { (count : ℕ → ℕ) → result ≡ true → a_term count levels false self.now ≡
+            a_call (a_term count (levels - 1)) count self.now }
+        ensures none { (count : ℕ → ℕ) → result ≡ false → code_of (a_term count levels false self.now).0 ≢
+            codes.MethodInvocation }
     {
         if levels == 0 {
             return false;
@@ -181,7 +188,8 @@ impl<'a> At<'a> {
 
     /// Where the operands of a term begin that has an opcode of the table.
     pub fn coded(&self) -> Option<Coded<'a>>
-        ensures some { (c : Coded) → result ≡ Some c → at_tree self.now ≡ (with_row (a_term (count_at self.now.marks.now) c.levels) (row_at c.place) c.cursor).0 }
+        ensures some { (c : Coded) → result ≡ Some c → at_tree self.now ≡
+            (with_row (a_term (count_at self.now.marks.now) c.levels) (row_at c.place) c.cursor).0 }
         ensures none { (opcode : Opcode) → result ≡ None → code_of (at_tree self.now) ≢ codes.Opcode opcode }
     {
         match self.kind {
@@ -201,7 +209,8 @@ impl<'a> At<'a> {
     /// Where the name of a call begins, where the term is a call.
     #[tactic(auto, using(crate::proofs::Calls::calls))]
     pub fn call(&self) -> Option<Call<'a>>
-        ensures some { (c : Call) → result ≡ Some c → at_tree self.now ≡ (a_call (a_term (count_at self.now.marks.now) c.levels) (count_at self.now.marks.now) c.cursor).0 }
+        ensures some { (c : Call) → result ≡ Some c → at_tree self.now ≡
+            (a_call (a_term (count_at self.now.marks.now) c.levels) (count_at self.now.marks.now) c.cursor).0 }
         ensures none { result ≡ None → code_of (at_tree self.now) ≢ codes.MethodInvocation }
     {
         match self.kind {
@@ -215,8 +224,11 @@ impl<'a> At<'a> {
     /// The same of a term.
     #[tactic(auto, using(crate::proofs::Calls::calls))]
     fn call_there(&self) -> Option<Call<'a>>
-        ensures some { (c : Call) → (count : ℕ → ℕ) → result ≡ Some c → (a_term count self.now.levels false (place_at self.now)).0 ≡ (a_call (a_term count c.levels) count c.cursor).0 }
-        ensures none { (count : ℕ → ℕ) → result ≡ None → code_of (a_term count self.now.levels false (place_at self.now)).0 ≢ codes.MethodInvocation }
+        ensures some { (c : Call) → (count : ℕ → ℕ) → result ≡ Some c →
+            (a_term count self.now.levels false (place_at self.now)).0 ≡
+            (a_call (a_term count c.levels) count c.cursor).0 }
+        ensures none { (count : ℕ → ℕ) → result ≡ None →
+            code_of (a_term count self.now.levels false (place_at self.now)).0 ≢ codes.MethodInvocation }
     {
         let cursor = cursor_of(self);
         if cursor.is_at_call(self.levels) {
@@ -237,8 +249,11 @@ impl<'a> At<'a> {
 
     /// Where the operands begin of a term, or of an element of a package.
     fn coded_there(&self, element: bool) -> Option<Coded<'a>>
-        ensures some { (c : Coded) → (count : ℕ → ℕ) → result ≡ Some c → (a_term count self.now.levels element (place_at self.now)).0 ≡ (with_row (a_term count c.levels) (row_at c.place) c.cursor).0 }
-        ensures none { (count : ℕ → ℕ) → (opcode : Opcode) → result ≡ None → code_of (a_term count self.now.levels element (place_at self.now)).0 ≢ codes.Opcode opcode }
+        ensures some { (c : Coded) → (count : ℕ → ℕ) → result ≡ Some c →
+            (a_term count self.now.levels element (place_at self.now)).0 ≡
+            (with_row (a_term count c.levels) (row_at c.place) c.cursor).0 }
+        ensures none { (count : ℕ → ℕ) → (opcode : Opcode) → result ≡ None →
+            code_of (a_term count self.now.levels element (place_at self.now)).0 ≢ codes.Opcode opcode }
     {
         let mut cursor = cursor_of(self);
         match cursor.take_opcode(self.levels) {
@@ -254,7 +269,9 @@ impl<'a> At<'a> {
     /// The same of an Else: its row says what follows its opcode.
     #[tactic(auto, using(crate::proofs::Elses::else_terms))]
     fn coded_else(&self) -> Option<Coded<'a>>
-        ensures some { (c : Coded) → (count : ℕ → ℕ) → result ≡ Some c → (an_else (a_term count self.now.levels) (place_at self.now)).0 ≡ (with_row (a_term count c.levels) (row_at c.place) c.cursor).0 }
+        ensures some { (c : Coded) → (count : ℕ → ℕ) → result ≡ Some c →
+            (an_else (a_term count self.now.levels) (place_at self.now)).0 ≡
+            (with_row (a_term count c.levels) (row_at c.place) c.cursor).0 }
         ensures one { result ≢ None }
     {
         let mut cursor = cursor_of(self);
@@ -273,7 +290,8 @@ impl<'a> At<'a> {
     #[tactic(auto, unfolding(aml_marked::specs::Marked::a_field, aml_marked::specs::Marked::a_reserved_field, aml_marked::specs::Marked::an_access_field, aml_marked::specs::Marked::an_extended_access_field, aml_marked::specs::Marked::a_connect_field, aml_marked::specs::Marked::a_named_field, aml_marked::specs::Marked::after, aml_marked::specs::Marked::gives))]
     fn coded_field(&self) -> Option<Coded<'a>>
         ensures result { result ≡ None }
-        ensures none { (below : Below) → (opcode : Opcode) → code_of (a_field below (place_at self.now)).0 ≢ codes.Opcode opcode }
+        ensures none { (below : Below) → (opcode : Opcode) → code_of (a_field below (place_at self.now)).0 ≢
+            codes.Opcode opcode }
     {
         None
     }

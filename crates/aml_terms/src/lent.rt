@@ -2,7 +2,8 @@
 ghost use Rattle.std.specs.Prelude.{◌≡◌, ℕ, length, Some, Ok, option_map};
 ghost use Rattle.ar_space.specs.Outcome.{Answers};
 ghost use Rattle.aml_grammar.specs.Apart.{Shows, name_of};
-ghost use Rattle.aml_marked.specs.Marked.{count_at, a_term, an_operand, a_name, name_or_term, target_of, a_bit_count, first, lent_of};
+ghost use Rattle.aml_marked.specs.Marked.{count_at, a_term, an_operand, a_name, name_or_term, target_of, a_bit_count};
+ghost use Rattle.aml_marked.specs.Marked.{first, lent_of};
 ghost use Rattle.aml_terms.specs.AtTree.{at_tree, at_list, list_of};
 ghost use Rattle.aml_grammar.specs.Tree.{list};
 ghost use Rattle.aml_terms.specs.Spots.{spot_part};
@@ -98,7 +99,8 @@ fn view_list<'a>(
     levels: u8,
     kind: Kind,
 ) -> OperandView<At<'a>>
-    ensures { Shows at_tree at_list result (Some (list (list_of kind (count_at marks.now) levels (length cursor.now.rest) cursor.now))) }
+    ensures { Shows at_tree at_list result
+        (Some (list (list_of kind (count_at marks.now) levels (length cursor.now.rest) cursor.now))) }
 {
     OperandView::List(standing(cursor, marks, levels, cursor.rest().len(), kind))
 }
@@ -106,7 +108,8 @@ fn view_list<'a>(
 /// A name, or else a term.
 #[tactic(auto, using(aml_marked::specs::Parting::parting))]
 fn view_name_or_term<'a>(cursor: &Cursor<'a>, marks: &'a Marks, levels: u8) -> OperandView<At<'a>>
-    ensures { Shows at_tree at_list result (Some (name_or_term (a_term (count_at marks.now) levels) (first cursor.now.rest) cursor.now).0) }
+    ensures { Shows at_tree at_list result
+        (Some (name_or_term (a_term (count_at marks.now) levels) (first cursor.now.rest) cursor.now).0) }
 {
     if starts_name(cursor.first()) {
         OperandView::Name
@@ -118,7 +121,8 @@ fn view_name_or_term<'a>(cursor: &Cursor<'a>, marks: &'a Marks, levels: u8) -> O
 /// What a target is.
 #[tactic(auto, using(aml_marked::specs::Parting::parting))]
 fn view_target<'a>(cursor: &Cursor<'a>, marks: &'a Marks, levels: u8) -> OperandView<At<'a>>
-    ensures { Shows at_tree at_list result (Some (target_of (a_term (count_at marks.now) levels) (first cursor.now.rest) cursor.now).0) }
+    ensures { Shows at_tree at_list result
+        (Some (target_of (a_term (count_at marks.now) levels) (first cursor.now.rest) cursor.now).0) }
 {
     if cursor.first() == 0 {
         OperandView::Null

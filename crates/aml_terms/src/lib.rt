@@ -1,5 +1,5 @@
-//! Reads terms of AML from the bytes of a table or of the body of a control method (ACPI 6.5, 20.2): where they stand, without trees
-//! and without memory for terms, or as terms in memory.
+//! Reads terms of AML from the bytes of a table or of the body of a control method (ACPI 6.5, 20.2): where they
+//! stand, without trees and without memory for terms, or as terms in memory.
 //!
 //! Begin with `scan_list` and `list_at`, which give a reader of the terms, or with `parse_list`, which copies
 //! them. `Cursor::new(0, bytes)` goes over the terms of a scanned list one after another, with `LEVELS` levels.

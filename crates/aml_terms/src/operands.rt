@@ -3,7 +3,8 @@ ghost use Rattle.std.specs.Prelude.{◌≡◌, ◌<◌, ◌≤◌, ◌∷◌, []
 ghost use Rattle.aml_grammar.specs.Shape.{parts_of};
 ghost use Rattle.aml_grammar.specs.Apart.{part_at, operand_of};
 ghost use Rattle.aml_grammar.specs.Grammar.{is_if, is_nothing, kinds_of};
-ghost use Rattle.aml_marked.specs.Marked.{count_at, a_term, an_else, with_row, all_operands, of_row, over, a_field, an_access_field, an_extended_access_field, a_named_field};
+ghost use Rattle.aml_marked.specs.Marked.{count_at, a_term, an_else, with_row, all_operands, of_row, over, a_field};
+ghost use Rattle.aml_marked.specs.Marked.{an_access_field, an_extended_access_field, a_named_field};
 ghost use Rattle.aml_marked.specs.Parting.{kind_count};
 ghost use Rattle.aml_terms.specs.AtTree.{at_tree, place_at};
 ghost use Rattle.aml_terms.specs.Spots.{spot_part};
@@ -25,7 +26,8 @@ fn to_kind(
     kinds: &[OperandKind],
     index: usize,
 ) -> Option<Spot>
-    ensures { option_map (λ s. spot_part (count_at marks.now) s cursor.new) result ≡ part_at (parts_of (all_operands (a_term (count_at marks.now) levels) kinds.now cursor.old).0) index }
+    ensures { option_map (λ s. spot_part (count_at marks.now) s cursor.new) result ≡
+        part_at (parts_of (all_operands (a_term (count_at marks.now) levels) kinds.now cursor.old).0) index }
 {
     let mut left = index;
     'operands: for kind in kinds {
@@ -68,7 +70,8 @@ fn to_row_operand(
     row: &Row,
     index: usize,
 ) -> Option<Spot>
-    ensures { option_map (λ s. spot_part (count_at marks.now) s cursor.new) result ≡ part_at (parts_of (of_row (a_term (count_at marks.now) levels) row.now cursor.old).0) index }
+    ensures { option_map (λ s. spot_part (count_at marks.now) s cursor.new) result ≡
+        part_at (parts_of (of_row (a_term (count_at marks.now) levels) row.now cursor.old).0) index }
 {
     if row.2 {
         cursor.open();
@@ -86,7 +89,8 @@ fn to_operand_of_kinds(
     kinds: &OperandKinds,
     index: usize,
 ) -> Option<Spot>
-    ensures { option_map (λ s. spot_part (count_at marks.now) s cursor.new) result ≡ part_at (parts_of (all_operands (a_term (count_at marks.now) levels) (kinds_of kinds.now) cursor.old).0) index }
+    ensures { option_map (λ s. spot_part (count_at marks.now) s cursor.new) result ≡
+        part_at (parts_of (all_operands (a_term (count_at marks.now) levels) (kinds_of kinds.now) cursor.old).0) index }
 {
     if is_nothing(kinds.0) {
         None
@@ -108,7 +112,8 @@ fn to_later_operand(
 ) -> Option<Spot>
     requires some { is_nothing kinds.now.0 ≡ false }
     requires later { 0 < index }
-    ensures { option_map (λ s. spot_part (count_at marks.now) s cursor.new) result ≡ part_at (parts_of (all_operands (a_term (count_at marks.now) levels) (kinds_of kinds.now) cursor.old).0) index }
+    ensures { option_map (λ s. spot_part (count_at marks.now) s cursor.new) result ≡
+        part_at (parts_of (all_operands (a_term (count_at marks.now) levels) (kinds_of kinds.now) cursor.old).0) index }
 {
     skip_operand(cursor, marks, levels, kinds.0);
     let others = [kinds.1, kinds.2, kinds.3, kinds.4, kinds.5];
@@ -125,7 +130,8 @@ fn to_operand_of_row(
     row: &Row,
     index: usize,
 ) -> Option<Spot>
-    ensures { option_map (λ s. spot_part (count_at marks.now) s cursor.new) result ≡ operand_of (with_row (a_term (count_at marks.now) levels) (Some row.now) cursor.old).0 index }
+    ensures { option_map (λ s. spot_part (count_at marks.now) s cursor.new) result ≡
+        operand_of (with_row (a_term (count_at marks.now) levels) (Some row.now) cursor.old).0 index }
 {
     if is_if(row.0) {
         to_operand_of_if(cursor, marks, levels, row, index)
@@ -144,7 +150,8 @@ fn to_operand_of_if(
     index: usize,
 ) -> Option<Spot>
     requires { is_if row.now.0 ≡ true }
-    ensures { option_map (λ s. spot_part (count_at marks.now) s cursor.new) result ≡ operand_of (with_row (a_term (count_at marks.now) levels) (Some row.now) cursor.old).0 index }
+    ensures { option_map (λ s. spot_part (count_at marks.now) s cursor.new) result ≡
+        operand_of (with_row (a_term (count_at marks.now) levels) (Some row.now) cursor.old).0 index }
 {
     let count = kind_count(&[row.3.0, row.3.1, row.3.2, row.3.3, row.3.4, row.3.5]);
     if index < count {
@@ -166,7 +173,8 @@ fn to_operand(
     element: bool,
     index: usize,
 ) -> Option<Spot>
-    ensures { option_map (λ s. spot_part (count_at marks.now) s cursor.new) result ≡ operand_of (a_term (count_at marks.now) levels element cursor.old).0 index }
+    ensures { option_map (λ s. spot_part (count_at marks.now) s cursor.new) result ≡
+        operand_of (a_term (count_at marks.now) levels element cursor.old).0 index }
 {
     if levels == 0 {
         return None;
@@ -192,7 +200,8 @@ fn to_operand(
 /// Goes to the list of an Else.
 #[tactic(auto, using(aml_marked::specs::Parting::parting), unfolding(aml_marked::specs::Marked::an_else, aml_marked::specs::Marked::inside, aml_marked::specs::Marked::an_operand, aml_marked::specs::Marked::after, aml_marked::specs::Marked::gives))]
 fn to_else_operand(cursor: &mut Cursor<'_>, levels: u8, index: usize) -> Option<Spot>
-    ensures { (count : ℕ → ℕ) → option_map (λ s. spot_part count s cursor.new) result ≡ operand_of (an_else (a_term count levels) cursor.old).0 index }
+    ensures { (count : ℕ → ℕ) → option_map (λ s. spot_part count s cursor.new) result ≡
+        operand_of (an_else (a_term count levels) cursor.old).0 index }
 {
     if index > 0 {
         return None;
@@ -205,7 +214,8 @@ fn to_else_operand(cursor: &mut Cursor<'_>, levels: u8, index: usize) -> Option<
 /// Goes to an operand of a field element.
 #[tactic(auto, using(aml_marked::specs::Parting::parting), unfolding(aml_marked::specs::Marked::a_field, aml_marked::specs::Marked::a_reserved_field, aml_marked::specs::Marked::a_connect_field, aml_marked::specs::Marked::a_named_field, aml_marked::specs::Marked::an_operand, aml_marked::specs::Marked::a_name, aml_marked::specs::Marked::after, aml_marked::specs::Marked::gives))]
 fn to_field_operand(cursor: &mut Cursor<'_>, levels: u8, index: usize) -> Option<Spot>
-    ensures { (count : ℕ → ℕ) → option_map (λ s. spot_part count s cursor.new) result ≡ operand_of (a_field (a_term count levels) cursor.old).0 index }
+    ensures { (count : ℕ → ℕ) → option_map (λ s. spot_part count s cursor.new) result ≡
+        operand_of (a_field (a_term count levels) cursor.old).0 index }
 {
     let next = cursor.first();
     if next == 0 {
@@ -223,7 +233,8 @@ fn to_field_operand(cursor: &mut Cursor<'_>, levels: u8, index: usize) -> Option
 
 /// Goes to the only operand of a field element, behind its code.
 fn to_only(cursor: &mut Cursor<'_>, spot: Spot, index: usize) -> Option<Spot>
-    ensures { (count : ℕ → ℕ) → option_map (λ s. spot_part count s cursor.new) result ≡ part_at (parts_of (spot_part count spot (over 1 cursor.old) ∷ [])) index }
+    ensures { (count : ℕ → ℕ) → option_map (λ s. spot_part count s cursor.new) result ≡
+        part_at (parts_of (spot_part count spot (over 1 cursor.old) ∷ [])) index }
 {
     if index > 0 {
         return None;
@@ -237,7 +248,8 @@ const BYTE: Spot = Spot::Operand(OperandKind::ByteData, 0);
 /// Goes to an operand of an access field: the access, or its attribute.
 #[tactic(auto, using(aml_marked::specs::Parting::parting), unfolding(aml_marked::specs::Marked::an_access_field, aml_marked::specs::Marked::an_operand, aml_marked::specs::Marked::after, aml_marked::specs::Marked::gives))]
 fn to_access(cursor: &mut Cursor<'_>, index: usize) -> Option<Spot>
-    ensures { (count : ℕ → ℕ) → option_map (λ s. spot_part count s cursor.new) result ≡ operand_of (an_access_field cursor.old).0 index }
+    ensures { (count : ℕ → ℕ) → option_map (λ s. spot_part count s cursor.new) result ≡
+        operand_of (an_access_field cursor.old).0 index }
 {
     cursor.over(1);
     match index {
@@ -253,7 +265,8 @@ fn to_access(cursor: &mut Cursor<'_>, index: usize) -> Option<Spot>
 /// Goes to an operand of an extended access field: the access, its attribute or its length.
 #[tactic(auto, using(aml_marked::specs::Parting::parting), unfolding(aml_marked::specs::Marked::an_extended_access_field, aml_marked::specs::Marked::an_operand, aml_marked::specs::Marked::after, aml_marked::specs::Marked::gives))]
 fn to_extended_access(cursor: &mut Cursor<'_>, index: usize) -> Option<Spot>
-    ensures { (count : ℕ → ℕ) → option_map (λ s. spot_part count s cursor.new) result ≡ operand_of (an_extended_access_field cursor.old).0 index }
+    ensures { (count : ℕ → ℕ) → option_map (λ s. spot_part count s cursor.new) result ≡
+        operand_of (an_extended_access_field cursor.old).0 index }
 {
     cursor.over(1);
     match index {
@@ -274,7 +287,8 @@ fn to_extended_access(cursor: &mut Cursor<'_>, index: usize) -> Option<Spot>
 /// Goes to an operand of a named field: its name, or its count of bits.
 #[tactic(auto, using(aml_marked::specs::Parting::parting), unfolding(aml_marked::specs::Marked::a_named_field, aml_marked::specs::Marked::an_operand, aml_marked::specs::Marked::a_name, aml_marked::specs::Marked::after, aml_marked::specs::Marked::gives))]
 fn to_named(cursor: &mut Cursor<'_>, levels: u8, index: usize) -> Option<Spot>
-    ensures { (count : ℕ → ℕ) → option_map (λ s. spot_part count s cursor.new) result ≡ operand_of (a_named_field cursor.old).0 index }
+    ensures { (count : ℕ → ℕ) → option_map (λ s. spot_part count s cursor.new) result ≡
+        operand_of (a_named_field cursor.old).0 index }
 {
     match index {
         0 => Some(Spot::Operand(OperandKind::NameString, levels)),
@@ -290,7 +304,8 @@ fn to_named(cursor: &mut Cursor<'_>, levels: u8, index: usize) -> Option<Spot>
 #[tactic(auto, using(aml_marked::specs::Parting::parting))]
 pub(crate) fn to_part<'a>(part: &At<'a>, cursor: &mut Cursor<'a>, index: usize) -> Option<Spot>
     requires { cursor.old ≡ place_at part.now }
-    ensures { option_map (λ s. spot_part (count_at part.now.marks.now) s cursor.new) result ≡ operand_of (at_tree part.now) index }
+    ensures { option_map (λ s. spot_part (count_at part.now.marks.now) s cursor.new) result ≡
+        operand_of (at_tree part.now) index }
 {
     match part.kind {
         Kind::Coded(place) => {

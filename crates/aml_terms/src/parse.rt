@@ -25,17 +25,20 @@ pub fn parse_list<C: ArgumentCounts>(
     body: bool,
     counts: &C,
 ) -> Result<Vec<Term>, Refusal>
-    ensures { Answers (seen (λ v. map tree_view v.items) result) (reading bytes.now scope.now body (C.counts counts.now)) }
+    ensures { Answers (seen (λ v. map tree_view v.items) result) (reading bytes.now scope.now body
+        (C.counts counts.now)) }
 {
     let marks = scan_list(alloc, bytes, scope, body, counts)?;
     copied_list(alloc, list_at(bytes, &marks))
 }
 
-/// The terms of a table after its header, whose names stand at the root; the argument counts of names that it declares are
-/// appended to `arities`. The faults are those of `parse_list`. Where it is refused, no name takes other arguments.
+/// The terms of a table after its header, whose names stand at the root; the argument counts of names that it
+/// declares are appended to `arities`. The faults are those of `parse_list`. Where it is refused, no name takes other
+/// arguments.
 #[tactic(auto, using(crate::proofs::Parsed::parsing))]
 pub fn parse_table(alloc: Global, bytes: &[u8], arities: &mut Arities) -> Result<Vec<Term>, Refusal>
-    ensures table { Answers (seen (λ v. (map tree_view v.items, arities.new)) result) (table_reading bytes.now arities.old) }
+    ensures table { Answers (seen (λ v. (map tree_view v.items, arities.new)) result)
+        (table_reading bytes.now arities.old) }
     ensures refused { OnErr result (arities.new ≡ arities.old) }
 {
     let scanned = scan_table_apart(alloc, bytes, arities)?;

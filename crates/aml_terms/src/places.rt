@@ -10,8 +10,8 @@ use crate::skip::{opcode, over_else, skip_field, skip_row_term, skip_term};
 use aml_marks::Marks;
 use aml_scan::{row_place, starts_name};
 
-/// How many levels of terms are read below a list: one level more than the grammar counts, where a local, an argument or Debug as a place
-/// costs none.
+/// How many levels of terms are read below a list: one level more than the grammar counts, where a local, an argument
+/// or Debug as a place costs none.
 pub const LEVELS: u8 = 65;
 
 /// What stands where a cursor stands.
@@ -44,8 +44,8 @@ pub(crate) fn cursor_of<'a>(part: &At<'a>) -> Cursor<'a>
     Cursor::new(part.at, part.rest)
 }
 
-/// The term, or the element of a package, where a cursor stands. Its opcode is read at once, so that no reading of an operand looks for
-/// its row again. Most opcodes take one byte, and no name begins with such a byte.
+/// The term, or the element of a package, where a cursor stands. Its opcode is read at once, so that no reading of an
+/// operand looks for its row again. Most opcodes take one byte, and no name begins with such a byte.
 #[tactic(auto, using(crate::proofs::CodedTerms::coded_term))]
 pub(crate) fn term_at<'a>(
     cursor: &Cursor<'a>,
@@ -55,7 +55,8 @@ pub(crate) fn term_at<'a>(
 ) -> At<'a>
     ensures marks { result.marks.now ≡ marks.now }
     ensures tree { at_tree result ≡ (a_term (count_at marks.now) levels element cursor.now).0 }
-    ensures behind { behind_of result.kind (count_at marks.now) result.levels (place_at result) ≡ (a_term (count_at marks.now) levels element cursor.now).1 }
+    ensures behind { behind_of result.kind (count_at marks.now) result.levels (place_at result) ≡
+        (a_term (count_at marks.now) levels element cursor.now).1 }
 {
     if levels > 0 {
         if let Some(place) = row_place(u16::from(cursor.first())) {
@@ -73,7 +74,8 @@ pub(crate) fn term_at<'a>(
 fn other_term_at<'a>(cursor: &Cursor<'a>, marks: &'a Marks, levels: u8, element: bool) -> At<'a>
     ensures marks { result.marks.now ≡ marks.now }
     ensures tree { at_tree result ≡ (a_term (count_at marks.now) levels element cursor.now).0 }
-    ensures behind { behind_of result.kind (count_at marks.now) result.levels (place_at result) ≡ (a_term (count_at marks.now) levels element cursor.now).1 }
+    ensures behind { behind_of result.kind (count_at marks.now) result.levels (place_at result) ≡
+        (a_term (count_at marks.now) levels element cursor.now).1 }
 {
     if levels > 0 && !starts_name(cursor.first()) {
         let mut behind = Cursor::new(cursor.at(), cursor.rest());
@@ -113,21 +115,25 @@ pub fn list_at<'a>(bytes: &'a [u8], marks: &'a Marks) -> At<'a>
     standing(&cursor, marks, LEVELS, bytes.len(), Kind::Items)
 }
 
-/// The term at an offset of a list, by the marks that the scan left, and the offset behind it, which is greater and at most the number
-/// of bytes. It takes no memory.
+/// The term at an offset of a list, by the marks that the scan left, and the offset behind it, which is greater and
+/// at most the number of bytes. It takes no memory.
 ///
-/// `bytes` begin where the scan began and end where the list ends in which the term stands: what is behind the end of a package is
-/// no part of its last term. From offset 0 of all bytes that were scanned, and from each offset that is answered until it is their
-/// length, these are the terms of `list_at`, one after another.
+/// `bytes` begin where the scan began and end where the list ends in which the term stands: what is behind the end of
+/// a package is no part of its last term. From offset 0 of all bytes that were scanned, and from each offset that is
+/// answered until it is their length, these are the terms of `list_at`, one after another.
 #[tactic(auto, using(aml_marked::specs::Walking::walking))]
 pub fn first_term<'a>(bytes: &'a [u8], at: usize, marks: &'a Marks) -> (At<'a>, usize)
     requires { at < length bytes.now }
-    ensures tree { at_tree result.0 ≡ (a_term (count_at marks.now) walk_levels false (record { at = at; rest = drop at bytes.now })).0 }
-    ensures next { (a_term (count_at marks.now) walk_levels false (record { at = at; rest = drop at bytes.now })).1 ≡ record { at = result.1; rest = drop result.1 bytes.now } }
+    ensures tree { at_tree result.0 ≡
+        (a_term (count_at marks.now) walk_levels false (record { at = at; rest = drop at bytes.now })).0 }
+    ensures next { (a_term (count_at marks.now) walk_levels false (record { at = at; rest = drop at bytes.now })).1 ≡
+        record { at = result.1; rest = drop result.1 bytes.now } }
     ensures on { at < result.1 }
     ensures within { result.1 ≤ length bytes.now }
-    ensures items { (turns : ℕ) → 0 < turns → (to_end (a_term (count_at marks.now) walk_levels false) turns (record { at = at; rest = drop at bytes.now })).0
-        ≡ at_tree result.0 ∷ (to_end (a_term (count_at marks.now) walk_levels false) (turns - 1) (record { at = result.1; rest = drop result.1 bytes.now })).0 }
+    ensures items { (turns : ℕ) → 0 < turns →
+        (to_end (a_term (count_at marks.now) walk_levels false) turns (record { at = at; rest = drop at bytes.now })).0
+        ≡ at_tree result.0 ∷ (to_end (a_term (count_at marks.now) walk_levels false) (turns - 1)
+        (record { at = result.1; rest = drop result.1 bytes.now })).0 }
 {
     let cursor = Cursor::new(at, &bytes[at..]);
     let term = term_at(&cursor, marks, LEVELS, false);

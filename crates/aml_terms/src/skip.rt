@@ -1,7 +1,9 @@
 //! Goes over terms by their marks. It takes no memory and refuses nothing.
 ghost use Rattle.std.specs.Prelude.{◌≡◌, Some, false};
 ghost use Rattle.aml_grammar.specs.Grammar.{is_if};
-ghost use Rattle.aml_marked.specs.Marked.{count_at, a_term, a_call, a_coded, an_opcode, with_row, of_row, all_operands, an_operand, name_or_term, turns_of, maybe_else, an_else, target_of, a_target, a_super_name, all_items, fields_left, a_field, to_end, first, Below};
+ghost use Rattle.aml_marked.specs.Marked.{count_at, a_term, a_call, a_coded, an_opcode, with_row, of_row, all_operands};
+ghost use Rattle.aml_marked.specs.Marked.{an_operand, name_or_term, turns_of, maybe_else, an_else, target_of, a_target};
+ghost use Rattle.aml_marked.specs.Marked.{a_super_name, all_items, fields_left, a_field, to_end, first, Below};
 
 use crate::cursor::Cursor;
 use crate::short::short_length;

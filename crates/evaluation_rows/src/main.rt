@@ -1,5 +1,5 @@
-//! Evaluates AML: what tables declare, what names and control methods answer, and which registers they access; and machines
-//! that are made from images of their tables.
+//! Evaluates AML: what tables declare, what names and control methods answer, and which registers they access; and
+//! machines that are made from images of their tables.
 //!
 //! The folder `data/` holds the rows, and `data/README.md` says how they are written.
 #![tactic(auto)]

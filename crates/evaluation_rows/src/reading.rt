@@ -189,7 +189,8 @@ fn object(asked: &mut Exchange) -> u32 {
     object_number(asked)
 }
 
-/// A value of a world: `integer N`, `string object N`, `buffer object N`, `package object N`, a reference, `uninitialized`.
+/// A value of a world: `integer N`, `string object N`, `buffer object N`, `package object N`, a reference,
+/// `uninitialized`.
 pub fn value(asked: &mut Exchange) -> Value {
     let word = asked.word();
     match asked.one_of(&VALUES, word, ValueKind::Uninitialized) {

@@ -42,7 +42,8 @@ fn put_all(asked: &mut Exchange, space: &mut Sparse, first: Place, bytes: &[u8])
     }
 }
 
-/// `io PORT BYTES`, `memory ADDRESS BYTES` or `pci SEGMENT BUS DEVICE FUNCTION REGISTER BYTES`: bytes that stand in registers.
+/// `io PORT BYTES`, `memory ADDRESS BYTES` or `pci SEGMENT BUS DEVICE FUNCTION REGISTER BYTES`: bytes that stand in
+/// registers.
 fn put(asked: &mut Exchange, space: &mut Sparse, kind: SpaceKind) {
     let first = place(asked, kind);
     let bytes = asked.bytes();

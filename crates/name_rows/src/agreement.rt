@@ -7,8 +7,8 @@ use ar_space::Refusal;
 use std::alloc::Global;
 use std::collections::BTreeMap;
 
-/// The namespace, the map of its paths to the numbers of their declarations, the ids of all nodes that ever stood, and the
-/// state of the random numbers.
+/// The namespace, the map of its paths to the numbers of their declarations, the ids of all nodes that ever stood,
+/// and the state of the random numbers.
 #[derive(Drop)]
 struct Pair {
     names: Names,

@@ -109,7 +109,8 @@ fn below_root(alloc: Global, text: &str) -> Result<Path, Refusal> {
     Path::from_text(alloc, below.as_slice())
 }
 
-/// The name before ` in `, or that all that is left is, as ASL writes it: `\FOO`, `^^FOO.BAR`, `FOO`, and `-` for the null name.
+/// The name before ` in `, or that all that is left is, as ASL writes it: `\FOO`, `^^FOO.BAR`, `FOO`, and `-` for the
+/// null name.
 pub fn name(asked: &mut Exchange) -> NameString {
     let text = asked.until(" in ");
     let prefix = if text.starts_with('\\') {

@@ -6,14 +6,14 @@ use Rattle.aml_frames.specs.Stack.{then_all}
 use Rattle.aml_frames.proofs.Machine.{unwound_end, popped_frame, popped_leave, empty_list}
 use Rattle.aml_frames.proofs.stack.unwind.Goals as goal
 
-pub returns-in-None : goal.returns-in-None
-returns-in-None g c = c.entries.invariant ∙ unwound_end g.S.Space.accesses (meaning g.S.Space.accesses) c.args.refusal.now c.entries.stack.act c.entries.stack.entries.items c.entries.run (empty_list c.entries.stack.entries.items (search rules))
+pub returns-in-None-clause-ended : goal.returns-in-None-clause-ended
+returns-in-None-clause-ended g c = c.entries.invariant ∙ unwound_end g.S.Space.accesses (meaning g.S.Space.accesses) c.args.refusal c.entries.stack.act c.entries.stack.entries.items c.entries.run (empty_list c.entries.stack.entries.items (search rules))
 
 pub entries-preserved-in-Some-Frame : goal.entries-preserved-in-Some-Frame
-entries-preserved-in-Some-Frame g c = c.entries.invariant ∙ popped_frame g.S.Space.accesses (meaning g.S.Space.accesses) c.args.refusal.now c.entries.stack.act c.entries.stack.entries.items c.pop.new.self.items c.in-Some-Frame.frame c.in-Some-Frame.field-0 c.entries.run c.in-Some-Frame.ensures.items (search rules)
+entries-preserved-in-Some-Frame g c = c.entries.invariant ∙ popped_frame g.S.Space.accesses (meaning g.S.Space.accesses) c.args.refusal c.entries.stack.act c.entries.stack.entries.items c.pop.new.self.items c.in-Some-Frame.frame c.in-Some-Frame.field-0 c.entries.run c.in-Some-Frame.ensures.items (search rules)
 
 pub entries-preserved : goal.entries-preserved
 entries-preserved g c =
     c.entries.invariant
-    ∙ popped_leave g.S.Space.accesses (meaning g.S.Space.accesses) c.args.refusal.now c.entries.stack.act c.in-Some-Leave.caller c.in-Some-Leave.method c.entries.stack.entries.items c.pop.new.self.items c.in-Some-Leave.field-0 c.entries.run c.in-Some-Leave.ensures.items (search rules)
-    ∙ ap (λ r. then_all g.S.Space.accesses (meaning g.S.Space.accesses) (stop c.args.refusal.now) c.in-Some-Leave.caller c.pop.new.self.items r) (ap (λ p. (left p c.entries.run.0, c.entries.run.1)) (sym c.path.ensures) ∙ sym c.end_call.ensures)
+    ∙ popped_leave g.S.Space.accesses (meaning g.S.Space.accesses) c.args.refusal c.entries.stack.act c.in-Some-Leave.caller c.in-Some-Leave.method c.entries.stack.entries.items c.pop.new.self.items c.in-Some-Leave.field-0 c.entries.run c.in-Some-Leave.ensures.items (search rules)
+    ∙ ap (λ r. then_all g.S.Space.accesses (meaning g.S.Space.accesses) (stop c.args.refusal) c.in-Some-Leave.caller c.pop.new.self.items r) (ap (λ p. (left p c.entries.run.0, c.entries.run.1)) (sym c.path.ensures) ∙ sym c.end_call.ensures)

@@ -1,0 +1,91 @@
+//! Terms of the wide profile (ACPI 6.5, 19.6 and 20.2.5.4). The operands stand next.
+ghost use Rattle.std.specs.Prelude.{◌≡◌, ◌≤◌, ◌<◌, ◌+◌, ◌*◌, IfOk};
+ghost use Rattle.aml_meaning.specs.Meaning.{meaning};
+ghost use Rattle.aml_frames.specs.declared.frames.Frame.TheVariants as frames;
+ghost use Rattle.aml_frames.specs.Follow.{asked_run, wide_run, behind_wide_at, resumed, ends, Leads, EndsAt};
+ghost use Rattle.aml_frames.specs.Weights.{most, step_weight, next_weight};
+
+use crate::activation::Activation;
+use crate::frames::Next;
+use crate::operators::{begin_dyadic, begin_monadic};
+use crate::searching::begin_match;
+use crate::targets::begin_target;
+use crate::uses::{Dyadic, Monadic, Target, TargetUse};
+use aml_grammar::Opcode;
+use aml_meaning::{Flow, Running, WideKind};
+use aml_objects::Value;
+use ar_space::{Refusal, Space};
+use std::alloc::Global;
+
+/// A term of the wide profile: a world of another one refuses it.
+#[tactic(auto, using(crate::proofs::Using::using_targets, crate::proofs::Knowing::going_on))]
+pub(crate) fn begin_wide<S: Space>(
+    alloc: Global,
+    run: &mut Running<S>,
+    act: &mut Activation,
+    levels: u8,
+    opcode: Opcode,
+    kind: WideKind,
+) -> Result<Next, Refusal>
+    ensures spent { run.new.1 ≤ run.old.1 }
+    ensures falls { IfOk result (λ n. next_weight n < step_weight) }
+    ensures means { Leads S.accesses (meaning S.accesses) result act.new run.new
+        (asked_run S.accesses (meaning S.accesses) opcode kind act.old levels) run.old }
+    ensures ends { EndsAt result act.new (behind_wide_at kind act.old levels) }
+{
+    run.world.ask_for(opcode)?;
+    begin_asked(alloc, run, act, levels, kind)
+}
+
+/// A term of the wide profile, in a world of that profile: its first operand is evaluated.
+#[tactic(auto, using(crate::proofs::Using::using_targets, crate::proofs::Knowing::going_on))]
+fn begin_asked<S: Space>(
+    alloc: Global,
+    run: &mut Running<S>,
+    act: &mut Activation,
+    levels: u8,
+    kind: WideKind,
+) -> Result<Next, Refusal>
+    ensures spent { run.new.1 ≤ run.old.1 }
+    ensures falls { IfOk result (λ n. next_weight n < step_weight) }
+    ensures means { Leads S.accesses (meaning S.accesses) result act.new run.new
+        (wide_run S.accesses (meaning S.accesses) kind act.old levels) run.old }
+    ensures ends { EndsAt result act.new (behind_wide_at kind act.old levels) }
+{
+    match kind {
+        WideKind::Convert(conversion) => {
+            begin_monadic(alloc, run, act, Monadic::Convert(conversion), levels)
+        }
+        WideKind::ToString => begin_dyadic(alloc, run, act, Dyadic::ToString, levels),
+        WideKind::Mid => begin_dyadic(alloc, run, act, Dyadic::Mid, levels),
+        WideKind::Match => begin_match(alloc, run, act, levels),
+    }
+}
+
+/// A Mid whose third operand was evaluated, with the first two.
+#[tactic(auto, using(crate::proofs::Using::using_targets))]
+pub(crate) fn resume_third<S: Space>(
+    alloc: Global,
+    run: &mut Running<S>,
+    act: &mut Activation,
+    levels: u8,
+    before: (Value, Value),
+    flow: Flow,
+) -> Result<Next, Refusal>
+    ensures spent { run.new.1 ≤ run.old.1 }
+    ensures falls { IfOk result (λ n. next_weight n < most + 15) }
+    ensures means { Leads S.accesses (meaning S.accesses) result act.new run.new
+        (resumed S.accesses (meaning S.accesses) (frames.Third levels before.0 before.1) act.old flow) run.old }
+    ensures ends { EndsAt result act.new (ends (frames.Third levels before.0 before.1) act.old) }
+{
+    let count = flow.value()?;
+    let (source, start) = before;
+    let result = run.world.middle(alloc, source, start, count)?;
+    begin_target(
+        alloc,
+        run,
+        act,
+        Target::optional(levels),
+        TargetUse::Store(result),
+    )
+}

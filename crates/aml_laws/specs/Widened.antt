@@ -1,0 +1,25 @@
+-- A world in the wide profile, and what the core profile leaves out.
+use Rattle.std.specs.Prelude.{◌≡◌, ℕ, Ok, Err}
+use Rattle.ar_space.specs.declared.refusal.Refusal.{Refusal}
+use Rattle.ar_space.specs.declared.refusal.Refusal.TheVariants as refusal
+use Rattle.ar_space.specs.declared.refusal.EvaluationFault.TheVariants.{Unsupported}
+use Rattle.ar_space.specs.Outcome.{Outcome}
+use Rattle.aml_meaning.specs.declared.profile.Profile.TheVariants as profile
+use Rattle.aml_meaning.specs.State.{State}
+
+-- the same world in the wide profile
+abbrev pub widened : {S : Type 0} → State S → State S
+widened w = record { names = w.names; arities = w.arities; objects = w.objects; frames = w.frames; started = w.started; space = w.space; osi = w.osi; width = w.width; profile = profile.Wide }
+
+-- what an evaluation gives and leaves, with the world in the wide profile
+abbrev pub outcome_widened : {S A : Type 0} → Outcome A × (State S × ℕ) → Outcome A × (State S × ℕ)
+outcome_widened r = (r.0, (widened r.1.0, r.1.1))
+
+-- a refusal of a term that a profile leaves out
+abbrev pub LeftOut : Refusal → Type 0
+LeftOut e = (op : ℕ) × (e ≡ refusal.Evaluation (Unsupported op))
+
+-- an outcome is such a refusal
+abbrev pub IsLeftOut : {A : Type 0} → Outcome A → Type 0
+IsLeftOut (Ok a) = ⊥
+IsLeftOut (Err e) = LeftOut e

@@ -1,0 +1,219 @@
+//! Match: the first element of a package that meets two tests (ACPI 6.5, 19.6).
+ghost use Rattle.std.specs.Prelude.{◌≡◌, ◌≤◌, ◌<◌, Ok};
+ghost use Rattle.ar_space.specs.Change.{Does};
+ghost use Rattle.ar_space.specs.Outcome.{Answers, NotMemory};
+ghost use Rattle.aml_objects.specs.Contents.{content_in};
+ghost use Rattle.aml_convert.specs.Matching.{is_match};
+ghost use Rattle.aml_namespace.specs.Search.{found};
+ghost use Rattle.aml_meaning.specs.MatchTerms.{package_of, is_comparable, test_of, searching_from, search_begun};
+ghost use Rattle.aml_meaning.specs.MatchTerms.{unless_uninitialized, where_named, name_held, held_by, element_held};
+ghost use Rattle.aml_meaning.specs.MatchTerms.{meets, value_meets};
+
+use crate::dereferences::named_once;
+use crate::store_target::Held;
+use crate::world_state::WorldState;
+use aml_convert::{MatchOperator, is_match};
+use aml_objects::{Element, Value};
+use aml_path::{NameString, Path};
+use ar_space::{EvaluationFault, NamespaceFault, Refusal, ValueFault};
+use std::alloc::Global;
+
+/// What Match asks of an element.
+#[derive(Clone, Copy, Debug)]
+pub struct MatchTest {
+    pub operator: MatchOperator,
+    /// What the element is compared with: an integer, a string or a buffer.
+    pub object: Value,
+}
+
+/// What is searched for, and where.
+#[derive(Clone, Copy, Debug)]
+pub struct Search {
+    /// The package.
+    pub source: u32,
+    /// How many elements it has.
+    pub count: usize,
+    pub first: MatchTest,
+    pub second: MatchTest,
+}
+
+/// A search, while elements are left.
+#[derive(Clone, Copy, Debug)]
+pub struct Searching {
+    pub search: Search,
+    /// How many elements are left: the last ones.
+    pub left: usize,
+}
+
+impl<S> WorldState<S> {
+    /// The search that Match makes, by the values of its operands and the bytes of its operators. Refused as
+    /// `WrongType`: what is searched in isn't a package, an operator is above 5, or an object is no integer, string
+    /// or buffer; as `IndexLimit`: it starts past the last element.
+    #[tactic(auto, using(ar_space::specs::Change::changing), unfolding(crate::specs::MatchTerms::search_begun))]
+    pub fn begin_search(
+        &self,
+        source: Value,
+        first: (u8, Value),
+        second: (u8, Value),
+        start: Value,
+    ) -> Result<Searching, Refusal>
+        ensures answer { Does result self.now (search_begun source first.0 first.1 second.0 second.1 start) self.now }
+        ensures memory { NotMemory result }
+    {
+        let object = package_of(source)?;
+        let one = test_of(first.0, first.1)?;
+        let other = test_of(second.0, second.1)?;
+        let index = self.integer_in(start)?;
+        let count = self.size_held(Value::Package(object))?;
+        let search = Search {
+            source: object,
+            count: count as usize,
+            first: one,
+            second: other,
+        };
+        searching_from(search, index)
+    }
+
+    /// What the element of a package at an index holds: a value, or a field that is read next; nothing where it is
+    /// uninitialized, or a name that isn't found.
+    #[tactic(auto, using(ar_space::specs::Change::changing), unfolding(crate::specs::MatchTerms::element_held))]
+    pub fn element_held(&self, object: u32, index: usize) -> Result<Option<Held>, Refusal>
+        ensures answer { Does result self.now (element_held object index) self.now }
+        ensures memory { NotMemory result }
+    {
+        let element = self.element(object, index)?;
+        self.held_by(element)
+    }
+
+    #[tactic(auto, using(ar_space::specs::Change::changing))]
+    fn held_by(&self, element: &Element) -> Result<Option<Held>, Refusal>
+        ensures answer { Does result self.now (held_by element.now) self.now }
+        ensures memory { NotMemory result }
+    {
+        match element {
+            Element::Value(value) => Ok(unless_uninitialized(*value)),
+            Element::Name(name, scope) => self.name_held(name, scope),
+        }
+    }
+
+    #[tactic(auto, unfolding(crate::specs::MatchTerms::name_held))]
+    fn name_held(&self, name: &NameString, scope: &Path) -> Result<Option<Held>, Refusal>
+        ensures answer { Does result self.now (name_held name.now scope.now) self.now }
+        ensures memory { NotMemory result }
+    {
+        match self.names().lookup(scope, name) {
+            Ok(entry) => Ok(Some(named_once(entry.number, &entry.object))),
+            Err(Refusal::Namespace(NamespaceFault::NotFound)) => Ok(None),
+            Err(refusal) => Err(refusal),
+        }
+    }
+
+    /// Whether a value meets both tests of a search.
+    #[tactic(auto, using(ar_space::specs::Change::changing))]
+    pub fn value_meets(&self, alloc: Global, search: &Search, value: Value) -> Result<bool, Refusal>
+        ensures { Does result self.now (value_meets search.now value) self.now }
+    {
+        match value {
+            Value::Uninitialized => Ok(false),
+            Value::Integer(_) => self.meets(alloc, search, value),
+            Value::String(_) => self.meets(alloc, search, value),
+            Value::Buffer(_) => self.meets(alloc, search, value),
+            Value::Package(_) => self.meets(alloc, search, value),
+            Value::Reference(_) => self.meets(alloc, search, value),
+        }
+    }
+
+    #[tactic(auto, unfolding(crate::specs::MatchTerms::meets))]
+    fn meets(&self, alloc: Global, search: &Search, value: Value) -> Result<bool, Refusal>
+        ensures { Does result self.now (meets search.now value) self.now }
+    {
+        if self.meets_test(alloc, search.first, value)? {
+            return self.meets_test(alloc, search.second, value);
+        }
+        Ok(false)
+    }
+
+    /// Whether a value meets a test.
+    fn meets_test(&self, alloc: Global, test: MatchTest, value: Value) -> Result<bool, Refusal>
+        ensures { Answers result (Ok (is_match self.now.width test.operator (content_in self.now.objects test.object)
+            (content_in self.now.objects value))) }
+    {
+        let object = self.heap.content(test.object);
+        let element = self.heap.content(value);
+        is_match(alloc, self.width, test.operator, object, element)
+    }
+}
+
+/// The package that a value is; any other value is refused as `WrongType`.
+fn package_of(value: Value) -> Result<u32, Refusal>
+    ensures answer { Answers result (package_of value) }
+    ensures memory { NotMemory result }
+{
+    match value {
+        Value::Package(object) => Ok(object),
+        Value::Uninitialized => Err(Refusal::Value(ValueFault::WrongType)),
+        Value::Integer(_) => Err(Refusal::Value(ValueFault::WrongType)),
+        Value::String(_) => Err(Refusal::Value(ValueFault::WrongType)),
+        Value::Buffer(_) => Err(Refusal::Value(ValueFault::WrongType)),
+        Value::Reference(_) => Err(Refusal::Value(ValueFault::WrongType)),
+    }
+}
+
+/// A test by the byte of its operator and its object; another byte or object is refused as `WrongType`.
+fn test_of(number: u8, object: Value) -> Result<MatchTest, Refusal>
+    ensures answer { Answers result (test_of number object) }
+    ensures memory { NotMemory result }
+{
+    match MatchOperator::from_number(u64::from(number)) {
+        None => Err(Refusal::Value(ValueFault::WrongType)),
+        Some(operator) => {
+            if is_comparable(object) {
+                return Ok(MatchTest { operator, object });
+            }
+            Err(Refusal::Value(ValueFault::WrongType))
+        }
+    }
+}
+
+/// Whether elements are compared with a value.
+fn is_comparable(value: Value) -> bool
+    ensures { result ≡ is_comparable value }
+{
+    match value {
+        Value::Integer(_) => true,
+        Value::String(_) => true,
+        Value::Buffer(_) => true,
+        Value::Uninitialized => false,
+        Value::Package(_) => false,
+        Value::Reference(_) => false,
+    }
+}
+
+/// A search that begins at an index; refused as `IndexLimit` where no element stands there.
+fn searching_from(search: Search, index: u64) -> Result<Searching, Refusal>
+    ensures answer { Answers result (searching_from search index) }
+    ensures memory { NotMemory result }
+{
+    let index = index as usize;
+    if index < search.count {
+        return Ok(Searching {
+            search,
+            left: search.count - index,
+        });
+    }
+    Err(Refusal::Evaluation(EvaluationFault::IndexLimit))
+}
+
+/// What an element that is a value holds.
+fn unless_uninitialized(value: Value) -> Option<Held>
+    ensures { result ≡ unless_uninitialized value }
+{
+    match value {
+        Value::Uninitialized => None,
+        Value::Integer(_) => Some(Held::Value(value)),
+        Value::String(_) => Some(Held::Value(value)),
+        Value::Buffer(_) => Some(Held::Value(value)),
+        Value::Package(_) => Some(Held::Value(value)),
+        Value::Reference(_) => Some(Held::Value(value)),
+    }
+}

@@ -1,0 +1,215 @@
+//! Terms of the wide profile: whether a world evaluates them, and what they form of values (ACPI 6.5, 19.6).
+ghost use Rattle.std.specs.Prelude.{◌≡◌};
+ghost use Rattle.ar_space.specs.Change.{Does};
+ghost use Rattle.ar_space.specs.Outcome.{NotMemory, seen};
+ghost use Rattle.aml_convert.specs.Formed.{formed_content};
+ghost use Rattle.aml_meaning.specs.Profiles.{evaluated_in, asked_for};
+ghost use Rattle.aml_meaning.specs.WideOperations.{decoded_in, number_coded, coded_in, decimal_text};
+ghost use Rattle.aml_meaning.specs.WideOperations.{new_decimal_string, decimal_string_in, hexadecimal_text};
+ghost use Rattle.aml_meaning.specs.WideOperations.{new_hexadecimal_string, hexadecimal_string_in, string_text};
+ghost use Rattle.aml_meaning.specs.WideOperations.{string_in, middle_content, middle_in, converted};
+
+use crate::operations::integer;
+use crate::profile::Profile;
+use crate::term_kind::Conversion;
+use crate::world_state::WorldState;
+use aml_convert::{
+    Formed, code_decimal, decode_decimal, middle, to_decimal_string, to_hexadecimal_string,
+    to_string,
+};
+use aml_grammar::Opcode;
+use aml_objects::{Octets, Value};
+use ar_space::{EvaluationFault, Refusal};
+use std::alloc::Global;
+
+impl<S> WorldState<S> {
+    /// Asks whether a term of the wide profile is evaluated: in a world of the core profile it is refused as
+    /// `Unsupported`.
+    #[tactic(auto, unfolding(crate::specs::Profiles::asked_for))]
+    pub fn ask_for(&self, opcode: Opcode) -> Result<(), Refusal>
+        ensures answer { Does result self.now (asked_for opcode) self.now }
+        ensures memory { NotMemory result }
+    {
+        evaluated_in(self.profile, opcode)
+    }
+
+    /// What an explicit conversion gives of a value; it is refused as that is.
+    #[inline(never)]
+    #[tactic(auto, using(ar_space::specs::Change::changing))]
+    pub fn convert(
+        &mut self,
+        alloc: Global,
+        conversion: Conversion,
+        value: Value,
+    ) -> Result<Value, Refusal>
+        ensures { Does result self.new (converted conversion value) self.old }
+    {
+        match conversion {
+            Conversion::DecimalString => self.to_decimal_string(alloc, value),
+            Conversion::HexadecimalString => self.to_hexadecimal_string(alloc, value),
+            Conversion::FromDecimal => self.decode_decimal(value),
+            Conversion::ToDecimal => self.code_decimal(value),
+        }
+    }
+
+    /// ToString: a new string of the bytes of a value before the first zero, at most as many as are asked for.
+    #[inline(never)]
+    #[tactic(auto, using(ar_space::specs::Change::changing), unfolding(crate::specs::WideOperations::string_in))]
+    pub fn to_string(
+        &mut self,
+        alloc: Global,
+        source: Value,
+        count: Value,
+    ) -> Result<Value, Refusal>
+        ensures { Does result self.new (string_in source count) self.old }
+    {
+        let text = self.string_text(alloc, source, count)?;
+        self.make_string(text)
+    }
+
+    /// Mid: a part of a value, from a place on, at most as many bytes as are asked for.
+    #[inline(never)]
+    #[tactic(auto, using(ar_space::specs::Change::changing), unfolding(crate::specs::WideOperations::middle_in))]
+    pub fn middle(
+        &mut self,
+        alloc: Global,
+        source: Value,
+        start: Value,
+        count: Value,
+    ) -> Result<Value, Refusal>
+        ensures { Does result self.new (middle_in source start count) self.old }
+    {
+        let content = self.middle_content(alloc, source, start, count)?;
+        self.make_formed(content)
+    }
+
+    #[tactic(auto, using(ar_space::specs::Change::changing))]
+    fn to_decimal_string(&mut self, alloc: Global, value: Value) -> Result<Value, Refusal>
+        ensures { Does result self.new (decimal_string_in value) self.old }
+    {
+        match value {
+            Value::String(object) => Ok(Value::String(object)),
+            Value::Uninitialized => self.new_decimal_string(alloc, Value::Uninitialized),
+            Value::Integer(number) => self.new_decimal_string(alloc, Value::Integer(number)),
+            Value::Buffer(object) => self.new_decimal_string(alloc, Value::Buffer(object)),
+            Value::Package(object) => self.new_decimal_string(alloc, Value::Package(object)),
+            Value::Reference(reference) => {
+                self.new_decimal_string(alloc, Value::Reference(reference))
+            }
+        }
+    }
+
+    #[tactic(auto, using(ar_space::specs::Change::changing), unfolding(crate::specs::WideOperations::new_decimal_string))]
+    fn new_decimal_string(&mut self, alloc: Global, value: Value) -> Result<Value, Refusal>
+        ensures { Does result self.new (new_decimal_string value) self.old }
+    {
+        let text = self.decimal_text(alloc, value)?;
+        self.make_string(text)
+    }
+
+    #[tactic(auto, unfolding(crate::specs::WideOperations::decimal_text))]
+    fn decimal_text(&self, alloc: Global, value: Value) -> Result<Octets, Refusal>
+        ensures { Does result self.now (decimal_text value) self.now }
+    {
+        to_decimal_string(alloc, self.heap.content(value))
+    }
+
+    #[tactic(auto, using(ar_space::specs::Change::changing))]
+    fn to_hexadecimal_string(&mut self, alloc: Global, value: Value) -> Result<Value, Refusal>
+        ensures { Does result self.new (hexadecimal_string_in value) self.old }
+    {
+        match value {
+            Value::String(object) => Ok(Value::String(object)),
+            Value::Uninitialized => self.new_hexadecimal_string(alloc, Value::Uninitialized),
+            Value::Integer(number) => self.new_hexadecimal_string(alloc, Value::Integer(number)),
+            Value::Buffer(object) => self.new_hexadecimal_string(alloc, Value::Buffer(object)),
+            Value::Package(object) => self.new_hexadecimal_string(alloc, Value::Package(object)),
+            Value::Reference(reference) => {
+                self.new_hexadecimal_string(alloc, Value::Reference(reference))
+            }
+        }
+    }
+
+    #[tactic(auto, using(ar_space::specs::Change::changing), unfolding(crate::specs::WideOperations::new_hexadecimal_string))]
+    fn new_hexadecimal_string(&mut self, alloc: Global, value: Value) -> Result<Value, Refusal>
+        ensures { Does result self.new (new_hexadecimal_string value) self.old }
+    {
+        let text = self.hexadecimal_text(alloc, value)?;
+        self.make_string(text)
+    }
+
+    #[tactic(auto, unfolding(crate::specs::WideOperations::hexadecimal_text))]
+    fn hexadecimal_text(&self, alloc: Global, value: Value) -> Result<Octets, Refusal>
+        ensures { Does result self.now (hexadecimal_text value) self.now }
+    {
+        to_hexadecimal_string(alloc, self.width, self.heap.content(value))
+    }
+
+    #[tactic(auto, using(ar_space::specs::Change::changing), unfolding(crate::specs::WideOperations::decoded_in))]
+    fn decode_decimal(&self, value: Value) -> Result<Value, Refusal>
+        ensures answer { Does result self.now (decoded_in value) self.now }
+        ensures memory { NotMemory result }
+    {
+        let number = self.integer_in(value)?;
+        integer(decode_decimal(number))
+    }
+
+    #[tactic(auto, using(ar_space::specs::Change::changing), unfolding(crate::specs::WideOperations::coded_in))]
+    fn code_decimal(&self, value: Value) -> Result<Value, Refusal>
+        ensures answer { Does result self.now (coded_in value) self.now }
+        ensures memory { NotMemory result }
+    {
+        let number = self.integer_in(value)?;
+        self.number_coded(number)
+    }
+
+    #[tactic(auto, unfolding(crate::specs::WideOperations::number_coded))]
+    fn number_coded(&self, number: u64) -> Result<Value, Refusal>
+        ensures answer { Does result self.now (number_coded number) self.now }
+        ensures memory { NotMemory result }
+    {
+        integer(code_decimal(self.width, number))
+    }
+
+    #[tactic(auto, unfolding(crate::specs::WideOperations::string_text))]
+    fn string_text(&self, alloc: Global, source: Value, count: Value) -> Result<Octets, Refusal>
+        ensures { Does result self.now (string_text source count) self.now }
+    {
+        to_string(
+            alloc,
+            self.width,
+            self.heap.content(source),
+            self.heap.content(count),
+        )
+    }
+
+    #[tactic(auto, unfolding(crate::specs::WideOperations::middle_content))]
+    fn middle_content(
+        &self,
+        alloc: Global,
+        source: Value,
+        start: Value,
+        count: Value,
+    ) -> Result<Formed, Refusal>
+        ensures { Does (seen formed_content result) self.now (middle_content source start count) self.now }
+    {
+        middle(
+            alloc,
+            self.width,
+            self.heap.content(source),
+            self.heap.content(start),
+            self.heap.content(count),
+        )
+    }
+}
+
+/// Whether a profile evaluates a term of the wide one.
+fn evaluated_in(profile: Profile, opcode: Opcode) -> Result<(), Refusal>
+    ensures answer { result ≡ evaluated_in profile opcode }
+    ensures memory { NotMemory result }
+{
+    match profile {
+        Profile::Wide => Ok(()),
+        Profile::Core => Err(Refusal::Evaluation(EvaluationFault::Unsupported(opcode.number()))),
+    }
+}
