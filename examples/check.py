@@ -49,6 +49,24 @@ REPORTS = {
     "spare": ("spare", ["route", "--mode", "pic", "--spare"]),
     "spare.spread": ("spare", ["route", "--mode", "pic", "--spare", "--spread"]),
 }
+# The report of the machine that the core profile refuses.
+WIDE_REPORT = r"""acpiroute 2
+mode apic
+sci 9
+avoid -
+link \_SB_.LNKA small low offers 5 10 now none
+link \_SB_.LNKB small low offers 5 10 now none
+pin \_SB_.PCI0 1 A 5 \_SB_.LNKA
+pin \_SB_.PCI0 1 B 10 \_SB_.LNKB
+give \_SB_.LNKA 5
+give \_SB_.LNKB 10
+busiest 1
+bound - over 9
+set \_SB_.LNKA none
+set \_SB_.LNKB none
+after \_SB_.LNKA none
+after \_SB_.LNKB none
+"""
 # Other commands: the machine text, the words, the exit status, the output and the line of errors.
 COMMANDS = [
     ("two-links", ["route", "--avoid", "5"], 1, "", "refused 123 \\_SB_.LNKB\n"),
@@ -56,6 +74,7 @@ COMMANDS = [
     ("switch", ["route"], 1, "", "refused 73 op 0089\n"),
     ("switch", ["eval", "\\_SB_.PCI0.RP01._PRT"], 1, "", "refused 73 op 0089\n"),
     ("refused", ["route"], 1, "", "refused 101\n"),
+    ("refused", ["route", "--profile", "wide"], 0, WIDE_REPORT, ""),
     ("refused", ["eval", "\\_SB_.LNKA._PRS"], 0, "buffer 232004187900\n", ""),
     ("refused", ["eval", "\\_SB_.LNKB._PRS"], 0, "buffer 232004087900\n", ""),
 ]

@@ -178,13 +178,17 @@ struct acpiroute_wanted {
     size_t entry;
 };
 
-/* Which interrupt controllers the machine is told that it uses. */
-enum { ACPIROUTE_PIC = 0, ACPIROUTE_APIC = 1 };
+/*
+ * Which interrupt controllers the machine is told that it uses, and the profile in which its AML is evaluated: the core profile, and
+ * where ACPIROUTE_WIDE is added the wide one, as with the option `--profile wide`.
+ */
+enum { ACPIROUTE_PIC = 0, ACPIROUTE_APIC = 1, ACPIROUTE_WIDE = 2 };
 
 /* How a machine is configured. */
 struct acpiroute_settings {
     /* The budget of steps for each table and each evaluation, from 1 to 1,000,000,000. */
     uint64_t steps;
+    /* ACPIROUTE_PIC or ACPIROUTE_APIC, or one of them with ACPIROUTE_WIDE added. */
     uint8_t mode;
     /* 1 where no link is to be set, and else 0. */
     uint8_t dry;

@@ -236,7 +236,7 @@ static void judge_spoiled(const struct question *it) {
     judge_told(&other, ACPIROUTE_MALFORMED);
     other.settings.steps = 1000000001;
     judge_told(&other, ACPIROUTE_MALFORMED);
-    other = *it, other.settings.mode = 2;
+    other = *it, other.settings.mode = 4;
     judge_told(&other, ACPIROUTE_MALFORMED);
     other = *it, other.settings.dry = 2;
     judge_told(&other, ACPIROUTE_MALFORMED);
@@ -361,6 +361,10 @@ static void judge_record_calls(struct question it) {
     judge_reply(&it, 0, without(without(report, "set "), "after "), "");
     it.settings.dry = 0;
     it.settings.mode = ACPIROUTE_PIC;
+    chipset_reset(&chipset);
+    grow(&it, &chipset, 1);
+    judge_reply(&it, 0, with(report, "mode apic", "mode pic"), "");
+    it.settings.mode = ACPIROUTE_PIC + ACPIROUTE_WIDE;
     chipset_reset(&chipset);
     grow(&it, &chipset, 1);
     judge_reply(&it, 0, with(report, "mode apic", "mode pic"), "");

@@ -26,6 +26,8 @@ pub const DEVICE_FAILED: u8 = 2;
 /// Which interrupt controllers the machine is told that it uses.
 pub const PIC: u8 = 0;
 pub const APIC: u8 = 1;
+/// Added to one of these for the wide profile.
+pub const WIDE: u8 = 2;
 
 /// What a call has said.
 #[repr(C)]

@@ -14,12 +14,13 @@ use route_spread::laws::a_least_sharing_is_least;
 use route_spread::solve_spread;
 use std::alloc::Global;
 
-/// The answer to a problem: an assignment under which links share interrupts as little as they can, where they are to `spread`, and else
-/// the first least one.
+/// The answer to a problem: an assignment under which links share interrupts as little as they can, where they are to
+/// `spread`, and else the first least one.
 pub(crate) fn choose(alloc: Global, problem: &Problem, spread: bool) -> Result<Answer, Refusal>
     requires { Fits problem.now }
     ensures chosen { IfOk result (λ answer. IsChosen spread problem.now answer) }
-    ensures bound { IfOk result (λ answer. (answer.busiest ≡ 0) ⊎ IsLowerBound (offers_of problem.now.links) problem.now.wired answer.busiest answer.links answer.interrupts) }
+    ensures bound { IfOk result (λ answer. (answer.busiest ≡ 0) ⊎
+        IsLowerBound (offers_of problem.now.links) problem.now.wired answer.busiest answer.links answer.interrupts) }
     ensures memory { IfErr result (λ refusal. refusal ≡ OutOfMemory) }
 {
     let first = answer_to(alloc, problem)?;
@@ -34,7 +35,8 @@ pub(crate) fn choose(alloc: Global, problem: &Problem, spread: bool) -> Result<A
 pub(crate) fn answer_to(alloc: Global, problem: &Problem) -> Result<Answer, Refusal>
     requires { Fits problem.now }
     ensures solves { IfOk result (λ answer. Solves problem.now answer) }
-    ensures bound { IfOk result (λ answer. (answer.busiest ≡ 0) ⊎ IsLowerBound (offers_of problem.now.links) problem.now.wired answer.busiest answer.links answer.interrupts) }
+    ensures bound { IfOk result (λ answer. (answer.busiest ≡ 0) ⊎
+        IsLowerBound (offers_of problem.now.links) problem.now.wired answer.busiest answer.links answer.interrupts) }
     ensures memory { IfErr result (λ refusal. refusal ≡ OutOfMemory) }
 {
     Ok(solve(alloc, problem)?)
@@ -43,9 +45,11 @@ pub(crate) fn answer_to(alloc: Global, problem: &Problem) -> Result<Answer, Refu
 /// The answer from which links are moved until they share interrupts as little as they can.
 fn spread_from(alloc: Global, problem: &Problem, first: Answer) -> Result<Answer, Refusal>
     requires solves { Solves problem.now first }
-    requires bound { (first.busiest ≡ 0) ⊎ IsLowerBound (offers_of problem.now.links) problem.now.wired first.busiest first.links first.interrupts }
+    requires bound { (first.busiest ≡ 0) ⊎ IsLowerBound (offers_of problem.now.links) problem.now.wired first.busiest
+        first.links first.interrupts }
     ensures spreads { IfOk result (λ answer. Spreads problem.now answer) }
-    ensures bound { IfOk result (λ answer. (answer.busiest ≡ 0) ⊎ IsLowerBound (offers_of problem.now.links) problem.now.wired answer.busiest answer.links answer.interrupts) }
+    ensures bound { IfOk result (λ answer. (answer.busiest ≡ 0) ⊎
+        IsLowerBound (offers_of problem.now.links) problem.now.wired answer.busiest answer.links answer.interrupts) }
     ensures memory { IfErr result (λ refusal. refusal ≡ OutOfMemory) }
 {
     a_least_sharing_is_least();

@@ -36,7 +36,11 @@ pub(crate) fn bound_for(
     answer: &Answer,
 ) -> Result<Option<Bound>, Refusal>
     requires { All (λ k. k < length links.now) answer.now.links }
-    ensures { Answers result (Ok (bound_for answer.now.busiest (record { links = paths_at links.now answer.now.links; interrupts = answer.now.interrupts }))) }
+    ensures { Answers result (Ok
+        (bound_for answer.now.busiest (record {
+          links = paths_at links.now answer.now.links;
+          interrupts = answer.now.interrupts;
+        }))) }
 {
     if answer.busiest == 0 {
         Ok(None)
@@ -52,7 +56,8 @@ fn some_bound(
     interrupts: &[u32],
 ) -> Result<Option<Bound>, Refusal>
     requires { All (λ k. k < length links.now) places.now }
-    ensures { Answers result (Ok (Some (record { links = paths_at links.now places.now; interrupts = interrupts.now }))) }
+    ensures { Answers result (Ok
+        (Some (record { links = paths_at links.now places.now; interrupts = interrupts.now }))) }
 {
     let links = paths_at(alloc, links, places)?;
     let interrupts = Vec::from_slice(alloc, interrupts)?;

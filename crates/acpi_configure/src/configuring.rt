@@ -33,20 +33,22 @@ use route_report::{OptionLines, Report};
 use route_solve::Answer;
 use std::alloc::Global;
 
-/// Chooses an interrupt for each link device of a machine, none of those to `avoid`, sets the links unless `dry`, and reports what was
-/// found, chosen and set.
+/// Chooses an interrupt for each link device of a machine, none of those to `avoid`, sets the links unless `dry`, and
+/// reports what was found, chosen and set.
 ///
-/// What is found is what `gather` gives, and its refusals are handed on. Sources are the present links, the pins that are wired to an
-/// interrupt, and the System Control Interrupt: `Machine::sci`. The choice is the first of the assignments whose
-/// busiest interrupt serves the fewest sources: compared link by link in path order, the smaller interrupt first. The bound
-/// is the set of links and interrupts that shows why none is less busy; there is none where no interrupt serves a source.
+/// What is found is what `gather` gives, and its refusals are handed on. Sources are the present links, the pins that
+/// are wired to an interrupt, and the System Control Interrupt: `Machine::sci`. The choice is the first of the
+/// assignments whose busiest interrupt serves the fewest sources: compared link by link in path order, the smaller
+/// interrupt first. The bound is the set of links and interrupts that shows why none is less busy; there is none
+/// where no interrupt serves a source.
 ///
-/// Then each present link is set in path order, as `set_current_resources` does it, and after that what each is set to is read, as
-/// `get_current_resources` does it. Each has a line of its own in the report, with the number of the refusal where it is refused: the
-/// next link follows. Only want of memory ends the run then. A dry report has none of these lines.
+/// Then each present link is set in path order, as `set_current_resources` does it, and after that what each is set
+/// to is read, as `get_current_resources` does it. Each has a line of its own in the report, with the number of the
+/// refusal where it is refused: the next link follows. Only want of memory ends the run then. A dry report has none
+/// of these lines.
 ///
-/// The text of the report can be read back; what it claims then is just this answer, and `route_check::check` says that the
-/// claim is valid.
+/// The text of the report can be read back; what it claims then is just this answer, and `route_check::check` says
+/// that the claim is valid.
 ///
 /// ```
 /// machine.initialize(alloc, Mode::Apic)?;
@@ -61,7 +63,8 @@ pub fn configure<S: Space>(
 ) -> Result<Report, Refusal>
     ensures report { IfOk result (λ report. IsReport S.accesses dry avoid.now machine.old machine.new report) }
     ensures evaluated { StopsInRun S.accesses dry avoid.now machine.old machine.new }
-    ensures refusal { IfErr result (λ refusal. refusal ≢ OutOfMemory → gathered S.accesses avoid.now machine.old ≡ (Err refusal, machine.new)) }
+    ensures refusal { IfErr result (λ refusal. refusal ≢ OutOfMemory →
+        gathered S.accesses avoid.now machine.old ≡ (Err refusal, machine.new)) }
 {
     let sci = machine.sci();
     let gathered = gather(alloc, machine, avoid)?;
@@ -78,20 +81,22 @@ pub fn configure<S: Space>(
     Ok(with_settings(report, settings))
 }
 
-/// Chooses an interrupt for each link device of a machine as `configure` does, with options: `spare`, that no link is given an interrupt of
-/// another device, and `spread`, that links share interrupts as little as they can. Without them the report is that of `configure`.
+/// Chooses an interrupt for each link device of a machine as `configure` does, with options: `spare`, that no link is
+/// given an interrupt of another device, and `spread`, that links share interrupts as little as they can. Without
+/// them the report is that of `configure`.
 ///
-/// With `spare`, once the links were asked, each other Device that has a `_CRS` is asked in path order: `_STA`, and where it is present
-/// `_CRS` (ACPI 6.5, 6.3.7 and 6.2.2). What a `_CRS` gives is avoided as the interrupts to `avoid` are: a link of whose offer nothing is
-/// left is refused as `Avoided`, with its path, the first such link in path order. A device has a line in the report where it has
-/// interrupts, or where its `_STA` or its `_CRS` is refused, with the number of the refusal: then nothing is known of its interrupts, and
-/// none are avoided for it.
+/// With `spare`, once the links were asked, each other Device that has a `_CRS` is asked in path order: `_STA`, and
+/// where it is present `_CRS` (ACPI 6.5, 6.3.7 and 6.2.2). What a `_CRS` gives is avoided as the interrupts to
+/// `avoid` are: a link of whose offer nothing is left is refused as `Avoided`, with its path, the first such link in
+/// path order. A device has a line in the report where it has interrupts, or where its `_STA` or its `_CRS` is
+/// refused, with the number of the refusal: then nothing is known of its interrupts, and none are avoided for it.
 ///
-/// With `spread` the assignment is one whose loads are least as a whole: first the busiest interrupt serves as few sources as possible,
-/// then as few interrupts as possible serve that many, and so on. It isn't said which of several such assignments it is.
+/// With `spread` the assignment is one whose loads are least as a whole: first the busiest interrupt serves as few
+/// sources as possible, then as few interrupts as possible serve that many, and so on. It isn't said which of several
+/// such assignments it is.
 ///
-/// The text of the report can be read back; `route_check::check_all` says that its claim holds, and with `spread` it claims that links
-/// share interrupts as little as they can.
+/// The text of the report can be read back; `route_check::check_all` says that its claim holds, and with `spread` it
+/// claims that links share interrupts as little as they can.
 ///
 /// ```
 /// let options = Options { dry: false, avoid: &[], spare: true, spread: true };
@@ -104,7 +109,8 @@ pub fn configure_with<S: Space>(
 ) -> Result<Report, Refusal>
     ensures report { IfOk result (λ report. IsReportWith S.accesses options.now machine.old machine.new report) }
     ensures evaluated { StopsInRunWith S.accesses options.now machine.old machine.new }
-    ensures refusal { IfErr result (λ refusal. refusal ≢ OutOfMemory → found_by S.accesses options.now (sci_of machine.old) machine.old ≡ (Err refusal, machine.new)) }
+    ensures refusal { IfErr result (λ refusal. refusal ≢ OutOfMemory →
+        found_by S.accesses options.now (sci_of machine.old) machine.old ≡ (Err refusal, machine.new)) }
 {
     let sci = machine.sci();
     let found = find(alloc, machine, sci, options)?;
@@ -160,7 +166,8 @@ fn with_settings(report: Report, settings: Settings) -> Report
     }
 }
 
-/// Sets each link that was gathered to its interrupt of an answer, and reads what each is set to, unless the run is dry.
+/// Sets each link that was gathered to its interrupt of an answer, and reads what each is set to, unless the run is
+/// dry.
 fn settle_answer<S: Space>(
     alloc: Global,
     machine: &mut Machine<S>,
@@ -170,7 +177,8 @@ fn settle_answer<S: Space>(
 ) -> Result<Settings, Refusal>
     requires each { length answer.now.choice ≡ length gathered.now.links }
     requires offered { AllZip Contains (map (λ link. link.1.numbers) gathered.now.links) answer.now.choice }
-    ensures value { Does (seen (λ x. (x.0.items, x.1.items)) result) machine.new (settled_unless S.accesses dry gathered.now.links answer.now.choice) machine.old }
+    ensures value { Does (seen (λ x. (x.0.items, x.1.items)) result) machine.new
+        (settled_unless S.accesses dry gathered.now.links answer.now.choice) machine.old }
     ensures evaluated { StopsInSettling S.accesses dry gathered.now.links answer.now.choice machine.old machine.new }
     ensures memory { IfErr result (λ refusal. refusal ≡ OutOfMemory) }
 {

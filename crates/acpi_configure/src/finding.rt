@@ -49,7 +49,8 @@ pub(crate) fn find<S: Space>(
     requires { sci ≡ sci_of machine.old }
     ensures value { Does result machine.new (found_by S.accesses options.now sci) machine.old }
     ensures evaluated { StopsInFinding S.accesses options.now machine.old machine.new }
-    ensures posed { IfOk result (λ f. f.gathering.problem ≡ problem_of (barred_if options.now.spare options.now.avoid f.asked) sci f.gathering.links f.gathering.pins) }
+    ensures posed { IfOk result (λ f. f.gathering.problem ≡ problem_of
+        (barred_if options.now.spare options.now.avoid f.asked) sci f.gathering.links f.gathering.pins) }
     ensures fits { IfOk result (λ f. Fits f.gathering.problem) }
     ensures few_pins { IfOk result (λ f. length f.gathering.pins ≤ 4096) }
     ensures unasked { IfOk result (λ f. options.now.spare ≡ false → f.asked ≡ []) }
@@ -73,8 +74,10 @@ fn narrow(
     requires in_order { IsStrictlySortedBy path_cmp (map (λ link. link.0) first.links) }
     requires posed { first.problem ≡ problem_of options.now.avoid sci first.links first.pins }
     requires fits { Fits first.problem }
-    ensures value { Answers result (narrowed options.now.spare (barred_if options.now.spare options.now.avoid asked.now) sci first) }
-    ensures posed { IfOk result (λ g. g.problem ≡ problem_of (barred_if options.now.spare options.now.avoid asked.now) sci g.links g.pins) }
+    ensures value { Answers result
+        (narrowed options.now.spare (barred_if options.now.spare options.now.avoid asked.now) sci first) }
+    ensures posed { IfOk result (λ g. g.problem ≡ problem_of (barred_if options.now.spare options.now.avoid asked.now)
+        sci g.links g.pins) }
     ensures fits { IfOk result (λ g. Fits g.problem) }
     ensures few_pins { IfOk result (λ g. length g.pins ≤ 4096) }
 {

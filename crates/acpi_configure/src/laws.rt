@@ -1,35 +1,44 @@
 //! What holds of all problems and of all machines: each law is the contract of a function that does nothing.
-ghost use Rattle.std.specs.Prelude.{◌≡◌, ℕ, Bool, true, false, List, Some, Contains};
+ghost use Rattle.std.specs.Prelude.{◌≡◌, ℕ, Bool, true, false, List, Ok, Some, Contains, map};
 ghost use Rattle.ar_space.specs.Accesses.{Accesses};
 ghost use Rattle.acpi_machine.specs.MachineStates.{MachineState};
+ghost use Rattle.acpi_links.specs.Gathering.{Gathering};
+ghost use Rattle.acpi_links.specs.Gatherings.{gathered};
 ghost use Rattle.route_solve.specs.Problems.{RoutingProblem, RoutingAnswer};
 ghost use Rattle.aml_path.specs.declared.segment.Seg.{Seg};
 ghost use Rattle.route_report.specs.Reports.{Now, ReportedAfter, RoutingReport};
 ghost use Rattle.acpi_configure.specs.Configured.{Solves, IsReport};
 ghost use Rattle.acpi_configure.specs.Options.{RunOptions, plain};
+ghost use Rattle.acpi_configure.specs.Others.{other_devices};
 ghost use Rattle.acpi_configure.specs.WithOptions.{IsReportWith};
 
 use route_solve::laws::{the_first_least_assignment_is_one, the_set_is_one};
 
 /// A problem has one answer: one first least assignment, and one set that shows why none is less busy.
 pub fn a_problem_has_one_answer()
-    ensures { (problem : RoutingProblem) (one other : RoutingAnswer) → Solves problem one → Solves problem other → one ≡ other }
+    ensures { (problem : RoutingProblem) (one other : RoutingAnswer) → Solves problem one →
+        Solves problem other → one ≡ other }
 {
     the_first_least_assignment_is_one();
     the_set_is_one();
 }
 
-/// A machine has one report, where these interrupts are avoided, and there is one machine that setting its links leaves.
+/// A machine has one report, where these interrupts are avoided, and there is one machine that setting its links
+/// leaves.
 pub fn a_machine_has_one_report<S>()
-    ensures { (accesses : Accesses S) (dry : Bool) (avoid : List ℕ) (before after left : MachineState S) (one other : RoutingReport) → IsReport accesses dry avoid before after one → IsReport accesses dry avoid before left other → (one ≡ other) × (after ≡ left) }
+    ensures { (accesses : Accesses S) (dry : Bool) (avoid : List ℕ) (before after left : MachineState S)
+        (one other : RoutingReport) → IsReport accesses dry avoid before after one →
+        IsReport accesses dry avoid before left other → (one ≡ other) × (after ≡ left) }
 {
     a_problem_has_one_answer();
 }
 
-/// The same of a run with options, where links aren't to share interrupts as little as they can: of several such assignments it isn't
-/// said which one is chosen.
+/// The same of a run with options, where links aren't to share interrupts as little as they can: of several such
+/// assignments it isn't said which one is chosen.
 pub fn a_machine_has_one_report_with_options<S>()
-    ensures { (accesses : Accesses S) (options : RunOptions) (before after left : MachineState S) (one other : RoutingReport) → options.spread ≡ false → IsReportWith accesses options before after one → IsReportWith accesses options before left other → (one ≡ other) × (after ≡ left) }
+    ensures { (accesses : Accesses S) (options : RunOptions) (before after left : MachineState S)
+        (one other : RoutingReport) → options.spread ≡ false → IsReportWith accesses options before after one →
+        IsReportWith accesses options before left other → (one ≡ other) × (after ≡ left) }
 {
     a_problem_has_one_answer();
 }
@@ -37,13 +46,31 @@ pub fn a_machine_has_one_report_with_options<S>()
 /// `configure` reports what `configure_with` does without options.
 #[tactic(auto, using(crate::proofs::Plain::as_configured, crate::proofs::Plain::as_without))]
 pub fn a_run_without_options_is_configure<S>()
-    ensures configured { (accesses : Accesses S) (dry : Bool) (avoid : List ℕ) (before after : MachineState S) (report : RoutingReport) → IsReportWith accesses (plain dry avoid) before after report → IsReport accesses dry avoid before after report }
-    ensures without { (accesses : Accesses S) (dry : Bool) (avoid : List ℕ) (before after : MachineState S) (report : RoutingReport) → IsReport accesses dry avoid before after report → IsReportWith accesses (plain dry avoid) before after report }
+    ensures configured { (accesses : Accesses S) (dry : Bool) (avoid : List ℕ) (before after : MachineState S)
+        (report : RoutingReport) → IsReportWith accesses (plain dry avoid) before after report →
+        IsReport accesses dry avoid before after report }
+    ensures without { (accesses : Accesses S) (dry : Bool) (avoid : List ℕ) (before after : MachineState S)
+        (report : RoutingReport) → IsReport accesses dry avoid before after report →
+        IsReportWith accesses (plain dry avoid) before after report }
 {}
 
-/// Where devices are spared, no link is given an interrupt of a device that was asked: of the `_CRS` of a present device that was read.
+/// Where devices are spared, no link is given an interrupt of a device that was asked: of the `_CRS` of a present
+/// device that was read.
 #[tactic(auto, using(crate::proofs::NotGiven::not_given))]
 pub fn an_interrupt_of_another_device_is_not_given<S>()
-    ensures { (accesses : Accesses S) (options : RunOptions) (before after : MachineState S) (report : RoutingReport) (is : IsReportWith accesses options before after report) (line : ReportedAfter) (interrupts : List ℕ) (give : List Seg × ℕ) →
-        options.spare ≡ true → Contains is.found.asked line → line.state ≡ Now (Some interrupts) → Contains report.gives give → Contains interrupts give.1 → ⊥ }
+    ensures { (accesses : Accesses S) (options : RunOptions) (before after : MachineState S) (report : RoutingReport)
+        (is : IsReportWith accesses options before after report) (line : ReportedAfter) (interrupts : List ℕ)
+        (give : List Seg × ℕ) →
+        options.spare ≡ true → Contains is.found.asked line → line.state ≡ Now (Some interrupts) →
+        Contains report.gives give → Contains interrupts give.1 → ⊥ }
+{}
+
+/// Where devices are spared, each device that is no link was asked, in path order: once the links were, and of the
+/// machine as that left it.
+#[tactic(auto, using(crate::proofs::AllAsked::each_asked))]
+pub fn each_other_device_is_asked<S>()
+    ensures { (accesses : Accesses S) (options : RunOptions) (before after : MachineState S) (report : RoutingReport)
+        (is : IsReportWith accesses options before after report) → options.spare ≡ true →
+        (first : Gathering) × (between : MachineState S) × (gathered accesses options.avoid before ≡
+        (Ok first, between)) × (map (λ line. line.path) is.found.asked ≡ other_devices first.links between) }
 {}

@@ -3,7 +3,8 @@ ghost use Rattle.std.specs.Prelude.{◌≡◌, ◌<◌, ◌++◌, IfOk, Ok, true
 ghost use Rattle.std.specs.List.{filter_map};
 ghost use Rattle.ar_space.specs.Outcome.{Answers, seen};
 ghost use Rattle.route_report.specs.Reports.{after_state};
-ghost use Rattle.acpi_configure.specs.Others.{numbers_at, numbers_in, barred_if, spared_device, spared_line, unread_line, rule_if, all_options, options_if};
+ghost use Rattle.acpi_configure.specs.Others.{numbers_at, numbers_in, barred_if, spared_device, spared_line};
+ghost use Rattle.acpi_configure.specs.Others.{unread_line, rule_if, all_options, options_if};
 
 use acpi_links::set_of;
 use aml_path::Path;
@@ -32,7 +33,8 @@ fn with_numbers(alloc: Global, avoid: &[u32], asked: &[AfterLine]) -> Result<Vec
     Ok(list)
 }
 
-/// The interrupts that no link is given, ascending and each once: those to avoid, and those of the devices that were asked.
+/// The interrupts that no link is given, ascending and each once: those to avoid, and those of the devices that were
+/// asked.
 pub(crate) fn barred(
     alloc: Global,
     avoid: &[u32],

@@ -4,9 +4,11 @@ ghost use Rattle.ar_space.specs.Outcome.{Answers, seen};
 ghost use Rattle.ar_space.specs.Change.{Does};
 ghost use Rattle.acpi_links.specs.Answered.{stands};
 ghost use Rattle.route_report.specs.Reports.{after_state};
-ghost use Rattle.acpi_configure.specs.Others.{is_link, other_devices, resources_if, present_resources, resources_at, device_resources, device_asked, devices_asked, others_asked};
+ghost use Rattle.acpi_configure.specs.Others.{is_link, other_devices, resources_if, present_resources, resources_at};
+ghost use Rattle.acpi_configure.specs.Others.{device_resources, device_asked, devices_asked, others_asked};
 ghost use Rattle.acpi_configure.specs.Settling.{attempted, state_told};
-ghost use Rattle.acpi_configure.specs.Stops.{StopsIfPresent, StopsInPresent, StopsIfStands, StopsInDevice, StopsInDevices, StopsInOthers};
+ghost use Rattle.acpi_configure.specs.Stops.{StopsIfPresent, StopsInPresent, StopsIfStands, StopsInDevice};
+ghost use Rattle.acpi_configure.specs.Stops.{StopsInDevices, StopsInOthers};
 
 use crate::settling::{after_line, state_of};
 use acpi_links::{PresentLink, get_current_resources, is_present, list_devices, stands};
@@ -18,8 +20,8 @@ use ar_space::{Refusal, Space};
 use route_report::{After, AfterLine};
 use std::alloc::Global;
 
-/// What the devices have that are none of some links, in path order: each that has a `_CRS` and is present is asked for it. None is asked
-/// where no device is spared.
+/// What the devices have that are none of some links, in path order: each that has a `_CRS` and is present is asked
+/// for it. None is asked where no device is spared.
 #[tactic(auto, unfolding(crate::specs::Others::others_asked))]
 pub(crate) fn ask_others<S: Space>(
     alloc: Global,
@@ -27,7 +29,8 @@ pub(crate) fn ask_others<S: Space>(
     spare: bool,
     links: &[PresentLink],
 ) -> Result<Vec<AfterLine>, Refusal>
-    ensures value { Does (seen (λ list. list.items) result) machine.new (others_asked S.accesses spare links.now) machine.old }
+    ensures value { Does (seen (λ list. list.items) result) machine.new
+        (others_asked S.accesses spare links.now) machine.old }
     ensures evaluated { StopsInOthers S.accesses spare links.now machine.old machine.new }
     ensures unasked { IfOk result (λ list. spare ≡ false → list.items ≡ []) }
 {
@@ -43,7 +46,8 @@ fn ask_devices_beside<S: Space>(
     machine: &mut Machine<S>,
     links: &[PresentLink],
 ) -> Result<Vec<AfterLine>, Refusal>
-    ensures value { Does (seen (λ list. list.items) result) machine.new (devices_asked S.accesses (other_devices links.now machine.old)) machine.old }
+    ensures value { Does (seen (λ list. list.items) result) machine.new
+        (devices_asked S.accesses (other_devices links.now machine.old)) machine.old }
     ensures evaluated { StopsInDevices S.accesses (other_devices links.now machine.old) machine.old machine.new }
 {
     let devices = other_devices(alloc, machine, links)?;
@@ -89,7 +93,8 @@ fn ask_devices<S: Space>(
     machine: &mut Machine<S>,
     devices: &[Path],
 ) -> Result<Vec<AfterLine>, Refusal>
-    ensures value { Does (seen (λ list. list.items) result) machine.new (devices_asked S.accesses devices.now) machine.old }
+    ensures value { Does (seen (λ list. list.items) result) machine.new
+        (devices_asked S.accesses devices.now) machine.old }
     ensures evaluated { StopsInDevices S.accesses devices.now machine.old machine.new }
 {
     let mut list = Vec::new(alloc);
@@ -120,7 +125,8 @@ fn try_to_ask<S: Space>(
     machine: &mut Machine<S>,
     device: &Path,
 ) -> Result<After, Refusal>
-    ensures value { Does (seen after_state result) machine.new (attempted state_told (device_resources S.accesses device.now)) machine.old }
+    ensures value { Does (seen after_state result) machine.new (attempted state_told
+        (device_resources S.accesses device.now)) machine.old }
     ensures evaluated { StopsInDevice S.accesses device.now machine.old machine.new }
 {
     let state = device_resources(alloc, machine, device);

@@ -9,7 +9,8 @@ ghost use Rattle.acpi_machine.specs.Stops.{AllOrNone};
 ghost use Rattle.route_report.specs.Reports.{after_state};
 ghost use Rattle.acpi_links.specs.Resources.{current_resources};
 ghost use Rattle.acpi_links.specs.Settings.{resources_set};
-ghost use Rattle.acpi_configure.specs.Settling.{attempted, set_told, state_told, link_set, links_set, link_read, links_read, settled, settled_unless};
+ghost use Rattle.acpi_configure.specs.Settling.{attempted, set_told, state_told, link_set, links_set, link_read};
+ghost use Rattle.acpi_configure.specs.Settling.{links_read, settled, settled_unless};
 ghost use Rattle.acpi_configure.specs.Stops.{StopsInSets, StopsInReads, StopsInSettling};
 
 use crate::link_lines::numbers_now;
@@ -24,8 +25,9 @@ use std::alloc::Global;
 /// What came of setting the links, and what they are set to then.
 pub(crate) type Settings = (Vec<SetLine>, Vec<AfterLine>);
 
-/// Sets each of some links to the interrupt that it is given, and then reads what each is set to; neither where no link is to be
-/// set. Only want of memory refuses it: any other refusal is told in the line of its link, and the next link follows.
+/// Sets each of some links to the interrupt that it is given, and then reads what each is set to; neither where no
+/// link is to be set. Only want of memory refuses it: any other refusal is told in the line of its link, and the next
+/// link follows.
 #[tactic(auto, using(ar_space::specs::Change::changing, acpi_machine::specs::Stops::making), unfolding(crate::specs::Settling::settled_unless))]
 pub(crate) fn settle_unless<S: Space>(
     alloc: Global,
@@ -36,7 +38,8 @@ pub(crate) fn settle_unless<S: Space>(
 ) -> Result<Settings, Refusal>
     requires each { length choice.now ≡ length links.now }
     requires offered { AllZip Contains (map (λ link. link.1.numbers) links.now) choice.now }
-    ensures value { Does (seen (λ x. (x.0.items, x.1.items)) result) machine.new (settled_unless S.accesses dry links.now choice.now) machine.old }
+    ensures value { Does (seen (λ x. (x.0.items, x.1.items)) result) machine.new
+        (settled_unless S.accesses dry links.now choice.now) machine.old }
     ensures evaluated { StopsInSettling S.accesses dry links.now choice.now machine.old machine.new }
     ensures memory { IfErr result (λ refusal. refusal ≡ OutOfMemory) }
 {
@@ -55,7 +58,8 @@ fn settle<S: Space>(
 ) -> Result<Settings, Refusal>
     requires each { length choice.now ≡ length links.now }
     requires offered { AllZip Contains (map (λ link. link.1.numbers) links.now) choice.now }
-    ensures value { Does (seen (λ x. (x.0.items, x.1.items)) result) machine.new (settled S.accesses links.now choice.now) machine.old }
+    ensures value { Does (seen (λ x. (x.0.items, x.1.items)) result) machine.new
+        (settled S.accesses links.now choice.now) machine.old }
     ensures evaluated { StopsInSettling S.accesses false links.now choice.now machine.old machine.new }
     ensures memory { IfErr result (λ refusal. refusal ≡ OutOfMemory) }
 {
@@ -73,7 +77,8 @@ fn set_links<S: Space>(
 ) -> Result<Vec<SetLine>, Refusal>
     requires each { length choice.now ≡ length links.now }
     requires offered { AllZip Contains (map (λ link. link.1.numbers) links.now) choice.now }
-    ensures value { Does (seen (λ list. list.items) result) machine.new (links_set S.accesses links.now choice.now []) machine.old }
+    ensures value { Does (seen (λ list. list.items) result) machine.new
+        (links_set S.accesses links.now choice.now []) machine.old }
     ensures evaluated { StopsInSets S.accesses links.now choice.now machine.old machine.new }
     ensures memory { IfErr result (λ refusal. refusal ≡ OutOfMemory) }
 {
@@ -110,8 +115,10 @@ fn try_to_set<S: Space>(
     number: u32,
 ) -> Result<SetOutcome, Refusal>
     requires { Contains link.now.1.numbers number }
-    ensures value { Does result machine.new (attempted set_told (resources_set S.accesses link.now.0 link.now.1 number)) machine.old }
-    ensures evaluated { AllOrNone (attempted set_told (resources_set S.accesses link.now.0 link.now.1 number)) machine.old machine.new }
+    ensures value { Does result machine.new
+        (attempted set_told (resources_set S.accesses link.now.0 link.now.1 number)) machine.old }
+    ensures evaluated { AllOrNone (attempted set_told (resources_set S.accesses link.now.0 link.now.1 number))
+        machine.old machine.new }
     ensures memory { IfErr result (λ refusal. refusal ≡ OutOfMemory) }
 {
     let outcome = set_current_resources(alloc, machine, &link.0, &link.1, number);
@@ -182,8 +189,10 @@ fn try_to_read<S: Space>(
     machine: &mut Machine<S>,
     link: &PresentLink,
 ) -> Result<After, Refusal>
-    ensures value { Does (seen after_state result) machine.new (attempted state_told (current_resources S.accesses link.now.0)) machine.old }
-    ensures evaluated { AllOrNone (attempted state_told (current_resources S.accesses link.now.0)) machine.old machine.new }
+    ensures value { Does (seen after_state result) machine.new (attempted state_told
+        (current_resources S.accesses link.now.0)) machine.old }
+    ensures evaluated { AllOrNone (attempted state_told (current_resources S.accesses link.now.0))
+        machine.old machine.new }
     ensures memory { IfErr result (λ refusal. refusal ≡ OutOfMemory) }
 {
     let state = get_current_resources(alloc, machine, &link.0);

@@ -7,18 +7,17 @@ use Rattle.ar_space.specs.Change.{Does, give, does_ok, does_made, does_settle}
 use Rattle.aml_path.specs.declared.segment.Seg.{Seg}
 use Rattle.aml_meaning.specs.Given.{Given, Bytes}
 use Rattle.acpi_resources.specs.Records.{InterruptOffer}
-use Rattle.acpi_resources.specs.Offers.{possible_of}
 use Rattle.acpi_resources.specs.Current.{current_of}
 use Rattle.acpi_resources.specs.Settings.{setting_of}
 use Rattle.acpi_machine.specs.MachineStates.{MachineState, sci_of}
 use Rattle.acpi_machine.specs.Calls.{evaluated_object}
-use Rattle.acpi_machine.specs.Stops.{Made, AllOrNone, all_made, made_as, made_asked, made_after, made_given, made_then_settled, made_then_tested, stops_first, stops_next, goes_start, stops_here}
+use Rattle.acpi_machine.specs.Stops.{Made, AllOrNone, all_made, made_as, made_asked, made_after, made_before, made_given, made_then_settled, made_then_tested, stops_first, stops_next, goes_start, stops_here}
 use Rattle.acpi_prt.specs.Children.{child_named}
 use Rattle.acpi_prt.specs.Stops.{StopsInTable}
 use Rattle.acpi_prt.specs.declared.pin.Pin.{Pin}
 use Rattle.acpi_links.specs.Answered.{stands, bytes_in, buffer_at}
 use Rattle.acpi_links.specs.Presence.{presence, status_at, presence_at}
-use Rattle.acpi_links.specs.Resources.{offer_at, possible_at, possible_resources, numbers_at, current_at, current_resources}
+use Rattle.acpi_links.specs.Resources.{offer_in, offer_at, possible_at, possible_resources, numbers_at, current_at, current_resources}
 use Rattle.acpi_links.specs.Settings.{setting_handed, set_at}
 use Rattle.acpi_links.specs.Devices.{devices, devices_listed, pins_of_device}
 use Rattle.acpi_links.specs.Gatherings.{pins_found}
@@ -37,8 +36,8 @@ module _ {S : Type 0} (accesses : Accesses S) {s t : MachineState S} where
   status_made p arguments h none = made_then_settled (evaluated_object accesses p []) presence (made_asked accesses p arguments h none)
 
   pub offer_made : (p : List Seg) → AllOrNone (buffer_at accesses p) s t → AllOrNone (offer_at accesses p) s t
-  unfolding offer_at
-  offer_made p h = made_then_settled (buffer_at accesses p) possible_of h
+  unfolding offer_at offer_in
+  offer_made p h = made_before (buffer_at accesses p) offer_in (λ bytes u. refl) h
 
   pub numbers_made : (p : List Seg) → AllOrNone (buffer_at accesses p) s t → AllOrNone (numbers_at accesses p) s t
   unfolding numbers_at

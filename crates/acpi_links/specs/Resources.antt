@@ -7,11 +7,24 @@ use Rattle.ar_space.specs.Change.{Change, give, settle, ◌>>=◌}
 use Rattle.aml_path.specs.declared.segment.Seg.{Seg}
 use Rattle.aml_path.specs.Text.{text_of}
 use Rattle.acpi_resources.specs.Records.{InterruptOffer}
-use Rattle.acpi_resources.specs.Offers.{possible_of}
+use Rattle.aml_meaning.specs.declared.profile.Profile.{Profile}
+use Rattle.aml_meaning.specs.declared.profile.Profile.TheVariants.{Core, Wide}
+use Rattle.acpi_resources.specs.declared.exclusives.Exclusives.{Exclusives}
+use Rattle.acpi_resources.specs.declared.exclusives.Exclusives.TheVariants.{Refused, Taken}
+use Rattle.acpi_resources.specs.Offers.{possible_as}
 use Rattle.acpi_resources.specs.Current.{current_of}
 use Rattle.acpi_machine.specs.MachineStates.{MachineState}
 use Rattle.acpi_prt.specs.Children.{child_named}
 use Rattle.acpi_links.specs.Answered.{stands, buffer_at}
+
+-- exclusive offers are taken in the wide profile alone
+abbrev pub exclusives_in : Profile → Exclusives
+exclusives_in Core = Refused
+exclusives_in Wide = Taken
+
+-- the offer that bytes are, in the machine's profile
+unfoldable pub offer_in : {S : Type 0} → List ℕ → Change (MachineState S) InterruptOffer
+offer_in bytes s = (possible_as (exclusives_in s.world.profile) bytes, s)
 
 -- accesses: what the register space makes of them
 module _ {S : Type 0} (accesses : Accesses S) where
@@ -19,7 +32,7 @@ module _ {S : Type 0} (accesses : Accesses S) where
   unfoldable pub offer_at : List Seg → Change (MachineState S) InterruptOffer
   offer_at p = do
     bytes ← buffer_at accesses p
-    settle (possible_of bytes)
+    offer_in bytes
 
   -- of a link whose _PRS stands at a path, if it does
   unfoldable pub possible_at : List Seg → List Seg → Change (MachineState S) InterruptOffer

@@ -6,7 +6,8 @@ ghost use Rattle.ar_space.specs.Change.{Does};
 ghost use Rattle.acpi_links.specs.Answered.{stands};
 ghost use Rattle.acpi_links.specs.Stops.{StopsIfStands, StopsInDevice, StopsInTables};
 ghost use Rattle.acpi_machine.specs.Kinds.{kind_seen};
-ghost use Rattle.acpi_links.specs.Devices.{is_device, device_path, devices, pins_at, with_device, pins_of_device, pins_of_each};
+ghost use Rattle.acpi_links.specs.Devices.{is_device, device_path, devices, pins_at, with_device, pins_of_device};
+ghost use Rattle.acpi_links.specs.Devices.{pins_of_each};
 
 use crate::child_objects::stands;
 use acpi_machine::{Kind, Machine};
@@ -25,7 +26,8 @@ pub fn list_devices<S: Space>(alloc: Global, machine: &Machine<S>) -> Result<Vec
 
 /// The paths of the devices among some names.
 fn only_devices(alloc: Global, nodes: Vec<(Path, Kind<'_>)>) -> Result<Vec<Path>, Refusal>
-    ensures { Answers (seen (λ list. list.items) result) (Ok (filter_map device_path (map (λ node. (node.0, kind_seen node.1)) nodes.entry.items))) }
+    ensures { Answers (seen (λ list. list.items) result)
+        (Ok (filter_map device_path (map (λ node. (node.0, kind_seen node.1)) nodes.entry.items))) }
 {
     let mut list = Vec::new(alloc);
     for (path, kind) in nodes {
@@ -48,7 +50,8 @@ pub(crate) fn pins_of_each<S: Space>(
     machine: &mut Machine<S>,
     devices: &[Path],
 ) -> Result<Vec<(Path, Pin)>, Refusal>
-    ensures value { Does (seen (λ list. list.items) result) machine.new (pins_of_each S.accesses devices.now) machine.old }
+    ensures value { Does (seen (λ list. list.items) result) machine.new
+        (pins_of_each S.accesses devices.now) machine.old }
     ensures evaluated { StopsInTables S.accesses devices.now machine.old machine.new }
 {
     let mut list = Vec::new(alloc);
@@ -66,7 +69,8 @@ fn pins_of_device<S: Space>(
     machine: &mut Machine<S>,
     device: &Path,
 ) -> Result<Vec<(Path, Pin)>, Refusal>
-    ensures value { Does (seen (λ list. list.items) result) machine.new (pins_of_device S.accesses device.now) machine.old }
+    ensures value { Does (seen (λ list. list.items) result) machine.new
+        (pins_of_device S.accesses device.now) machine.old }
     ensures evaluated { StopsInDevice S.accesses device.now machine.old machine.new }
 {
     let path = child_named(alloc, device, *b"_PRT")?;
@@ -82,7 +86,8 @@ fn pins_at<S: Space>(
     device: &Path,
     path: &Path,
 ) -> Result<Vec<Pin>, Refusal>
-    ensures value { Does (seen (λ list. list.items) result) machine.new (pins_at S.accesses device.now path.now) machine.old }
+    ensures value { Does (seen (λ list. list.items) result) machine.new
+        (pins_at S.accesses device.now path.now) machine.old }
     ensures evaluated { StopsIfStands S.accesses (stands path.now machine.old) device.now machine.old machine.new }
 {
     if stands(machine, path) {

@@ -8,13 +8,14 @@ use std::marker::Model;
 /// The pins of a machine, the link devices that they lead to, and the routing problem that they pose.
 #[derive(Debug, Drop)]
 pub struct Gathered {
-    /// Each pin that counts, with the device that has the routing table: devices in path order, pins in the order of theirs.
+    /// Each pin that counts, with the device that has the routing table: devices in path order, pins in the order of
+    /// theirs.
     pub pins: Vec<(Path, Pin)>,
-    /// The present links that some pin leads to, in path order: the path, what the link may be set to, and what it is set
-    /// to, where it has a `_CRS`.
+    /// The present links that some pin leads to, in path order: the path, what the link may be set to, and what it is
+    /// set to, where it has a `_CRS`.
     pub links: Vec<PresentLink>,
-    /// The present links with what they offer of the interrupts that aren't avoided, and the interrupts that pins or the System
-    /// Control Interrupt are wired to.
+    /// The present links with what they offer of the interrupts that aren't avoided, and the interrupts that pins or
+    /// the System Control Interrupt are wired to.
     pub problem: Problem,
 }
 

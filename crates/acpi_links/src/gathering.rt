@@ -24,15 +24,16 @@ use std::alloc::Global;
 
 /// The pins of all routing tables, the present link devices that they lead to, and the routing problem that these pose.
 ///
-/// First the routing table of each Device that has a `_PRT` is read, Devices in path order; more than 4,096 pins that count, the
-/// source of the System Control Interrupt, `Machine::sci`, counted as one, or more than 256 links that they lead to, are refused as
-/// `TooMany`. Then each such link is asked in path order: `_STA`, and where it is present `_PRS` and `_CRS`; where all that its
-/// `_PRS` offers is among the interrupts to avoid, it is refused as `Avoided`, with its path, before its `_CRS` is asked. Links of
-/// both polarities are refused as `MixedPolarity`. Refusals of `get_irq_routing_table`, `get_possible_resources`,
-/// `get_current_resources` and of evaluations are handed on, and so is `WrongType` where `_STA` answers no integer. No link is set.
+/// First the routing table of each Device that has a `_PRT` is read, Devices in path order; more than 4,096 pins that
+/// count, the source of the System Control Interrupt, `Machine::sci`, counted as one, or more than 256 links that
+/// they lead to, are refused as `TooMany`. Then each such link is asked in path order: `_STA`, and where it is
+/// present `_PRS` and `_CRS`; where all that its `_PRS` offers is among the interrupts to avoid, it is refused as
+/// `Avoided`, with its path, before its `_CRS` is asked. Links of both polarities are refused as `MixedPolarity`.
+/// Refusals of `get_irq_routing_table`, `get_possible_resources`, `get_current_resources` and of evaluations are
+/// handed on, and so is `WrongType` where `_STA` answers no integer. No link is set.
 ///
-/// In the problem no link offers an interrupt that is avoided, and the System Control Interrupt is one more wired source. Sources
-/// that are wired to an avoided interrupt count as others do.
+/// In the problem no link offers an interrupt that is avoided, and the System Control Interrupt is one more wired
+/// source. Sources that are wired to an avoided interrupt count as others do.
 #[tactic(auto, using(ar_space::specs::Change::changing, acpi_machine::specs::Stops::making), unfolding(crate::specs::Gatherings::gathered))]
 pub fn gather<S: Space>(
     alloc: Global,
@@ -96,7 +97,8 @@ fn links_found<S: Space>(
     avoid: &[u32],
     pins: &[(Path, Pin)],
 ) -> Result<Vec<PresentLink>, Refusal>
-    ensures value { Does (seen (λ list. list.items) result) machine.new (links_found S.accesses avoid.now pins.now) machine.old }
+    ensures value { Does (seen (λ list. list.items) result) machine.new
+        (links_found S.accesses avoid.now pins.now) machine.old }
     ensures evaluated { StopsInFew S.accesses avoid.now (links_named pins.now) machine.old machine.new }
     ensures few { IfOk result (λ list. length list.items ≤ 256) }
     ensures in_order { IfOk result (λ list. IsStrictlySortedBy path_cmp (map (λ link. link.0) list.items)) }

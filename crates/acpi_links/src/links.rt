@@ -1,5 +1,6 @@
 //! The link devices that pins lead to, and those of them that are present.
-ghost use Rattle.std.specs.Prelude.{◌≡◌, ◌≤◌, ◌+◌, [], Some, Ok, Err, OnOk, IfOk, IsErr, IsOkUnless, All, length, map, option_to_list, false};
+ghost use Rattle.std.specs.Prelude.{◌≡◌, ◌≤◌, ◌+◌, [], Some, Ok, Err, OnOk, IfOk, IsErr, IsOkUnless, All, length, map};
+ghost use Rattle.std.specs.Prelude.{option_to_list, false};
 ghost use Rattle.std.specs.List.{list_any};
 ghost use Rattle.std.specs.List.Sorted.{IsStrictlySortedBy};
 ghost use Rattle.aml_path.specs.Paths.{path_cmp};
@@ -11,7 +12,9 @@ ghost use Rattle.ar_space.specs.Outcome.{Answers, NotMemory, seen};
 ghost use Rattle.ar_space.specs.Change.{Does};
 ghost use Rattle.acpi_links.specs.Stops.{StopsInOffer, StopsIfPresent, StopsInLink, StopsInLinks};
 ghost use Rattle.route_model.specs.Avoided.{are_all_avoided};
-ghost use Rattle.acpi_links.specs.Links.{few_pins, with_route, links_named, few_links, some_left, link_found, link_if, link_asked, with_link, IsAt, HasLeft, IsLeft, links_of_each, is_low, is_high, mixed, one_polarity};
+ghost use Rattle.acpi_links.specs.Links.{few_pins, with_route, links_named, few_links, some_left, link_found, link_if};
+ghost use Rattle.acpi_links.specs.Links.{link_asked, with_link, IsAt, HasLeft, IsLeft, links_of_each, is_low, is_high};
+ghost use Rattle.acpi_links.specs.Links.{mixed, one_polarity};
 
 use crate::presence::is_present;
 use crate::resources::{get_current_resources, get_possible_resources};
@@ -111,11 +114,13 @@ pub(crate) fn links_of_each<S: Space>(
     avoid: &[u32],
     links: &[Path],
 ) -> Result<Vec<PresentLink>, Refusal>
-    ensures value { Does (seen (λ list. list.items) result) machine.new (links_of_each S.accesses avoid.now links.now) machine.old }
+    ensures value { Does (seen (λ list. list.items) result) machine.new
+        (links_of_each S.accesses avoid.now links.now) machine.old }
     ensures evaluated { StopsInLinks S.accesses avoid.now links.now machine.old machine.new }
     ensures left { IfOk result (λ list. All (HasLeft avoid.now) list.items) }
     ensures few { IfOk result (λ list. length list.items ≤ length links.now) }
-    ensures in_order { IfOk result (λ list. IsStrictlySortedBy path_cmp links.now → IsStrictlySortedBy path_cmp (map (λ link. link.0) list.items)) }
+    ensures in_order { IfOk result (λ list. IsStrictlySortedBy path_cmp links.now →
+        IsStrictlySortedBy path_cmp (map (λ link. link.0) list.items)) }
 {
     let mut list = Vec::new(alloc);
     for link in links {

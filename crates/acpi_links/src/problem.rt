@@ -1,5 +1,6 @@
 //! The routing problem of present links, of wired pins and of the System Control Interrupt.
-ghost use Rattle.std.specs.Prelude.{◌≡◌, ◌≤◌, ◌<◌, ◌+◌, ◌++◌, false, Some, Ok, OnOk, IfOk, All, length, map, sum_by, option_to_list, unwrap_or};
+ghost use Rattle.std.specs.Prelude.{◌≡◌, ◌≤◌, ◌<◌, ◌+◌, ◌++◌, false, Some, Ok, OnOk, IfOk, All, length, map, sum_by};
+ghost use Rattle.std.specs.Prelude.{option_to_list, unwrap_or};
 ghost use Rattle.std.specs.BTreeMap.{get, insert_entry, Updates};
 ghost use Rattle.std.specs.Map.{keys_of};
 ghost use Rattle.std.specs.List.Sorted.{IsStrictlyIncreasing, IsStrictlySortedBy};
@@ -8,7 +9,8 @@ ghost use Rattle.ar_space.specs.Outcome.{Answers, seen};
 ghost use Rattle.aml_path.specs.Paths.{path_cmp};
 ghost use Rattle.acpi_resources.specs.Numbers.{set_of};
 ghost use Rattle.route_solve.specs.Fits.{Fits, IsOffer};
-ghost use Rattle.acpi_links.specs.Problems.{wired_number, with_number, wired_numbers, wired_counts, pin_counts, source_numbers, offering, problem_of};
+ghost use Rattle.acpi_links.specs.Problems.{wired_number, with_number, wired_numbers, wired_counts, pin_counts};
+ghost use Rattle.acpi_links.specs.Problems.{source_numbers, offering, problem_of};
 ghost use Rattle.acpi_links.specs.Links.{HasLeft};
 ghost use Rattle.route_model.specs.Avoided.{are_all_avoided, without};
 
@@ -22,8 +24,8 @@ use route_solve::Problem;
 use std::alloc::{AllocError, Global};
 use std::collections::{BTreeMap, BTreeSet};
 
-/// The problem of some present links, in path order, of the pins that are wired to an interrupt, and of the System Control
-/// Interrupt, if it has a source. No link offers an interrupt that is avoided.
+/// The problem of some present links, in path order, of the pins that are wired to an interrupt, and of the System
+/// Control Interrupt, if it has a source. No link offers an interrupt that is avoided.
 pub(crate) fn problem_of(
     alloc: Global,
     avoid: &[u32],
@@ -159,8 +161,10 @@ fn counts_of(alloc: Global, numbers: &[u32]) -> Result<Vec<(u32, u32)>, AllocErr
 /// Counts a number once more.
 fn count_one(counts: &mut BTreeMap<u32, u32>, n: u32) -> Result<(), AllocError>
     requires { unwrap_or (get nat_cmp counts.old n) 0 < 4096 }
-    ensures count { OnOk result (Updates nat_cmp counts.old counts.new n (Some (unwrap_or (get nat_cmp counts.old n) 0 + 1))) }
-    ensures entries { OnOk result (counts.new.entries ≡ insert_entry nat_cmp counts.old.entries n (unwrap_or (get nat_cmp counts.old n) 0 + 1)) }
+    ensures count { OnOk result (Updates nat_cmp counts.old counts.new n
+        (Some (unwrap_or (get nat_cmp counts.old n) 0 + 1))) }
+    ensures entries { OnOk result (counts.new.entries ≡ insert_entry nat_cmp counts.old.entries n
+        (unwrap_or (get nat_cmp counts.old n) 0 + 1)) }
 {
     let before = counts.get(&n).copied().unwrap_or(0);
     counts.insert(n, before + 1)?;

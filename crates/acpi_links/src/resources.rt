@@ -1,5 +1,5 @@
 //! The resources of a link device: what it may be set to, what it is set to, and setting it.
-ghost use Rattle.std.specs.Prelude.{Ok, Err, ◌∷◌, [], map, Contains};
+ghost use Rattle.std.specs.Prelude.{◌≡◌, Ok, Err, ◌∷◌, [], map, Contains};
 ghost use Rattle.ar_space.specs.Outcome.{Answers, seen};
 ghost use Rattle.ar_space.specs.Change.{Does};
 ghost use Rattle.acpi_machine.specs.Stops.{AllOrNone};
@@ -9,12 +9,13 @@ ghost use Rattle.aml_path.specs.Text.{text_of};
 ghost use Rattle.aml_meaning.specs.Given.{given_of, Bytes};
 ghost use Rattle.acpi_resources.specs.Settings.{setting_of};
 ghost use Rattle.acpi_links.specs.Settings.{setting_handed, set_at, resources_set};
-ghost use Rattle.acpi_links.specs.Resources.{possible_resources, possible_at, offer_at, current_resources, current_at, numbers_at};
+ghost use Rattle.acpi_links.specs.Resources.{possible_resources, possible_at, exclusives_in, offer_in, offer_at};
+ghost use Rattle.acpi_links.specs.Resources.{current_resources, current_at, numbers_at};
 
 use crate::child_objects::{buffer_at, stands};
-use acpi_machine::Machine;
+use acpi_machine::{Machine, Profile};
 use acpi_prt::child_named;
-use acpi_resources::{InterruptNumbers, Offer, current, possible, setting};
+use acpi_resources::{Exclusives, InterruptNumbers, Offer, current, possible_as, setting};
 use aml_meaning::Datum;
 use aml_objects::Octets;
 use aml_path::Path;
@@ -23,8 +24,9 @@ use std::alloc::Global;
 
 /// What a link device may be set to, by the buffer that its `_PRS` answers (ACPI 6.5, 6.2.12).
 ///
-/// Without `_PRS` it is refused as `NoOffer`, with the link's path. An answer that is no buffer is refused as `WrongType`, and
-/// bytes that are no offer of interrupts as `possible` says; a refusal of the evaluation is handed on.
+/// Without `_PRS` it is refused as `NoOffer`, with the link's path. An answer that is no buffer is refused as
+/// `WrongType`, and bytes that are no offer of interrupts as `possible` says, but that the wide profile takes
+/// exclusive offers; a refusal of the evaluation is handed on.
 #[tactic(auto, using(ar_space::specs::Change::changing, acpi_machine::specs::Stops::making), unfolding(crate::specs::Resources::possible_resources))]
 pub fn get_possible_resources<S: Space>(
     alloc: Global,
@@ -64,6 +66,24 @@ fn no_offer(alloc: Global, link: &Path) -> Result<Offer, Refusal>
     Err(Refusal::Routing(RoutingFault::NoOffer(PathText::new(alloc, text)?)))
 }
 
+/// What becomes of exclusive offers in a profile.
+fn exclusives_in(profile: Profile) -> Exclusives
+    ensures { result ≡ exclusives_in profile }
+{
+    match profile {
+        Profile::Core => Exclusives::Refused,
+        Profile::Wide => Exclusives::Taken,
+    }
+}
+
+/// The offer that bytes are, in the machine's profile.
+#[tactic(auto, unfolding(crate::specs::Resources::offer_in))]
+fn offer_in<S: Space>(alloc: Global, machine: &Machine<S>, bytes: &[u8]) -> Result<Offer, Refusal>
+    ensures { Does result machine.now (offer_in bytes.now) machine.now }
+{
+    possible_as(alloc, exclusives_in(machine.profile()), bytes)
+}
+
 /// The offer in the buffer that an object answers.
 #[tactic(auto, using(ar_space::specs::Change::changing), unfolding(crate::specs::Resources::offer_at))]
 fn offer_at<S: Space>(
@@ -75,13 +95,13 @@ fn offer_at<S: Space>(
     ensures evaluated { AllOrNone (offer_at S.accesses path.now) machine.old machine.new }
 {
     let bytes = buffer_at(alloc, machine, path)?;
-    possible(alloc, bytes.as_slice())
+    offer_in(alloc, machine, bytes.as_slice())
 }
 
 /// What a link device is set to, by the buffer that its `_CRS` answers (ACPI 6.5, 6.2.2): none where it has no `_CRS`.
 ///
-/// An answer that is no buffer is refused as `WrongType`, and bytes that are no resource descriptors as `current` says; a
-/// refusal of the evaluation is handed on.
+/// An answer that is no buffer is refused as `WrongType`, and bytes that are no resource descriptors as `current`
+/// says; a refusal of the evaluation is handed on.
 #[tactic(auto, using(ar_space::specs::Change::changing, acpi_machine::specs::Stops::making), unfolding(crate::specs::Resources::current_resources))]
 pub fn get_current_resources<S: Space>(
     alloc: Global,
@@ -127,10 +147,11 @@ fn numbers_at<S: Space>(
     Ok(Some(numbers))
 }
 
-/// Sets a link device to one of the interrupts that it offers, by its `_SRS` (ACPI 6.5, 6.2.16), and tells whether it has one.
+/// Sets a link device to one of the interrupts that it offers, by its `_SRS` (ACPI 6.5, 6.2.16), and tells whether it
+/// has one.
 ///
-/// The argument of `_SRS` is `acpi_resources::setting` of the interrupt. What it answers is dropped; a refusal of its evaluation
-/// is handed on.
+/// The argument of `_SRS` is `acpi_resources::setting` of the interrupt. What it answers is dropped; a refusal of its
+/// evaluation is handed on.
 #[tactic(auto, using(ar_space::specs::Change::changing, acpi_machine::specs::Stops::making), unfolding(crate::specs::Settings::resources_set))]
 pub fn set_current_resources<S: Space>(
     alloc: Global,

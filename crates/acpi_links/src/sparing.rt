@@ -28,10 +28,11 @@ fn all_left(alloc: Global, avoid: &[u32], links: &[PresentLink]) -> Result<(), R
     Ok(())
 }
 
-/// What was gathered, where these interrupts are avoided: the same pins and links, and the problem over what is left of the offers.
+/// What was gathered, where these interrupts are avoided: the same pins and links, and the problem over what is left
+/// of the offers.
 ///
-/// Where nothing of a link's offer is left, it is refused as `Avoided`, with the path of the first such link. `sci` is the source of the
-/// System Control Interrupt, as it was when the links were asked.
+/// Where nothing of a link's offer is left, it is refused as `Avoided`, with the path of the first such link. `sci`
+/// is the source of the System Control Interrupt, as it was when the links were asked.
 #[tactic(auto, using(ar_space::specs::Outcome::answering), unfolding(crate::specs::Sparing::avoiding))]
 pub fn avoid_more(
     alloc: Global,

@@ -12,7 +12,8 @@ ghost use Rattle.aml_path.specs.Segments.{seg_of};
 ghost use Rattle.acpi_machine.specs.FixedPaths.{at_root, below_root};
 ghost use Rattle.acpi_machine.specs.Noticing.{noticed, ran_out};
 ghost use Rattle.acpi_machine.specs.Stops.{Made};
-ghost use Rattle.acpi_machine.specs.Calls.{object_answered, evaluated_object, object_called, called_where_it_stands, initial_calls, started, initialized, texts_kept, few_texts_kept, osi_set};
+ghost use Rattle.acpi_machine.specs.Calls.{object_answered, evaluated_object, object_called, called_where_it_stands};
+ghost use Rattle.acpi_machine.specs.Calls.{initial_calls, started, initialized, texts_kept, few_texts_kept, osi_set};
 
 use crate::loading::few_texts;
 use crate::machine::Machine;
@@ -28,9 +29,10 @@ use std::alloc::Global;
 const SPENT: Refusal = Refusal::Machine(MachineFault::Spent);
 
 impl<S: Space> Machine<S> {
-    /// Tells the firmware the mode, and initializes it: calls `\_INI`, `\_SB_._INI` (ACPI 6.5, 6.5.1), and `\_PIC` (5.8.1)
-    /// with 0 for `Pic` or 1 for `Apic`, each where its name stands, each within the machine's steps. What they answer is
-    /// dropped; the first that is refused ends it. The mode is kept, however that ends, unless memory runs out.
+    /// Tells the firmware the mode, and initializes it: calls `\_INI`, `\_SB_._INI` (ACPI 6.5, 6.5.1), and `\_PIC`
+    /// (5.8.1) with 0 for `Pic` or 1 for `Apic`, each where its name stands, each within the machine's steps. What
+    /// they answer is dropped; the first that is refused ends it. The mode is kept, however that ends, unless memory
+    /// runs out.
     ///
     /// `Spent` where an earlier call ran out of memory; then nothing changes.
     ///
@@ -51,8 +53,9 @@ impl<S: Space> Machine<S> {
 
     /// What the object at a path answers within the machine's steps (ACPI 6.5, 5.5.2).
     ///
-    /// A path where nothing stands is refused as `NotFound`, another count of arguments as `ArityChanged`; an object that
-    /// isn't a method is read, and takes no arguments. `Spent` where an earlier call ran out of memory; then nothing changes.
+    /// A path where nothing stands is refused as `NotFound`, another count of arguments as `ArityChanged`; an object
+    /// that isn't a method is read, and takes no arguments. `Spent` where an earlier call ran out of memory; then
+    /// nothing changes.
     ///
     /// ```
     /// let path = Path::from_text(alloc, b"\\_SB_.LNKA._STA")?;
@@ -67,9 +70,11 @@ impl<S: Space> Machine<S> {
         path: &Path,
         arguments: Vec<Datum>,
     ) -> Result<Datum, Refusal>
-        ensures answer { Does (seen given_of result) self.new (evaluated_object S.accesses path.now (map given_of arguments.items)) self.old }
+        ensures answer { Does (seen given_of result) self.new (evaluated_object S.accesses path.now
+            (map given_of arguments.items)) self.old }
         ensures memory { IfErr result (λ refusal. refusal ≡ OutOfMemory → self.new.spent ≡ true) }
-        ensures evaluated { Made (evaluated_object S.accesses path.now (map given_of arguments.items)) self.old self.new }
+        ensures evaluated { Made (evaluated_object S.accesses path.now
+            (map given_of arguments.items)) self.old self.new }
         ensures spent { self.old.spent ≡ true → (result ≡ Err (refusals.Machine Spent)) × (self.new ≡ self.old) }
     {
         if self.spent {
@@ -78,8 +83,9 @@ impl<S: Space> Machine<S> {
         self.answer_noticed(alloc, path, arguments)
     }
 
-    /// Other texts that `_OSI` knows, in place of those before (ACPI 6.5, 5.7.2). More than 64 are refused as `ObjectLimit`.
-    /// `Spent` where an earlier call ran out of memory. Where it is refused nothing changes. It takes no memory.
+    /// Other texts that `_OSI` knows, in place of those before (ACPI 6.5, 5.7.2). More than 64 are refused as
+    /// `ObjectLimit`. `Spent` where an earlier call ran out of memory. Where it is refused nothing changes. It takes
+    /// no memory.
     #[tactic(auto, using(crate::specs::Noticing::spending), unfolding(crate::specs::Calls::osi_set))]
     pub fn set_osi(&mut self, texts: Vec<Octets>) -> Result<(), Refusal>
         ensures answer { Does result self.new (osi_set texts.items) self.old }
@@ -126,7 +132,8 @@ impl<S: Space> Machine<S> {
         path: &Path,
         arguments: Vec<Datum>,
     ) -> Result<Datum, Refusal>
-        ensures answer { Does (seen given_of result) self.new (object_answered S.accesses path.now (map given_of arguments.items)) self.old }
+        ensures answer { Does (seen given_of result) self.new (object_answered S.accesses path.now
+            (map given_of arguments.items)) self.old }
         ensures memory { IfErr result (λ refusal. refusal ≡ OutOfMemory → self.new.spent ≡ true) }
     {
         let outcome = self.answer(alloc, path, arguments);
@@ -171,7 +178,8 @@ impl<S: Space> Machine<S> {
         path: &Path,
         arguments: Vec<Datum>,
     ) -> Result<(), Refusal>
-        ensures { Does result self.new (called_where_it_stands S.accesses path.now (map given_of arguments.items)) self.old }
+        ensures { Does result self.new (called_where_it_stands S.accesses path.now
+            (map given_of arguments.items)) self.old }
     {
         if self.stands(path) {
             self.call(alloc, path, arguments)
@@ -202,7 +210,8 @@ impl<S: Space> Machine<S> {
         path: &Path,
         arguments: Vec<Datum>,
     ) -> Result<Datum, Refusal>
-        ensures { Does (seen given_of result) self.new (object_answered S.accesses path.now (map given_of arguments.items)) self.old }
+        ensures { Does (seen given_of result) self.new (object_answered S.accesses path.now
+            (map given_of arguments.items)) self.old }
     {
         answer(alloc, &mut self.world, path, arguments, self.steps)
     }

@@ -9,7 +9,8 @@ mod mode;
 mod named_tables;
 mod nodes;
 
+pub use aml_meaning::Profile;
 pub use ar_tables::Mode;
 pub use kind::Kind;
-pub use loading::load_tables;
+pub use loading::{load_tables, load_tables_as};
 pub use machine::Machine;

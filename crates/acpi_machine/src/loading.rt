@@ -3,14 +3,14 @@ ghost use Rattle.std.specs.Prelude.{◌≡◌, ◌≢◌, Ok, Err, IfOk, IfErr};
 ghost use Rattle.ar_space.specs.declared.refusal.Refusal.TheVariants.{OutOfMemory};
 ghost use Rattle.ar_space.specs.Change.{Does};
 ghost use Rattle.ar_space.specs.Outcome.{Answers, NotMemory};
-ghost use Rattle.aml_meaning.specs.Predefined.{fresh, predefined};
+ghost use Rattle.aml_meaning.specs.Predefined.{fresh, fresh_as, predefined};
 ghost use Rattle.aml_meaning.specs.Calling.{loaded};
 ghost use Rattle.acpi_machine.specs.MachineStates.{machine_of};
 ghost use Rattle.acpi_machine.specs.Loading.{few_texts, each_loaded, all_loaded, loaded_tables, table_loaded};
 
 use crate::machine::Machine;
 use aml_interp::load;
-use aml_meaning::World;
+use aml_meaning::{Profile, World};
 use aml_objects::Octets;
 use ar_space::{EvaluationFault, Refusal, Space};
 use ar_tables::{Mode, Table, Tables};
@@ -19,11 +19,11 @@ use std::alloc::Global;
 /// How many texts `_OSI` may know.
 const MAX_TEXTS: usize = 64;
 
-/// Loads the tables of a machine over a register space: the DSDT, and then each SSDT in the order of the list of tables,
-/// each within `steps` steps, 1 to 1,000,000,000. `osi` are the texts that `_OSI` knows (ACPI 6.5, 5.7.2).
+/// Loads the tables of a machine over a register space: the DSDT, and then each SSDT in the order of the list of
+/// tables, each within `steps` steps, 1 to 1,000,000,000. `osi` are the texts that `_OSI` knows (ACPI 6.5, 5.7.2).
 ///
-/// More than 64 texts are refused as `ObjectLimit`, before anything is loaded. The first table that is refused ends it, and
-/// the register space comes back as it is then, with the accesses that were made.
+/// More than 64 texts are refused as `ObjectLimit`, before anything is loaded. The first table that is refused ends
+/// it, and the register space comes back as it is then, with the accesses that were made.
 ///
 /// ```
 /// let memory = machine_text::read_machine(alloc, text)?;
@@ -37,16 +37,41 @@ pub fn load_tables<S: Space>(
     steps: u64,
     osi: Vec<Octets>,
 ) -> Result<Machine<S>, (Refusal, S)>
-    ensures world { IfOk result (λ machine. loaded_tables S.accesses tables steps osi.items (fresh tables.width osi.items space) ≡ (Ok tt, machine.world)) }
+    ensures world { IfOk result (λ machine. loaded_tables S.accesses tables steps osi.items
+        (fresh tables.width osi.items space) ≡ (Ok tt, machine.world)) }
     ensures machine { IfOk result (λ machine. machine ≡ machine_of tables steps machine.world) }
-    ensures refusal { IfErr result (λ refused. refused.0 ≢ OutOfMemory → (loaded_tables S.accesses tables steps osi.items (fresh tables.width osi.items space)).0 ≡ Err refused.0) }
-    ensures space { IfErr result (λ refused. refused.0 ≢ OutOfMemory → (loaded_tables S.accesses tables steps osi.items (fresh tables.width osi.items space)).1.space ≡ refused.1) }
+    ensures refusal { IfErr result (λ refused. refused.0 ≢ OutOfMemory →
+        (loaded_tables S.accesses tables steps osi.items (fresh tables.width osi.items space)).0 ≡ Err refused.0) }
+    ensures space { IfErr result (λ refused. refused.0 ≢ OutOfMemory →
+        (loaded_tables S.accesses tables steps osi.items (fresh tables.width osi.items space)).1.space ≡ refused.1) }
+{
+    load_tables_as(alloc, Profile::Core, tables, space, steps, osi)
+}
+
+/// The same in a profile, which the machine keeps.
+pub fn load_tables_as<S: Space>(
+    alloc: Global,
+    profile: Profile,
+    tables: Tables,
+    space: S,
+    steps: u64,
+    osi: Vec<Octets>,
+) -> Result<Machine<S>, (Refusal, S)>
+    ensures world { IfOk result (λ machine. loaded_tables S.accesses tables steps osi.items
+        (fresh_as profile tables.width osi.items space) ≡ (Ok tt, machine.world)) }
+    ensures machine { IfOk result (λ machine. machine ≡ machine_of tables steps machine.world) }
+    ensures refusal { IfErr result (λ refused. refused.0 ≢ OutOfMemory →
+        (loaded_tables S.accesses tables steps osi.items (fresh_as profile tables.width osi.items space)).0 ≡
+        Err refused.0) }
+    ensures space { IfErr result (λ refused. refused.0 ≢ OutOfMemory →
+        (loaded_tables S.accesses tables steps osi.items (fresh_as profile tables.width osi.items space)).1.space ≡
+        refused.1) }
 {
     match few_texts(&osi) {
         Ok(()) => {}
         Err(refusal) => return Err((refusal, space)),
     }
-    let mut world = match World::new(alloc, tables.width, osi, space) {
+    let mut world = match World::with_profile(alloc, profile, tables.width, osi, space) {
         Ok(world) => world,
         Err(refused) => return Err(refused),
     };

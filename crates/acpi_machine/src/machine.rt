@@ -3,7 +3,7 @@ ghost use Rattle.std.specs.Prelude.{◌≡◌, option_map};
 ghost use Rattle.acpi_machine.specs.MachineStates.{sci_of};
 
 use crate::mode::is_apic;
-use aml_meaning::World;
+use aml_meaning::{Profile, World};
 use ar_space::Space;
 use ar_tables::{Madt, Mode, Tables, sci_source};
 use std::marker::Model;
@@ -11,8 +11,8 @@ use std::marker::Model;
 /// A machine: the world that its tables were loaded into, the tables, how it delivers interrupts, how many steps an
 /// evaluation may take, and whether a call ran out of memory.
 ///
-/// After a call with `&mut self` that answered `OutOfMemory` each further one answers `Spent` and changes nothing; calls with
-/// `&self` still return, but nothing is promised of what they show.
+/// After a call with `&mut self` that answered `OutOfMemory` each further one answers `Spent` and changes nothing;
+/// calls with `&self` still return, but nothing is promised of what they show.
 #[derive(Drop)]
 pub struct Machine<S> {
     pub(crate) world: World<S>,
@@ -40,6 +40,13 @@ impl<S: Space> Machine<S> {
         self.mode
     }
 
+    /// The profile in which its AML is evaluated, which nothing changes.
+    pub fn profile(&self) -> Profile
+        ensures { result ≡ self.now.world.profile }
+    {
+        self.world.profile()
+    }
+
     /// The MADT, where there is one (ACPI 6.5, 5.2.12).
     pub fn madt(&self) -> Option<&Madt>
         ensures { option_map (λ madt. madt.now) result ≡ self.now.tables.madt }
@@ -50,8 +57,8 @@ impl<S: Space> Machine<S> {
         }
     }
 
-    /// The interrupt source of the System Control Interrupt in the machine's mode, as `ar_tables::sci_source` gives it: none where
-    /// the FADT names none.
+    /// The interrupt source of the System Control Interrupt in the machine's mode, as `ar_tables::sci_source` gives
+    /// it: none where the FADT names none.
     pub fn sci(&self) -> Option<u32>
         ensures { result ≡ sci_of self.now }
     {

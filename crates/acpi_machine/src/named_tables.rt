@@ -7,8 +7,9 @@ use ar_space::Space;
 use ar_tables::{Madt, Table, Tables};
 
 impl<S: Space> Machine<S> {
-    /// The bytes of the n-th table of a signature, counted from 1, with its header: of the one `DSDT`, `FACP` or `APIC`, or
-    /// of the `SSDT`s in the order of the list (ACPI 6.5, table 5.5). None of another signature. It takes no memory.
+    /// The bytes of the n-th table of a signature, counted from 1, with its header: of the one `DSDT`, `FACP` or
+    /// `APIC`, or of the `SSDT`s in the order of the list (ACPI 6.5, table 5.5). None of another signature. It takes
+    /// no memory.
     pub fn get_table(&self, signature: [u8; 4], n: usize) -> Option<&[u8]>
         ensures { option_map (λ bytes. bytes.now) result ≡ table_numbered self.now.tables signature n }
     {

@@ -22,7 +22,8 @@ impl<S: Space> Machine<S> {
     /// All names but the root, in path order, and what stands there. An alias is shown, and not followed.
     #[tactic(auto, unfolding(crate::specs::Kinds::kinds_walked))]
     pub fn walk_namespace(&self, alloc: Global) -> Result<Vec<(Path, Kind<'_>)>, Refusal>
-        ensures { Answers (seen (λ list. map (λ node. (node.0, kind_seen node.1)) list.items) result) (Ok (kinds_walked self.now.world.names.map)) }
+        ensures { Answers (seen (λ list. map (λ node. (node.0, kind_seen node.1)) list.items) result)
+            (Ok (kinds_walked self.now.world.names.map)) }
     {
         let names = self.world.names();
         with_kinds(alloc, names, names.walk(alloc)?)
@@ -45,7 +46,8 @@ fn with_kinds(
     names: &Names,
     paths: Vec<Path>,
 ) -> Result<Vec<(Path, Kind<'_>)>, Refusal>
-    ensures { Answers (seen (λ list. map (λ node. (node.0, kind_seen node.1)) list.items) result) (Ok (filter_map (with_kind names.now.map) paths.items)) }
+    ensures { Answers (seen (λ list. map (λ node. (node.0, kind_seen node.1)) list.items) result)
+        (Ok (filter_map (with_kind names.now.map) paths.items)) }
 {
     let mut list = Vec::new(alloc);
     for path in paths {

@@ -5,6 +5,8 @@ use Rattle.ar_space.specs.declared.refusal.RoutingTableFault.TheVariants.{NotALi
 use Rattle.ar_space.specs.Outcome.{Outcome, ◌>>=◌, ◌>>◌}
 use Rattle.aml_path.specs.declared.segment.Seg.{Seg}
 use Rattle.aml_namespace.specs.Namespace.{Map}
+use Rattle.aml_meaning.specs.declared.profile.Profile.{Profile}
+use Rattle.aml_meaning.specs.declared.profile.Profile.TheVariants.{Core, Wide}
 use Rattle.acpi_machine.specs.Kinds.{Kind, kind_at}
 use Rattle.acpi_machine.specs.Kinds as kind
 
@@ -27,14 +29,20 @@ device_in m p = do
   device_or_not (kind_at m q)
   Ok q
 
--- a name that holds an integer or a string
-abbrev pub id_or_not : Option Kind → Outcome (Unit {0})
-id_or_not (Some kind.Integer) = Ok tt
-id_or_not (Some kind.String) = Ok tt
-id_or_not _ = Err (RoutingTable NotALink)
+-- a control method, in the wide profile alone
+abbrev pub method_or_not : Profile → Outcome (Unit {0})
+method_or_not Core = Err (RoutingTable NotALink)
+method_or_not Wide = Ok tt
 
-unfoldable pub id_in : Map → List Seg → Outcome (List Seg)
-id_in m p = do
+-- a name that holds an integer or a string, or a control method
+abbrev pub id_or_not : Profile → Option Kind → Outcome (Unit {0})
+id_or_not profile (Some kind.Integer) = Ok tt
+id_or_not profile (Some kind.String) = Ok tt
+id_or_not profile (Some (kind.Method count)) = method_or_not profile
+id_or_not profile _ = Err (RoutingTable NotALink)
+
+unfoldable pub id_in : Profile → Map → List Seg → Outcome (List Seg)
+id_in profile m p = do
   q ← Ok (followed m p)
-  id_or_not (kind_at m q)
+  id_or_not profile (kind_at m q)
   Ok q

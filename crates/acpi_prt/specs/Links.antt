@@ -13,12 +13,12 @@ use Rattle.acpi_machine.specs.Calls.{evaluated_object}
 use Rattle.acpi_prt.specs.Children.{child_named}
 use Rattle.acpi_prt.specs.Finding.{device_in, id_in}
 
--- the device at a path, and the name there that holds an integer or a string
+-- the device at a path, and the name there that holds an integer or a string, or is a control method
 unfoldable pub device_at : {S : Type 0} → List Seg → Change (MachineState S) (List Seg)
 device_at p s = (device_in s.world.names.map p, s)
 
 unfoldable pub id_at : {S : Type 0} → List Seg → Change (MachineState S) (List Seg)
-id_at p s = (id_in s.world.names.map p, s)
+id_at p s = (id_in s.world.profile s.world.names.map p, s)
 
 -- the hardware id of link devices, as an integer or as a string
 abbrev pub has_link_id : given.Given → Bool

@@ -2,7 +2,8 @@
 ghost use Rattle.std.specs.Prelude.{◌≡◌, ◌<◌, ◌≤◌, ◌^◌, IfOk, Ok, map};
 ghost use Rattle.ar_space.specs.Outcome.{Answers, seen};
 ghost use Rattle.aml_meaning.specs.Given.{given_of};
-ghost use Rattle.acpi_prt.specs.Entries.{word_of, fits_word, letter_of, source_tested, no_index, device_number, entries_of};
+ghost use Rattle.acpi_prt.specs.Entries.{word_of, fits_word, letter_of, source_tested, no_index, device_number};
+ghost use Rattle.acpi_prt.specs.Entries.{entries_of};
 
 use aml_meaning::Datum;
 use ar_space::{Refusal, RoutingTableFault};

@@ -17,8 +17,8 @@ pub(crate) struct PinPlace {
     pin: u8,
 }
 
-/// The first pin of each device number and pin, in the order in which they came. A pin's place is found by halving, so that a long
-/// routing table takes no long time.
+/// The first pin of each device number and pin, in the order in which they came. A pin's place is found by halving,
+/// so that a long routing table takes no long time.
 #[derive(Drop)]
 pub(crate) struct FirstPins {
     pins: Vec<Pin>,

@@ -7,10 +7,10 @@ ghost use Rattle.aml_path.specs.Segments.{seg_of};
 ghost use Rattle.aml_meaning.specs.Given.{given_of};
 ghost use Rattle.acpi_machine.specs.Kinds.{kind_seen};
 ghost use Rattle.acpi_prt.specs.Children.{child_named};
-ghost use Rattle.acpi_prt.specs.Finding.{followed, device_or_not, device_in, id_or_not, id_in};
+ghost use Rattle.acpi_prt.specs.Finding.{followed, device_or_not, device_in, method_or_not, id_or_not, id_in};
 ghost use Rattle.acpi_prt.specs.Links.{device_at, id_at, is_link_id, link_at};
 
-use acpi_machine::{Kind, Machine};
+use acpi_machine::{Kind, Machine, Profile};
 use aml_meaning::Datum;
 use aml_path::{Path, Seg};
 use ar_space::{Refusal, RoutingTableFault, Space};
@@ -65,7 +65,8 @@ fn device_or_not(kind: Option<Kind<'_>>) -> Result<(), Refusal>
     }
 }
 
-/// The path of the name that holds an integer or a string and stands at a path, or that an alias there leads to.
+/// The path of the name that holds an integer or a string and stands at a path, or that an alias there leads to; in
+/// the wide profile also that of a control method.
 #[tactic(auto, unfolding(crate::specs::Links::id_at))]
 fn id_at<S: Space>(alloc: Global, machine: &Machine<S>, path: &Path) -> Result<Path, Refusal>
     ensures { Does result machine.now (id_at path.now) machine.now }
@@ -75,20 +76,30 @@ fn id_at<S: Space>(alloc: Global, machine: &Machine<S>, path: &Path) -> Result<P
 
 #[tactic(auto, using(ar_space::specs::Outcome::answering), unfolding(crate::specs::Finding::id_in))]
 fn id_in<S: Space>(alloc: Global, machine: &Machine<S>, path: &Path) -> Result<Path, Refusal>
-    ensures { Answers result (id_in machine.now.world.names.map path.now) }
+    ensures { Answers result (id_in machine.now.world.profile machine.now.world.names.map path.now) }
 {
     let found = followed(alloc, machine, path)?;
-    id_or_not(machine.find_node(&found))?;
+    id_or_not(machine.profile(), machine.find_node(&found))?;
     Ok(found)
 }
 
-fn id_or_not(kind: Option<Kind<'_>>) -> Result<(), Refusal>
-    ensures { Answers result (id_or_not (option_map kind_seen kind.entry)) }
+fn id_or_not(profile: Profile, kind: Option<Kind<'_>>) -> Result<(), Refusal>
+    ensures { Answers result (id_or_not profile (option_map kind_seen kind.entry)) }
 {
     match kind {
         Some(Kind::Integer) => Ok(()),
         Some(Kind::String) => Ok(()),
+        Some(Kind::Method(_)) => method_or_not(profile),
         _ => Err(NOT_A_LINK),
+    }
+}
+
+fn method_or_not(profile: Profile) -> Result<(), Refusal>
+    ensures { Answers result (method_or_not profile) }
+{
+    match profile {
+        Profile::Core => Err(NOT_A_LINK),
+        Profile::Wide => Ok(()),
     }
 }
 
@@ -114,7 +125,8 @@ fn is_link_id(id: &Datum) -> Result<(), Refusal>
     if is { Ok(()) } else { Err(NOT_A_LINK) }
 }
 
-/// The path of a name of four characters one level below another, or `BadName` where the characters are no name segment.
+/// The path of a name of four characters one level below another, or `BadName` where the characters are no name
+/// segment.
 #[tactic(auto, using(ar_space::specs::Outcome::answering), unfolding(crate::specs::Children::child_named))]
 pub fn child_named(alloc: Global, path: &Path, name: [u8; 4]) -> Result<Path, Refusal>
     ensures { Answers result (child_named path.now name) }

@@ -19,21 +19,24 @@ use aml_path::Path;
 use ar_space::{Refusal, Space};
 use std::alloc::Global;
 
-/// The pins that the routing table below a device names, in its order: what `_PRT` answers, entry by entry. The first entry
-/// of each device number and pin counts; later ones are tested and passed over, and so are entries that were left out.
+/// The pins that the routing table below a device names, in its order: what `_PRT` answers, entry by entry. The first
+/// entry of each device number and pin counts; later ones are tested and passed over, and so are entries that were
+/// left out.
 ///
-/// Beside what the evaluation of `_PRT` refuses (`NotFound` where there is none) the first of these refuses it: `NotPackage`
-/// where the answer is no package; then of each entry `BadEntry` where it is no package of four, its address, pin or source
-/// index no integer of at most 32 bits, or its source neither 0 nor a name; `BadPin` where the pin is above 3; `NotALink`
-/// where the source names no link device: a Device whose `_HID` is a name that holds EISAID("PNP0C0F") or "PNP0C0F";
-/// `SourceIndex` where the source index at a link device isn't 0. `Spent` where an earlier call ran out of memory.
+/// Beside what the evaluation of `_PRT` refuses (`NotFound` where there is none) the first of these refuses it:
+/// `NotPackage` where the answer is no package; then of each entry `BadEntry` where it is no package of four, its
+/// address, pin or source index no integer of at most 32 bits, or its source neither 0 nor a name; `BadPin` where the
+/// pin is above 3; `NotALink` where the source names no link device: a Device whose `_HID` is a name that holds
+/// EISAID("PNP0C0F") or "PNP0C0F"; `SourceIndex` where the source index at a link device isn't 0. `Spent` where an
+/// earlier call ran out of memory.
 #[tactic(auto, using(ar_space::specs::Change::changing), unfolding(crate::specs::RoutingTables::routing_table))]
 pub fn get_irq_routing_table<S: Space>(
     alloc: Global,
     machine: &mut Machine<S>,
     device: &Path,
 ) -> Result<Vec<Pin>, Refusal>
-    ensures value { Does (seen (λ pins. pins.items) result) machine.new (routing_table S.accesses device.now) machine.old }
+    ensures value { Does (seen (λ pins. pins.items) result) machine.new
+        (routing_table S.accesses device.now) machine.old }
     ensures evaluated { StopsInTable S.accesses device.now machine.old machine.new }
 {
     let name = child_named(alloc, device, *b"_PRT")?;
@@ -48,7 +51,8 @@ fn pins_from<S: Space>(
     machine: &mut Machine<S>,
     entries: &[Datum],
 ) -> Result<Vec<Pin>, Refusal>
-    ensures value { Does (seen (λ pins. pins.items) result) machine.new (pins_from S.accesses (map given_of entries.now) []) machine.old }
+    ensures value { Does (seen (λ pins. pins.items) result) machine.new
+        (pins_from S.accesses (map given_of entries.now) []) machine.old }
     ensures evaluated { StopsInEntries S.accesses (map given_of entries.now) machine.old machine.new }
 {
     let mut pins = FirstPins::new(alloc);
@@ -102,8 +106,10 @@ fn pin_with<S: Space>(
     source: &Datum,
     index: &Datum,
 ) -> Result<Option<Pin>, Refusal>
-    ensures value { Does result machine.new (pin_with S.accesses (given_of address.now) (given_of pin.now) (given_of source.now) (given_of index.now)) machine.old }
-    ensures evaluated { AllOrNone (pin_with S.accesses (given_of address.now) (given_of pin.now) (given_of source.now) (given_of index.now)) machine.old machine.new }
+    ensures value { Does result machine.new (pin_with S.accesses (given_of address.now) (given_of pin.now)
+        (given_of source.now) (given_of index.now)) machine.old }
+    ensures evaluated { AllOrNone (pin_with S.accesses (given_of address.now) (given_of pin.now) (given_of source.now)
+        (given_of index.now)) machine.old machine.new }
 {
     let address = word_of(address)?;
     let pin = word_of(pin)?;

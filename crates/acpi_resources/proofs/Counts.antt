@@ -8,7 +8,7 @@ use Rattle.std.proofs.lemmas.List.Elements.{All-filter}
 use Rattle.std.proofs.lemmas.List.FromFn.{get_or-range_with_len}
 use Rattle.std.proofs.lemmas.Map.Views.{All-insert_key}
 use Rattle.acpi_resources.specs.declared.form.Form.TheVariants.{Extended}
-use Rattle.acpi_resources.specs.FlagByte.{has_bit, is_edge, is_shared, polarity_of}
+use Rattle.acpi_resources.specs.FlagByte.{has_bit, is_edge, polarity_of}
 use Rattle.std.proofs.lemmas.Bool.Decides.{nat_tests}
 use Rattle.std.specs.List.Sorted.{IsStrictlyIncreasing}
 use Rattle.acpi_resources.specs.Numbers.{numbers_of_mask, numbers_of_table, with_numbers, set_of}
@@ -88,13 +88,12 @@ table_is_sound bytes count d extended e h k = record {
 }
 
 -- what an interrupt descriptor offers is sound
-pub offer_is_sound : (d : InterruptDescriptor) (offer : InterruptOffer) → IsInterruptDescriptor d → offer.form ≡ d.form → offer.numbers ≡ set_of d.numbers → IsStrictlyIncreasing offer.numbers → (length offer.numbers == 0) ≡ false → is_edge offer.form offer.flags ≡ false → is_shared offer.form offer.flags ≡ true → offer.polarity ≡ polarity_of offer.form offer.flags → IsOffer offer
-offer_is_sound d offer sound form numbers ascending some level shared signaled = record {
+pub offer_is_sound : (d : InterruptDescriptor) (offer : InterruptOffer) → IsInterruptDescriptor d → offer.form ≡ d.form → offer.numbers ≡ set_of d.numbers → IsStrictlyIncreasing offer.numbers → (length offer.numbers == 0) ≡ false → is_edge offer.form offer.flags ≡ false → offer.polarity ≡ polarity_of offer.form offer.flags → IsOffer offer
+offer_is_sound d offer sound form numbers ascending some level signaled = record {
   at_least = grind (arith, nat_tests);
   at_most = let h = length-set_of d.numbers in let k = sound.at_most in rw numbers (omega arith);
   ascending = ascending;
   in_mask = λ small. subst (All (λ n. n < 16)) (sym numbers) (All-set_of (λ n. n < 16) d.numbers (sound.in_mask (sym form ∙ small)));
   level = level;
-  shared = shared;
   signaled = signaled;
 }

@@ -1,5 +1,6 @@
 mod BeforeEnd
 pub mod Counts
+pub mod Exclusive
 pub mod Gathering
 pub mod Listed
 pub mod Offering

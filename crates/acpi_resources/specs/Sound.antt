@@ -1,8 +1,8 @@
 -- What holds of each interrupt descriptor and of each offer.
-use Rattle.std.specs.Prelude.{◌≡◌, ◌<◌, ◌≤◌, true, false, length, All}
+use Rattle.std.specs.Prelude.{◌≡◌, ◌<◌, ◌≤◌, false, length, All}
 use Rattle.std.specs.List.Sorted.{IsStrictlyIncreasing}
 use Rattle.acpi_resources.specs.declared.form.Form.TheVariants.{Small}
-use Rattle.acpi_resources.specs.FlagByte.{is_edge, is_shared, polarity_of}
+use Rattle.acpi_resources.specs.FlagByte.{is_edge, polarity_of}
 use Rattle.acpi_resources.specs.Records.{InterruptDescriptor, InterruptOffer}
 
 pub record IsInterruptDescriptor (d : InterruptDescriptor) : Type 0 where
@@ -16,5 +16,4 @@ pub record IsOffer (offer : InterruptOffer) : Type 0 where
   pub ascending : IsStrictlyIncreasing offer.numbers
   pub in_mask : offer.form ≡ Small → All (λ n. n < 16) offer.numbers
   pub level : is_edge offer.form offer.flags ≡ false
-  pub shared : is_shared offer.form offer.flags ≡ true
   pub signaled : offer.polarity ≡ polarity_of offer.form offer.flags

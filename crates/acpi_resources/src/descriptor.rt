@@ -37,8 +37,8 @@ pub(crate) enum Descriptor<'a> {
 }
 
 impl<'a> Descriptor<'a> {
-    /// What an item means. It refuses `ResourceFault::Descriptor` where an Extended Interrupt descriptor is too short for
-    /// its own count.
+    /// What an item means. It refuses `ResourceFault::Descriptor` where an Extended Interrupt descriptor is too short
+    /// for its own count.
     #[tactic(auto, unfolding(crate::specs::Descriptors::descriptor_of))]
     pub(crate) fn of(item: &Item<'a>) -> Result<Descriptor<'a>, Refusal>
         ensures { result ≡ descriptor_of item.now }

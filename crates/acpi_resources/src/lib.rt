@@ -5,6 +5,7 @@
 mod current_resources;
 mod descriptor;
 mod end_tag;
+mod exclusives;
 mod flags;
 mod form;
 mod interrupt_numbers;
@@ -17,9 +18,13 @@ mod setting_bytes;
 
 pub use current_resources::current;
 pub use end_tag::length_before_end_tag;
+pub use exclusives::Exclusives;
 pub use form::{Form, Polarity};
 pub use interrupt_numbers::InterruptNumbers;
-pub use laws::{a_set_has_the_numbers_of_its_list, an_item_is_read_as_it_is_written};
+pub use laws::{
+    a_set_has_the_numbers_of_its_list, an_item_is_read_as_it_is_written,
+    only_exclusive_offers_are_refused,
+};
 pub use offer::Offer;
-pub use possible_resources::possible;
+pub use possible_resources::{possible, possible_as};
 pub use setting_bytes::setting;

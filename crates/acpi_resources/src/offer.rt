@@ -7,8 +7,8 @@ use crate::form::{Form, Polarity};
 use crate::interrupt_numbers::InterruptNumbers;
 use std::marker::Model;
 
-/// The interrupts that a link device may be set to, by its _PRS: level-triggered and shared, at least one and at
-/// most 255. Only `possible` makes an offer.
+/// The interrupts that a link device may be set to, by its _PRS: level-triggered, at least one and at most 255. Only
+/// `possible` and `possible_as` make an offer; those of `possible` say that the interrupts are shared.
 #[derive(Drop, Debug)]
 pub struct Offer {
     numbers: InterruptNumbers,

@@ -1,8 +1,9 @@
 //! What a link device may be set to, read from the value of its _PRS (ACPI 6.5, 6.2.12).
 ghost use Rattle.ar_space.specs.Outcome.{Answers};
-ghost use Rattle.acpi_resources.specs.Offers.{offer_of, possible_of, the_offer};
+ghost use Rattle.acpi_resources.specs.Offers.{offer_of, possible_as, possible_of, the_offer};
 
 use crate::descriptor::Descriptor;
+use crate::exclusives::Exclusives;
 use crate::interrupts::Interrupts;
 use crate::item::Items;
 use crate::offer::Offer;
@@ -20,11 +21,19 @@ use std::alloc::Global;
 pub fn possible(alloc: Global, bytes: &[u8]) -> Result<Offer, Refusal>
     ensures { Answers result (possible_of bytes.now) }
 {
+    possible_as(alloc, Exclusives::Refused, bytes)
+}
+
+/// The same, where the caller says what becomes of exclusive offers. Where they are taken, `Exclusive` is not refused
+/// and all other tests are made in their order; the offer has the descriptor's flags as they are.
+pub fn possible_as(alloc: Global, exclusives: Exclusives, bytes: &[u8]) -> Result<Offer, Refusal>
+    ensures { Answers result (possible_as exclusives bytes.now) }
+{
     let mut found = None;
     for item in Items::new(bytes) {
         match Descriptor::of(&item)? {
             Descriptor::Interrupts(interrupts) => {
-                found = Some(only_offer(alloc, &found, &interrupts)?);
+                found = Some(only_offer(alloc, exclusives, &found, &interrupts)?);
             }
             Descriptor::DependentFunctions => {
                 return Err(Refusal::Resource(ResourceFault::Dependent));
@@ -44,28 +53,33 @@ pub fn possible(alloc: Global, bytes: &[u8]) -> Result<Offer, Refusal>
 #[tactic(auto, using(ar_space::specs::Outcome::answering), unfolding(crate::specs::Offers::the_offer))]
 fn only_offer(
     alloc: Global,
+    exclusives: Exclusives,
     found: &Option<Offer>,
     interrupts: &Interrupts<'_>,
 ) -> Result<Offer, Refusal>
-    ensures { Answers result (the_offer found.now interrupts.now) }
+    ensures { Answers result (the_offer exclusives found.now interrupts.now) }
 {
     match found {
         Some(_) => Err(Refusal::Resource(ResourceFault::Several)),
-        None => offer_of_one(alloc, interrupts),
+        None => offer_of_one(alloc, exclusives, interrupts),
     }
 }
 
 /// The offer of one interrupt descriptor.
 #[tactic(auto, using(ar_space::specs::Outcome::answering), unfolding(crate::specs::Offers::offer_of))]
-fn offer_of_one(alloc: Global, interrupts: &Interrupts<'_>) -> Result<Offer, Refusal>
-    ensures { Answers result (offer_of interrupts.now) }
+fn offer_of_one(
+    alloc: Global,
+    exclusives: Exclusives,
+    interrupts: &Interrupts<'_>,
+) -> Result<Offer, Refusal>
+    ensures { Answers result (offer_of exclusives interrupts.now) }
 {
     let flags = interrupts.flags;
     let form = interrupts.listed.form();
     if form.is_edge(flags) {
         return Err(Refusal::Resource(ResourceFault::Edge));
     }
-    if !form.is_shared(flags) {
+    if exclusives.bar(form, flags) {
         return Err(Refusal::Resource(ResourceFault::Exclusive));
     }
     if interrupts.has_source {

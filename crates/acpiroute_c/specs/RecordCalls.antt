@@ -3,6 +3,8 @@ use Rattle.std.specs.Prelude.{◌≡◌, ◌⊎◌, ℕ, ◌==◌, nat_lt, Bool,
 use Rattle.ar_space.specs.Outcome.{Outcome, Answers}
 use Rattle.ar_tables.specs.declared.mode.Mode.{Mode}
 use Rattle.ar_tables.specs.declared.mode.Mode.TheVariants.{Pic, Apic}
+use Rattle.aml_meaning.specs.declared.profile.Profile.{Profile}
+use Rattle.aml_meaning.specs.declared.profile.Profile.TheVariants.{Core, Wide}
 use Rattle.recorded_space.specs.declared.exchange.Exchange.{Exchange}
 use Rattle.recorded_route.specs.declared.ending.Ending.{Ending}
 use Rattle.recorded_route.specs.declared.ending.Ending.TheVariants as ends
@@ -21,8 +23,13 @@ use Rattle.acpiroute_c.specs.declared.record_call.Said.TheVariants as says
 
 -- ---- the settings
 
-abbrev pub mode_of : ℕ → Option Mode
-mode_of n = if n == 0 then Some Pic else (if n == 1 then Some Apic else None)
+-- the profile and the interrupt controllers
+abbrev pub mode_of : ℕ → Option (Profile × Mode)
+mode_of n =
+    if n == 0 then Some (Core, Pic)
+    else (if n == 1 then Some (Core, Apic)
+    else (if n == 2 then Some (Wide, Pic)
+    else (if n == 3 then Some (Wide, Apic) else None)))
 
 abbrev pub flag_of : ℕ → Option Bool
 flag_of n = if n == 0 then Some false else (if n == 1 then Some true else None)
@@ -30,8 +37,8 @@ flag_of n = if n == 0 then Some false else (if n == 1 then Some true else None)
 abbrev pub steps_of : ℕ → Option ℕ
 steps_of n = if n == 0 then None else (if nat_lt 1000000000 n then None else Some n)
 
-abbrev settings_with : Option Mode → Option ℕ → Option Bool → Option Settings
-settings_with (Some mode) (Some steps) (Some dry) = Some (record { mode = mode; steps = steps; dry = dry })
+abbrev settings_with : Option (Profile × Mode) → Option ℕ → Option Bool → Option Settings
+settings_with (Some mode) (Some steps) (Some dry) = Some (record { profile = mode.0; mode = mode.1; steps = steps; dry = dry })
 settings_with _ _ _ = None
 
 abbrev pub settings_of : CallSettings → Option Settings

@@ -45,7 +45,11 @@ pub(crate) fn call(
     line: &mut [u8],
     reply: &mut CallReply,
 ) -> u32
-    ensures { IsCall command.now options.now input.now result (record { text = text.old; line = line.old; reply = reply.old }) (record { text = text.new; line = line.new; reply = reply.new }) }
+    ensures { IsCall command.now options.now input.now result (record {
+      text = text.old;
+      line = line.old;
+      reply = reply.old;
+    }) (record { text = text.new; line = line.new; reply = reply.new }) }
 {
     match said(alloc, command, options, input) {
         Ok(said) => give(&said, text, line, reply),

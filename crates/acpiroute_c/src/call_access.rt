@@ -42,7 +42,8 @@ pub struct CallAccess {
 pub struct CallWanted {
     /// The access.
     pub access: CallAccess,
-    /// The entry of the record at which it is made, counted from 0: the record's length, where the record is of this run.
+    /// The entry of the record at which it is made, counted from 0: the record's length, where the record is of this
+    /// run.
     pub entry: usize,
 }
 

@@ -37,7 +37,8 @@ fn put_into(bytes: &[u8], buffer: &mut [u8])
 /// Puts a reply into buffers, where both have room for it, and tells its sizes in any case.
 pub(crate) fn give(said: &Reply, text: &mut [u8], line: &mut [u8], reply: &mut CallReply) -> u32
     ensures code { result ≡ code_of said.now (record { text = text.old; line = line.old; reply = reply.old }) }
-    ensures after { record { text = text.new; line = line.new; reply = reply.new } ≡ filled_by said.now (record { text = text.old; line = line.old; reply = reply.old }) }
+    ensures after { record { text = text.new; line = line.new; reply = reply.new } ≡
+        filled_by said.now (record { text = text.old; line = line.old; reply = reply.old }) }
 {
     *reply = sizes_of(said);
     if text.len() < said.text.len() || line.len() < said.line.len() {

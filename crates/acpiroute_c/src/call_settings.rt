@@ -2,7 +2,7 @@
 ghost use Rattle.std.specs.Prelude.{◌≡◌};
 ghost use Rattle.acpiroute_c.specs.RecordCalls.{mode_of, flag_of, steps_of, settings_of};
 
-use acpi_machine::Mode;
+use acpi_machine::{Mode, Profile};
 use recorded_route::Settings;
 
 /// How a machine is configured.
@@ -11,18 +11,21 @@ use recorded_route::Settings;
 pub struct CallSettings {
     /// The budget of steps for each table and each evaluation, from 1 to 1,000,000,000.
     pub steps: u64,
-    /// 0 for the 8259 controllers, 1 for I/O APICs.
+    /// 0 for the 8259 controllers, 1 for I/O APICs; 2 more in the wide profile.
     pub mode: u8,
     /// 1 where no link is to be set, and else 0.
     pub dry: u8,
 }
 
-fn mode_of(mode: u8) -> Option<Mode>
+/// The profile and the interrupt controllers.
+fn mode_of(mode: u8) -> Option<(Profile, Mode)>
     ensures { result ≡ mode_of mode }
 {
     match mode {
-        0 => Some(Mode::Pic),
-        1 => Some(Mode::Apic),
+        0 => Some((Profile::Core, Mode::Pic)),
+        1 => Some((Profile::Core, Mode::Apic)),
+        2 => Some((Profile::Wide, Mode::Pic)),
+        3 => Some((Profile::Wide, Mode::Apic)),
         _ => None,
     }
 }
@@ -51,8 +54,13 @@ fn steps_of(steps: u64) -> Option<u64>
 pub(crate) fn settings_of(settings: &CallSettings) -> Option<Settings>
     ensures { result ≡ settings_of settings.now }
 {
-    let mode = mode_of(settings.mode)?;
+    let (profile, mode) = mode_of(settings.mode)?;
     let steps = steps_of(settings.steps)?;
     let dry = flag_of(settings.dry)?;
-    Some(Settings { mode, steps, dry })
+    Some(Settings {
+        profile,
+        mode,
+        steps,
+        dry,
+    })
 }

@@ -45,7 +45,8 @@ fn options_of<'a>(alloc: Global, options: &'a [u8]) -> Result<Vec<&'a [u8]>, All
 
 /// The words of a call: the program's name, a command, and options.
 fn texts<'a>(alloc: Global, command: &'a str, options: &[&'a [u8]]) -> Result<Vec<&'a str>, Unsaid>
-    ensures words { IfOk result (λ list. map (λ s. s.now) list.items ≡ program_name ∷ command.now ∷ map (λ s. s.now) options.now) }
+    ensures words { IfOk result (λ list. map (λ s. s.now) list.items ≡
+        program_name ∷ command.now ∷ map (λ s. s.now) options.now) }
     ensures utf8 { IfOk result (λ _. All (λ s. IsUtf8 s.now) options.now) }
     ensures fault { IfErr result (λ why. why ≡ NotUtf8 → ¬ (All (λ s. IsUtf8 s.now) options.now)) }
 {

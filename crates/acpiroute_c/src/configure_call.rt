@@ -25,7 +25,8 @@ fn ending_over(
     source: TableSource<'_>,
     entries: &[Exchange],
 ) -> Ending<Report>
-    ensures { NotOutOfMemory result → IsEndingOver settings.now avoid.now (described_by source.entry) entries.now result }
+    ensures { NotOutOfMemory result → IsEndingOver settings.now avoid.now
+        (described_by source.entry) entries.now result }
 {
     match source {
         TableSource::Text(text) => configure_recorded(alloc, text, settings, avoid, entries),
@@ -99,7 +100,9 @@ pub(crate) fn configure_call(
     reply: &mut CallReply,
     wanted: &mut CallWanted,
 ) -> u32
-    ensures { IsConfigureCall settings.now avoid.now source.entry accesses.now result (record { filled = record { text = text.old; line = line.old; reply = reply.old }; wanted = wanted.old }) (record { filled = record { text = text.new; line = line.new; reply = reply.new }; wanted = wanted.new }) }
+    ensures { IsConfigureCall settings.now avoid.now source.entry accesses.now result
+        (record { filled = record { text = text.old; line = line.old; reply = reply.old }; wanted = wanted.old })
+        (record { filled = record { text = text.new; line = line.new; reply = reply.new }; wanted = wanted.new }) }
 {
     match configured(alloc, settings, avoid, source, accesses) {
         Ok(Said::Reply(said)) => give(&said, text, line, reply),

@@ -46,7 +46,9 @@ fn answer_over(
     source: TableSource<'_>,
     entries: &[Exchange],
 ) -> Ending<Datum>
-    ensures { NotOutOfMemory result → IsEvaluatedOver settings.now question.entry.path.now (map given.given_of question.entry.arguments.items) (described_by source.entry) entries.now (seen_ending given.given_of result) }
+    ensures { NotOutOfMemory result → IsEvaluatedOver settings.now question.entry.path.now
+        (map given.given_of question.entry.arguments.items) (described_by source.entry) entries.now
+        (seen_ending given.given_of result) }
 {
     match source {
         TableSource::Text(text) => evaluate_recorded(alloc, text, settings, question, entries),
@@ -64,7 +66,8 @@ fn answer(
     source: TableSource<'_>,
     accesses: &[CallAccess],
 ) -> Result<Ending<Datum>, Unmade>
-    ensures answer { IfOk result (λ ending. IsAnswerOf settings.now asked.entry.path.now asked.entry.arguments.now source.entry accesses.now (seen_ending given.given_of ending)) }
+    ensures answer { IfOk result (λ ending. IsAnswerOf settings.now asked.entry.path.now asked.entry.arguments.now
+        source.entry accesses.now (seen_ending given.given_of ending)) }
     ensures fault { IfErr result (λ why. why ≡ Malformed → IsMalformed settings.now accesses.now) }
 {
     let Some(settings) = settings_of(settings) else {
@@ -103,7 +106,8 @@ fn evaluated(
     source: TableSource<'_>,
     accesses: &[CallAccess],
 ) -> Result<Said, Unmade>
-    ensures said { IfOk result (λ said. IsValueSaid settings.now asked.entry.path.now asked.entry.arguments.now source.entry accesses.now said) }
+    ensures said { IfOk result (λ said. IsValueSaid settings.now asked.entry.path.now asked.entry.arguments.now
+        source.entry accesses.now said) }
     ensures fault { IfErr result (λ why. why ≡ Malformed → IsMalformed settings.now accesses.now) }
 {
     match answer(alloc, settings, asked, source, accesses) {
@@ -127,7 +131,14 @@ pub(crate) fn evaluate_call(
     reply: &mut CallReply,
     wanted: &mut CallWanted,
 ) -> u32
-    ensures { IsEvaluateCall settings.now asked.entry.path.now asked.entry.arguments.now source.entry accesses.now result (record { filled = record { text = text.old; line = line.old; reply = reply.old }; wanted = wanted.old }) (record { filled = record { text = text.new; line = line.new; reply = reply.new }; wanted = wanted.new }) }
+    ensures { IsEvaluateCall settings.now asked.entry.path.now asked.entry.arguments.now source.entry accesses.now
+        result (record {
+          filled = record { text = text.old; line = line.old; reply = reply.old };
+          wanted = wanted.old;
+        }) (record {
+          filled = record { text = text.new; line = line.new; reply = reply.new };
+          wanted = wanted.new;
+        }) }
 {
     match evaluated(alloc, settings, asked, source, accesses) {
         Ok(Said::Reply(said)) => give(&said, text, line, reply),

@@ -25,7 +25,9 @@ pub extern "C" fn acpiroute_route(
     line: &mut [u8],
     reply: &mut CallReply,
 ) -> u32
-    ensures { IsCall (codes "route") options.now machine.now result (record { text = text.old; line = line.old; reply = reply.old }) (record { text = text.new; line = line.new; reply = reply.new }) }
+    ensures { IsCall (codes "route") options.now machine.now result
+        (record { text = text.old; line = line.old; reply = reply.old })
+        (record { text = text.new; line = line.new; reply = reply.new }) }
 {
     call(alloc, "route", options, machine, text, line, reply)
 }
@@ -40,7 +42,9 @@ pub extern "C" fn acpiroute_check(
     line: &mut [u8],
     reply: &mut CallReply,
 ) -> u32
-    ensures { IsCall (codes "check") options.now report.now result (record { text = text.old; line = line.old; reply = reply.old }) (record { text = text.new; line = line.new; reply = reply.new }) }
+    ensures { IsCall (codes "check") options.now report.now result
+        (record { text = text.old; line = line.old; reply = reply.old })
+        (record { text = text.new; line = line.new; reply = reply.new }) }
 {
     call(alloc, "check", options, report, text, line, reply)
 }
@@ -55,7 +59,9 @@ pub extern "C" fn acpiroute_names(
     line: &mut [u8],
     reply: &mut CallReply,
 ) -> u32
-    ensures { IsCall (codes "names") options.now machine.now result (record { text = text.old; line = line.old; reply = reply.old }) (record { text = text.new; line = line.new; reply = reply.new }) }
+    ensures { IsCall (codes "names") options.now machine.now result
+        (record { text = text.old; line = line.old; reply = reply.old })
+        (record { text = text.new; line = line.new; reply = reply.new }) }
 {
     call(alloc, "names", options, machine, text, line, reply)
 }
@@ -70,7 +76,9 @@ pub extern "C" fn acpiroute_eval(
     line: &mut [u8],
     reply: &mut CallReply,
 ) -> u32
-    ensures { IsCall (codes "eval") options.now machine.now result (record { text = text.old; line = line.old; reply = reply.old }) (record { text = text.new; line = line.new; reply = reply.new }) }
+    ensures { IsCall (codes "eval") options.now machine.now result
+        (record { text = text.old; line = line.old; reply = reply.old })
+        (record { text = text.new; line = line.new; reply = reply.new }) }
 {
     call(alloc, "eval", options, machine, text, line, reply)
 }
@@ -88,7 +96,9 @@ pub extern "C" fn acpiroute_configure(
     reply: &mut CallReply,
     wanted: &mut CallWanted,
 ) -> u32
-    ensures { IsConfigureCall settings.now avoid.now (source.Text machine.entry) accesses.now result (record { filled = record { text = text.old; line = line.old; reply = reply.old }; wanted = wanted.old }) (record { filled = record { text = text.new; line = line.new; reply = reply.new }; wanted = wanted.new }) }
+    ensures { IsConfigureCall settings.now avoid.now (source.Text machine.entry) accesses.now result
+        (record { filled = record { text = text.old; line = line.old; reply = reply.old }; wanted = wanted.old })
+        (record { filled = record { text = text.new; line = line.new; reply = reply.new }; wanted = wanted.new }) }
 {
     configure_call(
         alloc,
@@ -103,8 +113,8 @@ pub extern "C" fn acpiroute_configure(
     )
 }
 
-/// `eval` over the tables of a machine text, whose registers answer from a record of accesses; the path is a text, and the arguments
-/// are integers.
+/// `eval` over the tables of a machine text, whose registers answer from a record of accesses; the path is a text,
+/// and the arguments are integers.
 #[unsafe(no_mangle)]
 pub extern "C" fn acpiroute_evaluate(
     alloc: Global,
@@ -118,7 +128,9 @@ pub extern "C" fn acpiroute_evaluate(
     reply: &mut CallReply,
     wanted: &mut CallWanted,
 ) -> u32
-    ensures { IsEvaluateCall settings.now path.now arguments.now (source.Text machine.entry) accesses.now result (record { filled = record { text = text.old; line = line.old; reply = reply.old }; wanted = wanted.old }) (record { filled = record { text = text.new; line = line.new; reply = reply.new }; wanted = wanted.new }) }
+    ensures { IsEvaluateCall settings.now path.now arguments.now (source.Text machine.entry) accesses.now result
+        (record { filled = record { text = text.old; line = line.old; reply = reply.old }; wanted = wanted.old })
+        (record { filled = record { text = text.new; line = line.new; reply = reply.new }; wanted = wanted.new }) }
 {
     let asked = Asked { path, arguments };
     evaluate_call(
@@ -149,7 +161,10 @@ pub extern "C" fn acpiroute_configure_tables(
     reply: &mut CallReply,
     wanted: &mut CallWanted,
 ) -> u32
-    ensures { IsConfigureCall settings.now avoid.now (source.Memory (record { rsdp = rsdp; parts = parts.entry; osi = osi.entry })) accesses.now result (record { filled = record { text = text.old; line = line.old; reply = reply.old }; wanted = wanted.old }) (record { filled = record { text = text.new; line = line.new; reply = reply.new }; wanted = wanted.new }) }
+    ensures { IsConfigureCall settings.now avoid.now (source.Memory
+        (record { rsdp = rsdp; parts = parts.entry; osi = osi.entry })) accesses.now result
+        (record { filled = record { text = text.old; line = line.old; reply = reply.old }; wanted = wanted.old })
+        (record { filled = record { text = text.new; line = line.new; reply = reply.new }; wanted = wanted.new }) }
 {
     configure_call(
         alloc,
@@ -180,7 +195,10 @@ pub extern "C" fn acpiroute_evaluate_tables(
     reply: &mut CallReply,
     wanted: &mut CallWanted,
 ) -> u32
-    ensures { IsEvaluateCall settings.now path.now arguments.now (source.Memory (record { rsdp = rsdp; parts = parts.entry; osi = osi.entry })) accesses.now result (record { filled = record { text = text.old; line = line.old; reply = reply.old }; wanted = wanted.old }) (record { filled = record { text = text.new; line = line.new; reply = reply.new }; wanted = wanted.new }) }
+    ensures { IsEvaluateCall settings.now path.now arguments.now (source.Memory
+        (record { rsdp = rsdp; parts = parts.entry; osi = osi.entry })) accesses.now result
+        (record { filled = record { text = text.old; line = line.old; reply = reply.old }; wanted = wanted.old })
+        (record { filled = record { text = text.new; line = line.new; reply = reply.new }; wanted = wanted.new }) }
 {
     let asked = Asked { path, arguments };
     evaluate_call(

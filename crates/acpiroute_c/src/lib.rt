@@ -1,5 +1,5 @@
-//! The calls of acpiroute for C, and for whatever calls C: over memory alone, with no state between two calls. The header that
-//! declares them is `include/acpiroute.h`.
+//! The calls of acpiroute for C, and for whatever calls C: over memory alone, with no state between two calls. The
+//! header that declares them is `include/acpiroute.h`.
 #![tactic(auto)]
 
 mod call;

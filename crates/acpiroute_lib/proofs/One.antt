@@ -8,6 +8,7 @@ use Rattle.acpi_configure.specs.Options.{RunOptions}
 use Rattle.acpi_configure.specs.WithOptions.{IsReportWith}
 use Rattle.route_report.specs.Reports.{RoutingReport}
 use Rattle.ar_tables.specs.declared.mode.Mode.{Mode}
+use Rattle.acpiroute_words.specs.declared.request.Evaluation.{Evaluation}
 use Rattle.acpiroute_words.specs.Written.{Written}
 use Rattle.acpiroute_lib.specs.Machines.{machine_of_text_in}
 use Rattle.acpiroute_lib.specs.RouteCommand.{printed, IsReportOf, IsRouted, IsRoutedOn, IsRouteAnswer}
@@ -31,5 +32,5 @@ module _ (law : LawOfReports) (o : RunOptions) (first : o.spread ≡ false) wher
   one_routed_on (Ok m) r s a b = one_routed m r s a b
   one_routed_on (Err e) r s a b = a ∙ sym b
 
-pub one_answer : LawOfReports → (mode : Mode) (steps : ℕ) (o : RunOptions) (text : List ℕ) (r s : Outcome Written) → o.spread ≡ false → IsRouteAnswer mode steps o text r → IsRouteAnswer mode steps o text s → r ≡ s
-one_answer law mode steps o text r s first a b = one_routed_on law o first (machine_of_text_in mode steps text) r s a b
+pub one_answer : LawOfReports → (mode : Mode) (evaluation : Evaluation) (o : RunOptions) (text : List ℕ) (r s : Outcome Written) → o.spread ≡ false → IsRouteAnswer mode evaluation o text r → IsRouteAnswer mode evaluation o text s → r ≡ s
+one_answer law mode evaluation o text r s first a b = one_routed_on law o first (machine_of_text_in mode evaluation text) r s a b

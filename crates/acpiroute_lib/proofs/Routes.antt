@@ -21,6 +21,7 @@ use Rattle.route_report.specs.Reports.{RoutingReport}
 use Rattle.acpiroute_words.specs.CheckCommand.{Verdict, IsVerdictOn, IsCheckAnswer, check_answer, verdict_answer}
 use Rattle.acpiroute_lib.specs.Machines.{machine_of_text_in}
 use Rattle.acpiroute_lib.specs.RouteCommand.{printed, IsRouted, IsRouteAnswer}
+use Rattle.acpiroute_words.specs.declared.request.Evaluation.{Evaluation}
 use Rattle.acpiroute_words.specs.Written.{Written}
 
 -- a claim that holds has no flaw
@@ -73,13 +74,13 @@ pub not_found : {e : Refusal} {after : MachineState Bytes} (o : RunOptions) (m :
 not_found o m (Ok a) is i ne = absurd (cc i.0)
 not_found o m (Err x) is i ne = ap (λ p. p.0) (is (λ q. ne (i.1 ∙ q))) ∙ ap Err (sym i.1)
 
-pub refused_machine : {e : Refusal} (mode : Mode) (steps : ℕ) (o : RunOptions) (text : List ℕ) (r : Outcome Written) → Answers {A = MachineState Bytes} (Err e) (machine_of_text_in mode steps text) → IsErr r × IsErrAnd r (λ x. x ≡ e)
-    → NotMemory r → IsRouteAnswer mode steps o text r
-refused_machine mode steps o text (Ok a) h i ne = absurd (cc i.0)
-refused_machine mode steps o text (Err x) h i ne = rw (h.is (λ q. ne (i.1 ∙ q))) (ap Err i.1)
+pub refused_machine : {e : Refusal} (mode : Mode) (evaluation : Evaluation) (o : RunOptions) (text : List ℕ) (r : Outcome Written) → Answers {A = MachineState Bytes} (Err e) (machine_of_text_in mode evaluation text) → IsErr r × IsErrAnd r (λ x. x ≡ e)
+    → NotMemory r → IsRouteAnswer mode evaluation o text r
+refused_machine mode evaluation o text (Ok a) h i ne = absurd (cc i.0)
+refused_machine mode evaluation o text (Err x) h i ne = rw (h.is (λ q. ne (i.1 ∙ q))) (ap Err i.1)
 
-pub ready_machine : {m : MachineState Bytes} (mode : Mode) (steps : ℕ) (o : RunOptions) (text : List ℕ) (r : Outcome Written) → Answers (Ok m) (machine_of_text_in mode steps text) → (NotMemory r → IsRouted o m r)
-    → NotMemory r → IsRouteAnswer mode steps o text r
-ready_machine mode steps o text r h is ne = rw (h.is tt) (is ne)
+pub ready_machine : {m : MachineState Bytes} (mode : Mode) (evaluation : Evaluation) (o : RunOptions) (text : List ℕ) (r : Outcome Written) → Answers (Ok m) (machine_of_text_in mode evaluation text) → (NotMemory r → IsRouted o m r)
+    → NotMemory r → IsRouteAnswer mode evaluation o text r
+ready_machine mode evaluation o text r h is ne = rw (h.is tt) (is ne)
 
 pub ruleset routing = (reported, not_found, refused_machine, ready_machine)

@@ -11,7 +11,7 @@ use Rattle.acpiroute_words.specs.Written.{Written}
 
 -- what the answer to a request over an input is
 abbrev pub IsAnswer : Request → List ℕ → Outcome Written → Type 0
-IsAnswer (Route mode steps dry avoid spare spread) input r = IsRouteAnswer mode steps (record { dry = dry; avoid = avoid; spare = spare; spread = spread }) input r
-IsAnswer (Names steps) input r = names_answer steps input ≡ r
-IsAnswer (Eval mode steps path arguments) input r = eval_answer mode steps path arguments input ≡ r
+IsAnswer (Route mode evaluation dry avoid spare spread) input r = IsRouteAnswer mode evaluation (record { dry = dry; avoid = avoid; spare = spare; spread = spread }) input r
+IsAnswer (Names evaluation) input r = names_answer evaluation input ≡ r
+IsAnswer (Eval mode evaluation path arguments) input r = eval_answer mode evaluation path arguments input ≡ r
 IsAnswer Check input r = IsCheckAnswer input r

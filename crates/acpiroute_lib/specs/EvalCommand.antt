@@ -10,6 +10,7 @@ use Rattle.acpi_machine.specs.MachineStates.{MachineState}
 use Rattle.ar_tables.specs.declared.mode.Mode.{Mode}
 use Rattle.acpiroute_words.specs.declared.arguments.Argument.{Argument}
 use Rattle.acpiroute_words.specs.declared.arguments.Argument.TheVariants as argument
+use Rattle.acpiroute_words.specs.declared.request.Evaluation.{Evaluation}
 use Rattle.acpiroute_words.specs.declared.completion.Completion.TheVariants.{Done}
 use Rattle.acpiroute_lib.specs.Machines.{machine_of_text_in}
 use Rattle.acpiroute_lib.specs.ValueText.{value_text}
@@ -36,9 +37,9 @@ evaluated_text m path arguments = do
   value ← value_at m p (map given_argument arguments)
   Ok (value_written value)
 
--- what `eval` answers over a machine text, in this mode and with this budget of steps: the text of the path is looked at once
+-- what `eval` answers over a machine text, in this mode, its AML evaluated like this: the text of the path is looked at once
 -- the machine is initialized
-unfoldable pub eval_answer : Mode → ℕ → List ℕ → List Argument → List ℕ → Outcome Written
-eval_answer mode steps path arguments text = do
-  m ← machine_of_text_in mode steps text
+unfoldable pub eval_answer : Mode → Evaluation → List ℕ → List Argument → List ℕ → Outcome Written
+eval_answer mode evaluation path arguments text = do
+  m ← machine_of_text_in mode evaluation text
   evaluated_text m path arguments

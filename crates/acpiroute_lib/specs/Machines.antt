@@ -6,28 +6,30 @@ use Rattle.ar_tables.specs.declared.tables.Tables.{Tables}
 use Rattle.ar_tables.specs.FindTables.{tables_of}
 use Rattle.machine_text.specs.MachineText.{machine_text}
 use Rattle.aml_meaning.specs.State.{State}
-use Rattle.aml_meaning.specs.Predefined.{fresh}
+use Rattle.aml_meaning.specs.Predefined.{fresh_as}
 use Rattle.acpi_machine.specs.Calls.{initialized}
 use Rattle.acpi_machine.specs.Loading.{loaded_tables}
 use Rattle.acpi_machine.specs.MachineStates.{MachineState, machine_of}
 use Rattle.ar_tables.specs.declared.mode.Mode.{Mode}
+use Rattle.acpiroute_words.specs.declared.request.Evaluation.{Evaluation}
 
 -- the machine over the world that loading left, or the refusal that ended it
 abbrev pub machine_left : Tables → ℕ → State Bytes → Outcome (Unit {0}) → Outcome (MachineState Bytes)
 machine_left t steps w (Ok u) = Ok (machine_of t steps w)
 machine_left t steps w (Err e) = Err e
 
--- the tables, loaded over a register space, where `_OSI` knows these texts
-unfoldable pub machine_with : Tables → ℕ → Bytes → List (List ℕ) → Outcome (MachineState Bytes)
-machine_with t steps space osi = let l = loaded_tables byte_accesses t steps osi (fresh t.width osi space) in machine_left t steps l.1 l.0
+-- the tables, loaded over a register space and evaluated like this, where `_OSI` knows these texts
+unfoldable pub machine_with : Evaluation → Tables → Bytes → List (List ℕ) → Outcome (MachineState Bytes)
+machine_with evaluation t space osi =
+    let l = loaded_tables byte_accesses t evaluation.steps osi (fresh_as evaluation.profile t.width osi space) in machine_left t evaluation.steps l.1 l.0
 
--- the machine of a machine text, within a budget of steps: the image of its tables is its memory, and its bytes are the
+-- the machine of a machine text: the image of its tables is its memory, and its bytes are the
 -- register space
-unfoldable pub machine_of_text : ℕ → List ℕ → Outcome (MachineState Bytes)
-machine_of_text steps text = do
+unfoldable pub machine_of_text : Evaluation → List ℕ → Outcome (MachineState Bytes)
+machine_of_text evaluation text = do
   m ← machine_text text
   t ← tables_of m.space.memory m.rsdp
-  machine_with t steps m.space m.osi
+  machine_with evaluation t m.space m.osi
 
 -- ---- initialized
 
@@ -40,7 +42,7 @@ unfoldable pub initialized_machine : Mode → MachineState Bytes → Outcome (Ma
 initialized_machine mode m = let i = initialized byte_accesses mode m in initialized_left i.1 i.0
 
 -- the machine of a machine text, initialized in this mode
-unfoldable pub machine_of_text_in : Mode → ℕ → List ℕ → Outcome (MachineState Bytes)
-machine_of_text_in mode steps text = do
-  m ← machine_of_text steps text
+unfoldable pub machine_of_text_in : Mode → Evaluation → List ℕ → Outcome (MachineState Bytes)
+machine_of_text_in mode evaluation text = do
+  m ← machine_of_text evaluation text
   initialized_machine mode m

@@ -4,6 +4,7 @@ use Rattle.ar_space.specs.Outcome.{Outcome, ◌>>=◌}
 use Rattle.ar_space.specs.Bytes.{Bytes}
 use Rattle.acpi_machine.specs.Kinds.{kinds_walked}
 use Rattle.acpi_machine.specs.MachineStates.{MachineState}
+use Rattle.acpiroute_words.specs.declared.request.Evaluation.{Evaluation}
 use Rattle.acpiroute_words.specs.declared.completion.Completion.TheVariants.{Done}
 use Rattle.acpiroute_lib.specs.Machines.{machine_of_text}
 use Rattle.acpiroute_lib.specs.NameLines.{name_lines}
@@ -13,8 +14,8 @@ use Rattle.acpiroute_words.specs.Written.{Written}
 abbrev pub names_of_machine : MachineState Bytes → Written
 names_of_machine m = record { text = name_lines (kinds_walked m.world.names.map); completion = Done }
 
--- what `names` answers over a machine text, with this budget of steps for each table: nothing is initialized
-unfoldable pub names_answer : ℕ → List ℕ → Outcome Written
-names_answer steps text = do
-  m ← machine_of_text steps text
+-- what `names` answers over a machine text, with its tables evaluated like this: nothing is initialized
+unfoldable pub names_answer : Evaluation → List ℕ → Outcome Written
+names_answer evaluation text = do
+  m ← machine_of_text evaluation text
   Ok (names_of_machine m)

@@ -15,6 +15,7 @@ use Rattle.route_report.specs.Reading.{claim_of_text}
 use Rattle.route_report.specs.Reports.{RoutingReport}
 use Rattle.route_report.specs.Printing.{text_of_report}
 use Rattle.acpiroute_words.specs.CheckCommand.{verdict_answer, IsCheckAnswer}
+use Rattle.acpiroute_words.specs.declared.request.Evaluation.{Evaluation}
 use Rattle.acpiroute_words.specs.declared.completion.Completion.{Completion}
 use Rattle.acpiroute_words.specs.declared.completion.Completion.TheVariants.{Done, SettingRefused}
 use Rattle.acpiroute_lib.specs.Machines.{machine_of_text_in}
@@ -53,6 +54,6 @@ abbrev pub IsRoutedOn : RunOptions → Outcome (MachineState Bytes) → Outcome 
 IsRoutedOn o (Ok m) r = IsRouted o m r
 IsRoutedOn o (Err e) r = r ≡ Err e
 
--- what `route` answers over a machine text, in this mode, with this budget of steps, and with these options
-abbrev pub IsRouteAnswer : Mode → ℕ → RunOptions → List ℕ → Outcome Written → Type 0
-IsRouteAnswer mode steps o text r = IsRoutedOn o (machine_of_text_in mode steps text) r
+-- what `route` answers over a machine text, in this mode, its AML evaluated like this, and with these options
+abbrev pub IsRouteAnswer : Mode → Evaluation → RunOptions → List ℕ → Outcome Written → Type 0
+IsRouteAnswer mode evaluation o text r = IsRoutedOn o (machine_of_text_in mode evaluation text) r

@@ -10,15 +10,15 @@ use acpiroute_words::{Answer, Request, check_answer};
 use ar_space::Refusal;
 use std::alloc::Global;
 
-/// The answer to a request over the whole input. A machine text is given up as soon as it is read, before any table of it is loaded. A
-/// report is kept while `check` reads and judges it, and given up with the answer.
+/// The answer to a request over the whole input. A machine text is given up as soon as it is read, before any table
+/// of it is loaded. A report is kept while `check` reads and judges it, and given up with the answer.
 pub(crate) fn answer_to(alloc: Global, request: Request, input: Vec<u8>) -> Result<Answer, Refusal>
     ensures { NotMemory result → IsAnswer request input.items result }
 {
     match request {
         Request::Route {
             mode,
-            steps,
+            evaluation,
             dry,
             avoid,
             spare,
@@ -30,15 +30,15 @@ pub(crate) fn answer_to(alloc: Global, request: Request, input: Vec<u8>) -> Resu
                 spare,
                 spread,
             };
-            route_answer(alloc, mode, steps, &options, input)
+            route_answer(alloc, mode, evaluation, &options, input)
         }
-        Request::Names { steps } => names_answer(alloc, steps, input),
+        Request::Names { evaluation } => names_answer(alloc, evaluation, input),
         Request::Eval {
             mode,
-            steps,
+            evaluation,
             path,
             arguments,
-        } => eval_answer(alloc, mode, steps, &path, &arguments, input),
+        } => eval_answer(alloc, mode, evaluation, &path, &arguments, input),
         Request::Check => check_answer(alloc, input.as_slice()),
     }
 }

@@ -7,7 +7,7 @@ ghost use Rattle.acpiroute_lib.specs.EvalCommand.{given_argument, value_at, valu
 use crate::machine::machine_of_text_in;
 use crate::value_text::value_line;
 use acpi_machine::Machine;
-use acpiroute_words::{Answer, Argument, ArgumentBytes, Arguments, Completion};
+use acpiroute_words::{Answer, Argument, ArgumentBytes, Arguments, Completion, Evaluation};
 use aml_meaning::Datum;
 use aml_objects::Octets;
 use aml_path::Path;
@@ -52,7 +52,8 @@ fn value_at(
     path: &Path,
     arguments: Vec<Datum>,
 ) -> Result<Datum, Refusal>
-    ensures { Answers (seen given.given_of result) (value_at machine.old path.now (map given.given_of arguments.items)) }
+    ensures { Answers (seen given.given_of result) (value_at machine.old path.now
+        (map given.given_of arguments.items)) }
 {
     machine.evaluate_object(alloc, path, arguments)
 }
@@ -83,21 +84,21 @@ fn evaluated_text(
     value_answer(alloc, &value)
 }
 
-/// What `eval` answers over a machine text, in a mode and with a budget of steps for each table and each evaluation: the value
-/// of the object whose path a text is, called with these arguments. Refused are the machine text, its tables, their loading,
+/// What `eval` answers over a machine text, in a mode, its AML evaluated like this: the value of the object whose
+/// path a text is, called with these arguments. Refused are the machine text, its tables, their loading,
 /// initializing, then the path's text, and then the evaluation.
 #[tactic(auto, using(ar_space::specs::Outcome::answering), unfolding(crate::specs::EvalCommand::eval_answer))]
 pub(crate) fn eval_answer(
     alloc: Global,
     mode: Mode,
-    steps: u64,
+    evaluation: Evaluation,
     path: &PathText,
     arguments: &Arguments,
     text: Vec<u8>,
 ) -> Result<Answer, Refusal>
-    ensures { Answers result (eval_answer mode steps path.now arguments.now text.items) }
+    ensures { Answers result (eval_answer mode evaluation path.now arguments.now text.items) }
 {
-    let mut machine = machine_of_text_in(alloc, mode, steps, text)?;
+    let mut machine = machine_of_text_in(alloc, mode, evaluation, text)?;
     let value = evaluated_text(alloc, &mut machine, path.as_str(), arguments.as_slice());
     // (by a call: what a scope drops at its end is dropped part by part, and long to prove)
     drop(machine);

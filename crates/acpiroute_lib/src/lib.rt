@@ -1,5 +1,5 @@
-//! The program over any reader and writers: the command line, the whole input, the commands, the one line that tells of a
-//! refusal, and the exit status. What of it needs no machine stands in `acpiroute_words`.
+//! The program over any reader and writers: the command line, the whole input, the commands, the one line that tells
+//! of a refusal, and the exit status. What of it needs no machine stands in `acpiroute_words`.
 #![tactic(auto)]
 
 mod commands;
@@ -14,9 +14,10 @@ mod route_command;
 mod value_text;
 
 pub use acpiroute_words::{
-    Argument, ArgumentBytes, Arguments, Asked, Failed, Growing, Interrupts, Outside, Request, Sink,
-    Source, parse, write_error_line,
+    Argument, ArgumentBytes, Arguments, Asked, Evaluation, Failed, Growing, Interrupts, Outside,
+    Request, Sink, Source, parse, write_error_line,
 };
+pub use aml_meaning::Profile;
 pub use eval_command::value_answer;
 pub use memory::{Reply, run_over};
 pub use program::run;

@@ -4,7 +4,8 @@ ghost use Rattle.ar_space.specs.Outcome.{Answers};
 ghost use Rattle.machine_text.specs.MachineText.{machine_text};
 ghost use Rattle.acpiroute_lib.specs.Machines.{machine_with, machine_of_text, initialized_machine, machine_of_text_in};
 
-use acpi_machine::{Machine, Mode, load_tables};
+use acpi_machine::{Machine, Mode, load_tables_as};
+use acpiroute_words::Evaluation;
 use aml_objects::Octets;
 use ar_space::{Refusal, Sparse};
 use ar_tables::{Tables, find_tables};
@@ -26,14 +27,21 @@ fn octets(alloc: Global, texts: Vec<Vec<u8>>) -> Result<Vec<Octets>, AllocError>
 #[tactic(auto, unfolding(crate::specs::Machines::machine_with))]
 fn machine_with(
     alloc: Global,
+    evaluation: Evaluation,
     tables: Tables,
-    steps: u64,
     space: Sparse,
     osi: Vec<Octets>,
 ) -> Result<Machine<Sparse>, Refusal>
-    ensures { Answers result (machine_with tables steps space osi.items) }
+    ensures { Answers result (machine_with evaluation tables space osi.items) }
 {
-    match load_tables(alloc, tables, space, steps, osi) {
+    match load_tables_as(
+        alloc,
+        evaluation.profile,
+        tables,
+        space,
+        evaluation.steps,
+        osi,
+    ) {
         Ok(machine) => Ok(machine),
         Err((refusal, _)) => Err(refusal),
     }
@@ -46,20 +54,20 @@ fn machine_said(alloc: Global, text: Vec<u8>) -> Result<MachineText, Refusal>
     read_machine(alloc, text.as_slice())
 }
 
-/// The machine of a machine text, with its tables loaded, each within `steps` steps. The text's own refusal comes first,
+/// The machine of a machine text, with its tables loaded, and evaluated like this. The text's own refusal comes first,
 /// then that of the tables, then that of loading them.
 #[tactic(auto, using(ar_space::specs::Outcome::answering), unfolding(crate::specs::Machines::machine_of_text))]
 pub(crate) fn machine_of_text(
     alloc: Global,
-    steps: u64,
+    evaluation: Evaluation,
     text: Vec<u8>,
 ) -> Result<Machine<Sparse>, Refusal>
-    ensures { Answers result (machine_of_text steps text.items) }
+    ensures { Answers result (machine_of_text evaluation text.items) }
 {
     let said = machine_said(alloc, text)?;
     let tables = find_tables(alloc, said.space.memory(), said.rsdp)?;
     let osi = octets(alloc, said.osi.into_vec())?;
-    machine_with(alloc, tables, steps, said.space, osi)
+    machine_with(alloc, evaluation, tables, said.space, osi)
 }
 
 #[tactic(auto, using(crate::proofs::Machines::initializing))]
@@ -81,16 +89,17 @@ fn initialized_machine(
     }
 }
 
-/// The machine of a machine text, initialized in a mode. A refusal of initializing comes after those of `machine_of_text`.
+/// The machine of a machine text, initialized in a mode. A refusal of initializing comes after those of
+/// `machine_of_text`.
 #[tactic(auto, using(ar_space::specs::Outcome::answering), unfolding(crate::specs::Machines::machine_of_text_in))]
 pub(crate) fn machine_of_text_in(
     alloc: Global,
     mode: Mode,
-    steps: u64,
+    evaluation: Evaluation,
     text: Vec<u8>,
 ) -> Result<Machine<Sparse>, Refusal>
-    ensures { Answers result (machine_of_text_in mode steps text.items) }
+    ensures { Answers result (machine_of_text_in mode evaluation text.items) }
 {
-    let machine = machine_of_text(alloc, steps, text)?;
+    let machine = machine_of_text(alloc, evaluation, text)?;
     initialized_machine(alloc, mode, machine)
 }

@@ -26,8 +26,8 @@ impl Model for Reply {
     ghost view = { λ r. record { text = r.text.items; line = r.line.items; status = r.status } };
 }
 
-/// Runs the program over an input in memory, into memory: just what the run has to say, the whole text, the whole line and the
-/// status. An error where a growth of the output or the errors is refused.
+/// Runs the program over an input in memory, into memory: just what the run has to say, the whole text, the whole
+/// line and the status. An error where a growth of the output or the errors is refused.
 pub fn run_over(alloc: Global, words: &[&str], input: &[u8]) -> Result<Reply, AllocError>
     ensures { IfOk result (λ r. IsReply (map (λ s. s.now) words.entry.now) false input.now r) }
 {

@@ -6,7 +6,7 @@ ghost use Rattle.acpiroute_lib.specs.NamesCommand.{names_answer, names_of_machin
 use crate::machine::machine_of_text;
 use crate::name_lines::name_lines;
 use acpi_machine::Machine;
-use acpiroute_words::{Answer, Completion};
+use acpiroute_words::{Answer, Completion, Evaluation};
 use ar_space::{Refusal, Sparse};
 use std::alloc::Global;
 
@@ -21,13 +21,17 @@ fn names_of_machine(alloc: Global, machine: &Machine<Sparse>) -> Result<Answer, 
     })
 }
 
-/// What `names` answers over a machine text, with a budget of steps for each table: its names, one a line. It doesn't
+/// What `names` answers over a machine text, with its tables evaluated like this: its names, one a line. It doesn't
 /// initialize the machine.
 #[tactic(auto, using(ar_space::specs::Outcome::answering), unfolding(crate::specs::NamesCommand::names_answer))]
-pub(crate) fn names_answer(alloc: Global, steps: u64, text: Vec<u8>) -> Result<Answer, Refusal>
-    ensures { Answers result (names_answer steps text.items) }
+pub(crate) fn names_answer(
+    alloc: Global,
+    evaluation: Evaluation,
+    text: Vec<u8>,
+) -> Result<Answer, Refusal>
+    ensures { Answers result (names_answer evaluation text.items) }
 {
-    let machine = machine_of_text(alloc, steps, text)?;
+    let machine = machine_of_text(alloc, evaluation, text)?;
     let names = names_of_machine(alloc, &machine);
     // (by a call: what a scope drops at its end is dropped part by part, and long to prove)
     drop(machine);

@@ -92,39 +92,43 @@ fn decline<W: Sink, E: Sink>(writer: &mut W, errors: &mut E) -> u8
     deliver(b"", b"bad --avoid\n", 2, writer, errors)
 }
 
-/// Runs the program: reads the words, the first of which is the program's name, then the whole input, and writes the answer
-/// to the output, or one line to the errors.
+/// Runs the program: reads the words, the first of which is the program's name, then the whole input, and writes the
+/// answer to the output, or one line to the errors.
 ///
 /// The commands:
 ///
 /// - `check`: reads a report, and writes `yes`, or `no` and the number of its flaw.
-/// - `eval [--mode apic|pic] [--steps N] PATH [ARGUMENT..]`: reads a machine text, loads its tables, initializes the machine in
-///   the mode, by default `apic`, evaluates the object at the path with these arguments, at most seven, each an integer below
-///   2^64 in decimal digits, `s:` and the bytes of a string, or `b:` and those of a buffer in hexadecimal digits, and writes its value with a line feed: `integer N` in decimal digits; `string H` and `buffer H`, the
-///   bytes in upper-case hexadecimal digits, `-` where there is none; `package C ( V.. )`, the count of its elements and the
-///   elements, each behind a blank; `name P`, the path of what holds no data; `reference`; `none`, no value.
-/// - `names [--steps N]`: reads a machine text, loads its tables, and writes the names of the namespace, one a line in path
-///   order: the path, a blank, and the kind of what stands there, with a method how many arguments it takes, with an alias its
-///   target.
-/// - `route [--dry] [--mode apic|pic] [--steps N] [--avoid LIST]`: reads a machine text, loads its tables, initializes the machine in
-///   the mode, by default `apic`, chooses an interrupt for each link device, none of those in the list, sets them, and writes the
-///   report of this; with `--dry` no link device is set. The list is 1 to 255 numbers below 2^32 in decimal digits, separated by
-///   commas; for any other text, where nothing else is wrong with the words, the errors get the line
-///   `bad --avoid`.
+/// - `eval [--mode apic|pic] [--steps N] [--profile core|wide] PATH [ARGUMENT..]`: reads a machine text, loads its
+/// tables, initializes the machine in the mode, by default `apic`, evaluates the object at the path with these
+/// arguments, at most seven, each an integer below 2^64 in decimal digits, `s:` and the bytes of a string, or `b:`
+/// and those of a buffer in hexadecimal digits, and writes its value with a line feed: `integer N` in decimal digits;
+/// `string H` and `buffer H`, the bytes in upper-case hexadecimal digits, `-` where there is none; `package C ( V..
+/// )`, the count of its elements and the elements, each behind a blank; `name P`, the path of what holds no data;
+/// `reference`; `none`, no value.
+/// - `names [--steps N] [--profile core|wide]`: reads a machine text, loads its tables, and writes the names of the
+/// namespace, one a line in path order: the path, a blank, and the kind of what stands there, with a method how many
+/// arguments it takes, with an alias its target.
+/// - `route [--dry] [--mode apic|pic] [--steps N] [--profile core|wide] [--avoid LIST]`: reads a machine text, loads
+/// its tables, initializes the machine in the mode, by default `apic`, chooses an interrupt for each link device,
+/// none of those in the list, sets them, and writes the report of this; with `--dry` no link device is set. The list
+/// is 1 to 255 numbers below 2^32 in decimal digits, separated by commas; for any other text, where nothing else is
+/// wrong with the words, the errors get the line `bad --avoid`.
 ///
-/// N is the budget of steps for each table and each evaluation, a number from 1 to 1,000,000,000 in decimal digits, by default
-/// 1,000,000. Refusals come in this order: of the machine text, of the tables, of loading, of initializing, of the path's text,
-/// of evaluating or routing.
+/// N is the budget of steps for each table and each evaluation, a number from 1 to 1,000,000,000 in decimal digits,
+/// by default 1,000,000. The profile says how much of AML is evaluated, by default `core`. Refusals come in this
+/// order: of the machine text, of the tables, of loading, of initializing, of the path's text, of evaluating or
+/// routing.
 ///
-/// The result is the exit status: 0 where all went well, 1 for a refusal, 2 for a faulty command line, 3 where setting a link
-/// was refused, which the report tells, 4 where `check` says no. A faulty command line is found before any input is read, and `--help` is written to the output with 0.
+/// The result is the exit status: 0 where all went well, 1 for a refusal, 2 for a faulty command line, 3 where
+/// setting a link was refused, which the report tells, 4 where `check` says no. A faulty command line is found before
+/// any input is read, and `--help` is written to the output with 0.
 ///
-/// A refusal writes nothing to the output and one line to the errors: `refused R` with its number, and behind it ` at N`, an
-/// offset, for a fault of AML's terms, ` op XXXX` for a term that isn't evaluated, ` tag N` for a descriptor that isn't taken,
-/// ` line N` for a line of a report or of a machine text, ` P` for the path of a link that offers nothing or whose whole offer is
-/// avoided. An input of more than 16,777,216 bytes is refused as 143, any error of the reader as 141, and any error of the output's
-/// writer as 142; what had gone out then stays. An error of the errors' writer changes nothing. The reader is asked for at most
-/// 16,777,217 reads.
+/// A refusal writes nothing to the output and one line to the errors: `refused R` with its number, and behind it ` at
+/// N`, an offset, for a fault of AML's terms, ` op XXXX` for a term that isn't evaluated, ` tag N` for a descriptor
+/// that isn't taken, ` line N` for a line of a report or of a machine text, ` P` for the path of a link that offers
+/// nothing or whose whole offer is avoided. An input of more than 16,777,216 bytes is refused as 143, any error of
+/// the reader as 141, and any error of the output's writer as 142; what had gone out then stays. An error of the
+/// errors' writer changes nothing. The reader is asked for at most 16,777,217 reads.
 #[tactic(auto, using(crate::proofs::Deliveries::running))]
 pub fn run<R: Source, W: Sink, E: Sink>(
     alloc: Global,

@@ -9,7 +9,7 @@ ghost use Rattle.acpiroute_lib.specs.RouteCommand.{is_refused, completion_of, pr
 use crate::machine::machine_of_text_in;
 use acpi_configure::{Options, configure_with};
 use acpi_machine::Machine;
-use acpiroute_words::{Answer, Completion};
+use acpiroute_words::{Answer, Completion, Evaluation};
 use ar_space::{Refusal, Sparse};
 use route_report::{Mode, Report, SetLine, SetOutcome, print};
 use std::alloc::Global;
@@ -44,7 +44,8 @@ fn is_refused(outcome: SetOutcome) -> bool
 /// What `route` answers of a report: its text, and whether a setting was refused.
 pub fn report_answer(alloc: Global, report: &Report) -> Result<Answer, Refusal>
     ensures text { Answers result (Ok (printed report.now)) }
-    ensures read_back { IfOk result (λ w. IsReadable report.now → claim_of_text w.text ≡ Ok (claim_of_report report.now)) }
+    ensures read_back { IfOk result (λ w. IsReadable report.now →
+        claim_of_text w.text ≡ Ok (claim_of_report report.now)) }
 {
     Ok(Answer {
         text: print(alloc, report)?,
@@ -65,20 +66,19 @@ fn routed(
     report_answer(alloc, &report)
 }
 
-/// What `route` answers over a machine text, in a mode, with a budget of steps for each table and each evaluation, and with options: its
-/// report.
+/// What `route` answers over a machine text, in a mode, its AML evaluated like this, and with options: its report.
 /// Refused are the machine text, its tables, their loading, initializing, and then what the report has to find.
 #[tactic(auto, using(crate::proofs::Routes::routing))]
 pub(crate) fn route_answer(
     alloc: Global,
     mode: Mode,
-    steps: u64,
+    evaluation: Evaluation,
     options: &Options<'_>,
     text: Vec<u8>,
 ) -> Result<Answer, Refusal>
-    ensures { NotMemory result → IsRouteAnswer mode steps options.now text.items result }
+    ensures { NotMemory result → IsRouteAnswer mode evaluation options.now text.items result }
 {
-    let mut machine = machine_of_text_in(alloc, mode, steps, text)?;
+    let mut machine = machine_of_text_in(alloc, mode, evaluation, text)?;
     let report = routed(alloc, &mut machine, options);
     // (by a call: what a scope drops at its end is dropped part by part, and long to prove)
     drop(machine);

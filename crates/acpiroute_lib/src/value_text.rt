@@ -67,7 +67,8 @@ fn put_value(alloc: Global, text: &mut Vec<u8>, value: &Datum) -> Result<(), All
 /// A package: how many elements it has, and the elements between brackets.
 #[cycle(values)]
 fn put_package(alloc: Global, text: &mut Vec<u8>, elements: &[Datum]) -> Result<(), AllocError>
-    ensures { OnOk result (text.new.items ≡ text.old.items ++ package_text (length elements.now) (elements_text (given.givens (map given.given_of elements.now)))) }
+    ensures { OnOk result (text.new.items ≡ text.old.items ++ package_text (length elements.now)
+        (elements_text (given.givens (map given.given_of elements.now)))) }
 {
     text.extend_from_slice(b"package ")?;
     put_number(text, elements.len() as u64)?;
@@ -79,7 +80,8 @@ fn put_package(alloc: Global, text: &mut Vec<u8>, elements: &[Datum]) -> Result<
 /// Elements, each behind a blank.
 #[cycle(values)]
 fn put_elements(alloc: Global, text: &mut Vec<u8>, elements: &[Datum]) -> Result<(), AllocError>
-    ensures { OnOk result (text.new.items ≡ text.old.items ++ elements_text (given.givens (map given.given_of elements.now))) }
+    ensures { OnOk result (text.new.items ≡ text.old.items ++ elements_text
+        (given.givens (map given.given_of elements.now))) }
 {
     for element in elements {
         text.extend_from_slice(b" ")?;

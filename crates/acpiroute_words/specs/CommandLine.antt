@@ -6,10 +6,12 @@ use Rattle.clap.specs.Words.{App, Kinds, Row, Rule, Text, all_of, fault_of, firs
 use Rattle.clap.specs.declared.builder.action.ArgAction.TheVariants.{SetTrue}
 use Rattle.clap.specs.declared.error.kind.ErrorKind.TheVariants as kind
 use Rattle.ar_tables.specs.declared.mode.Mode.{Mode}
-use Rattle.acpiroute_words.specs.Values.{◌>>=◌, interrupts_named, mode_named, arguments_named, steps_named, is_true}
+use Rattle.aml_meaning.specs.declared.profile.Profile.{Profile}
+use Rattle.acpiroute_words.specs.Values.{◌>>=◌, interrupts_named, mode_named, profile_named, arguments_named, steps_named, is_true}
 use Rattle.acpiroute_words.specs.declared.arguments.Argument.{Argument}
 use Rattle.acpiroute_words.specs.declared.request.Request.TheVariants as request
 use Rattle.acpiroute_words.specs.declared.request.Asked.{Asked}
+use Rattle.acpiroute_words.specs.declared.request.Evaluation.{Evaluation}
 use Rattle.acpiroute_words.specs.declared.request.Asked.TheVariants.{For, BadAvoid}
 
 -- ---- the commands and options
@@ -28,6 +30,9 @@ mode_rule = value_rule (codes "mode")
 abbrev pub steps_rule : Rule
 steps_rule = value_rule (codes "steps")
 
+abbrev pub profile_rule : Rule
+profile_rule = value_rule (codes "profile")
+
 abbrev pub dry_rule : Rule
 dry_rule = flag_rule (codes "dry")
 
@@ -45,10 +50,10 @@ abbrev pub first_route_app : App
 first_route_app = with_rule (with_rule (with_rule (with_rule (new_app (codes "route")) mode_rule) steps_rule) dry_rule) avoid_rule
 
 abbrev pub route_app : App
-route_app = with_rule (with_rule first_route_app spare_rule) spread_rule
+route_app = with_rule (with_rule (with_rule first_route_app spare_rule) spread_rule) profile_rule
 
 abbrev pub names_app : App
-names_app = with_rule (new_app (codes "names")) steps_rule
+names_app = with_rule (with_rule (new_app (codes "names")) steps_rule) profile_rule
 
 -- a path, and then at most seven arguments
 abbrev pub path_rule : Rule
@@ -57,8 +62,12 @@ path_rule = record (new_rule (codes "path")) { value_names = 1; required = true 
 abbrev pub arguments_rule : Rule
 arguments_rule = record (new_rule (codes "arguments")) { value_names = 1; range = Some (record { start_inclusive = 1; end_inclusive = 7 }) }
 
+-- `eval`, without its path and its arguments
+abbrev pub first_eval_app : App
+first_eval_app = with_rule (with_rule (with_rule (new_app (codes "eval")) mode_rule) steps_rule) profile_rule
+
 abbrev pub eval_app : App
-eval_app = with_rule (with_rule (with_rule (with_rule (new_app (codes "eval")) mode_rule) steps_rule) path_rule) arguments_rule
+eval_app = with_rule (with_rule first_eval_app path_rule) arguments_rule
 
 abbrev pub check_app : App
 check_app = new_app (codes "check")
@@ -77,6 +86,19 @@ mode_of rows = mode_named (first_of (codes "mode") rows)
 
 abbrev pub steps_of : List Row → Option ℕ
 steps_of rows = steps_named (first_of (codes "steps") rows)
+
+abbrev pub profile_of : List Row → Option Profile
+profile_of rows = profile_named (first_of (codes "profile") rows)
+
+unfoldable pub evaluation_by : Option Profile → Option ℕ → Option Evaluation
+evaluation_by maybe_profile maybe_steps = do
+  profile ← maybe_profile
+  steps ← maybe_steps
+  Some (record { profile = profile; steps = steps })
+
+-- how AML is evaluated
+abbrev pub evaluation_of : List Row → Option Evaluation
+evaluation_of rows = evaluation_by (profile_of rows) (steps_of rows)
 
 abbrev pub path_of : List Row → Option Text
 path_of rows = first_of (codes "path") rows
@@ -97,35 +119,35 @@ abbrev pub avoid_of : List Row → Option (List ℕ)
 avoid_of rows = interrupts_named (first_of (codes "avoid") rows)
 
 -- a text of `--avoid` that is no list of interrupts is told where nothing else is wrong, by a line of its own
-abbrev pub route_with : Mode → ℕ → Bool → Option (List ℕ) → Bool → Bool → Asked
-route_with mode steps dry None spare spread = BadAvoid
-route_with mode steps dry (Some avoid) spare spread = For (request.Route mode steps dry avoid spare spread)
+abbrev pub route_with : Mode → Evaluation → Bool → Option (List ℕ) → Bool → Bool → Asked
+route_with mode evaluation dry None spare spread = BadAvoid
+route_with mode evaluation dry (Some avoid) spare spread = For (request.Route mode evaluation dry avoid spare spread)
 
-unfoldable pub route_by : Option Mode → Option ℕ → Bool → Option (List ℕ) → Bool → Bool → Option Asked
-route_by maybe_mode maybe_steps dry avoid spare spread = do
+unfoldable pub route_by : Option Mode → Option Evaluation → Bool → Option (List ℕ) → Bool → Bool → Option Asked
+route_by maybe_mode maybe_evaluation dry avoid spare spread = do
   mode ← maybe_mode
-  steps ← maybe_steps
-  Some (route_with mode steps dry avoid spare spread)
+  evaluation ← maybe_evaluation
+  Some (route_with mode evaluation dry avoid spare spread)
 
 unfoldable pub route_of : List Row → Option Asked
-route_of rows = route_by (mode_of rows) (steps_of rows) (is_dry rows) (avoid_of rows) (is_sparing rows) (is_spreading rows)
+route_of rows = route_by (mode_of rows) (evaluation_of rows) (is_dry rows) (avoid_of rows) (is_sparing rows) (is_spreading rows)
 
 unfoldable pub names_of : List Row → Option Asked
 names_of rows = do
-  steps ← steps_of rows
-  Some (For (request.Names steps))
+  evaluation ← evaluation_of rows
+  Some (For (request.Names evaluation))
 
 -- all of it must be said
-unfoldable pub eval_with : Option Mode → Option ℕ → Option Text → Option (List Argument) → Option Asked
-eval_with maybe_mode maybe_steps maybe_path maybe_arguments = do
+unfoldable pub eval_with : Option Mode → Option Evaluation → Option Text → Option (List Argument) → Option Asked
+eval_with maybe_mode maybe_evaluation maybe_path maybe_arguments = do
   mode ← maybe_mode
-  steps ← maybe_steps
+  evaluation ← maybe_evaluation
   path ← maybe_path
   arguments ← maybe_arguments
-  Some (For (request.Eval mode steps path arguments))
+  Some (For (request.Eval mode evaluation path arguments))
 
 unfoldable pub eval_of : List Row → Option Asked
-eval_of rows = eval_with (mode_of rows) (steps_of rows) (path_of rows) (arguments_of rows)
+eval_of rows = eval_with (mode_of rows) (evaluation_of rows) (path_of rows) (arguments_of rows)
 
 -- the command of this name, with its options
 unfoldable pub parsed_command : Text → List Row → Option Asked

@@ -4,6 +4,8 @@ use Rattle.std.specs.List.{slice_split}
 use Rattle.std.specs.Str.{bytes_eq}
 use Rattle.clap.specs.Words.{Text}
 use Rattle.hex.specs.Hex.{decode_of}
+use Rattle.aml_meaning.specs.declared.profile.Profile.{Profile}
+use Rattle.aml_meaning.specs.declared.profile.Profile.TheVariants.{Core, Wide}
 use Rattle.acpiroute_words.specs.declared.arguments.Argument.{Argument}
 use Rattle.acpiroute_words.specs.declared.arguments.Argument.TheVariants as variant
 use Rattle.ar_tables.specs.declared.mode.Mode.{Mode}
@@ -32,6 +34,10 @@ number word = if nat_lt 0 (length word) then number_from 0 word else None
 abbrev pub mode_named : Option Text → Option Mode
 mode_named None = Some Apic
 mode_named (Some t) = if bytes_eq t (codes "apic") then Some Apic else if bytes_eq t (codes "pic") then Some Pic else None
+
+abbrev pub profile_named : Option Text → Option Profile
+profile_named None = Some Core
+profile_named (Some t) = if bytes_eq t (codes "core") then Some Core else if bytes_eq t (codes "wide") then Some Wide else None
 
 abbrev pub within_steps : ℕ → Option ℕ
 within_steps n = if nat_le 1 n && nat_le n 1000000000 then Some n else None

@@ -1,9 +1,10 @@
-//! What is told where the value of an option is none of its values: the value, the option, what it takes, and its command's usage.
+//! What is told where the value of an option is none of its values: the value, the option, what it takes, and its
+//! command's usage.
 ghost use Rattle.std.specs.Prelude.{◌≡◌, IfOk};
 ghost use Rattle.clap.specs.Words.{kind_of};
 
 use crate::command_line::{eval_command, names_command, route_command};
-use crate::values::{argument, mode_named, steps_named};
+use crate::values::{argument, mode_named, profile_named, steps_named};
 use clap::error::ErrorKind;
 use clap::{ArgMatches, Command, Error};
 use std::alloc::{AllocError, Global};
@@ -42,6 +43,18 @@ fn bad_steps<'a>(matches: &ArgMatches<'a>) -> Option<BadValue<'a>> {
     })
 }
 
+fn bad_profile<'a>(matches: &ArgMatches<'a>) -> Option<BadValue<'a>> {
+    let value = matches.get_str("profile")?;
+    if profile_named(Some(value)).is_some() {
+        return None;
+    }
+    Some(BadValue {
+        value,
+        option: "--profile <PROFILE>",
+        takes: "core or wide",
+    })
+}
+
 fn bad_argument<'a>(
     alloc: Global,
     matches: &ArgMatches<'a>,
@@ -66,7 +79,10 @@ fn first_bad<'a>(
     alloc: Global,
     matches: &ArgMatches<'a>,
 ) -> Result<Option<BadValue<'a>>, AllocError> {
-    match bad_mode(matches).or_else(|| bad_steps(matches)) {
+    match bad_mode(matches)
+        .or_else(|| bad_steps(matches))
+        .or_else(|| bad_profile(matches))
+    {
         Some(bad) => Ok(Some(bad)),
         None => bad_argument(alloc, matches),
     }

@@ -2,14 +2,23 @@
 ghost use Rattle.std.specs.Prelude.{◌≡◌, IfOk, IfErr, Some, map, option_map, false, codes};
 ghost use Rattle.clap.specs.Words.{app_of, new_app, rows_of, rule_of, found_of, subcommand_rows_of, FailsBy};
 ghost use Rattle.clap.specs.declared.builder.command.Command.TheViews.{out-Command as fields_of};
-ghost use Rattle.acpiroute_words.specs.CommandLine.{app, bare_app, first_route_app, route_app, names_app, eval_app, check_app, mode_rule, steps_rule, dry_rule, avoid_rule, spare_rule, spread_rule, path_rule, arguments_rule, route_with, route_by, route_of, names_of, eval_of, eval_with, parsed_command, parsed_subcommand, clap_faults, command_of, faults_of, asked_of};
+ghost use Rattle.acpiroute_words.specs.CommandLine.{app, bare_app, first_route_app, route_app, names_app};
+ghost use Rattle.acpiroute_words.specs.CommandLine.{first_eval_app, eval_app, check_app, mode_rule, steps_rule};
+ghost use Rattle.acpiroute_words.specs.CommandLine.{profile_rule, dry_rule, avoid_rule, spare_rule, spread_rule};
+ghost use Rattle.acpiroute_words.specs.CommandLine.{path_rule, arguments_rule, evaluation_by, evaluation_of};
+ghost use Rattle.acpiroute_words.specs.CommandLine.{route_with, route_by, route_of, names_of, eval_of, eval_with};
+ghost use Rattle.acpiroute_words.specs.CommandLine.{parsed_command, parsed_subcommand, clap_faults, command_of};
+ghost use Rattle.acpiroute_words.specs.CommandLine.{faults_of, asked_of};
 
 use crate::arguments::Arguments;
 use crate::bad_values::bad_value;
 use crate::help_texts;
 use crate::interrupts::Interrupts;
-use crate::request::{Asked, Request};
-use crate::values::{arguments_named, interrupts_named, is_true, mode_named, steps_named};
+use crate::request::{Asked, Evaluation, Request};
+use crate::values::{
+    arguments_named, interrupts_named, is_true, mode_named, profile_named, steps_named,
+};
+use aml_meaning::Profile;
 use ar_space::PathText;
 use clap::{Arg, ArgAction, ArgMatches, Command, Error};
 use route_report::Mode;
@@ -31,6 +40,16 @@ fn steps_arg<'a>(alloc: Global) -> Arg<'a>
     Arg::new(alloc, "steps").long("steps").value_name("N").help(
         "The budget of steps, from 1 to 1000000000, by default 1000000",
     )
+}
+
+fn profile_arg<'a>(alloc: Global) -> Arg<'a>
+    ensures rule { rule_of result ≡ profile_rule }
+    ensures local { result.global ≡ false }
+{
+    Arg::new(alloc, "profile")
+        .long("profile")
+        .value_name("PROFILE")
+        .help("How much of AML is evaluated: core or wide, by default core")
 }
 
 fn dry_arg<'a>(alloc: Global) -> Arg<'a>
@@ -127,7 +146,8 @@ pub(crate) fn route_command<'a>(alloc: Global) -> Result<Command<'a>, AllocError
 {
     first_route_command(alloc)?
         .arg(spare_arg(alloc))?
-        .arg(spread_arg(alloc))
+        .arg(spread_arg(alloc))?
+        .arg(profile_arg(alloc))
 }
 
 pub(crate) fn names_command<'a>(alloc: Global) -> Result<Command<'a>, AllocError>
@@ -137,7 +157,8 @@ pub(crate) fn names_command<'a>(alloc: Global) -> Result<Command<'a>, AllocError
     Command::new(alloc, "names")
         .about("Read a machine text from the standard input, and write the names of its namespace")
         .after_help(help_texts::NAMES)
-        .arg(steps_arg(alloc))
+        .arg(steps_arg(alloc))?
+        .arg(profile_arg(alloc))
 }
 
 /// `eval`, without its options.
@@ -152,13 +173,22 @@ fn bare_eval_command<'a>(alloc: Global) -> Command<'a>
         .after_help(help_texts::EVAL)
 }
 
-pub(crate) fn eval_command<'a>(alloc: Global) -> Result<Command<'a>, AllocError>
-    ensures app { IfOk result (λ c. app_of c ≡ eval_app) }
+/// `eval`, without its path and its arguments.
+fn first_eval_command<'a>(alloc: Global) -> Result<Command<'a>, AllocError>
+    ensures app { IfOk result (λ c. app_of c ≡ first_eval_app) }
     ensures local { IfOk result (λ c. (fields_of c).has_globals ≡ false) }
 {
     bare_eval_command(alloc)
         .arg(mode_arg(alloc))?
         .arg(steps_arg(alloc))?
+        .arg(profile_arg(alloc))
+}
+
+pub(crate) fn eval_command<'a>(alloc: Global) -> Result<Command<'a>, AllocError>
+    ensures app { IfOk result (λ c. app_of c ≡ eval_app) }
+    ensures local { IfOk result (λ c. (fields_of c).has_globals ≡ false) }
+{
+    first_eval_command(alloc)?
         .arg(path_arg(alloc))?
         .arg(arguments_arg(alloc))
 }
@@ -203,6 +233,26 @@ fn matches<'a>(alloc: Global, words: &'a [&'a str]) -> Result<ArgMatches<'a>, Er
     command(alloc)?.try_get_matches_from(words)
 }
 
+/// How AML is evaluated, where its profile and its steps are said.
+#[tactic(auto, unfolding(crate::specs::CommandLine::evaluation_by))]
+fn evaluation_by(profile: Option<Profile>, steps: Option<u64>) -> Option<Evaluation>
+    ensures { result ≡ evaluation_by profile steps }
+{
+    let profile = profile?;
+    let steps = steps?;
+    Some(Evaluation { profile, steps })
+}
+
+/// How the options say that AML is evaluated.
+#[tactic(auto, using(crate::proofs::Getters::first_text))]
+fn evaluation_of(matches: &ArgMatches<'_>) -> Option<Evaluation>
+    ensures { result ≡ evaluation_of (rows_of (found_of matches.now)) }
+{
+    let profile = profile_named(matches.get_str("profile"));
+    let steps = steps_named(matches.get_str("steps"));
+    evaluation_by(profile, steps)
+}
+
 /// What the options of `route` say.
 #[tactic(auto, unfolding(crate::specs::CommandLine::route_of), using(crate::proofs::Getters::first_text))]
 fn route_of(alloc: Global, matches: &ArgMatches<'_>) -> Result<Option<Asked>, AllocError>
@@ -210,46 +260,46 @@ fn route_of(alloc: Global, matches: &ArgMatches<'_>) -> Result<Option<Asked>, Al
 {
     let avoid = interrupts_named(alloc, matches.get_str("avoid"))?;
     let mode = mode_named(matches.get_str("mode"));
-    let steps = steps_named(matches.get_str("steps"));
+    let evaluation = evaluation_of(matches);
     let dry = is_true(matches.get_str("dry"));
     let spare = is_true(matches.get_str("spare"));
     let spread = is_true(matches.get_str("spread"));
-    Ok(route_by(mode, steps, dry, avoid, spare, spread))
+    Ok(route_by(mode, evaluation, dry, avoid, spare, spread))
 }
 
-/// A request of `route`, where its mode and its steps are said.
+/// A request of `route`, where its mode is said, and how AML is evaluated.
 #[tactic(auto, unfolding(crate::specs::CommandLine::route_by))]
 fn route_by(
     mode: Option<Mode>,
-    steps: Option<u64>,
+    evaluation: Option<Evaluation>,
     dry: bool,
     avoid: Option<Interrupts>,
     spare: bool,
     spread: bool,
 ) -> Option<Asked>
-    ensures { result ≡ route_by mode steps dry avoid spare spread }
+    ensures { result ≡ route_by mode evaluation dry avoid spare spread }
 {
     let mode = mode?;
-    let steps = steps?;
-    Some(route_with(mode, steps, dry, avoid, spare, spread))
+    let evaluation = evaluation?;
+    Some(route_with(mode, evaluation, dry, avoid, spare, spread))
 }
 
 /// What `route` is asked where these interrupts are to be avoided, or that they are no list.
 fn route_with(
     mode: Mode,
-    steps: u64,
+    evaluation: Evaluation,
     dry: bool,
     avoid: Option<Interrupts>,
     spare: bool,
     spread: bool,
 ) -> Asked
-    ensures { result ≡ route_with mode steps dry avoid spare spread }
+    ensures { result ≡ route_with mode evaluation dry avoid spare spread }
 {
     match avoid {
         None => Asked::BadAvoid,
         Some(avoid) => Asked::For(Request::Route {
             mode,
-            steps,
+            evaluation,
             dry,
             avoid,
             spare,
@@ -263,8 +313,8 @@ fn route_with(
 fn names_of(matches: &ArgMatches<'_>) -> Option<Asked>
     ensures { result ≡ names_of (rows_of (found_of matches.now)) }
 {
-    let steps = steps_named(matches.get_str("steps"))?;
-    Some(Asked::For(Request::Names { steps }))
+    let evaluation = evaluation_of(matches)?;
+    Some(Asked::For(Request::Names { evaluation }))
 }
 
 /// The text of a path, of its own.
@@ -281,19 +331,19 @@ fn path_named(alloc: Global, text: Option<&str>) -> Result<Option<PathText>, All
 #[tactic(auto, unfolding(crate::specs::CommandLine::eval_with))]
 fn eval_with(
     mode: Option<Mode>,
-    steps: Option<u64>,
+    evaluation: Option<Evaluation>,
     path: Option<PathText>,
     arguments: Option<Arguments>,
 ) -> Option<Asked>
-    ensures { result ≡ eval_with mode steps path arguments }
+    ensures { result ≡ eval_with mode evaluation path arguments }
 {
     let mode = mode?;
-    let steps = steps?;
+    let evaluation = evaluation?;
     let path = path?;
     let arguments = arguments?;
     Some(Asked::For(Request::Eval {
         mode,
-        steps,
+        evaluation,
         path,
         arguments,
     }))
@@ -307,8 +357,8 @@ fn eval_of(alloc: Global, matches: &ArgMatches<'_>) -> Result<Option<Asked>, All
     let path = path_named(alloc, matches.get_str("path"))?;
     let arguments = arguments_named(alloc, matches.get_strs("arguments"))?;
     let mode = mode_named(matches.get_str("mode"));
-    let steps = steps_named(matches.get_str("steps"));
-    Ok(eval_with(mode, steps, path, arguments))
+    let evaluation = evaluation_of(matches);
+    Ok(eval_with(mode, evaluation, path, arguments))
 }
 
 /// The command of this name, with its options.
@@ -342,8 +392,8 @@ fn parsed_subcommand(alloc: Global, matches: &ArgMatches<'_>) -> Result<Option<A
     }
 }
 
-/// What the words ask for, `BadAvoid` where the text of `--avoid` is no list of interrupts, or the text for the user: any other fault
-/// of the words, a wish for help, or that memory ran out.
+/// What the words ask for, `BadAvoid` where the text of `--avoid` is no list of interrupts, or the text for the user:
+/// any other fault of the words, a wish for help, or that memory ran out.
 pub fn parse<'a>(alloc: Global, words: &'a [&'a str]) -> Result<Asked, Error>
     ensures faults { FailsBy (faults_of (map (λ s. s.now) words.entry.now)) result }
     ensures asked { IfOk result (λ a. asked_of (map (λ s. s.now) words.entry.now) ≡ Some a) }

@@ -23,8 +23,8 @@ fn put_all<W: Sink>(writer: &mut W, text: &[u8]) -> Result<(), Failed>
     Ok(())
 }
 
-/// Delivers a text, a line and a status. Where a write to the output fails, the line is that of the fault and the status 1;
-/// where a write to the errors fails, nothing else changes.
+/// Delivers a text, a line and a status. Where a write to the output fails, the line is that of the fault and the
+/// status 1; where a write to the errors fails, nothing else changes.
 pub fn deliver<W: Sink, E: Sink>(
     text: &[u8],
     line: &[u8],
@@ -57,8 +57,8 @@ fn line_of(alloc: Global, refusal: &Refusal) -> Result<Vec<u8>, AllocError>
     }
 }
 
-/// Delivers an answer, or the line of a refusal and nothing else. The line is made whole before its first byte goes out;
-/// where memory runs out for it, the line is that of `OutOfMemory`.
+/// Delivers an answer, or the line of a refusal and nothing else. The line is made whole before its first byte goes
+/// out; where memory runs out for it, the line is that of `OutOfMemory`.
 pub fn deliver_outcome<W: Sink, E: Sink>(
     alloc: Global,
     outcome: Result<Answer, Refusal>,

@@ -1,7 +1,8 @@
 //! The line that tells of a refusal. None of this takes memory.
 ghost use Rattle.std.specs.Prelude.{◌≡◌, OnOk};
 ghost use Rattle.std.specs.Io.KnownBytes.{Appends};
-ghost use Rattle.acpiroute_words.specs.ErrorLines.{line_with, error_line, evaluation_detail, resource_detail, routing_detail, report_detail, input_detail};
+ghost use Rattle.acpiroute_words.specs.ErrorLines.{line_with, error_line, evaluation_detail, resource_detail};
+ghost use Rattle.acpiroute_words.specs.ErrorLines.{routing_detail, report_detail, input_detail};
 
 use ar_space::{EvaluationFault, InputFault, Refusal, ReportFault, ResourceFault, RoutingFault};
 use std::io;
@@ -9,7 +10,8 @@ use std::io::Write;
 
 /// The line of an evaluation's refusal, with the opcode of a term that isn't evaluated.
 fn evaluation_line<E: Write>(errors: &mut E, number: u8, fault: &EvaluationFault) -> io::Result<()>
-    ensures { OnOk result (Appends (E.contents errors.old) (E.contents errors.new) (line_with number (evaluation_detail fault.now))) }
+    ensures { OnOk result (Appends (E.contents errors.old) (E.contents errors.new)
+        (line_with number (evaluation_detail fault.now))) }
 {
     match fault {
         EvaluationFault::Unsupported(opcode) => {
@@ -22,7 +24,8 @@ fn evaluation_line<E: Write>(errors: &mut E, number: u8, fault: &EvaluationFault
 
 /// The line of resources' refusal, with the tag of a descriptor that isn't taken.
 fn resource_line<E: Write>(errors: &mut E, number: u8, fault: &ResourceFault) -> io::Result<()>
-    ensures { OnOk result (Appends (E.contents errors.old) (E.contents errors.new) (line_with number (resource_detail fault.now))) }
+    ensures { OnOk result (Appends (E.contents errors.old) (E.contents errors.new)
+        (line_with number (resource_detail fault.now))) }
 {
     match fault {
         ResourceFault::Descriptor(tag) => {
@@ -35,7 +38,8 @@ fn resource_line<E: Write>(errors: &mut E, number: u8, fault: &ResourceFault) ->
 
 /// The line of routing's refusal, with the path of a link that offers nothing.
 fn routing_line<E: Write>(errors: &mut E, number: u8, fault: &RoutingFault) -> io::Result<()>
-    ensures { OnOk result (Appends (E.contents errors.old) (E.contents errors.new) (line_with number (routing_detail fault.now))) }
+    ensures { OnOk result (Appends (E.contents errors.old) (E.contents errors.new)
+        (line_with number (routing_detail fault.now))) }
 {
     match fault {
         RoutingFault::NoOffer(path) | RoutingFault::Avoided(path) => {
@@ -48,7 +52,8 @@ fn routing_line<E: Write>(errors: &mut E, number: u8, fault: &RoutingFault) -> i
 
 /// The line of a report's refusal, with the number of its line.
 fn report_line<E: Write>(errors: &mut E, number: u8, fault: &ReportFault) -> io::Result<()>
-    ensures { OnOk result (Appends (E.contents errors.old) (E.contents errors.new) (line_with number (report_detail fault.now))) }
+    ensures { OnOk result (Appends (E.contents errors.old) (E.contents errors.new)
+        (line_with number (report_detail fault.now))) }
 {
     match fault {
         ReportFault::BadLine(line) => {
@@ -60,7 +65,8 @@ fn report_line<E: Write>(errors: &mut E, number: u8, fault: &ReportFault) -> io:
 
 /// The line of an input's refusal, with the number of a line of the machine text.
 fn input_line<E: Write>(errors: &mut E, number: u8, fault: &InputFault) -> io::Result<()>
-    ensures { OnOk result (Appends (E.contents errors.old) (E.contents errors.new) (line_with number (input_detail fault.now))) }
+    ensures { OnOk result (Appends (E.contents errors.old) (E.contents errors.new)
+        (line_with number (input_detail fault.now))) }
 {
     match fault {
         InputFault::MachineLine(n) => {

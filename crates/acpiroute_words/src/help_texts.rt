@@ -1,4 +1,5 @@
-//! The texts at the end of the help of the program and of its commands: what their exit statuses and their refusals' numbers mean.
+//! The texts at the end of the help of the program and of its commands: what their exit statuses and their refusals'
+//! numbers mean.
 
 /// The program's version, which `--version` prints.
 pub(crate) const VERSION: &str = "0.1.0";
@@ -43,11 +44,17 @@ An interrupt of --avoid is given to no link device; what is wired to it stays th
 avoided or spared, the machine is refused by number 123. The report's line 'sci N' says that the System Control Interrupt is one source on N; 'sci \
 none', that there is none.
 
+The core profile leaves out what few machines need: terms of AML are refused by number 73, a link device that offers interrupts for itself \
+alone by number 101, one whose _HID is a control method by number 113. With --profile wide more terms are evaluated, such offers are taken \
+as shared ones, and the method is called.
+
 Exit status: 0 for a report, 1 for a refusal, 2 for a faulty command line, 3 where setting a link was refused, which the report tells. \
 'acpiroute --help' lists the refusals.";
 
 pub(crate) const NAMES: &str = "\
 The machine text is read from the standard input: acpiroute names < machine.txt
+
+With --profile wide more terms of AML are evaluated while the tables are loaded than in the core profile.
 
 Exit status: 0 for the names, 1 for a refusal, 2 for a faulty command line. 'acpiroute --help' lists the refusals.";
 
@@ -56,6 +63,8 @@ The machine text is read from the standard input: acpiroute eval '\\_SB_.PCI0._P
 
 Write the path between single quotes, for the shell, and as 'acpiroute names' prints it: capitals, and four characters for each name. \
 tools/show_value.py shows the value so that people can read it.
+
+With --profile wide more terms of AML are evaluated than in the core profile, which refuses them by number 73.
 
 Exit status: 0 for the value, 1 for a refusal, 2 for a faulty command line. 'acpiroute --help' lists the refusals.";
 

@@ -80,8 +80,8 @@ fn read_within<R: Source>(
     Err(Stop::TooLong)
 }
 
-/// The whole input, of at most 16 MiB: `TooLong` where it is longer, `ReadFault` where a read failed. The reader is asked for at
-/// most 16,777,217 reads.
+/// The whole input, of at most 16 MiB: `TooLong` where it is longer, `ReadFault` where a read failed. The reader is
+/// asked for at most 16,777,217 reads.
 pub fn read_input<R: Source>(alloc: Global, reader: &mut R) -> Result<Vec<u8>, Stop>
     requires { R.has_failed reader.old ≡ false }
     ensures input { IsRead 16777216 (R.left reader.old) (R.has_failed reader.new) (read_as (λ v. v.items) result) }

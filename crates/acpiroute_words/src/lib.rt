@@ -1,5 +1,5 @@
-//! The parts of the program that need no machine: the command line, the whole input, `check`, and writing out an answer or the one
-//! line of a refusal. `acpiroute_lib` is built on it.
+//! The parts of the program that need no machine: the command line, the whole input, `check`, and writing out an
+//! answer or the one line of a refusal. `acpiroute_lib` is built on it.
 #![tactic(auto)]
 
 mod answer;
@@ -29,5 +29,5 @@ pub use error_line::write_error_line;
 pub use input::{Stop, read_input};
 pub use interrupts::Interrupts;
 pub use put::{put_number, put_path};
-pub use request::{Asked, Request};
+pub use request::{Asked, Evaluation, Request};
 pub use streams::{Failed, Growing, Outside, Sink, Source};

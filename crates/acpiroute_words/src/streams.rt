@@ -1,5 +1,6 @@
 //! What a run reads from and writes to, and whether it failed.
-ghost use Rattle.std.specs.Prelude.{◌≡◌, ℕ, ◌<◌, ◌≤◌, Bool, false, List, Option, Some, length, IfOk, OnErr, is_err, [], ◌+◌, vec_capacity, vec_len};
+ghost use Rattle.std.specs.Prelude.{◌≡◌, ℕ, ◌<◌, ◌≤◌, Bool, false, List, Option, Some, length, IfOk, OnErr, is_err, []};
+ghost use Rattle.std.specs.Prelude.{◌+◌, vec_capacity, vec_len};
 ghost use Rattle.std.specs.Io.KnownBytes.{ReadConsumes, WriteAppends};
 ghost use Rattle.std.specs.Io.{ReadsAtMost};
 ghost use Rattle.acpiroute_words.specs.Held.{Held};
@@ -12,8 +13,8 @@ use std::io::{Read, Write};
 #[derive(Clone, Copy, Debug)]
 pub struct Failed;
 
-/// What is read from, until a read fails. Whether one failed is a state of the source, so that a contract can say so of a
-/// caller, who sees no more than this trait.
+/// What is read from, until a read fails. Whether one failed is a state of the source, so that a contract can say so
+/// of a caller, who sees no more than this trait.
 pub trait Source {
     // The bytes that are left, where they are known.
     ghost left: { Self → Option (List ℕ) };
@@ -21,7 +22,8 @@ pub trait Source {
     // Whether a read failed.
     ghost has_failed: { Self → Bool };
 
-    // One read leads from the first state to the second. A source that counts its reads says here that the count is one more.
+    // One read leads from the first state to the second. A source that counts its reads says here that the count is
+    // one more.
     ghost one_read: { Self → Self → Type 0 };
 
     /// The next bytes. None are given only at the end, or where there is no room.
@@ -62,7 +64,8 @@ impl Source for &[u8] {
     }
 }
 
-/// A reader or a writer of the standard library, and whether a call of it failed. A write that takes no byte is a failed one.
+/// A reader or a writer of the standard library, and whether a call of it failed. A write that takes no byte is a
+/// failed one.
 ///
 /// Its user has to make it with no failure, and to leave its fields alone while a run uses it.
 #[derive(Drop)]

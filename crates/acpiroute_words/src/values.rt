@@ -2,10 +2,14 @@
 ghost use Rattle.std.specs.Prelude.{◌≡◌, ◌==◌, IfOk, map, option_map};
 ghost use Rattle.std.specs.List.{slice_split};
 ghost use Rattle.acpiroute_words.specs.declared.arguments.Argument.TheVariants as variant;
-ghost use Rattle.acpiroute_words.specs.Values.{number, number_from, with_digit, argument, arguments, arguments_named, bytes_of_digits, interrupt, interrupts, few_interrupts, interrupts_listed, interrupts_named, mode_named, steps_named, within_steps, is_true};
+ghost use Rattle.acpiroute_words.specs.Values.{number, number_from, with_digit, argument, arguments, arguments_named};
+ghost use Rattle.acpiroute_words.specs.Values.{bytes_of_digits, interrupt, interrupts, few_interrupts};
+ghost use Rattle.acpiroute_words.specs.Values.{interrupts_listed, interrupts_named, mode_named, profile_named};
+ghost use Rattle.acpiroute_words.specs.Values.{steps_named, within_steps, is_true};
 
 use crate::arguments::{Argument, ArgumentBytes, Arguments};
 use crate::interrupts::Interrupts;
+use aml_meaning::Profile;
 use hex::FromHexError;
 use route_report::Mode;
 use std::alloc::{AllocError, Global};
@@ -78,7 +82,8 @@ fn integer(digits: &[u8]) -> Option<Argument>
     Some(Argument::Integer(number_in(digits)?))
 }
 
-/// The argument that a text is: `s:` and the bytes of a string, `b:` and those of a buffer in hexadecimal digits, or a number.
+/// The argument that a text is: `s:` and the bytes of a string, `b:` and those of a buffer in hexadecimal digits, or
+/// a number.
 pub(crate) fn argument(alloc: Global, text: &str) -> Result<Option<Argument>, AllocError>
     ensures { IfOk result (λ r. r ≡ argument text.now) }
 {
@@ -207,6 +212,24 @@ pub(crate) fn mode_named(text: Option<&str>) -> Option<Mode>
                 Some(Mode::Apic)
             } else if text == "pic" {
                 Some(Mode::Pic)
+            } else {
+                None
+            }
+        }
+    }
+}
+
+/// A profile, `core` where none is given.
+pub(crate) fn profile_named(text: Option<&str>) -> Option<Profile>
+    ensures { result ≡ profile_named (option_map (λ s. s.now) text.entry) }
+{
+    match text {
+        None => Some(Profile::Core),
+        Some(text) => {
+            if text == "core" {
+                Some(Profile::Core)
+            } else if text == "wide" {
+                Some(Profile::Wide)
             } else {
                 None
             }

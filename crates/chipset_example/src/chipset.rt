@@ -13,8 +13,8 @@ pub enum RouterPin {
     D,
 }
 
-/// An interrupt router: function 0 of device 1 on bus 0 has a register of one byte for each pin, from 60 to 63. Nothing else
-/// answers.
+/// An interrupt router: function 0 of device 1 on bus 0 has a register of one byte for each pin, from 60 to 63.
+/// Nothing else answers.
 #[derive(Drop)]
 pub struct Chipset {
     a: u8,

@@ -8,20 +8,23 @@ use Rattle.acpi_machine.specs.Kinds as kind
 use Rattle.acpi_machine.specs.Kinds.{Kind, kind_at}
 use Rattle.acpi_prt.specs.Children.{child_named}
 use Rattle.acpi_prt.specs.Entries.{entries_of, fits_word, letter_of, no_index, source_tested, word_of, zero_source}
-use Rattle.acpi_prt.specs.Finding.{device_in, device_or_not, id_in, id_or_not}
+use Rattle.acpi_prt.specs.Finding.{device_in, device_or_not, id_in, id_or_not, method_or_not}
 use Rattle.acpi_prt.specs.Links.{has_link_id, is_link_id}
 use Rattle.acpi_prt.specs.declared.pin.Pin.{Pin}
 use Rattle.acpi_resources.specs.Current.{all_numbers, current_of, numbers_from}
 use Rattle.acpi_resources.specs.Descriptors.{descriptor_of, extended_interrupt_descriptor}
-use Rattle.acpi_resources.specs.FlagByte.{is_edge, is_shared}
+use Rattle.acpi_resources.specs.declared.exclusives.Exclusives.{Exclusives}
+use Rattle.acpi_resources.specs.FlagByte.{is_edge}
 use Rattle.acpi_resources.specs.Items.{ResourceItem, items_of}
 use Rattle.acpi_resources.specs.Numbers.{set_of}
-use Rattle.acpi_resources.specs.Offers.{offer_of, offered, offered_from, possible_of, the_offer}
+use Rattle.acpi_resources.specs.Offers.{is_barred, offer_of, offered, offered_from, possible_as, the_offer}
 use Rattle.acpi_resources.specs.Records.{InterruptDescriptor, InterruptOffer}
 use Rattle.ar_space.specs.Outcome.{Outcome, ◌>>=◌}
 use Rattle.ar_space.specs.declared.refusal.Refusal.{Refusal}
 use Rattle.aml_path.specs.declared.segment.Seg.{Seg}
 use Rattle.aml_namespace.specs.Namespace.{Map}
+use Rattle.aml_meaning.specs.declared.profile.Profile.{Profile}
+use Rattle.aml_meaning.specs.declared.profile.Profile.TheVariants.{Core, Wide}
 use Rattle.aml_meaning.specs.Given as given
 use Rattle.aml_meaning.specs.Given.{Given}
 use Rattle.aml_laws.proofs.CleanOutcomes.{Clean, CleanRefusal, followed_clean, if_clean}
@@ -29,14 +32,14 @@ use Rattle.aml_laws.proofs.CleanValues.{seg_of_clean}
 
 -- ---- resource descriptors
 
-pub offer_of_clean : (d : InterruptDescriptor) → Clean (offer_of d)
+pub offer_of_clean : (exclusives : Exclusives) (d : InterruptDescriptor) → Clean (offer_of exclusives d)
 unfolding offer_of
-offer_of_clean d = if_clean (is_edge d.form d.flags) _ _ tt (if_clean (not (is_shared d.form d.flags)) _ _ tt (if_clean d.has_source _ _ tt (if_clean (length (set_of d.numbers) == 0) _ _ tt tt)))
+offer_of_clean exclusives d = if_clean (is_edge d.form d.flags) _ _ tt (if_clean (is_barred exclusives d.form d.flags) _ _ tt (if_clean d.has_source _ _ tt (if_clean (length (set_of d.numbers) == 0) _ _ tt tt)))
 
-pub the_offer_clean : (o : Option InterruptOffer) (d : InterruptDescriptor) → Clean (the_offer o d)
+pub the_offer_clean : (exclusives : Exclusives) (o : Option InterruptOffer) (d : InterruptDescriptor) → Clean (the_offer exclusives o d)
 unfolding the_offer
-the_offer_clean (Some found) d = tt
-the_offer_clean None d = offer_of_clean d
+the_offer_clean exclusives (Some found) d = tt
+the_offer_clean exclusives None d = offer_of_clean exclusives d
 
 pub ok_or_clean : {A : Type 0} (o : Option A) (e : Refusal) → CleanRefusal e → Clean (ok_or o e)
 ok_or_clean None e apart = apart
@@ -47,30 +50,30 @@ either_then_clean : {A B : Type 0} (b : Bool) (x y : Outcome A) (k : A → Outco
 either_then_clean true x y k h i = h
 either_then_clean false x y k h i = i
 
-module _ (behind : Option InterruptOffer → Outcome InterruptOffer) (all : (o : Option InterruptOffer) → Clean (behind o)) (found : Option InterruptOffer) where
-  one_offered_clean : (d : InterruptDescriptor) → Clean (the_offer found d >>= (λ offer. behind (Some offer)))
-  one_offered_clean d = followed_clean _ _ (the_offer_clean found d) (λ offer. all (Some offer))
+module _ (exclusives : Exclusives) (behind : Option InterruptOffer → Outcome InterruptOffer) (all : (o : Option InterruptOffer) → Clean (behind o)) (found : Option InterruptOffer) where
+  one_offered_clean : (d : InterruptDescriptor) → Clean (the_offer exclusives found d >>= (λ offer. behind (Some offer)))
+  one_offered_clean d = followed_clean _ _ (the_offer_clean exclusives found d) (λ offer. all (Some offer))
 
-  extended_offered_clean : (body : List ℕ) → Clean (extended_interrupt_descriptor body >>= (λ d. offered_from behind found d))
+  extended_offered_clean : (body : List ℕ) → Clean (extended_interrupt_descriptor body >>= (λ d. offered_from exclusives behind found d))
   unfolding extended_interrupt_descriptor offered_from ◌>>=◌
   extended_offered_clean [] = tt
   extended_offered_clean (flags ∷ []) = tt
   extended_offered_clean (flags ∷ count ∷ bytes) = either_then_clean (nat_le (4 * count) (length bytes)) _ _ _ (one_offered_clean _) tt
 
-  item_offered_clean : (item : ResourceItem) → Clean (descriptor_of item >>= (λ d. offered_from behind found d))
+  item_offered_clean : (item : ResourceItem) → Clean (descriptor_of item >>= (λ d. offered_from exclusives behind found d))
   unfolding descriptor_of offered_from ◌>>=◌
   item_offered_clean item =
       either_then_clean (item.tag == 0x22) _ _ _ (one_offered_clean _) (either_then_clean (item.tag == 0x23) _ _ _ (one_offered_clean _) (either_then_clean (item.tag == 0x89) _ _ _ (extended_offered_clean item.body)
       (either_then_clean (item.tag == 0x79) _ _ _ (ok_or_clean found _ tt) (either_then_clean (((item.tag == 0x30) || (item.tag == 0x31)) || (item.tag == 0x38)) _ _ _ tt tt))))
 
-offered_clean : (items : List ResourceItem) (found : Option InterruptOffer) → Clean (offered found items)
+offered_clean : (exclusives : Exclusives) (items : List ResourceItem) (found : Option InterruptOffer) → Clean (offered exclusives found items)
 unfolding offered
-offered_clean [] found = tt
-offered_clean (item ∷ items) found = item_offered_clean (λ now. offered now items) (offered_clean items) found item
+offered_clean exclusives [] found = tt
+offered_clean exclusives (item ∷ items) found = item_offered_clean exclusives (λ now. offered exclusives now items) (offered_clean exclusives items) found item
 
-pub possible_of_clean : (bytes : List ℕ) → Clean (possible_of bytes)
-unfolding possible_of
-possible_of_clean bytes = offered_clean (items_of bytes) None
+pub possible_as_clean : (exclusives : Exclusives) (bytes : List ℕ) → Clean (possible_as exclusives bytes)
+unfolding possible_as
+possible_as_clean exclusives bytes = offered_clean exclusives (items_of bytes) None
 
 module _ (behind : Outcome (List ℕ)) (clean : Clean behind) where
   one_listed_clean : (listed : List ℕ) → Clean (behind >>= (λ numbers. Ok (listed ++ numbers)))
@@ -132,18 +135,23 @@ pub device_or_not_clean : (o : Option Kind) → Clean (device_or_not o)
 device_or_not_clean (Some kind.Device) = tt
 device_or_not_clean _ = tt
 
-pub id_or_not_clean : (o : Option Kind) → Clean (id_or_not o)
-id_or_not_clean (Some kind.Integer) = tt
-id_or_not_clean (Some kind.String) = tt
-id_or_not_clean _ = tt
+method_or_not_clean : (profile : Profile) → Clean (method_or_not profile)
+method_or_not_clean Core = tt
+method_or_not_clean Wide = tt
+
+pub id_or_not_clean : (profile : Profile) (o : Option Kind) → Clean (id_or_not profile o)
+id_or_not_clean profile (Some kind.Integer) = tt
+id_or_not_clean profile (Some kind.String) = tt
+id_or_not_clean profile (Some (kind.Method count)) = method_or_not_clean profile
+id_or_not_clean profile _ = tt
 
 pub device_in_clean : (m : Map) (p : List Seg) → Clean (device_in m p)
 unfolding device_in
 device_in_clean m p = followed_clean _ _ tt (λ q. followed_clean _ _ (device_or_not_clean (kind_at m q)) (λ u. tt))
 
-pub id_in_clean : (m : Map) (p : List Seg) → Clean (id_in m p)
+pub id_in_clean : (profile : Profile) (m : Map) (p : List Seg) → Clean (id_in profile m p)
 unfolding id_in
-id_in_clean m p = followed_clean _ _ tt (λ q. followed_clean _ _ (id_or_not_clean (kind_at m q)) (λ u. tt))
+id_in_clean profile m p = followed_clean _ _ tt (λ q. followed_clean _ _ (id_or_not_clean profile (kind_at m q)) (λ u. tt))
 
 pub is_link_id_clean : (id : given.Given) → Clean (is_link_id id)
 is_link_id_clean id = if_clean (has_link_id id) _ _ tt tt

@@ -1,6 +1,6 @@
 -- Where a routing table, a link or what is gathered of a machine is refused by a fault of the register space, the last access
 -- answered with it.
-use Rattle.machine_laws.proofs.CleanLinks.{device_in_clean, id_in_clean, bytes_in_clean, child_named_clean, current_of_clean, entries_of_clean, few_links_clean, few_pins_clean, is_link_id_clean, letter_of_clean, no_index_clean, one_polarity_clean, possible_of_clean, presence_clean, some_left_clean, source_tested_clean, word_of_clean}
+use Rattle.machine_laws.proofs.CleanLinks.{device_in_clean, id_in_clean, bytes_in_clean, child_named_clean, current_of_clean, entries_of_clean, few_links_clean, few_pins_clean, is_link_id_clean, letter_of_clean, no_index_clean, one_polarity_clean, possible_as_clean, presence_clean, some_left_clean, source_tested_clean, word_of_clean}
 use Rattle.machine_laws.proofs.FaultsOfCalls.{MachineExplains, evaluated_object_explains}
 use Rattle.std.specs.Prelude.{Bool, List, Option, [], false, refl, true, ℕ, ◌∷◌}
 use Rattle.acpi_links.specs.Answered.{buffer_at, stands}
@@ -9,7 +9,7 @@ use Rattle.acpi_links.specs.Folds.{folded}
 use Rattle.acpi_links.specs.Gatherings.{gathered, links_found, pins_found, sci_shown}
 use Rattle.acpi_links.specs.Links.{link_asked, link_found, link_if}
 use Rattle.acpi_links.specs.Presence.{is_present, presence_at, status_at}
-use Rattle.acpi_links.specs.Resources.{current_at, current_resources, numbers_at, offer_at, possible_at, possible_resources}
+use Rattle.acpi_links.specs.Resources.{current_at, current_resources, exclusives_in, numbers_at, offer_at, offer_in, possible_at, possible_resources}
 use Rattle.acpi_links.specs.Settings.{resources_set, set_at, setting_handed}
 use Rattle.acpi_machine.specs.MachineStates.{MachineState}
 use Rattle.acpi_prt.specs.Entries.{list_of}
@@ -39,7 +39,7 @@ module _ {S : Type 0} {accesses : Accesses S} where
 
   id_at_explains : (p : List Seg) → MachineExplains accesses (id_at p)
   unfolding id_at
-  id_at_explains p = direct_explains _ (λ s. id_in_clean s.world.names.map p) (λ s. refl)
+  id_at_explains p = direct_explains _ (λ s. id_in_clean s.world.profile s.world.names.map p) (λ s. refl)
 
   link_at_explains : (p : List Seg) → MachineExplains accesses (link_at accesses p)
   unfolding link_at
@@ -109,9 +109,13 @@ module _ {S : Type 0} {accesses : Accesses S} where
   unfolding buffer_at
   buffer_at_explains p = then_explains _ _ (evaluated_object_explains accesses p _) (λ answer. settle_explains _ (bytes_in_clean _))
 
+  offer_in_explains : (bytes : List ℕ) → MachineExplains accesses (offer_in bytes)
+  unfolding offer_in
+  offer_in_explains bytes = direct_explains _ (λ s. possible_as_clean (exclusives_in s.world.profile) bytes) (λ s. refl)
+
   offer_at_explains : (p : List Seg) → MachineExplains accesses (offer_at accesses p)
   unfolding offer_at
-  offer_at_explains p = then_explains _ _ (buffer_at_explains p) (λ bytes. settle_explains _ (possible_of_clean _))
+  offer_at_explains p = then_explains _ _ (buffer_at_explains p) (λ bytes. offer_in_explains bytes)
 
   possible_at_explains : (link p : List Seg) → MachineExplains accesses (possible_at accesses link p)
   unfolding possible_at

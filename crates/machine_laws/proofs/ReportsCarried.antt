@@ -4,7 +4,7 @@ use Rattle.std.proofs.Common.{inl, inr, sym, subst}
 use Rattle.ar_space.specs.Accesses.{Accesses}
 use Rattle.ar_space.specs.Outcome.{Outcome}
 use Rattle.aml_laws.specs.Noted.{WithNotes, noted}
-use Rattle.aml_laws.proofs.Together.{SideBySide, Goes}
+use Rattle.aml_laws.proofs.Together.{SideBySide, Goes, goes_from}
 use Rattle.aml_laws.proofs.Noting.{noting}
 use Rattle.acpi_machine.specs.MachineStates.{MachineState}
 use Rattle.acpi_links.specs.Gathering.{Gathering}
@@ -65,7 +65,7 @@ module _ {S T : Type 0} {accesses : Accesses S} {accesses2 : Accesses T} (side :
   report_carried m after report t is (inr (u, same, i)) =
       settled_carried m after report t u is same
       (subst (λ (x : Settled × MachineState S). Goes side machines x (settled_unless accesses2 dry is.found.links is.answer.choice (machine_over is.chosen_in u))) is.is_settled
-      ((settled_unless_together {side = side} dry is.found.links is.answer.choice).goes is.chosen_in u i))
+      (goes_from side machines _ _ ((settled_unless_together {side = side} dry is.found.links is.answer.choice).goes is.chosen_in u i)))
 
 -- ---- over a space with notes
 
@@ -82,4 +82,4 @@ module _ {S : Type 0} (accesses : Accesses S) (dry : Bool) (avoid : List ℕ) wh
   report_noted before after report is =
       with_notes before after report (report_carried (noting accesses) dry avoid (machine_without_notes before) after report before.world.space is
       (subst (λ (x : Outcome Gathering × MachineState S). Goes (noting accesses) machines x (gathered (noted accesses) avoid before)) is.is_found
-      ((gathered_together {side = noting accesses} avoid).goes (machine_without_notes before) before.world.space refl)))
+      (goes_from (noting accesses) machines _ _ ((gathered_together {side = noting accesses} avoid).goes (machine_without_notes before) before.world.space refl))))

@@ -1,5 +1,5 @@
-//! Runs the program over the rows of `data/`, and prints each row that comes to something else than it says. `data/README.md`
-//! says how a row is written.
+//! Runs the program over the rows of `data/`, and prints each row that comes to something else than it says.
+//! `data/README.md` says how a row is written.
 #![tactic(auto)]
 
 mod leavings;

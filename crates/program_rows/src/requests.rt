@@ -1,5 +1,5 @@
 //! What the words of the command line ask for, as text.
-use acpiroute_lib::{Argument, Arguments, Asked, Interrupts, Request, parse};
+use acpiroute_lib::{Argument, Arguments, Asked, Evaluation, Interrupts, Profile, Request, parse};
 use ar_space::PathText;
 use route_report::Mode;
 use std::alloc::{AllocError, Global};
@@ -53,18 +53,29 @@ fn arguments_text(alloc: Global, arguments: &Arguments) -> Result<String, AllocE
     Ok(text)
 }
 
+/// How AML is evaluated, as text.
+fn evaluation_text(alloc: Global, evaluation: &Evaluation) -> Result<String, AllocError> {
+    let steps = evaluation.steps;
+    let profile = match evaluation.profile {
+        Profile::Core => "",
+        Profile::Wide => " wide",
+    };
+    format!(in alloc; "steps {steps}{profile}")
+}
+
 /// A request of `eval` as text.
 fn eval_text(
     alloc: Global,
     mode: Mode,
-    steps: u64,
+    evaluation: &Evaluation,
     path: &PathText,
     arguments: &Arguments,
 ) -> Result<String, AllocError> {
     let mode = mode_word(mode);
+    let evaluation = evaluation_text(alloc, evaluation)?;
     let path = path.as_str();
     let arguments = arguments_text(alloc, arguments)?;
-    format!(in alloc; "eval mode {mode} steps {steps} path \"{path}\" arguments{arguments}")
+    format!(in alloc; "eval mode {mode} {evaluation} path \"{path}\" arguments{arguments}")
 }
 
 /// Interrupts that are avoided, each behind a blank, with ` avoid` before them; nothing where there is none.
@@ -92,15 +103,16 @@ fn rules_text(spare: bool, spread: bool) -> &'static str {
 fn route_text(
     alloc: Global,
     mode: Mode,
-    steps: u64,
+    evaluation: &Evaluation,
     dry: bool,
     avoid: &Interrupts,
     rules: &str,
 ) -> Result<String, AllocError> {
     let mode = mode_word(mode);
+    let evaluation = evaluation_text(alloc, evaluation)?;
     let dry = if dry { " dry" } else { "" };
     let avoid = avoid_text(alloc, avoid)?;
-    format!(in alloc; "route mode {mode} steps {steps}{dry}{avoid}{rules}")
+    format!(in alloc; "route mode {mode} {evaluation}{dry}{avoid}{rules}")
 }
 
 /// A request as text.
@@ -108,25 +120,25 @@ fn request_text(alloc: Global, request: &Request) -> Result<String, AllocError> 
     match request {
         Request::Route {
             mode,
-            steps,
+            evaluation,
             dry,
             avoid,
             spare,
             spread,
         } => {
             let rules = rules_text(*spare, *spread);
-            route_text(alloc, *mode, *steps, *dry, avoid, rules)
+            route_text(alloc, *mode, evaluation, *dry, avoid, rules)
         }
-        Request::Names { steps } => {
-            let steps = *steps;
-            format!(in alloc; "names steps {steps}")
+        Request::Names { evaluation } => {
+            let evaluation = evaluation_text(alloc, evaluation)?;
+            format!(in alloc; "names {evaluation}")
         }
         Request::Eval {
             mode,
-            steps,
+            evaluation,
             path,
             arguments,
-        } => eval_text(alloc, *mode, *steps, path, arguments),
+        } => eval_text(alloc, *mode, evaluation, path, arguments),
         Request::Check => "check".to_string(alloc),
     }
 }

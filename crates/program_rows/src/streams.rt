@@ -3,8 +3,8 @@ use std::alloc::Global;
 use std::io;
 use std::io::{Read, Write};
 
-/// After how many calls a stream fails, and with what. It fails once: a call after that would succeed, so a row tells a program that
-/// tries again.
+/// After how many calls a stream fails, and with what. It fails once: a call after that would succeed, so a row tells
+/// a program that tries again.
 #[derive(Clone, Copy)]
 pub struct Fault {
     pub calls: u64,

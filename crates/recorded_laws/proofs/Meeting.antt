@@ -7,7 +7,7 @@ use Rattle.ar_space.specs.Accesses.{Accesses}
 use Rattle.ar_space.specs.Outcome.{Outcome}
 use Rattle.ar_tables.specs.declared.tables.Tables.{Tables}
 use Rattle.aml_meaning.specs.State.{State}
-use Rattle.aml_meaning.specs.Predefined.{fresh}
+use Rattle.aml_meaning.specs.Predefined.{fresh_as}
 use Rattle.acpi_machine.specs.Calls.{initialized}
 use Rattle.acpi_machine.specs.MachineStates.{MachineState, machine_of}
 use Rattle.acpi_links.specs.Gathering.{Gathering}
@@ -18,7 +18,7 @@ use Rattle.route_solve.specs.Problems.{RoutingProblem, RoutingAnswer}
 use Rattle.route_report.specs.Reports.{RoutingReport}
 use Rattle.recorded_route.specs.declared.settings.Settings.{Settings}
 use Rattle.recorded_route.specs.Runs.{Description, described, IsConfigured, IsConfiguredIf, IsStarted, IsMachineRun, IsLoadedRun, IsRunOver, IsDescribedRun, IsRun, world_over as first_world}
-use Rattle.aml_laws.proofs.Together.{SideBySide, Goes}
+use Rattle.aml_laws.proofs.Together.{SideBySide, Goes, goes_from}
 use Rattle.aml_laws.proofs.WorldsTogether.{world_over, worlds}
 use Rattle.machine_laws.proofs.MachinesTogether.{machine_over, machines, loaded_tables_together, initialized_together}
 use Rattle.machine_laws.proofs.LinksTogether.{gathered_together}
@@ -52,7 +52,7 @@ module _ {S T : Type 0} {accesses : Accesses S} {accesses2 : Accesses T} (side :
           let chosen : machine_over is.chosen_in u ≡ is2.chosen_in = ap (λ (x : Outcome Gathering × MachineState T). x.1) both in
           let answer : is.answer ≡ is2.answer = one_answer is.found.problem is.answer is2.answer is.solves (subst (λ (f : Gathering). Solves f.problem is2.answer) (sym found) is2.solves) in
           let settled : settled_unless accesses2 settings.dry is.found.links is.answer.choice (machine_over is.chosen_in u) ≡ settled_unless accesses2 settings.dry is2.found.links is2.answer.choice is2.chosen_in = rw (chosen, found, answer) refl in
-          both_meet _ (Ok is.settings, after) _ (Ok is2.settings, after2) is.is_settled (settled ∙ is2.is_settled) ((settled_unless_together {side = side} settings.dry is.found.links is.answer.choice).goes is.chosen_in u i)
+          both_meet _ (Ok is.settings, after) _ (Ok is2.settings, after2) is.is_settled (settled ∙ is2.is_settled) (goes_from side machines _ _ ((settled_unless_together {side = side} settings.dry is.found.links is.answer.choice).goes is.chosen_in u i))
 
       refused_beside : (m after : MachineState S) (report : RoutingReport) (e : Refusal) (t : T) (after2 : MachineState T) (is : IsReport accesses settings.dry avoid m after report) → gathered accesses2 avoid (machine_over m t) ≡ (Err e, after2)
           → Goes side machines (Ok is.found, is.chosen_in) (gathered accesses2 avoid (machine_over m t)) → Meet side after.world.space after2.world.space
@@ -69,12 +69,12 @@ module _ {S T : Type 0} {accesses : Accesses S} {accesses2 : Accesses T} (side :
       configured_meet : (m after : MachineState S) (outcome : Outcome RoutingReport) (t : T) (outcome2 : Outcome RoutingReport) (after2 : MachineState T) → IsConfigured accesses settings avoid m outcome after
           → IsConfigured accesses2 settings avoid (machine_over m t) outcome2 after2 → side.InStep m.world.space t → Meet side after.world.space after2.world.space
       configured_meet m after (Ok report) t (Ok report2) after2 is is2 i =
-          reports_meet m after report report2 t after2 is is2 (subst (λ (x : Outcome Gathering × MachineState S). Goes side machines x (gathered accesses2 avoid (machine_over m t))) is.is_found ((gathered_together {side = side} avoid).goes m t i))
+          reports_meet m after report report2 t after2 is is2 (subst (λ (x : Outcome Gathering × MachineState S). Goes side machines x (gathered accesses2 avoid (machine_over m t))) is.is_found (goes_from side machines _ _ ((gathered_together {side = side} avoid).goes m t i)))
       configured_meet m after (Ok report) t (Err e) after2 is is2 i =
-          refused_beside m after report e t after2 is is2 (subst (λ (x : Outcome Gathering × MachineState S). Goes side machines x (gathered accesses2 avoid (machine_over m t))) is.is_found ((gathered_together {side = side} avoid).goes m t i))
+          refused_beside m after report e t after2 is is2 (subst (λ (x : Outcome Gathering × MachineState S). Goes side machines x (gathered accesses2 avoid (machine_over m t))) is.is_found (goes_from side machines _ _ ((gathered_together {side = side} avoid).goes m t i)))
       configured_meet m after (Err e) t (Ok report2) after2 is is2 i =
-          beside_refused m after e report2 t after2 is2 (subst (λ (x : Outcome Gathering × MachineState S). Goes side machines x (gathered accesses2 avoid (machine_over m t))) is ((gathered_together {side = side} avoid).goes m t i))
-      configured_meet m after (Err e) t (Err e2) after2 is is2 i = both_meet _ (Err e, after) _ (Err e2, after2) is is2 ((gathered_together {side = side} avoid).goes m t i)
+          beside_refused m after e report2 t after2 is2 (subst (λ (x : Outcome Gathering × MachineState S). Goes side machines x (gathered accesses2 avoid (machine_over m t))) is (goes_from side machines _ _ ((gathered_together {side = side} avoid).goes m t i)))
+      configured_meet m after (Err e) t (Err e2) after2 is is2 i = both_meet _ (Err e, after) _ (Err e2, after2) is is2 (goes_from side machines _ _ ((gathered_together {side = side} avoid).goes m t i))
 
       configured_if_meet : (r : Outcome (Unit {0})) (m after : MachineState S) (outcome : Outcome RoutingReport) (t : T) (outcome2 : Outcome RoutingReport) (after2 : MachineState T) → IsConfiguredIf accesses settings avoid r m outcome after
           → IsConfiguredIf accesses2 settings avoid r (machine_over m t) outcome2 after2 → side.InStep m.world.space t → Meet side after.world.space after2.world.space
@@ -94,10 +94,10 @@ module _ {S T : Type 0} {accesses : Accesses S} {accesses2 : Accesses T} (side :
           → IsMachineRun accesses2 settings avoid (machine_over m t) outcome2 space2 → side.InStep m.world.space t → Meet side space space2
       machine_runs_meet m outcome space t outcome2 space2 is is2 i =
           subst (λ s. Meet side s space2) is.is_space (subst (λ v. Meet side is.after.world.space v) is2.is_space
-          (started_meet m is.after outcome t outcome2 is2.after is.is_started is2.is_started ((initialized_together {side = side} settings.mode).goes m t i)))
+          (started_meet m is.after outcome t outcome2 is2.after is.is_started is2.is_started (goes_from side machines _ _ ((initialized_together {side = side} settings.mode).goes m t i))))
 
       loaded_runs_meet : (tables : Tables) (r : Outcome (Unit {0})) (w : State S) (outcome : Outcome RoutingReport) (space : S) (t : T) (outcome2 : Outcome RoutingReport) (space2 : T) → IsLoadedRun accesses settings avoid tables r w outcome space
-          → IsLoadedRun accesses2 settings avoid tables r (world_over w t) outcome2 space2 → side.InStep w.space t → Meet side space space2
+          → IsLoadedRun accesses2 settings avoid tables r (world_over (λ r. r) w t) outcome2 space2 → side.InStep w.space t → Meet side space space2
       loaded_runs_meet tables (Ok u) w outcome space t outcome2 space2 is is2 i = machine_runs_meet (machine_of tables settings.steps w) outcome space t outcome2 space2 is is2 i
       loaded_runs_meet tables (Err e) w outcome space t outcome2 space2 is is2 i = inr (t, subst (λ s. side.InStep s t) is.1 i)
 
@@ -113,5 +113,5 @@ module _ {S T : Type 0} {accesses : Accesses S} {accesses2 : Accesses T} (side :
       pub described_runs_meet : (d : Outcome Description) (before : S) (outcome : Outcome RoutingReport) (space : S) (t : T) (outcome2 : Outcome RoutingReport) (space2 : T) → IsDescribedRun accesses settings avoid d before outcome space
           → IsDescribedRun accesses2 settings avoid d t outcome2 space2 → side.InStep before t → Meet side space space2
       described_runs_meet (Ok d) before outcome space t outcome2 space2 is is2 i =
-          runs_over_meet d before outcome space t outcome2 space2 is is2 ((loaded_tables_together {side = side} d.0 settings.steps d.1).goes (fresh d.0.width d.1 before) t i)
+          runs_over_meet d before outcome space t outcome2 space2 is is2 (goes_from side worlds _ _ ((loaded_tables_together {side = side} d.0 settings.steps d.1).goes (fresh_as settings.profile d.0.width d.1 before) t i))
       described_runs_meet (Err e) before outcome space t outcome2 space2 is is2 i = inr (t, subst (λ s. side.InStep s t) is.1 i)

@@ -8,7 +8,7 @@ use Rattle.ar_tables.specs.declared.mode.Mode.{Mode}
 use Rattle.ar_tables.specs.declared.tables.Tables.{Tables}
 use Rattle.aml_path.specs.declared.segment.Seg.{Seg}
 use Rattle.aml_meaning.specs.Given as given
-use Rattle.aml_meaning.specs.Predefined.{fresh}
+use Rattle.aml_meaning.specs.Predefined.{fresh_as}
 use Rattle.aml_meaning.specs.State.{State}
 use Rattle.acpi_machine.specs.MachineStates.{MachineState, sci_of}
 use Rattle.acpi_links.specs.Folds.{folded}
@@ -24,6 +24,7 @@ use Rattle.route_model.specs.Avoided.{are_all_avoided}
 use Rattle.route_report.specs.Reports.{ReportedAfter}
 use Rattle.aml_laws.proofs.CleanOutcomes.{Clean, if_clean}
 use Rattle.acpiroute_words.specs.declared.arguments.Argument.{Argument}
+use Rattle.acpiroute_words.specs.declared.request.Evaluation.{Evaluation}
 use Rattle.acpiroute_words.specs.declared.request.Request.{Request}
 use Rattle.acpiroute_words.specs.declared.request.Request.TheVariants.{Route, Names, Eval, Check}
 use Rattle.acpiroute_words.specs.CheckCommand.{Verdict, check_answer, IsCheckAnswer}
@@ -47,14 +48,15 @@ left_streamless : (t : Tables) (steps : ℕ) (w : State Bytes) (r : Outcome (Uni
 left_streamless t steps w (Ok u) h = tt
 left_streamless t steps w (Err e) h = h
 
-machine_with_streamless : (t : Tables) (steps : ℕ) (space : Bytes) (osi : List (List ℕ)) → Streamless (machine_with t steps space osi)
+machine_with_streamless : (evaluation : Evaluation) (t : Tables) (space : Bytes) (osi : List (List ℕ)) → Streamless (machine_with evaluation t space osi)
 unfolding machine_with
-machine_with_streamless t steps space osi = left_streamless t steps _ _ (explained_streamless byte_accesses _ _ _ ((loaded_tables_explains byte_accesses t steps osi).explained (fresh t.width osi space)))
+machine_with_streamless evaluation t space osi =
+    left_streamless t evaluation.steps _ _ (explained_streamless byte_accesses _ _ _ ((loaded_tables_explains byte_accesses t evaluation.steps osi).explained (fresh_as evaluation.profile t.width osi space)))
 
-machine_of_text_streamless : (steps : ℕ) (text : List ℕ) → Streamless (machine_of_text steps text)
+machine_of_text_streamless : (evaluation : Evaluation) (text : List ℕ) → Streamless (machine_of_text evaluation text)
 unfolding machine_of_text
-machine_of_text_streamless steps text =
-    followed_streamless _ _ (clean_streamless _ (machine_text_clean text)) (λ m. followed_streamless _ _ (clean_streamless _ (tables_of_clean m.space.memory m.rsdp)) (λ t. machine_with_streamless t steps m.space m.osi))
+machine_of_text_streamless evaluation text =
+    followed_streamless _ _ (clean_streamless _ (machine_text_clean text)) (λ m. followed_streamless _ _ (clean_streamless _ (tables_of_clean m.space.memory m.rsdp)) (λ t. machine_with_streamless evaluation t m.space m.osi))
 
 initialized_left_streamless : (m : MachineState Bytes) (r : Outcome (Unit {0})) → Streamless r → Streamless (initialized_left m r)
 initialized_left_streamless m (Ok u) h = tt
@@ -64,9 +66,9 @@ initialized_streamless : (mode : Mode) (m : MachineState Bytes) → Streamless (
 unfolding initialized_machine
 initialized_streamless mode m = initialized_left_streamless _ _ (explained_streamless byte_accesses _ _ _ ((initialized_explains byte_accesses mode).explained m))
 
-machine_of_text_in_streamless : (mode : Mode) (steps : ℕ) (text : List ℕ) → Streamless (machine_of_text_in mode steps text)
+machine_of_text_in_streamless : (mode : Mode) (evaluation : Evaluation) (text : List ℕ) → Streamless (machine_of_text_in mode evaluation text)
 unfolding machine_of_text_in
-machine_of_text_in_streamless mode steps text = followed_streamless _ _ (machine_of_text_streamless steps text) (initialized_streamless mode)
+machine_of_text_in_streamless mode evaluation text = followed_streamless _ _ (machine_of_text_streamless evaluation text) (initialized_streamless mode)
 
 -- ---- the commands
 
@@ -112,9 +114,9 @@ routed_on_streamless : (o : RunOptions) (x : Outcome (MachineState Bytes)) (r : 
 routed_on_streamless o (Ok m) r h is = routed_streamless o m r is
 routed_on_streamless o (Err e) r h is = subst (λ (y : Outcome Written). Streamless y) (sym is) h
 
-names_streamless : (steps : ℕ) (text : List ℕ) → Streamless (names_answer steps text)
+names_streamless : (evaluation : Evaluation) (text : List ℕ) → Streamless (names_answer evaluation text)
 unfolding names_answer
-names_streamless steps text = followed_streamless _ _ (machine_of_text_streamless steps text) (λ m. tt)
+names_streamless evaluation text = followed_streamless _ _ (machine_of_text_streamless evaluation text) (λ m. tt)
 
 value_streamless : (m : MachineState Bytes) (path : List Seg) (arguments : List given.Given) → Streamless (value_at m path arguments)
 unfolding value_at
@@ -124,9 +126,9 @@ evaluated_streamless : (m : MachineState Bytes) (path : List ℕ) (arguments : L
 unfolding evaluated_text
 evaluated_streamless m path arguments = followed_streamless _ _ (clean_streamless _ (path_of_text_clean path)) (λ p. followed_streamless _ _ (value_streamless m p _) (λ value. tt))
 
-eval_streamless : (mode : Mode) (steps : ℕ) (path : List ℕ) (arguments : List Argument) (text : List ℕ) → Streamless (eval_answer mode steps path arguments text)
+eval_streamless : (mode : Mode) (evaluation : Evaluation) (path : List ℕ) (arguments : List Argument) (text : List ℕ) → Streamless (eval_answer mode evaluation path arguments text)
 unfolding eval_answer
-eval_streamless mode steps path arguments text = followed_streamless _ _ (machine_of_text_in_streamless mode steps text) (λ m. evaluated_streamless m path arguments)
+eval_streamless mode evaluation path arguments text = followed_streamless _ _ (machine_of_text_in_streamless mode evaluation text) (λ m. evaluated_streamless m path arguments)
 
 check_streamless : (verdict : Verdict) (report : List ℕ) → Streamless (check_answer verdict report)
 unfolding check_answer
@@ -136,7 +138,7 @@ checked_streamless : (report : List ℕ) (r : Outcome Written) → IsCheckAnswer
 checked_streamless report r (verdict, is, same) = subst (λ (y : Outcome Written). Streamless y) (sym same) (check_streamless verdict report)
 
 pub answer_streamless : (request : Request) (input : List ℕ) (r : Outcome Written) → IsAnswer request input r → Streamless r
-answer_streamless (Route mode steps dry avoid spare spread) input r is = routed_on_streamless _ _ r (machine_of_text_in_streamless mode steps input) is
-answer_streamless (Names steps) input r is = subst (λ (y : Outcome Written). Streamless y) is (names_streamless steps input)
-answer_streamless (Eval mode steps path arguments) input r is = subst (λ (y : Outcome Written). Streamless y) is (eval_streamless mode steps path arguments input)
+answer_streamless (Route mode evaluation dry avoid spare spread) input r is = routed_on_streamless _ _ r (machine_of_text_in_streamless mode evaluation input) is
+answer_streamless (Names evaluation) input r is = subst (λ (y : Outcome Written). Streamless y) is (names_streamless evaluation input)
+answer_streamless (Eval mode evaluation path arguments) input r is = subst (λ (y : Outcome Written). Streamless y) is (eval_streamless mode evaluation path arguments input)
 answer_streamless Check input r is = checked_streamless input r is

@@ -12,7 +12,7 @@ use Rattle.ar_tables.specs.declared.tables.Tables.{Tables}
 use Rattle.ar_tables.specs.FindTables.{tables_of}
 use Rattle.machine_text.specs.MachineText.{machine_text}
 use Rattle.aml_meaning.specs.State.{State}
-use Rattle.aml_meaning.specs.Predefined.{fresh}
+use Rattle.aml_meaning.specs.Predefined.{fresh_as}
 use Rattle.acpi_machine.specs.Calls.{initialized}
 use Rattle.acpi_machine.specs.Loading.{loaded_tables}
 use Rattle.acpi_machine.specs.MachineStates.{MachineState, machine_of}
@@ -85,9 +85,9 @@ module _ {S : Type 0} (accesses : Accesses S) (settings : Settings) (avoid : Lis
   IsLoadedRun tables (Ok u) w outcome space = IsMachineRun (machine_of tables settings.steps w) outcome space
   IsLoadedRun tables (Err e) w outcome space = (outcome ≡ Err e) × (w.space ≡ space)
 
-  -- tables are loaded over a register space, where `_OSI` knows these texts
+  -- tables are loaded over a register space in the profile of the settings, where `_OSI` knows these texts
   abbrev pub world_over : Description → S → Outcome (Unit {0}) × State S
-  world_over d before = loaded_tables accesses d.0 settings.steps d.1 (fresh d.0.width d.1 before)
+  world_over d before = loaded_tables accesses d.0 settings.steps d.1 (fresh_as settings.profile d.0.width d.1 before)
 
   abbrev pub IsRunOver : Description → S → Outcome RoutingReport → S → Type 0
   IsRunOver d before outcome space = IsLoadedRun d.0 (world_over d before).0 (world_over d before).1 outcome space

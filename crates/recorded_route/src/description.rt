@@ -54,7 +54,8 @@ pub struct TablesInMemory<'a> {
     pub rsdp: u64,
     /// Where the tables stand. Of two parts that have a byte of one address, that of the later one counts.
     pub parts: &'a [TablePart<'a>],
-    /// The texts that `_OSI` knows (ACPI 6.5, 5.7.2), parted by single line feeds; where there is no byte, there is no text.
+    /// The texts that `_OSI` knows (ACPI 6.5, 5.7.2), parted by single line feeds; where there is no byte, there is
+    /// no text.
     pub osi: &'a [u8],
 }
 
@@ -126,14 +127,15 @@ fn with_parts(image: ByteMap, parts: &[TablePart<'_>]) -> Result<ByteMap, Refusa
     Ok(image)
 }
 
-/// The tables by their Root System Description Pointer in parts of memory. A part that doesn't lie below 2^64 is refused as `NotInImage`.
-/// Of a table that isn't needed only the signature has to be among the parts.
+/// The tables by their Root System Description Pointer in parts of memory. A part that doesn't lie below 2^64 is
+/// refused as `NotInImage`. Of a table that isn't needed only the signature has to be among the parts.
 #[tactic(auto, using(ar_space::specs::Outcome::answering), unfolding(crate::specs::Runs::described_tables))]
 pub(crate) fn described_tables(
     alloc: Global,
     tables: &TablesInMemory<'_>,
 ) -> Result<Description, Refusal>
-    ensures { Answers (seen (λ d. (d.0, d.1.items)) result) (described_tables tables.now.rsdp tables.now.parts.now tables.now.osi.now) }
+    ensures { Answers (seen (λ d. (d.0, d.1.items)) result) (described_tables tables.now.rsdp tables.now.parts.now
+        tables.now.osi.now) }
 {
     let image = with_parts(ByteMap::new(alloc), tables.parts)?;
     let found = find_tables(alloc, &image, tables.rsdp)?;

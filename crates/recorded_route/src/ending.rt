@@ -11,8 +11,9 @@ use recorded_space::{Access, Recorded};
 pub struct WantedAccess {
     /// The access.
     pub access: Access,
-    /// The entry of the record at which it is made, counted from 0. Behind the last entry, at the record's length, it is the next
-    /// access of the run. Before that, the entry there is of another access: the record is not of this run.
+    /// The entry of the record at which it is made, counted from 0. Behind the last entry, at the record's length, it
+    /// is the next access of the run. Before that, the entry there is of another access: the record is not of this
+    /// run.
     pub entry: usize,
 }
 

@@ -5,12 +5,13 @@ ghost use Rattle.ar_space.specs.Change.{Does};
 ghost use Rattle.aml_meaning.specs.Given.{given_of};
 ghost use Rattle.recorded_space.specs.Recordings.{recorded};
 ghost use Rattle.recorded_route.specs.Evaluations.{object_of, machine_answer, answer_over, evaluation};
-ghost use Rattle.recorded_route.specs.Endings.{IsEvaluated, IsEvaluatedOfTables, IsEvaluatedOver, Leaves, NotOutOfMemory, seen_ending};
+ghost use Rattle.recorded_route.specs.Endings.{IsEvaluated, IsEvaluatedOfTables, IsEvaluatedOver, Leaves};
+ghost use Rattle.recorded_route.specs.Endings.{NotOutOfMemory, seen_ending};
 
 use crate::description::{Description, TablesInMemory, described, described_tables};
 use crate::ending::{Ending, WantedAccess, ending_of, wanted_of};
 use crate::settings::Settings;
-use acpi_machine::{Machine, load_tables};
+use acpi_machine::{Machine, load_tables_as};
 use aml_meaning::Datum;
 use aml_path::Path;
 use ar_space::{Refusal, Space};
@@ -37,7 +38,8 @@ fn object_of<S: Space>(
     settings: &Settings,
     question: Question<'_>,
 ) -> Result<Datum, Refusal>
-    ensures { Does (seen given_of result) machine.new (object_of S.accesses settings.now question.entry.path.now (map given_of question.entry.arguments.items)) machine.old }
+    ensures { Does (seen given_of result) machine.new (object_of S.accesses settings.now question.entry.path.now
+        (map given_of question.entry.arguments.items)) machine.old }
 {
     machine.initialize(alloc, settings.mode)?;
     let path = Path::from_text(alloc, question.path)?;
@@ -51,7 +53,9 @@ fn machine_answer(
     settings: &Settings,
     question: Question<'_>,
 ) -> Outcome
-    ensures { NotMemory result.0 → Leaves (λ after. machine_answer recorded settings.now question.entry.path.now (map given_of question.entry.arguments.items) machine ≡ (seen given_of result.0, after)) result.1 }
+    ensures { NotMemory result.0 →
+        Leaves (λ after. machine_answer recorded settings.now question.entry.path.now
+        (map given_of question.entry.arguments.items) machine ≡ (seen given_of result.0, after)) result.1 }
 {
     let mut machine = machine;
     let answer = object_of(alloc, &mut machine, settings, question);
@@ -66,10 +70,13 @@ fn answer_over(
     question: Question<'_>,
     space: Recorded,
 ) -> Outcome
-    ensures { NotMemory result.0 → Leaves (λ after. answer_over recorded settings.now question.entry.path.now (map given_of question.entry.arguments.items) (description.0, description.1.items) space ≡ (seen given_of result.0, after)) result.1 }
+    ensures { NotMemory result.0 →
+        Leaves (λ after. answer_over recorded settings.now question.entry.path.now
+        (map given_of question.entry.arguments.items) (description.0, description.1.items) space ≡
+        (seen given_of result.0, after)) result.1 }
 {
     let (tables, osi) = description;
-    match load_tables(alloc, tables, space, settings.steps, osi) {
+    match load_tables_as(alloc, settings.profile, tables, space, settings.steps, osi) {
         Ok(machine) => machine_answer(alloc, machine, settings, question),
         Err((refusal, space)) => (Err(refusal), wanted_of(&space)),
     }
@@ -83,7 +90,10 @@ fn evaluation(
     question: Question<'_>,
     space: Recorded,
 ) -> Outcome
-    ensures { NotMemory result.0 → Leaves (λ after. evaluation recorded settings.now question.entry.path.now (map given_of question.entry.arguments.items) (seen (λ d. (d.0, d.1.items)) described) space ≡ (seen given_of result.0, after)) result.1 }
+    ensures { NotMemory result.0 →
+        Leaves (λ after. evaluation recorded settings.now question.entry.path.now
+        (map given_of question.entry.arguments.items) (seen (λ d. (d.0, d.1.items)) described) space ≡
+        (seen given_of result.0, after)) result.1 }
 {
     match described {
         Ok(description) => answer_over(alloc, description, settings, question, space),
@@ -99,7 +109,9 @@ fn ending(
     question: Question<'_>,
     entries: &[Exchange],
 ) -> Ending<Datum>
-    ensures { NotOutOfMemory result → IsEvaluatedOver settings.now question.entry.path.now (map given_of question.entry.arguments.items) (seen (λ d. (d.0, d.1.items)) described) entries.now (seen_ending given_of result) }
+    ensures { NotOutOfMemory result → IsEvaluatedOver settings.now question.entry.path.now
+        (map given_of question.entry.arguments.items) (seen (λ d. (d.0, d.1.items)) described) entries.now
+        (seen_ending given_of result) }
 {
     match Vec::from_slice(alloc, entries) {
         Ok(copy) => {
@@ -116,12 +128,13 @@ fn ending(
     }
 }
 
-/// Loads the tables of a machine text, initializes the machine, and evaluates an object (ACPI 6.5, 5.5.2), where each access of a
-/// register is answered from a record, as `configure_recorded` does it. `dry` of the settings counts for nothing.
+/// Loads the tables of a machine text, initializes the machine, and evaluates an object (ACPI 6.5, 5.5.2), where each
+/// access of a register is answered from a record, as `configure_recorded` does it. `dry` of the settings counts for
+/// nothing.
 ///
-/// Refused are the machine text, its tables, their loading, initializing, then the text of the path, and the evaluation, but only where
-/// the record held every access until then. `Refused(OutOfMemory)` where memory ran out; a call with the same record may then be made
-/// again.
+/// Refused are the machine text, its tables, their loading, initializing, then the text of the path, and the
+/// evaluation, but only where the record held every access until then. `Refused(OutOfMemory)` where memory ran out; a
+/// call with the same record may then be made again.
 ///
 /// ```
 /// let question = Question { path: b"\\_SB_.PCI0._BBN", arguments: Vec::new(alloc) };
@@ -139,7 +152,8 @@ pub fn evaluate_recorded(
     question: Question<'_>,
     entries: &[Exchange],
 ) -> Ending<Datum>
-    ensures { NotOutOfMemory result → IsEvaluated settings.now question.entry.path.now (map given_of question.entry.arguments.items) text.now entries.now (seen_ending given_of result) }
+    ensures { NotOutOfMemory result → IsEvaluated settings.now question.entry.path.now
+        (map given_of question.entry.arguments.items) text.now entries.now (seen_ending given_of result) }
 {
     let description = described(alloc, text);
     ending(alloc, description, settings, question, entries)
@@ -153,7 +167,9 @@ pub fn evaluate_tables_recorded(
     question: Question<'_>,
     entries: &[Exchange],
 ) -> Ending<Datum>
-    ensures { NotOutOfMemory result → IsEvaluatedOfTables settings.now question.entry.path.now (map given_of question.entry.arguments.items) tables.now.rsdp tables.now.parts.now tables.now.osi.now entries.now (seen_ending given_of result) }
+    ensures { NotOutOfMemory result → IsEvaluatedOfTables settings.now question.entry.path.now
+        (map given_of question.entry.arguments.items) tables.now.rsdp tables.now.parts.now tables.now.osi.now
+        entries.now (seen_ending given_of result) }
 {
     let description = described_tables(alloc, tables);
     ending(alloc, description, settings, question, entries)

@@ -1,5 +1,5 @@
-//! Configures the links of a machine whose registers only its caller can access, and evaluates its objects: a run answers each access
-//! from a record, and ends by telling the first access that the record does not hold.
+//! Configures the links of a machine whose registers only its caller can access, and evaluates its objects: a run
+//! answers each access from a record, and ends by telling the first access that the record does not hold.
 #![tactic(auto)]
 
 mod description;

@@ -8,7 +8,7 @@ use crate::description::{Description, TablesInMemory, described, described_table
 use crate::ending::{Ending, WantedAccess, ending_of, wanted_of};
 use crate::settings::Settings;
 use acpi_configure::configure;
-use acpi_machine::{Machine, load_tables};
+use acpi_machine::{Machine, load_tables_as};
 use ar_space::{Refusal, Space};
 use recorded_space::{Exchange, Recorded};
 use route_report::Report;
@@ -53,10 +53,12 @@ fn run_over(
     avoid: &[u32],
     space: Recorded,
 ) -> Outcome
-    ensures { NotMemory result.0 → Leaves (IsRunOver recorded settings.now avoid.now (description.0, description.1.items) space result.0) result.1 }
+    ensures { NotMemory result.0 →
+        Leaves (IsRunOver recorded settings.now avoid.now (description.0, description.1.items)
+        space result.0) result.1 }
 {
     let (tables, osi) = description;
-    match load_tables(alloc, tables, space, settings.steps, osi) {
+    match load_tables_as(alloc, settings.profile, tables, space, settings.steps, osi) {
         Ok(machine) => machine_run(alloc, machine, settings, avoid),
         Err((refusal, space)) => (Err(refusal), wanted_of(&space)),
     }
@@ -70,7 +72,9 @@ fn run(
     avoid: &[u32],
     space: Recorded,
 ) -> Outcome
-    ensures { NotMemory result.0 → Leaves (IsDescribedRun recorded settings.now avoid.now (seen (λ d. (d.0, d.1.items)) described) space result.0) result.1 }
+    ensures { NotMemory result.0 →
+        Leaves (IsDescribedRun recorded settings.now avoid.now (seen (λ d. (d.0, d.1.items)) described)
+        space result.0) result.1 }
 {
     match described {
         Ok(description) => run_over(alloc, description, settings, avoid, space),
@@ -86,7 +90,8 @@ fn ending(
     avoid: &[u32],
     entries: &[Exchange],
 ) -> Ending<Report>
-    ensures { NotOutOfMemory result → IsEndingOver settings.now avoid.now (seen (λ d. (d.0, d.1.items)) described) entries.now result }
+    ensures { NotOutOfMemory result → IsEndingOver settings.now avoid.now
+        (seen (λ d. (d.0, d.1.items)) described) entries.now result }
 {
     match Vec::from_slice(alloc, entries) {
         Ok(copy) => {
@@ -97,16 +102,19 @@ fn ending(
     }
 }
 
-/// Loads the tables of a machine text, initializes the machine, and configures its links as `acpi_configure::configure` does, where
-/// each access of a register is answered from a record. Only the memory of the text is read, as the image of the tables, and its
-/// texts of `_OSI`: its registers are passed over, and accesses of memory are answered from the record too.
+/// Loads the tables of a machine text, initializes the machine, and configures its links as
+/// `acpi_configure::configure` does, where each access of a register is answered from a record. Only the memory of
+/// the text is read, as the image of the tables, and its texts of `_OSI`: its registers are passed over, and accesses
+/// of memory are answered from the record too.
 ///
-/// A caller begins with an empty record. It makes each access that is wanted on its hardware, appends the access with what the
-/// hardware answered, and asks again, until no access is wanted. Then the links are set. An access that is wanted before the end of
-/// the record shows that the record is not of this run: the text, the settings or an entry was another one.
+/// A caller begins with an empty record. It makes each access that is wanted on its hardware, appends the access with
+/// what the hardware answered, and asks again, until no access is wanted. Then the links are set. An access that is
+/// wanted before the end of the record shows that the record is not of this run: the text, the settings or an entry
+/// was another one.
 ///
-/// Refused are the machine text, its tables, their loading, initializing, and then what the report has to find, but only where the
-/// record held every access until then. `Refused(OutOfMemory)` where memory ran out; a call with the same record may then be made again.
+/// Refused are the machine text, its tables, their loading, initializing, and then what the report has to find, but
+/// only where the record held every access until then. `Refused(OutOfMemory)` where memory ran out; a call with the
+/// same record may then be made again.
 ///
 /// ```
 /// let mut record = Vec::new(alloc);
@@ -140,7 +148,8 @@ pub fn configure_tables_recorded(
     avoid: &[u32],
     entries: &[Exchange],
 ) -> Ending<Report>
-    ensures { NotOutOfMemory result → IsEndingOfTables settings.now avoid.now tables.now.rsdp tables.now.parts.now tables.now.osi.now entries.now result }
+    ensures { NotOutOfMemory result → IsEndingOfTables settings.now avoid.now tables.now.rsdp tables.now.parts.now
+        tables.now.osi.now entries.now result }
 {
     let description = described_tables(alloc, tables);
     ending(alloc, description, settings, avoid, entries)

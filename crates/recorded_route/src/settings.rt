@@ -1,9 +1,11 @@
 //! How a machine is configured.
-use acpi_machine::Mode;
+use acpi_machine::{Mode, Profile};
 
 /// How a machine is configured.
 #[derive(Clone, Copy, Debug)]
 pub struct Settings {
+    /// The profile in which its AML is evaluated.
+    pub profile: Profile,
     /// The interrupt controllers that the machine is told it uses.
     pub mode: Mode,
     /// The budget of steps for each table and each evaluation, from 1 to 1,000,000,000.

@@ -1,7 +1,8 @@
 //! One access with its answer.
 ghost use Rattle.std.specs.Prelude.{◌≡◌, ◌^◌, nat_lt};
 ghost use Rattle.ar_space.specs.Accesses.{bit_count};
-ghost use Rattle.recorded_space.specs.Exchanges.{access_of, read_answer, write_answer, is_same_place, is_same_width, kept};
+ghost use Rattle.recorded_space.specs.Exchanges.{access_of, read_answer, write_answer, is_same_place, is_same_width};
+ghost use Rattle.recorded_space.specs.Exchanges.{kept};
 
 use ar_space::{Place, SpaceFault, Width};
 use space_trace::Access;

@@ -9,11 +9,11 @@ use std::marker::Model;
 
 /// A register space that answers each access from a record, whose entries it uses in order.
 ///
-/// The first access that isn't that of the next entry, or for which no entry is left, is missing: it is refused as `Device`, and
-/// so is each later one, whatever it is. None of them uses an entry.
+/// The first access that isn't that of the next entry, or for which no entry is left, is missing: it is refused as
+/// `Device`, and so is each later one, whatever it is. None of them uses an entry.
 ///
-/// So a run over real registers needs no callback. A caller makes the access that is missing on the hardware, appends it with
-/// its answer to the record, and runs again from the start, until no access is missing.
+/// So a run over real registers needs no callback. A caller makes the access that is missing on the hardware, appends
+/// it with its answer to the record, and runs again from the start, until no access is missing.
 #[derive(Drop)]
 pub struct Recorded {
     entries: Vec<Exchange>,

@@ -15,5 +15,4 @@ new-requires c =
     c.in_ok-numbers.ensures.ascending
     (search rules)
     (search rules)
-    (search rules)
     refl

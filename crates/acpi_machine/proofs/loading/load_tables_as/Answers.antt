@@ -1,0 +1,24 @@
+use Rattle.std.proofs.Common.{ap, ◌∙◌, sym}
+use Rattle.acpi_machine.proofs.Whole.{texts_refused_by, texts_refused_space, names_refused_by, names_refused_space, all_done}
+use Rattle.acpi_machine.proofs.loading.load_tables_as.Goals as goal
+
+pub returns-in-Err-clause-refusal : goal.returns-in-Err-clause-refusal
+returns-in-Err-clause-refusal g c = λ ne. texts_refused_by _ _ _ _ _ _ (rw (← c.deref.ensures.value) c.in-Err.ensures.value) ne
+
+pub returns-in-Err-clause-space : goal.returns-in-Err-clause-space
+returns-in-Err-clause-space g c = λ ne. texts_refused_space _ _ _ _ _ _ (rw (← c.deref.ensures.value) c.in-Err.ensures.value) ne
+
+pub returns-in-Err-with_profile-clause-refusal : goal.returns-in-Err-with_profile-clause-refusal
+returns-in-Err-with_profile-clause-refusal g c = λ ne. names_refused_by _ _ _ _ _ _ (rw (← c.deref.ensures.value) c.in-Ok.ensures.value) (c.in-Err-with_profile.ensures.refusal ne)
+
+pub returns-in-Err-with_profile-clause-space : goal.returns-in-Err-with_profile-clause-space
+returns-in-Err-with_profile-clause-space g c = λ ne. names_refused_space _ _ _ _ _ _ (rw (← c.deref.ensures.value) c.in-Ok.ensures.value) (c.in-Err-with_profile.ensures.refusal ne) ∙ sym c.in-Err-with_profile.ensures.space
+
+pub returns-in-Ok-load_all-clause-world : goal.returns-in-Ok-load_all-clause-world
+returns-in-Ok-load_all-clause-world g c = (all_done _ _ _ _ _ _ _ (rw (← c.deref.ensures.value) c.in-Ok.ensures.value) c.in-Ok-with_profile.ensures.world c.in-Ok-load_all.ensures).is tt
+
+pub returns-in-Err-load_all-clause-refusal : goal.returns-in-Err-load_all-clause-refusal
+returns-in-Err-load_all-clause-refusal g c = λ ne. ap (λ p. p.0) ((all_done _ _ _ _ _ _ _ (rw (← c.deref.ensures.value) c.in-Ok.ensures.value) c.in-Ok-with_profile.ensures.world c.in-Err-load_all.ensures).is ne)
+
+pub returns-in-Err-load_all-clause-space : goal.returns-in-Err-load_all-clause-space
+returns-in-Err-load_all-clause-space g c = λ ne. ap (λ p. p.1.space) ((all_done _ _ _ _ _ _ _ (rw (← c.deref.ensures.value) c.in-Ok.ensures.value) c.in-Ok-with_profile.ensures.world c.in-Err-load_all.ensures).is ne) ∙ sym c.into_space.ensures
