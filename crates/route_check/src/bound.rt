@@ -64,7 +64,8 @@ struct Set<'a> {
 fn is_inside(link: &Link, set: &Set<'_>) -> bool
     requires links { IsTrue set.now.links_ascend → Ascends path_cmp (λ p. p) set.now.links.now }
     requires interrupts { IsTrue set.now.interrupts_ascend → Ascends nat_cmp (λ m. m) set.now.interrupts.now }
-    ensures { IsTrue result ↔ (Contains set.now.links.now link.now.path → All (Contains set.now.interrupts.now) (without set.now.avoided link.now.offers)) }
+    ensures { IsTrue result ↔ (Contains set.now.links.now link.now.path →
+        All (Contains set.now.interrupts.now) (without set.now.avoided link.now.offers)) }
 {
     !is_set_link(set.links, set.links_ascend, link.path())
         || all_inside(
@@ -78,7 +79,8 @@ fn is_inside(link: &Link, set: &Set<'_>) -> bool
 fn are_inside(links: &[Link], set: &Set<'_>) -> bool
     requires links { IsTrue set.now.links_ascend → Ascends path_cmp (λ p. p) set.now.links.now }
     requires interrupts { IsTrue set.now.interrupts_ascend → Ascends nat_cmp (λ m. m) set.now.interrupts.now }
-    ensures { IsTrue result ↔ All (λ l. Contains set.now.links.now l.path → All (Contains set.now.interrupts.now) (without set.now.avoided l.offers)) links.now }
+    ensures { IsTrue result ↔ All (λ l. Contains set.now.links.now l.path →
+        All (Contains set.now.interrupts.now) (without set.now.avoided l.offers)) links.now }
 {
     for link in links {
         if !is_inside(link, set) {

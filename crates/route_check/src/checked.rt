@@ -21,8 +21,8 @@ use std::alloc::{AllocError, Global};
 /// gives are an assignment of its links, that its busiest is theirs, and that no assignment has a less busy one. An
 /// interrupt that is avoided counts in no offer, and the System Control Interrupt is one source of its own.
 ///
-/// Lists that ascend are compared neighbour by neighbour and searched by halves, so that a long report takes no long time;
-/// lists in any other order are compared pair by pair.
+/// Lists that ascend are compared neighbour by neighbour and searched by halves, so that a long report takes no long
+/// time; lists in any other order are compared pair by pair.
 ///
 /// ```
 /// let claim = route_report::read(alloc, text)?;
@@ -63,9 +63,9 @@ pub fn check(claim: &Claim) -> Result<(), Flaw>
     Ok(())
 }
 
-/// Whether a claim holds: whether it is valid, as `check` says, and where it claims so, whether its links share interrupts as little as
-/// they can; or else its first flaw. That last test, `NotLeastShared`, takes memory: an error means that memory ran out for it, so that the
-/// claim is valid and claims so.
+/// Whether a claim holds: whether it is valid, as `check` says, and where it claims so, whether its links share
+/// interrupts as little as they can; or else its first flaw. That last test, `NotLeastShared`, takes memory: an error
+/// means that memory ran out for it, so that the claim is valid and claims so.
 ///
 /// ```
 /// let claim = route_report::read(alloc, text)?;

@@ -45,7 +45,8 @@ pub struct Claim {
     pub links: Vec<Link>,
     /// Interrupts with the number of pins that are wired to them; in a report of version 1, of all sources but links.
     pub wired: Vec<(u32, u32)>,
-    /// The interrupt that the System Control Interrupt is wired to, which has one source more. None in a report of version 1.
+    /// The interrupt that the System Control Interrupt is wired to, which has one source more. None in a report of
+    /// version 1.
     pub sci: Option<u32>,
     /// The interrupts that no link may be given. A report of version 1 has none.
     pub avoid: Vec<u32>,

@@ -104,7 +104,8 @@ fn load(claim: &Claim, aligned: bool, ascend: bool, n: u32) -> u128
 fn busiest_given(claim: &Claim, aligned: bool, ascend: bool) -> u128
     requires aligned { IsTrue aligned → AreAligned claim.now.links claim.now.gives }
     requires ascend { IsTrue ascend → Ascends nat_cmp (λ w. w.0) claim.now.wired }
-    ensures { result ≡ greatest (map (load (effective_counts claim.now) (choice_of claim.now.links claim.now.gives)) (choice_of claim.now.links claim.now.gives)) }
+    ensures { result ≡ greatest (map (load (effective_counts claim.now) (choice_of claim.now.links claim.now.gives))
+        (choice_of claim.now.links claim.now.gives)) }
 {
     let links = claim.links();
     let gives = claim.gives();
@@ -138,8 +139,8 @@ fn busiest_wired(claim: &Claim, ascend: bool) -> u128
     greatest
 }
 
-/// How many sources the busiest interrupt serves, of those that are given or wired. Links are counted only where one is given:
-/// anywhere else the wired sources are all.
+/// How many sources the busiest interrupt serves, of those that are given or wired. Links are counted only where one
+/// is given: anywhere else the wired sources are all.
 #[tactic(auto, using(crate::proofs::Busiest::given_or_wired))]
 fn busiest(claim: &Claim) -> u128
     ensures { result ≡ busiest (effective_counts claim.now) (choice_of claim.now.links claim.now.gives) }

@@ -1,4 +1,5 @@
-//! That nothing is named twice. Neighbours are compared, as long as they ascend; each with all before it where they don't.
+//! That nothing is named twice. Neighbours are compared, as long as they ascend; each with all before it where they
+//! don't.
 ghost use Rattle.std.specs.Prelude.{◌↔◌, IsTrue, map};
 ghost use Rattle.route_model.specs.Bound.{IsDistinct};
 ghost use Rattle.route_check.specs.Valid.{NoneRepeated};

@@ -5,5 +5,6 @@ ghost use Rattle.route_model.specs.Bound.{IsLowerBound};
 
 /// With a lower bound no assignment is less busy.
 pub fn no_assignment_is_below_a_lower_bound()
-    ensures { (offers : List (List ℕ)) (wired : List (ℕ × ℕ)) (k : ℕ) (links interrupts : List ℕ) → IsLowerBound offers wired k links interrupts → (b : List ℕ) → IsAssignment offers b → k ≤ busiest wired b }
+    ensures { (offers : List (List ℕ)) (wired : List (ℕ × ℕ)) (k : ℕ) (links interrupts : List ℕ) →
+        IsLowerBound offers wired k links interrupts → (b : List ℕ) → IsAssignment offers b → k ≤ busiest wired b }
 {}

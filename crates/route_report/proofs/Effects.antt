@@ -99,7 +99,7 @@ module _ (n : ℕ) (d : Said) where
   line_gives [] = refl
   line_gives (w ∷ ws) = keyed_gives w ws
 
-either_way : {P : Type 0} (a b : Bool) → a || b ≡ true → (a ≡ true → P) → (b ≡ true → P) → P
+pub either_way : {P : Type 0} (a b : Bool) → a || b ≡ true → (a ≡ true → P) → (b ≡ true → P) → P
 either_way true b e this that = this refl
 either_way false b e this that = that e
 

@@ -1,7 +1,9 @@
 //! What the lines of a report have said so far.
 ghost use Rattle.std.specs.Prelude.{◌≡◌, [], Ok, option_map};
 ghost use Rattle.ar_space.specs.Outcome.{Answers, NotMemory, seen};
-ghost use Rattle.route_report.specs.Reading.{first_said, with_link, with_wired, with_sci, with_avoid, with_spared, with_unread, with_rule, with_give, with_busiest, with_bound, here, claimed};
+ghost use Rattle.route_report.specs.Reading.{first_said, with_link, with_wired, with_sci, with_avoid, with_spared};
+ghost use Rattle.route_report.specs.Reading.{with_unread, with_rule, with_give, with_busiest, with_bound, here};
+ghost use Rattle.route_report.specs.Reading.{claimed};
 ghost use Rattle.route_report.specs.Ordered.{barred_by};
 
 use crate::ordered::{barred, bound_in_order, gives_in_order, links_in_order, wired_in_order};
@@ -20,8 +22,8 @@ const MAX_LINKS: usize = 256;
 /// How many wired interrupts a report may have.
 const MAX_WIRED: usize = 4096;
 
-/// A claim that isn't whole yet. Of a bound, and of the interrupt that the System Control Interrupt is wired to, that there is none
-/// is said too. Of devices whose interrupts are spared, that lines may tell of them.
+/// A claim that isn't whole yet. Of a bound, and of the interrupt that the System Control Interrupt is wired to, that
+/// there is none is said too. Of devices whose interrupts are spared, that lines may tell of them.
 #[derive(Drop)]
 pub(crate) struct Draft {
     links: Vec<Link>,

@@ -1,5 +1,5 @@
-//! The report of a run: what was found, what was chosen and why it is least busy, line by line; and the claim that is read
-//! from such a text.
+//! The report of a run: what was found, what was chosen and why it is least busy, line by line; and the claim that is
+//! read from such a text.
 #![tactic(auto)]
 
 mod draft;

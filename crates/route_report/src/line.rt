@@ -2,7 +2,12 @@
 ghost use Rattle.std.specs.Prelude.{◌≡◌, [], codes};
 ghost use Rattle.ar_space.specs.Outcome.{Answers, NotMemory, seen};
 ghost use Rattle.text_words.specs.Words.{words};
-ghost use Rattle.route_report.specs.Reading.{ascends, is_passed_over, with_next, until, offers, offered, link, wired, sci, ascending_after, avoid, spared, unread, give, busiest, with_path, set_links, with_number, numbers_after, some_numbers, set, bound, link_line, wired_line, sci_line, avoid_line, spared_line, unread_line, rule_line, give_line, busiest_line, bound_line, keyed, line, version_here, heading};
+ghost use Rattle.route_report.specs.Reading.{ascends, is_passed_over, with_next, until, offers, offered, link, wired};
+ghost use Rattle.route_report.specs.Reading.{sci, ascending_after, avoid, spared, unread, give, busiest, with_path};
+ghost use Rattle.route_report.specs.Reading.{set_links, with_number, numbers_after, some_numbers, set, bound};
+ghost use Rattle.route_report.specs.Reading.{link_line, wired_line, sci_line, avoid_line, spared_line, unread_line};
+ghost use Rattle.route_report.specs.Reading.{rule_line, give_line, busiest_line, bound_line, keyed, line, version_here};
+ghost use Rattle.route_report.specs.Reading.{heading};
 
 use crate::draft::Draft;
 use crate::report::Rule;
@@ -39,7 +44,8 @@ fn add_next(n: usize, numbers: &mut Vec<u32>, word: &[u8]) -> Result<(), Refusal
 
 /// Offers up to the word `now`, after those before.
 fn add_offers(n: usize, offers: &mut Vec<u32>, words: &mut Words<'_>) -> Result<(), Refusal>
-    ensures { Answers (seen (λ _. (offers.new.items, words.new)) result) (until n (codes "now") (with_next n) offers.old.items words.old) }
+    ensures { Answers (seen (λ _. (offers.new.items, words.new)) result)
+        (until n (codes "now") (with_next n) offers.old.items words.old) }
 {
     while let Some(word) = words.take() {
         if word == b"now".as_slice() {
@@ -175,7 +181,8 @@ fn add_paths(
     paths: &mut Vec<Path>,
     words: &mut Words<'_>,
 ) -> Result<(), Refusal>
-    ensures { Answers (seen (λ _. (paths.new.items, words.new)) result) (until n (codes "over") (with_path n) paths.old.items words.old) }
+    ensures { Answers (seen (λ _. (paths.new.items, words.new)) result)
+        (until n (codes "over") (with_path n) paths.old.items words.old) }
 {
     while let Some(word) = words.take() {
         if word == b"over".as_slice() {

@@ -1,10 +1,16 @@
 //! The lines of a report, put behind a text.
-ghost use Rattle.std.specs.Prelude.{◌≡◌, ◌<◌, ◌^◌, All, ◌++◌, ◌∷◌, [], Some, OnOk, map, option_map, option_to_list, codes, decimal};
+ghost use Rattle.std.specs.Prelude.{◌≡◌, ◌<◌, ◌^◌, All, ◌++◌, ◌∷◌, [], Some, OnOk, map, option_map, option_to_list};
+ghost use Rattle.std.specs.Prelude.{codes, decimal};
 ghost use Rattle.route_check.specs.Claims.{interrupts_of_bound};
 ghost use Rattle.route_report.specs.Lines.{spaced, line_text, text_of_lines};
 ghost use Rattle.route_report.specs.Reports.{after_state};
 ghost use Rattle.route_report.specs.Readable.{spared_devices, unread_devices};
-ghost use Rattle.route_report.specs.Printing.{mode_word, form_word, polarity_word, pin_word, heading_words, mode_words, io_apic_words, override_words, source_words, sci_words, avoid_words, spared_words, unread_words, rule_words, option_lines, now_words, link_words, wired_words, route_words, pin_words, give_words, busiest_words, path_words, set_of_bound, bound_words, outcome_words, set_words, state_words, after_words};
+ghost use Rattle.route_report.specs.Printing.{mode_word, form_word, polarity_word, pin_word, heading_words, mode_words};
+ghost use Rattle.route_report.specs.Printing.{io_apic_words, override_words, source_words, sci_words, avoid_words};
+ghost use Rattle.route_report.specs.Printing.{spared_words, unread_words, rule_words, option_lines, now_words};
+ghost use Rattle.route_report.specs.Printing.{link_words, wired_words, route_words, pin_words, give_words};
+ghost use Rattle.route_report.specs.Printing.{busiest_words, path_words, set_of_bound, bound_words, outcome_words};
+ghost use Rattle.route_report.specs.Printing.{set_words, state_words, after_words};
 
 use crate::put;
 use crate::report::{
@@ -253,7 +259,8 @@ fn polarity_word(polarity: Polarity) -> &'static [u8]
 /// `N.. now V`
 fn put_offers(text: &mut Vec<u8>, offers: &[u32], now: &Option<Vec<u32>>) -> Result<(), AllocError>
     ensures small { All (λ n. n < 2 ^ 32) offers.now }
-    ensures text { OnOk result (text.new.items ≡ text.old.items ++ spaced (map decimal offers.now ++ codes "now" ∷ now_words (option_map (λ v. v.items) now.now))) }
+    ensures text { OnOk result (text.new.items ≡ text.old.items ++
+        spaced (map decimal offers.now ++ codes "now" ∷ now_words (option_map (λ v. v.items) now.now))) }
 {
     put::numbers(text, offers)?;
     text.extend_from_slice(b" now")?;
@@ -359,7 +366,8 @@ fn put_set(
     interrupts: &[u32],
 ) -> Result<(), AllocError>
     ensures small { All (λ n. n < 2 ^ 32) interrupts.now }
-    ensures text { OnOk result (text.new.items ≡ text.old.items ++ spaced (path_words links.now ++ codes "over" ∷ map decimal interrupts.now)) }
+    ensures text { OnOk result (text.new.items ≡ text.old.items ++
+        spaced (path_words links.now ++ codes "over" ∷ map decimal interrupts.now)) }
 {
     put::some_paths(alloc, text, links)?;
     text.extend_from_slice(b" over")?;

@@ -33,7 +33,8 @@ fn digit(c: u8) -> Option<u32>
     }
 }
 
-/// A number of one to three digits, as most are in a report: it is read digit by digit, with no text made to compare it with.
+/// A number of one to three digits, as most are in a report: it is read digit by digit, with no text made to compare
+/// it with.
 fn short(word: &[u8]) -> Option<u32>
     ensures { IfSome result (λ n. word.now ≡ decimal n) }
 {

@@ -57,8 +57,8 @@ pub(crate) fn wired_in_order(wired: Vec<(u32, u32)>) -> Vec<(u32, u32)>
 
 /// Gives by their paths.
 ///
-/// Long lists are first sorted by numbers that stand side by side in memory, which a path's segments don't. Where there is no
-/// memory for these, nothing is lost but time.
+/// Long lists are first sorted by numbers that stand side by side in memory, which a path's segments don't. Where
+/// there is no memory for these, nothing is lost but time.
 pub(crate) fn gives_in_order(mut gives: Vec<(Path, u32)>) -> Vec<(Path, u32)>
     ensures { result.items ≡ in_order give_order gives.items }
 {

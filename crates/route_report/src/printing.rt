@@ -63,22 +63,23 @@ fn put_chosen(alloc: Global, text: &mut Vec<u8>, report: &Report) -> Result<(), 
 /// - `override S to G flags F` for each interrupt source override, F in four hexadecimal digits.
 /// - `sci N`, the interrupt that the System Control Interrupt is wired to, or `sci none`.
 /// - `avoid N..`, the interrupts that no link is given, or `avoid -`.
-/// - In version 3, `spared D N..` for each device whose interrupts no link is given, `unread D R` for each whose interrupts couldn't be
-///   read, and `first` or `spread`, the rule of the choice.
-/// - `link P small low offers N.. now V` for each present link: `small` or `extended`, `low` or `high`; the offers are the whole
-///   offer, avoided interrupts among them; V is the numbers that it is set to, `-` for no number, `none` without `_CRS`.
+/// - In version 3, `spared D N..` for each device whose interrupts no link is given, `unread D R` for each whose
+/// interrupts couldn't be read, and `first` or `spread`, the rule of the choice.
+/// - `link P small low offers N.. now V` for each present link: `small` or `extended`, `low` or `high`; the offers
+/// are the whole offer, avoided interrupts among them; V is the numbers that it is set to, `-` for no number, `none`
+/// without `_CRS`.
 /// - `wired N C` for each interrupt with the number of pins that are wired to it.
-/// - `pin D n X N P`, `pin D n X N wired` or `pin D n X absent P` for each pin: D has the routing table, n is the device
-///   number, X is A to D, N the interrupt, P the link.
+/// - `pin D n X N P`, `pin D n X N wired` or `pin D n X absent P` for each pin: D has the routing table, n is the
+/// device number, X is A to D, N the interrupt, P the link.
 /// - `give P N` for each present link.
 /// - `busiest K`.
 /// - `bound none` or `bound P.. over N..`, `-` for no link.
 /// - `set P ok`, `set P none` or `set P refused R` for each link that was to be set.
 /// - `after P V` or `after P refused R` for each of these.
 ///
-/// `read` gives the report's own claim of this text, its lists in order, where it has at most 256 links, each with an offer in
-/// ascending order, at most 4096 wired interrupts, the avoided interrupts in ascending order, each once, and at least one
-/// interrupt of each device whose interrupts are spared. `OutOfMemory` where memory runs out.
+/// `read` gives the report's own claim of this text, its lists in order, where it has at most 256 links, each with an
+/// offer in ascending order, at most 4096 wired interrupts, the avoided interrupts in ascending order, each once, and
+/// at least one interrupt of each device whose interrupts are spared. `OutOfMemory` where memory runs out.
 ///
 /// ```
 /// let report = acpi_configure::configure(alloc, &mut machine, true, &[])?;
@@ -87,7 +88,8 @@ fn put_chosen(alloc: Global, text: &mut Vec<u8>, report: &Report) -> Result<(), 
 /// ```
 pub fn print(alloc: Global, report: &Report) -> Result<Vec<u8>, Refusal>
     ensures text { Answers (seen (λ v. v.items) result) (Ok (text_of_report report.now)) }
-    ensures read_back { IfOk result (λ v. IsReadable report.now → claim_of_text v.items ≡ Ok (claim_of_report report.now)) }
+    ensures read_back { IfOk result (λ v. IsReadable report.now →
+        claim_of_text v.items ≡ Ok (claim_of_report report.now)) }
 {
     let mut text = Vec::new(alloc);
     put_found(alloc, &mut text, report)?;

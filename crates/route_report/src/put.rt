@@ -1,5 +1,6 @@
 //! Words, put behind a text.
-ghost use Rattle.std.specs.Prelude.{◌≡◌, ◌<◌, ◌^◌, All, ◌∷◌, [], ◌++◌, OnOk, IfOk, map, decimal, option_map, string_bytes};
+ghost use Rattle.std.specs.Prelude.{◌≡◌, ◌<◌, ◌^◌, All, ◌∷◌, [], ◌++◌, OnOk, IfOk, map, decimal, option_map};
+ghost use Rattle.std.specs.Prelude.{string_bytes};
 ghost use Rattle.std.specs.Int.{to_be_bytes, w16, w32};
 ghost use Rattle.hex.specs.Hex.{encode_upper};
 ghost use Rattle.aml_path.specs.Text.{text_of};

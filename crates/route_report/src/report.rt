@@ -143,8 +143,8 @@ pub struct UnreadLine {
 pub enum Rule {
     /// The first one: links in path order, the smaller interrupt first.
     First,
-    /// One under which links share interrupts as little as they can: first the busiest interrupt serves as few sources as possible,
-    /// then as few interrupts as possible serve that many, and so on.
+    /// One under which links share interrupts as little as they can: first the busiest interrupt serves as few
+    /// sources as possible, then as few interrupts as possible serve that many, and so on.
     Spread,
 }
 

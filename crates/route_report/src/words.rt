@@ -5,7 +5,8 @@ ghost use Rattle.ar_space.specs.Outcome.{Answers, NotMemory, seen};
 ghost use Rattle.ar_space.specs.declared.refusal.Refusal.TheVariants.{Report};
 ghost use Rattle.ar_space.specs.declared.refusal.ReportFault.TheVariants.{BadLine};
 ghost use Rattle.aml_path.specs.Text.{text_of, path_of_text};
-ghost use Rattle.route_report.specs.Reading.{in_line, word, ended, expected, one_of, number_here, path_here, numbered, named};
+ghost use Rattle.route_report.specs.Reading.{in_line, word, ended, expected, one_of, number_here, path_here, numbered};
+ghost use Rattle.route_report.specs.Reading.{named};
 
 use crate::numerals;
 use aml_path::Path;

@@ -1,5 +1,5 @@
-//! Judges the rows of `data/`: what `route_check` says of a claim, `route_report` of a report's text, and `route_solve` and
-//! `route_spread` of a problem. `data/README.md` says how a row is written.
+//! Judges the rows of `data/`: what `route_check` says of a claim, `route_report` of a report's text, and
+//! `route_solve` and `route_spread` of a problem. `data/README.md` says how a row is written.
 #![tactic(auto)]
 
 mod answers;

@@ -1,4 +1,5 @@
-//! Links that share as little as they can: what `route_spread` says of a row's links, and beside other code on generated problems.
+//! Links that share as little as they can: what `route_spread` says of a row's links, and beside other code on
+//! generated problems.
 use crate::generated_problems::{Kind, generated};
 use crate::large_problems::large;
 use crate::problems::{given, say_choice};
@@ -12,7 +13,8 @@ use std::alloc::{AllocError, Global};
 use std::mem;
 use test_rows::Exchange;
 
-/// The first least assignment of a problem, and a least sharing that is found from it; none where the problem doesn't fit.
+/// The first least assignment of a problem, and a least sharing that is found from it; none where the problem doesn't
+/// fit.
 fn both(alloc: Global, problem: &Problem) -> Result<Option<(Vec<u32>, Vec<u32>)>, AllocError> {
     if !fits(problem) {
         return Ok(None);
@@ -34,8 +36,8 @@ fn is_judged(
     Ok(least == (own.as_slice() == loads))
 }
 
-/// Whether a least sharing has the loads of one that is found on shortest ways, and the test of `route_spread` says yes to it, and to
-/// the first least assignment exactly where that has these loads too.
+/// Whether a least sharing has the loads of one that is found on shortest ways, and the test of `route_spread` says
+/// yes to it, and to the first least assignment exactly where that has these loads too.
 fn is_as_by_ways(alloc: Global, problem: &Problem) -> Result<bool, AllocError> {
     let by_ways = least_sharing(alloc, problem)?;
     let loads = sorted_loads(alloc, problem, &by_ways)?;
@@ -52,8 +54,8 @@ fn is_as_by_ways(alloc: Global, problem: &Problem) -> Result<bool, AllocError> {
     }
 }
 
-/// Whether no assignment has loads that come before those of the least sharing, and the test of `route_spread` says of the first least
-/// assignment whether that is so of it.
+/// Whether no assignment has loads that come before those of the least sharing, and the test of `route_spread` says
+/// of the first least assignment whether that is so of it.
 fn is_as_by_trying(alloc: Global, problem: &Problem) -> Result<bool, AllocError> {
     match both(alloc, problem)? {
         Some((first, choice)) => {

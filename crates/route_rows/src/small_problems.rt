@@ -1,5 +1,5 @@
-//! Both solvers on all small problems: up to three links that offer some of three interrupts each, and up to two sources wired to
-//! these or to a fourth one.
+//! Both solvers on all small problems: up to three links that offer some of three interrupts each, and up to two
+//! sources wired to these or to a fourth one.
 use crate::problems::{solved, tried};
 use crate::words::{add, path_of};
 use route_model::Link;

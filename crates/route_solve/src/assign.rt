@@ -91,7 +91,8 @@ pub(crate) fn assign(
     requires matching { IsEmpty graph.now matching.old }
     requires sized { AreBuffers graph.now buffers.old }
     requires answers { length given.old ≡ length offered.now.problem.now.links }
-    ensures first_least { IsFirstLeast (offers_of offered.now.problem.now.links) offered.now.problem.now.wired given.new }
+    ensures first_least { IsFirstLeast (offers_of offered.now.problem.now.links)
+        offered.now.problem.now.wired given.new }
     ensures busiest { busiest offered.now.problem.now.wired given.new ≡ result }
     ensures limit { IsLeastWithin offered.now.problem.now graph.now.limit result buffers.new.hall.reached.items }
 {

@@ -22,9 +22,9 @@ fn first_offer(graph: &Graph<'_>, link: usize) -> usize
 
 /// Places all links within the least limit, one after the other, and gives that limit.
 ///
-/// Where a link can't be placed, the limit is too small: all that it offers is full, so that it has room for its first offer
-/// within a limit of one more. A search marks a Hall set there. That of the last such link stays: it is for the limit of one less.
-/// The links come in path order, on which the set depends that is shown (`IsCrowdedSet`).
+/// Where a link can't be placed, the limit is too small: all that it offers is full, so that it has room for its
+/// first offer within a limit of one more. A search marks a Hall set there. That of the last such link stays: it is
+/// for the limit of one less. The links come in path order, on which the set depends that is shown (`IsCrowdedSet`).
 pub(crate) fn place_all(graph: &Graph<'_>, matching: &mut Matching, buffers: &mut Buffers) -> usize
     requires graph { IsGraph graph.now }
     requires matching { IsEmpty graph.now matching.old }

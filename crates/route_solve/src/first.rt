@@ -49,8 +49,8 @@ fn shift(graph: &Graph<'_>, matching: &mut Matching, link: usize, x: usize, i: u
     true
 }
 
-/// Gives a link the first of its interrupts in which the links before it have left room, if that needs no other link to move.
-/// An interrupt that they have filled can't be given to it.
+/// Gives a link the first of its interrupts in which the links before it have left room, if that needs no other link
+/// to move. An interrupt that they have filled can't be given to it.
 fn fix_directly(graph: &Graph<'_>, matching: &mut Matching, kept: &[usize], link: usize) -> bool
     requires graph { IsGraph graph.now }
     requires matching { IsComplete graph.now matching.old }
@@ -117,7 +117,8 @@ pub(crate) fn fix_all(
     requires sized { IsSized (interrupts_in graph.now) search.old }
     requires kept { length kept.old ≡ interrupts_in graph.now }
     ensures matching { IsComplete graph.now matching.new }
-    ensures least { (l : ℕ) → l < length graph.now.offers.now → IsLeastAt (edges graph.now) (capacity graph.now) matching.new.choice.items l }
+    ensures least { (l : ℕ) → l < length graph.now.offers.now → IsLeastAt (edges graph.now) (capacity graph.now)
+        matching.new.choice.items l }
 {
     kept.fill(0);
     for link in 0..matching.choice.len() {

@@ -4,8 +4,8 @@ ghost use Rattle.std.specs.Bool.{OnTrue, OnFalse};
 ghost use Rattle.route_solve.specs.Graphs.{capacity, interrupts_in};
 ghost use Rattle.route_solve.specs.Capacities.{at};
 
-/// Links and interrupts as the two sides of a graph: an edge joins a link to each interrupt that it offers. Interrupts are
-/// known by their places among all that are offered.
+/// Links and interrupts as the two sides of a graph: an edge joins a link to each interrupt that it offers.
+/// Interrupts are known by their places among all that are offered.
 ///
 /// An interrupt has a capacity: how many links may have it, which is the limit less the sources that are wired to it.
 #[derive(Clone, Copy)]

@@ -3,7 +3,9 @@ ghost use Rattle.std.specs.Prelude.{◌≡◌, ◌≤◌, ◌<◌, ℕ, IfOk, Is
 ghost use Rattle.std.specs.Bool.{OnTrue, OnFalse};
 ghost use Rattle.route_model.specs.Placement.{is_reached, place_of, taken, Offers};
 ghost use Rattle.route_solve.specs.Certificate.{IsCertificate};
-ghost use Rattle.route_solve.specs.Graphs.{capacity, edges, AddsHolders, AreSeen, ExtendsHall, FindsFree, HasReachedHolders, IsBlocked, IsExplored, IsGraph, IsHallSized, IsMatching, IsOfferedByReached, IsSizedFor, IsUnplaced, OffersFree, SearchesHall};
+ghost use Rattle.route_solve.specs.Graphs.{capacity, edges, AddsHolders, AreSeen, ExtendsHall, FindsFree};
+ghost use Rattle.route_solve.specs.Graphs.{HasReachedHolders, IsBlocked, IsExplored, IsGraph, IsHallSized, IsMatching};
+ghost use Rattle.route_solve.specs.Graphs.{IsOfferedByReached, IsSizedFor, IsUnplaced, OffersFree, SearchesHall};
 ghost use Rattle.route_solve.specs.Capacities.{at};
 
 use crate::graph::{Graph, has_room};
@@ -11,9 +13,9 @@ use crate::matching::Matching;
 use crate::search::clear_marks;
 use std::alloc::{AllocError, Global};
 
-/// A search by levels from a link that can't be placed: to all links that have what it offers, to those that have what these
-/// offer, and so on. If it finds no room, the links that it reached are a Hall set: what they offer is full with them, and
-/// they are one more.
+/// A search by levels from a link that can't be placed: to all links that have what it offers, to those that have
+/// what these offer, and so on. If it finds no room, the links that it reached are a Hall set: what they offer is
+/// full with them, and they are one more.
 #[derive(Drop)]
 pub(crate) struct HallSearch {
     /// The links that it has reached.
@@ -77,8 +79,10 @@ impl HallSearch {
     fn is_to_reach(&self, matching: &Matching, j: usize, i: usize) -> bool
         requires choices { j < length matching.now.choice.items }
         requires marks { length self.now.reached.items ≡ length matching.now.choice.items }
-        ensures yes { OnTrue result ((is_reached self.now.reached.items j ≡ false) × (place_of matching.now.choice.items j ≡ Some i)) }
-        ensures no { OnFalse result (place_of matching.now.choice.items j ≡ Some i → is_reached self.now.reached.items j ≡ true) }
+        ensures yes { OnTrue result ((is_reached self.now.reached.items j ≡ false) ×
+            (place_of matching.now.choice.items j ≡ Some i)) }
+        ensures no { OnFalse result (place_of matching.now.choice.items j ≡ Some i →
+            is_reached self.now.reached.items j ≡ true) }
     {
         if self.reached[j] {
             return false;
@@ -97,7 +101,8 @@ impl HallSearch {
         ensures search { SearchesHall graph.now matching.now self.new }
         ensures further { ExtendsHall self.old self.new }
         ensures seen { self.new.seen.items ≡ self.old.seen.items }
-        ensures held { (k : ℕ) → self.old.tail ≤ k → k < self.new.tail → place_of matching.now.choice.items (at self.new.queue.items k) ≡ Some i }
+        ensures held { (k : ℕ) → self.old.tail ≤ k → k < self.new.tail →
+            place_of matching.now.choice.items (at self.new.queue.items k) ≡ Some i }
         ensures holders { HasReachedHolders graph.now matching.now self.new i }
     {
         for j in graph.low..matching.choice.len() {
@@ -118,7 +123,8 @@ impl HallSearch {
         ensures search { SearchesHall graph.now matching.now self.new }
         ensures further { ExtendsHall self.old self.new }
         ensures held { AddsHolders matching.now self.old self.new }
-        ensures done { MatchOption result (AreSeen graph.now self.new (at self.old.queue.items pos)) (OffersFree graph.now matching.now (at self.old.queue.items pos)) }
+        ensures done { MatchOption result (AreSeen graph.now self.new (at self.old.queue.items pos))
+            (OffersFree graph.now matching.now (at self.old.queue.items pos)) }
     {
         let offers: &[usize] = &graph.offers[self.queue[pos]];
         let counts: &[usize] = &matching.counts;
@@ -157,7 +163,8 @@ impl HallSearch {
     }
 }
 
-/// Leaves as reached the Hall set of a link that can't be placed beside those before it, since no augmenting path begins there.
+/// Leaves as reached the Hall set of a link that can't be placed beside those before it, since no augmenting path
+/// begins there.
 pub(crate) fn mark_hall_set(
     graph: &Graph<'_>,
     matching: &Matching,

@@ -49,7 +49,8 @@ pub(crate) fn next_left(left: &[u64], rows: &[u64], i: usize, w: usize) -> Optio
     requires four { length left.now ≡ 4 }
     requires within { 4 * i + 4 ≤ length rows.now }
     requires word { w < 4 }
-    ensures { MatchOption result ((j : ℕ) → j / 64 ≡ w → HasBit left.now j → bit_of rows.now i j ≡ 1 → ⊥) (λ j. (j / 64 ≡ w) × HasBit left.now j × (bit_of rows.now i j ≡ 1)) }
+    ensures { MatchOption result ((j : ℕ) → j / 64 ≡ w → HasBit left.now j → bit_of rows.now i j ≡ 1 →
+        ⊥) (λ j. (j / 64 ≡ w) × HasBit left.now j × (bit_of rows.now i j ≡ 1)) }
 {
     let hits = rows[4 * i + w] & left[w];
     if hits == 0 {

@@ -1,8 +1,10 @@
 //! Moves links along an augmenting path, so that one more has an interrupt.
-ghost use Rattle.std.specs.Prelude.{◌≡◌, ◌≤◌, ◌<◌, ℕ, [], ⊤, Contains, None, Some, MatchOption, false, true, length, slice_index_or};
+ghost use Rattle.std.specs.Prelude.{◌≡◌, ◌≤◌, ◌<◌, ℕ, [], ⊤, Contains, None, Some, MatchOption, false, true, length};
+ghost use Rattle.std.specs.Prelude.{slice_index_or};
 ghost use Rattle.std.specs.Bool.{OnTrue, OnFalse};
 ghost use Rattle.route_model.specs.Placement.{is_reached, place_of, Offers};
-ghost use Rattle.route_solve.specs.Graphs.{capacity, edges, interrupts_in, IsBlocked, IsGraph, IsMatching, IsSized, IsUnplaced};
+ghost use Rattle.route_solve.specs.Graphs.{capacity, edges, interrupts_in, IsBlocked, IsGraph, IsMatching, IsSized};
+ghost use Rattle.route_solve.specs.Graphs.{IsUnplaced};
 ghost use Rattle.route_solve.specs.Capacities.{at};
 ghost use Rattle.route_solve.specs.Ready.{ready_at, AreReady, AreWays, IsSettled};
 
@@ -11,12 +13,13 @@ use crate::matching::Matching;
 use crate::search::Search;
 use crate::ways::Way;
 
-/// Gives a link the interrupt of a way, along the augmenting path that begins there: where that interrupt is full, a link that
-/// has it goes to the next way's, and so on.
+/// Gives a link the interrupt of a way, along the augmenting path that begins there: where that interrupt is full, a
+/// link that has it goes to the next way's, and so on.
 fn augment(graph: &Graph<'_>, matching: &mut Matching, ways: &[Way], link: usize, start: usize)
     requires graph { IsGraph graph.now }
     requires matching { IsMatching graph.now matching.old }
-    requires ways { AreWays (edges graph.now) (capacity graph.now) matching.old.choice.items graph.now.low ways.now (length ways.now) }
+    requires ways { AreWays (edges graph.now) (capacity graph.now) matching.old.choice.items graph.now.low
+        ways.now (length ways.now) }
     requires link { IsUnplaced matching.old link }
     requires start { start < length ways.now }
     requires offered { Offers (edges graph.now) link (ready_at ways.now start) }
@@ -39,7 +42,10 @@ fn augment(graph: &Graph<'_>, matching: &mut Matching, ways: &[Way], link: usize
 /// The first of a link's offers that is ready, by its place among them.
 fn first_ready(offers: &[usize], visited: &[bool]) -> Option<usize>
     requires { (i : ℕ) → Contains offers.now i → i < length visited.now }
-    ensures { MatchOption result ((i : ℕ) → Contains offers.now i → is_reached visited.now i ≡ false) (λ k. (k < length offers.now) × (is_reached visited.now (at offers.now k) ≡ true) × ((j : ℕ) → j < k → is_reached visited.now (at offers.now j) ≡ false)) }
+    ensures { MatchOption result ((i : ℕ) → Contains offers.now i →
+        is_reached visited.now i ≡ false) (λ k. (k < length offers.now) ×
+        (is_reached visited.now (at offers.now k) ≡ true) × ((j : ℕ) → j < k →
+        is_reached visited.now (at offers.now j) ≡ false)) }
 {
     for k in 0..offers.len() {
         if visited[offers[k]] {
@@ -63,7 +69,8 @@ fn way_of(ways: &[Way], i: usize) -> usize
     0
 }
 
-/// Gives a link that has no interrupt the first of its offers that is ready, and gives the place of that among its offers.
+/// Gives a link that has no interrupt the first of its offers that is ready, and gives the place of that among its
+/// offers.
 pub(crate) fn settle(
     graph: &Graph<'_>,
     matching: &mut Matching,
@@ -76,10 +83,16 @@ pub(crate) fn settle(
     requires link { IsUnplaced matching.old link }
     ensures matching { IsMatching graph.now matching.new }
     ensures sized { IsSized (interrupts_in graph.now) search.new }
-    ensures ready { AreReady (edges graph.now) (capacity graph.now) matching.old.choice.items graph.now.low search.new.visited.items }
-    ensures given { MatchOption result (matching.new.choice.items ≡ matching.old.choice.items) (λ k. (k < length (slice_index_or (edges graph.now) link [])) × (place_of matching.new.choice.items link ≡ Some (at (slice_index_or (edges graph.now) link []) k))) }
-    ensures settled { MatchOption result ⊤ (λ k. IsSettled graph.now.low matching.old.choice.items link matching.new.choice.items) }
-    ensures first { MatchOption result ((i : ℕ) → Offers (edges graph.now) link i → is_reached search.new.visited.items i ≡ false) (λ k. (j : ℕ) → j < k → is_reached search.new.visited.items (at (slice_index_or (edges graph.now) link []) j) ≡ false) }
+    ensures ready { AreReady (edges graph.now) (capacity graph.now) matching.old.choice.items graph.now.low
+        search.new.visited.items }
+    ensures given { MatchOption result (matching.new.choice.items ≡ matching.old.choice.items)
+        (λ k. (k < length (slice_index_or (edges graph.now) link [])) ×
+        (place_of matching.new.choice.items link ≡ Some (at (slice_index_or (edges graph.now) link []) k))) }
+    ensures settled { MatchOption result ⊤ (λ k. IsSettled graph.now.low matching.old.choice.items link
+        matching.new.choice.items) }
+    ensures first { MatchOption result ((i : ℕ) → Offers (edges graph.now) link i →
+        is_reached search.new.visited.items i ≡ false) (λ k. (j : ℕ) → j < k →
+        is_reached search.new.visited.items (at (slice_index_or (edges graph.now) link []) j) ≡ false) }
 {
     search.run(graph, matching);
     let offers: &[usize] = &graph.offers[link];

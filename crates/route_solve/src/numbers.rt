@@ -1,5 +1,6 @@
 //! The offered interrupts in ascending order. Each is known by its place among them.
-ghost use Rattle.std.specs.Prelude.{◌≡◌, ◌≤◌, ◌<◌, ◌⊎◌, ℕ, [], Contains, IfOk, IfSome, OnOk, MatchOption, length, map, slice_index_or, true};
+ghost use Rattle.std.specs.Prelude.{◌≡◌, ◌≤◌, ◌<◌, ◌⊎◌, ℕ, [], Contains, IfOk, IfSome, OnOk, MatchOption, length, map};
+ghost use Rattle.std.specs.Prelude.{slice_index_or, true};
 ghost use Rattle.std.specs.List.Sorted.{IsStrictlyIncreasing};
 ghost use Rattle.route_model.specs.Links.{offers_of};
 ghost use Rattle.route_solve.specs.Numbers.{is_offered, lists_of, HasOffered, IsNumbered};
@@ -84,7 +85,8 @@ fn add_offers(
     requires { length hints.old ≡ 256 }
     ensures kept { OnOk result ((n : ℕ) → Contains numbers.old.items n → Contains numbers.new.items n) }
     ensures added { OnOk result ((n : ℕ) → Contains offers.now n → Contains numbers.new.items n) }
-    ensures only { OnOk result ((n : ℕ) → Contains numbers.new.items n → Contains numbers.old.items n ⊎ Contains offers.now n) }
+    ensures only { OnOk result ((n : ℕ) → Contains numbers.new.items n → Contains numbers.old.items n ⊎
+        Contains offers.now n) }
 {
     for n in offers {
         add_offer(numbers, hints, count, *n)?;
@@ -92,8 +94,8 @@ fn add_offers(
     Ok(())
 }
 
-/// Adds what a link offers to numbers of which the first so many ascend, and gives how many do then: all, if they are at least 512
-/// and at least twice as many.
+/// Adds what a link offers to numbers of which the first so many ascend, and gives how many do then: all, if they are
+/// at least 512 and at least twice as many.
 fn gather(
     numbers: &mut Vec<u32>,
     hints: &mut [usize],
@@ -103,7 +105,8 @@ fn gather(
     requires { length hints.old ≡ 256 }
     ensures kept { OnOk result ((n : ℕ) → Contains numbers.old.items n → Contains numbers.new.items n) }
     ensures added { OnOk result ((n : ℕ) → Contains offers.now n → Contains numbers.new.items n) }
-    ensures only { OnOk result ((n : ℕ) → Contains numbers.new.items n → Contains numbers.old.items n ⊎ Contains offers.now n) }
+    ensures only { OnOk result ((n : ℕ) → Contains numbers.new.items n → Contains numbers.old.items n ⊎
+        Contains offers.now n) }
 {
     add_offers(numbers, hints, count, offers)?;
     if numbers.len() / 2 < count.max(HINTS) {
@@ -131,7 +134,8 @@ pub(crate) fn all_offered(alloc: Global, links: &[Link]) -> Result<Vec<u32>, All
 /// The place of a number among ascending ones, found by halves.
 pub(crate) fn place_among(numbers: &[u32], n: u32) -> Option<usize>
     requires { IsStrictlyIncreasing numbers.now }
-    ensures { MatchOption result (Contains numbers.now n → ⊥) (λ i. (i < length numbers.now) × (slice_index_or numbers.now i 0 ≡ n)) }
+    ensures { MatchOption result (Contains numbers.now n → ⊥) (λ i. (i < length numbers.now) ×
+        (slice_index_or numbers.now i 0 ≡ n)) }
 {
     let mut low: usize = 0;
     let mut high: usize = numbers.len();
@@ -152,7 +156,8 @@ pub(crate) fn place_among(numbers: &[u32], n: u32) -> Option<usize>
 /// The place of a number among ascending ones, which is looked at one place first.
 pub(crate) fn place_from(numbers: &[u32], from: usize, n: u32) -> Option<usize>
     requires { IsStrictlyIncreasing numbers.now }
-    ensures { MatchOption result (Contains numbers.now n → ⊥) (λ i. (i < length numbers.now) × (slice_index_or numbers.now i 0 ≡ n)) }
+    ensures { MatchOption result (Contains numbers.now n → ⊥) (λ i. (i < length numbers.now) ×
+        (slice_index_or numbers.now i 0 ≡ n)) }
 {
     if from < numbers.len() && numbers[from] == n {
         return Some(from);

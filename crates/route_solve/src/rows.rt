@@ -16,7 +16,8 @@ pub(crate) fn set_bit(words: &mut [u64], i: usize, link: usize)
     requires link { link < 256 }
     ensures set { bit_of words.new i link ≡ 1 }
     ensures kept { (l j : ℕ) → bit_of words.old j l ≡ 1 → bit_of words.new j l ≡ 1 }
-    ensures only { (l j : ℕ) → l < 256 → bit_of words.new j l ≡ 1 → (bit_of words.old j l ≡ 1) ⊎ ((j ≡ i) × (l ≡ link)) }
+    ensures only { (l j : ℕ) → l < 256 → bit_of words.new j l ≡ 1 → (bit_of words.old j l ≡ 1) ⊎
+        ((j ≡ i) × (l ≡ link)) }
 {
     words[4 * i + link / 64] |= 1 << (link % 64);
 }
@@ -27,7 +28,8 @@ fn add_link(words: &mut [u64], places: &[usize], link: usize)
     requires link { link < 256 }
     ensures set { (i : ℕ) → Contains places.now i → bit_of words.new i link ≡ 1 }
     ensures kept { (l j : ℕ) → bit_of words.old j l ≡ 1 → bit_of words.new j l ≡ 1 }
-    ensures only { (l j : ℕ) → l < 256 → bit_of words.new j l ≡ 1 → (bit_of words.old j l ≡ 1) ⊎ (Contains places.now j × (l ≡ link)) }
+    ensures only { (l j : ℕ) → l < 256 → bit_of words.new j l ≡ 1 → (bit_of words.old j l ≡ 1) ⊎
+        (Contains places.now j × (l ≡ link)) }
 {
     for i in places {
         set_bit(words, *i, link);

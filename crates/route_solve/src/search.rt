@@ -1,7 +1,8 @@
 //! A search for augmenting paths, back from the interrupts that have room.
 ghost use Rattle.std.specs.Prelude.{◌≡◌, ◌<◌, ℕ, IfOk, true, false, length};
 ghost use Rattle.route_model.specs.Placement.{is_reached, taken};
-ghost use Rattle.route_solve.specs.Graphs.{capacity, edges, interrupts_in, HasVisitedFree, IsGraph, IsMatching, IsSized, Searches};
+ghost use Rattle.route_solve.specs.Graphs.{capacity, edges, interrupts_in, HasVisitedFree, IsGraph, IsMatching};
+ghost use Rattle.route_solve.specs.Graphs.{IsSized, Searches};
 ghost use Rattle.route_solve.specs.Ready.{AreReady};
 
 use crate::graph::{Graph, has_room};
@@ -10,8 +11,8 @@ use crate::matching::Matching;
 use crate::ways::{NO_WAY, Way};
 use std::alloc::{AllocError, Global};
 
-/// A search back from the interrupts that are below their capacity, along the links that could go there, to all interrupts
-/// at which an augmenting path begins: these are ready for one link more.
+/// A search back from the interrupts that are below their capacity, along the links that could go there, to all
+/// interrupts at which an augmenting path begins: these are ready for one link more.
 ///
 /// It visits each interrupt and each link once at most.
 #[derive(Drop)]
@@ -77,7 +78,8 @@ impl Search {
         requires matching { IsMatching graph.now matching.now }
         requires sized { IsSized (interrupts_in graph.now) self.old }
         ensures search { Searches graph.now matching.now self.new }
-        ensures ready { AreReady (edges graph.now) (capacity graph.now) matching.now.choice.items graph.now.low self.new.visited.items }
+        ensures ready { AreReady (edges graph.now) (capacity graph.now) matching.now.choice.items graph.now.low
+            self.new.visited.items }
     {
         self.begin(graph, matching);
         let mut pos = 0;

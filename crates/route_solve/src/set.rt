@@ -1,5 +1,6 @@
 //! The links and interrupts that show why no assignment is less busy.
-ghost use Rattle.std.specs.Prelude.{◌≡◌, ◌==◌, ◌≤◌, ◌<◌, ◌+◌, ◌*◌, ◌⊎◌, ℕ, List, [], Contains, MatchOption, Option, filter, length, slice_index_or, sum_by, true};
+ghost use Rattle.std.specs.Prelude.{◌≡◌, ◌==◌, ◌≤◌, ◌<◌, ◌+◌, ◌*◌, ◌⊎◌, ℕ, List, [], Contains, MatchOption, Option};
+ghost use Rattle.std.specs.Prelude.{filter, length, map, slice_index_or, sum_by, true};
 ghost use Rattle.std.specs.Bool.{OnFalse, OnTrue};
 ghost use Rattle.std.specs.List.{range_with_len};
 ghost use Rattle.std.specs.List.Sorted.{IsStrictlyIncreasing};
@@ -70,7 +71,8 @@ fn is_offered(
     requires four { length row.now ≡ 4 }
     requires all { (l : ℕ) → is_reached marks.now l ≡ true → bit_of row.now 0 l ≡ 1 }
     requires only { (l : ℕ) → l < 256 → bit_of row.now 0 l ≡ 1 → is_reached marks.now l ≡ true }
-    requires place { MatchOption place (Contains offered.now.numbers.now n → ⊥) (λ i. (i < length offered.now.numbers.now) × (slice_index_or offered.now.numbers.now i 0 ≡ n)) }
+    requires place { MatchOption place (Contains offered.now.numbers.now n →
+        ⊥) (λ i. (i < length offered.now.numbers.now) × (slice_index_or offered.now.numbers.now i 0 ≡ n)) }
     ensures { result ≡ is_offered_by (offers_of offered.now.problem.now.links) marks.now n }
 {
     match place {
@@ -107,7 +109,8 @@ fn keep_offered(interrupts: &mut Vec<u32>, offered: &Offered<'_>, marks: &[bool]
     requires few { length offered.now.problem.now.links ≤ 256 }
     requires marks { length marks.now ≡ length offered.now.problem.now.links }
     requires numbers { HasNumbers offered.now }
-    ensures { interrupts.new.items ≡ filter (is_offered_by (offers_of offered.now.problem.now.links) marks.now) interrupts.old.items }
+    ensures { interrupts.new.items ≡ filter (is_offered_by (offers_of offered.now.problem.now.links) marks.now)
+        interrupts.old.items }
 {
     let mut row = [0u64; 4];
     mark_row(&mut row, marks);
@@ -127,7 +130,8 @@ fn keep_offered(interrupts: &mut Vec<u32>, offered: &Offered<'_>, marks: &[bool]
 
 /// Keeps the interrupts with so many wired sources.
 fn keep_busy(interrupts: &mut Vec<u32>, wired: &[(u32, u32)], count: usize)
-    requires { sum_by (λ w. w.1) wired.now ≤ 4096 }
+    requires counts { sum_by (λ w. w.1) wired.now ≤ 4096 }
+    requires ascending { IsStrictlyIncreasing (map (λ w. w.0) wired.now) }
     ensures { interrupts.new.items ≡ filter (λ n. wired_to wired.now n == count) interrupts.old.items }
 {
     let mut kept = 0;
@@ -141,8 +145,8 @@ fn keep_busy(interrupts: &mut Vec<u32>, wired: &[(u32, u32)], count: usize)
     interrupts.truncate(kept);
 }
 
-/// Makes of all places and all interrupts the set that is to be shown: where the limit is above the greatest wired count, the
-/// Hall set that was reached, and all that it offers.
+/// Makes of all places and all interrupts the set that is to be shown: where the limit is above the greatest wired
+/// count, the Hall set that was reached, and all that it offers.
 pub(crate) fn show(
     offered: &Offered<'_>,
     reached: &[bool],
@@ -158,8 +162,10 @@ pub(crate) fn show(
     requires places { places.old.items ≡ range_with_len 0 (length offered.now.problem.now.links) }
     requires ascending { IsStrictlyIncreasing interrupts.old.items }
     requires all { HasAll (offers_of offered.now.problem.now.links) offered.now.problem.now.wired interrupts.old.items }
-    ensures shown { Shown (offers_of offered.now.problem.now.links) offered.now.problem.now.wired limit places.new.items interrupts.new.items }
-    ensures bound { (limit ≡ 0) ⊎ IsLowerBound (offers_of offered.now.problem.now.links) offered.now.problem.now.wired limit places.new.items interrupts.new.items }
+    ensures shown { Shown (offers_of offered.now.problem.now.links) offered.now.problem.now.wired limit
+        places.new.items interrupts.new.items }
+    ensures bound { (limit ≡ 0) ⊎ IsLowerBound (offers_of offered.now.problem.now.links) offered.now.problem.now.wired
+        limit places.new.items interrupts.new.items }
 {
     if limit == 0 {
         places.clear();

@@ -1,5 +1,6 @@
 //! The public calls: memory first, then a search that takes none.
-ghost use Rattle.std.specs.Prelude.{◌≡◌, ◌≤◌, ◌⊎◌, ℕ, List, IfOk, MatchOption, None, true, length, map, replicate, sum_by};
+ghost use Rattle.std.specs.Prelude.{◌≡◌, ◌≤◌, ◌⊎◌, ℕ, List, IfOk, MatchOption, None, true, length, map, replicate};
+ghost use Rattle.std.specs.Prelude.{sum_by};
 ghost use Rattle.std.specs.List.{range_with_len};
 ghost use Rattle.std.specs.List.Sorted.{IsStrictlyIncreasing};
 ghost use Rattle.route_model.specs.Links.{offers_of};
@@ -108,7 +109,9 @@ impl<'a> Solver<'a> {
     /// The row of an interrupt, four words with the lowest bit first: bit i is set exactly where link i of the problem,
     /// counted from 0, offers it. None where no link does. It takes no memory.
     pub fn row(&self, n: u32) -> Option<[u64; 4]>
-        ensures { MatchOption result ((l : ℕ) → Offers (offers_of self.now.problem.now.links) l n → ⊥) (λ row. (is_offered (offers_of self.now.problem.now.links) n ≡ true) × IsRow (offers_of self.now.problem.now.links) n row) }
+        ensures { MatchOption result ((l : ℕ) → Offers (offers_of self.now.problem.now.links) l n →
+            ⊥) (λ row. (is_offered (offers_of self.now.problem.now.links) n ≡ true) ×
+            IsRow (offers_of self.now.problem.now.links) n row) }
     {
         match place_among(&self.numbers, n) {
             Some(i) => Some(row_at(&self.rows, i)),
@@ -118,11 +121,15 @@ impl<'a> Solver<'a> {
 
     /// Finds the first least assignment, and the set that shows why none is less busy. It takes no memory.
     pub fn search(self) -> Answer
-        ensures least { (b : List ℕ) → IsAssignment (offers_of self.entry.problem.now.links) b → result.busiest ≤ busiest self.entry.problem.now.wired b }
+        ensures least { (b : List ℕ) → IsAssignment (offers_of self.entry.problem.now.links) b →
+            result.busiest ≤ busiest self.entry.problem.now.wired b }
         ensures busiest { busiest self.entry.problem.now.wired result.choice ≡ result.busiest }
-        ensures first_least { IsFirstLeast (offers_of self.entry.problem.now.links) self.entry.problem.now.wired result.choice }
-        ensures shown { Shown (offers_of self.entry.problem.now.links) self.entry.problem.now.wired result.busiest result.links result.interrupts }
-        ensures bound { (result.busiest ≡ 0) ⊎ IsLowerBound (offers_of self.entry.problem.now.links) self.entry.problem.now.wired result.busiest result.links result.interrupts }
+        ensures first_least { IsFirstLeast (offers_of self.entry.problem.now.links)
+            self.entry.problem.now.wired result.choice }
+        ensures shown { Shown (offers_of self.entry.problem.now.links) self.entry.problem.now.wired result.busiest
+            result.links result.interrupts }
+        ensures bound { (result.busiest ≡ 0) ⊎ IsLowerBound (offers_of self.entry.problem.now.links)
+            self.entry.problem.now.wired result.busiest result.links result.interrupts }
     {
         let Solver {
             problem,
@@ -166,8 +173,8 @@ impl<'a> Solver<'a> {
     }
 }
 
-/// The first least assignment of a problem that `fits`, and the set that shows why none is less busy: `Solver::new`, then
-/// `Solver::search`.
+/// The first least assignment of a problem that `fits`, and the set that shows why none is less busy: `Solver::new`,
+/// then `Solver::search`.
 ///
 /// ```
 /// if fits(&problem) {
@@ -177,11 +184,14 @@ impl<'a> Solver<'a> {
 /// ```
 pub fn solve(alloc: Global, problem: &Problem) -> Result<Answer, AllocError>
     requires { Fits problem.now }
-    ensures least { IfOk result (λ a. (b : List ℕ) → IsAssignment (offers_of problem.now.links) b → a.busiest ≤ busiest problem.now.wired b) }
+    ensures least { IfOk result (λ a. (b : List ℕ) → IsAssignment (offers_of problem.now.links) b →
+        a.busiest ≤ busiest problem.now.wired b) }
     ensures busiest { IfOk result (λ a. busiest problem.now.wired a.choice ≡ a.busiest) }
     ensures first_least { IfOk result (λ a. IsFirstLeast (offers_of problem.now.links) problem.now.wired a.choice) }
-    ensures shown { IfOk result (λ a. Shown (offers_of problem.now.links) problem.now.wired a.busiest a.links a.interrupts) }
-    ensures bound { IfOk result (λ a. (a.busiest ≡ 0) ⊎ IsLowerBound (offers_of problem.now.links) problem.now.wired a.busiest a.links a.interrupts) }
+    ensures shown { IfOk result (λ a. Shown (offers_of problem.now.links) problem.now.wired a.busiest
+        a.links a.interrupts) }
+    ensures bound { IfOk result (λ a. (a.busiest ≡ 0) ⊎ IsLowerBound (offers_of problem.now.links) problem.now.wired
+        a.busiest a.links a.interrupts) }
 {
     let solver = Solver::new(alloc, problem)?;
     Ok(solver.search())

@@ -1,5 +1,6 @@
 //! How many sources are wired to each offered interrupt.
-ghost use Rattle.std.specs.Prelude.{◌≡◌, ◌≤◌, ◌<◌, ◌+◌, ℕ, IfOk, length, sum_by, slice_set};
+ghost use Rattle.std.specs.Prelude.{◌≡◌, ◌≤◌, ◌<◌, ◌+◌, ℕ, IfOk, MatchOption, length, map, slice_index_or, sum_by};
+ghost use Rattle.std.specs.Prelude.{slice_set};
 ghost use Rattle.std.specs.List.Sorted.{IsStrictlyIncreasing};
 ghost use Rattle.route_model.specs.Routing.{wired_to};
 ghost use Rattle.route_solve.specs.Numbers.{number_at};
@@ -9,19 +10,39 @@ ghost use Rattle.route_solve.specs.Named.{AreSources};
 use crate::numbers::place_among;
 use std::alloc::{AllocError, Global};
 
+/// The place of an interrupt among the wired ones, found by halves.
+fn place_wired(wired: &[(u32, u32)], n: u32) -> Option<usize>
+    requires ascending { IsStrictlyIncreasing (map (λ w. w.0) wired.now) }
+    ensures { MatchOption result (wired_to wired.now n ≡ 0) (λ i. (i < length wired.now) ×
+        (wired_to wired.now n ≡ (slice_index_or wired.now i (0, 0)).1)) }
+{
+    let mut low: usize = 0;
+    let mut high: usize = wired.len();
+    while low < high {
+        let middle = low + (high - low) / 2;
+        if wired[middle].0 == n {
+            return Some(middle);
+        }
+        if wired[middle].0 < n {
+            low = middle + 1;
+        } else {
+            high = middle;
+        }
+    }
+    None
+}
+
 /// How many sources are wired to an interrupt.
 pub(crate) fn wired_sources(wired: &[(u32, u32)], n: u32) -> usize
-    requires { sum_by (λ w. w.1) wired.now ≤ 4096 }
+    requires counts { sum_by (λ w. w.1) wired.now ≤ 4096 }
+    requires ascending { IsStrictlyIncreasing (map (λ w. w.0) wired.now) }
     ensures value { result ≡ wired_to wired.now n }
     ensures small { result ≤ 4096 }
 {
-    let mut total = 0;
-    for w in wired {
-        if w.0 == n {
-            total += w.1 as usize;
-        }
+    match place_wired(wired, n) {
+        Some(i) => wired[i].1 as usize,
+        None => 0,
     }
-    total
 }
 
 /// Adds sources to those of the interrupt at a place.

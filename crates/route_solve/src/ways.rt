@@ -1,7 +1,8 @@
 //! The steps of augmenting paths: from an interrupt that is ready to those of the links that can go there.
 ghost use Rattle.std.specs.Prelude.{◌≡◌, ◌≤◌, ◌<◌, ◌/◌, ℕ, Some, true, length};
 ghost use Rattle.route_model.specs.Placement.{is_reached, place_of, Offers};
-ghost use Rattle.route_solve.specs.Graphs.{capacity, edges, interrupts_in, Extends, HasVisitedFrom, IsGraph, IsMatching, Searches};
+ghost use Rattle.route_solve.specs.Graphs.{capacity, edges, interrupts_in, Extends, HasVisitedFrom, IsGraph};
+ghost use Rattle.route_solve.specs.Graphs.{IsMatching, Searches};
 ghost use Rattle.route_solve.specs.Ready.{ready_at, IsWay};
 
 use crate::graph::Graph;
@@ -9,8 +10,8 @@ use crate::left::{clear_left, next_left};
 use crate::matching::Matching;
 use crate::search::Search;
 
-/// A step of an augmenting path: an interrupt that is ready, since it has room, or since a link that has it can go to the
-/// interrupt of an earlier way.
+/// A step of an augmenting path: an interrupt that is ready, since it has room, or since a link that has it can go to
+/// the interrupt of an earlier way.
 #[derive(Clone, Copy)]
 pub(crate) struct Way {
     /// The interrupt.
@@ -33,7 +34,8 @@ impl Search {
     pub(crate) fn add_way(&mut self, graph: &Graph<'_>, matching: &Matching, way: Way)
         requires search { Searches graph.now matching.now self.old }
         requires known { way.interrupt < interrupts_in graph.now }
-        requires is_way { IsWay (edges graph.now) (capacity graph.now) matching.now.choice.items graph.now.low self.old.ways.items self.old.found way }
+        requires is_way { IsWay (edges graph.now) (capacity graph.now) matching.now.choice.items graph.now.low
+            self.old.ways.items self.old.found way }
         ensures search { Searches graph.now matching.now self.new }
         ensures further { Extends self.old self.new }
         ensures left { self.new.left ≡ self.old.left }
@@ -58,7 +60,8 @@ impl Search {
         ensures search { Searches graph.now matching.now self.new }
         ensures further { Extends self.old self.new }
         ensures left { self.new.left ≡ self.old.left }
-        ensures visited { (x : ℕ) → place_of matching.now.choice.items link ≡ Some x → is_reached self.new.visited.items x ≡ true }
+        ensures visited { (x : ℕ) → place_of matching.now.choice.items link ≡ Some x →
+            is_reached self.new.visited.items x ≡ true }
     {
         match matching.choice[link] {
             Some(interrupt) => {
@@ -90,7 +93,8 @@ impl Search {
         requires word { w < 4 }
         ensures search { Searches graph.now matching.now self.new }
         ensures further { Extends self.old self.new }
-        ensures visited { (l x : ℕ) → l / 64 ≡ w → graph.now.low ≤ l → Offers (edges graph.now) l interrupt → place_of matching.now.choice.items l ≡ Some x → is_reached self.new.visited.items x ≡ true }
+        ensures visited { (l x : ℕ) → l / 64 ≡ w → graph.now.low ≤ l → Offers (edges graph.now) l interrupt →
+            place_of matching.now.choice.items l ≡ Some x → is_reached self.new.visited.items x ≡ true }
     {
         while let Some(link) = next_left(&self.left, graph.rows, interrupt, w) {
             self.pass(graph, matching, pos, link);

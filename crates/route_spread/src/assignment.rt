@@ -19,8 +19,9 @@ pub(crate) struct Assignment {
 }
 
 impl Assignment {
-    /// Moves links along a way: the link at its end to the target, then, from where that link was, the link for which that interrupt
-    /// was raised, and so on to an interrupt that was not raised. This one serves a source less, and the target one more.
+    /// Moves links along a way: the link at its end to the target, then, from where that link was, the link for which
+    /// that interrupt was raised, and so on to an interrupt that was not raised. This one serves a source less, and
+    /// the target one more.
     pub(crate) fn shift(&mut self, marks: &Marks, way: Way)
         requires assigned { CanBeMarked self.old }
         requires room { HasRoomFor (length self.old.loads.items) marks.now }

@@ -5,10 +5,12 @@ ghost use Rattle.route_spread.specs.Sharing.{IsLeastShared, NotBusier, IsLevelle
 
 /// Where no link can move to a lower interrupt, with some raised by one, links share as little as they can.
 pub fn raised_loads_show_a_least_sharing()
-    ensures { (offers : List (List ℕ)) (wired : List (ℕ × ℕ)) (raised : ℕ → Bool) (a : List ℕ) → IsLevelled offers wired raised a → IsLeastShared offers wired a }
+    ensures { (offers : List (List ℕ)) (wired : List (ℕ × ℕ)) (raised : ℕ → Bool) (a : List ℕ) →
+        IsLevelled offers wired raised a → IsLeastShared offers wired a }
 {}
 
-/// Where links share as little as they can, no assignment has loads that come first when they are sorted from the greatest down.
+/// Where links share as little as they can, no assignment has loads that come first when they are sorted from the
+/// greatest down.
 pub fn a_least_sharing_is_first_by_sorted_loads()
     ensures { (offers : List (List ℕ)) (wired : List (ℕ × ℕ)) (a : List ℕ) → IsLeastShared offers wired a → (numbers b : List ℕ) → HasOffered offers numbers → IsAssignment offers b → NotBusier wired numbers a b }
 {}
@@ -23,7 +25,8 @@ pub fn there_is_a_least_sharing()
     ensures { (offers : List (List ℕ)) (wired : List (ℕ × ℕ)) (a : List ℕ) → IsAssignment offers a → (b : List ℕ) × IsLeastShared offers wired b }
 {}
 
-/// Where no assignment has loads that come first when they are sorted from the greatest down, links share as little as they can.
+/// Where no assignment has loads that come first when they are sorted from the greatest down, links share as little
+/// as they can.
 pub fn the_first_by_sorted_loads_is_a_least_sharing()
     ensures { (offers : List (List ℕ)) (wired : List (ℕ × ℕ)) (a : List ℕ) → IsAssignment offers a → ((numbers b : List ℕ) → HasOffered offers numbers → IsAssignment offers b → NotBusier wired numbers a b) → IsLeastShared offers wired a }
 {}

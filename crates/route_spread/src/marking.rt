@@ -1,7 +1,10 @@
-//! Marks the interrupts that links lead to, from the highest down: each is raised by one at most, or a link can move to it.
-ghost use Rattle.std.specs.Prelude.{◌≡◌, ◌≤◌, ◌<◌, ◌+◌, ◌^◌, ◌↔◌, ℕ, Contains, IsTrue, IfOk, MatchOption, length, false};
+//! Marks the interrupts that links lead to, from the highest down: each is raised by one at most, or a link can move
+//! to it.
+ghost use Rattle.std.specs.Prelude.{◌≡◌, ◌≤◌, ◌<◌, ◌+◌, ◌^◌, ◌↔◌, ℕ, Contains, IsTrue, IfOk, MatchOption, length};
+ghost use Rattle.std.specs.Prelude.{false};
 ghost use Rattle.route_spread.specs.Marks.{at, height_at, is_raised};
-ghost use Rattle.route_spread.specs.Markings.{AreArrangedAt, AreArrangedFor, AreLater, AreLiftedOrFar, CanBeMarked, HasRoomFor};
+ghost use Rattle.route_spread.specs.Markings.{AreArrangedAt, AreArrangedFor, AreLater, AreLiftedOrFar, CanBeMarked};
+ghost use Rattle.route_spread.specs.Markings.{HasRoomFor};
 ghost use Rattle.route_spread.specs.Markings.{HaveLevelled, HaveMarked, HaveRaised, HaveWay, IsCounted, KnowsHolders};
 
 use crate::assignment::Assignment;
@@ -129,7 +132,8 @@ impl Marks {
         requires within { i < length assignment.now.loads.items }
         requires marked { HaveMarked assignment.now self.old i }
         ensures room { HasRoomFor (length assignment.now.loads.items) self.new }
-        ensures found { MatchOption result (HaveMarked assignment.now self.new (i + 1)) (λ way. HaveWay assignment.now self.new way) }
+        ensures found { MatchOption result (HaveMarked assignment.now self.new (i + 1))
+            (λ way. HaveWay assignment.now self.new way) }
     {
         let loads: &[u128] = &assignment.loads;
         let interrupt = self.order.interrupts[i];
@@ -158,14 +162,15 @@ impl Marks {
         self.order.arrange(loads);
     }
 
-    /// Marks what links lead to from the highest interrupts down, up to a way. Where there is none, no link offers an interrupt that
-    /// is lower.
+    /// Marks what links lead to from the highest interrupts down, up to a way. Where there is none, no link offers an
+    /// interrupt that is lower.
     pub(crate) fn mark(&mut self, assignment: &Assignment) -> Option<Way>
         requires assigned { CanBeMarked assignment.now }
         requires holders { KnowsHolders assignment.now }
         requires room { HasRoomFor (length assignment.now.loads.items) self.old }
         ensures room { HasRoomFor (length assignment.now.loads.items) self.new }
-        ensures found { MatchOption result (HaveLevelled assignment.now self.new) (λ way. HaveWay assignment.now self.new way) }
+        ensures found { MatchOption result (HaveLevelled assignment.now self.new)
+            (λ way. HaveWay assignment.now self.new way) }
     {
         self.begin(&assignment.loads);
         for i in 0..assignment.loads.len() {

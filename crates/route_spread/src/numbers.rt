@@ -1,5 +1,6 @@
 //! The offered interrupts in ascending order. Each is known by its place among them.
-ghost use Rattle.std.specs.Prelude.{◌≡◌, ◌≤◌, ◌<◌, ◌↔◌, ℕ, [], Contains, IsTrue, IfOk, IfSome, OnOk, MatchOption, length, map, slice_index_or, true};
+ghost use Rattle.std.specs.Prelude.{◌≡◌, ◌≤◌, ◌<◌, ◌↔◌, ℕ, [], Contains, IsTrue, IfOk, IfSome, OnOk, MatchOption};
+ghost use Rattle.std.specs.Prelude.{length, map, slice_index_or, true};
 ghost use Rattle.std.specs.List.Sorted.{IsStrictlyIncreasing};
 ghost use Rattle.route_model.specs.Links.{offers_of};
 ghost use Rattle.route_spread.specs.Numbers.{lists_of, HasAll, IsNumbered};
@@ -100,8 +101,8 @@ fn add_offers(
     Ok(())
 }
 
-/// Adds what a link offers to numbers of which the first so many ascend, and gives how many do then: all, if they are many and
-/// more than twice as many.
+/// Adds what a link offers to numbers of which the first so many ascend, and gives how many do then: all, if they are
+/// many and more than twice as many.
 fn gather(
     numbers: &mut Vec<u32>,
     hints: &mut [usize],
@@ -138,7 +139,8 @@ pub(crate) fn all_offered(alloc: Global, links: &[Link]) -> Result<Vec<u32>, All
 /// The place of a number among ascending ones, found by halves.
 pub(crate) fn place_among(numbers: &[u32], n: u32) -> Option<usize>
     requires { IsStrictlyIncreasing numbers.now }
-    ensures { MatchOption result (Contains numbers.now n → ⊥) (λ i. (i < length numbers.now) × (slice_index_or numbers.now i 0 ≡ n)) }
+    ensures { MatchOption result (Contains numbers.now n → ⊥) (λ i. (i < length numbers.now) ×
+        (slice_index_or numbers.now i 0 ≡ n)) }
 {
     let mut low: usize = 0;
     let mut high: usize = numbers.len();
@@ -159,7 +161,8 @@ pub(crate) fn place_among(numbers: &[u32], n: u32) -> Option<usize>
 /// The place of a number among ascending ones, which is looked at one place first.
 pub(crate) fn place_from(numbers: &[u32], from: usize, n: u32) -> Option<usize>
     requires { IsStrictlyIncreasing numbers.now }
-    ensures { MatchOption result (Contains numbers.now n → ⊥) (λ i. (i < length numbers.now) × (slice_index_or numbers.now i 0 ≡ n)) }
+    ensures { MatchOption result (Contains numbers.now n → ⊥) (λ i. (i < length numbers.now) ×
+        (slice_index_or numbers.now i 0 ≡ n)) }
 {
     if from < numbers.len() && numbers[from] == n {
         return Some(from);

@@ -39,7 +39,8 @@ fn all_loads(
     requires ascending { IsStrictlyIncreasing numbers.now }
     requires known { (k : ℕ) → k < length choice.now → at choice.now k < length numbers.now }
     ensures long { IfOk result (λ loads. length loads.items ≡ length numbers.now) }
-    ensures loaded { IfOk result (λ loads. (x : ℕ) → x < length numbers.now → at loads.items x ≡ given choice.now x + wired_to wired.now (number_at numbers.now x)) }
+    ensures loaded { IfOk result (λ loads. (x : ℕ) → x < length numbers.now →
+        at loads.items x ≡ given choice.now x + wired_to wired.now (number_at numbers.now x)) }
     ensures small { IfOk result (λ loads. (x : ℕ) → at loads.items x ≤ 2 ^ 100) }
 {
     let mut loads: Vec<u128> = vec![in alloc; 0; numbers.len()]?;
@@ -77,8 +78,8 @@ impl Sharing {
         })
     }
 
-    /// Makes the loads less uneven where links can be moved for it. Else no link offers an interrupt that is lower, with those
-    /// raised that are marked.
+    /// Makes the loads less uneven where links can be moved for it. Else no link offers an interrupt that is lower,
+    /// with those raised that are marked.
     fn improve(&mut self) -> bool
         requires { CanBeImproved self.old }
         ensures can { CanBeImproved self.new }
@@ -129,8 +130,9 @@ fn is_assignment(links: &[Link], choice: &[u32]) -> bool
     true
 }
 
-/// Whether links share interrupts as little as they can under a choice, from their offers, the wired counts and the choice alone.
-/// No to a choice that is no assignment, for which no memory is taken. An error means that memory ran out.
+/// Whether links share interrupts as little as they can under a choice, from their offers, the wired counts and the
+/// choice alone. No to a choice that is no assignment, for which no memory is taken. An error means that memory ran
+/// out.
 pub fn is_least_shared(
     alloc: Global,
     links: &[Link],
@@ -147,8 +149,8 @@ pub fn is_least_shared(
     Ok(!sharing.improve())
 }
 
-/// An assignment under which links share interrupts as little as they can: from a first one, links are moved until that is so.
-/// Where it is so from the beginning, the first one is the answer. An error means that memory ran out.
+/// An assignment under which links share interrupts as little as they can: from a first one, links are moved until
+/// that is so. Where it is so from the beginning, the first one is the answer. An error means that memory ran out.
 pub fn solve_spread(
     alloc: Global,
     links: &[Link],
@@ -157,7 +159,8 @@ pub fn solve_spread(
 ) -> Result<Vec<u32>, AllocError>
     requires { IsAssignment (offers_of links.now) first.now }
     ensures least { IfOk result (λ choice. IsLeastShared (offers_of links.now) wired.now choice.items) }
-    ensures stays { IfOk result (λ choice. IsLeastShared (offers_of links.now) wired.now first.now → choice.items ≡ first.now) }
+    ensures stays { IfOk result (λ choice. IsLeastShared (offers_of links.now) wired.now first.now →
+        choice.items ≡ first.now) }
 {
     let mut sharing = Sharing::new(alloc, links, wired, first)?;
     sharing.level();

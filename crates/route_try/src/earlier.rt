@@ -1,4 +1,5 @@
-//! A solver that moves links depth first, and counts in lists of links: what `route_solve` did before it had rows of bits.
+//! A solver that moves links depth first, and counts in lists of links: what `route_solve` did before it had rows of
+//! bits.
 ghost use Rattle.std.specs.Prelude.{◌≡◌, ◌<◌, length};
 
 use crate::fixing::fix_all;

@@ -1,5 +1,5 @@
-//! A solver that puts links in one after the other, each on a shortest way to the interrupt with the fewest sources that it can lead
-//! to: successive shortest paths, where an interrupt's next source costs as many as it has.
+//! A solver that puts links in one after the other, each on a shortest way to the interrupt with the fewest sources
+//! that it can lead to: successive shortest paths, where an interrupt's next source costs as many as it has.
 ghost use Rattle.std.specs.Prelude.{◌≡◌, ◌<◌, length};
 
 use crate::loads::wired_sources;

@@ -14,7 +14,8 @@ fn first_free(rooms: &Rooms<'_>, offers: &[u32], choice: &[Option<u32>]) -> Opti
     None
 }
 
-/// Finds an interrupt for a link, for which at most so many others are moved one after the other, but none that was reached.
+/// Finds an interrupt for a link, for which at most so many others are moved one after the other, but none that was
+/// reached.
 ///
 /// An interrupt that has room is looked for before any link is moved: without that, a chain through all links would be
 /// tried for each of them.
@@ -56,8 +57,8 @@ fn place(
     false
 }
 
-/// Finds an interrupt for the one link that has none, for which others may be moved. Where there is none, `reached` marks
-/// links that offer full interrupts alone, and all links that have one of these.
+/// Finds an interrupt for the one link that has none, for which others may be moved. Where there is none, `reached`
+/// marks links that offer full interrupts alone, and all links that have one of these.
 pub(crate) fn settle(
     rooms: &Rooms<'_>,
     links: &[Link],

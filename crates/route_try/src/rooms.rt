@@ -12,7 +12,8 @@ pub(crate) fn count(choice: &[Option<u32>], n: u32) -> usize {
         .count()
 }
 
-/// How often each interrupt can be given: up to a limit, less the sources that are wired to it and the links that keep it.
+/// How often each interrupt can be given: up to a limit, less the sources that are wired to it and the links that
+/// keep it.
 #[derive(Clone, Copy)]
 pub(crate) struct Rooms<'a> {
     /// How many sources an interrupt may serve.

@@ -35,8 +35,8 @@ pub fn sorted_loads(
     Ok(loads)
 }
 
-/// The loads of fewer than 16 interrupts, each below 32, as one number: each load is a digit's place in base 16, so the smaller number
-/// has the loads that come first when they are sorted from the greatest down.
+/// The loads of fewer than 16 interrupts, each below 32, as one number: each load is a digit's place in base 16, so
+/// the smaller number has the loads that come first when they are sorted from the greatest down.
 fn profile(wired: &[(u32, u32)], numbers: &[u32], choice: &[u32]) -> u128 {
     let mut total: u128 = 0;
     for n in numbers {
@@ -68,8 +68,8 @@ fn least(
     best
 }
 
-/// Whether no assignment of a small problem has loads that come before those of a choice, when they are sorted from the greatest down.
-/// All are tried.
+/// Whether no assignment of a small problem has loads that come before those of a choice, when they are sorted from
+/// the greatest down. All are tried.
 pub fn is_first_of_all(
     alloc: Global,
     problem: &Problem,
