@@ -133,7 +133,7 @@ def faults_in(text):
 
 
 def clause(file, function, kind):
-    found = re.search(rf"^{function} \w+ (?:\w+ )?\(?{kind}\b.*? = (.*)$", definition(file, function), re.MULTILINE)
+    found = re.search(rf"^ *{function} \w+ (?:\w+ )?\(?{kind}\b.*? = (.*)$", definition(file, function), re.MULTILINE)
     if not found:
         raise Wrong(f"{SPECS}/{file}.antt: {function} has no clause for {kind}")
     return found[1]

@@ -6,8 +6,8 @@ use crate::refusal::SpaceFault;
 use crate::space::{Place, Space, Width};
 use std::marker::Model;
 
-/// A register space over another one, of which one access fails: it answers `Device`, and the space below doesn't see it. All
-/// others are made by the space below.
+/// A register space over another one, of which one access fails: it answers `Device`, and the space below doesn't see
+/// it. All others are made by the space below.
 ///
 /// A test of a driver or of a machine refuses each access in turn by it.
 #[derive(Drop)]

@@ -1,5 +1,6 @@
 //! Pages: the bytes at 64 addresses in a row.
-ghost use Rattle.std.specs.Prelude.{◌≡◌, ℕ, ◌+◌, ◌^◌, ◌<◌, ◌≤◌, ◌++◌, length, slice_index, Some, None, IfSome, OnOk, is_some, true, false};
+ghost use Rattle.std.specs.Prelude.{◌≡◌, ℕ, ◌+◌, ◌^◌, ◌<◌, ◌≤◌, ◌++◌, length, slice_index, Some, None, IfSome, OnOk};
+ghost use Rattle.std.specs.Prelude.{is_some, true, false};
 ghost use Rattle.std.specs.Int.{bit_at};
 ghost use Rattle.ar_space.specs.Pages.{cell};
 ghost use Rattle.ar_space.specs.Runs.{run_from, number_from};
@@ -96,12 +97,14 @@ impl Page {
         Some(u64::from(low) + 256 * high)
     }
 
-    /// Puts bytes over those that stand from a place of the page on: `false`, and no change, where one of them doesn't stand.
+    /// Puts bytes over those that stand from a place of the page on: `false`, and no change, where one of them
+    /// doesn't stand.
     pub(crate) fn replace_all(&mut self, at: usize, bytes: &[u8]) -> bool
         requires { (at + length bytes.now ≤ 64) × (length bytes.now ≤ 8) }
         ensures stood { result ≡ is_some (number_from (cell self.old) at (length bytes.now)) }
         ensures kept { result ≡ false → self.new ≡ self.old }
-        ensures put { result ≡ true → (n : ℕ) → n < length bytes.now → cell self.new (at + n) ≡ Some (slice_index bytes.now n) }
+        ensures put { result ≡ true → (n : ℕ) → n < length bytes.now →
+            cell self.new (at + n) ≡ Some (slice_index bytes.now n) }
         ensures below { result ≡ true → (i : ℕ) → i < at → cell self.new i ≡ cell self.old i }
         ensures above { result ≡ true → (i : ℕ) → at + length bytes.now ≤ i → cell self.new i ≡ cell self.old i }
     {

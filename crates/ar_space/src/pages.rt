@@ -1,5 +1,6 @@
 //! Pages by number.
-ghost use Rattle.std.specs.Prelude.{◌≡◌, ◌+◌, ◌*◌, ◌<◌, ◌≤◌, ℕ, [], length, Some, None, OnOk, OnErr, IfOk, IsOkUnless, is_some, true, if◌then◌else◌};
+ghost use Rattle.std.specs.Prelude.{◌≡◌, ◌+◌, ◌*◌, ◌<◌, ◌≤◌, ℕ, [], length, Some, None, OnOk, OnErr, IfOk, IsOkUnless};
+ghost use Rattle.std.specs.Prelude.{is_some, true, if◌then◌else◌};
 ghost use Rattle.std.specs.Option.{option_copied};
 ghost use Rattle.std.specs.FinMap as map;
 ghost use Rattle.std.specs.Ordering.{nat_cmp};
@@ -82,8 +83,8 @@ impl Pages {
         }
     }
 
-    /// Where the page with a number stands, which is made without bytes if there is none: the last one from then on. Only want
-    /// of memory for a new page refuses it, and then nothing changes.
+    /// Where the page with a number stands, which is made without bytes if there is none: the last one from then on.
+    /// Only want of memory for a new page refuses it, and then nothing changes.
     fn find_or_make(&mut self, number: u64) -> Result<usize, Refusal>
         ensures place { IfOk result (λ place. place_of (all_pages self.new) number ≡ Some place) }
         ensures made { OnOk result (StoodOrNew number (all_pages self.old) (all_pages self.new)) }
@@ -130,8 +131,10 @@ impl Pages {
     #[tactic(auto, using(crate::proofs::PagePlaces::within))]
     pub(crate) fn put_all(&mut self, number: u64, at: usize, bytes: &[u8]) -> Result<(), Refusal>
         requires { (at < 64) × (at + length bytes.now ≤ 64) }
-        ensures ok { OnOk result (map_of_pages (all_pages self.new) ≡ with_bytes (map_of_pages (all_pages self.old)) (64 * number + at) bytes.now) }
-        ensures pages { OnOk result (length (all_pages self.new) ≡ length (all_pages self.old) + (if is_some (place_of (all_pages self.old) number) then 0 else 1)) }
+        ensures ok { OnOk result (map_of_pages (all_pages self.new) ≡
+            with_bytes (map_of_pages (all_pages self.old)) (64 * number + at) bytes.now) }
+        ensures pages { OnOk result (length (all_pages self.new) ≡
+            length (all_pages self.old) + (if is_some (place_of (all_pages self.old) number) then 0 else 1)) }
         ensures err { OnErr result (all_pages self.new ≡ all_pages self.old) }
         ensures memory { IsOkUnless result OutOfMemory }
     {
@@ -140,13 +143,17 @@ impl Pages {
         Ok(())
     }
 
-    /// Puts bytes over those that stand from a place of a page on: `false`, and no change, where one of them doesn't stand.
+    /// Puts bytes over those that stand from a place of a page on: `false`, and no change, where one of them doesn't
+    /// stand.
     #[tactic(auto, using(crate::proofs::PagePlaces::within))]
     pub(crate) fn replace_all(&mut self, number: u64, at: usize, bytes: &[u8]) -> bool
         requires count { (0 < length bytes.now) × (length bytes.now ≤ 8) }
         requires room { (at < 64) × (at + length bytes.now ≤ 64) }
-        ensures stood { result ≡ is_some (number_from (map.get (map_of_pages (all_pages self.old))) (64 * number + at) (length bytes.now)) }
-        ensures new { map_of_pages (all_pages self.new) ≡ (if result then with_bytes (map_of_pages (all_pages self.old)) (64 * number + at) bytes.now else map_of_pages (all_pages self.old)) }
+        ensures stood { result ≡ is_some (number_from (map.get (map_of_pages (all_pages self.old))) (64 * number + at)
+            (length bytes.now)) }
+        ensures new { map_of_pages (all_pages self.new) ≡
+            (if result then with_bytes (map_of_pages (all_pages self.old)) (64 * number + at) bytes.now else
+            map_of_pages (all_pages self.old)) }
     {
         match self.place(number) {
             Some(place) => self.made[place].1.replace_all(at, bytes),

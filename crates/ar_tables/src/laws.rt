@@ -6,8 +6,9 @@ ghost use Rattle.ar_tables.specs.Conditions.{MeetTheStandard};
 ghost use Rattle.ar_tables.specs.FindTables.{tables_of};
 ghost use Rattle.ar_tables.specs.declared.tables.Tables.{Tables};
 
-/// Tables that are found meet what the standard asks of the root pointer, of the list of tables, and of each table: its place
-/// in memory, its length, its signature and its checksum.
+/// Tables that are found meet what the standard asks of the root pointer, of the list of tables, and of each table:
+/// its place in memory, its length, its signature and its checksum.
 pub fn tables_that_are_found_meet_the_standard()
-    ensures { (image : FinMap nat_cmp ℕ) (rsdp : ℕ) (tables : Tables) → tables_of image rsdp ≡ Ok tables → MeetTheStandard image rsdp tables }
+    ensures { (image : FinMap nat_cmp ℕ) (rsdp : ℕ) (tables : Tables) → tables_of image rsdp ≡ Ok tables →
+        MeetTheStandard image rsdp tables }
 {}

@@ -2,7 +2,8 @@
 ghost use Rattle.std.specs.Prelude.{◌≡◌, ◌≤◌, ◌<◌, [], ◌∷◌, IfOk, IfSome, MatchOption, Some, None, length, true};
 ghost use Rattle.std.specs.Iterator.{YieldsFirst, item_count};
 ghost use Rattle.ar_space.specs.Outcome.{Answers};
-ghost use Rattle.ar_tables.specs.Structures.{begins_well, least_length, entry_in, first_structure, are_structures, entries_in, structures_of, well_structured};
+ghost use Rattle.ar_tables.specs.Structures.{begins_well, least_length, entry_in, first_structure, are_structures};
+ghost use Rattle.ar_tables.specs.Structures.{entries_in, structures_of, well_structured};
 
 use crate::table::Table;
 use ar_space::{Refusal, TableFault};

@@ -1,7 +1,8 @@
 //! The Root System Description Pointer (ACPI 6.5, 5.2.5.3).
 ghost use Rattle.std.specs.Prelude.{◌≡◌, ◌≤◌, IfOk, length};
 ghost use Rattle.ar_space.specs.Outcome.{Answers};
-ghost use Rattle.ar_tables.specs.RootPointers.{is_extended, rsdp_signed, rsdp_length, first_summed, to_rsdt, to_xsdt, first_root, extended_root, root_by, root_pointer};
+ghost use Rattle.ar_tables.specs.RootPointers.{is_extended, rsdp_signed, rsdp_length, first_summed, to_rsdt, to_xsdt};
+ghost use Rattle.ar_tables.specs.RootPointers.{first_root, extended_root, root_by, root_pointer};
 
 use crate::image_bytes::{ImageBytes, summed};
 use ar_space::{ByteMap, Refusal, TableFault};

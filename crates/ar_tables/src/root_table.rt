@@ -3,7 +3,8 @@ ghost use Rattle.std.specs.Prelude.{◌≡◌, ◌≤◌, IfOk, Ok, length, drop
 ghost use Rattle.byteorder.specs.Endian.{little_number};
 ghost use Rattle.ar_space.specs.Outcome.{Answers, seen};
 ghost use Rattle.ar_space.specs.Each.{each};
-ghost use Rattle.ar_tables.specs.Lists.{table_kind, address_size, addresses_in, entry_kind, entry_at, entries_at, listed, is_kind, addresses_of, few};
+ghost use Rattle.ar_tables.specs.Lists.{table_kind, address_size, addresses_in, entry_kind, entry_at, entries_at};
+ghost use Rattle.ar_tables.specs.Lists.{listed, is_kind, addresses_of, few};
 
 use crate::image_bytes::ImageBytes;
 use crate::root_pointer::RootKind;

@@ -6,9 +6,9 @@ ghost use Rattle.ar_tables.specs.SciSources.{gsi_in, gsi_among, gsi_by, sci_gsi,
 use crate::madt::{Madt, MadtEntry, madt_entries};
 use crate::tables::Tables;
 
-/// The interrupt source of the System Control Interrupt: SCI_INT of the FADT. Where I/O APICs are used (`apic`) it is the global
-/// system interrupt of the first interrupt source override of the MADT with this source, if there is one. There is none where
-/// SCI_INT is 0 or the FADT ends before it. It takes no memory.
+/// The interrupt source of the System Control Interrupt: SCI_INT of the FADT. Where I/O APICs are used (`apic`) it is
+/// the global system interrupt of the first interrupt source override of the MADT with this source, if there is one.
+/// There is none where SCI_INT is 0 or the FADT ends before it. It takes no memory.
 #[tactic(auto, unfolding(crate::specs::SciSources::sci_source))]
 pub fn sci_source(tables: &Tables, apic: bool) -> Option<u32>
     ensures { result ≡ sci_source tables.now apic }

@@ -1,7 +1,8 @@
 //! The tables of a machine (ACPI 6.5, 5.2).
 ghost use Rattle.std.specs.Prelude.{◌≡◌, ◌≤◌, length, map};
 ghost use Rattle.ar_space.specs.Outcome.{Answers, seen};
-ghost use Rattle.ar_tables.specs.FindTables.{root_table, fadt_at, dsdt_at, ssdts_at, structured_madt, madt_at, width_of, tables_in, tables_of};
+ghost use Rattle.ar_tables.specs.FindTables.{root_table, fadt_at, dsdt_at, ssdts_at, structured_madt, madt_at};
+ghost use Rattle.ar_tables.specs.FindTables.{width_of, tables_in, tables_of};
 
 use crate::fadt::Fadt;
 use crate::madt::{Madt, well_structured};

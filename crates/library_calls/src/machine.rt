@@ -1,4 +1,5 @@
-//! The machine text of a small machine: a link device that is set by a register of two ports, and one that has no register.
+//! The machine text of a small machine: a link device that is set by a register of two ports, and one that has no
+//! register.
 
 pub(crate) const TEXT: &[u8] = b"rsdp 1000
 mem 1000 5253442050545220DF0000000000000200000000240000000011000000000000CB000000

@@ -17,7 +17,8 @@ fn is_promised(alloc: Global, machine: &mut Machine<Sparse>, path: &Path) -> boo
     is_spent(&initialized) == spent && is_spent(&texts) == spent && evaluated.is_ok() != spent
 }
 
-/// What a call comes to that was refused for want of memory: the machine is spent then, where the call is one of its own.
+/// What a call comes to that was refused for want of memory: the machine is spent then, where the call is one of its
+/// own.
 fn after_want(
     alloc: Global,
     machine: &mut Machine<Sparse>,

@@ -1,8 +1,10 @@
-//! Makes the main calls of the libraries once each, over a small machine, and tells whether what is promised of want of memory holds.
+//! Makes the main calls of the libraries once each, over a small machine, and tells whether what is promised of want
+//! of memory holds.
 //!
-//! With ample memory each call answers. Where memory runs out in a call, the call says so; after a call of the machine itself each
-//! later one is refused as spent, and after a call of a library above it the machine goes on, unless it is spent. After a table that
-//! was not read no name takes arguments. Run it with each allocation refused in turn: `tools/refuse_memory.py` with `--calls`.
+//! With ample memory each call answers. Where memory runs out in a call, the call says so; after a call of the
+//! machine itself each later one is refused as spent, and after a call of a library above it the machine goes on,
+//! unless it is spent. After a table that was not read no name takes arguments. Run it with each allocation refused
+//! in turn: `tools/refuse_memory.py` with `--calls`.
 #![tactic(auto)]
 
 mod machine;

@@ -1,5 +1,6 @@
 //! Hexadecimal numbers.
-ghost use Rattle.std.specs.Prelude.{◌≡◌, ◌≤◌, ◌<◌, ◌+◌, ◌*◌, length, Some, None, IfSome, option_and_then, option_map, if◌then◌else◌};
+ghost use Rattle.std.specs.Prelude.{◌≡◌, ◌≤◌, ◌<◌, ◌+◌, ◌*◌, length, Some, None, IfSome, option_and_then, option_map};
+ghost use Rattle.std.specs.Prelude.{if◌then◌else◌};
 ghost use Rattle.hex.specs.Hex.{hex_digit_value};
 ghost use Rattle.machine_text.specs.Words.{number, number_from, word_bytes};
 
@@ -39,15 +40,16 @@ fn digit(c: u8) -> Option<u64>
 
 /// The byte of two digits.
 pub(crate) fn pair(high: u8, low: u8) -> Option<u8>
-    ensures { result ≡ option_and_then (λ h. option_map (λ l. h * 16 + l) (hex_digit_value low)) (hex_digit_value high) }
+    ensures { result ≡ option_and_then (λ h. option_map (λ l. h * 16 + l) (hex_digit_value low))
+        (hex_digit_value high) }
 {
     let high = digit(high)?;
     let low = digit(low)?;
     Some((high * 16 + low) as u8)
 }
 
-/// Puts the bytes that pairs of digits stand for into `out`. `false` where a byte of the word is no digit; `out` is then partly
-/// written.
+/// Puts the bytes that pairs of digits stand for into `out`. `false` where a byte of the word is no digit; `out` is
+/// then partly written.
 pub(crate) fn decode(word: &[u8], out: &mut [u8]) -> bool
     requires { (0 < length out.old) × (length word.now ≡ 2 * length out.old) }
     ensures { word_bytes word.now ≡ (if result then Some out.new else None) }

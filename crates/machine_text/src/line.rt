@@ -1,9 +1,11 @@
 //! One line of the machine text.
-ghost use Rattle.std.specs.Prelude.{◌≡◌, ◌≤◌, ◌+◌, ◌++◌, codes, Some, Ok, IfOk, IfSome, if◌then◌else◌, nat_le, nat_lt, option_map, length};
+ghost use Rattle.std.specs.Prelude.{◌≡◌, ◌≤◌, ◌+◌, ◌++◌, codes, Some, Ok, IfOk, IfSome, if◌then◌else◌, nat_le, nat_lt};
+ghost use Rattle.std.specs.Prelude.{option_map, length};
 ghost use Rattle.std.specs.List.{list_all};
 ghost use Rattle.ar_space.specs.Outcome.{Answers, seen};
 ghost use Rattle.machine_text.specs.Words.{only_or};
-ghost use Rattle.machine_text.specs.MachineText.{last_of, put_all, bad_line, placed, configured, root, text, is_text, keyed, line};
+ghost use Rattle.machine_text.specs.MachineText.{last_of, put_all, bad_line, placed, configured, root, text, is_text};
+ghost use Rattle.machine_text.specs.MachineText.{keyed, line};
 
 use crate::address_space::AddressSpace;
 use crate::draft::Draft;

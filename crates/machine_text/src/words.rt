@@ -50,8 +50,8 @@ pub(crate) fn number(n: usize, most: u64, words: &mut Words<'_>) -> Result<u64, 
     number_here(n, word, most)
 }
 
-/// The bytes of all words, of which there is one at least: `Some` of the byte where there is one word of two digits alone, which
-/// takes no buffer; else `None`, and the bytes are in the buffer, in place of what it had.
+/// The bytes of all words, of which there is one at least: `Some` of the byte where there is one word of two digits
+/// alone, which takes no buffer; else `None`, and the bytes are in the buffer, in place of what it had.
 #[tactic(auto, using(ar_space::specs::Outcome::answering), unfolding(crate::specs::MachineText::all_bytes))]
 pub(crate) fn bytes(
     n: usize,

@@ -19,7 +19,8 @@ fn described(alloc: Global, text: &[u8]) -> Result<(Tables, Sparse), Refusal> {
     Ok((tables, said.space))
 }
 
-/// Tables, loaded over registers, with no texts for `_OSI`. Loading accesses registers too. After `pass` accesses, one fails.
+/// Tables, loaded over registers, with no texts for `_OSI`. Loading accesses registers too. After `pass` accesses,
+/// one fails.
 fn loaded(
     alloc: Global,
     tables: Tables,

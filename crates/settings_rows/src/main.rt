@@ -1,5 +1,6 @@
-//! Routes the interrupts of machines over registers that keep their accesses, and compares what came of setting each link, each
-//! access in its order, and the registers afterwards with rows. The rows are in `data/`, whose README says how they are written.
+//! Routes the interrupts of machines over registers that keep their accesses, and compares what came of setting each
+//! link, each access in its order, and the registers afterwards with rows. The rows are in `data/`, whose README says
+//! how they are written.
 #![tactic(auto)]
 
 mod accesses;

@@ -1,5 +1,5 @@
-//! A register space over another one that keeps the list of the accesses to it, so that a test can say which accesses were
-//! made and in which order.
+//! A register space over another one that keeps the list of the accesses to it, so that a test can say which accesses
+//! were made and in which order.
 #![tactic(auto)]
 
 mod access;

@@ -12,9 +12,11 @@ const ROOM: usize = 64;
 /// What stands in the list where no access was made yet.
 const BLANK: Access = Access::Read(Place::Memory(0), Width::W8);
 
-/// A register space that does what another one does, and keeps the list of the accesses, those that are refused among them.
+/// A register space that does what another one does, and keeps the list of the accesses, those that are refused among
+/// them.
 ///
-/// An access may take no memory, so the list has a fixed room: the first 64 accesses are kept, and the later ones counted.
+/// An access may take no memory, so the list has a fixed room: the first 64 accesses are kept, and the later ones
+/// counted.
 #[derive(Drop)]
 pub struct Traced<S> {
     inner: S,

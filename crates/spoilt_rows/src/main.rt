@@ -1,5 +1,5 @@
-//! Rows that are spoilt on purpose: the programs of rows have to tell what differs, and end with status 1. A question of these rows is
-//! answered by itself, and a row that asks `late` differs at its end.
+//! Rows that are spoilt on purpose: the programs of rows have to tell what differs, and end with status 1. A question
+//! of these rows is answered by itself, and a row that asks `late` differs at its end.
 #![tactic(auto)]
 
 use std::io;

@@ -103,7 +103,8 @@ fn number_raised(asked: &mut Exchange, machine: &mut MachineText, place: Place) 
     number
 }
 
-/// `raise ADDRESS N`: the answers of the search for tables while one of so many bytes from an address on is higher by one.
+/// `raise ADDRESS N`: the answers of the search for tables while one of so many bytes from an address on is higher by
+/// one.
 fn raise(asked: &mut Exchange, machine: &mut MachineText) {
     let address = hexadecimal(asked);
     let mut answers = Distinct::new();

@@ -1,5 +1,6 @@
-//! Reads rows about the tables of a machine: its register space, the machine text that writes it down, the ACPI tables in its
-//! memory, and the resource descriptors of its link devices. `data/README.md` says how rows are written.
+//! Reads rows about the tables of a machine: its register space, the machine text that writes it down, the ACPI
+//! tables in its memory, and the resource descriptors of its link devices. `data/README.md` says how rows are
+//! written.
 #![tactic(auto)]
 
 mod answers;

@@ -50,8 +50,8 @@ fn length_at(structures: &[Structure], address: u64) -> usize {
     0
 }
 
-/// `cuts ADDRESS from RSDP`: the answers of all searches in which the structure at that address is cut before one of its
-/// bytes.
+/// `cuts ADDRESS from RSDP`: the answers of all searches in which the structure at that address is cut before one of
+/// its bytes.
 fn cuts(asked: &mut Exchange, structures: &[Structure]) {
     let address = asked.until(" from ");
     let address = asked.digits(address, 16, u64::MAX);

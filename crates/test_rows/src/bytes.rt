@@ -11,8 +11,8 @@ fn digit(character: u8) -> Option<u8> {
     }
 }
 
-/// The bytes that a row writes: two hexadecimal digits a byte, and text between quotation marks, as in `5B80 "REG0" 01`.
-/// Anything else between them is passed over.
+/// The bytes that a row writes: two hexadecimal digits a byte, and text between quotation marks, as in `5B80 "REG0"
+/// 01`. Anything else between them is passed over.
 pub fn bytes_of(alloc: Global, text: &str) -> Result<Vec<u8>, AllocError> {
     let mut bytes = Vec::new(alloc);
     let mut high: Option<u8> = None;
@@ -48,8 +48,8 @@ pub fn hexadecimal(alloc: Global, bytes: &[u8]) -> Result<String, AllocError> {
     Ok(text)
 }
 
-/// Bytes with their readable characters between quotation marks, and the others in hexadecimal digits; `-` where there are
-/// none.
+/// Bytes with their readable characters between quotation marks, and the others in hexadecimal digits; `-` where
+/// there are none.
 pub fn quoted(alloc: Global, bytes: &[u8]) -> Result<String, AllocError> {
     let mut text = String::from_str(alloc, if bytes.is_empty() { "-" } else { "" })?;
     let mut is_text = false;

@@ -8,8 +8,8 @@ use std::alloc::{AllocError, Global};
 
 /// A question that is read word for word, and the answer that is written to it word for word.
 ///
-/// What goes wrong is kept, and told at the end. A word that is missing, or isn't what is wanted in its place, stands for nothing,
-/// and the answer is `no question`; so it is where words are left.
+/// What goes wrong is kept, and told at the end. A word that is missing, or isn't what is wanted in its place, stands
+/// for nothing, and the answer is `no question`; so it is where words are left.
 #[derive(Drop)]
 pub struct Exchange<'a> {
     alloc: Global,
@@ -234,8 +234,8 @@ impl<'a> Exchange<'a> {
         }
     }
 
-    /// What was answered in place of what is wanted, if that is something else. A question that only does something, and answers
-    /// nothing, is answered by `done`.
+    /// What was answered in place of what is wanted, if that is something else. A question that only does something,
+    /// and answers nothing, is answered by `done`.
     pub fn difference(&self, question: &Question) -> Result<Option<String>, AllocError> {
         if self.is_out_of_memory {
             return Err(AllocError);

@@ -111,8 +111,8 @@ fn judge_file<S: Subject, R: Files + Print + AllocGlobal>(
     close(rt, row, tally)
 }
 
-/// Judges all rows of the files `*.rows` that lie where the program runs: prints what each row comes to in place of what it
-/// says, and then how many rows came to what they say, and how many not. The status is 1 where one did not.
+/// Judges all rows of the files `*.rows` that lie where the program runs: prints what each row comes to in place of
+/// what it says, and then how many rows came to what they say, and how many not. The status is 1 where one did not.
 pub fn judge_rows<S: Subject, R: Files + Print + AllocGlobal + Clone + Drop>(
     rt: &R,
 ) -> io::Result<ExitCode> {

@@ -1,12 +1,14 @@
 //! Files of rows: what a library or a program is asked, and what it has to answer.
 //!
-//! A program that reads rows calls [`judge_rows`] in its `main`. Its folder `data/` holds files `*.rows`, and each is lines:
+//! A program that reads rows calls [`judge_rows`] in its `main`. Its folder `data/` holds files `*.rows`, and each is
+//! lines:
 //!
 //! - `row NAME` begins a row, for which a new subject is made;
 //! - each further line is put to the row's subject, which says what differs from it, if anything does;
 //! - an empty line, and one that begins with `#`, says nothing.
 //!
-//! Most subjects take questions with their answers: `QUESTION = ANSWER`, or `QUESTION` alone where the answer is `done`.
+//! Most subjects take questions with their answers: `QUESTION = ANSWER`, or `QUESTION` alone where the answer is
+//! `done`.
 #![tactic(auto)]
 
 mod bytes;

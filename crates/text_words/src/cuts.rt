@@ -6,12 +6,14 @@ ghost use Rattle.text_words.specs.Words.{tail_at, tail_of};
 use memchr::memchr;
 use std::simd::prelude::*;
 
-/// How many bytes are looked at in one step, before the search of a long text begins: most words and many lines are no longer.
+/// How many bytes are looked at in one step, before the search of a long text begins: most words and many lines are
+/// no longer.
 const NEAR: usize = 16;
 /// The same for shorter texts, as what follows `mem` in a line of one byte.
 const HALF: usize = 8;
 
-/// The first place of a byte, from 0, or the length where the byte isn't in the text: `place_of(b' ', b"give it")` is 4.
+/// The first place of a byte, from 0, or the length where the byte isn't in the text: `place_of(b' ', b"give it")` is
+/// 4.
 pub fn place_of(byte: u8, text: &[u8]) -> usize
     ensures value { result ≡ position_or_len (λ b. b == byte) text.now }
     ensures within { result ≤ length text.now }
@@ -88,8 +90,8 @@ fn place_in_half(byte: u8, text: &[u8]) -> usize
     }
 }
 
-/// The same as `place_of`, for a text whose length is worth the start of a search by vectors; out of the way of short texts, so
-/// that these save and restore no registers for it.
+/// The same as `place_of`, for a text whose length is worth the start of a search by vectors; out of the way of short
+/// texts, so that these save and restore no registers for it.
 #[inline(never)]
 fn place_in_long(byte: u8, text: &[u8]) -> usize
     ensures value { result ≡ position_or_len (λ b. b == byte) text.now }
@@ -98,8 +100,8 @@ fn place_in_long(byte: u8, text: &[u8]) -> usize
     memchr(byte, text).unwrap_or(text.len())
 }
 
-/// What stands before the first such byte, and what follows it: `cut_at(b'\n', b"one\ntwo")` is `(b"one", Some(b"two"))`.
-/// Where the byte isn't in the text it is the whole text and `None`.
+/// What stands before the first such byte, and what follows it: `cut_at(b'\n', b"one\ntwo")` is `(b"one",
+/// Some(b"two"))`. Where the byte isn't in the text it is the whole text and `None`.
 pub fn cut_at(byte: u8, text: &[u8]) -> (&[u8], Option<&[u8]>)
     ensures before { result.0.now ≡ before_first (λ b. b == byte) text.now }
     ensures tail { option_map (λ s. s.now) result.1 ≡ tail_at byte text.now }
@@ -113,8 +115,8 @@ pub fn cut_at(byte: u8, text: &[u8]) -> (&[u8], Option<&[u8]>)
     }
 }
 
-/// The first word of a line, and what follows the blank behind it: `cut(b"give it")` is `(b"give", Some(b"it"))`. Where the
-/// line has no blank it is the whole line and `None`.
+/// The first word of a line, and what follows the blank behind it: `cut(b"give it")` is `(b"give", Some(b"it"))`.
+/// Where the line has no blank it is the whole line and `None`.
 pub fn cut(line: &[u8]) -> (&[u8], Option<&[u8]>)
     ensures before { result.0.now ≡ before_first (λ b. b == 32) line.now }
     ensures tail { option_map (λ s. s.now) result.1 ≡ tail_of line.now }

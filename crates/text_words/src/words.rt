@@ -5,8 +5,8 @@ ghost use Rattle.text_words.specs.Words.{words, words_left};
 use crate::cuts::cut;
 use std::marker::Model;
 
-/// The words that are left of a line; contracts see them as the list of their bytes. `Words::of(b"give it")` yields `give` and
-/// `it`. Two blanks in a row have an empty word between them, and a line without a byte is one empty word.
+/// The words that are left of a line; contracts see them as the list of their bytes. `Words::of(b"give it")` yields
+/// `give` and `it`. Two blanks in a row have an empty word between them, and a line without a byte is one empty word.
 #[derive(Drop)]
 pub struct Words<'a> {
     rest: Option<&'a [u8]>,

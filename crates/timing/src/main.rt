@@ -1,9 +1,10 @@
-//! For measuring parts of the program by themselves: `timing machine-text` reads a machine text from the standard input and
-//! prints the address of its RSDP; `timing solver TIMES` reads links and wired interrupts, solves the problem so many times, once
-//! where no number is given, and prints how many sources the busiest interrupt of its first least assignment serves;
-//! `timing earlier-solver TIMES` does the same by the earlier solver, which is there for tests; `timing spread TIMES` moves links so
-//! often from that assignment to one under which they share as little as they can, and `timing spread-check TIMES` tests that one so
-//! often; `timing spread-first TIMES` tests so often the assignment that gives each link its first offer, of any number of links.
+//! For measuring parts of the program by themselves: `timing machine-text` reads a machine text from the standard
+//! input and prints the address of its RSDP; `timing solver TIMES` reads links and wired interrupts, solves the
+//! problem so many times, once where no number is given, and prints how many sources the busiest interrupt of its
+//! first least assignment serves; `timing earlier-solver TIMES` does the same by the earlier solver, which is there
+//! for tests; `timing spread TIMES` moves links so often from that assignment to one under which they share as little
+//! as they can, and `timing spread-check TIMES` tests that one so often; `timing spread-first TIMES` tests so often
+//! the assignment that gives each link its first offer, of any number of links.
 #![tactic(auto)]
 
 mod links;

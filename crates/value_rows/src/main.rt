@@ -1,5 +1,5 @@
-//! Reads rows about the values of AML: conversions and operators on integers, strings and buffers, and the fields of operation
-//! regions. `data/README.md` says how rows are written.
+//! Reads rows about the values of AML: conversions and operators on integers, strings and buffers, and the fields of
+//! operation regions. `data/README.md` says how rows are written.
 #![tactic(auto)]
 
 mod answers;

@@ -1,4 +1,5 @@
-//! Questions of the strings and parts that operators give, of binary coded decimal, and of elements that Match looks at.
+//! Questions of the strings and parts that operators give, of binary coded decimal, and of elements that Match looks
+//! at.
 
 use crate::answers::say_integer;
 use crate::conversions::{say_formed, say_text};
