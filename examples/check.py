@@ -67,11 +67,29 @@ set \_SB_.LNKB none
 after \_SB_.LNKA none
 after \_SB_.LNKB none
 """
+# The report of the board with a Switch: five pins are wired, two of them to 17.
+SWITCH_REPORT = r"""acpiroute 2
+mode apic
+sci 9
+avoid -
+wired 16 1
+wired 17 2
+wired 18 1
+wired 20 1
+pin \_SB_.PCI0 31 A 20 wired
+pin \_SB_.PCI0.RP01 0 A 16 wired
+pin \_SB_.PCI0.RP01 0 B 17 wired
+pin \_SB_.PCI0.RP02 0 A 17 wired
+pin \_SB_.PCI0.RP02 0 B 18 wired
+busiest 2
+bound - over 17
+"""
 # Other commands: the machine text, the words, the exit status, the output and the line of errors.
 COMMANDS = [
     ("two-links", ["route", "--avoid", "5"], 1, "", "refused 123 \\_SB_.LNKB\n"),
     ("spare", ["route", "--mode", "pic", "--spare", "--avoid", "5,10,11"], 1, "", "refused 123 \\_SB_.LNKA\n"),
     ("switch", ["route"], 1, "", "refused 73 op 0089\n"),
+    ("switch", ["route", "--profile", "wide"], 0, SWITCH_REPORT, ""),
     ("switch", ["eval", "\\_SB_.PCI0.RP01._PRT"], 1, "", "refused 73 op 0089\n"),
     ("refused", ["route"], 1, "", "refused 101\n"),
     ("refused", ["route", "--profile", "wide"], 0, WIDE_REPORT, ""),

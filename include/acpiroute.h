@@ -19,7 +19,7 @@
  *
  *                                  for programs            libacpiroute_kernel.a    libacpiroute_kernel_no_sse.a
  *     made by                      rt lib, a release       tools/kernel_library.py, a release
- *     calls                        all                     all                      the two over a record
+ *     calls                        all                     all                      the four over a record
  *     x86-64 processors            from x86-64-v2 on       all                      all
  *     registers                    general, xmm0 to xmm15  general, xmm0 to xmm15   general
  *     128 bytes below the stack    used (the red zone)     not used                 not used
@@ -97,7 +97,7 @@ struct acpiroute_reply {
 
 /*
  * The options are the words behind the command, parted by single blanks, with no zero byte at the end: "--mode pic --avoid 3,4".
- * There are none where their length is 0. They are `options_length` bytes.
+ * There are none where their length is 0. They are `options_length` bytes. "--profile wide" is one of them.
  *
  * The rest of both buffers, behind the bytes of the reply, is left as it was, and no zero byte is put behind them.
  */
