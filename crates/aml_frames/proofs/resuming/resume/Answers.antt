@@ -18,3 +18,6 @@ pub returns-in-UnitWritten-clause-falls : goal.returns-in-UnitWritten-clause-fal
 returns-in-UnitWritten-clause-falls g c =
     let h = rw c.into_inner.ensures at c.next_write.ensures.falls in
     rw c.in-UnitWritten.is (charged_free c.next_write.result c.next_write.new.run.1 c.args.run.now.1 _ _ c.next_write.ensures.spent (omega arith) h)
+
+pub returns-in-Third-clause-falls : goal.returns-in-Third-clause-falls
+returns-in-Third-clause-falls g c = rw c.in-Third.is (charged_free c.resume_third.result c.resume_third.new.run.1 c.args.run.now.1 _ _ c.resume_third.ensures.spent (omega arith) c.resume_third.ensures.falls)
