@@ -3,6 +3,7 @@
 #![tactic(auto)]
 
 mod draft;
+mod heading;
 pub mod laws;
 mod line;
 mod lines;

@@ -6,12 +6,10 @@ ghost use Rattle.route_report.specs.Reading.{ascends, is_passed_over, with_next,
 ghost use Rattle.route_report.specs.Reading.{sci, ascending_after, avoid, spared, unread, give, busiest, with_path};
 ghost use Rattle.route_report.specs.Reading.{set_links, with_number, numbers_after, some_numbers, set, bound};
 ghost use Rattle.route_report.specs.Reading.{link_line, wired_line, sci_line, avoid_line, spared_line, unread_line};
-ghost use Rattle.route_report.specs.Reading.{rule_line, give_line, busiest_line, bound_line, keyed, line, version_here};
-ghost use Rattle.route_report.specs.Reading.{heading};
+ghost use Rattle.route_report.specs.Reading.{rule_line, give_line, busiest_line, bound_line, keyed, line};
 
 use crate::draft::Draft;
 use crate::report::Rule;
-use crate::version::Version;
 use crate::words::{bad_line, ended, expected, number, number_here, one_of, path, path_here, word};
 use aml_path::Path;
 use ar_space::Refusal;
@@ -476,35 +474,4 @@ pub(crate) fn line(alloc: Global, n: usize, text: &[u8], draft: &mut Draft) -> R
     let mut words = Words::of(text);
     let key = word(n, &mut words)?;
     keyed(alloc, n, key, &mut words, draft)
-}
-
-/// The version that a word is.
-#[tactic(auto, using(ar_space::specs::Outcome::answering))]
-fn version_here(n: usize, word: &[u8]) -> Result<Version, Refusal>
-    ensures answer { Answers result (version_here n word.now) }
-    ensures memory { NotMemory result }
-{
-    if word == b"1".as_slice() {
-        Ok(Version::One)
-    } else if word == b"2".as_slice() {
-        Ok(Version::Two)
-    } else if word == b"3".as_slice() {
-        Ok(Version::Three)
-    } else {
-        Err(bad_line(n))
-    }
-}
-
-/// The first line: a report of version 1, 2 or 3.
-#[tactic(auto, using(ar_space::specs::Outcome::answering), unfolding(crate::specs::Reading::heading))]
-pub(crate) fn heading(n: usize, text: &[u8]) -> Result<Version, Refusal>
-    ensures answer { Answers result (heading n (words text.now)) }
-    ensures memory { NotMemory result }
-{
-    let mut words = Words::of(text);
-    expected(n, b"acpiroute", &mut words)?;
-    let version = word(n, &mut words)?;
-    let version = version_here(n, version)?;
-    ended(n, &words)?;
-    Ok(version)
 }

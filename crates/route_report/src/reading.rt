@@ -5,7 +5,8 @@ ghost use Rattle.route_report.specs.Lines.{lines};
 ghost use Rattle.route_report.specs.Reading.{lines_read, claim_of_text, first_said};
 
 use crate::draft::Draft;
-use crate::line::{heading, line};
+use crate::heading::heading;
+use crate::line::line;
 use crate::version::Version;
 use crate::words::bad_line;
 use ar_space::Refusal;
