@@ -48,7 +48,8 @@ pub fn load_tables<S: Space>(
     load_tables_as(alloc, Profile::Core, tables, space, steps, osi)
 }
 
-/// The same in a profile, which the machine keeps.
+/// As `load_tables`, with the AML evaluated in this profile, which `Machine::profile` shows and nothing changes. It also
+/// decides about exclusive offers and about a `_HID` that is a control method.
 pub fn load_tables_as<S: Space>(
     alloc: Global,
     profile: Profile,

@@ -27,7 +27,8 @@ use std::alloc::Global;
 /// `NotPackage` where the answer is no package; then of each entry `BadEntry` where it is no package of four, its
 /// address, pin or source index no integer of at most 32 bits, or its source neither 0 nor a name; `BadPin` where the
 /// pin is above 3; `NotALink` where the source names no link device: a Device whose `_HID` is a name that holds
-/// EISAID("PNP0C0F") or "PNP0C0F"; `SourceIndex` where the source index at a link device isn't 0. `Spent` where an
+/// EISAID("PNP0C0F") or "PNP0C0F", in the wide profile also a control method that answers one of these, whose own
+/// refusal is handed on; `SourceIndex` where the source index at a link device isn't 0. `Spent` where an
 /// earlier call ran out of memory.
 #[tactic(auto, using(ar_space::specs::Change::changing), unfolding(crate::specs::RoutingTables::routing_table))]
 pub fn get_irq_routing_table<S: Space>(

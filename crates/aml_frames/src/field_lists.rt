@@ -245,7 +245,8 @@ fn test_connection<S: Space>(
     Ok(at)
 }
 
-/// A list in which a Connection stands is one of the wide profile.
+/// A list in which a Connection stands is refused in a world of the core profile, with the opcode of the list, before
+/// anything of it is declared.
 #[tactic(auto, using(aml_meaning::proofs::Runs::running))]
 fn ask_for_connections<S: Space>(
     world: &WorldState<S>,
@@ -261,6 +262,7 @@ fn ask_for_connections<S: Space>(
     Ok(())
 }
 
+/// Whether a Connection stands in a list of fields.
 fn has_connection(elements: At<'_>) -> bool
     ensures { result ≡ has_connection (at_list elements.entry) }
 {

@@ -1,10 +1,13 @@
-//! How much of AML is evaluated.
+//! How much is taken of what the tables of a machine have.
 
-/// What a world evaluates.
+/// What a world evaluates, and what a machine takes of its resources.
 #[derive(Clone, Copy, Debug, PartialEq, Eq)]
 pub enum Profile {
-    /// The terms that choosing interrupts needs on most machines; every other term is refused as `Unsupported`.
+    /// The default. Match, ToDecimalString, ToHexString, ToString, Mid, FromBCD, ToBCD, and lists of fields with a
+    /// Connection are refused as `Unsupported`, exclusive offers as `Exclusive`, and a `_HID` that is a control method
+    /// as `NotALink`.
     Core,
-    /// More terms, which real machines have.
+    /// These are evaluated, taken and called. Signal, Wait, Reset, Timer, Load, LoadTable, BankField and DataRegion stay
+    /// `Unsupported`.
     Wide,
 }

@@ -46,9 +46,10 @@ pub struct Searching {
 }
 
 impl<S> WorldState<S> {
-    /// The search that Match makes, by the values of its operands and the bytes of its operators. Refused as
-    /// `WrongType`: what is searched in isn't a package, an operator is above 5, or an object is no integer, string
-    /// or buffer; as `IndexLimit`: it starts past the last element.
+    /// The search that Match makes, by the values of its operands and the bytes of its operators. Tested in this
+    /// order: what is searched in is a package, the first operator is at most 5 and its object an integer, a string or
+    /// a buffer, and so the second ones, else `WrongType`; the start, refused as its conversion to an integer is; and
+    /// `IndexLimit` where it isn't below the number of elements.
     #[tactic(auto, using(ar_space::specs::Change::changing), unfolding(crate::specs::MatchTerms::search_begun))]
     pub fn begin_search(
         &self,

@@ -154,7 +154,7 @@ pub enum WideKind {
     Match,
 }
 
-/// An explicit conversion of one operand.
+/// ToDecimalString, ToHexString, FromBCD and ToBCD.
 #[derive(Clone, Copy, Debug, PartialEq, Eq)]
 pub enum Conversion {
     DecimalString,
