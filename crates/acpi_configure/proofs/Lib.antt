@@ -1,4 +1,3 @@
-pub mod AllAsked
 pub mod Asked
 pub mod Barring
 pub mod Bounds

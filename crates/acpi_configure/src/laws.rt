@@ -1,15 +1,12 @@
 //! What holds of all problems and of all machines: each law is the contract of a function that does nothing.
-ghost use Rattle.std.specs.Prelude.{◌≡◌, ℕ, Bool, true, false, List, Ok, Some, Contains, map};
+ghost use Rattle.std.specs.Prelude.{◌≡◌, ℕ, Bool, true, false, List, Some, Contains};
 ghost use Rattle.ar_space.specs.Accesses.{Accesses};
 ghost use Rattle.acpi_machine.specs.MachineStates.{MachineState};
-ghost use Rattle.acpi_links.specs.Gathering.{Gathering};
-ghost use Rattle.acpi_links.specs.Gatherings.{gathered};
 ghost use Rattle.route_solve.specs.Problems.{RoutingProblem, RoutingAnswer};
 ghost use Rattle.aml_path.specs.declared.segment.Seg.{Seg};
 ghost use Rattle.route_report.specs.Reports.{Now, ReportedAfter, RoutingReport};
 ghost use Rattle.acpi_configure.specs.Configured.{Solves, IsReport};
 ghost use Rattle.acpi_configure.specs.Options.{RunOptions, plain};
-ghost use Rattle.acpi_configure.specs.Others.{other_devices};
 ghost use Rattle.acpi_configure.specs.WithOptions.{IsReportWith};
 
 use route_solve::laws::{the_first_least_assignment_is_one, the_set_is_one};
@@ -63,14 +60,4 @@ pub fn an_interrupt_of_another_device_is_not_given<S>()
         (give : List Seg × ℕ) →
         options.spare ≡ true → Contains is.found.asked line → line.state ≡ Now (Some interrupts) →
         Contains report.gives give → Contains interrupts give.1 → ⊥ }
-{}
-
-/// Where devices are spared, each device that is no link was asked, in path order: once the links were, and of the
-/// machine as that left it.
-#[tactic(auto, using(crate::proofs::AllAsked::each_asked))]
-pub fn each_other_device_is_asked<S>()
-    ensures { (accesses : Accesses S) (options : RunOptions) (before after : MachineState S) (report : RoutingReport)
-        (is : IsReportWith accesses options before after report) → options.spare ≡ true →
-        (first : Gathering) × (between : MachineState S) × (gathered accesses options.avoid before ≡
-        (Ok first, between)) × (map (λ line. line.path) is.found.asked ≡ other_devices first.links between) }
 {}

@@ -42,7 +42,7 @@ after n (says_busiest k) d = with_busiest n k d
 after n (says_bound b) d = with_bound n b d
 
 -- what is read decides the effect, unless it is refused
-abbrev read_as : {A : Type 0} → (A → Effect) → Outcome A → Effect
+abbrev pub read_as : {A : Type 0} → (A → Effect) → Outcome A → Effect
 read_as says (Ok a) = says a
 read_as says (Err e) = refuses
 

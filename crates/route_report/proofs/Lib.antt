@@ -5,7 +5,6 @@ pub mod Claims
 pub mod Claimed
 pub mod Decimals
 pub mod Effects
-pub mod EarlierVersions
 pub mod FirstVersion
 pub mod Kept
 pub mod Sorting

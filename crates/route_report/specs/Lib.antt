@@ -3,6 +3,5 @@ pub mod Lines
 pub mod Ordered
 pub mod Reading
 pub mod Counting
-pub mod Versions
 pub mod Printing
 pub mod Readable

