@@ -76,4 +76,4 @@ first_ascends version.Three = tt
 
 -- and stays so from line to line
 pub line_ascends : (n : ℕ) (d e : Said) (ws : List (List ℕ)) → AvoidAscends d.avoid → line n ws d ≡ Ok e → AvoidAscends e.avoid
-line_ascends n d e ws up is = line_keeps (λ s ns ms r. AvoidAscends ns) n d up (λ s _. up) (λ us ns is _. avoid_ascends n us ns is) (λ ms ns _. up) (λ r _. up) ws e is
+line_ascends n d e ws up is = line_keeps (λ s ns ms r. AvoidAscends ns) n d up ws (λ s _. up) (λ us ns _ is _. avoid_ascends n us ns is) (λ ms ns _. up) (λ r _. up) e is

@@ -16,7 +16,7 @@ abbrev IsBare : Option (Option ℕ) → Option (List ℕ) → Option (List ℕ) 
 IsBare s ns ms = (s ≡ Some None) × (ns ≡ Some []) × (ms ≡ None)
 
 line_stays_bare : (n : ℕ) (d e : Said) (ws : List (List ℕ)) → IsBare d.sci d.avoid d.spared → line n ws d ≡ Ok e → IsBare e.sci e.avoid e.spared
-line_stays_bare n d e ws bare is = line_keeps (λ s ns ms r. IsBare s ns ms) n d bare (λ s none. absurd (cc (ap is_some bare.0, none))) (λ us ns _ none. absurd (cc (ap is_some bare.1, none))) (λ ms ns some. absurd (cc (bare.2, some))) (λ r _. bare) ws e is
+line_stays_bare n d e ws bare is = line_keeps (λ s ns ms r. IsBare s ns ms) n d bare ws (λ s none. absurd (cc (ap is_some bare.0, none))) (λ us ns _ _ none. absurd (cc (ap is_some bare.1, none))) (λ ms ns some. absurd (cc (bare.2, some))) (λ r _. bare) e is
 
 claimed_bare : (n : ℕ) (d : Said) (c : RoutingClaim) → IsBare d.sci d.avoid d.spared → claimed n d ≡ Ok c → (c.sci ≡ None) × (c.avoid ≡ [])
 unfolding claimed

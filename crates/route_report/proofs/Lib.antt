@@ -5,6 +5,7 @@ pub mod Claims
 pub mod Claimed
 pub mod Decimals
 pub mod Effects
+pub mod EarlierVersions
 pub mod FirstVersion
 pub mod Kept
 pub mod Sorting

@@ -3,5 +3,6 @@ pub mod Lines
 pub mod Ordered
 pub mod Reading
 pub mod Counting
+pub mod EarlierVersions
 pub mod Printing
 pub mod Readable

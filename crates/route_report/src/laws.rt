@@ -7,6 +7,7 @@ ghost use Rattle.route_model.specs.Links.{OfferingLink, paths_of};
 ghost use Rattle.route_check.specs.Claimed.{claim_of};
 ghost use Rattle.route_check.specs.Claims.{RoutingClaim};
 ghost use Rattle.route_report.specs.Counting.{counts};
+ghost use Rattle.route_report.specs.EarlierVersions.{IsEarlier, IsWithoutOptions};
 ghost use Rattle.route_report.specs.Lines.{lines};
 ghost use Rattle.route_report.specs.Reports.{RoutingReport, SparedDevice};
 ghost use Rattle.route_report.specs.Ordered.{barred_by, claim_in_order, IsInOrder, HasSameElements};
@@ -38,8 +39,15 @@ pub fn a_report_of_version_1_has_no_sci_and_avoids_nothing()
         claim_of_text text ≡ Ok claim → (claim.sci ≡ None) × (claim.avoid ≡ []) }
 {}
 
-/// A report of version 1 or 2 spares nothing: the claim avoids just what the line `avoid` says.
+/// A report of version 1 or 2 spares nothing: no line of it tells of options, it doesn't claim that links share
+/// interrupts as little as they can, and it avoids just what its line `avoid` says.
 pub fn a_report_before_version_3_spares_nothing()
+    ensures { (text first : List ℕ) (ls : List (List ℕ)) (claim : RoutingClaim) → IsEarlier first →
+        lines text ≡ first ∷ ls → claim_of_text text ≡ Ok claim → IsWithoutOptions ls claim }
+{}
+
+/// A report without options spares nothing: its claim avoids just what the report avoids.
+pub fn a_report_without_options_spares_nothing()
     ensures { (avoid : List ℕ) → barred_by avoid (spared_by None) ≡ avoid }
 {}
 
