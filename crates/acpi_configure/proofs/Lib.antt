@@ -1,3 +1,4 @@
+pub mod AllAsked
 pub mod Asked
 pub mod Barring
 pub mod Bounds

@@ -26,14 +26,14 @@ use Rattle.acpi_configure.specs.WithOptions.{IsReportWith}
 use Rattle.acpi_configure.proofs.Barring.{spared_all}
 use Rattle.acpi_configure.proofs.Fitting.{chosen_fits}
 
-first_or_behind : {X : Type 0} (x n : X) (xs : List X) → Contains (x ∷ xs) n → (x ≡ n) ⊎ Contains xs n
+pub first_or_behind : {X : Type 0} (x n : X) (xs : List X) → Contains (x ∷ xs) n → (x ≡ n) ⊎ Contains xs n
 first_or_behind {X} x n xs c = at c.0 c.1 c.2
   where
     at : (k : ℕ) → k < length (x ∷ xs) → slice_index_or (x ∷ xs) k n ≡ n → (x ≡ n) ⊎ Contains xs n
     at zero h e = inl e
     at (suc k) h e = inr (k, omega arith, e)
 
-no_element : {X : Type 0} (x : X) → Contains [] x → ⊥
+pub no_element : {X : Type 0} (x : X) → Contains [] x → ⊥
 no_element x c = absurd (let h = c.1 in omega arith)
 
 -- what a link is given isn't among those that are barred

@@ -1,3 +1,4 @@
+pub mod AllAsked
 pub mod Chosen
 pub mod Configured
 pub mod Lines

@@ -5,6 +5,7 @@ ghost use Rattle.acpi_machine.specs.MachineStates.{MachineState};
 ghost use Rattle.route_solve.specs.Problems.{RoutingProblem, RoutingAnswer};
 ghost use Rattle.aml_path.specs.declared.segment.Seg.{Seg};
 ghost use Rattle.route_report.specs.Reports.{Now, ReportedAfter, RoutingReport};
+ghost use Rattle.acpi_configure.specs.AllAsked.{EachIsAsked};
 ghost use Rattle.acpi_configure.specs.Configured.{Solves, IsReport};
 ghost use Rattle.acpi_configure.specs.Options.{RunOptions, plain};
 ghost use Rattle.acpi_configure.specs.WithOptions.{IsReportWith};
@@ -60,4 +61,13 @@ pub fn an_interrupt_of_another_device_is_not_given<S>()
         (give : List Seg × ℕ) →
         options.spare ≡ true → Contains is.found.asked line → line.state ≡ Now (Some interrupts) →
         Contains report.gives give → Contains interrupts give.1 → ⊥ }
+{}
+
+/// Where devices are spared, each Device that is no link was asked in path order, once the links were, and nothing
+/// else: where it has a `_CRS` and is present, what that gives is spared, and where its `_STA` or `_CRS` is refused, a
+/// line of the report says so.
+pub fn each_other_device_is_asked<S>()
+    ensures { (accesses : Accesses S) (options : RunOptions) (before after : MachineState S) (report : RoutingReport)
+        (is : IsReportWith accesses options before after report) → options.spare ≡ true →
+        EachIsAsked accesses options before report is.found.asked }
 {}
