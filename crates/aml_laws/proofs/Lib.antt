@@ -8,6 +8,7 @@
 pub mod AnswersTogether
 pub mod ArgumentsAndAnswersPreserve
 pub mod ChangesNothing
+pub mod Charges
 pub mod ChangesPreserve
 pub mod ChangesTogether
 pub mod CleanChanges
@@ -17,6 +18,7 @@ pub mod CleanOutcomes
 pub mod CleanReading
 pub mod CleanValues
 pub mod CleanWorlds
+pub mod Costs
 pub mod CountNeverFalls
 pub mod CountedCalls
 pub mod CountedChanges
@@ -37,6 +39,7 @@ pub mod FaultsOfCalls
 pub mod FaultsOfChanges
 pub mod FaultsOfEvaluations
 pub mod FaultsOfFields
+pub mod FaultsOfLoops
 pub mod FaultsOfOperations
 pub mod FaultsOfRules
 pub mod FaultsOfStoreTargets
@@ -63,6 +66,7 @@ pub mod IntegersOfWideTerms
 pub mod IntegersOfWorlds
 pub mod Invariants
 pub mod MeaningTogether
+pub mod MoreSteps
 pub mod MutexesFree
 pub mod NamesStay
 pub mod NotesOfFaults
@@ -73,6 +77,7 @@ pub mod ObjectKinds
 pub mod ObjectKindsStay
 pub mod OperandsAndCallsPreserve
 pub mod OperandsTogether
+pub mod OutOfSteps
 pub mod OutsideOfMethods
 pub mod Preorders
 pub mod ProfileKept

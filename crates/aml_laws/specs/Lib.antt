@@ -15,5 +15,6 @@ pub mod Parts
 pub mod Plain
 pub mod Reached
 pub mod SpaceFaults
+pub mod Steps
 pub mod Widened
 pub mod Within

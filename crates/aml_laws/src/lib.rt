@@ -1,6 +1,7 @@
 //! What holds of every evaluation (ACPI 6.5, 5.3 and 5.5): each law is the contract of a function that does nothing.
 #![tactic(auto)]
 
+mod budgets;
 mod calls;
 mod declarations;
 mod frames;
@@ -16,6 +17,7 @@ mod references;
 mod space;
 mod steps;
 
+pub use budgets::{no_step_is_left_where_steps_run_out, steps_only_bound_an_evaluation};
 pub use calls::calls_leave_nothing;
 pub use declarations::refused_names_change_nothing;
 pub use frames::{frame_numbers_are_given_once, frames_are_balanced};
