@@ -7,6 +7,7 @@
 -- a lemma that goes through the cases for another ends with `_by_cases`.
 pub mod AnswersTogether
 pub mod ArgumentsAndAnswersPreserve
+pub mod BufferFieldWrites
 pub mod ChangesNothing
 pub mod Charges
 pub mod ChangesPreserve
@@ -18,6 +19,7 @@ pub mod CleanOutcomes
 pub mod CleanReading
 pub mod CleanValues
 pub mod CleanWorlds
+pub mod CopiesApart
 pub mod Costs
 pub mod CountNeverFalls
 pub mod CountedCalls
@@ -30,6 +32,7 @@ pub mod CountedStoreTargets
 pub mod CountedTerms
 pub mod CountedMatches
 pub mod CountedWideTerms
+pub mod DecimalCodes
 pub mod DeclarationNumbers
 pub mod DeclaredNamesStand
 pub mod EndOfCalls
@@ -46,10 +49,13 @@ pub mod FaultsOfStoreTargets
 pub mod FaultsOfTerms
 pub mod FaultsOfMatches
 pub mod FaultsOfWideTerms
+pub mod FieldsInOrder
 pub mod FieldsPreserve
 pub mod FieldsTogether
 pub mod FoundNamesStand
 pub mod FrameNumbers
+pub mod HandedBack
+pub mod IntegersInStrings
 pub mod IntegersOfAnswers
 pub mod IntegersOfContents
 pub mod IntegersOfFields
@@ -68,6 +74,7 @@ pub mod Invariants
 pub mod MeaningTogether
 pub mod MoreSteps
 pub mod MutexesFree
+pub mod NamesSearched
 pub mod NamesStay
 pub mod NotesOfFaults
 pub mod Noting
@@ -75,8 +82,10 @@ pub mod NumbersKept
 pub mod NumbersRise
 pub mod ObjectKinds
 pub mod ObjectKindsStay
+pub mod ObjectsMade
 pub mod OperandsAndCallsPreserve
 pub mod OperandsTogether
+pub mod OrderedValues
 pub mod OutOfSteps
 pub mod OutsideOfMethods
 pub mod Preorders
@@ -98,6 +107,9 @@ pub mod StoreTargetsPreserve
 pub mod StoreTargetsTogether
 pub mod Together
 pub mod UnitsTogether
+pub mod UnreadUnits
+pub mod JoinedResources
+pub mod LimitsRefused
 pub mod MatchesPreserve
 pub mod WideTermsPreserve
 pub mod MatchesTogether
