@@ -41,11 +41,11 @@ module _ {S T : Type 0} {accesses : Accesses S} {accesses2 : Accesses T} {side :
   unfolding at_root
   at_root_together ts = then_together (list_together [] 0 ts) (λ last. give_together _)
 
-  table_run_together : (steps : ℕ) (bytes : List ℕ) → Together side worlds (table_run accesses steps bytes) (table_run accesses2 steps bytes)
+  table_run_together : (steps : ℕ) (bytes : List ℕ) → Together side worlds (table_run accesses steps bytes) (table_run accesses2 (side.more steps) bytes)
   unfolding table_run
   table_run_together steps bytes = then_together (table_terms_together bytes) (λ ts. in_frame_together _ (with_steps_together _ (at_root_together ts)))
 
-  pub loaded_together : (bytes : List ℕ) (steps : ℕ) → Together side worlds (loaded accesses bytes steps) (loaded accesses2 bytes steps)
+  pub loaded_together : (bytes : List ℕ) (steps : ℕ) → Together side worlds (loaded accesses bytes steps) (loaded accesses2 bytes (side.more steps))
   unfolding loaded
   loaded_together bytes steps = ending_together (table_run_together steps bytes)
 
@@ -57,20 +57,21 @@ module _ {S T : Type 0} {accesses : Accesses S} {accesses2 : Accesses T} {side :
   value_of_together (invocations.Method q body) arguments = method_value_together meaning_together 0 q body arguments
   value_of_together invocations.Osi arguments = lift_together (osi_answered_together arguments)
 
-  called_together : (p : List Seg) (arguments : List Value) → Together side runs (called accesses p arguments) (called accesses2 p arguments)
+  pub called_together : (p : List Seg) (arguments : List Value) → Together side runs (called accesses p arguments) (called accesses2 p arguments)
   unfolding called
   called_together p arguments = then_together (lift_together (invocation_found_together _ _ _)) (λ i. value_of_together i arguments)
 
-  pub evaluated_together : (p : List Seg) (arguments : List Value) (steps : ℕ) → Together side worlds (evaluated accesses p arguments steps) (evaluated accesses2 p arguments steps)
+  -- the value is told with the steps that are left
+  pub evaluated_together : ((n : ℕ) → side.more n ≡ n) → (p : List Seg) (arguments : List Value) (steps : ℕ) → Together side worlds (evaluated accesses p arguments steps) (evaluated accesses2 p arguments (side.more steps))
   unfolding evaluated
-  evaluated_together p arguments steps = counted_together steps (called_together p arguments)
+  evaluated_together same p arguments steps = counted_together same steps (called_together p arguments)
 
   answer_exported_together : (p : List Seg) (count : ℕ) (arguments : List Given) → Together side runs (answer_exported accesses p count arguments) (answer_exported accesses2 p count arguments)
   unfolding answer_exported
   answer_exported_together p count arguments =
       then_together (lift_together (invocation_found_together _ _ _)) (λ i. then_together (lift_together (all_imported_together arguments [])) (λ vs. then_together (value_of_together i vs) (λ v. exported_together v)))
 
-  pub answered_together : (p : List Seg) (arguments : List Given) (steps : ℕ) → Together side worlds (answered accesses p arguments steps) (answered accesses2 p arguments steps)
+  pub answered_together : (p : List Seg) (arguments : List Given) (steps : ℕ) → Together side worlds (answered accesses p arguments steps) (answered accesses2 p arguments (side.more steps))
   unfolding answered
   answered_together p arguments steps = ending_together (with_steps_together _ (answer_exported_together p (length arguments) arguments))
 

@@ -24,7 +24,7 @@ use Rattle.aml_meaning.specs.declared.store_target.StoreTarget.{StoreTarget}
 use Rattle.aml_meaning.specs.declared.store_target.Stored.TheVariants as store
 use Rattle.aml_meaning.specs.declared.store_target.Stored.{Stored}
 use Rattle.aml_laws.proofs.CleanWorlds.{inner_of_clean, integer_only_clean, shallow_clean, value_in_clean}
-use Rattle.aml_laws.proofs.FaultsOfChanges.{Explained, RunExplains, WorldExplains, direct_explains, either_branch_explains, give_explains, lift_explains, settle_explains, stop_explains, then_explains}
+use Rattle.aml_laws.proofs.FaultsOfChanges.{Explained, RunExplains, Spent, WorldExplains, direct_explains, either_branch_explains, give_explains, lift_explains, settle_explains, stop_explains, then_explains}
 use Rattle.aml_laws.proofs.FaultsOfFields.{field_integer_explains, field_part_explains, field_referent_explains, field_stored_explains, field_value_explains}
 use Rattle.aml_laws.proofs.FaultsOfOperations.{body_terms_explains, integer_in_explains, invocation_found_explains}
 use Rattle.aml_laws.proofs.FaultsOfStoreTargets.{stored_explains}
@@ -61,9 +61,13 @@ module _ {S : Type 0} (accesses : Accesses S) (ev : Task → Run S Flow) (parts 
   returned_explained (Ok f) s t h = h
   returned_explained (Err e) s t h = h
 
+  returned_spent : (x : Outcome Flow) (rest : ℕ) → Spent x rest → Spent (seen returned_by x) rest
+  returned_spent (Ok f) rest h = tt
+  returned_spent (Err e) rest h = h
+
   leaving_explains : (q : List Seg) (m : Run S Flow) → RunExplains accesses m → RunExplains accesses (leaving q m)
   unfolding leaving
-  leaving_explains q m h = record { explained = λ s. returned_explained (m s).0 s.0.space (m s).1.0.space (h.explained s) }
+  leaving_explains q m h = record { explained = λ s. returned_explained (m s).0 s.0.space (m s).1.0.space (h.explained s); spent = λ s. returned_spent (m s).0 (m s).1.1 (h.spent s) }
 
   opened_explains : (vs : List Value) → WorldExplains accesses (opened vs)
   unfolding opened

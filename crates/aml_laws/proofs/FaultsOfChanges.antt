@@ -1,10 +1,11 @@
--- Changes whose refusals by a fault of the register space come from their last access, and that no fault of a reader or a writer
--- refuses. A lemma `x_explains` says so of x.
-use Rattle.std.specs.Prelude.{◌≡◌, ℕ, ◌==◌, ◌-◌, List, [], ◌∷◌, Bool, true, false, Result, Ok, Err, refl, if◌then◌else◌}
-use Rattle.std.proofs.Common.{ap, subst, sym}
+-- Changes whose refusals by a fault of the register space come from their last access, whose refusals for want of steps come where none
+-- is left, and that no fault of a reader or a writer refuses. A lemma `x_explains` says so of x.
+use Rattle.std.specs.Prelude.{◌≡◌, ℕ, zero, suc, ◌==◌, ◌-◌, List, [], ◌∷◌, Bool, true, false, Result, Ok, Err, refl, if◌then◌else◌}
+use Rattle.std.proofs.Common.{arith, ap, subst, sym}
 use Rattle.ar_space.specs.declared.refusal.SpaceFault.{SpaceFault}
 use Rattle.ar_space.specs.declared.refusal.Refusal.{Refusal}
 use Rattle.ar_space.specs.declared.refusal.Refusal.TheVariants as refusals
+use Rattle.ar_space.specs.declared.refusal.EvaluationFault.{EvaluationFault}
 use Rattle.ar_space.specs.declared.refusal.EvaluationFault.TheVariants.{OutOfSteps}
 use Rattle.ar_space.specs.declared.space.Width.{Width}
 use Rattle.ar_space.specs.declared.space.Place.{Place}
@@ -27,9 +28,77 @@ use Rattle.aml_laws.specs.Answered.{Answered}
 use Rattle.aml_laws.specs.Answered as by
 use Rattle.aml_laws.specs.SpaceFaults.{LastFaults}
 use Rattle.aml_laws.specs.SpaceFaults as space_faults
-use Rattle.aml_laws.proofs.CleanOutcomes.{Clean, CleanRefusal, IsOfLine}
+use Rattle.aml_laws.proofs.Charges.{charge_none, charge_one}
+use Rattle.aml_laws.proofs.CleanOutcomes.{Clean, CleanRefusal, IsNotSpent, IsOfLine}
 use Rattle.aml_laws.proofs.CleanChanges.{AllClean}
 use Rattle.aml_laws.proofs.CleanValues.{unit_place_clean}
+
+-- ---- want of steps
+
+abbrev pub SpentFault : EvaluationFault → ℕ → Type 0
+SpentFault OutOfSteps rest = rest ≡ 0
+SpentFault _ rest = Unit {0}
+
+abbrev pub SpentRefusal : Refusal → ℕ → Type 0
+SpentRefusal (refusals.Evaluation fault) rest = SpentFault fault rest
+SpentRefusal _ rest = Unit {0}
+
+-- an outcome is no refusal for want of steps, or none is left
+abbrev pub Spent : {A : Type 0} → Outcome A → ℕ → Type 0
+Spent (Ok a) rest = Unit {0}
+Spent (Err e) rest = SpentRefusal e rest
+
+clean_fault_spent : (f : EvaluationFault) (rest : ℕ) → IsNotSpent f → SpentFault f rest
+clean_fault_spent OutOfSteps rest c = absurd c
+clean_fault_spent _ rest c = tt
+
+clean_refusal_spent : (e : Refusal) (rest : ℕ) → CleanRefusal e → SpentRefusal e rest
+clean_refusal_spent (refusals.Evaluation f) rest c = clean_fault_spent f rest c
+clean_refusal_spent _ rest c = tt
+
+clean_spent : {A : Type 0} (x : Outcome A) (rest : ℕ) → Clean x → Spent x rest
+clean_spent (Ok a) rest c = tt
+clean_spent (Err e) rest c = clean_refusal_spent e rest c
+
+-- where a step is left, whatever the rest is
+unspent_fault : (f : EvaluationFault) (rest : ℕ) → SpentFault f 1 → SpentFault f rest
+unspent_fault OutOfSteps rest h = absurd (omega arith)
+unspent_fault _ rest h = tt
+
+unspent_refusal : (e : Refusal) (rest : ℕ) → SpentRefusal e 1 → SpentRefusal e rest
+unspent_refusal (refusals.Evaluation f) rest h = unspent_fault f rest h
+unspent_refusal _ rest h = tt
+
+unspent : {A : Type 0} (x : Outcome A) (rest : ℕ) → Spent x 1 → Spent x rest
+unspent (Ok a) rest h = tt
+unspent (Err e) rest h = unspent_refusal e rest h
+
+-- where none is left
+fault_with_none : (f : EvaluationFault) → SpentFault f 0
+fault_with_none OutOfSteps = refl
+fault_with_none _ = tt
+
+refusal_with_none : (e : Refusal) → SpentRefusal e 0
+refusal_with_none (refusals.Evaluation f) = fault_with_none f
+refusal_with_none _ = tt
+
+pub spent_with_none : {A : Type 0} (x : Outcome A) → Spent x 0
+spent_with_none (Ok a) = tt
+spent_with_none (Err e) = refusal_with_none e
+
+pub branch_spent : {H A : Type 0} (rest : H → ℕ) (b : Bool) (x y : Outcome A × H) → Spent x.0 (rest x.1) → Spent y.0 (rest y.1) → Spent (if b then x else y).0 (rest (if b then x else y).1)
+branch_spent rest true x y f g = f
+branch_spent rest false x y f g = g
+
+charge_spent : {S : Type 0} (w : State S) (b : ℕ) → Spent (charge (w, b)).0 (charge (w, b)).1.1
+charge_spent w zero = subst (λ (p : Outcome (Unit {0}) × (State _ × ℕ)). Spent p.0 p.1.1) (sym (charge_none w)) refl
+charge_spent w (suc b) = subst (λ (p : Outcome (Unit {0}) × (State _ × ℕ)). Spent p.0 p.1.1) (sym (charge_one w b)) tt
+
+faulted_spent : {A : Type 0} (x : Result A SpaceFault) (rest : ℕ) → Spent (faulted x) rest
+faulted_spent (Ok n) rest = tt
+faulted_spent (Err f) rest = tt
+
+-- ---- accesses
 
 module _ {S : Type 0} (accesses : Accesses S) where
   abbrev pub RefusalExplained : Refusal → S → S → Type 0
@@ -42,9 +111,11 @@ module _ {S : Type 0} (accesses : Accesses S) where
   Explained (Ok a) s t = Answered accesses s t
   Explained (Err e) s t = RefusalExplained e s t
 
-  -- space: the register space of a state
-  pub record Explains {H A : Type 0} (space : H → S) (m : Change H A) : Type 0 where
+  -- space: the register space of a state; rest: how many steps are left in it, 1 where no step is asked for, and 0 where that is not
+  -- told
+  pub record Explains {H A : Type 0} (space : H → S) (rest : H → ℕ) (m : Change H A) : Type 0 where
     pub explained : (h : H) → Explained (m h).0 (space h) (space (m h).1)
+    pub spent : (h : H) → Spent (m h).0 (rest (m h).1)
 
 module _ {S : Type 0} {accesses : Accesses S} where
   pub answered_transitive : (s t u : S) → Answered accesses s t → Answered accesses t u → Answered accesses s u
@@ -71,97 +142,120 @@ module _ {S : Type 0} (accesses : Accesses S) where
   clean_explained (Ok a) s t c e = subst (λ u. Answered accesses s u) (sym e) by.none
   clean_explained (Err r) s t c e = clean_refusal r s t c e
 
-  module _ {H : Type 0} (space : H → S) where
+  module _ {H : Type 0} (space : H → S) (rest : H → ℕ) where
     branch_explained : {A : Type 0} (b : Bool) (s : S) (x y : Outcome A × H) → Explained accesses x.0 s (space x.1) → Explained accesses y.0 s (space y.1) → Explained accesses (if b then x else y).0 s (space (if b then x else y).1)
     branch_explained true s x y f g = f
     branch_explained false s x y f g = g
 
-    go_on_explained : {A B : Type 0} (s : S) (r : Outcome A) (h : H) (k : A → Change H B) → Explained accesses r s (space h) → ((a : A) → Explains accesses space (k a)) → Explained accesses (go_on r h k).0 s (space (go_on r h k).1)
+    go_on_explained : {A B : Type 0} (s : S) (r : Outcome A) (h : H) (k : A → Change H B) → Explained accesses r s (space h) → ((a : A) → Explains accesses space rest (k a)) → Explained accesses (go_on r h k).0 s (space (go_on r h k).1)
     unfolding go_on
     go_on_explained s (Ok a) h k r all = further (k a h).0 s (space h) (space (k a h).1) r ((all a).explained h)
     go_on_explained s (Err e) h k r all = r
 
-module _ {S : Type 0} {accesses : Accesses S} {H : Type 0} {space : H → S} where
-  -- a change that makes no access
-  pub direct_explains : {A : Type 0} (m : Change H A) → ((h : H) → Clean (m h).0) → ((h : H) → space (m h).1 ≡ space h) → Explains accesses space m
-  direct_explains m c e = record { explained = λ h. clean_explained accesses (m h).0 (space h) (space (m h).1) (c h) (e h) }
+    go_on_spent : {A B : Type 0} (r : Outcome A) (h : H) (k : A → Change H B) → Spent r (rest h) → ((a : A) → Explains accesses space rest (k a)) → Spent (go_on r h k).0 (rest (go_on r h k).1)
+    unfolding go_on
+    go_on_spent (Ok a) h k r all = (all a).spent h
+    go_on_spent (Err e) h k r all = r
 
-  pub give_explains : {A : Type 0} (a : A) → Explains accesses space (give a)
+module _ {S : Type 0} {accesses : Accesses S} {H : Type 0} {space : H → S} {rest : H → ℕ} where
+  -- a change that makes no access
+  pub direct_explains : {A : Type 0} (m : Change H A) → ((h : H) → Clean (m h).0) → ((h : H) → space (m h).1 ≡ space h) → Explains accesses space rest m
+  direct_explains m c e = record { explained = λ h. clean_explained accesses (m h).0 (space h) (space (m h).1) (c h) (e h); spent = λ h. clean_spent (m h).0 (rest (m h).1) (c h) }
+
+  pub give_explains : {A : Type 0} (a : A) → Explains accesses space rest (give a)
   unfolding give
   give_explains a = direct_explains _ (λ h. tt) (λ h. refl)
 
-  pub stop_explains : {A : Type 0} (e : Refusal) → CleanRefusal e → Explains accesses {A = A} space (stop e)
+  pub stop_explains : {A : Type 0} (e : Refusal) → CleanRefusal e → Explains accesses {A = A} space rest (stop e)
   unfolding stop
   stop_explains e apart = direct_explains _ (λ h. apart) (λ h. refl)
 
-  pub settle_explains : {A : Type 0} (x : Outcome A) → Clean x → Explains accesses space (settle x)
+  pub settle_explains : {A : Type 0} (x : Outcome A) → Clean x → Explains accesses space rest (settle x)
   unfolding settle
   settle_explains x c = direct_explains _ (λ h. c) (λ h. refl)
 
-  pub then_explains : {A B : Type 0} (m : Change H A) (k : A → Change H B) → Explains accesses space m → ((a : A) → Explains accesses space (k a)) → Explains accesses space (m >>= k)
+  pub then_explains : {A B : Type 0} (m : Change H A) (k : A → Change H B) → Explains accesses space rest m → ((a : A) → Explains accesses space rest (k a)) → Explains accesses space rest (m >>= k)
   unfolding ◌>>=◌
-  then_explains m k f all = record { explained = λ h. go_on_explained accesses space (space h) (m h).0 (m h).1 k (f.explained h) all }
+  then_explains m k f all = record { explained = λ h. go_on_explained accesses space rest (space h) (m h).0 (m h).1 k (f.explained h) all; spent = λ h. go_on_spent accesses space rest (m h).0 (m h).1 k (f.spent h) all }
 
-  pub either_branch_explains : {A : Type 0} (test : H → Bool) (m k : Change H A) → Explains accesses space m → Explains accesses space k → Explains accesses space (λ h. if test h then m h else k h)
-  either_branch_explains test m k f g = record { explained = λ h. branch_explained accesses space (test h) (space h) (m h) (k h) (f.explained h) (g.explained h) }
+  pub either_branch_explains : {A : Type 0} (test : H → Bool) (m k : Change H A) → Explains accesses space rest m → Explains accesses space rest k → Explains accesses space rest (λ h. if test h then m h else k h)
+  either_branch_explains test m k f g = record {
+    explained = λ h. branch_explained accesses space rest (test h) (space h) (m h) (k h) (f.explained h) (g.explained h);
+    spent = λ h. branch_spent rest (test h) (m h) (k h) (f.spent h) (g.spent h);
+  }
+
+  -- the same where the steps that are left are not told
+  pub explains_untold : {A : Type 0} (m : Change H A) → Explains accesses space rest m → Explains accesses space (λ h. 0) m
+  explains_untold m f = record { explained = f.explained; spent = λ h. spent_with_none (m h).0 }
 
   -- ---- unit by unit
 
-  read_units_explains : (read : Access → Change H ℕ) → ((u : Access) → Explains accesses space (read u)) → (us : List Access) → Explains accesses space (read_units read us)
+  read_units_explains : (read : Access → Change H ℕ) → ((u : Access) → Explains accesses space rest (read u)) → (us : List Access) → Explains accesses space rest (read_units read us)
   unfolding read_units
   read_units_explains read each [] = give_explains _
   read_units_explains read each (u ∷ us) = then_explains _ _ (each u) (λ unit. then_explains _ _ (read_units_explains read each us) (λ bits. give_explains _))
 
-  pub bits_read_explains : (read : Access → Change H ℕ) → ((u : Access) → Explains accesses space (read u)) → (f : FieldUnit) → Explains accesses space (bits_read read f)
+  pub bits_read_explains : (read : Access → Change H ℕ) → ((u : Access) → Explains accesses space rest (read u)) → (f : FieldUnit) → Explains accesses space rest (bits_read read f)
   unfolding bits_read
   bits_read_explains read each f = then_explains _ _ (read_units_explains read each (units_of f.bit_offset f.bits f.access)) (λ bits. give_explains _)
 
-  pub write_units_explains : (write : Access → Change H (Unit {0})) → ((u : Access) → Explains accesses space (write u)) → (us : List Access) → Explains accesses space (write_units write us)
+  pub write_units_explains : (write : Access → Change H (Unit {0})) → ((u : Access) → Explains accesses space rest (write u)) → (us : List Access) → Explains accesses space rest (write_units write us)
   unfolding write_units
   write_units_explains write each [] = give_explains _
   write_units_explains write each (u ∷ us) = then_explains _ _ (each u) (λ done. write_units_explains write each us)
 
-  kept_by_explains : (rule : UpdateRule) (read : Change H ℕ) → Explains accesses space read → Explains accesses space (λ h. kept_by rule read h)
-  kept_by_explains Preserve read f = record { explained = f.explained }
-  kept_by_explains WriteAsOnes read f = record { explained = λ h. by.none }
-  kept_by_explains WriteAsZeros read f = record { explained = λ h. by.none }
+  kept_by_explains : (rule : UpdateRule) (read : Change H ℕ) → Explains accesses space rest read → Explains accesses space rest (λ h. kept_by rule read h)
+  kept_by_explains Preserve read f = record { explained = f.explained; spent = f.spent }
+  kept_by_explains WriteAsOnes read f = record { explained = λ h. by.none; spent = λ h. tt }
+  kept_by_explains WriteAsZeros read f = record { explained = λ h. by.none; spent = λ h. tt }
 
-  pub kept_explains : (f : FieldUnit) (u : Access) (read : Change H ℕ) → Explains accesses space read → Explains accesses space (kept f u read)
+  pub kept_explains : (f : FieldUnit) (u : Access) (read : Change H ℕ) → Explains accesses space rest read → Explains accesses space rest (kept f u read)
   unfolding kept
-  kept_explains f u read g = record { explained = λ h. branch_explained accesses space (u.count == bit_count f.access) (space h) (Ok 0, h) (kept_by f.update read h) by.none ((kept_by_explains f.update read g).explained h) }
+  kept_explains f u read g = record {
+    explained = λ h. branch_explained accesses space rest (u.count == bit_count f.access) (space h) (Ok 0, h) (kept_by f.update read h) by.none ((kept_by_explains f.update read g).explained h);
+    spent = λ h. branch_spent rest (u.count == bit_count f.access) (Ok 0, h) (kept_by f.update read h) tt ((kept_by_explains f.update read g).spent h);
+  }
 
 -- ---- the register space, worlds, and worlds with the steps that are left
 
 module _ {S : Type 0} (accesses : Accesses S) where
   abbrev pub SpaceExplains : {A : Type 0} → Change S A → Type 0
-  SpaceExplains m = Explains accesses (λ s. s) m
+  SpaceExplains m = Explains accesses (λ s. s) (λ s. 1) m
 
   abbrev pub WorldExplains : {A : Type 0} → Change (State S) A → Type 0
-  WorldExplains m = Explains accesses (λ w. w.space) m
+  WorldExplains m = Explains accesses (λ w. w.space) (λ w. 1) m
+
+  -- what has steps of its own
+  abbrev pub EvaluationExplains : {A : Type 0} → Change (State S) A → Type 0
+  EvaluationExplains m = Explains accesses (λ w. w.space) (λ w. 0) m
 
   abbrev pub RunExplains : {A : Type 0} → Run S A → Type 0
-  RunExplains m = Explains accesses (λ s. s.0.space) m
+  RunExplains m = Explains accesses (λ s. s.0.space) (λ s. s.1) m
 
-module _ {S : Type 0} {accesses : Accesses S} where
-  pub on_objects_explains : {A : Type 0} (m : Change Objects A) → AllClean m → WorldExplains accesses (on_objects m)
+module _ {S : Type 0} {accesses : Accesses S} {rest : State S → ℕ} where
+  pub on_objects_explains : {A : Type 0} (m : Change Objects A) → AllClean m → Explains accesses (λ w. w.space) rest (on_objects m)
   unfolding on_objects
   on_objects_explains m c = direct_explains _ (λ w. c.clean w.objects) (λ w. refl)
 
-  pub on_names_explains : {A : Type 0} (m : Change Namespace A) → AllClean m → WorldExplains accesses (on_names m)
+  pub on_names_explains : {A : Type 0} (m : Change Namespace A) → AllClean m → Explains accesses (λ w. w.space) rest (on_names m)
   unfolding on_names
   on_names_explains m c = direct_explains _ (λ w. c.clean w.names) (λ w. refl)
 
+module _ {S : Type 0} {accesses : Accesses S} where
   pub on_space_explains : {A : Type 0} (m : Change S A) → SpaceExplains accesses m → WorldExplains accesses (on_space m)
   unfolding on_space
-  on_space_explains m f = record { explained = λ w. f.explained w.space }
+  on_space_explains m f = record { explained = λ w. f.explained w.space; spent = λ w. f.spent w.space }
 
   pub lift_explains : {A : Type 0} (m : Change (State S) A) → WorldExplains accesses m → RunExplains accesses (lift m)
   unfolding lift
-  lift_explains m f = record { explained = λ s. f.explained s.0 }
+  lift_explains m f = record { explained = λ s. f.explained s.0; spent = λ s. unspent (m s.0).0 s.1 (f.spent s.0) }
 
   pub charge_explains : RunExplains accesses charge
   unfolding charge
-  charge_explains = record { explained = λ s. branch_explained accesses (λ x. x.0.space) (s.1 == 0) s.0.space (Err (refusals.Evaluation OutOfSteps), s) (Ok tt, (s.0, s.1 - 1)) by.none by.none }
+  charge_explains = record {
+    explained = λ s. branch_explained accesses (λ x. x.0.space) (λ x. x.1) (s.1 == 0) s.0.space (Err (refusals.Evaluation OutOfSteps), s) (Ok tt, (s.0, s.1 - 1)) by.none by.none;
+    spent = λ s. charge_spent s.0 s.1;
+  }
 
 -- ---- fields of regions
 
@@ -176,11 +270,11 @@ module _ {S : Type 0} (accesses : Accesses S) where
 
   read_access_explains : (p : Place) (width : Width) → SpaceExplains accesses (read_access accesses p width)
   unfolding read_access
-  read_access_explains p width = record { explained = λ s. read_explained s (accesses.reads s p width).1 p width (accesses.reads s p width).0 refl }
+  read_access_explains p width = record { explained = λ s. read_explained s (accesses.reads s p width).1 p width (accesses.reads s p width).0 refl; spent = λ s. faulted_spent (accesses.reads s p width).0 1 }
 
   write_access_explains : (p : Place) (width : Width) (value : ℕ) → SpaceExplains accesses (write_access accesses p width value)
   unfolding write_access
-  write_access_explains p width value = record { explained = λ s. write_explained s (accesses.writes s p width value).1 p width value (accesses.writes s p width value).0 refl }
+  write_access_explains p width value = record { explained = λ s. write_explained s (accesses.writes s p width value).1 p width value (accesses.writes s p width value).0 refl; spent = λ s. faulted_spent (accesses.writes s p width value).0 1 }
 
   read_unit_explains : (r : Region) (width : Width) (u : Access) → SpaceExplains accesses (read_unit accesses r width u)
   unfolding read_unit

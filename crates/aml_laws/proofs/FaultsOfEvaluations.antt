@@ -34,7 +34,7 @@ use Rattle.aml_laws.proofs.CleanReading.{table_reading_clean}
 use Rattle.aml_laws.proofs.CleanValues.{resolved_clean}
 use Rattle.aml_laws.proofs.CleanWorlds.{use_of_clean}
 use Rattle.aml_laws.proofs.FaultsOfCalls.{called_at_explains, field_read_explains, in_turn_explains, method_value_explains}
-use Rattle.aml_laws.proofs.FaultsOfChanges.{Explained, RunExplains, WorldExplains, charge_explains, direct_explains, either_branch_explains, give_explains, lift_explains, on_objects_explains, stop_explains, then_explains}
+use Rattle.aml_laws.proofs.FaultsOfChanges.{EvaluationExplains, Explained, RunExplains, Spent, WorldExplains, spent_with_none, charge_explains, direct_explains, either_branch_explains, give_explains, lift_explains, on_objects_explains, stop_explains, then_explains}
 use Rattle.aml_laws.proofs.FaultsOfFields.{field_given_explains}
 use Rattle.aml_laws.proofs.FaultsOfOperations.{entry_found_explains, integer_kept_explains, invocation_found_explains, osi_answered_explains}
 use Rattle.aml_laws.proofs.FaultsOfTerms.{meaning_explains}
@@ -44,20 +44,24 @@ module _ {S : Type 0} (accesses : Accesses S) where
   taken_back_explained count s (Ok v) w h = h
   taken_back_explained count s (Err e) w h = h
 
+  taken_back_spent : (count : ℕ) (x : Outcome Value) (w : State S) → Spent x 1 → Spent (taken_back {S = S} count (x, w)).0 1
+  taken_back_spent count (Ok v) w h = tt
+  taken_back_spent count (Err e) w h = h
+
 module _ {S : Type 0} {accesses : Accesses S} where
-  opened_explains : (vs : List Value) → WorldExplains accesses (opened vs)
+  opened_explains : (vs : List Value) → EvaluationExplains accesses (opened vs)
   unfolding opened
   opened_explains vs = either_branch_explains (λ w. w.started == 2 ^ 64 - 1) _ _ (direct_explains _ (λ w. tt) (λ w. refl)) (direct_explains _ (λ w. tt) (λ w. refl))
 
   -- ---- the terms of a table
 
-  terms_kept_explains : (x : Outcome (List Tree × List Arity)) → Clean x → WorldExplains accesses (terms_kept x)
+  terms_kept_explains : (x : Outcome (List Tree × List Arity)) → Clean x → EvaluationExplains accesses (terms_kept x)
   terms_kept_explains (Ok p) c = direct_explains _ (λ w. c) (λ w. refl)
   terms_kept_explains (Err e) c = direct_explains _ (λ w. c) (λ w. refl)
 
-  table_terms_explains : (bytes : List ℕ) → WorldExplains accesses (table_terms bytes)
+  table_terms_explains : (bytes : List ℕ) → EvaluationExplains accesses (table_terms bytes)
   unfolding table_terms
-  table_terms_explains bytes = record { explained = λ w. (terms_kept_explains (table_reading bytes w.arities) (table_reading_clean bytes w.arities)).explained w }
+  table_terms_explains bytes = record { explained = λ w. (terms_kept_explains (table_reading bytes w.arities) (table_reading_clean bytes w.arities)).explained w; spent = λ w. (terms_kept_explains (table_reading bytes w.arities) (table_reading_clean bytes w.arities)).spent w }
 
   -- ---- arguments
 
@@ -91,7 +95,7 @@ module _ {S : Type 0} {accesses : Accesses S} where
 
   imported_explains : (g : given.Given) → WorldExplains accesses (imported g)
   unfolding imported
-  imported_explains g = record { explained = λ w. taken_back_explained accesses (length w.objects) w.space _ _ ((imported_by_explains (package_imported 64) (package_imported_explains 64) g).explained w) }
+  imported_explains g = record { explained = λ w. taken_back_explained accesses (length w.objects) w.space _ _ ((imported_by_explains (package_imported 64) (package_imported_explains 64) g).explained w); spent = λ w. taken_back_spent accesses (length w.objects) _ _ ((imported_by_explains (package_imported 64) (package_imported_explains 64) g).spent w) }
 
   all_imported_explains : (gs : List given.Given) (done : List Value) → WorldExplains accesses (all_imported gs done)
   unfolding all_imported
@@ -169,48 +173,48 @@ module _ {S : Type 0} (accesses : Accesses S) where
   value_of_explains (invocation.Method p body) vs = method_value_explains accesses (meaning accesses) (meaning_explains accesses) 0 p body vs
   value_of_explains invocation.Osi vs = lift_explains _ (osi_answered_explains vs)
 
-  answer_exported_explains : (p : List Seg) (count : ℕ) (arguments : List given.Given) → RunExplains accesses (answer_exported accesses p count arguments)
+  pub answer_exported_explains : (p : List Seg) (count : ℕ) (arguments : List given.Given) → RunExplains accesses (answer_exported accesses p count arguments)
   unfolding answer_exported exported
   answer_exported_explains p count arguments =
       then_explains _ _ (lift_explains _ (invocation_found_explains _ _ _)) (λ i.
       then_explains _ _ (lift_explains _ (all_imported_explains arguments [])) (λ vs.
       then_explains _ _ (value_of_explains i vs) (value_exported_explains _ (package_exported_explains 64))))
 
-  at_root_explains : (ts : Trees) → RunExplains accesses (at_root accesses ts)
+  pub at_root_explains : (ts : Trees) → RunExplains accesses (at_root accesses ts)
   unfolding at_root
   at_root_explains ts = then_explains _ _ (in_turn_explains accesses (meaning accesses) (meaning_explains accesses) [] 0 ts) (λ last. give_explains _)
 
-  called_explains : (p : List Seg) (arguments : List Value) → RunExplains accesses (called accesses p arguments)
+  pub called_explains : (p : List Seg) (arguments : List Value) → RunExplains accesses (called accesses p arguments)
   unfolding called
   called_explains p arguments = then_explains _ _ (lift_explains _ (invocation_found_explains _ _ _)) (λ i. value_of_explains i arguments)
 
   -- ---- whole evaluations
 
-  with_steps_explains : {A : Type 0} (steps : ℕ) (m : Run S A) → RunExplains accesses m → WorldExplains accesses (with_steps steps m)
+  with_steps_explains : {A : Type 0} (steps : ℕ) (m : Run S A) → RunExplains accesses m → EvaluationExplains accesses (with_steps steps m)
   unfolding with_steps
-  with_steps_explains steps m h = record { explained = λ w. h.explained (w, steps) }
+  with_steps_explains steps m h = record { explained = λ w. h.explained (w, steps); spent = λ w. spent_with_none (m (w, steps)).0 }
 
-  framed_explains : {A : Type 0} (m : Change (State S) A) → WorldExplains accesses m → WorldExplains accesses (framed m)
+  framed_explains : {A : Type 0} (m : Change (State S) A) → EvaluationExplains accesses m → EvaluationExplains accesses (framed m)
   unfolding framed
-  framed_explains m h = record { explained = h.explained }
+  framed_explains m h = record { explained = h.explained; spent = h.spent }
 
-  ending_explains : {A : Type 0} (m : Change (State S) A) → WorldExplains accesses m → WorldExplains accesses (ending m)
+  ending_explains : {A : Type 0} (m : Change (State S) A) → EvaluationExplains accesses m → EvaluationExplains accesses (ending m)
   unfolding ending
-  ending_explains m h = record { explained = h.explained }
+  ending_explains m h = record { explained = h.explained; spent = h.spent }
 
   rest_explained : (x : Outcome Value) (rest : ℕ) (s t : S) → Explained accesses x s t → Explained accesses (with_rest x rest) s t
   rest_explained (Ok v) rest s t h = h
   rest_explained (Err e) rest s t h = h
 
-  pub loaded_explains : (bytes : List ℕ) (steps : ℕ) → WorldExplains accesses (loaded accesses bytes steps)
+  pub loaded_explains : (bytes : List ℕ) (steps : ℕ) → EvaluationExplains accesses (loaded accesses bytes steps)
   unfolding loaded table_run in_frame
   loaded_explains bytes steps =
       ending_explains _ (then_explains _ _ (table_terms_explains bytes) (λ ts. then_explains _ _ (opened_explains _) (λ n. framed_explains _ (with_steps_explains steps _ (at_root_explains ts)))))
 
-  pub evaluated_explains : (p : List Seg) (arguments : List Value) (steps : ℕ) → WorldExplains accesses (evaluated accesses p arguments steps)
+  pub evaluated_explains : (p : List Seg) (arguments : List Value) (steps : ℕ) → EvaluationExplains accesses (evaluated accesses p arguments steps)
   unfolding evaluated counted
-  evaluated_explains p arguments steps = record { explained = λ w. rest_explained _ _ w.space _ ((called_explains p arguments).explained (w, steps)) }
+  evaluated_explains p arguments steps = record { explained = λ w. rest_explained _ _ w.space _ ((called_explains p arguments).explained (w, steps)); spent = λ w. spent_with_none (with_rest (called accesses p arguments (w, steps)).0 (called accesses p arguments (w, steps)).1.1) }
 
-  pub answered_explains : (p : List Seg) (arguments : List given.Given) (steps : ℕ) → WorldExplains accesses (answered accesses p arguments steps)
+  pub answered_explains : (p : List Seg) (arguments : List given.Given) (steps : ℕ) → EvaluationExplains accesses (answered accesses p arguments steps)
   unfolding answered
   answered_explains p arguments steps = ending_explains _ (with_steps_explains steps _ (answer_exported_explains p (length arguments) arguments))

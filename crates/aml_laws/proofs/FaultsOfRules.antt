@@ -20,7 +20,7 @@ use Rattle.aml_meaning.specs.FieldTerms.{bits_field_rule, field_list_rule, field
 use Rattle.aml_meaning.specs.InvocationTerms.{arguments_in_turn, call_rule, field_rule, invocation_rule, name_value, osi_rule}
 use Rattle.aml_meaning.specs.OperatorTerms.{acquire_rule, conditional_rule, copy_rule, count_rule, dereference_rule, divide_rule, not_rule, one_rule, operator_rule, reference_found, reference_rule, reference_stored, referent_by, referent_by_kind, referent_of_target, referent_of_value, size_rule, slot_rule, sought, sought_name, sought_target, store_rule, test_rule, two_rule, type_rule}
 use Rattle.aml_meaning.specs.Run.{Run}
-use Rattle.aml_meaning.specs.StatementTerms.{after_turn, branch, else_rule, fatal_rule, if_rule, loop, loop_end, notify_rule, otherwise, pause_rule, release_rule, return_rule, statement_rule, turn, turn_of, turns, while_rule}
+use Rattle.aml_meaning.specs.StatementTerms.{branch, else_rule, fatal_rule, if_rule, notify_rule, otherwise, pause_rule, release_rule, return_rule, statement_rule, while_rule}
 use Rattle.aml_meaning.specs.TargetTerms.{dereferenced_target, first_target, indexed_target, name_target, part_target, target_at, target_by, target_by_kind, target_of, targeted}
 use Rattle.aml_meaning.specs.Tasks.{Task}
 use Rattle.aml_meaning.specs.Terms.{count_of, kind_of, target_kind}
@@ -51,6 +51,8 @@ use Rattle.aml_laws.proofs.CleanValues.{resolved_clean}
 use Rattle.aml_laws.proofs.CleanWorlds.{buffer_of_clean, bytes_of_clean, inner_of_clean, list_of_clean, name_of_clean, number_of_clean, reference_in_clean, shallow_clean, sized_clean}
 use Rattle.aml_laws.proofs.FaultsOfCalls.{completed_explains, field_read_explains, held_integer_explains, held_value_explains, in_turn_explains, invoked_explains, operand_integer_explains, operand_value_explains, referent_read_explains, stored_back_explains, stored_to_explains, two_values_explains, value_at_explains}
 use Rattle.aml_laws.proofs.FaultsOfChanges.{RunExplains, charge_explains, give_explains, lift_explains, on_objects_explains, settle_explains, stop_explains, then_explains}
+use Rattle.aml_laws.proofs.Costs.{Costs}
+use Rattle.aml_laws.proofs.FaultsOfLoops.{loop_explains}
 use Rattle.aml_laws.proofs.FaultsOfFields.{elements_laid_explains, field_found_explains, region_found_explains}
 use Rattle.aml_laws.proofs.FaultsOfOperations.{counted_by_explains, divided_in_explains, integer_in_explains, integer_kept_explains, invocation_found_explains, new_buffer_explains, new_method_explains, new_name_explains, new_package_explains, osi_answered_explains, path_found_explains, result_of_one_explains, result_of_test_explains, result_of_two_explains, scope_found_explains, size_in_explains, target_named_explains, turned_explains, within_explains}
 use Rattle.aml_laws.proofs.FaultsOfStoreTargets.{acquired_at_explains, copied_to_explains, dereferenced_explains, given_back_at_explains, if_initialized_explains, reference_if_found_explains, reference_of_explains, slot_read_explains, target_read_explains, target_referent_explains, tested_explains, value_referent_explains}
@@ -352,30 +354,9 @@ module _ {S : Type 0} (accesses : Accesses S) (ev : Task → Run S Flow) (parts 
   unfolding else_rule
   else_rule_explains scope depth t = then_explains _ _ (settle_explains _ (list_of_clean _)) (λ ts. in_turn_explains accesses ev parts scope depth ts)
 
-  turn_of_explains : (scope : List Seg) (depth : ℕ) (ts : Trees) (b : Bool) → RunExplains accesses (turn_of ev scope depth ts b)
-  turn_of_explains scope depth ts true = in_turn_explains accesses ev parts scope depth ts
-  turn_of_explains scope depth ts false = give_explains _
-
-  turn_explains : (scope : List Seg) (depth : ℕ) (c : Tree) (ts : Trees) → RunExplains accesses (turn ev scope depth c ts)
-  unfolding turn
-  turn_explains scope depth c ts = then_explains _ _ (operand_integer_explains accesses ev parts scope depth c) (λ x. turn_of_explains scope depth ts _)
-
-  after_turn_explains : (o : Option Flow) (m : Run S Flow) → RunExplains accesses m → RunExplains accesses (after_turn ev o m)
-  after_turn_explains None m h = h
-  after_turn_explains (Some f) m h = give_explains _
-
-  turns_explains : (k : ℕ) (scope : List Seg) (depth : ℕ) (c : Tree) (ts : Trees) → RunExplains accesses (turns ev k scope depth c ts)
-  unfolding turns
-  turns_explains zero scope depth c ts = stop_explains _ tt
-  turns_explains (suc k) scope depth c ts = then_explains _ _ (turn_explains scope depth c ts) (λ f. after_turn_explains (loop_end f) _ (turns_explains k scope depth c ts))
-
-  loop_explains : (scope : List Seg) (depth : ℕ) (c : Tree) (ts : Trees) → RunExplains accesses (loop ev scope depth c ts)
-  unfolding loop
-  loop_explains scope depth c ts = record { explained = λ s. (turns_explains (suc s.1) scope depth c ts).explained s }
-
-  while_rule_explains : (scope : List Seg) (depth : ℕ) (t : Tree) → RunExplains accesses (while_rule ev scope depth t)
+  while_rule_explains : Costs ev → (scope : List Seg) (depth : ℕ) (t : Tree) → RunExplains accesses (while_rule ev scope depth t)
   unfolding while_rule
-  while_rule_explains scope depth t = then_explains _ _ (settle_explains _ (inner_of_clean _)) (λ c. then_explains _ _ (settle_explains _ (list_of_clean _)) (λ ts. loop_explains scope depth c ts))
+  while_rule_explains costs scope depth t = then_explains _ _ (settle_explains _ (inner_of_clean _)) (λ c. then_explains _ _ (settle_explains _ (list_of_clean _)) (λ ts. loop_explains accesses ev parts costs scope depth c ts))
 
   return_rule_explains : (scope : List Seg) (depth : ℕ) (t : Tree) → RunExplains accesses (return_rule ev scope depth t)
   unfolding return_rule
@@ -397,18 +378,18 @@ module _ {S : Type 0} (accesses : Accesses S) (ev : Task → Run S Flow) (parts 
   unfolding fatal_rule
   fatal_rule_explains scope depth t = then_explains _ _ (value_at_explains accesses ev parts scope depth t 2) (λ v. stop_explains _ tt)
 
-  statement_rule_explains : (k : StatementKind) (scope : List Seg) (depth : ℕ) (t : Tree) → RunExplains accesses (statement_rule ev k scope depth t)
-  statement_rule_explains statements.If scope depth t = if_rule_explains scope depth t
-  statement_rule_explains statements.Else scope depth t = else_rule_explains scope depth t
-  statement_rule_explains statements.While scope depth t = while_rule_explains scope depth t
-  statement_rule_explains statements.Break scope depth t = give_explains _
-  statement_rule_explains statements.Continue scope depth t = give_explains _
-  statement_rule_explains statements.Noop scope depth t = give_explains _
-  statement_rule_explains statements.Return scope depth t = return_rule_explains scope depth t
-  statement_rule_explains statements.Release scope depth t = release_rule_explains scope depth t
-  statement_rule_explains statements.Notify scope depth t = notify_rule_explains scope depth t
-  statement_rule_explains statements.Pause scope depth t = pause_rule_explains scope depth t
-  statement_rule_explains statements.Fatal scope depth t = fatal_rule_explains scope depth t
+  statement_rule_explains : Costs ev → (k : StatementKind) (scope : List Seg) (depth : ℕ) (t : Tree) → RunExplains accesses (statement_rule ev k scope depth t)
+  statement_rule_explains costs statements.If scope depth t = if_rule_explains scope depth t
+  statement_rule_explains costs statements.Else scope depth t = else_rule_explains scope depth t
+  statement_rule_explains costs statements.While scope depth t = while_rule_explains costs scope depth t
+  statement_rule_explains costs statements.Break scope depth t = give_explains _
+  statement_rule_explains costs statements.Continue scope depth t = give_explains _
+  statement_rule_explains costs statements.Noop scope depth t = give_explains _
+  statement_rule_explains costs statements.Return scope depth t = return_rule_explains scope depth t
+  statement_rule_explains costs statements.Release scope depth t = release_rule_explains scope depth t
+  statement_rule_explains costs statements.Notify scope depth t = notify_rule_explains scope depth t
+  statement_rule_explains costs statements.Pause scope depth t = pause_rule_explains scope depth t
+  statement_rule_explains costs statements.Fatal scope depth t = fatal_rule_explains scope depth t
 
   -- ---- calls
 
@@ -454,25 +435,25 @@ module _ {S : Type 0} (accesses : Accesses S) (ev : Task → Run S Flow) (parts 
 
   -- ---- which rule
 
-  kind_rule_explains : (k : TermKind) (op : Opcode) (scope : List Seg) (depth : ℕ) (t : Tree) → RunExplains accesses (kind_rule accesses ev k op scope depth t)
-  kind_rule_explains (kinds.Data k) op scope depth t = data_rule_explains k scope depth t
-  kind_rule_explains (kinds.Declaration k) op scope depth t = declaration_rule_explains k scope depth t
-  kind_rule_explains (kinds.Region k) op scope depth t = region_term_rule_explains k scope depth t
-  kind_rule_explains (kinds.Operator k) op scope depth t = operator_rule_explains k scope depth t
-  kind_rule_explains (kinds.Statement k) op scope depth t = statement_rule_explains k scope depth t
-  kind_rule_explains (kinds.Wide k) op scope depth t = in_wide_explains accesses ev parts target_at_explains targeted_explains op k scope depth t
-  kind_rule_explains kinds.Unsupported op scope depth t = stop_explains _ tt
+  kind_rule_explains : Costs ev → (k : TermKind) (op : Opcode) (scope : List Seg) (depth : ℕ) (t : Tree) → RunExplains accesses (kind_rule accesses ev k op scope depth t)
+  kind_rule_explains costs (kinds.Data k) op scope depth t = data_rule_explains k scope depth t
+  kind_rule_explains costs (kinds.Declaration k) op scope depth t = declaration_rule_explains k scope depth t
+  kind_rule_explains costs (kinds.Region k) op scope depth t = region_term_rule_explains k scope depth t
+  kind_rule_explains costs (kinds.Operator k) op scope depth t = operator_rule_explains k scope depth t
+  kind_rule_explains costs (kinds.Statement k) op scope depth t = statement_rule_explains costs k scope depth t
+  kind_rule_explains costs (kinds.Wide k) op scope depth t = in_wide_explains accesses ev parts target_at_explains targeted_explains op k scope depth t
+  kind_rule_explains costs kinds.Unsupported op scope depth t = stop_explains _ tt
 
-  code_rule_explains : (c : TermCode) (scope : List Seg) (depth : ℕ) (t : Tree) → RunExplains accesses (code_rule accesses ev c scope depth t)
-  code_rule_explains (codes.Opcode op) scope depth t = kind_rule_explains (kind_of op) op scope depth t
-  code_rule_explains codes.MethodInvocation scope depth t = name_value_explains scope depth t
-  code_rule_explains codes.Name scope depth t = stop_explains _ tt
-  code_rule_explains codes.NamedField scope depth t = stop_explains _ tt
-  code_rule_explains codes.ReservedField scope depth t = stop_explains _ tt
-  code_rule_explains codes.AccessField scope depth t = stop_explains _ tt
-  code_rule_explains codes.ExtendedAccessField scope depth t = stop_explains _ tt
-  code_rule_explains codes.ConnectField scope depth t = stop_explains _ tt
+  code_rule_explains : Costs ev → (c : TermCode) (scope : List Seg) (depth : ℕ) (t : Tree) → RunExplains accesses (code_rule accesses ev c scope depth t)
+  code_rule_explains costs (codes.Opcode op) scope depth t = kind_rule_explains costs (kind_of op) op scope depth t
+  code_rule_explains costs codes.MethodInvocation scope depth t = name_value_explains scope depth t
+  code_rule_explains costs codes.Name scope depth t = stop_explains _ tt
+  code_rule_explains costs codes.NamedField scope depth t = stop_explains _ tt
+  code_rule_explains costs codes.ReservedField scope depth t = stop_explains _ tt
+  code_rule_explains costs codes.AccessField scope depth t = stop_explains _ tt
+  code_rule_explains costs codes.ExtendedAccessField scope depth t = stop_explains _ tt
+  code_rule_explains costs codes.ConnectField scope depth t = stop_explains _ tt
 
-  pub rule_explains : (t : Task) → RunExplains accesses (rule accesses ev t)
+  pub rule_explains : Costs ev → (t : Task) → RunExplains accesses (rule accesses ev t)
   unfolding rule
-  rule_explains t = code_rule_explains (code_of t.term) t.scope t.depth t.term
+  rule_explains costs t = code_rule_explains costs (code_of t.term) t.scope t.depth t.term

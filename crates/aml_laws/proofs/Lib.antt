@@ -7,7 +7,9 @@
 -- a lemma that goes through the cases for another ends with `_by_cases`.
 pub mod AnswersTogether
 pub mod ArgumentsAndAnswersPreserve
+pub mod BufferFieldWrites
 pub mod ChangesNothing
+pub mod Charges
 pub mod ChangesPreserve
 pub mod ChangesTogether
 pub mod CleanChanges
@@ -17,6 +19,8 @@ pub mod CleanOutcomes
 pub mod CleanReading
 pub mod CleanValues
 pub mod CleanWorlds
+pub mod CopiesApart
+pub mod Costs
 pub mod CountNeverFalls
 pub mod CountedCalls
 pub mod CountedChanges
@@ -28,6 +32,7 @@ pub mod CountedStoreTargets
 pub mod CountedTerms
 pub mod CountedMatches
 pub mod CountedWideTerms
+pub mod DecimalCodes
 pub mod DeclarationNumbers
 pub mod DeclaredNamesStand
 pub mod EndOfCalls
@@ -37,16 +42,20 @@ pub mod FaultsOfCalls
 pub mod FaultsOfChanges
 pub mod FaultsOfEvaluations
 pub mod FaultsOfFields
+pub mod FaultsOfLoops
 pub mod FaultsOfOperations
 pub mod FaultsOfRules
 pub mod FaultsOfStoreTargets
 pub mod FaultsOfTerms
 pub mod FaultsOfMatches
 pub mod FaultsOfWideTerms
+pub mod FieldsInOrder
 pub mod FieldsPreserve
 pub mod FieldsTogether
 pub mod FoundNamesStand
 pub mod FrameNumbers
+pub mod HandedBack
+pub mod IntegersInStrings
 pub mod IntegersOfAnswers
 pub mod IntegersOfContents
 pub mod IntegersOfFields
@@ -63,7 +72,9 @@ pub mod IntegersOfWideTerms
 pub mod IntegersOfWorlds
 pub mod Invariants
 pub mod MeaningTogether
+pub mod MoreSteps
 pub mod MutexesFree
+pub mod NamesSearched
 pub mod NamesStay
 pub mod NotesOfFaults
 pub mod Noting
@@ -71,8 +82,11 @@ pub mod NumbersKept
 pub mod NumbersRise
 pub mod ObjectKinds
 pub mod ObjectKindsStay
+pub mod ObjectsMade
 pub mod OperandsAndCallsPreserve
 pub mod OperandsTogether
+pub mod OrderedValues
+pub mod OutOfSteps
 pub mod OutsideOfMethods
 pub mod Preorders
 pub mod ProfileKept
@@ -93,6 +107,9 @@ pub mod StoreTargetsPreserve
 pub mod StoreTargetsTogether
 pub mod Together
 pub mod UnitsTogether
+pub mod UnreadUnits
+pub mod JoinedResources
+pub mod LimitsRefused
 pub mod MatchesPreserve
 pub mod WideTermsPreserve
 pub mod MatchesTogether

@@ -38,7 +38,7 @@ module _ {S : Type 0} (accesses : Accesses S) where
   }
 
   -- what goes the same way is the same but for the notes
-  pub goes_unnoted : {X Y A : Type 0} (shape : Shape S (WithNotes S) X Y) (without : Y → X) → ((x : X) (t : WithNotes S) → t.0 ≡ shape.left x → without (shape.over (λ r. r) x t) ≡ x) → (p : Outcome A × X) (q : Outcome A × Y) → Goes noting shape p q → p ≡ (q.0, without q.1)
+  pub goes_unnoted : {X Y A : Type 0} (shape : Shape S (WithNotes S) X Y) (without : Y → X) → ((x : X) (t : WithNotes S) → t.0 ≡ shape.left x → without (shape.over (λ r. r) (λ n. n) x t) ≡ x) → (p : Outcome A × X) (q : Outcome A × Y) → Goes noting shape p q → p ≡ (q.0, without q.1)
   unfolding noting
   goes_unnoted shape without back p q (inl parted) = absurd parted
   goes_unnoted shape without back p q (inr (t, same, i)) = ap (λ x. (p.0, x)) (sym (back p.1 t i)) ∙ sym (ap (λ (y : Outcome _ × _). (y.0, without y.1)) same)
@@ -75,7 +75,7 @@ module _ {S : Type 0} (accesses : Accesses S) where
 
   pub value_unnoted : (p : List Seg) (arguments : List Value) (steps : ℕ) (w : State (WithNotes S)) → evaluated accesses p arguments steps (without_notes w) ≡ ((evaluated (noted accesses) p arguments steps w).0, without_notes (evaluated (noted accesses) p arguments steps w).1)
   unfolding noting
-  value_unnoted p arguments steps w = world_unnoted _ _ (goes_from noting worlds _ _ ((evaluated_together {side = alike noting} p arguments steps).goes (without_notes w) w.space refl))
+  value_unnoted p arguments steps w = world_unnoted _ _ (goes_from noting worlds _ _ ((evaluated_together {side = alike noting} (λ n. refl) p arguments steps).goes (without_notes w) w.space refl))
 
   pub answer_unnoted : (p : List Seg) (arguments : List Given) (steps : ℕ) (w : State (WithNotes S)) → answered accesses p arguments steps (without_notes w) ≡ ((answered (noted accesses) p arguments steps w).0, without_notes (answered (noted accesses) p arguments steps w).1)
   unfolding noting

@@ -21,7 +21,7 @@ equal Less h = absurd (cc h)
 equal Equal h = refl
 equal Greater h = absurd (cc h)
 
-same_path : (p q : List Seg) → eq_by_cmp path_cmp p q ≡ true → p ≡ q
+pub same_path : (p q : List Seg) → eq_by_cmp path_cmp p q ≡ true → p ≡ q
 same_path p q h = only_equal p q (equal (path_cmp p q) h)
 
 -- ---- an entry put at a path

@@ -36,7 +36,7 @@ numbered_finds_by_cases names p e (Some x) h at is =
     let entry : x.1 ≡ e = same_entry x.1 e (sym there ∙ ap (get names.map) path ∙ at) in
     ap (λ (q : List Seg). Some (q, x.1)) path ∙ ap (λ (d : Entry). Some (p, d)) entry
 
-numbered_finds : (names : Namespace) (p : List Seg) (e : Entry) → Numbered names → get names.map p ≡ Some e → numbered e.number names.map ≡ Some (p, e)
+pub numbered_finds : (names : Namespace) (p : List Seg) (e : Entry) → Numbered names → get names.map p ≡ Some e → numbered e.number names.map ≡ Some (p, e)
 numbered_finds names p e h at = numbered_finds_by_cases names p e (numbered e.number names.map) h at refl
 
 -- ---- what a reference to a name refers to

@@ -1,5 +1,6 @@
 -- The rule of each term goes the same way over two register spaces, where its parts do; so every evaluation does.
-use Rattle.std.specs.Prelude.{ℕ, zero, suc, List, Bool, true, false, Option, Some, None}
+use Rattle.std.specs.Prelude.{ℕ, zero, suc, List, Bool, true, false, Option, Some, None, refl}
+use Rattle.std.proofs.Common.{inl}
 use Rattle.ar_space.specs.Accesses.{Accesses}
 use Rattle.aml_path.specs.declared.segment.Seg.{Seg}
 use Rattle.aml_grammar.specs.declared.opcode.Opcode.{Opcode}
@@ -45,7 +46,7 @@ use Rattle.aml_meaning.specs.StatementTerms.{otherwise, branch, if_rule, else_ru
 use Rattle.aml_meaning.specs.InvocationTerms.{arguments_in_turn, call_rule, osi_rule, field_rule, invocation_rule, name_value}
 use Rattle.aml_meaning.specs.FieldTerms.{fields_laid, region_rule, field_list_rule, index_list_rule, sized_field_rule, bits_field_rule, region_term_rule}
 use Rattle.aml_meaning.specs.Evaluation.{kind_rule, code_rule, rule}
-use Rattle.aml_laws.proofs.Together.{Sides, Together, give_together, settle_together, stop_together, then_together}
+use Rattle.aml_laws.proofs.Together.{Fits, Sides, Together, ended_fits, ended_together, fits_before, fits_ended, fits_next, fits_none, more_fits, give_together, settle_together, stop_together, then_together}
 use Rattle.aml_laws.proofs.WorldsTogether.{charge_together, lift_together, objects_together, runs}
 use Rattle.aml_laws.proofs.ChangesTogether.{counted_by_together, divided_in_together, integer_in_together, integer_kept_together, new_buffer_together, new_method_together, new_name_together, new_package_together, osi_answered_together, path_found_together, result_of_one_together, result_of_test_together, result_of_two_together, scope_found_together, size_in_together, target_named_together, turned_together, within_together, invocation_found_together}
 use Rattle.aml_laws.proofs.StoreTargetsTogether.{acquired_at_together, copied_to_together, dereferenced_together, given_back_at_together, if_initialized_together, reference_if_found_together, reference_of_together, slot_read_together, target_read_together, target_referent_together, tested_together, value_referent_together}
@@ -361,17 +362,22 @@ module _ {S T : Type 0} {accesses : Accesses S} {accesses2 : Accesses T} {side :
   after_turn_together None h = h
   after_turn_together (Some f) h = give_together _
 
-  turns_together : (k : ℕ) (scope : List Seg) (depth : ℕ) (c : Tree) (ts : Trees) → Together side runs (turns ev k scope depth c ts) (turns ev2 k scope depth c ts)
+  turns_together : (j k : ℕ) → Fits side j k → (scope : List Seg) (depth : ℕ) (c : Tree) (ts : Trees) → Together side runs (turns ev j scope depth c ts) (turns ev2 k scope depth c ts)
   unfolding turns
-  turns_together zero scope depth c ts = stop_together _
-  turns_together (suc k) scope depth c ts = then_together (turn_together scope depth c ts) (λ f. after_turn_together (loop_end f) (turns_together k scope depth c ts))
+  turns_together zero zero fits scope depth c ts = stop_together _
+  turns_together (suc j) zero fits scope depth c ts = absurd (fits_none side j fits)
+  turns_together zero (suc k) fits scope depth c ts =
+      let ends = fits_ended side k fits in
+      let turn_by_turn = then_together (turn_together scope depth c ts) (λ f. after_turn_together (loop_end f) (turns_together zero k (ended_fits side k ends) scope depth c ts)) in
+      ended_together _ ends (λ s u p. turn_by_turn.right_parted s u p)
+  turns_together (suc j) (suc k) fits scope depth c ts = then_together (turn_together scope depth c ts) (λ f. after_turn_together (loop_end f) (turns_together j k (fits_before side j k fits) scope depth c ts))
 
   loop_together : (scope : List Seg) (depth : ℕ) (c : Tree) (ts : Trees) → Together side runs (loop ev scope depth c ts) (loop ev2 scope depth c ts)
   unfolding loop
   loop_together scope depth c ts = record {
-    left_parted = λ s t h. (turns_together (suc s.1) scope depth c ts).left_parted s t h;
-    right_parted = λ s u h. (turns_together (suc u.1) scope depth c ts).right_parted s u h;
-    goes = λ s t i. (turns_together (suc s.1) scope depth c ts).goes s t i;
+    left_parted = λ s t h. (turns_together (suc s.1) (suc s.1) (inl refl) scope depth c ts).left_parted s t h;
+    right_parted = λ s u h. (turns_together (suc u.1) (suc u.1) (inl refl) scope depth c ts).right_parted s u h;
+    goes = λ s t i. (turns_together (suc s.1) (suc (side.more s.1)) (fits_next side s.1 (side.more s.1) (more_fits side s.1)) scope depth c ts).goes s t i;
   }
 
   while_rule_together : (scope : List Seg) (depth : ℕ) (t : Tree) → Together side runs (while_rule ev scope depth t) (while_rule ev2 scope depth t)

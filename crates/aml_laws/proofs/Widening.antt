@@ -27,7 +27,7 @@ left_out (Err e) h = h
 
 module _ {S : Type 0} (accesses : Accesses S) where
   -- a register space beside itself
-  same_space : SideBySide accesses accesses
+  unfoldable pub same_space : SideBySide accesses accesses
   same_space = record {
     InStep = λ s t. t ≡ s;
     Parted = λ s t. ⊥;
@@ -42,7 +42,7 @@ module _ {S : Type 0} (accesses : Accesses S) where
   -- the core profile on the left, the wide one on the right
   unfoldable widening : Sides accesses accesses
   unfolding same_space
-  widening = record { beside = same_space; raise = λ p. profiles.Wide; Ends = LeftOut; wide_stays = refl; core_stays = inr (λ e h. h) }
+  widening = record { beside = same_space; raise = λ p. profiles.Wide; Ends = LeftOut; wide_stays = refl; core_stays = inr (λ e h. h); more = λ n. n; more_next = λ n. refl; none_left = inl (λ n. refl) }
 
   world_comes : {A : Type 0} (p q : Outcome A × State S) → Comes widening worlds p q → IsLeftOut p.0 ⊎ (q ≡ (p.0, widened p.1))
   unfolding widening same_space
@@ -66,7 +66,7 @@ module _ {S : Type 0} (accesses : Accesses S) where
 
   pub value_widened : (p : List Seg) (arguments : List Value) (steps : ℕ) (w : State S) → IsLeftOut (evaluated accesses p arguments steps w).0 ⊎ (evaluated accesses p arguments steps (widened w) ≡ ((evaluated accesses p arguments steps w).0, widened (evaluated accesses p arguments steps w).1))
   unfolding widening same_space
-  value_widened p arguments steps w = world_comes (evaluated accesses p arguments steps w) (evaluated accesses p arguments steps (widened w)) ((evaluated_together {side = widening} p arguments steps).goes w w.space refl)
+  value_widened p arguments steps w = world_comes (evaluated accesses p arguments steps w) (evaluated accesses p arguments steps (widened w)) ((evaluated_together {side = widening} (λ n. refl) p arguments steps).goes w w.space refl)
 
   pub answer_widened : (p : List Seg) (arguments : List Given) (steps : ℕ) (w : State S) → IsLeftOut (answered accesses p arguments steps w).0 ⊎ (answered accesses p arguments steps (widened w) ≡ ((answered accesses p arguments steps w).0, widened (answered accesses p arguments steps w).1))
   unfolding widening same_space

@@ -1,6 +1,8 @@
 -- Changes of worlds, of worlds with the steps that are left, and of register spaces themselves.
-use Rattle.std.specs.Prelude.{ℕ, ◌-◌, ◌==◌, ◌^◌, List, Ok, Err, refl}
+use Rattle.std.specs.Prelude.{◌≡◌, ◌⊎◌, ℕ, zero, suc, ◌-◌, ◌==◌, ◌^◌, List, Ok, Err, refl}
 use Rattle.ar_space.specs.declared.refusal.Refusal.{Refusal}
+use Rattle.ar_space.specs.declared.refusal.Refusal.TheVariants as refusal
+use Rattle.ar_space.specs.declared.refusal.EvaluationFault.TheVariants.{OutOfSteps}
 use Rattle.ar_space.specs.Accesses.{Accesses}
 use Rattle.ar_space.specs.Outcome.{Outcome}
 use Rattle.ar_space.specs.Change.{Change}
@@ -16,7 +18,8 @@ use Rattle.aml_meaning.specs.Slots.{opened, closed}
 use Rattle.aml_meaning.specs.Invocations.{leaving, left, returned_by}
 use Rattle.aml_meaning.specs.Calling.{released, ending, with_steps, framed, in_frame, with_rest, counted}
 use Rattle.ar_space.specs.Outcome.{seen}
-use Rattle.std.proofs.Common.{inl, inr, ap}
+use Rattle.std.proofs.Common.{inl, inr, sym, subst, ap, ◌∙◌}
+use Rattle.aml_laws.proofs.Charges.{charge_none, charge_one, charge_space}
 use Rattle.aml_laws.proofs.Together.{Sides, Shape, Together, Comes, IsEnded, spaces, plain, then_together, choice_together, wrapped_together}
 
 -- a world over another space, in another profile
@@ -24,10 +27,10 @@ abbrev pub world_over : {S T : Type 0} → (Profile → Profile) → State S →
 world_over raise w t = record { names = w.names; arities = w.arities; objects = w.objects; frames = w.frames; started = w.started; space = t; osi = w.osi; width = w.width; profile = raise w.profile }
 
 abbrev pub worlds : {S T : Type 0} → Shape S T (State S) (State T)
-worlds = record { left = λ w. w.space; right = λ w. w.space; over = world_over }
+worlds = record { left = λ w. w.space; right = λ w. w.space; over = λ raise more w t. world_over raise w t }
 
 abbrev pub runs : {S T : Type 0} → Shape S T (State S × ℕ) (State T × ℕ)
-runs = record { left = λ s. s.0.space; right = λ s. s.0.space; over = λ raise s t. (world_over raise s.0 t, s.1) }
+runs = record { left = λ s. s.0.space; right = λ s. s.0.space; over = λ raise more s t. (world_over raise s.0 t, more s.1) }
 
 -- what two changes of the spaces came to, in worlds that are the same else
 space_goes : {S T A : Type 0} {accesses : Accesses S} {accesses2 : Accesses T} (side : Sides accesses accesses2) (w : State S) (p : Outcome A × S) (q : Outcome A × T) → Comes side spaces p q
@@ -35,6 +38,20 @@ space_goes : {S T A : Type 0} {accesses : Accesses S} {accesses2 : Accesses T} (
 space_goes side w p q (inl parted) = inl parted
 space_goes side w p q (inr (inl ended)) = inr (inl ended)
 space_goes {T = T} side w p q (inr (inr (t, same, i))) = inr (inr (t, ap (λ (x : Outcome _ × T). (x.0, world_over side.raise w x.1)) same, i))
+
+-- a step, which the right one has where the left one has it
+module _ {S T : Type 0} {accesses : Accesses S} {accesses2 : Accesses T} (side : Sides accesses accesses2) where
+  none_goes : (w : State S) (t : T) → ((n : ℕ) → side.more n ≡ n) ⊎ side.Ends (refusal.Evaluation OutOfSteps) → side.beside.InStep w.space t → Comes side runs (Err (refusal.Evaluation OutOfSteps), (w, zero)) (charge (world_over side.raise w t, side.more zero))
+  none_goes w t (inl same) i =
+      let none = ap (λ n. charge (world_over side.raise w t, n)) (same zero) ∙ charge_none (world_over side.raise w t) in
+      inr (inr (t, none ∙ ap (λ n. (Err (refusal.Evaluation OutOfSteps), (world_over side.raise w t, n))) (sym (same zero)), i))
+  none_goes w t (inr ends) i = inr (inl ends)
+
+  charge_goes : (w : State S) (b : ℕ) (t : T) → side.beside.InStep w.space t → Comes side runs (charge (w, b)) (charge (world_over side.raise w t, side.more b))
+  charge_goes w zero t i = subst (λ (p : Outcome (Unit {0}) × (State S × ℕ)). Comes side runs p (charge (world_over side.raise w t, side.more zero))) (sym (charge_none w)) (none_goes w t side.none_left i)
+  charge_goes w (suc b) t i =
+      subst (λ (p : Outcome (Unit {0}) × (State S × ℕ)). Comes side runs p (charge (world_over side.raise w t, side.more (suc b)))) (sym (charge_one w b))
+      (inr (inr (t, ap (λ n. charge (world_over side.raise w t, n)) (side.more_next b) ∙ charge_one (world_over side.raise w t) (side.more b), i)))
 
 -- what is made of a value ends no likeness
 seen_ended : {A B : Type 0} (Ends : Refusal → Type 0) (view : A → B) (r : Outcome A) → IsEnded Ends r → IsEnded Ends (seen view r)
@@ -63,9 +80,9 @@ module _ {S T A : Type 0} {accesses : Accesses S} {accesses2 : Accesses T} {side
   lift_together h = wrapped_together (λ s. s.0) (λ s. s.0) (λ s p. (p.0, (p.1, s.1))) (λ s p. (p.0, (p.1, s.1)))
       (λ s. refl) (λ s. refl) (λ s t. refl) (λ s p. refl) (λ s q. refl) (λ s u r w t. refl) (λ s p e. e) h
 
-  pub with_steps_together : (steps : ℕ) {m : Run S A} {n : Run T A} → Together side runs m n → Together side worlds (with_steps steps m) (with_steps steps n)
+  pub with_steps_together : (steps : ℕ) {m : Run S A} {n : Run T A} → Together side runs m n → Together side worlds (with_steps steps m) (with_steps (side.more steps) n)
   unfolding with_steps
-  with_steps_together steps h = wrapped_together (λ w. (w, steps)) (λ w. (w, steps)) (λ w p. (p.0, p.1.0)) (λ w p. (p.0, p.1.0))
+  with_steps_together steps h = wrapped_together (λ w. (w, steps)) (λ w. (w, side.more steps)) (λ w p. (p.0, p.1.0)) (λ w p. (p.0, p.1.0))
       (λ w. refl) (λ w. refl) (λ w t. refl) (λ w p. refl) (λ w q. refl) (λ w u r s t. refl) (λ s p e. e) h
 
   pub ending_together : {m : Change (State S) A} {n : Change (State T) A} → Together side worlds m n → Together side worlds (ending m) (ending n)
@@ -79,10 +96,10 @@ module _ {S T A : Type 0} {accesses : Accesses S} {accesses2 : Accesses T} {side
       (λ w. refl) (λ w. refl) (λ w t. refl) (λ w p. refl) (λ w q. refl) (λ w u r s t. refl) (λ s p e. e) h
 
 module _ {S T : Type 0} {accesses : Accesses S} {accesses2 : Accesses T} {side : Sides accesses accesses2} where
-  pub counted_together : (steps : ℕ) {m : Run S Value} {n : Run T Value} → Together side runs m n → Together side worlds (counted steps m) (counted steps n)
+  pub counted_together : ((n : ℕ) → side.more n ≡ n) → (steps : ℕ) {m : Run S Value} {n : Run T Value} → Together side runs m n → Together side worlds (counted steps m) (counted (side.more steps) n)
   unfolding counted
-  counted_together steps h = wrapped_together (λ w. (w, steps)) (λ w. (w, steps)) (λ w p. (with_rest p.0 p.1.1, p.1.0)) (λ w p. (with_rest p.0 p.1.1, p.1.0))
-      (λ w. refl) (λ w. refl) (λ w t. refl) (λ w p. refl) (λ w q. refl) (λ w u r s t. refl) (λ s p e. seen_ended _ _ p.0 e) h
+  counted_together same steps h = wrapped_together (λ w. (w, steps)) (λ w. (w, side.more steps)) (λ w p. (with_rest p.0 p.1.1, p.1.0)) (λ w p. (with_rest p.0 p.1.1, p.1.0))
+      (λ w. refl) (λ w. refl) (λ w t. refl) (λ w p. refl) (λ w q. refl) (λ w u r s t. ap (λ n. (with_rest r n, world_over side.raise s.0 t)) (same s.1)) (λ s p e. seen_ended _ _ p.0 e) h
 
   pub leaving_together : (q : List Seg) {m : Run S Flow} {n : Run T Flow} → Together side runs m n → Together side runs (leaving q m) (leaving q n)
   unfolding leaving
@@ -90,8 +107,11 @@ module _ {S T : Type 0} {accesses : Accesses S} {accesses2 : Accesses T} {side :
       (λ s. refl) (λ s. refl) (λ s t. refl) (λ s p. refl) (λ s q. refl) (λ s u r w t. refl) (λ s p e. seen_ended _ _ p.0 e) h
 
   pub charge_together : Together side runs charge charge
-  unfolding charge
-  charge_together = choice_together (λ s. s.1 == 0) (λ s. s.1 == 0) (λ s t. refl) (plain (λ s. refl) (λ s. refl) (λ s t. refl)) (plain (λ s. refl) (λ s. refl) (λ s t. refl))
+  charge_together = record {
+    left_parted = λ s t p. subst (λ u. side.beside.Parted u t) (sym (charge_space s.0 s.1)) p;
+    right_parted = λ s u p. subst (λ t. side.beside.Parted s t) (sym (charge_space u.0 u.1)) p;
+    goes = λ s t i. charge_goes side s.0 s.1 t i;
+  }
 
   pub opened_together : (vs : List Value) → Together side worlds (opened vs) (opened vs)
   unfolding opened

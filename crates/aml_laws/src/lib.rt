@@ -1,10 +1,16 @@
 //! What holds of every evaluation (ACPI 6.5, 5.3 and 5.5): each law is the contract of a function that does nothing.
 #![tactic(auto)]
 
+mod budgets;
+mod buffer_fields;
 mod calls;
+mod copies;
 mod declarations;
+mod field_lists;
 mod frames;
+mod handed;
 mod integers;
+mod limits;
 mod mutexes;
 mod names;
 mod notes;
@@ -13,13 +19,24 @@ mod objects;
 mod profiles;
 mod reading;
 mod references;
+mod searches;
 mod space;
 mod steps;
+mod updates;
+mod values;
 
+pub use budgets::{no_step_is_left_where_steps_run_out, steps_only_bound_an_evaluation};
+pub use buffer_fields::{
+    a_buffer_field_is_read_as_it_was_written, a_write_of_a_buffer_field_leaves_other_bits,
+};
 pub use calls::calls_leave_nothing;
+pub use copies::a_copy_is_the_same_apart_from_its_source;
 pub use declarations::refused_names_change_nothing;
+pub use field_lists::fields_of_a_list_are_in_order;
 pub use frames::{frame_numbers_are_given_once, frames_are_balanced};
+pub use handed::what_is_handed_in_is_handed_out_as_it_was;
 pub use integers::{integers_stay_below_two_to_the_width, operators_form_integers_of_the_width};
+pub use limits::limits_are_refused;
 pub use mutexes::no_mutex_stays_acquired;
 pub use names::{declared_names_stand, names_stay, outside_of_control_methods};
 pub use notes::{noting_changes_nothing, space_faults_are_answers_of_the_last_access};
@@ -31,10 +48,16 @@ pub use references::{
     a_reference_refers_to_its_target, a_reference_to_a_name_finds_its_declaration,
     a_reference_to_a_slot_reads_that_slot,
 };
+pub use searches::{a_searched_name_finds_the_nearest, any_other_name_stands_at_one_path};
 pub use space::{
     faults_that_no_access_answers_are_never_refused, space_faults_are_reached_by_accesses,
     space_is_reached_by_accesses,
 };
 pub use steps::{
     no_more_terms_than_steps, terms_of_tables_and_answers_are_counted, terms_that_begin_are_counted,
+};
+pub use updates::ones_and_zeros_read_nothing;
+pub use values::{
+    an_integer_is_read_back_from_its_string, binary_coded_decimal_has_the_decimal_digits,
+    joined_resources_have_the_items_of_both, values_of_one_type_are_in_a_total_order,
 };

@@ -24,11 +24,11 @@ below_root_clean parent name = followed_clean _ _ (seg_of_clean parent) (λ abov
 
 module _ {S : Type 0} (accesses : Accesses S) where
   abbrev pub MachineExplains : {A : Type 0} → Change (MachineState S) A → Type 0
-  MachineExplains m = Explains accesses (λ s. s.world.space) m
+  MachineExplains m = Explains accesses (λ s. s.world.space) (λ s. 0) m
 
   object_answered_explains : (p : List Seg) (arguments : List Given) → MachineExplains (object_answered accesses p arguments)
   unfolding object_answered on_world
-  object_answered_explains p arguments = record { explained = λ s. (answered_explains accesses p arguments s.steps).explained s.world }
+  object_answered_explains p arguments = record { explained = λ s. (answered_explains accesses p arguments s.steps).explained s.world; spent = λ s. (answered_explains accesses p arguments s.steps).spent s.world }
 
   unless_spent_explains : {A : Type 0} (m : Change (MachineState S) A) → MachineExplains m → MachineExplains (unless_spent m)
   unfolding unless_spent
@@ -57,7 +57,7 @@ module _ {S : Type 0} (accesses : Accesses S) where
 
   started_explains : (mode : Mode) → MachineExplains (started accesses mode)
   unfolding started
-  started_explains mode = record { explained = λ s. (initial_calls_explains mode).explained (record s { mode = mode }) }
+  started_explains mode = record { explained = λ s. (initial_calls_explains mode).explained (record s { mode = mode }); spent = λ s. (initial_calls_explains mode).spent (record s { mode = mode }) }
 
   pub initialized_explains : (mode : Mode) → MachineExplains (initialized accesses mode)
   unfolding initialized

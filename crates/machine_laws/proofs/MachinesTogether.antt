@@ -22,7 +22,7 @@ abbrev pub machine_over : {S T : Type 0} → MachineState S → T → MachineSta
 machine_over m t = record { world = world_over (λ r. r) m.world t; tables = m.tables; mode = m.mode; steps = m.steps; spent = m.spent }
 
 abbrev pub machines : {S T : Type 0} → Shape S T (MachineState S) (MachineState T)
-machines = record { left = λ m. m.world.space; right = λ m. m.world.space; over = λ raise m t. machine_over m t }
+machines = record { left = λ m. m.world.space; right = λ m. m.world.space; over = λ raise more m t. machine_over m t }
 
 -- a machine with another world over another space
 abbrev with_world : {S T : Type 0} → MachineState S → State T → MachineState T

@@ -1,0 +1,62 @@
+-- Each limit is refused exactly above it.
+use Rattle.std.specs.Prelude.{◌≡◌, ◌≤◌, ◌<◌, ℕ, nat_le, nat_lt, true, false, List, [], ◌∷◌, ◌++◌, length, Ok, Err, refl}
+use Rattle.std.proofs.Common.{arith, ap}
+use Rattle.std.proofs.lemmas.Bool.Decides.{nat_tests}
+use Rattle.ar_space.specs.declared.refusal.Refusal.TheVariants as refusal
+use Rattle.ar_space.specs.declared.refusal.EvaluationFault.TheVariants.{ObjectLimit, CallDepth}
+use Rattle.ar_space.specs.Accesses.{Accesses}
+use Rattle.ar_space.specs.Outcome.{Outcome}
+use Rattle.ar_space.specs.Change.{settle, go_on, ◌>>=◌}
+use Rattle.aml_path.specs.declared.segment.Seg.{Seg}
+use Rattle.aml_objects.specs.Objects.{Objects, make, fits, few, make_string, make_buffer, make_package}
+use Rattle.aml_objects.specs.declared.object.Element.{Element}
+use Rattle.aml_objects.specs.declared.object.Object.{Object}
+use Rattle.aml_objects.specs.declared.value.Value.{Value}
+use Rattle.aml_meaning.specs.State.{State}
+use Rattle.aml_meaning.specs.Run.{lift}
+use Rattle.aml_meaning.specs.Invocations.{shallow, body_terms, frame_arguments, leaving, invoked}
+use Rattle.aml_meaning.specs.Slots.{opened}
+use Rattle.aml_meaning.specs.Tasks.{in_turn}
+use Rattle.aml_meaning.specs.Meaning.{meaning}
+
+pub object_made : (x : Object) (h : Objects) → length h < 262144 → make x h ≡ (Ok (length h), h ++ x ∷ [])
+unfolding make
+object_made x h room = let test : nat_le 262144 (length h) ≡ false = grind (arith, nat_tests) in rw test refl
+
+pub object_refused : (x : Object) (h : Objects) → 262144 ≤ length h → make x h ≡ (Err (refusal.Evaluation ObjectLimit), h)
+unfolding make
+object_refused x h full = let test : nat_le 262144 (length h) ≡ true = grind (arith, nat_tests) in rw test refl
+
+bytes_fit : (bytes : List ℕ) → length bytes ≤ 1048576 → fits bytes ≡ Ok tt
+unfolding fits
+bytes_fit bytes room = let test : nat_lt 1048576 (length bytes) ≡ false = grind (arith, nat_tests) in rw test refl
+
+bytes_refused : (bytes : List ℕ) → 1048576 < length bytes → fits bytes ≡ Err (refusal.Evaluation ObjectLimit)
+unfolding fits
+bytes_refused bytes full = let test : nat_lt 1048576 (length bytes) ≡ true = grind (arith, nat_tests) in rw test refl
+
+pub string_refused : (bytes : List ℕ) (h : Objects) → 1048576 < length bytes → make_string bytes h ≡ (Err (refusal.Evaluation ObjectLimit), h)
+unfolding make_string settle go_on ◌>>=◌
+string_refused bytes h full = rw (bytes_refused bytes full) refl
+
+pub buffer_refused : (bytes : List ℕ) (h : Objects) → 1048576 < length bytes → make_buffer bytes h ≡ (Err (refusal.Evaluation ObjectLimit), h)
+unfolding make_buffer settle go_on ◌>>=◌
+buffer_refused bytes h full = rw (bytes_refused bytes full) refl
+
+few_refused : (es : List Element) → 65535 < length es → few es ≡ Err (refusal.Evaluation ObjectLimit)
+unfolding few
+few_refused es full = let test : nat_lt 65535 (length es) ≡ true = grind (arith, nat_tests) in rw test refl
+
+pub package_refused : (es : List Element) (h : Objects) → 65535 < length es → make_package es h ≡ (Err (refusal.Evaluation ObjectLimit), h)
+unfolding make_package settle go_on ◌>>=◌
+package_refused es h full = rw (few_refused es full) refl
+
+call_shallow : (depth : ℕ) → depth < 32 → shallow depth ≡ Ok tt
+call_shallow depth less = let test : nat_lt depth 32 ≡ true = grind (arith, nat_tests) in rw test refl
+
+call_deep : (depth : ℕ) → 32 ≤ depth → shallow depth ≡ Err (refusal.Evaluation CallDepth)
+call_deep depth more = let test : nat_lt depth 32 ≡ false = grind (arith, nat_tests) in rw test refl
+
+pub call_refused : {S : Type 0} (accesses : Accesses S) (depth : ℕ) (p : List Seg) (body : List ℕ) (arguments : List Value) (s : State S × ℕ) → 32 ≤ depth → invoked (meaning accesses) depth p body arguments s ≡ (Err (refusal.Evaluation CallDepth), s)
+unfolding invoked settle go_on ◌>>=◌
+call_refused accesses depth p body arguments s more = rw (call_deep depth more) refl

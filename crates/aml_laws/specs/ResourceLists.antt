@@ -1,0 +1,12 @@
+-- Lists of resource items (ACPI 6.5, 6.4.2.9).
+use Rattle.std.specs.Prelude.{ℕ, ◌==◌, if◌then◌else◌, List, [], ◌∷◌}
+use Rattle.acpi_resources.specs.Items.{ResourceItem}
+
+-- those before the first end tag, or all where there is none
+abbrev pub before_end_tag : List ResourceItem → List ResourceItem
+before_end_tag [] = []
+before_end_tag (item ∷ items) = if item.tag == 0x79 then [] else item ∷ before_end_tag items
+
+-- an end tag whose checksum is 0, which stands for any
+abbrev pub end_tag : ResourceItem
+end_tag = record { tag = 0x79; body = 0x00 ∷ [] }

@@ -1,0 +1,68 @@
+//! The budget of steps, which only bounds an evaluation.
+ghost use Rattle.std.specs.Prelude.{◌≡◌, ◌≢◌, ◌+◌, ℕ, List, Err};
+ghost use Rattle.ar_space.specs.declared.refusal.Refusal.TheVariants.{Evaluation};
+ghost use Rattle.ar_space.specs.declared.refusal.EvaluationFault.TheVariants.{OutOfSteps};
+ghost use Rattle.ar_space.specs.Accesses.{Accesses};
+ghost use Rattle.aml_path.specs.declared.segment.Seg.{Seg};
+ghost use Rattle.aml_grammar.specs.Tree.{Trees};
+ghost use Rattle.aml_objects.specs.declared.value.Value.{Value};
+ghost use Rattle.aml_meaning.specs.Given.{Given};
+ghost use Rattle.aml_meaning.specs.State.{State};
+ghost use Rattle.aml_meaning.specs.Tasks.{Task, in_turn};
+ghost use Rattle.aml_meaning.specs.Invocations.{invoked};
+ghost use Rattle.aml_meaning.specs.Meaning.{meaning};
+ghost use Rattle.aml_meaning.specs.Calling.{loaded, evaluated, answered, at_root, called, answer_exported};
+ghost use Rattle.aml_laws.specs.Steps.{with_more_left, value_with_more_left};
+
+/// More steps change nothing but how many are left: where an evaluation isn't refused for want of steps, it comes to
+/// the same value or refusal and the same world with any number of steps more, and leaves as many more. A rule that
+/// reads the steps that are left, or takes more of them where there are more, is refused by this.
+#[tactic(auto, using(crate::proofs::MoreSteps::term_lengthened, crate::proofs::MoreSteps::list_lengthened, crate::proofs::MoreSteps::call_lengthened, crate::proofs::MoreSteps::table_lengthened, crate::proofs::MoreSteps::value_lengthened, crate::proofs::MoreSteps::answer_lengthened))]
+pub fn steps_only_bound_an_evaluation<S>()
+    ensures terms { (accesses : Accesses S) (t : Task) (w : State S) (steps more : ℕ) →
+        (meaning accesses t (w, steps)).0 ≢ Err (Evaluation OutOfSteps) →
+        meaning accesses t (w, steps + more) ≡ with_more_left more (meaning accesses t (w, steps)) }
+    ensures lists { (accesses : Accesses S) (scope : List Seg) (depth : ℕ) (ts : Trees) (w : State S)
+        (steps more : ℕ) →
+        (in_turn (meaning accesses) scope depth ts (w, steps)).0 ≢ Err (Evaluation OutOfSteps) →
+        in_turn (meaning accesses) scope depth ts (w, steps + more) ≡ with_more_left more
+        (in_turn (meaning accesses) scope depth ts (w, steps)) }
+    ensures calls { (accesses : Accesses S) (depth : ℕ) (p : List Seg) (body : List ℕ) (arguments : List Value)
+        (w : State S) (steps more : ℕ) →
+        (invoked (meaning accesses) depth p body arguments (w, steps)).0 ≢ Err (Evaluation OutOfSteps) →
+        invoked (meaning accesses) depth p body arguments (w, steps + more) ≡ with_more_left more
+        (invoked (meaning accesses) depth p body arguments (w, steps)) }
+    ensures tables { (accesses : Accesses S) (bytes : List ℕ) (steps more : ℕ) (w : State S) →
+        (loaded accesses bytes steps w).0 ≢ Err (Evaluation OutOfSteps) →
+        loaded accesses bytes (steps + more) w ≡ loaded accesses bytes steps w }
+    ensures values { (accesses : Accesses S) (p : List Seg) (arguments : List Value) (steps more : ℕ) (w : State S) →
+        (evaluated accesses p arguments steps w).0 ≢ Err (Evaluation OutOfSteps) →
+        evaluated accesses p arguments (steps + more) w ≡ value_with_more_left more
+        (evaluated accesses p arguments steps w) }
+    ensures answers { (accesses : Accesses S) (p : List Seg) (arguments : List Given) (steps more : ℕ)
+        (w : State S) → (answered accesses p arguments steps w).0 ≢ Err (Evaluation OutOfSteps) →
+        answered accesses p arguments (steps + more) w ≡ answered accesses p arguments steps w }
+{}
+
+/// An evaluation is refused for want of steps only where none is left: a term, a list of terms, a call of a control
+/// method, the terms of a table, the value of an object and what it answers. A rule that gives up early, as a loop
+/// after a number of turns of its own, is refused by this.
+#[tactic(auto, using(crate::proofs::OutOfSteps::term_spent, crate::proofs::OutOfSteps::list_spent, crate::proofs::OutOfSteps::call_spent, crate::proofs::OutOfSteps::table_spent, crate::proofs::OutOfSteps::value_spent, crate::proofs::OutOfSteps::answer_spent))]
+pub fn no_step_is_left_where_steps_run_out<S>()
+    ensures term { (accesses : Accesses S) (t : Task) (s : State S × ℕ) →
+        (meaning accesses t s).0 ≡ Err (Evaluation OutOfSteps) → (meaning accesses t s).1.1 ≡ 0 }
+    ensures list { (accesses : Accesses S) (scope : List Seg) (depth : ℕ) (ts : Trees) (s : State S × ℕ) →
+        (in_turn (meaning accesses) scope depth ts s).0 ≡ Err (Evaluation OutOfSteps) →
+        (in_turn (meaning accesses) scope depth ts s).1.1 ≡ 0 }
+    ensures call { (accesses : Accesses S) (depth : ℕ) (p : List Seg) (body : List ℕ) (arguments : List Value)
+        (s : State S × ℕ) →
+        (invoked (meaning accesses) depth p body arguments s).0 ≡ Err (Evaluation OutOfSteps) →
+        (invoked (meaning accesses) depth p body arguments s).1.1 ≡ 0 }
+    ensures table { (accesses : Accesses S) (ts : Trees) (s : State S × ℕ) →
+        (at_root accesses ts s).0 ≡ Err (Evaluation OutOfSteps) → (at_root accesses ts s).1.1 ≡ 0 }
+    ensures value { (accesses : Accesses S) (p : List Seg) (arguments : List Value) (s : State S × ℕ) →
+        (called accesses p arguments s).0 ≡ Err (Evaluation OutOfSteps) → (called accesses p arguments s).1.1 ≡ 0 }
+    ensures answer { (accesses : Accesses S) (p : List Seg) (count : ℕ) (arguments : List Given)
+        (s : State S × ℕ) → (answer_exported accesses p count arguments s).0 ≡ Err (Evaluation OutOfSteps) →
+        (answer_exported accesses p count arguments s).1.1 ≡ 0 }
+{}

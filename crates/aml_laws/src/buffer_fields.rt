@@ -1,0 +1,32 @@
+//! Buffer fields.
+ghost use Rattle.std.specs.Prelude.{◌≡◌, ◌≢◌, ◌⊎◌, ◌<◌, ◌≤◌, ◌+◌, ℕ, List, false, length, get_or, slice_get, Ok};
+ghost use Rattle.aml_objects.specs.Objects.{Objects, buffer_at};
+ghost use Rattle.aml_objects.specs.declared.entry.BufferField.{BufferField};
+ghost use Rattle.aml_fields.specs.Bits.{bits_of, field_bits, packed};
+ghost use Rattle.aml_fields.specs.BufferFields.{read_buffer_field, write_buffer_field};
+
+/// A buffer field is read as it was written: after a write that isn't refused, a read gives the bits of the source, cut
+/// or with zeros behind them, and changes nothing. A field that is read from another bit than it is written to, or in
+/// another order, is refused by this.
+#[tactic(auto, using(crate::proofs::BufferFieldWrites::reads_as_written))]
+pub fn a_buffer_field_is_read_as_it_was_written()
+    ensures read { (field : BufferField) (source : List ℕ) (before after : Objects) →
+        write_buffer_field field source before ≡ (Ok tt, after) →
+        read_buffer_field field after ≡ (Ok (packed (field_bits source 0 field.bits)), after) }
+{}
+
+/// A write of a buffer field leaves the length of the buffer, each bit of it that is outside the field, and all other
+/// objects. A write that fills the rest of a byte, or that makes another buffer, is refused by this.
+#[tactic(auto, using(crate::proofs::BufferFieldWrites::keeps_length, crate::proofs::BufferFieldWrites::keeps_other_bits, crate::proofs::BufferFieldWrites::keeps_other_objects))]
+pub fn a_write_of_a_buffer_field_leaves_other_bits()
+    ensures length { (field : BufferField) (source : List ℕ) (before after : Objects) (old new : List ℕ) →
+        write_buffer_field field source before ≡ (Ok tt, after) → (buffer_at field.buffer before).0 ≡ Ok old →
+        (buffer_at field.buffer after).0 ≡ Ok new → length new ≡ length old }
+    ensures bits { (field : BufferField) (source : List ℕ) (before after : Objects) (old new : List ℕ) (k : ℕ) →
+        write_buffer_field field source before ≡ (Ok tt, after) → (buffer_at field.buffer before).0 ≡ Ok old →
+        (buffer_at field.buffer after).0 ≡ Ok new → (k < field.bit_offset) ⊎ (field.bit_offset + field.bits ≤ k) →
+        get_or (bits_of new) k false ≡ get_or (bits_of old) k false }
+    ensures objects { (field : BufferField) (source : List ℕ) (before after : Objects) (o : ℕ) →
+        write_buffer_field field source before ≡ (Ok tt, after) → o ≢ field.buffer →
+        slice_get after o ≡ slice_get before o }
+{}

@@ -1,0 +1,22 @@
+//! Lists of fields.
+ghost use Rattle.std.specs.Prelude.{◌≡◌, ℕ, List, Ok};
+ghost use Rattle.aml_path.specs.declared.segment.Seg.{Seg};
+ghost use Rattle.aml_grammar.specs.Tree.{Trees};
+ghost use Rattle.aml_objects.specs.declared.entry.FieldUnit.{FieldUnit};
+ghost use Rattle.aml_meaning.specs.declared.field_layout.FieldLayout.{FieldLayout};
+ghost use Rattle.aml_meaning.specs.declared.field_layout.FieldGroup.{FieldGroup};
+ghost use Rattle.aml_meaning.specs.State.{State};
+ghost use Rattle.aml_meaning.specs.FieldTerms.{elements_laid};
+ghost use Rattle.aml_laws.specs.FieldLists.{AreNamed, InOrder, AllStand};
+
+/// A list of fields that isn't refused leaves a field for each of its elements that have a name, at the path that the
+/// name stands for and of as many bits as the element says; each begins where the one before it ends, or behind that,
+/// so that no two share a bit. An offset that is counted in bytes, that forgets what is reserved, or that begins anew,
+/// is refused by this.
+#[tactic(auto, using(crate::proofs::FieldsInOrder::fields_in_order))]
+pub fn fields_of_a_list_are_in_order<S>()
+    ensures in_order { (group : FieldGroup) (scope : List Seg) (depth : ℕ) (ts : Trees) (at : FieldLayout)
+        (w after : State S) → elements_laid group scope depth at ts w ≡ (Ok tt, after) →
+        (fields : List (List Seg × FieldUnit)) × AreNamed scope ts fields × InOrder at.bit_offset fields ×
+        AllStand after.names.map fields }
+{}

@@ -1,0 +1,22 @@
+//! Data that is handed in and handed out again.
+ghost use Rattle.std.specs.Prelude.{◌≡◌, ◌+◌, ℕ, Ok};
+ghost use Rattle.ar_space.specs.Accesses.{Accesses};
+ghost use Rattle.aml_objects.specs.declared.value.Value.{Value};
+ghost use Rattle.aml_namespace.specs.Numbering.{Numbered};
+ghost use Rattle.aml_meaning.specs.Given.{Given};
+ghost use Rattle.aml_meaning.specs.State.{State};
+ghost use Rattle.aml_meaning.specs.Importing.{imported};
+ghost use Rattle.aml_meaning.specs.Exporting.{exported};
+ghost use Rattle.aml_laws.specs.HandedBack.{ComesBack, elements_of};
+
+/// What is handed in is handed out as it was, to its last element: integers that fit the width, texts, bytes, packages
+/// of these, and paths at which a name stands that is no alias. It costs a step for each element, and changes nothing.
+/// The numbers of declarations are apart, as they are in each world that evaluations make of the predefined names.
+/// Elements in another order or left out, a text that is handed out as bytes, and a reference that finds another name
+/// are refused by this.
+#[tactic(auto, using(crate::proofs::HandedBack::handed_back))]
+pub fn what_is_handed_in_is_handed_out_as_it_was<S>()
+    ensures same { (accesses : Accesses S) (g : Given) (v : Value) (w after : State S) (steps rest : ℕ) →
+        Numbered w.names → ComesBack w.width w.names.map g → imported g w ≡ (Ok v, after) →
+        steps ≡ elements_of g + rest → exported accesses v (after, steps) ≡ (Ok g, (after, rest)) }
+{}

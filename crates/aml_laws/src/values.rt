@@ -1,0 +1,68 @@
+//! Conversions, comparisons and what two values are joined to.
+ghost use Rattle.std.specs.Prelude.{◌≡◌, ◌<◌, ◌^◌, ◌++◌, ◌∷◌, [], ℕ, List, Ok};
+ghost use Rattle.std.specs.Int.Digits.{digits_of};
+ghost use Rattle.std.specs.declared.cmp.Ordering.TheVariants.{Less};
+ghost use Rattle.ar_space.specs.declared.integer_width.IntegerWidth.{IntegerWidth};
+ghost use Rattle.acpi_resources.specs.Items.{items_of};
+ghost use Rattle.aml_objects.specs.Contents.{Integer, String, Buffer};
+ghost use Rattle.aml_convert.specs.Integers.{bits_of};
+ghost use Rattle.aml_convert.specs.Conversions.{to_integer_of, to_text_of, explicit_integer_of, compared};
+ghost use Rattle.aml_convert.specs.Strings.{decimal_string_of};
+ghost use Rattle.aml_convert.specs.Decimals.{coded_decimal, decoded_decimal};
+ghost use Rattle.aml_convert.specs.Concatenation.{resources_joined};
+ghost use Rattle.aml_laws.specs.Ordered.{IsTotal};
+ghost use Rattle.aml_laws.specs.ResourceLists.{before_end_tag, end_tag};
+
+/// An integer of a width is read back from the string that it is converted to, by its hexadecimal digits, and by
+/// ToInteger from what ToDecimalString gives. Digits in the wrong order, too few of them, or digits that are read in
+/// another base are refused by this.
+#[tactic(auto, using(crate::proofs::IntegersInStrings::text_reads_back, crate::proofs::IntegersInStrings::decimal_reads_back))]
+pub fn an_integer_is_read_back_from_its_string()
+    ensures hexadecimal { (width : IntegerWidth) (n : ℕ) (text : List ℕ) → n < 2 ^ bits_of width →
+        to_text_of width (Integer n) ≡ Ok text → to_integer_of width (String text) ≡ Ok n }
+    ensures decimal { (width : IntegerWidth) (n : ℕ) (text : List ℕ) → n < 2 ^ bits_of width →
+        decimal_string_of (Integer n) ≡ Ok text → explicit_integer_of width (String text) ≡ Ok n }
+{}
+
+/// Two values of one type are in a total order: integers by their size, strings and buffers by the first byte in which
+/// they differ, and one that another goes on from comes before it. Orders that are turned round, that stop at the
+/// shorter length, or that call different values equal are refused by this.
+#[tactic(auto, using(crate::proofs::OrderedValues::integers_are_ordered, crate::proofs::OrderedValues::strings_are_ordered, crate::proofs::OrderedValues::buffers_are_ordered, crate::proofs::OrderedValues::lesser_integer, crate::proofs::OrderedValues::lesser_string, crate::proofs::OrderedValues::shorter_string, crate::proofs::OrderedValues::lesser_buffer, crate::proofs::OrderedValues::shorter_buffer))]
+pub fn values_of_one_type_are_in_a_total_order()
+    ensures integers { (width : IntegerWidth) → IsTotal (λ n m. compared width (Integer n) (Integer m)) }
+    ensures strings { (width : IntegerWidth) → IsTotal (λ s t. compared width (String s) (String t)) }
+    ensures buffers { (width : IntegerWidth) → IsTotal (λ s t. compared width (Buffer s) (Buffer t)) }
+    ensures lesser_integer { (width : IntegerWidth) (n m : ℕ) → n < m →
+        compared width (Integer n) (Integer m) ≡ Ok Less }
+    ensures lesser_string { (width : IntegerWidth) (front : List ℕ) (a b : ℕ) (s t : List ℕ) → a < b →
+        compared width (String (front ++ a ∷ s)) (String (front ++ b ∷ t)) ≡ Ok Less }
+    ensures shorter_string { (width : IntegerWidth) (front : List ℕ) (a : ℕ) (s : List ℕ) →
+        compared width (String front) (String (front ++ a ∷ s)) ≡ Ok Less }
+    ensures lesser_buffer { (width : IntegerWidth) (front : List ℕ) (a b : ℕ) (s t : List ℕ) → a < b →
+        compared width (Buffer (front ++ a ∷ s)) (Buffer (front ++ b ∷ t)) ≡ Ok Less }
+    ensures shorter_buffer { (width : IntegerWidth) (front : List ℕ) (a : ℕ) (s : List ℕ) →
+        compared width (Buffer front) (Buffer (front ++ a ∷ s)) ≡ Ok Less }
+{}
+
+/// The hexadecimal digits of a number in binary coded decimal are the decimal digits of the number, so that ToBCD and
+/// FromBCD undo each other where both answer. Digits that are turned round, or that are read in the other base, are
+/// refused by this.
+#[tactic(auto, using(crate::proofs::DecimalCodes::coded_has_digits, crate::proofs::DecimalCodes::decoded_has_digits, crate::proofs::DecimalCodes::coded_decodes, crate::proofs::DecimalCodes::decoded_codes))]
+pub fn binary_coded_decimal_has_the_decimal_digits()
+    ensures coded { (width : IntegerWidth) (n code : ℕ) → coded_decimal width n ≡ Ok code →
+        digits_of 16 code ≡ digits_of 10 n }
+    ensures decoded { (code n : ℕ) → decoded_decimal code ≡ Ok n → digits_of 10 n ≡ digits_of 16 code }
+    ensures coded_and_decoded { (width : IntegerWidth) (n code : ℕ) → coded_decimal width n ≡ Ok code →
+        decoded_decimal code ≡ Ok n }
+    ensures decoded_and_coded { (width : IntegerWidth) (code n again : ℕ) → decoded_decimal code ≡ Ok n →
+        coded_decimal width n ≡ Ok again → again ≡ code }
+{}
+
+/// Two buffers of resource items are joined to the items of the first before its end tag, those of the second before
+/// its own, and one end tag. An end tag that is left in the middle, or items that are cut at the wrong byte, are
+/// refused by this.
+#[tactic(auto, using(crate::proofs::JoinedResources::joined_items))]
+pub fn joined_resources_have_the_items_of_both()
+    ensures items { (first second joined : List ℕ) → resources_joined (Buffer first) (Buffer second) ≡ Ok joined →
+        items_of joined ≡ before_end_tag (items_of first) ++ before_end_tag (items_of second) ++ end_tag ∷ [] }
+{}
