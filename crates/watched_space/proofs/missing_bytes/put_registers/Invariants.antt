@@ -1,0 +1,6 @@
+use Rattle.std.proofs.Common.{◌≡◌, ◌++◌, map, take}
+use Rattle.watched_space.specs.MissingPlaces.{register_place}
+use Rattle.watched_space.proofs.missing_bytes.put_registers.Given as goal
+
+abbrev pub invariant-loop-entry : goal.invariant-loop-entry
+invariant-loop-entry l = l.places.items ≡ l.fn.places.items ++ map register_place (take l.entry-index l.entries)

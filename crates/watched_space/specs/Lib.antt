@@ -1,0 +1,4 @@
+pub mod Watching
+pub mod NumberedBytes
+pub mod MissingPlaces
+pub mod Filling
