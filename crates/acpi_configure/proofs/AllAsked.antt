@@ -152,7 +152,7 @@ module _ {S : Type 0} (accesses : Accesses S) (o : RunOptions) (before after : M
         let own : Contains is.found.asked (record { path = device; state = Now (Some ns) }) = subst (λ (a : AfterState). Contains is.found.asked (record { path = device; state = a })) says asked in
         let spared : SparedDevice = record { device = device; interrupts = ns } in
         let line : 0 < length ns → Contains (spared_devices r.options) spared = λ some.
-            subst (λ (q : Option ReportedOptions). Contains (spared_devices q) spared) (sym told_options) (kept_by spared_line is.found.asked (record { path = device; state = Now (Some ns) }) spared own (has_interrupts device ns some)) in
+        subst (λ (q : Option ReportedOptions). Contains (spared_devices q) spared) (sym told_options) (kept_by spared_line is.found.asked (record { path = device; state = Now (Some ns) }) spared own (has_interrupts device ns some)) in
         record {
           line = line;
           avoided = λ n c. spared_barred r.avoid r.options spared n (line (some_element n ns c)) c;
@@ -219,12 +219,12 @@ module _ {S : Type 0} (accesses : Accesses S) where
           between = a.1;
           is_gathered = a.3;
           each = λ device there beside.
-            let p = parted device others (passed_by (λ q. not (is_link a.0.links q)) (devices a.1) device there (ap not beside)) in
-            record {
-              earlier = p.0;
-              later = p.1;
-              among = p.2;
-              told = is_told accesses o before after r is spare a.1 a.2 p.0 p.1 device (ap (λ ds. devices_asked accesses ds a.1) (sym p.2) ∙ a.4);
-            };
+              let p = parted device others (passed_by (λ q. not (is_link a.0.links q)) (devices a.1) device there (ap not beside)) in
+              record {
+                earlier = p.0;
+                later = p.1;
+                among = p.2;
+                told = is_told accesses o before after r is spare a.1 a.2 p.0 p.1 device (ap (λ ds. devices_asked accesses ds a.1) (sym p.2) ∙ a.4);
+              };
           alone = paths_asked others [] is.found.asked a.1 a.2 a.4;
         }
