@@ -3,7 +3,8 @@
 
 Each refusal and each flaw of a report has to have one row there, with its number and its name. A refusal's row also says by which
 definitions, functions or constants it is given, in three files at most: each file has to exist, and what is named has to stand there
-and to name the refusal. What is missing, too much or wrong is printed, and the exit status is then 1."""
+and to name the refusal. The table of help in crates/acpi_explain has to have just the refusals, by number and name. What is missing,
+too much or wrong is printed, and the exit status is then 1."""
 import os
 import re
 import sys
@@ -11,6 +12,7 @@ import sys
 from pages import TOP, block, compare, text_of
 
 PAGE = "docs/REFUSALS.md"
+HELP = "crates/acpi_explain/src/help.rt"
 MOST_FILES = 3
 
 
@@ -49,6 +51,22 @@ def faults_of_row(number, name, cell):
                 yield f"the row {number} {name}: {giver} in {file} doesn't name {name}"
 
 
+def helped():
+    """The number, the name and the help of each refusal that has a line of help."""
+    rows = re.findall(r'number: (\d+),\s+name: "(\w+)",\s+help: "([^"]*)"', text_of(HELP))
+    return [(int(number), name, text) for number, name, text in rows]
+
+
+def faults_of_help(refusals, rows):
+    """What is wrong with the lines of help: each refusal has to have one, in the order of the numbers."""
+    if [row[:2] for row in rows] != sorted(refusals):
+        wrong = set(sorted(refusals)) ^ {row[:2] for row in rows}
+        yield f"{HELP} hasn't just the refusals in the order of their numbers: {sorted(wrong)}"
+    for number, name, text in rows:
+        if not text or len(text) > 160:
+            yield f"{HELP}: the help of {number} {name} is empty or too long"
+
+
 def faults(refusals, flaws, rows):
     found = [row[:2] for row in rows]
     for number, name in sorted(refusals + flaws):
@@ -62,4 +80,4 @@ def faults(refusals, flaws, rows):
 
 
 if __name__ == "__main__":
-    sys.exit(compare(__doc__, PAGE, lambda: faults(*in_sources(), on_page())))
+    sys.exit(compare(__doc__, PAGE, lambda: [*faults(*in_sources(), on_page()), *faults_of_help(in_sources()[0], helped())]))

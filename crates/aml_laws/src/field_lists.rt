@@ -11,8 +11,8 @@ ghost use Rattle.aml_laws.specs.FieldLists.{AreNamed, InOrder, AllStand};
 
 /// A list of fields that isn't refused leaves a field for each of its elements that have a name, at the path that the
 /// name stands for and of as many bits as the element says; each begins where the one before it ends, or behind that,
-/// so that no two share a bit. An offset that is counted in bytes, that forgets what is reserved, or that begins anew,
-/// is refused by this.
+/// so that no two share a bit. An offset that begins anew, or that goes back, is refused by this; how far apart fields
+/// are, it doesn't say.
 #[tactic(auto, using(crate::proofs::FieldsInOrder::fields_in_order))]
 pub fn fields_of_a_list_are_in_order<S>()
     ensures in_order { (group : FieldGroup) (scope : List Seg) (depth : ℕ) (ts : Trees) (at : FieldLayout)

@@ -1,5 +1,6 @@
 //! The bytes that a register space was asked for and doesn't have.
-ghost use Rattle.std.specs.Prelude.{◌≡◌, ◌++◌, IfOk, OnOk, map};
+ghost use Rattle.std.specs.Prelude.{◌≡◌, ◌++◌, IfOk, IfErr, OnOk, map};
+ghost use Rattle.ar_space.specs.declared.refusal.Refusal.TheVariants.{OutOfMemory};
 ghost use Rattle.ar_space.specs.Registers.{counted};
 ghost use Rattle.watched_space.specs.MissingPlaces.{no_missing, missing_read, missing_written, missing_places};
 ghost use Rattle.watched_space.specs.MissingPlaces.{memory_place, port_place, register_place};
@@ -93,7 +94,8 @@ fn put_registers(places: &mut Vec<Place>, entries: &[(u64, u8)]) -> Result<(), A
 impl MissingBytes {
     /// No bytes, and room for all that there may be.
     pub fn new(alloc: Global) -> Result<MissingBytes, Refusal>
-        ensures { IfOk result (λ m. m ≡ no_missing) }
+        ensures none { IfOk result (λ m. m ≡ no_missing) }
+        ensures memory { IfErr result (λ refusal. refusal ≡ OutOfMemory) }
     {
         Ok(MissingBytes {
             memory: Zeros::new(alloc)?,
@@ -105,7 +107,8 @@ impl MissingBytes {
     /// The places of the bytes, each once, in ascending order: memory, then ports, then configuration registers by
     /// function.
     pub fn places(&self, alloc: Global) -> Result<Vec<Place>, Refusal>
-        ensures { IfOk result (λ places. places.items ≡ missing_places self.now) }
+        ensures places { IfOk result (λ places. places.items ≡ missing_places self.now) }
+        ensures memory { IfErr result (λ refusal. refusal ≡ OutOfMemory) }
     {
         let mut places = Vec::new(alloc);
         put_memory(&mut places, self.memory.entries())?;
