@@ -6,10 +6,10 @@ ghost use Rattle.aml_meaning.specs.Given.{given_of};
 ghost use Rattle.aml_meaning.specs.Readings.{absolute};
 ghost use Rattle.aml_meaning.specs.Invocations.{invocation_found};
 ghost use Rattle.aml_meaning.specs.Calling.{called, counted, evaluated, with_rest, with_steps, answer_exported};
-ghost use Rattle.aml_meaning.specs.Calling.{answered, value_of};
+ghost use Rattle.aml_meaning.specs.Calling.{answered, invocation_exported, value_of};
 
 use crate::export::exported;
-use crate::fields::field_value;
+use crate::fields::{field_given, field_value};
 use aml_frames::call_method;
 use aml_meaning::{Datum, Invocation, Running, World, WorldState};
 use aml_objects::Value;
@@ -106,8 +106,26 @@ fn answer_exported<S: Space>(
 {
     let invocation = invocation(alloc, &run.world, path, arguments.len())?;
     let values = run.world.import_all(alloc, arguments)?;
-    let value = value_of(alloc, run, invocation, &values)?;
-    exported(alloc, run, value)
+    invocation_exported(alloc, run, invocation, &values)
+}
+
+/// What the object at a path gives, handed out: the bits of a field as they are, and of any other its value.
+#[tactic(auto, using(aml_meaning::proofs::Runs::calling))]
+fn invocation_exported<S: Space>(
+    alloc: Global,
+    run: &mut Running<S>,
+    invocation: Invocation,
+    arguments: &[Value],
+) -> Result<Datum, Refusal>
+    ensures { Does (seen given_of result) run.new (invocation_exported S.accesses invocation arguments.now) run.old }
+{
+    match invocation {
+        Invocation::Field(field) => field_given(alloc, run, CALLS_OF_A_FIELD, field),
+        other => {
+            let value = value_of(alloc, run, other, arguments)?;
+            exported(alloc, run, value)
+        }
+    }
 }
 
 /// The value of the object at a path, with these arguments.

@@ -25,10 +25,10 @@ use Rattle.aml_meaning.specs.Run.{Run}
 use Rattle.aml_meaning.specs.Slots.{opened, closed}
 use Rattle.aml_meaning.specs.Importing.{reference_to, imported_by, each_imported, elements_imported, package_imported, taken_back, imported, all_imported}
 use Rattle.aml_meaning.specs.Exporting.{text_exported, bytes_exported, path_of, reference_exported, name_use, value_exported, use_exported, name_exported, held_exported, element_exported, each_exported, elements_exported, package_exported, exported}
-use Rattle.aml_meaning.specs.Calling.{released, ending, with_steps, framed, in_frame, terms_kept, table_terms, at_root, table_run, loaded, value_of, called, with_rest, counted, evaluated, answer_exported, answered}
+use Rattle.aml_meaning.specs.Calling.{released, ending, with_steps, framed, in_frame, terms_kept, table_terms, at_root, table_run, loaded, value_of, called, with_rest, counted, evaluated, invocation_exported, answer_exported, answered}
 use Rattle.aml_meaning.specs.Meaning.{meaning}
 use Rattle.aml_laws.specs.Counted.{beside_counter, terms_begun, without_counter, counted_meaning}
-use Rattle.aml_laws.specs.CountedEvaluations.{counted_at_root, counted_table_run, counted_loaded, counted_value_of, counted_called, counted_evaluated, counted_use_exported, counted_held_exported, counted_element_exported, counted_each_exported, counted_elements_exported, counted_package_exported, counted_answer_exported, counted_answered}
+use Rattle.aml_laws.specs.CountedEvaluations.{counted_at_root, counted_table_run, counted_loaded, counted_value_of, counted_called, counted_evaluated, counted_use_exported, counted_held_exported, counted_element_exported, counted_each_exported, counted_elements_exported, counted_package_exported, counted_invocation_exported, counted_answer_exported, counted_answered}
 use Rattle.aml_laws.proofs.CountedChanges.{Counts, RunCounts, give_counts, stop_counts, then_counts, direct_counts, either_branch_counts, on_objects_counts, lift_counts, charge_counts}
 use Rattle.aml_laws.proofs.CountedOperations.{integer_kept_counts, entry_found_counts, osi_answered_counts, invocation_found_counts}
 use Rattle.aml_laws.proofs.CountedFields.{field_given_counts}
@@ -218,12 +218,18 @@ module _ {S : Type 0} (accesses : Accesses S) where
   unfolding counted_called called
   called_counts p arguments = then_counts _ _ _ _ (lift_counts _ _ (invocation_found_counts _ _ _)) (λ i. value_of_counts i arguments)
 
+  invocation_exported_counts : (i : Invocation) (vs : List Value) → RunCounts (counted_invocation_exported accesses i vs) (invocation_exported accesses i vs)
+  unfolding exported
+  invocation_exported_counts (invocation.Value v) vs = then_counts _ _ _ _ (value_of_counts (invocation.Value v) vs) (value_exported_counts _ _ (package_exported_counts 64))
+  invocation_exported_counts (invocation.Field f) vs = field_given_counts accesses _ _ (called_at_counts accesses (counted_meaning accesses) (meaning accesses) (meaning_counts accesses) 1) f
+  invocation_exported_counts (invocation.Method p body) vs = then_counts _ _ _ _ (value_of_counts (invocation.Method p body) vs) (value_exported_counts _ _ (package_exported_counts 64))
+  invocation_exported_counts invocation.Osi vs = then_counts _ _ _ _ (value_of_counts invocation.Osi vs) (value_exported_counts _ _ (package_exported_counts 64))
+
   answer_exported_counts : (p : List Seg) (count : ℕ) (arguments : List given.Given) → RunCounts (counted_answer_exported accesses p count arguments) (answer_exported accesses p count arguments)
-  unfolding counted_answer_exported answer_exported exported
+  unfolding counted_answer_exported answer_exported
   answer_exported_counts p count arguments =
       then_counts _ _ _ _ (lift_counts _ _ (invocation_found_counts _ _ _)) (λ i.
-      then_counts _ _ _ _ (lift_counts _ _ (all_imported_counts arguments [])) (λ vs.
-      then_counts _ _ _ _ (value_of_counts i vs) (value_exported_counts _ _ (package_exported_counts 64))))
+      then_counts _ _ _ _ (lift_counts _ _ (all_imported_counts arguments [])) (λ vs. invocation_exported_counts i vs))
 
   at_root_counts : (ts : Trees) → RunCounts (counted_at_root accesses ts) (at_root accesses ts)
   unfolding counted_at_root at_root

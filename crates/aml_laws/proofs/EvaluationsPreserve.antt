@@ -13,8 +13,10 @@ use Rattle.aml_meaning.specs.declared.invocation.Invocation.TheVariants as invoc
 use Rattle.aml_meaning.specs.Given.{Given}
 use Rattle.aml_meaning.specs.State.{State}
 use Rattle.aml_meaning.specs.Predefined as predefined
-use Rattle.aml_meaning.specs.Calling.{terms_kept, table_terms, at_root, table_run, loaded, value_of, called, evaluated, answer_exported, answered}
+use Rattle.aml_meaning.specs.Calling.{terms_kept, table_terms, at_root, table_run, loaded, value_of, called, evaluated, invocation_exported, answer_exported, answered}
 use Rattle.aml_laws.specs.Becomes.{Becomes, same, term, list, table, value, answer}
+use Rattle.aml_laws.proofs.FieldsPreserve.{field_given_preserves}
+use Rattle.aml_laws.proofs.OperandsAndCallsPreserve.{called_at_preserves}
 use Rattle.aml_laws.proofs.ObjectKinds.{make_string_keeps_kinds}
 use Rattle.aml_laws.proofs.WorldRelations.{WorldRelation, Preserves, RunPreserves, RunPreservesFrom, CalledMethodStands, settle_preserves, then_preserves, on_objects_preserves, declared_preserves, in_frame_preserves, with_steps_preserves, counted_preserves, ending_preserves, run_give_preserves, lift_preserves, run_then_preserves, found_then_preserves, run_preserves_from, then_preserves_from}
 use Rattle.aml_laws.proofs.ChangesPreserve.{invocation_found_finds_invocation, osi_answered_preserves}
@@ -61,10 +63,16 @@ module _ {S : Type 0} {accesses : Accesses S} {relation : WorldRelation accesses
   unfolding evaluated
   evaluated_preserves p arguments steps = counted_preserves steps _ (called_preserves p arguments)
 
+  invocation_exported_preserves_from : (u : State S) (i : Invocation) (arguments : List Value) → CalledMethodStands u i → RunPreservesFrom relation u (invocation_exported accesses i arguments)
+  invocation_exported_preserves_from u (invocations.Value v) arguments at = then_preserves_from u _ _ (value_of_preserves_from u (invocations.Value v) arguments at) (λ v. run_preserves_from u _ (exported_preserves v))
+  invocation_exported_preserves_from u (invocations.Field f) arguments at = run_preserves_from u _ (field_given_preserves _ (called_at_preserves _ meaning_preserves 1) f)
+  invocation_exported_preserves_from u (invocations.Method q body) arguments at = then_preserves_from u _ _ (value_of_preserves_from u (invocations.Method q body) arguments at) (λ v. run_preserves_from u _ (exported_preserves v))
+  invocation_exported_preserves_from u invocations.Osi arguments at = then_preserves_from u _ _ (value_of_preserves_from u invocations.Osi arguments at) (λ v. run_preserves_from u _ (exported_preserves v))
+
   answer_exported_preserves : (p : List Seg) (count : ℕ) (arguments : List Given) → RunPreserves relation (answer_exported accesses p count arguments)
   unfolding answer_exported
   answer_exported_preserves p count arguments =
-      found_then_preserves _ _ (invocation_found_finds_invocation _ _ _) (λ u i at. then_preserves_from u _ _ (run_preserves_from u _ (lift_preserves _ (all_imported_preserves arguments []))) (λ vs. then_preserves_from u _ _ (value_of_preserves_from u i vs at) (λ v. run_preserves_from u _ (exported_preserves v))))
+      found_then_preserves _ _ (invocation_found_finds_invocation _ _ _) (λ u i at. then_preserves_from u _ _ (run_preserves_from u _ (lift_preserves _ (all_imported_preserves arguments []))) (λ vs. invocation_exported_preserves_from u i vs at))
 
   pub answered_preserves : (p : List Seg) (arguments : List Given) (steps : ℕ) → Preserves relation (answered accesses p arguments steps)
   unfolding answered

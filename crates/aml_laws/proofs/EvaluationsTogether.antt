@@ -14,7 +14,9 @@ use Rattle.aml_meaning.specs.Given.{Given}
 use Rattle.aml_meaning.specs.declared.profile.Profile.{Profile}
 use Rattle.aml_meaning.specs.State.{State}
 use Rattle.aml_meaning.specs.Predefined as predefined
-use Rattle.aml_meaning.specs.Calling.{terms_kept, table_terms, at_root, table_run, loaded, value_of, called, evaluated, answer_exported, answered}
+use Rattle.aml_meaning.specs.Calling.{terms_kept, table_terms, at_root, table_run, loaded, value_of, called, evaluated, invocation_exported, answer_exported, answered}
+use Rattle.aml_laws.proofs.FieldsTogether.{field_given_together}
+use Rattle.aml_laws.proofs.OperandsTogether.{called_at_together}
 use Rattle.aml_laws.proofs.Together.{Sides, Together, give_together, plain, settle_together, then_together}
 use Rattle.aml_laws.proofs.WorldsTogether.{counted_together, ending_together, in_frame_together, lift_together, names_together, objects_together, runs, with_steps_together, world_over, worlds}
 use Rattle.aml_laws.proofs.ChangesTogether.{invocation_found_together, osi_answered_together}
@@ -66,10 +68,16 @@ module _ {S T : Type 0} {accesses : Accesses S} {accesses2 : Accesses T} {side :
   unfolding evaluated
   evaluated_together same p arguments steps = counted_together same steps (called_together p arguments)
 
+  invocation_exported_together : (i : Invocation) (arguments : List Value) → Together side runs (invocation_exported accesses i arguments) (invocation_exported accesses2 i arguments)
+  invocation_exported_together (invocations.Value v) arguments = then_together (value_of_together (invocations.Value v) arguments) (λ v. exported_together v)
+  invocation_exported_together (invocations.Field f) arguments = field_given_together (called_at_together meaning_together 1) f
+  invocation_exported_together (invocations.Method q body) arguments = then_together (value_of_together (invocations.Method q body) arguments) (λ v. exported_together v)
+  invocation_exported_together invocations.Osi arguments = then_together (value_of_together invocations.Osi arguments) (λ v. exported_together v)
+
   answer_exported_together : (p : List Seg) (count : ℕ) (arguments : List Given) → Together side runs (answer_exported accesses p count arguments) (answer_exported accesses2 p count arguments)
   unfolding answer_exported
   answer_exported_together p count arguments =
-      then_together (lift_together (invocation_found_together _ _ _)) (λ i. then_together (lift_together (all_imported_together arguments [])) (λ vs. then_together (value_of_together i vs) (λ v. exported_together v)))
+      then_together (lift_together (invocation_found_together _ _ _)) (λ i. then_together (lift_together (all_imported_together arguments [])) (λ vs. invocation_exported_together i vs))
 
   pub answered_together : (p : List Seg) (arguments : List Given) (steps : ℕ) → Together side worlds (answered accesses p arguments steps) (answered accesses2 p arguments (side.more steps))
   unfolding answered

@@ -15,7 +15,7 @@ use Rattle.aml_objects.specs.declared.value.Reference.{Reference}
 use Rattle.aml_objects.specs.declared.value.Value.TheVariants as value
 use Rattle.aml_objects.specs.declared.value.Value.{Value}
 use Rattle.aml_namespace.specs.Search.{found}
-use Rattle.aml_meaning.specs.Calling.{answer_exported, answered, at_root, called, counted, ending, evaluated, framed, in_frame, loaded, table_run, table_terms, terms_kept, value_of, with_rest, with_steps}
+use Rattle.aml_meaning.specs.Calling.{answer_exported, answered, invocation_exported, at_root, called, counted, ending, evaluated, framed, in_frame, loaded, table_run, table_terms, terms_kept, value_of, with_rest, with_steps}
 use Rattle.aml_meaning.specs.Exporting.{bytes_exported, each_exported, element_exported, elements_exported, exported, held_exported, name_exported, name_use, package_exported, path_of, reference_exported, text_exported, use_exported, value_exported}
 use Rattle.aml_meaning.specs.Given as given
 use Rattle.aml_meaning.specs.Importing.{all_imported, each_imported, elements_imported, imported, imported_by, package_imported, reference_to, taken_back}
@@ -173,12 +173,18 @@ module _ {S : Type 0} (accesses : Accesses S) where
   value_of_explains (invocation.Method p body) vs = method_value_explains accesses (meaning accesses) (meaning_explains accesses) 0 p body vs
   value_of_explains invocation.Osi vs = lift_explains _ (osi_answered_explains vs)
 
+  invocation_exported_explains : (i : Invocation) (vs : List Value) → RunExplains accesses (invocation_exported accesses i vs)
+  unfolding exported
+  invocation_exported_explains (invocation.Value v) vs = then_explains _ _ (value_of_explains (invocation.Value v) vs) (value_exported_explains _ (package_exported_explains 64))
+  invocation_exported_explains (invocation.Field f) vs = field_given_explains accesses _ (called_at_explains accesses (meaning accesses) (meaning_explains accesses) 1) f
+  invocation_exported_explains (invocation.Method p body) vs = then_explains _ _ (value_of_explains (invocation.Method p body) vs) (value_exported_explains _ (package_exported_explains 64))
+  invocation_exported_explains invocation.Osi vs = then_explains _ _ (value_of_explains invocation.Osi vs) (value_exported_explains _ (package_exported_explains 64))
+
   pub answer_exported_explains : (p : List Seg) (count : ℕ) (arguments : List given.Given) → RunExplains accesses (answer_exported accesses p count arguments)
-  unfolding answer_exported exported
+  unfolding answer_exported
   answer_exported_explains p count arguments =
       then_explains _ _ (lift_explains _ (invocation_found_explains _ _ _)) (λ i.
-      then_explains _ _ (lift_explains _ (all_imported_explains arguments [])) (λ vs.
-      then_explains _ _ (value_of_explains i vs) (value_exported_explains _ (package_exported_explains 64))))
+      then_explains _ _ (lift_explains _ (all_imported_explains arguments [])) (λ vs. invocation_exported_explains i vs))
 
   pub at_root_explains : (ts : Trees) → RunExplains accesses (at_root accesses ts)
   unfolding at_root

@@ -18,6 +18,8 @@ use Rattle.aml_objects.specs.declared.entry.NamedObject.TheVariants as object
 use Rattle.aml_convert.specs.Integers.{bits_of}
 use Rattle.aml_namespace.specs.Namespace.{numbered}
 use Rattle.aml_namespace.specs.Search.{Found, found}
+use Rattle.aml_meaning.specs.declared.invocation.Invocation.{Invocation}
+use Rattle.aml_meaning.specs.declared.invocation.Invocation.TheVariants as invocations
 use Rattle.aml_meaning.specs.declared.name_use.NameUse.{NameUse}
 use Rattle.aml_meaning.specs.declared.name_use.NameUse.TheVariants as uses
 use Rattle.aml_meaning.specs.Given.{Given, Nothing, Integer, Text, Bytes, Package, Named, Reference as Unnamed, Givens, none, more, givens}
@@ -27,7 +29,7 @@ use Rattle.aml_meaning.specs.Readings.{absolute}
 use Rattle.aml_meaning.specs.Meaning.{meaning}
 use Rattle.aml_meaning.specs.Importing.{reference_to, imported_by, each_imported, elements_imported, package_imported, taken_back, imported, all_imported}
 use Rattle.aml_meaning.specs.Exporting.{text_exported, bytes_exported, standing, path_of, reference_exported, value_or_path, held_or_path, use_of, name_use, value_exported, use_exported, name_exported, held_exported, element_exported, each_exported, elements_exported, package_exported, exported}
-use Rattle.aml_meaning.specs.Calling.{ending, with_steps, answer_exported, answered}
+use Rattle.aml_meaning.specs.Calling.{ending, with_steps, invocation_exported, answer_exported, answered}
 use Rattle.aml_objects.specs.Fields.{bits_of_field}
 use Rattle.aml_laws.specs.Within.{WithinWidth}
 use Rattle.aml_laws.specs.AllWithin.{Each, ElementFits, ObjectFits, NamedFits, FewBits, AllWithin}
@@ -37,7 +39,7 @@ use Rattle.aml_laws.proofs.Invariants.{Maintained, Maintains, ok_fits, ok_mainta
 use Rattle.aml_laws.proofs.IntegersOfObjects.{make_string_maintains, make_buffer_maintains, make_package_maintains, string_at_maintains, buffer_at_maintains, elements_at_maintains}
 use Rattle.aml_laws.proofs.IntegersOfWorlds.{WorldWithin, on_objects_maintains, integer_kept_maintains, entry_found_maintains}
 use Rattle.aml_laws.proofs.IntegersOfFields.{RunWithin, lift_maintains, charge_maintains}
-use Rattle.aml_laws.proofs.IntegersOfOperands.{invocation_found_maintains, called_field_given_maintains, any_value_maintains}
+use Rattle.aml_laws.proofs.IntegersOfOperands.{InvocationFits, invocation_found_maintains, called_field_given_maintains, any_value_maintains}
 use Rattle.aml_laws.proofs.IntegersOfRules.{meaning_maintains}
 use Rattle.aml_laws.proofs.IntegersOfTables.{ending_maintains, with_steps_maintains, value_of_maintains}
 
@@ -193,10 +195,16 @@ module _ (S : Type 0) (width : IntegerWidth) (accesses : Accesses S) where
   unfolding exported
   exported_maintains v f = value_exported_maintains (package_exported accesses 64) (package_exported_maintains 64) v f
 
+  invocation_exported_maintains : (i : Invocation) (vs : List Value) → InvocationFits width i → Each (WithinWidth width) vs → Maintains (RunWithin S width) (GivenWithin width) (invocation_exported accesses i vs)
+  invocation_exported_maintains (invocations.Value v) vs f g = then_maintains _ _ (value_of_maintains S width accesses (invocations.Value v) vs f g) (λ v k. exported_maintains v k)
+  invocation_exported_maintains (invocations.Field u) vs f g = called_field_given_maintains S width accesses (meaning accesses) (meaning_maintains S width accesses) 1 u f
+  invocation_exported_maintains (invocations.Method p body) vs f g = then_maintains _ _ (value_of_maintains S width accesses (invocations.Method p body) vs f g) (λ v k. exported_maintains v k)
+  invocation_exported_maintains invocations.Osi vs f g = then_maintains _ _ (value_of_maintains S width accesses invocations.Osi vs f g) (λ v k. exported_maintains v k)
+
   answer_exported_maintains : (p : List Seg) (count : ℕ) (arguments : List Given) → Each PlainGiven arguments → Maintains (RunWithin S width) (GivenWithin width) (answer_exported accesses p count arguments)
   unfolding answer_exported
   answer_exported_maintains p count arguments h =
-      then_maintains _ _ (lift_maintains S width _ (invocation_found_maintains S width _ _ _)) (λ i f. then_maintains _ _ (lift_maintains S width _ (all_imported_maintains S width arguments [] h tt)) (λ vs g. then_maintains _ _ (value_of_maintains S width accesses i vs f g) (λ v k. exported_maintains v k)))
+      then_maintains _ _ (lift_maintains S width _ (invocation_found_maintains S width _ _ _)) (λ i f. then_maintains _ _ (lift_maintains S width _ (all_imported_maintains S width arguments [] h tt)) (λ vs g. invocation_exported_maintains i vs f g))
 
 pub answer_within : {S : Type 0} (width : IntegerWidth) (accesses : Accesses S) (p : List Seg) (arguments : List Given) (steps : ℕ) (w : State S) → Each PlainGiven arguments → AllWithin width w → AllWithin width (answered accesses p arguments steps w).1
 unfolding answered

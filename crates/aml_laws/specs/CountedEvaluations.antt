@@ -96,12 +96,17 @@ unfoldable pub counted_package_exported : {S : Type 0} → Accesses S → ℕ �
 counted_package_exported accesses zero o = stop (refusal.Evaluation ObjectLimit)
 counted_package_exported accesses (suc n) o = counted_elements_exported accesses (counted_package_exported accesses n) o
 
+abbrev pub counted_invocation_exported : {S : Type 0} → Accesses S → Invocation → List Value → Run (S × ℕ) given.Given
+counted_invocation_exported accesses (invocation.Field f) arguments = field_given (beside_counter accesses) (called_at (beside_counter accesses) (counted_meaning accesses) 1) f
+counted_invocation_exported accesses i arguments = do
+  v ← counted_value_of accesses i arguments
+  value_exported (beside_counter accesses) (counted_package_exported accesses 64) v
+
 unfoldable pub counted_answer_exported : {S : Type 0} → Accesses S → List Seg → ℕ → List given.Given → Run (S × ℕ) given.Given
 counted_answer_exported accesses p count arguments = do
   i ← lift (invocation_found [] (absolute p) count)
   vs ← lift (all_imported arguments [])
-  v ← counted_value_of accesses i vs
-  value_exported (beside_counter accesses) (counted_package_exported accesses 64) v
+  counted_invocation_exported accesses i vs
 
 -- what the object at a path answers
 unfoldable pub counted_answered : {S : Type 0} → Accesses S → List Seg → List given.Given → ℕ → Change (State (S × ℕ)) given.Given

@@ -24,7 +24,7 @@ use Rattle.aml_meaning.specs.Osi.{osi_answered}
 use Rattle.aml_meaning.specs.FieldCalls.{field_read}
 use Rattle.aml_meaning.specs.Importing.{all_imported}
 use Rattle.aml_meaning.specs.Meaning.{meaning}
-use Rattle.aml_meaning.specs.Exporting.{exported}
+use Rattle.aml_meaning.specs.Exporting.{exported, field_exported}
 
 -- however an evaluation ended, all mutexes are free after it
 abbrev pub released : {S : Type 0} → State S → State S
@@ -92,13 +92,19 @@ counted steps m w = (with_rest (m (w, steps)).0 (m (w, steps)).1.1, (m (w, steps
 unfoldable pub evaluated : {S : Type 0} → Accesses S → List Seg → List Value → ℕ → Change (State S) (Value × ℕ)
 evaluated accesses p arguments steps = counted steps (called accesses p arguments)
 
+-- what the object at a path gives, handed out
+abbrev pub invocation_exported : {S : Type 0} → Accesses S → Invocation → List Value → Run S Given
+invocation_exported accesses (invocation.Field f) arguments = field_exported accesses f
+invocation_exported accesses i arguments = do
+  v ← value_of accesses i arguments
+  exported accesses v
+
 -- the value that is handed out, in the same steps; arguments are imported once they are as many as are wanted
 unfoldable pub answer_exported : {S : Type 0} → Accesses S → List Seg → ℕ → List Given → Run S Given
 answer_exported accesses p count arguments = do
   i ← lift (invocation_found [] (absolute p) count)
   vs ← lift (all_imported arguments [])
-  v ← value_of accesses i vs
-  exported accesses v
+  invocation_exported accesses i vs
 
 unfoldable pub answered : {S : Type 0} → Accesses S → List Seg → List Given → ℕ → Change (State S) Given
 answered accesses p arguments steps = ending (with_steps steps (answer_exported accesses p (length arguments) arguments))

@@ -77,6 +77,10 @@ use_of (Err x) found_at would_be = seen uses.Path would_be
 unfoldable pub name_use : {S : Type 0} → Name → List Seg → Change (State S) NameUse
 name_use n scope w = (use_of (seen (λ f. f.1) (found w.names.map scope n)) (seen (λ f. f.0) (found w.names.map scope n)) (resolved n scope), w)
 
+-- a field is read as in a call of its own; its bits are handed out as they are, so no object is made of them
+abbrev pub field_exported : {S : Type 0} → Accesses S → Field → Run S given.Given
+field_exported accesses f = field_given accesses (called_at accesses (meaning accesses) 1) f
+
 -- accesses: what the register space makes of them
 module _ {S : Type 0} (accesses : Accesses S) (package_exported : ℕ → Run S given.Given) where
   unfoldable pub value_exported : Value → Run S given.Given
@@ -87,13 +91,9 @@ module _ {S : Type 0} (accesses : Accesses S) (package_exported : ℕ → Run S 
   value_exported (value.Package o) = package_exported o
   value_exported (value.Reference r) = reference_exported r
 
-  -- a field is read as in a call of its own
-  abbrev pub field_exported : Field → Run S given.Given
-  field_exported f = field_given accesses (called_at accesses (meaning accesses) 1) f
-
   unfoldable pub use_exported : NameUse → Run S given.Given
   use_exported (uses.Value v) = value_exported v
-  use_exported (uses.Field f) = field_exported f
+  use_exported (uses.Field f) = field_exported accesses f
   use_exported (uses.Path p) = give (given.Named p)
 
   unfoldable pub name_exported : Name → List Seg → Run S given.Given
