@@ -1,4 +1,5 @@
-pub mod Watching
-pub mod NumberedBytes
-pub mod MissingPlaces
 pub mod Filling
+pub mod Metering
+pub mod MissingPlaces
+pub mod NumberedBytes
+pub mod Watching
