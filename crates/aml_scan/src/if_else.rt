@@ -6,7 +6,7 @@ ghost use Rattle.aml_grammar.specs.declared.context.Position.TheVariants as posi
 ghost use Rattle.aml_scan.specs.Scanned.{scanned};
 
 use crate::before::Before;
-use crate::positions::at_else;
+use crate::positions::{TermStart, at_else};
 use crate::reader::Reader;
 use crate::terms::{list_operand, row_operands};
 use aml_grammar::{ArgumentCounts, Context, Position, Row};
@@ -24,17 +24,15 @@ pub(crate) fn if_term<C: ArgumentCounts, B: Before>(
     alloc: Global,
     reader: &mut Reader<'_, C, B>,
     levels: usize,
-    scope: &Path,
-    context: Context,
-    start: usize,
+    start: TermStart<'_>,
     row: Row,
 ) -> Result<(), Refusal>
-    ensures reads { Does result reader.new
-        (scanned (if_term (term_at by_arities levels) scope.now context start row)) reader.old }
+    ensures reads { Does result reader.new (scanned (if_term (term_at by_arities levels)
+        start.entry.scope.now start.entry.context start.entry.at row)) reader.old }
     ensures kept { OnOk result (length reader.new.rest ≤ length reader.old.rest) }
 {
-    row_operands(alloc, reader, levels, scope, context, start, row)?;
-    else_part(alloc, reader, levels, scope, context, start)
+    row_operands(alloc, reader, levels, start, row)?;
+    else_part(alloc, reader, levels, start)
 }
 
 #[cycle(scan)]
@@ -43,17 +41,21 @@ fn else_part<C: ArgumentCounts, B: Before>(
     alloc: Global,
     reader: &mut Reader<'_, C, B>,
     levels: usize,
-    scope: &Path,
-    context: Context,
-    start: usize,
+    start: TermStart<'_>,
 ) -> Result<(), Refusal>
-    ensures reads { Does result reader.new
-        (scanned (else_part (term_at by_arities levels) scope.now context start)) reader.old }
+    ensures reads { Does result reader.new (scanned (else_part (term_at by_arities levels)
+        start.entry.scope.now start.entry.context start.entry.at)) reader.old }
     ensures kept { OnOk result (length reader.new.rest ≤ length reader.old.rest) }
 {
     let here = reader.at();
     if reader.is_next(ELSE) {
-        else_term(alloc, reader, levels, scope, at_else(context, start, here))
+        else_term(
+            alloc,
+            reader,
+            levels,
+            start.scope,
+            at_else(start.context, start.at, here),
+        )
     } else {
         Ok(())
     }

@@ -11,6 +11,7 @@ ghost use Rattle.aml_scan.specs.Scanned.{kept, scanned};
 use crate::before::Before;
 use crate::declared_names::{declare, declare_earlier, declared_path};
 use crate::names::name_string;
+use crate::positions::TermStart;
 use crate::reader::Reader;
 use crate::skip_names::skip_name;
 use aml_grammar::{ArgumentCounts, Context, Earlier, OperandKind};
@@ -91,19 +92,18 @@ fn external_name<C: ArgumentCounts, B: Before>(
 fn declared_name<C: ArgumentCounts, B: Before>(
     alloc: Global,
     reader: &mut Reader<'_, C, B>,
-    scope: &Path,
-    context: Context,
-    start: usize,
+    start: TermStart<'_>,
     count: u8,
     earlier: &mut Earlier,
 ) -> Result<(), Refusal>
     ensures reads { Does (seen (λ _. earlier.new) result) reader.new
-        (kept (λ x. x.1) (declared_name scope.now context start count earlier.old)) reader.old }
+        (kept (λ x. x.1) (declared_name start.entry.scope.now start.entry.context start.entry.at count
+        earlier.old)) reader.old }
     ensures kept { OnOk result (length reader.new.rest ≤ length reader.old.rest) }
 {
     let name = name_string(alloc, reader)?;
-    let path = declared_path(alloc, scope, context, start, &name)?;
-    declare(alloc, reader, context, &path, count, false)?;
+    let path = declared_path(alloc, start.scope, start.context, start.at, &name)?;
+    declare(alloc, reader, start.context, &path, count, false)?;
     earlier.path = Some(path);
     Ok(())
 }
@@ -210,32 +210,29 @@ fn bytes_operand<C: ArgumentCounts, B: Before>(reader: &mut Reader<'_, C, B>) ->
 pub(crate) fn operand<C: ArgumentCounts, B: Before>(
     alloc: Global,
     reader: &mut Reader<'_, C, B>,
-    scope: &Path,
-    context: Context,
-    start: usize,
+    start: TermStart<'_>,
     kind: OperandKind,
     earlier: &mut Earlier,
 ) -> Result<(), Refusal>
     requires { holds_terms kind ≡ false }
     ensures reads { (inner_term : Inner) → Does (seen (λ _. earlier.new) result) reader.new
-        (kept (λ x. x.1) (operand inner_term scope.now context start kind earlier.old)) reader.old }
+        (kept (λ x. x.1) (operand inner_term start.entry.scope.now start.entry.context start.entry.at kind
+        earlier.old)) reader.old }
     ensures kept { OnOk result (length reader.new.rest ≤ length reader.old.rest) }
 {
     match kind {
         OperandKind::NameString => name_operand(reader),
-        OperandKind::ScopeName => scope_name(alloc, reader, scope, earlier),
-        OperandKind::AliasSource => alias_source(alloc, reader, scope, earlier),
+        OperandKind::ScopeName => scope_name(alloc, reader, start.scope, earlier),
+        OperandKind::AliasSource => alias_source(alloc, reader, start.scope, earlier),
         OperandKind::AliasName => {
             let count = earlier.count;
-            declared_name(alloc, reader, scope, context, start, count, earlier)
+            declared_name(alloc, reader, start, count, earlier)
         }
-        OperandKind::DeclaredName => declared_name(
-            alloc, reader, scope, context, start, 0, earlier,
-        ),
-        OperandKind::MethodFlags => method_flags(alloc, reader, context, earlier),
-        OperandKind::ExternalName => external_name(alloc, reader, scope, earlier),
+        OperandKind::DeclaredName => declared_name(alloc, reader, start, 0, earlier),
+        OperandKind::MethodFlags => method_flags(alloc, reader, start.context, earlier),
+        OperandKind::ExternalName => external_name(alloc, reader, start.scope, earlier),
         OperandKind::ObjectType => object_type(reader, earlier),
-        OperandKind::ArgumentCount => argument_count(alloc, reader, context, earlier),
+        OperandKind::ArgumentCount => argument_count(alloc, reader, start.context, earlier),
         OperandKind::ByteData => integer_operand(reader, 1),
         OperandKind::WordData => integer_operand(reader, 2),
         OperandKind::DWordData => integer_operand(reader, 4),

@@ -14,6 +14,17 @@ use aml_path::{NameString, Path};
 use ar_space::{Refusal, TermFault};
 use std::alloc::Global;
 
+/// Where a term begins that is gone over.
+#[derive(Clone, Copy)]
+pub(crate) struct TermStart<'a> {
+    /// The scope that it stands in.
+    pub(crate) scope: &'a Path,
+    /// What holds inside it.
+    pub(crate) context: Context,
+    /// The offset of its first byte.
+    pub(crate) at: usize,
+}
+
 /// Whether a term may stand in a position.
 fn stands(class: Class, position: Position, context: Context) -> bool
     ensures { result ≡ stands class position context }

@@ -15,8 +15,8 @@ use crate::names::{name_string, starts_name};
 use crate::operands as leaf;
 use crate::places::{fields_operand, simple_name, super_name, target};
 use crate::positions::{
-    argument_number, at_item, costs_no_level, in_loop, is_if, is_nothing, item_of, row_at,
-    takes_name,
+    TermStart, argument_number, at_item, costs_no_level, in_loop, is_if, is_nothing, item_of,
+    row_at, takes_name,
 };
 use crate::reader::Reader;
 use crate::skip_names::skip_name;
@@ -39,13 +39,17 @@ pub(crate) fn term<C: ArgumentCounts, B: Before>(
     ensures reads { Does result reader.new (scanned (term_at by_arities levels position scope.now context)) reader.old }
     ensures shorter { OnOk result (length reader.new.rest < length reader.old.rest) }
 {
-    let start = reader.at();
+    let at = reader.at();
     let next = reader.peek()?;
-    let inside = at_item(context, start);
+    let start = TermStart {
+        scope,
+        context: at_item(context, at),
+        at,
+    };
     if starts_name(next) {
-        named(alloc, reader, levels, position, scope, inside, start)
+        named(alloc, reader, levels, position, start)
     } else {
-        coded_term(alloc, reader, levels, position, scope, inside, start)
+        coded_term(alloc, reader, levels, position, start)
     }
 }
 
@@ -57,21 +61,19 @@ fn named<C: ArgumentCounts, B: Before>(
     reader: &mut Reader<'_, C, B>,
     levels: usize,
     position: Position,
-    scope: &Path,
-    context: Context,
-    start: usize,
+    start: TermStart<'_>,
 ) -> Result<(), Refusal>
-    ensures reads { Does result reader.new
-        (scanned (named by_arities (below by_arities levels) position scope.now context start)) reader.old }
+    ensures reads { Does result reader.new (scanned (named by_arities (below by_arities levels) position
+        start.entry.scope.now start.entry.context start.entry.at)) reader.old }
     ensures shorter { OnOk result (length reader.new.rest < length reader.old.rest) }
 {
     if !takes_name(position) {
-        return Err(Refusal::Term(TermFault::BadOpcode, start));
+        return Err(Refusal::Term(TermFault::BadOpcode, start.at));
     }
     if levels == 0 {
-        return Err(Refusal::Term(TermFault::TooDeep, item_of(context.item, start)));
+        return Err(Refusal::Term(TermFault::TooDeep, item_of(start.context.item, start.at)));
     }
-    named_term(alloc, reader, levels - 1, position, scope, context, start)
+    named_term(alloc, reader, levels - 1, position, start)
 }
 
 #[cycle(scan)]
@@ -81,17 +83,15 @@ fn named_term<C: ArgumentCounts, B: Before>(
     reader: &mut Reader<'_, C, B>,
     levels: usize,
     position: Position,
-    scope: &Path,
-    context: Context,
-    start: usize,
+    start: TermStart<'_>,
 ) -> Result<(), Refusal>
-    ensures reads { Does result reader.new
-        (scanned (named_term by_arities (term_at by_arities levels) position scope.now context start)) reader.old }
+    ensures reads { Does result reader.new (scanned (named_term by_arities (term_at by_arities levels) position
+        start.entry.scope.now start.entry.context start.entry.at)) reader.old }
     ensures shorter { OnOk result (length reader.new.rest < length reader.old.rest) }
 {
     match position {
         Position::PackageElement => element_name(reader),
-        _ => invocation(alloc, reader, levels, scope, context, start),
+        _ => invocation(alloc, reader, levels, start),
     }
 }
 
@@ -112,18 +112,16 @@ fn invocation<C: ArgumentCounts, B: Before>(
     alloc: Global,
     reader: &mut Reader<'_, C, B>,
     levels: usize,
-    scope: &Path,
-    context: Context,
-    start: usize,
+    start: TermStart<'_>,
 ) -> Result<(), Refusal>
-    ensures reads { Does result reader.new
-        (scanned (invocation by_arities (term_at by_arities levels) scope.now context start)) reader.old }
+    ensures reads { Does result reader.new (scanned (invocation by_arities (term_at by_arities levels)
+        start.entry.scope.now start.entry.context start.entry.at)) reader.old }
     ensures shorter { OnOk result (length reader.new.rest < length reader.old.rest) }
 {
     let name = name_string(alloc, reader)?;
-    let path = name.resolve_in(alloc, scope)?;
-    let count = argument_number(alloc, reader, start, scope, &name, &path)?;
-    arguments(alloc, reader, levels, scope, context, count)
+    let path = name.resolve_in(alloc, start.scope)?;
+    let count = argument_number(alloc, reader, start.at, start.scope, &name, &path)?;
+    arguments(alloc, reader, levels, start.scope, start.context, count)
 }
 
 #[cycle(scan)]
@@ -153,22 +151,20 @@ fn coded_term<C: ArgumentCounts, B: Before>(
     reader: &mut Reader<'_, C, B>,
     levels: usize,
     position: Position,
-    scope: &Path,
-    context: Context,
-    start: usize,
+    start: TermStart<'_>,
 ) -> Result<(), Refusal>
-    ensures reads { Does result reader.new
-        (scanned (coded_term (below by_arities levels) position scope.now context start)) reader.old }
+    ensures reads { Does result reader.new (scanned (coded_term (below by_arities levels) position
+        start.entry.scope.now start.entry.context start.entry.at)) reader.old }
     ensures shorter { OnOk result (length reader.new.rest < length reader.old.rest) }
 {
-    let row = row_at(reader, position, context, start)?;
+    let row = row_at(reader, position, start.context, start.at)?;
     if costs_no_level(row.1, position) {
         return Ok(());
     }
     if levels == 0 {
-        return Err(Refusal::Term(TermFault::TooDeep, item_of(context.item, start)));
+        return Err(Refusal::Term(TermFault::TooDeep, item_of(start.context.item, start.at)));
     }
-    row_term(alloc, reader, levels - 1, scope, context, start, row)
+    row_term(alloc, reader, levels - 1, start, row)
 }
 
 #[cycle(scan)]
@@ -177,19 +173,17 @@ fn row_term<C: ArgumentCounts, B: Before>(
     alloc: Global,
     reader: &mut Reader<'_, C, B>,
     levels: usize,
-    scope: &Path,
-    context: Context,
-    start: usize,
+    start: TermStart<'_>,
     row: Row,
 ) -> Result<(), Refusal>
-    ensures reads { Does result reader.new
-        (scanned (row_term (term_at by_arities levels) scope.now context start row)) reader.old }
+    ensures reads { Does result reader.new (scanned (row_term (term_at by_arities levels)
+        start.entry.scope.now start.entry.context start.entry.at row)) reader.old }
     ensures kept { OnOk result (length reader.new.rest ≤ length reader.old.rest) }
 {
     if is_if(row.0) {
-        if_term(alloc, reader, levels, scope, context, start, row)
+        if_term(alloc, reader, levels, start, row)
     } else {
-        row_operands(alloc, reader, levels, scope, context, start, row)
+        row_operands(alloc, reader, levels, start, row)
     }
 }
 
@@ -208,13 +202,11 @@ pub(crate) fn row_operands<C: ArgumentCounts, B: Before>(
     alloc: Global,
     reader: &mut Reader<'_, C, B>,
     levels: usize,
-    scope: &Path,
-    context: Context,
-    start: usize,
+    start: TermStart<'_>,
     row: Row,
 ) -> Result<(), Refusal>
-    ensures reads { Does result reader.new
-        (scanned (row_operands (term_at by_arities levels) scope.now context start row)) reader.old }
+    ensures reads { Does result reader.new (scanned (row_operands (term_at by_arities levels)
+        start.entry.scope.now start.entry.context start.entry.at row)) reader.old }
     ensures kept { OnOk result (length reader.new.rest ≤ length reader.old.rest) }
 {
     if has_no_operands(&row) {
@@ -222,9 +214,9 @@ pub(crate) fn row_operands<C: ArgumentCounts, B: Before>(
     }
     let kinds = [row.3.0, row.3.1, row.3.2, row.3.3, row.3.4, row.3.5];
     if row.2 {
-        packed_operands(alloc, reader, levels, scope, context, start, &kinds)
+        packed_operands(alloc, reader, levels, start, &kinds)
     } else {
-        operands(alloc, reader, levels, scope, context, start, &kinds)
+        operands(alloc, reader, levels, start, &kinds)
     }
 }
 
@@ -235,18 +227,16 @@ fn packed_operands<C: ArgumentCounts, B: Before>(
     alloc: Global,
     reader: &mut Reader<'_, C, B>,
     levels: usize,
-    scope: &Path,
-    context: Context,
-    start: usize,
+    start: TermStart<'_>,
     kinds: &[OperandKind],
 ) -> Result<(), Refusal>
-    ensures reads { Does result reader.new
-        (scanned (packed true (operands (term_at by_arities levels) scope.now context start kinds.now
+    ensures reads { Does result reader.new (scanned (packed true (operands (term_at by_arities levels)
+        start.entry.scope.now start.entry.context start.entry.at kinds.now
         nothing_earlier))) reader.old }
     ensures kept { OnOk result (length reader.new.rest ≤ length reader.old.rest) }
 {
     let outer = reader.enter()?;
-    operands(alloc, reader, levels, scope, context, start, kinds)?;
+    operands(alloc, reader, levels, start, kinds)?;
     reader.leave(outer);
     Ok(())
 }
@@ -256,13 +246,11 @@ fn operands<C: ArgumentCounts, B: Before>(
     alloc: Global,
     reader: &mut Reader<'_, C, B>,
     levels: usize,
-    scope: &Path,
-    context: Context,
-    start: usize,
+    start: TermStart<'_>,
     kinds: &[OperandKind],
 ) -> Result<(), Refusal>
-    ensures reads { Does result reader.new
-        (scanned (operands (term_at by_arities levels) scope.now context start kinds.now nothing_earlier)) reader.old }
+    ensures reads { Does result reader.new (scanned (operands (term_at by_arities levels)
+        start.entry.scope.now start.entry.context start.entry.at kinds.now nothing_earlier)) reader.old }
     ensures kept { OnOk result (length reader.new.rest ≤ length reader.old.rest) }
 {
     let mut earlier = Earlier {
@@ -273,16 +261,7 @@ fn operands<C: ArgumentCounts, B: Before>(
         if is_nothing(*kind) {
             return Ok(());
         }
-        operand(
-            alloc,
-            reader,
-            levels,
-            scope,
-            context,
-            start,
-            *kind,
-            &mut earlier,
-        )?;
+        operand(alloc, reader, levels, start, *kind, &mut earlier)?;
     }
     Ok(())
 }
@@ -294,33 +273,60 @@ fn operand<C: ArgumentCounts, B: Before>(
     alloc: Global,
     reader: &mut Reader<'_, C, B>,
     levels: usize,
-    scope: &Path,
-    context: Context,
-    start: usize,
+    start: TermStart<'_>,
     kind: OperandKind,
     earlier: &mut Earlier,
 ) -> Result<(), Refusal>
     ensures reads { Does (seen (λ _. earlier.new) result) reader.new
-        (kept (λ x. x.1) (operand (term_at by_arities levels) scope.now context start kind earlier.old)) reader.old }
+        (kept (λ x. x.1) (operand (term_at by_arities levels) start.entry.scope.now start.entry.context
+        start.entry.at kind earlier.old)) reader.old }
     ensures kept { OnOk result (length reader.new.rest ≤ length reader.old.rest) }
 {
     match kind {
-        OperandKind::TermArg => term(alloc, reader, levels, Position::TermArg, scope, context),
+        OperandKind::TermArg => term(
+            alloc,
+            reader,
+            levels,
+            Position::TermArg,
+            start.scope,
+            start.context,
+        ),
         OperandKind::DataObject => {
-            term(alloc, reader, levels, Position::DataObject, scope, context)
+            term(
+                alloc,
+                reader,
+                levels,
+                Position::DataObject,
+                start.scope,
+                start.context,
+            )
         }
-        OperandKind::SuperName => super_name(alloc, reader, levels, scope, context),
-        OperandKind::Target => target(alloc, reader, levels, scope, context),
-        OperandKind::SimpleName => simple_name(alloc, reader, levels, scope, context),
-        OperandKind::TermList => term_list(alloc, reader, levels, scope, earlier, context),
+        OperandKind::SuperName => super_name(alloc, reader, levels, start.scope, start.context),
+        OperandKind::Target => target(alloc, reader, levels, start.scope, start.context),
+        OperandKind::SimpleName => simple_name(alloc, reader, levels, start.scope, start.context),
+        OperandKind::TermList => term_list(
+            alloc,
+            reader,
+            levels,
+            start.scope,
+            earlier,
+            start.context,
+        ),
         OperandKind::LoopTermList => {
-            term_list(alloc, reader, levels, scope, earlier, in_loop(context))
+            term_list(
+                alloc,
+                reader,
+                levels,
+                start.scope,
+                earlier,
+                in_loop(start.context),
+            )
         }
         OperandKind::PackageElementList => {
-            element_list(alloc, reader, levels, scope, earlier, context)
+            element_list(alloc, reader, levels, start.scope, earlier, start.context)
         }
-        OperandKind::FieldList => fields_operand(alloc, reader, levels, scope, context),
-        _ => leaf::operand(alloc, reader, scope, context, start, kind, earlier),
+        OperandKind::FieldList => fields_operand(alloc, reader, levels, start.scope, start.context),
+        _ => leaf::operand(alloc, reader, start, kind, earlier),
     }
 }
 
