@@ -9,8 +9,8 @@ mod mode;
 mod named_tables;
 mod nodes;
 
-pub use aml_meaning::Profile;
+pub use aml_meaning::{Profile, Trace, TraceName, TracePlace};
 pub use ar_tables::Mode;
 pub use kind::Kind;
-pub use loading::{load_tables, load_tables_as};
+pub use loading::{load_tables, load_tables_as, load_tables_traced};
 pub use machine::Machine;

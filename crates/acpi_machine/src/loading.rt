@@ -10,7 +10,7 @@ ghost use Rattle.acpi_machine.specs.Loading.{few_texts, each_loaded, all_loaded,
 
 use crate::machine::Machine;
 use aml_interp::load;
-use aml_meaning::{Profile, World};
+use aml_meaning::{Profile, Trace, World};
 use aml_objects::Octets;
 use ar_space::{EvaluationFault, Refusal, Space};
 use ar_tables::{Mode, Table, Tables};
@@ -68,13 +68,41 @@ pub fn load_tables_as<S: Space>(
         (loaded_tables S.accesses tables steps osi.items (fresh_as profile tables.width osi.items space)).1.space ≡
         refused.1) }
 {
+    match load_tables_traced(alloc, profile, tables, space, steps, osi) {
+        Ok(machine) => Ok(machine),
+        Err((refusal, space, trace)) => {
+            drop(trace);
+            Err((refusal, space))
+        }
+    }
+}
+
+/// As `load_tables_as`. Where a table is refused it also gives what `Machine::trace` would tell of it.
+pub fn load_tables_traced<S: Space>(
+    alloc: Global,
+    profile: Profile,
+    tables: Tables,
+    space: S,
+    steps: u64,
+    osi: Vec<Octets>,
+) -> Result<Machine<S>, (Refusal, S, Trace)>
+    ensures world { IfOk result (λ machine. loaded_tables S.accesses tables steps osi.items
+        (fresh_as profile tables.width osi.items space) ≡ (Ok tt, machine.world)) }
+    ensures machine { IfOk result (λ machine. machine ≡ machine_of tables steps machine.world) }
+    ensures refusal { IfErr result (λ refused. refused.0 ≢ OutOfMemory →
+        (loaded_tables S.accesses tables steps osi.items (fresh_as profile tables.width osi.items space)).0 ≡
+        Err refused.0) }
+    ensures space { IfErr result (λ refused. refused.0 ≢ OutOfMemory →
+        (loaded_tables S.accesses tables steps osi.items (fresh_as profile tables.width osi.items space)).1.space ≡
+        refused.1) }
+{
     match few_texts(&osi) {
         Ok(()) => {}
-        Err(refusal) => return Err((refusal, space)),
+        Err(refusal) => return Err((refusal, space, Trace::new(alloc))),
     }
     let mut world = match World::with_profile(alloc, profile, tables.width, osi, space) {
         Ok(world) => world,
-        Err(refused) => return Err(refused),
+        Err((refusal, space)) => return Err((refusal, space, Trace::new(alloc))),
     };
     match load_all(alloc, &mut world, &tables, steps) {
         Ok(()) => Ok(Machine {
@@ -84,7 +112,10 @@ pub fn load_tables_as<S: Space>(
             steps,
             spent: false,
         }),
-        Err(refusal) => Err((refusal, world.into_space())),
+        Err(refusal) => {
+            let (space, trace) = world.into_parts();
+            Err((refusal, space, trace))
+        }
     }
 }
 

@@ -3,7 +3,7 @@ ghost use Rattle.std.specs.Prelude.{◌≡◌, option_map};
 ghost use Rattle.acpi_machine.specs.MachineStates.{sci_of};
 
 use crate::mode::is_apic;
-use aml_meaning::{Profile, World};
+use aml_meaning::{Profile, Trace, World};
 use ar_space::Space;
 use ar_tables::{Madt, Mode, Tables, sci_source};
 use std::marker::Model;
@@ -70,5 +70,21 @@ impl<S: Space> Machine<S> {
         ensures { result.now ≡ self.now.world.space }
     {
         self.world.space()
+    }
+
+    /// Where the call that evaluated last was refused: the control methods that were running, the name that was looked
+    /// for, and the steps that were left. Nothing of it where the call wasn't refused, or evaluated nothing.
+    ///
+    /// No contract says that this is the place: it is tested. Reading it changes nothing.
+    ///
+    /// ```
+    /// if let Err(refusal) = machine.evaluate_object(alloc, &path, Vec::new(alloc)) {
+    ///     for place in machine.trace().places() {
+    ///         println!(rt; "{} at {}", path_text(alloc, &place.scope)?, place.at)?;
+    ///     }
+    /// }
+    /// ```
+    pub fn trace(&self) -> &Trace {
+        self.world.trace()
     }
 }

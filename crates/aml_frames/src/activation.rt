@@ -79,7 +79,8 @@ impl MethodPath {
 }
 
 /// The table or the control method that is being evaluated: a share of its bytes and their marks, the scope that its
-/// names stand in, how many control methods are being called, and the place of the next byte.
+/// names stand in, how many control methods are being called, and the place of the next byte. Beside these stands where
+/// the term began that is told where evaluation is refused: no contract sees it.
 #[derive(Drop)]
 pub struct Activation {
     bytes: Body,
@@ -88,6 +89,7 @@ pub struct Activation {
     node: NodeId,
     depth: usize,
     position: Position,
+    start: usize,
 }
 
 impl Model for Activation {
@@ -100,7 +102,7 @@ impl Model for Activation {
 
 /// The bytes between two offsets: as many as there are.
 #[inline(always)]
-fn between(bytes: &[u8], at: usize, end: usize) -> &[u8]
+pub(crate) fn between(bytes: &[u8], at: usize, end: usize) -> &[u8]
     ensures { result.now ≡ take (end - at) (drop at bytes.now) }
 {
     let first = at.min(bytes.len());
@@ -134,7 +136,33 @@ impl Activation {
             node,
             depth,
             position: Position { at: 0, end },
+            start: 0,
         }
+    }
+
+    /// An item of a list begins here: it is told where evaluation is refused.
+    #[inline(always)]
+    pub(crate) fn begin_item(&mut self)
+        ensures { self.new ≡ self.old }
+    {
+        self.start = self.position.at;
+    }
+
+    /// The term that begins at an offset is told where evaluation is refused.
+    pub(crate) fn tell_from(&mut self, start: usize)
+        ensures { self.new ≡ self.old }
+    {
+        self.start = start;
+    }
+
+    /// Where the term began that is told where evaluation is refused.
+    pub(crate) fn start(&self) -> usize {
+        self.start
+    }
+
+    /// All bytes of the table or of the body.
+    pub(crate) fn bytes(&self) -> &[u8] {
+        self.bytes.as_slice()
     }
 
     /// The scope that names stand in.

@@ -14,6 +14,7 @@ ghost use Rattle.aml_frames.specs.Weights.{part_weight, asked_weight};
 
 use crate::accesses::calls_left;
 use crate::addresses::{Asked, Waited};
+use crate::tracing::told_path;
 use aml_meaning::{Invocation, Running, WorldState, integer_only};
 use aml_objects::Value;
 use aml_path::{NameString, Path, Prefix};
@@ -33,7 +34,8 @@ pub(crate) fn ask<S: Space>(
     ensures means { Asks S.accesses (meaning S.accesses) result run.new
         (asking S.accesses (meaning S.accesses) calls path.now) run.old }
 {
-    let found = invocation(alloc, &run.world, path)?;
+    let answered = invocation(alloc, &run.world, path);
+    let found = told_path(alloc, &mut run.world, path, answered)?;
     answer(run, calls, found)
 }
 

@@ -3,7 +3,8 @@
 ghost use Rattle.std.specs.Prelude.{◌≡◌, ◌≤◌, ◌<◌, ◌+◌, Ok, IfOk};
 ghost use Rattle.ar_space.specs.Change.{Does};
 ghost use Rattle.aml_marked.specs.Marked.{a_name};
-ghost use Rattle.ar_space.specs.Outcome.{NotMemory};
+ghost use Rattle.aml_path.specs.Paths.{resolved};
+ghost use Rattle.ar_space.specs.Outcome.{Answers, NotMemory};
 ghost use Rattle.aml_meaning.specs.Meaning.{meaning};
 ghost use Rattle.aml_meaning.specs.Tasks.{module_level};
 ghost use Rattle.aml_meaning.specs.DeclarationTerms.{declaring, alias_rule, method_rule};
@@ -21,10 +22,11 @@ ghost use Rattle.aml_frames.specs.Weights.{next_weight};
 use crate::activation::{Activation, MethodPath, Position};
 use crate::frames::{Frame, Next, leave};
 use crate::operands::{bytes, number};
+use crate::tracing::told;
 use aml_grammar::TermReader;
 use aml_meaning::{DeclarationKind, Flow, Running, WorldState};
 use aml_objects::{MethodFlags, NamedObject, NodeId};
-use aml_path::Path;
+use aml_path::{NameString, Path};
 use aml_terms::RowPlace;
 use ar_space::{Refusal, Space};
 use std::alloc::Global;
@@ -82,6 +84,35 @@ pub(crate) fn done(act: &mut Activation, levels: u8, place: RowPlace, flow: Flow
     Next::Flow(flow)
 }
 
+/// The path that a name stands for that is declared.
+fn resolve<S>(
+    alloc: Global,
+    world: &mut WorldState<S>,
+    act: &Activation,
+    name: &NameString,
+) -> Result<Path, Refusal>
+    ensures path { Answers result (resolved name.now act.now.scope) }
+    ensures world { world.new ≡ world.old }
+{
+    let path = name.resolve_in(alloc, act.scope().path);
+    told(alloc, world, act, name, path)
+}
+
+/// A name is declared, by the path that it stands for.
+fn declare_path<S>(
+    alloc: Global,
+    world: &mut WorldState<S>,
+    act: &Activation,
+    name: &NameString,
+    path: Path,
+    object: NamedObject,
+) -> Result<u64, Refusal>
+    ensures { Does result world.new (new_name (module_level act.now.depth) path object) world.old }
+{
+    let declared = world.new_name(alloc, act.depth() == 0, path, object);
+    told(alloc, world, act, name, declared)
+}
+
 // ---- terms of which no part is evaluated
 
 /// The name that is the first operand of a term is declared.
@@ -100,8 +131,8 @@ fn declare<S: Space>(
         (coded_tree place act.now levels) 0 object) run.old }
 {
     let name = act.coded_term(levels, place).name(alloc, 0)?;
-    let path = name.resolve_in(alloc, act.scope().path)?;
-    run.world.new_name(alloc, act.depth() == 0, path, object)?;
+    let path = resolve(alloc, &mut run.world, act, &name)?;
+    declare_path(alloc, &mut run.world, act, &name, path, object)?;
     Ok(Flow::Next)
 }
 
@@ -120,11 +151,12 @@ fn declare_alias<S: Space>(
 {
     let term = act.coded_term(levels, place);
     let source = term.name(alloc, 0)?;
-    let target = run.world.locate(alloc, act.scope(), &source)?;
+    let located = run.world.locate(alloc, act.scope(), &source);
+    let target = told(alloc, &mut run.world, act, &source, located)?;
     let name = term.name(alloc, 1)?;
-    let path = name.resolve_in(alloc, act.scope().path)?;
+    let path = resolve(alloc, &mut run.world, act, &name)?;
     let object = NamedObject::Alias(target.into_path());
-    run.world.new_name(alloc, act.depth() == 0, path, object)?;
+    declare_path(alloc, &mut run.world, act, &name, path, object)?;
     Ok(Flow::Next)
 }
 
@@ -143,14 +175,16 @@ fn declare_method<S: Space>(
 {
     let term = act.coded_term(levels, place);
     let name = term.name(alloc, 0)?;
-    let path = name.resolve_in(alloc, act.scope().path)?;
+    let path = resolve(alloc, &mut run.world, act, &name)?;
     let flags = number(&term, 1)?;
     let body = bytes(alloc, &term, 2)?;
     let flags = MethodFlags {
         byte: (flags % 256) as u8,
     };
-    run.world
-        .new_method(alloc, act.depth() == 0, path, flags, body)?;
+    let declared = run
+        .world
+        .new_method(alloc, act.depth() == 0, path, flags, body);
+    told(alloc, &mut run.world, act, &name, declared)?;
     Ok(Flow::Next)
 }
 
@@ -205,8 +239,8 @@ pub(crate) fn declare_at<S: Space>(
     ensures ends { EndsAt result act.now act.now }
 {
     let name = act.name_at(alloc, name)?;
-    let path = name.resolve_in(alloc, act.scope().path)?;
-    run.world.new_name(alloc, act.depth() == 0, path, object)?;
+    let path = resolve(alloc, &mut run.world, act, &name)?;
+    declare_path(alloc, &mut run.world, act, &name, path, object)?;
     Ok(Next::Flow(Flow::Next))
 }
 
@@ -228,7 +262,8 @@ fn begin_scope<S: Space>(
 {
     let outer = act.open();
     let name = act.name(alloc)?;
-    let located = run.world.locate_scope(alloc, act.scope(), &name)?;
+    let found = run.world.locate_scope(alloc, act.scope(), &name);
+    let located = told(alloc, &mut run.world, act, &name, found)?;
     let node = located.scope().node;
     let scope = MethodPath::new(alloc, located.into_path())?;
     act.over_name();
@@ -252,14 +287,15 @@ fn begin_new_scope<S: Space>(
 {
     let outer = act.open();
     let name = act.name(alloc)?;
-    let path = name.resolve_in(alloc, act.scope().path)?;
-    declare_scope(
+    let path = resolve(alloc, &mut run.world, act, &name)?;
+    let declared = declare_scope(
         alloc,
         &mut run.world,
         act.depth(),
         &path,
         scope_object(kind),
-    )?;
+    );
+    told(alloc, &mut run.world, act, &name, declared)?;
     let node = run.world.scope(&path).node;
     let scope = MethodPath::new(alloc, path)?;
     act.over_name();

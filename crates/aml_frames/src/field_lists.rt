@@ -14,6 +14,7 @@ ghost use Rattle.aml_frames.specs.Declarations.{coded_tree};
 
 use crate::activation::Activation;
 use crate::operands::{is_named, list, number};
+use crate::tracing::told;
 use aml_grammar::{Opcode, TermCode, TermReader};
 use aml_meaning::{FieldGroup, FieldLayout, Flow, Running, WorldState, access_width, update_rule};
 use aml_objects::FieldSource;
@@ -38,7 +39,8 @@ pub(crate) fn declare_fields<S: Space>(
     let elements = list(&term, 2)?;
     ask_for_connections(&run.world, Opcode::Field, elements)?;
     let name = term.name(alloc, 0)?;
-    let region = run.world.region_found(act.scope(), &name)?;
+    let found = run.world.region_found(act.scope(), &name);
+    let region = told(alloc, &mut run.world, act, &name, found)?;
     let flags = number(&term, 1)?;
     lay_fields(
         alloc,
@@ -67,9 +69,11 @@ pub(crate) fn declare_index_fields<S: Space>(
     let elements = list(&term, 3)?;
     ask_for_connections(&run.world, Opcode::IndexField, elements)?;
     let name = term.name(alloc, 0)?;
-    let index = run.world.field_found(act.scope(), &name)?;
+    let found = run.world.field_found(act.scope(), &name);
+    let index = told(alloc, &mut run.world, act, &name, found)?;
     let name = term.name(alloc, 1)?;
-    let behind = run.world.field_found(act.scope(), &name)?;
+    let found = run.world.field_found(act.scope(), &name);
+    let behind = told(alloc, &mut run.world, act, &name, found)?;
     let flags = number(&term, 2)?;
     lay_fields(
         alloc,
@@ -171,9 +175,11 @@ fn lay_named<S: Space>(
     ensures { Does result world.new (named_field group act.now.scope act.now.depth at (at_tree element.now)) world.old }
 {
     let name = element.name(alloc, 0)?;
-    let path = name.resolve_in(alloc, act.scope().path)?;
+    let resolved = name.resolve_in(alloc, act.scope().path);
+    let path = told(alloc, world, act, &name, resolved)?;
     let count = number(element, 1)?;
-    world.new_field(alloc, group, act.depth() == 0, path, at, count)
+    let laid = world.new_field(alloc, group, act.depth() == 0, path, at, count);
+    told(alloc, world, act, &name, laid)
 }
 
 /// Bits that are passed over.
@@ -212,14 +218,14 @@ fn lay_access<S: Space>(
 #[tactic(auto, using(aml_meaning::proofs::Runs::running))]
 fn lay_connection<S: Space>(
     alloc: Global,
-    world: &WorldState<S>,
+    world: &mut WorldState<S>,
     act: &Activation,
     group: FieldGroup,
     at: FieldLayout,
     element: &At<'_>,
 ) -> Result<FieldLayout, Refusal>
-    ensures { Does result world.now (connected_field group act.now.scope act.now.depth at
-        (at_tree element.now)) world.now }
+    ensures { Does result world.new (connected_field group act.now.scope act.now.depth at
+        (at_tree element.now)) world.old }
 {
     if is_named(element, 0) {
         return test_connection(alloc, world, act, group, at, element);
@@ -231,17 +237,18 @@ fn lay_connection<S: Space>(
 #[tactic(auto, using(aml_meaning::proofs::Runs::running), unfolding(aml_meaning::specs::FieldTerms::named_connection))]
 fn test_connection<S: Space>(
     alloc: Global,
-    world: &WorldState<S>,
+    world: &mut WorldState<S>,
     act: &Activation,
     group: FieldGroup,
     at: FieldLayout,
     element: &At<'_>,
 ) -> Result<FieldLayout, Refusal>
-    ensures { Does result world.now (named_connection group act.now.scope act.now.depth at
-        (at_tree element.now)) world.now }
+    ensures { Does result world.new (named_connection group act.now.scope act.now.depth at
+        (at_tree element.now)) world.old }
 {
     let name = element.name(alloc, 0)?;
-    world.connection_found(act.scope(), &name)?;
+    let found = world.connection_found(act.scope(), &name);
+    told(alloc, world, act, &name, found)?;
     Ok(at)
 }
 

@@ -39,6 +39,7 @@ mod statements;
 mod target_uses;
 mod targets;
 mod terms;
+mod tracing;
 mod uses;
 mod values;
 mod waiting;

@@ -22,6 +22,7 @@ pub fn begin_items<S: Space>(run: &Running<S>, act: &mut Activation, items: Item
         act.go_to(items.outer);
         Next::Flow(Flow::Next)
     } else {
+        act.begin_item();
         Next::Term(
             items.levels,
             Frame::Items(Items {

@@ -16,6 +16,7 @@ use crate::boxed::Boxed;
 use crate::calls::begin_call;
 use crate::frames::{Call, Callee, Next};
 use crate::short_names::node_at;
+use crate::tracing::told_here;
 use crate::uses::Reading;
 use aml_meaning::{Flow, Invocation, Running, WorldState};
 use ar_space::{Refusal, Space};
@@ -36,7 +37,8 @@ pub fn begin_name<S: Space>(
     ensures ends { EndsAt result act.new (behind_name_at act.old levels) }
 {
     let count = act.argument_count();
-    let invocation = name_used(alloc, &run.world, act, count)?;
+    let found = name_used(alloc, &run.world, act, count);
+    let invocation = told_here(alloc, &mut run.world, act, found)?;
     act.over_name();
     begin_invocation(alloc, run, act, levels, count, invocation)
 }

@@ -17,6 +17,7 @@ use crate::activation::Activation;
 use crate::frames::{Frame, Next};
 use crate::target_uses::inquire;
 use crate::targets::begin_target;
+use crate::tracing::told_here;
 use crate::uses::{Inquiry, Target, TargetUse};
 use aml_meaning::{Flow, Running, TargetKind};
 use aml_objects::{Reference, Value};
@@ -123,7 +124,8 @@ fn begin_sought<S: Space>(
         (operator_run S.accesses (meaning S.accesses) operators.CondRefOf act.old levels) run.old }
     ensures ends { EndsAt result act.new (behind_operator_at operators.CondRefOf act.old levels) }
 {
-    let found = reference_at_name(alloc, run, act)?;
+    let sought = reference_at_name(alloc, run, act);
+    let found = told_here(alloc, &mut run.world, act, sought)?;
     act.over_name();
     begin_found(run, act, levels, found)
 }

@@ -23,6 +23,7 @@ use crate::searching::{resume_match, resume_matched};
 use crate::statements::next_branch;
 use crate::target_uses::resume_counted;
 use crate::targets::{resume_dereferenced, resume_index_target};
+use crate::tracing::told_loop;
 use crate::values::integer_of;
 use crate::wide::resume_third;
 use aml_convert::is_true;
@@ -89,9 +90,14 @@ fn resume_predicate<S: Space>(
         (resumed S.accesses (meaning S.accesses) (frames.Predicate turn) act.old flow) run.old }
     ensures ends { EndsAt result act.new (ends (frames.Predicate turn) act.old) }
 {
-    let value = flow.value()?;
-    let number = integer_of(&run.world, value)?;
-    Ok(next_turn(run, act, turn, is_true(number)))
+    let value = match flow.value() {
+        Ok(value) => value,
+        Err(refusal) => return Err(told_loop(act, turn, refusal)),
+    };
+    match integer_of(&run.world, value) {
+        Ok(number) => Ok(next_turn(run, act, turn, is_true(number))),
+        Err(refusal) => Err(told_loop(act, turn, refusal)),
+    }
 }
 
 /// The list of a While, where its predicate holds.
@@ -126,9 +132,10 @@ pub(crate) fn begin_predicate<S: Space>(
         (next_run S.accesses (meaning S.accesses) (next.Term turn.levels (frames.Predicate turn)) act.old) run.old }
     ensures ends { EndsAt result act.new (next_ends (next.Term turn.levels (frames.Predicate turn)) act.old) }
 {
-    match known_integer(run, act, turn.levels)? {
-        Some(number) => Ok(next_turn(run, act, turn, is_true(number))),
-        None => Ok(Next::Term(turn.levels, Frame::Predicate(turn))),
+    match known_integer(run, act, turn.levels) {
+        Ok(Some(number)) => Ok(next_turn(run, act, turn, is_true(number))),
+        Ok(None) => Ok(Next::Term(turn.levels, Frame::Predicate(turn))),
+        Err(refusal) => Err(told_loop(act, turn, refusal)),
     }
 }
 

@@ -31,6 +31,7 @@ use crate::packages::begin_element;
 use crate::resuming::resume;
 use crate::targets::begin_target;
 use crate::terms::begin_term;
+use crate::tracing::{give_up, tell_last, tell_place};
 use crate::uses::{Access, Accessed, Doing, Reading, Target, TargetUse};
 use crate::waiting::{Stack, go_to_flow, go_to_items, go_to_package, go_to_read, go_to_target};
 use aml_meaning::{Count, Flow, Running, StoreTarget};
@@ -132,35 +133,35 @@ fn execute<S: Space>(
         match control {
             Control::Term(levels) => match step_term(alloc, run, &mut stack, levels) {
                 Ok(after) => control = after,
-                Err(refusal) => return Err(unwind(run, &mut stack, refusal)),
+                Err(refusal) => return Err(unwind(alloc, run, &mut stack, refusal)),
             },
             Control::Items(items) => match step_items(run, &mut stack, items) {
                 Ok(after) => control = after,
-                Err(refusal) => return Err(unwind(run, &mut stack, refusal)),
+                Err(refusal) => return Err(unwind(alloc, run, &mut stack, refusal)),
             },
             Control::Package(filling) => match step_package(alloc, run, &mut stack, filling) {
                 Ok(after) => control = after,
-                Err(refusal) => return Err(unwind(run, &mut stack, refusal)),
+                Err(refusal) => return Err(unwind(alloc, run, &mut stack, refusal)),
             },
             Control::Target(target, aim) => match step_target(alloc, run, &mut stack, target, aim) {
                 Ok(after) => control = after,
-                Err(refusal) => return Err(unwind(run, &mut stack, refusal)),
+                Err(refusal) => return Err(unwind(alloc, run, &mut stack, refusal)),
             },
             Control::Read(field, reading) => match step_read(
                 alloc, run, &mut stack, field, reading,
             ) {
                 Ok(after) => control = after,
-                Err(refusal) => return Err(unwind(run, &mut stack, refusal)),
+                Err(refusal) => return Err(unwind(alloc, run, &mut stack, refusal)),
             },
             Control::Access(access) => match step_access(alloc, run, &mut stack, access) {
                 Ok(after) => control = after,
-                Err(refusal) => return Err(unwind(run, &mut stack, refusal)),
+                Err(refusal) => return Err(unwind(alloc, run, &mut stack, refusal)),
             },
             Control::Flow(flow) => match stack.entries.pop() {
                 None => return Ok(flow),
                 Some(top) => match step_entry(alloc, run, &mut stack, top, flow) {
                     Ok(after) => control = after,
-                    Err(refusal) => return Err(unwind(run, &mut stack, refusal)),
+                    Err(refusal) => return Err(unwind(alloc, run, &mut stack, refusal)),
                 },
             },
         }
@@ -339,6 +340,7 @@ fn next_item<S: Space>(
         stack.act.go_to(items.outer);
         return go_to_flow(Flow::Next);
     }
+    stack.act.begin_item();
     let next = Items {
         left: items.left - 1,
         ..items
@@ -451,17 +453,30 @@ fn run_in<S: Space>(
     }
 }
 
-/// A refusal, which is handed on: what waits is given up, and each call that is being evaluated ends.
-fn unwind<S: Space>(run: &mut Running<S>, stack: &mut Stack, refusal: Refusal) -> Refusal
+/// A refusal, which is handed on: what waits is given up, and each call that is being evaluated ends. The trace tells
+/// the terms that were being evaluated.
+#[cold]
+fn unwind<S: Space>(
+    alloc: Global,
+    run: &mut Running<S>,
+    stack: &mut Stack,
+    refusal: Refusal,
+) -> Refusal
     ensures same { result ≡ refusal }
     ensures ended { then_all S.accesses (meaning S.accesses) (stop refusal) stack.old.act stack.old.entries.items
         run.old ≡ (Err refusal, run.new) }
 {
+    let mut outer = None;
     'entries: loop {
         match stack.entries.pop() {
-            None => return refusal,
-            Some(Entry::Frame(frame)) => drop(frame),
+            None => {
+                tell_last(alloc, run, &stack.act, &outer);
+                return refusal;
+            }
+            Some(Entry::Frame(frame)) => give_up(&mut stack.act, &mut outer, frame),
             Some(Entry::Leave(caller, method)) => {
+                tell_place(alloc, run, &stack.act, &outer);
+                outer = None;
                 end_call(run, method.path());
                 stack.act = caller;
             }

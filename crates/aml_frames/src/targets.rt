@@ -20,6 +20,7 @@ use crate::activation::Activation;
 use crate::frames::{Frame, Next};
 use crate::known::use_known;
 use crate::target_uses::use_target;
+use crate::tracing::told_here;
 use crate::uses::{Target, TargetForm, TargetUse};
 use aml_meaning::{Flow, Running, StoreTarget, TargetKind, reference_in};
 use ar_space::{NameFault, Refusal, Space};
@@ -141,7 +142,8 @@ fn begin_named<S: Space>(
         (target_run S.accesses (meaning S.accesses) (super levels) target_use act.old) run.old }
     ensures ends { EndsAt result act.new (target_ends (super levels) target_use act.old) }
 {
-    let target = target_at_name(alloc, run, act)?;
+    let found = target_at_name(alloc, run, act);
+    let target = told_here(alloc, &mut run.world, act, found)?;
     act.over_name();
     use_target(alloc, run, act, target, target_use)
 }

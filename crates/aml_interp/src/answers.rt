@@ -37,8 +37,10 @@ pub fn eval<S: Space>(
     ensures { Does result world.new (evaluated S.accesses path.now arguments.items budget) world.old }
 {
     let run = &mut world.running;
+    run.world.begin_trace(budget);
     run.steps = budget;
     let value = call(alloc, run, path, &arguments);
+    tell_steps(run, &value);
     with_rest(value, run.steps)
 }
 
@@ -74,9 +76,20 @@ pub fn answer<S: Space>(
         (map given_of arguments.items) budget) world.old }
 {
     let run = &mut world.running;
+    run.world.begin_trace(budget);
     let outcome = with_steps(alloc, run, path, &arguments, budget);
+    tell_steps(run, &outcome);
     run.world.release_mutexes();
     outcome
+}
+
+/// Where an evaluation is refused, its trace tells how many steps were left.
+fn tell_steps<S, A>(run: &mut Running<S>, outcome: &Result<A, Refusal>)
+    ensures { run.new ≡ run.old }
+{
+    if outcome.is_err() {
+        run.world.put_trace_steps(run.steps);
+    }
 }
 
 #[tactic(auto, using(aml_meaning::proofs::Runs::calling))]
@@ -104,7 +117,8 @@ fn answer_exported<S: Space>(
     ensures { Does (seen given_of result) run.new (answer_exported S.accesses path.now (length arguments.now)
         (map given_of arguments.now)) run.old }
 {
-    let invocation = invocation(alloc, &run.world, path, arguments.len())?;
+    let found = invocation(alloc, &run.world, path, arguments.len());
+    let invocation = told(alloc, run, path, found)?;
     let values = run.world.import_all(alloc, arguments)?;
     invocation_exported(alloc, run, invocation, &values)
 }
@@ -138,8 +152,25 @@ fn call<S: Space>(
 ) -> Result<Value, Refusal>
     ensures { Does result run.new (called S.accesses path.now arguments.now) run.old }
 {
-    let invocation = invocation(alloc, &run.world, path, arguments.len())?;
+    let found = invocation(alloc, &run.world, path, arguments.len());
+    let invocation = told(alloc, run, path, found)?;
     value_of(alloc, run, invocation, arguments)
+}
+
+/// Where the object at a path is refused, its trace tells the path.
+fn told<S>(
+    alloc: Global,
+    run: &mut Running<S>,
+    path: &Path,
+    found: Result<Invocation, Refusal>,
+) -> Result<Invocation, Refusal>
+    ensures same { result ≡ found }
+    ensures run { run.new ≡ run.old }
+{
+    if found.is_err() {
+        run.world.put_trace_path(alloc, path);
+    }
+    found
 }
 
 /// What the object at a path is that is asked for with so many arguments.

@@ -33,6 +33,7 @@ pub fn load<S: Space>(
     ensures { Does result world.new (loaded S.accesses table.now steps) world.old }
 {
     let run = &mut world.running;
+    run.world.begin_trace(steps);
     let outcome = table_run(alloc, run, table, steps);
     run.world.release_mutexes();
     outcome

@@ -40,6 +40,7 @@ mod stores;
 mod tables;
 mod targets;
 mod term_kind;
+mod trace;
 mod unit_integers;
 mod validity;
 mod wide_operations;
@@ -66,5 +67,6 @@ pub use term_kind::{
     BufferFieldSize, Conversion, Count, DataKind, DeclarationKind, OneOperand, OperatorKind,
     RegionKind, StatementKind, TermKind, Test, TwoOperands, WideKind,
 };
+pub use trace::{Trace, TraceName, TracePlace};
 pub use world::World;
 pub use world_state::WorldState;

@@ -6,6 +6,7 @@ ghost use Rattle.aml_meaning.specs.Validity.{is_valid_value};
 
 use crate::profile::Profile;
 use crate::running::Running;
+use crate::trace::Trace;
 use crate::world_state::WorldState;
 use aml_namespace::Names;
 use aml_objects::{Octets, Value};
@@ -77,6 +78,18 @@ impl<S> World<S> {
         ensures { result ≡ self.space }
     {
         self.running.world.into_space()
+    }
+
+    /// The register space, given back, and where the evaluation that was last begun was refused.
+    pub fn into_parts(self) -> (S, Trace)
+        ensures { result.0 ≡ self.space }
+    {
+        self.running.world.into_parts()
+    }
+
+    /// Where the evaluation that was last begun was refused, as `WorldState::trace` tells it.
+    pub fn trace(&self) -> &Trace {
+        self.running.world.trace()
     }
 
     /// Other texts that `_OSI` knows, in place of those before (ACPI 6.5, 5.7.2). It takes no memory.

@@ -6,6 +6,7 @@ ghost use Rattle.aml_meaning.specs.Predefined.{fresh_as, predefined};
 use crate::frame::Frame;
 use crate::known_names::Declarations;
 use crate::profile::Profile;
+use crate::trace::Trace;
 use aml_namespace::Names;
 use aml_objects::{Heap, Octets};
 use ar_space::{IntegerWidth, Refusal};
@@ -14,7 +15,8 @@ use std::marker::Model;
 
 /// The state of a world: what evaluation changes, the register space among it: the namespace, how many arguments its
 /// names take, the objects, the frames of the calls in progress with the number of the next one, the texts that
-/// `_OSI` knows, how wide integers are, and the profile.
+/// `_OSI` knows, how wide integers are, and the profile. Beside them stands where evaluation was refused last, which no
+/// contract sees.
 #[derive(Drop)]
 pub struct WorldState<S> {
     pub(crate) declarations: Declarations,
@@ -25,6 +27,7 @@ pub struct WorldState<S> {
     pub(crate) osi: Vec<Octets>,
     pub(crate) width: IntegerWidth,
     pub(crate) profile: Profile,
+    pub(crate) trace: Trace,
 }
 
 impl<S> Model for WorldState<S> {
@@ -65,6 +68,7 @@ impl<S> WorldState<S> {
             osi,
             width,
             profile,
+            trace: Trace::new(alloc),
         };
         match world.predefine(alloc) {
             Ok(()) => Ok(world),
@@ -77,6 +81,13 @@ impl<S> WorldState<S> {
         ensures { result ≡ self.space }
     {
         self.space
+    }
+
+    /// The register space, and where evaluation was refused.
+    pub(crate) fn into_parts(self) -> (S, Trace)
+        ensures { result.0 ≡ self.space }
+    {
+        (self.space, self.trace)
     }
 
     /// Other texts that `_OSI` knows, in place of those before (ACPI 6.5, 5.7.2). It takes no memory.

@@ -1,6 +1,6 @@
 use Rattle.std.proofs.Common.{ap, ◌∙◌, sym}
 use Rattle.acpi_machine.proofs.Whole.{texts_refused_by, texts_refused_space, names_refused_by, names_refused_space, all_done}
-use Rattle.acpi_machine.proofs.loading.load_tables_as.Goals as goal
+use Rattle.acpi_machine.proofs.loading.load_tables_traced.Goals as goal
 
 pub returns-in-Err-clause-refusal : goal.returns-in-Err-clause-refusal
 returns-in-Err-clause-refusal g c = λ ne. texts_refused_by _ _ _ _ _ _ (rw (← c.deref.ensures.value) c.in-Err.ensures.value) ne

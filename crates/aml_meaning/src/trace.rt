@@ -1,0 +1,196 @@
+//! Where an evaluation was refused: the lists of terms that were being evaluated, the name that was looked for, and
+//! the steps that were left.
+//!
+//! A trace is made when an evaluation is refused, and at no other time. No contract says what it holds: the clauses
+//! here say that making it and reading it change nothing that a contract sees.
+ghost use Rattle.std.specs.Prelude.{◌≡◌};
+
+use crate::world_state::WorldState;
+use aml_path::{NameString, Path};
+use ar_space::Refusal;
+use std::alloc::Global;
+
+/// A list of terms that was being evaluated, and the term of it that was.
+#[derive(Debug, Drop)]
+pub struct TracePlace {
+    /// The path of the control method; of a list at module level the scope that names stood in.
+    pub scope: Path,
+    /// Whether the list is the body of a control method. Any other one stands at module level.
+    pub is_body: bool,
+    /// The offset of the term: from the first byte of the body, or at module level from the first byte behind the
+    /// header of the table. Of nested lists it is the term of the innermost one.
+    pub at: usize,
+    /// The opcode of the term: one byte, or both with `5B` as the high one. 0 where the term begins with a name.
+    pub code: u16,
+}
+
+/// A name that was looked for, declared or called when evaluation was refused.
+#[derive(Debug, Drop)]
+pub struct TraceName {
+    /// The path that the name stands for in the scope, without a search. Of a name that stands for none it is the
+    /// path of its segments below the root.
+    pub path: Path,
+    /// The scope that the name stood in.
+    pub scope: Path,
+}
+
+/// Where the evaluation that was last begun was refused; nothing where it wasn't.
+#[derive(Debug, Drop)]
+pub struct Trace {
+    /// The innermost one first, until the trace ends.
+    places: Vec<TracePlace>,
+    name: Option<TraceName>,
+    steps_left: u64,
+    is_cut: bool,
+}
+
+impl Trace {
+    /// A trace of nothing. It takes no memory.
+    pub fn new(alloc: Global) -> Trace {
+        Trace {
+            places: Vec::new(alloc),
+            name: None,
+            steps_left: 0,
+            is_cut: false,
+        }
+    }
+
+    /// The lists that were being evaluated, outermost first. None where nothing was refused, or before the first term
+    /// was begun.
+    pub fn places(&self) -> &[TracePlace] {
+        &self.places
+    }
+
+    /// The name that was looked for, declared or called, where the refusal is one of a name.
+    pub fn name(&self) -> Option<&TraceName> {
+        match &self.name {
+            None => None,
+            Some(name) => Some(name),
+        }
+    }
+
+    /// How many steps were left.
+    pub fn steps_left(&self) -> u64 {
+        self.steps_left
+    }
+
+    /// Whether memory ran out while the trace was made: then the outermost places are missing, or the name is.
+    pub fn is_cut(&self) -> bool {
+        self.is_cut
+    }
+
+    fn clear(&mut self, steps: u64) {
+        self.places.clear();
+        self.name = None;
+        self.steps_left = steps;
+        self.is_cut = false;
+    }
+
+    fn put_place(&mut self, place: Result<TracePlace, Refusal>) {
+        if self.is_cut {
+            return;
+        }
+        match place {
+            Ok(place) => self.push(place),
+            Err(_) => self.is_cut = true,
+        }
+    }
+
+    fn push(&mut self, place: TracePlace) {
+        if self.places.push(place).is_err() {
+            self.is_cut = true;
+        }
+    }
+
+    fn put_name(&mut self, name: Result<TraceName, Refusal>) {
+        match name {
+            Ok(name) => self.name = Some(name),
+            Err(_) => self.is_cut = true,
+        }
+    }
+
+    fn end(&mut self, steps: u64) {
+        self.places.reverse();
+        self.steps_left = steps;
+    }
+}
+
+impl<S> WorldState<S> {
+    /// Where the evaluation that was last begun was refused. That this is the place is tested, and no contract says
+    /// it; reading it changes nothing.
+    pub fn trace(&self) -> &Trace {
+        &self.trace
+    }
+
+    /// An evaluation begins that may take so many steps: nothing is refused yet.
+    pub fn begin_trace(&mut self, steps: u64)
+        ensures { self.new ≡ self.old }
+    {
+        self.trace.clear(steps);
+    }
+
+    /// A list that was being evaluated when evaluation was refused; those around it follow. Where memory for it ran
+    /// out, no further place is kept.
+    #[cold]
+    pub fn put_trace_place(&mut self, place: Result<TracePlace, Refusal>)
+        ensures { self.new ≡ self.old }
+    {
+        self.trace.put_place(place);
+    }
+
+    /// The name that evaluation is refused for, which stands in a scope.
+    #[cold]
+    pub fn put_trace_name(&mut self, alloc: Global, name: &NameString, scope: &Path)
+        ensures { self.new ≡ self.old }
+    {
+        self.trace.put_name(named(alloc, name, scope));
+    }
+
+    /// The path from outside that evaluation is refused for.
+    #[cold]
+    pub fn put_trace_path(&mut self, alloc: Global, path: &Path)
+        ensures { self.new ≡ self.old }
+    {
+        self.trace.put_name(from_root(alloc, path));
+    }
+
+    /// So many steps are left.
+    #[cold]
+    pub fn put_trace_steps(&mut self, steps: u64)
+        ensures { self.new ≡ self.old }
+    {
+        self.trace.steps_left = steps;
+    }
+
+    /// All places are told, and so many steps are left.
+    #[cold]
+    pub fn end_trace(&mut self, steps: u64)
+        ensures { self.new ≡ self.old }
+    {
+        self.trace.end(steps);
+    }
+}
+
+/// A name and its scope, for a trace.
+fn named(alloc: Global, name: &NameString, scope: &Path) -> Result<TraceName, Refusal> {
+    Ok(TraceName {
+        path: path_of(alloc, name, scope)?,
+        scope: scope.copy(alloc)?,
+    })
+}
+
+/// A path that was looked for from the root, for a trace.
+fn from_root(alloc: Global, path: &Path) -> Result<TraceName, Refusal> {
+    Ok(TraceName {
+        path: path.copy(alloc)?,
+        scope: Path::root(alloc),
+    })
+}
+
+/// The path that a name stands for in a scope; of one that stands for none, that of its segments below the root.
+fn path_of(alloc: Global, name: &NameString, scope: &Path) -> Result<Path, Refusal> {
+    match name.resolve_in(alloc, scope) {
+        Ok(path) => Ok(path),
+        Err(_) => Path::root(alloc).below_prefix(alloc, 0, name.segments()),
+    }
+}
