@@ -8,7 +8,8 @@ use Rattle.ar_space.specs.Outcome.{Outcome, Answers, seen}
 use Rattle.ar_space.specs.Change.{Does, does_settle}
 use Rattle.aml_path.specs.declared.segment.Seg.{Seg}
 use Rattle.acpi_machine.specs.MachineStates.{MachineState}
-use Rattle.acpi_machine.specs.Stops.{AllOrNone, stops_first, stops_next, goes_start, stops_here}
+use Rattle.acpi_machine.specs.Stops.{AllOrNone}
+use Rattle.acpi_machine.proofs.Stopping.{stops_first, stops_next, goes_start, stops_here}
 use Rattle.acpi_prt.specs.Children.{child_named}
 use Rattle.acpi_links.specs.Answered.{stands}
 use Rattle.acpi_links.specs.Links.{PresentLink}

@@ -5,7 +5,8 @@ use Rattle.ar_space.specs.Accesses.{Accesses}
 use Rattle.ar_space.specs.Outcome.{Outcome}
 use Rattle.ar_space.specs.Change.{Change, Does}
 use Rattle.acpi_machine.specs.MachineStates.{MachineState, sci_of}
-use Rattle.acpi_machine.specs.Stops.{AllOrNone, made_as, made_given, stops_first, stops_next}
+use Rattle.acpi_machine.specs.Stops.{AllOrNone}
+use Rattle.acpi_machine.proofs.Stopping.{made_as, made_given, stops_first, stops_next}
 use Rattle.acpi_links.specs.Links.{PresentLink}
 use Rattle.acpi_links.specs.Resources.{current_resources}
 use Rattle.acpi_links.specs.Settings.{resources_set}

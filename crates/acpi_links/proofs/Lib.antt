@@ -1,5 +1,6 @@
 pub mod AllLeft
 pub mod Counted
+pub mod Folding
 pub mod Found
 pub mod Kept
 pub mod Leading

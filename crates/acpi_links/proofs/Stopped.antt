@@ -11,7 +11,8 @@ use Rattle.acpi_resources.specs.Current.{current_of}
 use Rattle.acpi_resources.specs.Settings.{setting_of}
 use Rattle.acpi_machine.specs.MachineStates.{MachineState, sci_of}
 use Rattle.acpi_machine.specs.Calls.{evaluated_object}
-use Rattle.acpi_machine.specs.Stops.{Made, AllOrNone, all_made, made_as, made_asked, made_after, made_before, made_given, made_then_settled, made_then_tested, stops_first, stops_next, goes_start, stops_here}
+use Rattle.acpi_machine.specs.Stops.{Made, AllOrNone}
+use Rattle.acpi_machine.proofs.Stopping.{all_made, made_as, made_asked, made_after, made_before, made_given, made_then_settled, made_then_tested, stops_first, stops_next, goes_start, stops_here}
 use Rattle.acpi_prt.specs.Children.{child_named}
 use Rattle.acpi_prt.specs.Stops.{StopsInTable}
 use Rattle.acpi_prt.specs.declared.pin.Pin.{Pin}

@@ -157,7 +157,7 @@ fn link_asked<S: Space>(
     link_if(alloc, machine, avoid, present, link)
 }
 
-#[tactic(auto, using(ar_space::specs::Change::changing, acpi_machine::specs::Stops::making), unfolding(crate::specs::Links::link_if))]
+#[tactic(auto, using(ar_space::specs::Change::changing, acpi_machine::proofs::Stopping::making), unfolding(crate::specs::Links::link_if))]
 fn link_if<S: Space>(
     alloc: Global,
     machine: &mut Machine<S>,

@@ -17,7 +17,7 @@ use std::alloc::Global;
 /// Whether a device is present: bit 0 of the integer that its `_STA` answers; one without `_STA` is.
 ///
 /// An answer that is no integer is refused as `WrongType`; a refusal of the evaluation is handed on.
-#[tactic(auto, using(ar_space::specs::Change::changing, acpi_machine::specs::Stops::making), unfolding(crate::specs::Presence::is_present))]
+#[tactic(auto, using(ar_space::specs::Change::changing, acpi_machine::proofs::Stopping::making), unfolding(crate::specs::Presence::is_present))]
 pub fn is_present<S: Space>(
     alloc: Global,
     machine: &mut Machine<S>,
@@ -31,7 +31,7 @@ pub fn is_present<S: Space>(
 }
 
 /// Whether a link device is present whose `_STA` stands at a path, if it does.
-#[tactic(auto, using(acpi_machine::specs::Stops::making), unfolding(crate::specs::Presence::presence_at))]
+#[tactic(auto, using(acpi_machine::proofs::Stopping::making), unfolding(crate::specs::Presence::presence_at))]
 fn presence_at<S: Space>(
     alloc: Global,
     machine: &mut Machine<S>,

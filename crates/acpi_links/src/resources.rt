@@ -27,7 +27,7 @@ use std::alloc::Global;
 /// Without `_PRS` it is refused as `NoOffer`, with the link's path. An answer that is no buffer is refused as
 /// `WrongType`, and bytes that are no offer of interrupts as `possible` says, but that the wide profile takes
 /// exclusive offers; a refusal of the evaluation is handed on.
-#[tactic(auto, using(ar_space::specs::Change::changing, acpi_machine::specs::Stops::making), unfolding(crate::specs::Resources::possible_resources))]
+#[tactic(auto, using(ar_space::specs::Change::changing, acpi_machine::proofs::Stopping::making), unfolding(crate::specs::Resources::possible_resources))]
 pub fn get_possible_resources<S: Space>(
     alloc: Global,
     machine: &mut Machine<S>,
@@ -41,7 +41,7 @@ pub fn get_possible_resources<S: Space>(
 }
 
 /// What a link device offers whose `_PRS` stands at a path, if it does.
-#[tactic(auto, using(acpi_machine::specs::Stops::making), unfolding(crate::specs::Resources::possible_at))]
+#[tactic(auto, using(acpi_machine::proofs::Stopping::making), unfolding(crate::specs::Resources::possible_at))]
 fn possible_at<S: Space>(
     alloc: Global,
     machine: &mut Machine<S>,
@@ -102,7 +102,7 @@ fn offer_at<S: Space>(
 ///
 /// An answer that is no buffer is refused as `WrongType`, and bytes that are no resource descriptors as `current`
 /// says; a refusal of the evaluation is handed on.
-#[tactic(auto, using(ar_space::specs::Change::changing, acpi_machine::specs::Stops::making), unfolding(crate::specs::Resources::current_resources))]
+#[tactic(auto, using(ar_space::specs::Change::changing, acpi_machine::proofs::Stopping::making), unfolding(crate::specs::Resources::current_resources))]
 pub fn get_current_resources<S: Space>(
     alloc: Global,
     machine: &mut Machine<S>,
@@ -116,7 +116,7 @@ pub fn get_current_resources<S: Space>(
 }
 
 /// What a link device is set to whose `_CRS` stands at a path, if it does.
-#[tactic(auto, using(acpi_machine::specs::Stops::making), unfolding(crate::specs::Resources::current_at))]
+#[tactic(auto, using(acpi_machine::proofs::Stopping::making), unfolding(crate::specs::Resources::current_at))]
 fn current_at<S: Space>(
     alloc: Global,
     machine: &mut Machine<S>,
@@ -152,7 +152,7 @@ fn numbers_at<S: Space>(
 ///
 /// The argument of `_SRS` is `acpi_resources::setting` of the interrupt. What it answers is dropped; a refusal of its
 /// evaluation is handed on.
-#[tactic(auto, using(ar_space::specs::Change::changing, acpi_machine::specs::Stops::making), unfolding(crate::specs::Settings::resources_set))]
+#[tactic(auto, using(ar_space::specs::Change::changing, acpi_machine::proofs::Stopping::making), unfolding(crate::specs::Settings::resources_set))]
 pub fn set_current_resources<S: Space>(
     alloc: Global,
     machine: &mut Machine<S>,
@@ -169,7 +169,7 @@ pub fn set_current_resources<S: Space>(
 }
 
 /// Sets a link device whose `_SRS` stands at a path, if it does.
-#[tactic(auto, using(acpi_machine::specs::Stops::making), unfolding(crate::specs::Settings::set_at))]
+#[tactic(auto, using(acpi_machine::proofs::Stopping::making), unfolding(crate::specs::Settings::set_at))]
 fn set_at<S: Space>(
     alloc: Global,
     machine: &mut Machine<S>,
@@ -189,7 +189,7 @@ fn set_at<S: Space>(
 }
 
 /// Calls the method at a path with a setting.
-#[tactic(auto, using(ar_space::specs::Change::changing, acpi_machine::specs::Stops::making), unfolding(crate::specs::Settings::setting_handed))]
+#[tactic(auto, using(ar_space::specs::Change::changing, acpi_machine::proofs::Stopping::making), unfolding(crate::specs::Settings::setting_handed))]
 fn hand_setting<S: Space>(
     alloc: Global,
     machine: &mut Machine<S>,

@@ -1,3 +1,6 @@
+pub mod Loaded
+pub mod Noticed
 pub mod Spaces
+pub mod Stopping
 pub mod Walked
 pub mod Whole

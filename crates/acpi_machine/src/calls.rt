@@ -39,7 +39,7 @@ impl<S: Space> Machine<S> {
     /// ```
     /// machine.initialize(alloc, Mode::Apic)?;
     /// ```
-    #[tactic(auto, using(crate::specs::Noticing::spending), unfolding(crate::specs::Calls::initialized))]
+    #[tactic(auto, using(crate::proofs::Noticed::spending), unfolding(crate::specs::Calls::initialized))]
     pub fn initialize(&mut self, alloc: Global, mode: Mode) -> Result<(), Refusal>
         ensures answer { Does result self.new (initialized S.accesses mode) self.old }
         ensures memory { IfErr result (λ refusal. refusal ≡ OutOfMemory → self.new.spent ≡ true) }
@@ -63,7 +63,7 @@ impl<S: Space> Machine<S> {
     ///     println!(rt; "{status:X}")?;
     /// }
     /// ```
-    #[tactic(auto, using(crate::specs::Noticing::spending), unfolding(crate::specs::Calls::evaluated_object))]
+    #[tactic(auto, using(crate::proofs::Noticed::spending), unfolding(crate::specs::Calls::evaluated_object))]
     pub fn evaluate_object(
         &mut self,
         alloc: Global,
@@ -86,7 +86,7 @@ impl<S: Space> Machine<S> {
     /// Other texts that `_OSI` knows, in place of those before (ACPI 6.5, 5.7.2). More than 64 are refused as
     /// `ObjectLimit`. `Spent` where an earlier call ran out of memory. Where it is refused nothing changes. It takes
     /// no memory.
-    #[tactic(auto, using(crate::specs::Noticing::spending), unfolding(crate::specs::Calls::osi_set))]
+    #[tactic(auto, using(crate::proofs::Noticed::spending), unfolding(crate::specs::Calls::osi_set))]
     pub fn set_osi(&mut self, texts: Vec<Octets>) -> Result<(), Refusal>
         ensures answer { Does result self.new (osi_set texts.items) self.old }
         ensures memory { NotMemory result }
@@ -115,7 +115,7 @@ impl<S: Space> Machine<S> {
         Ok(())
     }
 
-    #[tactic(auto, using(crate::specs::Noticing::noticing))]
+    #[tactic(auto, using(crate::proofs::Noticed::noticing))]
     fn start(&mut self, alloc: Global, mode: Mode) -> Result<(), Refusal>
         ensures answer { Does result self.new (started S.accesses mode) self.old }
         ensures memory { IfErr result (λ refusal. refusal ≡ OutOfMemory → self.new.spent ≡ true) }
@@ -125,7 +125,7 @@ impl<S: Space> Machine<S> {
         outcome
     }
 
-    #[tactic(auto, using(crate::specs::Noticing::noticing))]
+    #[tactic(auto, using(crate::proofs::Noticed::noticing))]
     fn answer_noticed(
         &mut self,
         alloc: Global,
@@ -203,7 +203,7 @@ impl<S: Space> Machine<S> {
         self.world.names().get(path).is_some()
     }
 
-    #[tactic(auto, using(crate::specs::Noticing::worlds))]
+    #[tactic(auto, using(crate::proofs::Noticed::worlds))]
     fn answer(
         &mut self,
         alloc: Global,

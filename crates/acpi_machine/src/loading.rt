@@ -146,7 +146,7 @@ fn load_all<S: Space>(
 }
 
 /// Loads each of some tables.
-#[tactic(auto, using(ar_space::specs::Change::changing, crate::specs::Loading::loading))]
+#[tactic(auto, using(ar_space::specs::Change::changing, crate::proofs::Loaded::loading))]
 fn load_each<S: Space>(
     alloc: Global,
     world: &mut World<S>,

@@ -10,7 +10,8 @@ use Rattle.aml_meaning.specs.declared.datum.Datum.{Datum}
 use Rattle.aml_meaning.specs.Given.{Given, given_of}
 use Rattle.acpi_machine.specs.MachineStates.{MachineState}
 use Rattle.acpi_machine.specs.Calls.{evaluated_object}
-use Rattle.acpi_machine.specs.Stops.{Made, AllOrNone, made_asked, made_after, made_settled, made_given, made_then_settled, made_then_tested, stops_first, stops_next}
+use Rattle.acpi_machine.specs.Stops.{Made, AllOrNone}
+use Rattle.acpi_machine.proofs.Stopping.{made_asked, made_after, made_settled, made_given, made_then_settled, made_then_tested, stops_first, stops_next}
 use Rattle.acpi_prt.specs.declared.pin.Route.TheVariants.{Link}
 use Rattle.acpi_prt.specs.Children.{child_named}
 use Rattle.acpi_prt.specs.Entries.{entries_of, word_of, source_tested, letter_of, no_index}

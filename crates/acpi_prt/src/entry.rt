@@ -13,7 +13,7 @@ pub(crate) const NOT_PACKAGE: Refusal = Refusal::RoutingTable(RoutingTableFault:
 pub(crate) const BAD_ENTRY: Refusal = Refusal::RoutingTable(RoutingTableFault::BadEntry);
 
 /// The entries of a routing table, which is a package: else `NotPackage`.
-#[tactic(auto, using(crate::specs::Entries::rows))]
+#[tactic(auto, using(crate::proofs::Rows::rows))]
 pub(crate) fn entries_of(table: &Datum) -> Result<&[Datum], Refusal>
     ensures { Answers (seen (λ list. map given_of list.now) result) (entries_of (given_of table.now)) }
 {

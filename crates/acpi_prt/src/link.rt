@@ -22,7 +22,7 @@ const NOT_A_LINK: Refusal = Refusal::RoutingTable(RoutingTableFault::NotALink);
 const LINK_EISA_ID: u64 = 0x0F0C_D041;
 
 /// The path of the link device that stands at a path, or that an alias there leads to; else `NotALink`.
-#[tactic(auto, using(ar_space::specs::Change::changing, acpi_machine::specs::Stops::making), unfolding(crate::specs::Links::link_at))]
+#[tactic(auto, using(ar_space::specs::Change::changing, acpi_machine::proofs::Stopping::making), unfolding(crate::specs::Links::link_at))]
 pub(crate) fn link_at<S: Space>(
     alloc: Global,
     machine: &mut Machine<S>,

@@ -65,7 +65,7 @@ fn pins_from<S: Space>(
 }
 
 /// The pin of an entry; none of one that was left out.
-#[tactic(auto, using(ar_space::specs::Change::changing, acpi_machine::specs::Stops::making, crate::specs::Entries::rows))]
+#[tactic(auto, using(ar_space::specs::Change::changing, acpi_machine::proofs::Stopping::making, crate::proofs::Rows::rows))]
 fn pin_of<S: Space>(
     alloc: Global,
     machine: &mut Machine<S>,
@@ -82,7 +82,7 @@ fn pin_of<S: Space>(
 }
 
 /// The pin of an entry of four parts.
-#[tactic(auto, using(crate::proofs::Entries::others_refused, acpi_machine::specs::Stops::making))]
+#[tactic(auto, using(crate::proofs::Entries::others_refused, acpi_machine::proofs::Stopping::making))]
 fn pin_among<S: Space>(
     alloc: Global,
     machine: &mut Machine<S>,
@@ -98,7 +98,7 @@ fn pin_among<S: Space>(
     pin_with(alloc, machine, address, pin, source, index)
 }
 
-#[tactic(auto, using(ar_space::specs::Change::changing, acpi_machine::specs::Stops::making), unfolding(crate::specs::RoutingTables::pin_with))]
+#[tactic(auto, using(ar_space::specs::Change::changing, acpi_machine::proofs::Stopping::making), unfolding(crate::specs::RoutingTables::pin_with))]
 fn pin_with<S: Space>(
     alloc: Global,
     machine: &mut Machine<S>,
@@ -126,7 +126,7 @@ fn pin_with<S: Space>(
 }
 
 /// Where a source leads to with an index.
-#[tactic(auto, using(ar_space::specs::Change::changing, acpi_machine::specs::Stops::making))]
+#[tactic(auto, using(ar_space::specs::Change::changing, acpi_machine::proofs::Stopping::making))]
 fn route_of<S: Space>(
     alloc: Global,
     machine: &mut Machine<S>,

@@ -2,6 +2,7 @@
 use Rattle.std.proofs.Common.{◌≡◌, ◌∙◌, ap, sym, refl, ℕ, ◌+◌, ◌<◌, List, [], ◌∷◌, ◌++◌, length, take, map, get_or, arith, append_assoc, append-nil}
 use Rattle.std.specs.Prelude.{codes}
 use Rattle.std.proofs.lemmas.List.{take_more, map-append}
+use Rattle.aml_meaning.proofs.GivenRows.{row_is_list}
 use Rattle.aml_meaning.specs.declared.datum.Datum as datum
 use Rattle.aml_meaning.specs.Given as given
 use Rattle.acpiroute_lib.specs.ValueText.{count, value_text, elements_text}
@@ -10,7 +11,7 @@ pub count_of_list : {X : Type 0} (view : X → given.Given) (xs : List X) → co
 count_of_list view [] = refl
 count_of_list view (x ∷ xs) = let e = count_of_list view xs in rw e (omega arith)
 
-pub ruleset rows = (datum.the_lemmas, given.row_is_list, count_of_list)
+pub ruleset rows = (datum.the_lemmas, row_is_list, count_of_list)
 
 elements_append : (xs ys : List given.Given) → elements_text (given.givens (xs ++ ys)) ≡ elements_text (given.givens xs) ++ elements_text (given.givens ys)
 elements_append [] ys = refl

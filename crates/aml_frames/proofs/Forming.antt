@@ -11,7 +11,7 @@ use Rattle.aml_grammar.specs.Shape.{trees_of, parts_of}
 use Rattle.aml_grammar.specs.State.{little_endian}
 use Rattle.aml_grammar.specs.Tree.{Tree, Trees, term, name, no_trees, tree}
 use Rattle.aml_marked.specs.Marked.{Place, Walk, first, an_integer, over, count_at, a_name, a_call, a_term, all_items, to_end}
-use Rattle.aml_marked.specs.Walking.{one_more, at_end, no_more}
+use Rattle.aml_marked.proofs.Walking.{one_more, at_end, no_more}
 use Rattle.aml_objects.specs.declared.object.Element.{Element}
 use Rattle.aml_objects.specs.declared.object.Element.TheVariants as element
 use Rattle.aml_objects.specs.declared.value.Value.{Value}

@@ -16,7 +16,7 @@ use Rattle.aml_grammar.specs.Names.{carets, segments_at, name_at, starts_name, l
 use Rattle.aml_grammar.specs.Shape.{parts_of, trees_of}
 use Rattle.aml_grammar.specs.Tree.{Tree, term, Part, name, list, no_trees}
 use Rattle.aml_marked.specs.Marked.{Place, Below, count_at, over, first, after, gives, prefix_length, segments_length, name_length, bare_state, or_root, a_name, a_super_name, a_call, a_term_in, a_term}
-use Rattle.aml_marked.specs.Walking.{some_levels, no_turns}
+use Rattle.aml_marked.proofs.Walking.{some_levels, no_turns}
 use Rattle.aml_objects.specs.declared.entry.Entry.{Entry}
 use Rattle.aml_objects.specs.declared.entry.NamedObject.TheVariants as object
 use Rattle.aml_objects.specs.declared.entry.FieldUnit.{FieldUnit}

@@ -20,7 +20,7 @@ use Rattle.aml_grammar.specs.Names.{starts_name}
 use Rattle.aml_grammar.specs.Table.{row_of}
 use Rattle.aml_grammar.specs.Tree.{Tree, term, Part, null, number, inner, Parts, no_parts, part}
 use Rattle.aml_marked.specs.Marked.{Place, Below, count_at, to_part, over, first, after, gives, inside, an_integer, an_operand, all_operands, of_row, with_row, an_opcode, a_coded, a_term_in, a_term, a_target, a_super_name}
-use Rattle.aml_marked.specs.Walking.{some_levels}
+use Rattle.aml_marked.proofs.Walking.{some_levels}
 use Rattle.aml_objects.specs.declared.value.Slot.{Slot}
 use Rattle.aml_objects.specs.declared.value.Value.{Value}
 use Rattle.aml_objects.specs.declared.value.Value.TheVariants as value

@@ -12,7 +12,7 @@ use Rattle.aml_grammar.specs.Shape.{trees_of}
 use Rattle.aml_grammar.specs.Tree.{Tree}
 use Rattle.aml_marked.specs.Marked.{Place, trees_by, count_at, a_term, over, inside, after, gives, with_row, all_items, an_else, maybe_else}
 use Rattle.aml_grammar.specs.State.{is_next}
-use Rattle.aml_marked.specs.Walking.{some_turns, no_turns, one_more, at_end, no_more}
+use Rattle.aml_marked.proofs.Walking.{some_turns, no_turns, one_more, at_end, no_more}
 use Rattle.aml_scan.specs.RowsAt.{row_at}
 use Rattle.aml_scan.specs.declared.row_places.RowPlace.{RowPlace}
 use Rattle.aml_convert.specs.Operators.{is_true}

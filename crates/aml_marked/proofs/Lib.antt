@@ -9,3 +9,5 @@ pub mod Marks
 pub mod Moves
 pub mod Onward
 pub mod Operands
+pub mod Parting
+pub mod Walking

@@ -1,4 +1,3 @@
 pub mod Marked
 pub mod Moving
 pub mod Parting
-pub mod Walking

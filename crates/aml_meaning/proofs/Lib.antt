@@ -8,6 +8,7 @@ pub mod Declared
 pub mod Exports
 pub mod Filling
 pub mod Following
+pub mod GivenRows
 pub mod Imports
 pub mod IntegerOperations
 pub mod KnownNames

@@ -1,7 +1,5 @@
 -- Values outside a world: what callers hand in and what they are given.
 use Rattle.std.specs.Prelude.{◌≡◌, ℕ, List, [], ◌∷◌, map, refl}
-use Rattle.std.proofs.Common.{ap}
-use mathlib.Core.Former.{Count}
 use Rattle.aml_path.specs.declared.segment.Seg.{Seg}
 use Rattle.aml_meaning.specs.declared.datum.Datum as datum
 
@@ -37,7 +35,3 @@ abbrev mutual
 abbrev pub givens : List Given → Givens
 givens [] = none
 givens (g ∷ gs) = more g (givens gs)
-
-pub row_is_list : (n : Count) (k : datum.Row_of-Datum n) → row_of k ≡ givens (map given_of (datum.items-the_row-Datum n k))
-row_is_list n datum.end_of-Datum = refl
-row_is_list n (datum.more_of-Datum t rest) = ap (more (given_of t)) (row_is_list _ rest)

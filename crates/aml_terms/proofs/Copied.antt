@@ -7,7 +7,8 @@ use Rattle.aml_grammar.specs.Tree.{Tree, Part, Trees, no_trees, tree}
 use Rattle.aml_grammar.specs.Shape.{trees_of}
 use Rattle.aml_grammar.specs.Apart.{operand_of}
 use Rattle.aml_grammar.specs.declared.term.Operand.{the_lemmas}
-use Rattle.aml_terms.specs.Copying.{tree_whole, operands_from, operand_there, operand_gone, trees_list}
+use Rattle.aml_terms.specs.Copying.{operands_from, trees_list}
+use Rattle.aml_terms.proofs.CopiedParts.{tree_whole, operand_there, operand_gone}
 
 pub operands_end : (t : Tree) (i : ℕ) (front whole : List Part) → operand_of t i ≡ None → front ++ operands_from t i ≡ whole → front ≡ whole
 operands_end t i front whole gone so = sym (append-nil front) ∙ ap (λ l. front ++ l) (sym (operand_gone t i gone)) ∙ so

@@ -17,7 +17,7 @@ use ar_space::{NameFault, Refusal};
 use std::alloc::Global;
 
 /// The code of a term.
-#[tactic(auto, using(aml_marked::specs::Walking::walking), unfolding(aml_marked::specs::Marked::a_name, aml_marked::specs::Marked::a_call, aml_marked::specs::Marked::with_row, aml_marked::specs::Marked::a_coded, aml_marked::specs::Marked::a_term_in, aml_marked::specs::Marked::after, aml_marked::specs::Marked::gives))]
+#[tactic(auto, using(aml_marked::proofs::Walking::walking), unfolding(aml_marked::specs::Marked::a_name, aml_marked::specs::Marked::a_call, aml_marked::specs::Marked::with_row, aml_marked::specs::Marked::a_coded, aml_marked::specs::Marked::a_term_in, aml_marked::specs::Marked::after, aml_marked::specs::Marked::gives))]
 fn code_at(cursor: &mut Cursor<'_>, levels: u8, element: bool) -> TermCode
     ensures { (count : ℕ → ℕ) → result ≡ code_of (a_term count levels element cursor.old).0 }
 {
@@ -101,7 +101,7 @@ fn parted<'a>(part: &At<'a>, first: At<'a>) -> Item<At<'a>>
 }
 
 /// The first item of what stands there, and the others.
-#[tactic(auto, using(aml_marked::specs::Walking::walking))]
+#[tactic(auto, using(aml_marked::proofs::Walking::walking))]
 fn next_of<'a>(part: At<'a>) -> Option<Item<At<'a>>>
     ensures { at_list part.entry ≡ first_of at_tree at_list result }
 {

@@ -70,7 +70,7 @@ impl<'a> Cursor<'a> {
 
     /// The same, whatever stands there.
     #[inline(never)]
-    #[tactic(auto, using(aml_marked::specs::Walking::walking, crate::proofs::MovingOn::moving), unfolding(aml_marked::specs::Marked::a_call, aml_marked::specs::Marked::with_row, aml_marked::specs::Marked::a_coded, aml_marked::specs::Marked::a_term_in, aml_marked::specs::Marked::after, aml_marked::specs::Marked::gives))]
+    #[tactic(auto, using(aml_marked::proofs::Walking::walking, crate::proofs::MovingOn::moving), unfolding(aml_marked::specs::Marked::a_call, aml_marked::specs::Marked::with_row, aml_marked::specs::Marked::a_coded, aml_marked::specs::Marked::a_term_in, aml_marked::specs::Marked::after, aml_marked::specs::Marked::gives))]
     fn take_any_opcode(&mut self, levels: u8) -> Option<RowPlace>
         ensures some { (place : RowPlace) → result ≡ Some place → 0 < levels }
         ensures term { (place : RowPlace) → (count : ℕ → ℕ) → (element : Bool) → result ≡ Some place →

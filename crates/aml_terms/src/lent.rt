@@ -20,7 +20,7 @@ use ar_space::{NameFault, Refusal};
 use std::alloc::Global;
 
 /// What an operand is.
-#[tactic(auto, using(aml_marked::specs::Parting::parting), unfolding(aml_marked::specs::Marked::maybe_else, aml_marked::specs::Marked::gives))]
+#[tactic(auto, using(aml_marked::proofs::Parting::parting), unfolding(aml_marked::specs::Marked::maybe_else, aml_marked::specs::Marked::gives))]
 pub(crate) fn view<'a>(cursor: &Cursor<'a>, marks: &'a Marks, spot: Spot) -> OperandView<At<'a>>
     ensures { Shows at_tree at_list result (Some (spot_part (count_at marks.now) spot cursor.now)) }
 {
@@ -52,7 +52,7 @@ fn bits(cursor: &Cursor<'_>) -> u64
 }
 
 /// What an operand of a kind is.
-#[tactic(auto, using(aml_marked::specs::Parting::parting), unfolding(aml_marked::specs::Marked::an_operand, aml_marked::specs::Marked::a_target, aml_marked::specs::Marked::a_super_name, aml_marked::specs::Marked::all_items, aml_marked::specs::Marked::fields_left, aml_marked::specs::Marked::gives))]
+#[tactic(auto, using(aml_marked::proofs::Parting::parting), unfolding(aml_marked::specs::Marked::an_operand, aml_marked::specs::Marked::a_target, aml_marked::specs::Marked::a_super_name, aml_marked::specs::Marked::all_items, aml_marked::specs::Marked::fields_left, aml_marked::specs::Marked::gives))]
 fn view_kind<'a>(
     cursor: &Cursor<'a>,
     marks: &'a Marks,
@@ -106,7 +106,7 @@ fn view_list<'a>(
 }
 
 /// A name, or else a term.
-#[tactic(auto, using(aml_marked::specs::Parting::parting))]
+#[tactic(auto, using(aml_marked::proofs::Parting::parting))]
 fn view_name_or_term<'a>(cursor: &Cursor<'a>, marks: &'a Marks, levels: u8) -> OperandView<At<'a>>
     ensures { Shows at_tree at_list result
         (Some (name_or_term (a_term (count_at marks.now) levels) (first cursor.now.rest) cursor.now).0) }
@@ -119,7 +119,7 @@ fn view_name_or_term<'a>(cursor: &Cursor<'a>, marks: &'a Marks, levels: u8) -> O
 }
 
 /// What a target is.
-#[tactic(auto, using(aml_marked::specs::Parting::parting))]
+#[tactic(auto, using(aml_marked::proofs::Parting::parting))]
 fn view_target<'a>(cursor: &Cursor<'a>, marks: &'a Marks, levels: u8) -> OperandView<At<'a>>
     ensures { Shows at_tree at_list result
         (Some (target_of (a_term (count_at marks.now) levels) (first cursor.now.rest) cursor.now).0) }
@@ -134,7 +134,7 @@ fn view_target<'a>(cursor: &Cursor<'a>, marks: &'a Marks, levels: u8) -> Operand
 // ---- names and bytes
 
 /// The name that begins there; the root where none does.
-#[tactic(auto, using(crate::specs::Named::naming), unfolding(aml_marked::specs::Marked::a_name))]
+#[tactic(auto, using(crate::proofs::Named::naming), unfolding(aml_marked::specs::Marked::a_name))]
 pub(crate) fn name_at(alloc: Global, cursor: &Cursor<'_>) -> Result<NameString, Refusal>
     ensures { Answers result (Ok (a_name cursor.now).0) }
 {
@@ -146,7 +146,7 @@ pub(crate) fn name_at(alloc: Global, cursor: &Cursor<'_>) -> Result<NameString, 
 }
 
 /// The name at a spot.
-#[tactic(auto, using(crate::specs::Named::naming), unfolding(aml_marked::specs::Marked::an_operand, aml_marked::specs::Marked::a_target, aml_marked::specs::Marked::a_super_name, aml_marked::specs::Marked::gives, aml_marked::specs::Marked::maybe_else))]
+#[tactic(auto, using(crate::proofs::Named::naming), unfolding(aml_marked::specs::Marked::an_operand, aml_marked::specs::Marked::a_target, aml_marked::specs::Marked::a_super_name, aml_marked::specs::Marked::gives, aml_marked::specs::Marked::maybe_else))]
 pub(crate) fn name_here(
     alloc: Global,
     cursor: &Cursor<'_>,

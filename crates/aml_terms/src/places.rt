@@ -70,7 +70,7 @@ pub(crate) fn term_at<'a>(
 
 /// The same, whatever stands there.
 #[inline(never)]
-#[tactic(auto, using(aml_marked::specs::Walking::walking), unfolding(aml_marked::specs::Marked::a_coded, aml_marked::specs::Marked::a_term_in, aml_marked::specs::Marked::after, aml_marked::specs::Marked::gives))]
+#[tactic(auto, using(aml_marked::proofs::Walking::walking), unfolding(aml_marked::specs::Marked::a_coded, aml_marked::specs::Marked::a_term_in, aml_marked::specs::Marked::after, aml_marked::specs::Marked::gives))]
 fn other_term_at<'a>(cursor: &Cursor<'a>, marks: &'a Marks, levels: u8, element: bool) -> At<'a>
     ensures marks { result.marks.now ≡ marks.now }
     ensures tree { at_tree result ≡ (a_term (count_at marks.now) levels element cursor.now).0 }
@@ -121,7 +121,7 @@ pub fn list_at<'a>(bytes: &'a [u8], marks: &'a Marks) -> At<'a>
 /// `bytes` begin where the scan began and end where the list ends in which the term stands: what is behind the end of
 /// a package is no part of its last term. From offset 0 of all bytes that were scanned, and from each offset that is
 /// answered until it is their length, these are the terms of `list_at`, one after another.
-#[tactic(auto, using(aml_marked::specs::Walking::walking))]
+#[tactic(auto, using(aml_marked::proofs::Walking::walking))]
 pub fn first_term<'a>(bytes: &'a [u8], at: usize, marks: &'a Marks) -> (At<'a>, usize)
     requires { at < length bytes.now }
     ensures tree { at_tree result.0 ≡

@@ -19,8 +19,6 @@ abbrev pub filled_code : {S : Type 0} → Coded S → Coded (Filled S)
 filled_code {S = S} code =
     code_by (S × Missing) (coded× code missing_code) (λ f. (f.inner, f.missing)) (λ p. record { inner = p.0; missing = p.1 }) (λ _. refl)
 
--- ---- steps: what an access answers, and the space after it
-
 abbrev pub Step : Type 0 → Type 0 → Type 0
 Step S A = S → Result A SpaceFault × S
 
@@ -43,8 +41,6 @@ unfoldable pub ◌>>=◌ : {S A B : Type 0} → Step S A → (A → Step S B) �
 infixl 10 ◌>>◌
 abbrev pub ◌>>◌ : {S A B : Type 0} → Step S A → Step S B → Step S B
 ◌>>◌ m k = m >>= (λ _. k)
-
--- ---- a byte that the space below doesn't have
 
 abbrev pub zero_answer : Option ℕ → Result ℕ SpaceFault
 zero_answer None = Err NoRegister
@@ -152,30 +148,3 @@ filled below = record {
   reads = λ f place width. let done = below.reads f.inner place width in unless_missing done.0 (read_within below place width) (record f { inner = done.1 });
   writes = λ f place width value. let done = below.writes f.inner place width value in unless_missing done.0 (write_within below place width value) (record f { inner = done.1 });
 }
-
--- ---- how calls make steps
-
-pub makes_give : {S A : Type 0} {a : A} {s : S} → Makes (Ok a) s (give a) s
-unfolding give
-makes_give = record { is = refl }
-
-pub makes_ok : {S A B : Type 0} {a : A} {r : Result B SpaceFault} {s s1 s2 : S} (m : Step S A) (k : A → Step S B) → Makes (Ok a) s1 m s → Makes r s2 (k a) s1 → Makes r s2 (m >>= k) s
-unfolding ◌>>=◌ go_on
-makes_ok m k h i = record { is = rw h.is i.is }
-
--- the fault that `?` hands on
-pub makes_err : {S A B : Type 0} {e : SpaceFault} {r : Result B SpaceFault} {s s1 : S} (m : Step S A) (k : A → Step S B) → Makes {A = A} (Err e) s1 m s → IsErr r × IsErrAnd r (λ x. x ≡ e) → Makes r s1 (m >>= k) s
-unfolding ◌>>=◌ go_on
-makes_err {r = Ok x} m k h i = absurd (cc i.0)
-makes_err {r = Err x} m k h i = record { is = rw (h.is, i.1) refl }
-
-pub ruleset making = (makes_give, makes_ok, makes_err)
-
--- the answer, and the space after it
-pub answer_made : {S A : Type 0} {r : Result A SpaceFault} {s s1 : S} (m : Step S A) → Makes r s1 m s → r ≡ (m s).0
-answer_made m h = sym (ap (λ p. p.0) h.is)
-
-pub state_made : {S A : Type 0} {r : Result A SpaceFault} {s s1 : S} (m : Step S A) → Makes r s1 m s → s1 ≡ (m s).1
-state_made m h = sym (ap (λ p. p.1) h.is)
-
-pub ruleset made = (answer_made, state_made)

@@ -110,7 +110,7 @@ impl<S: Space> ZeroFilled<S> {
         }
     }
 
-    #[tactic(auto, using(crate::specs::Filling::making), unfolding(crate::specs::Filling::read_16))]
+    #[tactic(auto, using(crate::proofs::Filled::making), unfolding(crate::specs::Filling::read_16))]
     fn read_16(&mut self, place: Place, n: u8) -> Result<u64, SpaceFault>
         requires { n ≤ 6 }
         ensures made { Makes result self.new (read_16 S.accesses place n) self.old }
@@ -121,7 +121,7 @@ impl<S: Space> ZeroFilled<S> {
         Ok(low + 0x100 * high)
     }
 
-    #[tactic(auto, using(crate::specs::Filling::making), unfolding(crate::specs::Filling::read_32))]
+    #[tactic(auto, using(crate::proofs::Filled::making), unfolding(crate::specs::Filling::read_32))]
     fn read_32(&mut self, place: Place, n: u8) -> Result<u64, SpaceFault>
         requires { n ≤ 4 }
         ensures made { Makes result self.new (read_32 S.accesses place n) self.old }
@@ -132,7 +132,7 @@ impl<S: Space> ZeroFilled<S> {
         Ok(low + 0x1_0000 * high)
     }
 
-    #[tactic(auto, using(crate::specs::Filling::making), unfolding(crate::specs::Filling::read_64))]
+    #[tactic(auto, using(crate::proofs::Filled::making), unfolding(crate::specs::Filling::read_64))]
     fn read_64(&mut self, place: Place) -> Result<u64, SpaceFault>
         ensures made { Makes result self.new (read_64 S.accesses place) self.old }
         ensures fits { IfOk result (λ value. value < 2 ^ 64) }
@@ -166,7 +166,7 @@ impl<S: Space> ZeroFilled<S> {
         }
     }
 
-    #[tactic(auto, using(crate::specs::Filling::making), unfolding(crate::specs::Filling::write_16))]
+    #[tactic(auto, using(crate::proofs::Filled::making), unfolding(crate::specs::Filling::write_16))]
     fn write_16(&mut self, place: Place, n: u8, value: u64) -> Result<(), SpaceFault>
         requires { n ≤ 6 }
         ensures { Makes result self.new (write_16 S.accesses place n value) self.old }
@@ -175,7 +175,7 @@ impl<S: Space> ZeroFilled<S> {
         self.write_8(place, n + 1, value / 0x100)
     }
 
-    #[tactic(auto, using(crate::specs::Filling::making), unfolding(crate::specs::Filling::write_32))]
+    #[tactic(auto, using(crate::proofs::Filled::making), unfolding(crate::specs::Filling::write_32))]
     fn write_32(&mut self, place: Place, n: u8, value: u64) -> Result<(), SpaceFault>
         requires { n ≤ 4 }
         ensures { Makes result self.new (write_32 S.accesses place n value) self.old }
@@ -184,7 +184,7 @@ impl<S: Space> ZeroFilled<S> {
         self.write_16(place, n + 2, value / 0x1_0000)
     }
 
-    #[tactic(auto, using(crate::specs::Filling::making), unfolding(crate::specs::Filling::write_64))]
+    #[tactic(auto, using(crate::proofs::Filled::making), unfolding(crate::specs::Filling::write_64))]
     fn write_64(&mut self, place: Place, value: u64) -> Result<(), SpaceFault>
         ensures { Makes result self.new (write_64 S.accesses place value) self.old }
     {
@@ -233,7 +233,7 @@ impl<S: Space> Space for ZeroFilled<S> {
 
     ghost accesses = { filled S.accesses };
 
-    #[tactic(auto, using(crate::specs::Filling::made))]
+    #[tactic(auto, using(crate::proofs::Filled::made))]
     fn read(&mut self, place: Place, width: Width) -> Result<u64, SpaceFault> {
         match self.inner.read(place, width) {
             Ok(value) => Ok(value),
@@ -242,7 +242,7 @@ impl<S: Space> Space for ZeroFilled<S> {
         }
     }
 
-    #[tactic(auto, using(crate::specs::Filling::made))]
+    #[tactic(auto, using(crate::proofs::Filled::made))]
     fn write(&mut self, place: Place, width: Width, value: u64) -> Result<(), SpaceFault> {
         match self.inner.write(place, width, value) {
             Ok(()) => Ok(()),

@@ -1,5 +1,5 @@
 use Rattle.std.proofs.Common.{◌≤◌, length, subst, ◌∙◌, arith}
-use Rattle.acpi_machine.specs.Stops.{stops_first}
+use Rattle.acpi_machine.proofs.Stopping.{stops_first}
 use Rattle.acpi_links.specs.Problems.{pin_counts}
 use Rattle.acpi_configure.specs.Configured.{Solves}
 use Rattle.acpi_configure.proofs.Claims.{Bounded, Laws}

@@ -1,7 +1,8 @@
 use Rattle.std.proofs.Common.{◌++◌, ◌∷◌, [], arith, refl}
 use Rattle.ar_space.specs.Change.{does_same, does_seen_err, same_ok}
-use Rattle.acpi_machine.specs.Stops.{AllOrNone, none_made, stops_here, stops_in, goes_on}
-use Rattle.acpi_links.specs.Folds.{same_turn, same_added, fold_end}
+use Rattle.acpi_machine.specs.Stops.{AllOrNone}
+use Rattle.acpi_machine.proofs.Stopping.{none_made, stops_here, stops_in, goes_on}
+use Rattle.acpi_links.proofs.Folding.{same_turn, same_added, fold_end}
 use Rattle.acpi_configure.specs.Settling.{link_read}
 use Rattle.acpi_configure.proofs.settling.read_links.Goals as goal
 

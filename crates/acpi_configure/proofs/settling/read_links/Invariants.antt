@@ -1,6 +1,6 @@
 use Rattle.std.proofs.Common.{◌++◌, ◌∷◌, [], drop}
 use Rattle.ar_space.specs.Change.{Same}
-use Rattle.acpi_machine.specs.Stops.{Goes}
+use Rattle.acpi_machine.proofs.Stopping.{Goes}
 use Rattle.acpi_links.specs.Folds.{folded}
 use Rattle.acpi_configure.specs.Settling.{link_read, links_read}
 use Rattle.acpi_configure.specs.Stops.{StopsInReads}

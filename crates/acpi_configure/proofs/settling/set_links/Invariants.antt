@@ -1,7 +1,8 @@
 use Rattle.std.proofs.Common.{drop, []}
 use Rattle.ar_space.specs.Change.{Same}
 use Rattle.std.specs.Prelude.{zip}
-use Rattle.acpi_machine.specs.Stops.{Goes, AllOrNone, StopsEach}
+use Rattle.acpi_machine.specs.Stops.{AllOrNone, StopsEach}
+use Rattle.acpi_machine.proofs.Stopping.{Goes}
 use Rattle.acpi_configure.specs.Settling.{link_set, links_set}
 use Rattle.acpi_configure.specs.Stops.{StopsInSets}
 use Rattle.acpi_configure.proofs.settling.set_links.Given as goal

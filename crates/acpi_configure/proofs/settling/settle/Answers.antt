@@ -1,4 +1,4 @@
-use Rattle.acpi_machine.specs.Stops.{stops_first, stops_next}
+use Rattle.acpi_machine.proofs.Stopping.{stops_first, stops_next}
 use Rattle.acpi_configure.proofs.settling.settle.Goals as goal
 
 pub returns-in_err-sets-clause-evaluated : goal.returns-in_err-sets-clause-evaluated

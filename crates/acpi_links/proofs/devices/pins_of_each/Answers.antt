@@ -1,7 +1,7 @@
 use Rattle.std.proofs.Common.{◌++◌, arith, refl}
 use Rattle.ar_space.specs.Change.{does_same, does_seen_err, same_ok}
-use Rattle.acpi_machine.specs.Stops.{stops_first, stops_here, stops_in, goes_on}
-use Rattle.acpi_links.specs.Folds.{same_turn, same_added, fold_end}
+use Rattle.acpi_machine.proofs.Stopping.{stops_first, stops_here, stops_in, goes_on}
+use Rattle.acpi_links.proofs.Folding.{same_turn, same_added, fold_end}
 use Rattle.acpi_links.specs.Devices.{pins_of_device}
 use Rattle.acpi_links.specs.Stops.{StopsInDevice}
 use Rattle.acpi_links.proofs.devices.pins_of_each.Goals as goal

@@ -1,5 +1,5 @@
 use Rattle.std.proofs.Common.{◌++◌, drop}
-use Rattle.acpi_machine.specs.Stops.{Goes}
+use Rattle.acpi_machine.proofs.Stopping.{Goes}
 use Rattle.ar_space.specs.Change.{Same}
 use Rattle.acpi_links.specs.Folds.{folded}
 use Rattle.acpi_links.specs.Devices.{pins_of_device, pins_of_each}

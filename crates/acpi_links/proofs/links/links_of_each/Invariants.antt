@@ -3,7 +3,7 @@ use Rattle.std.specs.Prelude.{All}
 use Rattle.std.specs.List.Sorted.{IsStrictlySortedBy}
 use Rattle.ar_space.specs.Change.{Same}
 use Rattle.aml_path.specs.Paths.{path_cmp}
-use Rattle.acpi_machine.specs.Stops.{Goes}
+use Rattle.acpi_machine.proofs.Stopping.{Goes}
 use Rattle.acpi_links.specs.Folds.{folded}
 use Rattle.acpi_links.specs.Links.{HasLeft, with_link, link_asked, links_of_each}
 use Rattle.acpi_links.specs.Stops.{StopsInLinks}

@@ -1,4 +1,4 @@
-use Rattle.acpi_machine.specs.Stops.{made_settled}
+use Rattle.acpi_machine.proofs.Stopping.{made_settled}
 use Rattle.acpi_links.specs.Presence.{is_present}
 use Rattle.acpi_links.proofs.presence.is_present.Goals as goal
 

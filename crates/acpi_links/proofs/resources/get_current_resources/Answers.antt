@@ -1,4 +1,4 @@
-use Rattle.acpi_machine.specs.Stops.{made_settled}
+use Rattle.acpi_machine.proofs.Stopping.{made_settled}
 use Rattle.acpi_links.specs.Resources.{current_resources}
 use Rattle.acpi_links.proofs.resources.get_current_resources.Goals as goal
 

@@ -1,6 +1,6 @@
 use Rattle.std.proofs.Common.{map, ap}
 use Rattle.aml_meaning.specs.Given.{given_of}
-use Rattle.acpi_machine.specs.Stops.{stops_first, none_made}
+use Rattle.acpi_machine.proofs.Stopping.{stops_first, none_made}
 use Rattle.acpi_prt.proofs.Stopped.{table_asked, table_read}
 use Rattle.acpi_prt.proofs.routing_table.get_irq_routing_table.Goals as goal
 

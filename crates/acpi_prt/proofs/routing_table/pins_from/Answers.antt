@@ -2,7 +2,8 @@ use Rattle.std.proofs.Common.{map, arith}
 use Rattle.ar_space.specs.Change.{does_same, does_seen_err, same_ok}
 use Rattle.std.proofs.lemmas.List.{length-map}
 use Rattle.aml_meaning.specs.Given.{given_of}
-use Rattle.acpi_machine.specs.Stops.{AllOrNone, none_made, stops_here, stops_in, goes_on}
+use Rattle.acpi_machine.specs.Stops.{AllOrNone}
+use Rattle.acpi_machine.proofs.Stopping.{none_made, stops_here, stops_in, goes_on}
 use Rattle.acpi_prt.specs.RoutingTables.{pin_of}
 use Rattle.acpi_prt.proofs.Stopped.{given_at}
 use Rattle.acpi_prt.proofs.Turns.{same_each, same_taken, each_end}

@@ -1,7 +1,7 @@
 use Rattle.std.proofs.Common.{map, drop, []}
 use Rattle.ar_space.specs.Change.{Same}
 use Rattle.aml_meaning.specs.Given.{given_of}
-use Rattle.acpi_machine.specs.Stops.{Goes}
+use Rattle.acpi_machine.proofs.Stopping.{Goes}
 use Rattle.acpi_prt.specs.RoutingTables.{pins_from}
 use Rattle.acpi_prt.specs.Stops.{StopsInEntries}
 use Rattle.acpi_prt.proofs.routing_table.pins_from.Given as goal

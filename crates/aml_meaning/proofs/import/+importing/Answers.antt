@@ -1,7 +1,7 @@
 use Rattle.std.proofs.Common.{arith, rules}
 use Rattle.ar_space.specs.Change.{does_same, does_err, same_ok}
 use Rattle.aml_meaning.specs.declared.datum.Datum.{the_lemmas}
-use Rattle.aml_meaning.specs.Given.{row_is_list}
+use Rattle.aml_meaning.proofs.GivenRows.{row_is_list}
 use Rattle.aml_meaning.specs.Importing.{package_imported}
 use Rattle.aml_meaning.proofs.Imports.{same_each, each_end}
 use Rattle.aml_meaning.proofs.import.+importing.Goals as goal

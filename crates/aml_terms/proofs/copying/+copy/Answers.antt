@@ -7,7 +7,8 @@ use Rattle.aml_grammar.specs.Apart.{operand_of}
 use Rattle.aml_grammar.specs.View.{part_view, tree_view}
 use Rattle.aml_grammar.specs.declared.term.Operand.{the_lemmas}
 use Rattle.aml_grammar.specs.declared.term.Operand.TheVariants as operands
-use Rattle.aml_terms.specs.Copying.{tree_size, trees_size, size_from, from_tree, size_there, operands_from, operands_of, trees_list}
+use Rattle.aml_terms.specs.Copying.{tree_size, trees_size, size_from, operands_from, operands_of, trees_list}
+use Rattle.aml_terms.proofs.CopiedParts.{from_tree, size_there}
 use Rattle.aml_terms.proofs.Copied.{operands_end, operands_more, list_copied}
 use Rattle.aml_terms.proofs.copying.+copy.Goals as goal
 

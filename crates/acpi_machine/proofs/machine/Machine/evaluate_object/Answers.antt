@@ -2,9 +2,9 @@ use Rattle.std.proofs.Common.{sym, ap, inr, ◌∙◌}
 use Rattle.std.specs.Prelude.{◌≡◌, true, false}
 use Rattle.aml_meaning.specs.Given.{given_of}
 use Rattle.acpi_machine.specs.Calls.{evaluated_object}
-use Rattle.acpi_machine.specs.Stops.{made}
+use Rattle.acpi_machine.proofs.Stopping.{made}
 use Rattle.acpi_machine.specs.MachineStates.{MachineState}
-use Rattle.acpi_machine.specs.Noticing.{does_spent, does_unspent}
+use Rattle.acpi_machine.proofs.Noticed.{does_spent, does_unspent}
 use Rattle.acpi_machine.proofs.machine.Machine.evaluate_object.Goals as goal
 
 pub returns-then-self-clause-evaluated : goal.returns-then-self-clause-evaluated

@@ -1,5 +1,6 @@
 use Rattle.std.proofs.Common.{rules}
-use Rattle.watched_space.specs.Filling.{read_32, makes_give, makes_ok, makes_err}
+use Rattle.watched_space.specs.Filling.{read_32}
+use Rattle.watched_space.proofs.Filled.{makes_give, makes_ok, makes_err}
 use Rattle.watched_space.proofs.zero_filled.ZeroFilled.read_32.Goals as goal
 
 pub returns-in_err-low-clause-made : goal.returns-in_err-low-clause-made

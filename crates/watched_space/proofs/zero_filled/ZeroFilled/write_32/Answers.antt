@@ -1,5 +1,6 @@
 use Rattle.std.proofs.Common.{rules}
-use Rattle.watched_space.specs.Filling.{write_32, makes_ok, makes_err}
+use Rattle.watched_space.specs.Filling.{write_32}
+use Rattle.watched_space.proofs.Filled.{makes_ok, makes_err}
 use Rattle.watched_space.proofs.zero_filled.ZeroFilled.write_32.Goals as goal
 
 pub returns-in_err-write_16 : goal.returns-in_err-write_16

@@ -1,0 +1,28 @@
+-- The loop over tables that are loaded.
+use Rattle.std.specs.Prelude.{◌≡◌, ℕ, ◌+◌, ◌<◌, ◌≤◌, nat_lt, List, [], ◌∷◌, length, drop, get_or, Ok, Err, if◌then◌else◌}
+use Rattle.std.proofs.Common.{refl, ◌∙◌, drop-cons, add-one}
+use Rattle.std.proofs.lemmas.List.{drop_all}
+use Rattle.ar_space.specs.declared.refusal.Refusal.TheVariants as refusal
+use Rattle.ar_space.specs.declared.refusal.EvaluationFault.TheVariants.{ObjectLimit}
+use Rattle.ar_space.specs.Accesses.{Accesses}
+use Rattle.ar_space.specs.Outcome.{Outcome}
+use Rattle.ar_space.specs.Change.{Change, Does, Same, same_ok, does_same, give, settle, ◌>>=◌, ◌>>◌}
+use Rattle.ar_tables.specs.declared.tables.Tables.{Tables}
+use Rattle.aml_meaning.specs.State.{State}
+use Rattle.aml_meaning.specs.Predefined.{predefined}
+use Rattle.aml_meaning.specs.Calling.{loaded}
+use Rattle.acpi_machine.specs.Loading.{table_loaded, each_loaded}
+
+module _ {S : Type 0} (accesses : Accesses S) where
+  pub same_each : {w0 w : State S} {m : Change (State S) (Unit {0})} (steps : ℕ) (tables : List (List ℕ)) (i : ℕ) (t : List ℕ)
+      → Same m w0 (each_loaded accesses steps (drop i tables)) w → i < length tables → t ≡ get_or tables i t
+      → Same m w0 (table_loaded accesses steps t >>= (λ _. each_loaded accesses steps (drop (i + 1) tables))) w
+  unfolding each_loaded
+  same_each steps tables i t h l at = record { is = h.is ∙ rw (drop-cons tables i t l, ← at, add-one) refl }
+
+  pub does_end : {w0 w : State S} {m : Change (State S) (Unit {0})} (steps : ℕ) (tables : List (List ℕ)) (i : ℕ)
+      → Same m w0 (each_loaded accesses steps (drop i tables)) w → length tables ≤ i → Does (Ok tt) w m w0
+  unfolding each_loaded give
+  does_end steps tables i h l = record { is = λ _. h.is ∙ rw (drop_all i tables l) refl }
+
+pub ruleset loading = (same_each, same_ok, does_same, does_end)

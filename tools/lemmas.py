@@ -1,0 +1,56 @@
+#!/usr/bin/env python3
+"""lemmas.py [--list] - whether specs/ holds definitions alone: names each statement with a proof that stands there.
+
+A definition begins with `abbrev` or `unfoldable`, or is part of a `record`, a `data` or a `mutual`. What has a signature without these is a
+statement, and its clauses are its proof: it belongs into proofs/. The files of KNOWN still hold some: these crates stand below all others,
+and the script says where one of them has none left."""
+import glob
+import os
+import re
+import sys
+
+ROOT = os.path.join(os.path.dirname(os.path.abspath(__file__)), '..', 'crates')
+# nearly every crate cites these
+KNOWN = {
+    'ar_space/specs/Change.antt', 'ar_space/specs/Each.antt', 'ar_space/specs/Outcome.antt', 'ar_space/specs/Registers.antt',
+    'aml_path/specs/Segments.antt',
+}
+
+def around(lines, at):
+    """the line that a line stands under, by its indentation"""
+    width = len(lines[at]) - len(lines[at].lstrip())
+    for line in reversed(lines[:at]):
+        if line.strip() and len(line) - len(line.lstrip()) < width:
+            return line
+    return ''
+
+
+def statements(path):
+    """the names of the statements of a file"""
+    lines = open(path, encoding='utf-8').read().split('\n')
+    for at, line in enumerate(lines):
+        m = re.match(r'\s*(?:pub )?([^\s:(){]+) : (.*)$', line)
+        if not m or line.lstrip().startswith(('--', 'use ', 'abbrev', 'unfoldable')):
+            continue
+        if re.search(r'\b(record|data|mutual)\b', around(lines, at)):
+            continue
+        if not re.search(r'Type( \d+)?$', m.group(2)):
+            yield at + 1, m.group(1)
+
+
+def main():
+    bad, left = [], set()
+    for path in sorted(glob.glob(os.path.join(ROOT, '*/specs/**/*.antt'), recursive=True)):
+        name = os.path.relpath(path, ROOT)
+        found = list(statements(path))
+        if found and name in KNOWN:
+            left.add(name)
+        if '--list' in sys.argv[1:] or name not in KNOWN:
+            bad += [f'crates/{name}:{line}: {word} is a statement with a proof: move it to proofs/' for line, word in found]
+    bad += [f'crates/{name} holds no statement any more: take it out of KNOWN in tools/lemmas.py' for name in sorted(KNOWN - left)]
+    print('\n'.join(bad) if bad else 'specs/ holds definitions alone, but for ' + str(len(KNOWN)) + ' files of the lowest crates')
+    return 1 if bad and '--list' not in sys.argv[1:] else 0
+
+
+if __name__ == '__main__':
+    sys.exit(main())
