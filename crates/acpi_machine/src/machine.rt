@@ -87,4 +87,11 @@ impl<S: Space> Machine<S> {
     pub fn trace(&self) -> &Trace {
         self.world.trace()
     }
+
+    /// The register space, with the accesses made so far, and what `trace` tells, both given back.
+    pub fn into_parts(self) -> (S, Trace)
+        ensures { result.0 ≡ self.world.space }
+    {
+        self.world.into_parts()
+    }
 }
