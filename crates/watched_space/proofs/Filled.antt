@@ -9,7 +9,7 @@ use Rattle.ar_space.specs.declared.space.Place.{Place}
 use Rattle.ar_space.specs.declared.space.Width.{Width}
 use Rattle.ar_space.specs.declared.space.Width.TheVariants.{W8, W16, W32, W64}
 use Rattle.watched_space.specs.MissingPlaces.{Missing, missing_code, missing_read, missing_written}
-use Rattle.watched_space.specs.Filling.{Filled, Makes, Step, byte_read, byte_written, bytes_read, bytes_written, filled, filled_code, give, go_on, if_place, inner, is, missing, read_16, read_32, read_64, read_8, read_at, read_within, room_answer, unless_missing, write_16, write_32, write_64, write_8, write_at, write_within, zero_answer, zero_read, zero_written, ◌>>=◌, ◌>>◌}
+use Rattle.watched_space.specs.Filling.{Makes, Step, give, go_on, ◌>>=◌}
 
 pub makes_give : {S A : Type 0} {a : A} {s : S} → Makes (Ok a) s (give a) s
 unfolding give

@@ -67,26 +67,26 @@ places::fields-returns-clause-reads g t c = record { is = (until_done (field (te
 -- ---- operands
 
 pub terms::operands-returns-then-is_nothing-clause-reads : goal.terms::operands-returns-then-is_nothing-clause-reads
-terms::operands-returns-then-is_nothing-clause-reads g t c = operands_end (term_at by_arities c.args.levels) c.args.scope.now c.args.context c.args.start c.args.kinds.now c.operands.kind-index _ c.operands.earlier (omega arith) c.operands.invariant.so_far (sym c.is_nothing.ensures ∙ c.if-is_nothing.true)
+terms::operands-returns-then-is_nothing-clause-reads g t c = operands_end (term_at by_arities c.args.levels) c.args.start.scope.now c.args.start.context c.args.start.at c.args.kinds.now c.operands.kind-index _ c.operands.earlier (omega arith) c.operands.invariant.so_far (sym c.is_nothing.ensures ∙ c.if-is_nothing.true)
 
 pub terms::operands-returns-in_err-operand-clause-reads : goal.terms::operands-returns-in_err-operand-clause-reads
-terms::operands-returns-in_err-operand-clause-reads g t c = operands_err (term_at by_arities c.args.levels) c.args.scope.now c.args.context c.args.start c.args.kinds.now c.operands.kind-index _ c.operands.earlier (omega arith) c.operands.invariant.so_far (sym c.is_nothing.ensures ∙ c.if-is_nothing.false) c.in_err-operand.ensures.reads c.from_residual.ensures
+terms::operands-returns-in_err-operand-clause-reads g t c = operands_err (term_at by_arities c.args.levels) c.args.start.scope.now c.args.start.context c.args.start.at c.args.kinds.now c.operands.kind-index _ c.operands.earlier (omega arith) c.operands.invariant.so_far (sym c.is_nothing.ensures ∙ c.if-is_nothing.false) c.in_err-operand.ensures.reads c.from_residual.ensures
 
 pub terms::operands-operands-preserved : goal.terms::operands-operands-preserved
 terms::operands-operands-preserved g t c = record {
-  so_far = operands_turn (term_at by_arities c.args.levels) c.args.scope.now c.args.context c.args.start c.args.kinds.now c.operands.kind-index _ c.operands.earlier (omega arith) c.operands.invariant.so_far (sym c.is_nothing.ensures ∙ c.if-is_nothing.false) c.in_ok-operand.ensures.reads;
+  so_far = operands_turn (term_at by_arities c.args.levels) c.args.start.scope.now c.args.start.context c.args.start.at c.args.kinds.now c.operands.kind-index _ c.operands.earlier (omega arith) c.operands.invariant.so_far (sym c.is_nothing.ensures ∙ c.if-is_nothing.false) c.in_ok-operand.ensures.reads;
   kept = omega (arith, c.in_ok-operand.ensures.kept, c.operands.invariant.kept);
 }
 
 pub terms::operands-returns-clause-reads : goal.terms::operands-returns-clause-reads
-terms::operands-returns-clause-reads g t c = operands_done (term_at by_arities c.args.levels) c.args.scope.now c.args.context c.args.start c.args.kinds.now c.operands.kind-index c.operands.earlier (omega arith) c.operands.invariant.so_far
+terms::operands-returns-clause-reads g t c = operands_done (term_at by_arities c.args.levels) c.args.start.scope.now c.args.start.context c.args.start.at c.args.kinds.now c.operands.kind-index c.operands.earlier (omega arith) c.operands.invariant.so_far
 
 -- ---- an operand that is a term
 
 pub terms::operand-returns-in-TermArg-clause-reads : goal.terms::operand-returns-in-TermArg-clause-reads
 unfolding operand
-terms::operand-returns-in-TermArg-clause-reads g t c = rw c.in-TermArg.is (kept_keeping _ _ (term_operand (term_at by_arities c.args.levels) positions.TermArg c.args.scope.now c.args.context) (scanned_term _ _ _ _ c.term.ensures.reads))
+terms::operand-returns-in-TermArg-clause-reads g t c = rw c.in-TermArg.is (kept_keeping _ _ (term_operand (term_at by_arities c.args.levels) positions.TermArg c.args.start.scope.now c.args.start.context) (scanned_term _ _ _ _ c.term.ensures.reads))
 
 pub terms::operand-returns-in-DataObject-clause-reads : goal.terms::operand-returns-in-DataObject-clause-reads
 unfolding operand
-terms::operand-returns-in-DataObject-clause-reads g t c = rw c.in-DataObject.is (kept_keeping _ _ (term_operand (term_at by_arities c.args.levels) positions.DataObject c.args.scope.now c.args.context) (scanned_term _ _ _ _ c.term-in-DataObject.ensures.reads))
+terms::operand-returns-in-DataObject-clause-reads g t c = rw c.in-DataObject.is (kept_keeping _ _ (term_operand (term_at by_arities c.args.levels) positions.DataObject c.args.start.scope.now c.args.start.context) (scanned_term _ _ _ _ c.term-in-DataObject.ensures.reads))

@@ -120,7 +120,7 @@ decreases-places::fields-fields g l = length l.reader.rest
 
 abbrev pub invariant-terms::operands-operands : goal.invariant-terms::operands-operands
 invariant-terms::operands-operands g l = record {
-  so_far : Same (scanned (operands (term_at by_arities l.levels) l.scope l.context l.start l.kinds nothing_earlier)) l.fn.reader
-      (scanned (operands (term_at by_arities l.levels) l.scope l.context l.start (drop l.kind-index l.kinds) l.earlier)) l.reader;
+  so_far : Same (scanned (operands (term_at by_arities l.levels) l.start.scope.now l.start.context l.start.at l.kinds nothing_earlier)) l.fn.reader
+      (scanned (operands (term_at by_arities l.levels) l.start.scope.now l.start.context l.start.at (drop l.kind-index l.kinds) l.earlier)) l.reader;
   kept : length l.reader.rest ≤ length l.fn.reader.rest;
 }
