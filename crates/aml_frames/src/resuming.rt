@@ -23,7 +23,7 @@ use crate::searching::{resume_match, resume_matched};
 use crate::statements::next_branch;
 use crate::target_uses::resume_counted;
 use crate::targets::{resume_dereferenced, resume_index_target};
-use crate::tracing::told_loop;
+use crate::tracing::{told_loop, told_turn};
 use crate::values::integer_of;
 use crate::wide::resume_third;
 use aml_convert::is_true;
@@ -132,10 +132,9 @@ pub(crate) fn begin_predicate<S: Space>(
         (next_run S.accesses (meaning S.accesses) (next.Term turn.levels (frames.Predicate turn)) act.old) run.old }
     ensures ends { EndsAt result act.new (next_ends (next.Term turn.levels (frames.Predicate turn)) act.old) }
 {
-    match known_integer(run, act, turn.levels) {
-        Ok(Some(number)) => Ok(next_turn(run, act, turn, is_true(number))),
-        Ok(None) => Ok(Next::Term(turn.levels, Frame::Predicate(turn))),
-        Err(refusal) => Err(told_loop(act, turn, refusal)),
+    match known_integer(run, act, turn.levels)? {
+        Some(number) => Ok(next_turn(run, act, turn, is_true(number))),
+        None => Ok(Next::Term(turn.levels, Frame::Predicate(turn))),
     }
 }
 
@@ -157,7 +156,8 @@ fn resume_turn<S: Space>(
     match flow.loop_end() {
         None => {
             act.go_to(turn.predicate);
-            begin_predicate(run, act, turn)
+            let next = begin_predicate(run, act, turn);
+            told_turn(act, turn, next)
         }
         Some(last) => {
             act.go_to(turn.outer);

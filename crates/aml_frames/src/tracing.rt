@@ -3,7 +3,7 @@
 ghost use Rattle.std.specs.Prelude.{◌≡◌};
 
 use crate::activation::{Activation, MethodPath, between};
-use crate::frames::{Frame, Loop};
+use crate::frames::{Frame, Loop, Next};
 use aml_meaning::{Running, TracePlace, WorldState};
 use aml_path::{NameString, Path};
 use ar_space::Refusal;
@@ -181,6 +181,22 @@ pub(crate) fn told_loop(act: &mut Activation, turn: Loop, refusal: Refusal) -> R
 {
     tell_loop(act, turn);
     refusal
+}
+
+/// What came of the predicate of a While at a further turn: where it is refused, the While is told.
+#[inline(always)]
+pub(crate) fn told_turn(
+    act: &mut Activation,
+    turn: Loop,
+    outcome: Result<Next, Refusal>,
+) -> Result<Next, Refusal>
+    ensures same { result ≡ outcome }
+    ensures act { act.new ≡ act.old }
+{
+    match outcome {
+        Ok(next) => Ok(next),
+        Err(refusal) => Err(told_loop(act, turn, refusal)),
+    }
 }
 
 /// A While is told, whose predicate is no item of a list.
