@@ -9,6 +9,8 @@ import os
 import re
 import sys
 
+import usage
+
 ROOT = os.path.join(os.path.dirname(os.path.abspath(__file__)), '..', 'crates')
 # nearly every crate cites these
 KNOWN = {
@@ -39,6 +41,7 @@ def statements(path):
 
 
 def main():
+    usage.answer_help(__doc__)
     bad, left = [], set()
     for path in sorted(glob.glob(os.path.join(ROOT, '*/specs/**/*.antt'), recursive=True)):
         name = os.path.relpath(path, ROOT)
