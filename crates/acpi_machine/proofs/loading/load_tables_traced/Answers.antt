@@ -21,4 +21,4 @@ pub returns-in-Err-load_all-clause-refusal : goal.returns-in-Err-load_all-clause
 returns-in-Err-load_all-clause-refusal g c = λ ne. ap (λ p. p.0) ((all_done _ _ _ _ _ _ _ (rw (← c.deref.ensures.value) c.in-Ok.ensures.value) c.in-Ok-with_profile.ensures.world c.in-Err-load_all.ensures).is ne)
 
 pub returns-in-Err-load_all-clause-space : goal.returns-in-Err-load_all-clause-space
-returns-in-Err-load_all-clause-space g c = λ ne. ap (λ p. p.1.space) ((all_done _ _ _ _ _ _ _ (rw (← c.deref.ensures.value) c.in-Ok.ensures.value) c.in-Ok-with_profile.ensures.world c.in-Err-load_all.ensures).is ne) ∙ sym c.into_space.ensures
+returns-in-Err-load_all-clause-space g c = λ ne. ap (λ p. p.1.space) ((all_done _ _ _ _ _ _ _ (rw (← c.deref.ensures.value) c.in-Ok.ensures.value) c.in-Ok-with_profile.ensures.world c.in-Err-load_all.ensures).is ne) ∙ sym c.into_parts-space.ensures
