@@ -14,6 +14,7 @@ use crate::activation::{Activation, MethodPath};
 use crate::addresses::PciAccess;
 use crate::boxed::Boxed;
 use crate::frames::{Call, Callee, Frame, Next};
+use crate::tracing::told_path;
 use aml_meaning::{Flow, Running};
 use aml_objects::{Body, Value};
 use aml_path::Path;
@@ -160,7 +161,8 @@ pub(crate) fn enter<S: Space>(
 {
     let (path, body) = called;
     shallow(depth)?;
-    let marks = run.world.body_marks(alloc, &path, &body)?;
+    let marks = run.world.body_marks(alloc, &path, &body);
+    let marks = told_path(alloc, &mut run.world, &path, marks)?;
     let node = run.world.scope(&path).node;
     let method = MethodPath::new(alloc, path)?;
     let entered = Activation::new(body, marks, method, node, depth + 1);
