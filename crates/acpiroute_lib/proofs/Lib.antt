@@ -1,6 +1,6 @@
 pub mod Caused
 pub mod Deliveries
-pub mod Ended
+pub mod Endings
 pub mod Evaluated
 pub mod Machines
 pub mod NameLines

@@ -16,7 +16,6 @@ use route_report::Mode;
 use std::alloc::Global;
 
 /// Routes a machine, once it is initialized.
-#[tactic(auto, using(crate::proofs::Ended::ending))]
 fn route_machine<S: Space>(
     alloc: Global,
     mode: Mode,
@@ -33,7 +32,6 @@ fn route_machine<S: Space>(
 }
 
 /// Evaluates the object at a path, once the machine is initialized.
-#[tactic(auto, using(crate::proofs::Ended::ending))]
 fn evaluate_path<S: Space>(
     alloc: Global,
     mode: Mode,
@@ -51,7 +49,6 @@ fn evaluate_path<S: Space>(
 }
 
 /// The text of a path is refused, once the machine is initialized.
-#[tactic(auto, using(crate::proofs::Ended::ending))]
 fn refuse_path<S: Space>(
     alloc: Global,
     mode: Mode,
@@ -67,7 +64,6 @@ fn refuse_path<S: Space>(
 }
 
 /// Evaluates the object whose path a text is, once the machine is initialized.
-#[tactic(auto, using(crate::proofs::Ended::ending))]
 fn evaluate_machine<S: Space>(
     alloc: Global,
     mode: Mode,
