@@ -1,8 +1,10 @@
 pub mod Caused
 pub mod Deliveries
+pub mod Endings
 pub mod Evaluated
 pub mod Machines
 pub mod NameLines
 pub mod One
 pub mod Packages
+pub mod Putting
 pub mod Routes

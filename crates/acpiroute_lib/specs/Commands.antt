@@ -2,16 +2,19 @@
 use Rattle.std.specs.Prelude.{◌≡◌, ℕ, List}
 use Rattle.ar_space.specs.Outcome.{Outcome}
 use Rattle.acpiroute_words.specs.declared.request.Request.{Request}
-use Rattle.acpiroute_words.specs.declared.request.Request.TheVariants.{Route, Names, Eval, Check}
+use Rattle.acpiroute_words.specs.declared.request.Request.TheVariants.{Route, Why, Registers, Names, Eval, Check}
 use Rattle.acpiroute_words.specs.CheckCommand.{IsCheckAnswer}
 use Rattle.acpiroute_lib.specs.EvalCommand.{eval_answer}
 use Rattle.acpiroute_lib.specs.NamesCommand.{names_answer}
 use Rattle.acpiroute_lib.specs.RouteCommand.{IsRouteAnswer}
+use Rattle.acpiroute_lib.specs.WhyCommand.{IsWhyAnswer, IsRegistersAnswer}
 use Rattle.acpiroute_words.specs.Written.{Written}
 
 -- what the answer to a request over an input is
 abbrev pub IsAnswer : Request → List ℕ → Outcome Written → Type 0
 IsAnswer (Route mode evaluation dry avoid spare spread) input r = IsRouteAnswer mode evaluation (record { dry = dry; avoid = avoid; spare = spare; spread = spread }) input r
+IsAnswer (Why asking) input r = IsWhyAnswer asking input r
+IsAnswer (Registers asking) input r = IsRegistersAnswer asking input r
 IsAnswer (Names evaluation) input r = names_answer evaluation input ≡ r
 IsAnswer (Eval mode evaluation path arguments) input r = eval_answer mode evaluation path arguments input ≡ r
 IsAnswer Check input r = IsCheckAnswer input r

@@ -4,6 +4,10 @@ pub mod NamesCommand
 pub mod ValueText
 pub mod EvalCommand
 pub mod RouteCommand
+pub mod Ended
+pub mod Explaining
+pub mod MissingLines
+pub mod WhyCommand
 pub mod Commands
 pub mod Runs
 pub mod Causes

@@ -5,6 +5,7 @@ ghost use Rattle.acpiroute_lib.specs.Commands.{IsAnswer};
 use crate::eval_command::eval_answer;
 use crate::names_command::names_answer;
 use crate::route_command::route_answer;
+use crate::why_command::{registers_answer, why_answer};
 use acpi_configure::Options;
 use acpiroute_words::{Answer, Request, check_answer};
 use ar_space::Refusal;
@@ -32,6 +33,8 @@ pub(crate) fn answer_to(alloc: Global, request: Request, input: Vec<u8>) -> Resu
             };
             route_answer(alloc, mode, evaluation, &options, input)
         }
+        Request::Why(asking) => why_answer(alloc, &asking, input.as_slice()),
+        Request::Registers(asking) => registers_answer(alloc, &asking, input.as_slice()),
         Request::Names { evaluation } => names_answer(alloc, evaluation, input),
         Request::Eval {
             mode,

@@ -34,7 +34,7 @@ fn datum(alloc: Global, argument: &Argument) -> Result<Datum, AllocError>
 }
 
 /// Arguments as values for the interpreter.
-fn data(alloc: Global, arguments: &[Argument]) -> Result<Vec<Datum>, AllocError>
+pub(crate) fn data(alloc: Global, arguments: &[Argument]) -> Result<Vec<Datum>, AllocError>
     ensures { IfOk result (λ list. map given.given_of list.items ≡ map given_argument arguments.now) }
 {
     let mut list = Vec::new(alloc);

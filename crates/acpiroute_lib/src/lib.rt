@@ -3,19 +3,27 @@
 #![tactic(auto)]
 
 mod commands;
+mod ended;
 mod eval_command;
+mod explaining;
 pub mod laws;
+mod link_texts;
 mod machine;
 mod memory;
 mod name_lines;
 mod names_command;
+mod place_words;
 mod program;
+mod refused_stage;
 mod route_command;
+mod run_end;
+mod shown;
 mod value_text;
+mod why_command;
 
 pub use acpiroute_words::{
-    Argument, ArgumentBytes, Arguments, Asked, Evaluation, Failed, Growing, Interrupts, Outside,
-    Request, Sink, Source, parse, write_error_line,
+    Argument, ArgumentBytes, Arguments, Asked, Asking, Evaluation, Failed, Growing, Interrupts,
+    Outside, Question, Request, Sink, Source, parse, write_error_line,
 };
 pub use aml_meaning::Profile;
 pub use eval_command::value_answer;

@@ -13,7 +13,7 @@ use machine_text::{MachineText, read_machine};
 use std::alloc::{AllocError, Global};
 
 /// Texts that `_OSI` is to know.
-fn octets(alloc: Global, texts: Vec<Vec<u8>>) -> Result<Vec<Octets>, AllocError>
+pub(crate) fn octets(alloc: Global, texts: Vec<Vec<u8>>) -> Result<Vec<Octets>, AllocError>
     ensures { IfOk result (λ list. list.items ≡ map (λ text. text.items) texts.items) }
 {
     let mut list = Vec::new(alloc);

@@ -113,6 +113,14 @@ fn decline<W: Sink, E: Sink>(writer: &mut W, errors: &mut E) -> u8
 /// none of those in the list, sets them, and writes the report of this; with `--dry` no link device is set. The list
 /// is 1 to 255 numbers below 2^32 in decimal digits, separated by commas; for any other text, where nothing else is
 /// wrong with the words, the errors get the line `bad --avoid`.
+/// - `why [options of route]`: makes the run of `route` over a machine text, and writes what ended it, a line each:
+/// `refused R` with its detail and the name of the refusal; `while` and what was done then; `access`, the last access
+/// of a register, where that tells something; `help` and what to do. Where the run isn't refused: `not refused`, and a
+/// line for each link that refused its setting or its reading, or that reads back something else than it was given.
+/// `why eval PATH [ARGUMENT..]` with the options of `eval` does the same for its run. Only the machine text itself is
+/// refused.
+/// - `why --registers [options of route]`: makes the run with 0 in place of each byte that the machine text lacks, and
+/// writes the lines of these bytes, and behind them a line that begins with `#` and tells how the run ended.
 ///
 /// N is the budget of steps for each table and each evaluation, a number from 1 to 1,000,000,000 in decimal digits,
 /// by default 1,000,000. The profile says how much of AML is evaluated, by default `core`. Refusals come in this

@@ -1,5 +1,5 @@
 -- What the words of the command line ask for, and what is wrong with them.
-use Rattle.std.specs.Prelude.{ℕ, Bool, true, List, [], ◌∷◌, Option, Some, None, codes, if◌then◌else◌}
+use Rattle.std.specs.Prelude.{ℕ, ◌&&◌, ◌||◌, not, Bool, true, false, List, [], ◌∷◌, Option, Some, None, codes, is_some, option_map, if◌then◌else◌}
 use Rattle.std.specs.Str.{bytes_eq}
 use Rattle.clap.specs.Kinds.{or_else}
 use Rattle.clap.specs.Words.{App, Kinds, Row, Rule, Text, all_of, fault_of, first_of, new_app, new_rule, subcommand_of, with_rule, with_subcommand}
@@ -10,7 +10,9 @@ use Rattle.aml_meaning.specs.declared.profile.Profile.{Profile}
 use Rattle.acpiroute_words.specs.Values.{◌>>=◌, interrupts_named, mode_named, profile_named, arguments_named, steps_named, is_true}
 use Rattle.acpiroute_words.specs.declared.arguments.Argument.{Argument}
 use Rattle.acpiroute_words.specs.declared.request.Request.TheVariants as request
+use Rattle.acpiroute_words.specs.declared.request.Question.TheVariants as question
 use Rattle.acpiroute_words.specs.declared.request.Asked.{Asked}
+use Rattle.acpiroute_words.specs.declared.request.Asking.{Asking}
 use Rattle.acpiroute_words.specs.declared.request.Evaluation.{Evaluation}
 use Rattle.acpiroute_words.specs.declared.request.Asked.TheVariants.{For, BadAvoid}
 
@@ -72,12 +74,32 @@ eval_app = with_rule (with_rule first_eval_app path_rule) arguments_rule
 abbrev pub check_app : App
 check_app = new_app (codes "check")
 
+abbrev pub registers_rule : Rule
+registers_rule = flag_rule (codes "registers")
+
+-- `eval`, and then the path and the arguments of `eval`
+abbrev pub question_rule : Rule
+question_rule = record (new_rule (codes "question")) { value_names = 1 }
+
+abbrev pub question_path_rule : Rule
+question_path_rule = record (new_rule (codes "path")) { value_names = 1 }
+
+-- `why`, with the options of `route`
+abbrev pub first_why_app : App
+first_why_app = with_rule (with_rule (with_rule (with_rule (new_app (codes "why")) mode_rule) steps_rule) dry_rule) avoid_rule
+
+abbrev pub second_why_app : App
+second_why_app = with_rule (with_rule (with_rule first_why_app spare_rule) spread_rule) profile_rule
+
+abbrev pub why_app : App
+why_app = with_rule (with_rule (with_rule (with_rule second_why_app registers_rule) question_rule) question_path_rule) arguments_rule
+
 -- `acpiroute`, which wants a command, and has a version
 abbrev pub bare_app : App
 bare_app = record { top = record ((new_app (codes "acpiroute")).top) { disable_help_subcommand = true; subcommand_required = true; has_version = true }; subs = [] }
 
 abbrev pub app : App
-app = with_subcommand (with_subcommand (with_subcommand (with_subcommand bare_app route_app.top) names_app.top) eval_app.top) check_app.top
+app = with_subcommand (with_subcommand (with_subcommand (with_subcommand (with_subcommand bare_app route_app.top) why_app.top) names_app.top) eval_app.top) check_app.top
 
 -- ---- what they say
 
@@ -149,10 +171,43 @@ eval_with maybe_mode maybe_evaluation maybe_path maybe_arguments = do
 unfoldable pub eval_of : List Row → Option Asked
 eval_of rows = eval_with (mode_of rows) (evaluation_of rows) (path_of rows) (arguments_of rows)
 
+-- ---- why a machine is refused
+
+-- how a run ends, or which registers are missing for it
+abbrev pub told_of : Bool → Asking → Asked
+told_of true asking = For (request.Registers asking)
+told_of false asking = For (request.Why asking)
+
+-- of `route`
+abbrev pub why_with : Bool → Asked → Asked
+why_with registers (For (request.Route mode evaluation dry avoid spare spread)) = told_of registers (record { mode = mode; evaluation = evaluation; question = question.Route dry avoid spare spread })
+why_with registers other = other
+
+-- of `eval`
+abbrev pub why_evaluated : Asked → Asked
+why_evaluated (For (request.Eval mode evaluation path arguments)) = For (request.Why (record { mode = mode; evaluation = evaluation; question = question.Eval path arguments }))
+why_evaluated other = other
+
+abbrev pub wants_registers : List Row → Bool
+wants_registers rows = is_true (first_of (codes "registers") rows)
+
+-- options that are of no use where an object is evaluated
+abbrev pub has_route_options : List Row → Bool
+has_route_options rows = is_dry rows || (is_sparing rows || (is_spreading rows || (wants_registers rows || is_some (first_of (codes "avoid") rows))))
+
+abbrev pub why_asked : Option Text → List Row → Option Asked
+why_asked None rows = option_map (why_with (wants_registers rows)) (route_of rows)
+why_asked (Some word) rows = if bytes_eq word (codes "eval") && not (has_route_options rows) then option_map why_evaluated (eval_of rows) else None
+
+-- where `eval` stands behind `why`, the run is that of `eval`
+unfoldable pub why_of : List Row → Option Asked
+why_of rows = why_asked (first_of (codes "question") rows) rows
+
 -- the command of this name, with its options
 unfoldable pub parsed_command : Text → List Row → Option Asked
 parsed_command name rows =
     if bytes_eq name (codes "route") then route_of rows
+    else if bytes_eq name (codes "why") then why_of rows
     else if bytes_eq name (codes "names") then names_of rows
     else if bytes_eq name (codes "eval") then eval_of rows
     else if bytes_eq name (codes "check") then Some (For request.Check)

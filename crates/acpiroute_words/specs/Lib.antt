@@ -1,6 +1,7 @@
 pub mod Values
 pub mod CommandLine
 pub mod ErrorLines
+pub mod Hexadecimal
 pub mod Held
 pub mod Stops
 pub mod Reads

@@ -5,6 +5,7 @@ ghost use Rattle.clap.specs.Words.{kind_of};
 
 use crate::command_line::{eval_command, names_command, route_command};
 use crate::values::{argument, mode_named, profile_named, steps_named};
+use crate::why_words::why_command;
 use clap::error::ErrorKind;
 use clap::{ArgMatches, Command, Error};
 use std::alloc::{AllocError, Global};
@@ -74,6 +75,23 @@ fn bad_argument<'a>(
     Ok(None)
 }
 
+/// What is wrong with the word behind `why`.
+fn bad_question<'a>(matches: &ArgMatches<'a>) -> Option<BadValue<'a>> {
+    let value = matches.get_str("question")?;
+    let takes = if value != "eval" {
+        "eval"
+    } else if matches.get_str("path").is_none() {
+        "a path has to stand behind it"
+    } else {
+        "not with --dry, --avoid, --spare, --spread or --registers"
+    };
+    Some(BadValue {
+        value,
+        option: "[eval]",
+        takes,
+    })
+}
+
 /// The first value of a command that its option doesn't take.
 fn first_bad<'a>(
     alloc: Global,
@@ -84,7 +102,10 @@ fn first_bad<'a>(
         .or_else(|| bad_profile(matches))
     {
         Some(bad) => Ok(Some(bad)),
-        None => bad_argument(alloc, matches),
+        None => match bad_argument(alloc, matches)? {
+            Some(bad) => Ok(Some(bad)),
+            None => Ok(bad_question(matches)),
+        },
     }
 }
 
@@ -102,6 +123,7 @@ fn message(alloc: Global, matches: &ArgMatches<'_>) -> Result<String, AllocError
 fn command_named<'a>(alloc: Global, name: &str) -> Result<Command<'a>, AllocError> {
     match name {
         "route" => route_command(alloc)?.bin_name("acpiroute route"),
+        "why" => why_command(alloc)?.bin_name("acpiroute why"),
         "names" => names_command(alloc)?.bin_name("acpiroute names"),
         _ => eval_command(alloc)?.bin_name("acpiroute eval"),
     }

@@ -18,13 +18,14 @@ use crate::request::{Asked, Evaluation, Request};
 use crate::values::{
     arguments_named, interrupts_named, is_true, mode_named, profile_named, steps_named,
 };
+use crate::why_words::{why_command, why_of};
 use aml_meaning::Profile;
 use ar_space::PathText;
 use clap::{Arg, ArgAction, ArgMatches, Command, Error};
 use route_report::Mode;
 use std::alloc::{AllocError, Global};
 
-fn mode_arg<'a>(alloc: Global) -> Arg<'a>
+pub(crate) fn mode_arg<'a>(alloc: Global) -> Arg<'a>
     ensures rule { rule_of result ≡ mode_rule }
     ensures local { result.global ≡ false }
 {
@@ -33,7 +34,7 @@ fn mode_arg<'a>(alloc: Global) -> Arg<'a>
     )
 }
 
-fn steps_arg<'a>(alloc: Global) -> Arg<'a>
+pub(crate) fn steps_arg<'a>(alloc: Global) -> Arg<'a>
     ensures rule { rule_of result ≡ steps_rule }
     ensures local { result.global ≡ false }
 {
@@ -42,7 +43,7 @@ fn steps_arg<'a>(alloc: Global) -> Arg<'a>
     )
 }
 
-fn profile_arg<'a>(alloc: Global) -> Arg<'a>
+pub(crate) fn profile_arg<'a>(alloc: Global) -> Arg<'a>
     ensures rule { rule_of result ≡ profile_rule }
     ensures local { result.global ≡ false }
 {
@@ -52,7 +53,7 @@ fn profile_arg<'a>(alloc: Global) -> Arg<'a>
         .help("How much of AML is evaluated: core or wide, by default core")
 }
 
-fn dry_arg<'a>(alloc: Global) -> Arg<'a>
+pub(crate) fn dry_arg<'a>(alloc: Global) -> Arg<'a>
     ensures rule { rule_of result ≡ dry_rule }
     ensures local { result.global ≡ false }
 {
@@ -62,7 +63,7 @@ fn dry_arg<'a>(alloc: Global) -> Arg<'a>
         .help("Set no link device")
 }
 
-fn avoid_arg<'a>(alloc: Global) -> Arg<'a>
+pub(crate) fn avoid_arg<'a>(alloc: Global) -> Arg<'a>
     ensures rule { rule_of result ≡ avoid_rule }
     ensures local { result.global ≡ false }
 {
@@ -74,7 +75,7 @@ fn avoid_arg<'a>(alloc: Global) -> Arg<'a>
         )
 }
 
-fn spare_arg<'a>(alloc: Global) -> Arg<'a>
+pub(crate) fn spare_arg<'a>(alloc: Global) -> Arg<'a>
     ensures rule { rule_of result ≡ spare_rule }
     ensures local { result.global ≡ false }
 {
@@ -84,7 +85,7 @@ fn spare_arg<'a>(alloc: Global) -> Arg<'a>
         .help("Give no link device an interrupt that the _CRS of another present device has")
 }
 
-fn spread_arg<'a>(alloc: Global) -> Arg<'a>
+pub(crate) fn spread_arg<'a>(alloc: Global) -> Arg<'a>
     ensures rule { rule_of result ≡ spread_rule }
     ensures local { result.global ≡ false }
 {
@@ -104,7 +105,7 @@ fn path_arg<'a>(alloc: Global) -> Arg<'a>
         .help("The path of an object, as \\_SB_.PCI0._PRT")
 }
 
-fn arguments_arg<'a>(alloc: Global) -> Arg<'a>
+pub(crate) fn arguments_arg<'a>(alloc: Global) -> Arg<'a>
     ensures rule { rule_of result ≡ arguments_rule }
     ensures local { result.global ≡ false }
 {
@@ -220,6 +221,7 @@ fn command<'a>(alloc: Global) -> Result<Command<'a>, AllocError>
 {
     bare_command(alloc)
         .subcommand(route_command(alloc)?)?
+        .subcommand(why_command(alloc)?)?
         .subcommand(names_command(alloc)?)?
         .subcommand(eval_command(alloc)?)?
         .subcommand(check_command(alloc))
@@ -255,7 +257,7 @@ fn evaluation_of(matches: &ArgMatches<'_>) -> Option<Evaluation>
 
 /// What the options of `route` say.
 #[tactic(auto, unfolding(crate::specs::CommandLine::route_of), using(crate::proofs::Getters::first_text))]
-fn route_of(alloc: Global, matches: &ArgMatches<'_>) -> Result<Option<Asked>, AllocError>
+pub(crate) fn route_of(alloc: Global, matches: &ArgMatches<'_>) -> Result<Option<Asked>, AllocError>
     ensures { IfOk result (λ r. r ≡ route_of (rows_of (found_of matches.now))) }
 {
     let avoid = interrupts_named(alloc, matches.get_str("avoid"))?;
@@ -351,7 +353,7 @@ fn eval_with(
 
 /// What the options of `eval` and its words say.
 #[tactic(auto, unfolding(crate::specs::CommandLine::eval_of), using(crate::proofs::Getters::first_text, crate::proofs::Getters::all_texts))]
-fn eval_of(alloc: Global, matches: &ArgMatches<'_>) -> Result<Option<Asked>, AllocError>
+pub(crate) fn eval_of(alloc: Global, matches: &ArgMatches<'_>) -> Result<Option<Asked>, AllocError>
     ensures { IfOk result (λ r. r ≡ eval_of (rows_of (found_of matches.now))) }
 {
     let path = path_named(alloc, matches.get_str("path"))?;
@@ -372,6 +374,8 @@ fn parsed_command(
 {
     if name == "route" {
         route_of(alloc, matches)
+    } else if name == "why" {
+        why_of(alloc, matches)
     } else if name == "names" {
         Ok(names_of(matches))
     } else if name == "eval" {

@@ -47,7 +47,7 @@ pub fn deliver<W: Sink, E: Sink>(
 }
 
 /// The line of a refusal.
-fn line_of(alloc: Global, refusal: &Refusal) -> Result<Vec<u8>, AllocError>
+pub(crate) fn line_of(alloc: Global, refusal: &Refusal) -> Result<Vec<u8>, AllocError>
     ensures { IfOk result (λ v. v.items ≡ error_line refusal.now) }
 {
     let mut line = Vec::new(alloc);

@@ -23,7 +23,7 @@ A refusal is one line on the error output: 'refused' and its number.
   130         a report can't be read
   140 to 143  the input can't be read, or the output can't be written
 Behind the number stands where or what: 'at N' an offset, 'op XXXX' an opcode, 'tag N' a descriptor, 'line N' a line, or a path. \
-docs/REFUSALS.md says what each number means and what to do.";
+'acpiroute why' tells the table or object, the register and what to do; docs/REFUSALS.md says what each number means.";
 
 pub(crate) const ROUTE: &str = "\
 The machine text is read from the standard input: acpiroute route < machine.txt
@@ -50,6 +50,23 @@ evaluated, such offers are taken as shared ones, and the method is called.
 
 Exit status: 0 for a report, 1 for a refusal, 2 for a faulty command line, 3 where setting a link was refused, which the report tells. \
 'acpiroute --help' lists the refusals.";
+
+pub(crate) const WHY: &str = "\
+The machine text is read from the standard input: acpiroute why < machine.txt
+
+It makes the run that route makes with these options, and writes what ended it, a line each: 'refused', the number and the name of the \
+refusal; 'while' and what was done then, with the path of the object or the table; 'access', the last access of a register where that \
+is what failed, or where a loop used up the steps: 'read' or 'write', the place as a machine text has it, and how many bytes; and \
+'help', what to do. A run that isn't refused is told by 'not refused', and by a line 'link PATH ..' for each link device that refused \
+its setting, whose _CRS was refused then, or that reads back something else than it was given.
+
+With 'eval' and a path behind it, it makes the run that eval makes: acpiroute why eval '\\_SB_.PCI0._PRT' < machine.txt
+
+With --registers the run goes on where the machine text lacks a register, with 0 in place of each missing byte, and the lines of \
+these bytes are written, to be filled in and put behind the machine text. The last line begins with # and tells how that run ended.
+
+Exit status: 0 where it can tell, 1 where the input itself is refused, 2 for a faulty command line. 'acpiroute --help' lists the \
+refusals.";
 
 pub(crate) const NAMES: &str = "\
 The machine text is read from the standard input: acpiroute names < machine.txt

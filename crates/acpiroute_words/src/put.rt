@@ -1,9 +1,11 @@
 //! Paths and numbers, put behind a text.
+ghost use Rattle.acpiroute_words.specs.Hexadecimal.{hexadecimal};
 ghost use Rattle.std.specs.Prelude.{◌≡◌, ◌++◌, IfOk, OnOk, decimal, string_bytes};
 ghost use Rattle.aml_path.specs.Text.{text_of};
 
 use aml_path::Path;
 use std::alloc::{AllocError, Global};
+use std::io::Write;
 
 /// The text of a path, which is refused only where memory runs out.
 fn path_text(alloc: Global, path: &Path) -> Result<String, AllocError>
@@ -29,4 +31,14 @@ pub fn put_number(text: &mut Vec<u8>, number: u64) -> Result<(), AllocError>
 {
     let mut buffer = itoa::Buffer::new();
     text.extend_from_slice(buffer.format(number).as_bytes())
+}
+
+/// A number in hexadecimal digits, upper case and without zeros in front, put behind a text.
+pub fn put_hexadecimal(text: &mut Vec<u8>, number: u64) -> Result<(), AllocError>
+    ensures { OnOk result (text.new.items ≡ text.old.items ++ hexadecimal number) }
+{
+    match write!(text, "{number:X}") {
+        Ok(()) => Ok(()),
+        Err(_) => Err(AllocError),
+    }
 }

@@ -15,6 +15,31 @@ pub struct Evaluation {
     pub steps: u64,
 }
 
+/// What is asked of an initialized machine.
+#[derive(Debug, Drop)]
+pub enum Question {
+    /// What `route` does, with the options of its request.
+    Route {
+        dry: bool,
+        avoid: Interrupts,
+        spare: bool,
+        spread: bool,
+    },
+    /// What `eval` does, with the text of a path and with arguments.
+    Eval {
+        path: PathText,
+        arguments: Arguments,
+    },
+}
+
+/// A run of `route` or of `eval` of which something is to be told.
+#[derive(Debug, Drop)]
+pub struct Asking {
+    pub mode: Mode,
+    pub evaluation: Evaluation,
+    pub question: Question,
+}
+
 /// What the words of the command line ask for.
 #[derive(Debug, Drop)]
 pub enum Request {
@@ -41,6 +66,10 @@ pub enum Request {
         path: PathText,
         arguments: Arguments,
     },
+    /// Tell how such a run ends, and why.
+    Why(Asking),
+    /// Tell which registers are missing for such a run.
+    Registers(Asking),
     /// Read a report, and say whether its claim is valid.
     Check,
 }

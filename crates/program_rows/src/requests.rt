@@ -1,5 +1,7 @@
 //! What the words of the command line ask for, as text.
-use acpiroute_lib::{Argument, Arguments, Asked, Evaluation, Interrupts, Profile, Request, parse};
+use acpiroute_lib::{
+    Argument, Arguments, Asked, Asking, Evaluation, Interrupts, Profile, Question, Request, parse,
+};
 use ar_space::PathText;
 use route_report::Mode;
 use std::alloc::{AllocError, Global};
@@ -115,6 +117,24 @@ fn route_text(
     format!(in alloc; "route mode {mode} {evaluation}{dry}{avoid}{rules}")
 }
 
+/// A run of which something is to be told, as text.
+fn asking_text(alloc: Global, asking: &Asking) -> Result<String, AllocError> {
+    match &asking.question {
+        Question::Route {
+            dry,
+            avoid,
+            spare,
+            spread,
+        } => {
+            let rules = rules_text(*spare, *spread);
+            route_text(alloc, asking.mode, &asking.evaluation, *dry, avoid, rules)
+        }
+        Question::Eval { path, arguments } => {
+            eval_text(alloc, asking.mode, &asking.evaluation, path, arguments)
+        }
+    }
+}
+
 /// A request as text.
 fn request_text(alloc: Global, request: &Request) -> Result<String, AllocError> {
     match request {
@@ -139,6 +159,14 @@ fn request_text(alloc: Global, request: &Request) -> Result<String, AllocError> 
             path,
             arguments,
         } => eval_text(alloc, *mode, evaluation, path, arguments),
+        Request::Why(asking) => {
+            let asking = asking_text(alloc, asking)?;
+            format!(in alloc; "why {asking}")
+        }
+        Request::Registers(asking) => {
+            let asking = asking_text(alloc, asking)?;
+            format!(in alloc; "why registers {asking}")
+        }
         Request::Check => "check".to_string(alloc),
     }
 }

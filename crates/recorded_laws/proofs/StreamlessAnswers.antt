@@ -26,7 +26,7 @@ use Rattle.aml_laws.proofs.CleanOutcomes.{Clean, if_clean}
 use Rattle.acpiroute_words.specs.declared.arguments.Argument.{Argument}
 use Rattle.acpiroute_words.specs.declared.request.Evaluation.{Evaluation}
 use Rattle.acpiroute_words.specs.declared.request.Request.{Request}
-use Rattle.acpiroute_words.specs.declared.request.Request.TheVariants.{Route, Names, Eval, Check}
+use Rattle.acpiroute_words.specs.declared.request.Request.TheVariants.{Route, Why, Registers, Names, Eval, Check}
 use Rattle.acpiroute_words.specs.CheckCommand.{Verdict, check_answer, IsCheckAnswer}
 use Rattle.acpiroute_words.specs.Written.{Written}
 use Rattle.acpiroute_lib.specs.Commands.{IsAnswer}
@@ -34,13 +34,17 @@ use Rattle.acpiroute_lib.specs.EvalCommand.{value_at, evaluated_text, eval_answe
 use Rattle.acpiroute_lib.specs.Machines.{machine_left, machine_with, machine_of_text, initialized_left, initialized_machine, machine_of_text_in}
 use Rattle.acpiroute_lib.specs.NamesCommand.{names_answer}
 use Rattle.acpiroute_lib.specs.RouteCommand.{IsRouted, IsRoutedOn}
+use Rattle.acpiroute_lib.specs.WhyCommand.{IsWhyAnswer, IsRegistersAnswer}
+use Rattle.acpiroute_words.specs.declared.request.Asking.{Asking}
+use Rattle.ar_space.specs.declared.refusal.Refusal.{Refusal}
+use Rattle.machine_text.specs.MachineText.{machine_text}
 use Rattle.machine_laws.proofs.FaultsOfCalls.{evaluated_object_explains, initialized_explains}
 use Rattle.machine_laws.proofs.FaultsOfLinks.{gathered_explains}
 use Rattle.machine_laws.proofs.FaultsOfLoading.{loaded_tables_explains}
 use Rattle.recorded_laws.proofs.CleanReports.{path_of_text_clean, claim_of_text_clean}
 use Rattle.recorded_laws.proofs.CleanTables.{tables_of_clean}
 use Rattle.recorded_laws.proofs.CleanTexts.{machine_text_clean}
-use Rattle.recorded_laws.proofs.Streamless.{Streamless, clean_streamless, explained_streamless, followed_streamless, refused_streamless}
+use Rattle.recorded_laws.proofs.Streamless.{OfNoStream, Streamless, clean_streamless, explained_streamless, followed_streamless, refused_streamless}
 
 -- ---- machines
 
@@ -137,8 +141,22 @@ check_streamless verdict report = followed_streamless _ _ (clean_streamless _ (c
 checked_streamless : (report : List ℕ) (r : Outcome Written) → IsCheckAnswer report r → Streamless r
 checked_streamless report r (verdict, is, same) = subst (λ (y : Outcome Written). Streamless y) (sym same) (check_streamless verdict report)
 
+-- `why` answers the refusal of the machine text, and no other
+text_streamless : (text : List ℕ) (e : Refusal) → machine_text text ≡ Err e → OfNoStream e
+text_streamless text e is = refused_streamless (machine_text text) e is (clean_streamless _ (machine_text_clean text))
+
+why_streamless : (asking : Asking) (text : List ℕ) (r : Outcome Written) → IsWhyAnswer asking text r → Streamless r
+why_streamless asking text (Ok w) is = tt
+why_streamless asking text (Err e) is = text_streamless text e is
+
+registers_streamless : (asking : Asking) (text : List ℕ) (r : Outcome Written) → IsRegistersAnswer asking text r → Streamless r
+registers_streamless asking text (Ok w) is = tt
+registers_streamless asking text (Err e) is = text_streamless text e is
+
 pub answer_streamless : (request : Request) (input : List ℕ) (r : Outcome Written) → IsAnswer request input r → Streamless r
 answer_streamless (Route mode evaluation dry avoid spare spread) input r is = routed_on_streamless _ _ r (machine_of_text_in_streamless mode evaluation input) is
+answer_streamless (Why asking) input r is = why_streamless asking input r is
+answer_streamless (Registers asking) input r is = registers_streamless asking input r is
 answer_streamless (Names evaluation) input r is = subst (λ (y : Outcome Written). Streamless y) is (names_streamless evaluation input)
 answer_streamless (Eval mode evaluation path arguments) input r is = subst (λ (y : Outcome Written). Streamless y) is (eval_streamless mode evaluation path arguments input)
 answer_streamless Check input r is = checked_streamless input r is

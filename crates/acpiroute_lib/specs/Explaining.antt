@@ -1,0 +1,98 @@
+-- The lines of `why`.
+use Rattle.std.specs.Prelude.{◌≡◌, ℕ, zero, suc, ◌+◌, ◌==◌, Bool, true, false, List, [], ◌∷◌, ◌++◌, Option, Some, None, codes, decimal, if◌then◌else◌}
+use Rattle.ar_space.specs.Accesses.{byte_count}
+use Rattle.ar_space.specs.declared.refusal.Refusal.{Refusal}
+use Rattle.ar_space.specs.declared.space.Place.{Place}
+use Rattle.ar_space.specs.declared.space.Place.TheVariants.{Memory, Io, Pci}
+use Rattle.aml_path.specs.declared.segment.Seg.{Seg}
+use Rattle.aml_path.specs.Text.{text_of}
+use Rattle.route_report.specs.Lines.{spaced}
+use Rattle.route_report.specs.Printing.{now_words}
+use Rattle.route_report.specs.Reports.{AfterState, Now, Refused, ReportedAfter, RoutingReport}
+use Rattle.route_report.specs.declared.report.SetLine.{SetLine}
+use Rattle.route_report.specs.declared.report.SetOutcome.{SetOutcome}
+use Rattle.route_report.specs.declared.report.SetOutcome.TheVariants as outcome
+use Rattle.acpi_explain.specs.declared.stage.Stage.{Stage}
+use Rattle.acpi_explain.specs.declared.stage.Stage.TheVariants.{Loading, Calling, RoutingTable, Reading, Gathering}
+use Rattle.watched_space.specs.declared.last_access.Accessed.{Accessed}
+use Rattle.watched_space.specs.declared.last_access.Direction.{Direction}
+use Rattle.watched_space.specs.declared.last_access.Direction.TheVariants.{Read, Write}
+use Rattle.acpiroute_words.specs.ErrorLines.{refusal_words}
+use Rattle.acpiroute_words.specs.Hexadecimal.{hexadecimal}
+
+-- ---- a run that is refused
+
+-- `DSDT`, or an SSDT by its number
+abbrev pub table_words : ℕ → List ℕ
+table_words zero = codes "DSDT"
+table_words (suc n) = codes "SSDT " ++ decimal (suc n)
+
+-- what was done
+abbrev pub stage_words : Stage → List ℕ
+stage_words (Loading n) = codes "loading " ++ table_words n
+stage_words (Calling p) = codes "calling " ++ text_of p
+stage_words (RoutingTable p) = codes "reading the routing table of " ++ text_of p
+stage_words (Reading p) = codes "reading " ++ text_of p
+stage_words Gathering = codes "gathering links and pins"
+
+-- `while` and what was done, where that is known
+abbrev pub stage_line : Option Stage → List ℕ
+stage_line None = []
+stage_line (Some stage) = codes "while " ++ (stage_words stage ++ codes "\n")
+
+-- a place, as a line of a machine text begins
+abbrev pub place_words : Place → List ℕ
+place_words (Memory address) = codes "mem " ++ hexadecimal address
+place_words (Io port) = codes "io " ++ hexadecimal port
+place_words (Pci seg bus dev func reg) =
+    codes "pci " ++ (hexadecimal seg ++ (codes " " ++ (hexadecimal bus ++ (codes " " ++ (hexadecimal dev ++ (codes " " ++ (hexadecimal func ++ (codes " " ++ hexadecimal reg))))))))
+
+abbrev pub direction_word : Direction → List ℕ
+direction_word Read = codes "read "
+direction_word Write = codes "write "
+
+-- `access`, the direction, the place, and how many bytes
+abbrev pub access_line : Option Accessed → List ℕ
+access_line None = []
+access_line (Some a) = codes "access " ++ (direction_word a.direction ++ (place_words a.place ++ (codes " " ++ (decimal (byte_count a.width) ++ codes "\n"))))
+
+-- the refusal as its error line has it, and its name; what was done; the access; and what to do
+abbrev pub refused_text : Refusal → List ℕ → Option Stage → Option Accessed → List ℕ → List ℕ
+refused_text e name stage access help =
+    refusal_words e ++ (codes " " ++ (name ++ (codes "\n" ++ (stage_line stage ++ (access_line access ++ (codes "help " ++ (help ++ codes "\n")))))))
+
+-- ---- a run that is not refused
+
+-- a link whose setting was refused
+abbrev pub set_text : List Seg → SetOutcome → List ℕ
+set_text path outcome.Done = []
+set_text path outcome.NoSetting = []
+set_text path (outcome.Refused r) = codes "link " ++ (text_of path ++ (codes " refused its setting " ++ (decimal r ++ codes "\n")))
+
+abbrev pub set_texts : List SetLine → List ℕ
+set_texts [] = []
+set_texts (s ∷ ss) = set_text s.path s.outcome ++ set_texts ss
+
+-- whether a link reads back just the interrupt that it was given
+abbrev pub is_given : ℕ → Option (List ℕ) → Bool
+is_given n (Some (m ∷ [])) = m == n
+is_given n other = false
+
+-- a link that reads back something else, or whose reading was refused
+abbrev pub after_text : ℕ → List Seg → AfterState → List ℕ
+after_text n path (Now now) =
+    if is_given n now then [] else codes "link " ++ (text_of path ++ (codes " was given " ++ (decimal n ++ (codes " and reads back" ++ (spaced (now_words now) ++ codes "\n")))))
+after_text n path (Refused r) = codes "link " ++ (text_of path ++ (codes " was given " ++ (decimal n ++ (codes " and refused to be read " ++ (decimal r ++ codes "\n")))))
+
+-- what each link was given, and what it reads back, one beside the other
+abbrev pub after_texts : List (List Seg × ℕ) → List ReportedAfter → List ℕ
+after_texts [] afters = []
+after_texts (g ∷ gs) [] = []
+after_texts (g ∷ gs) (a ∷ rest) = after_text g.1 a.path a.state ++ after_texts gs rest
+
+abbrev pub link_texts : Option RoutingReport → List ℕ
+link_texts None = []
+link_texts (Some r) = set_texts r.sets ++ after_texts r.gives r.afters
+
+abbrev pub done_text : Option RoutingReport → List ℕ
+done_text report = codes "not refused\n" ++ link_texts report

@@ -1,0 +1,97 @@
+-- What `why` answers.
+use Rattle.std.specs.Prelude.{◌≡◌, ◌≢◌, ℕ, List, ◌++◌, Option, None, Ok, Err, codes}
+use Rattle.ar_space.specs.Bytes.{Bytes, byte_accesses}
+use Rattle.ar_space.specs.Outcome.{Outcome}
+use Rattle.ar_space.specs.declared.refusal.Refusal.{Refusal}
+use Rattle.ar_space.specs.declared.refusal.Refusal.TheVariants.{OutOfMemory}
+use Rattle.ar_space.specs.declared.space.Place.{Place}
+use Rattle.ar_tables.specs.declared.tables.Tables.{Tables}
+use Rattle.ar_tables.specs.FindTables.{tables_of}
+use Rattle.machine_text.specs.MachineText.{machine_text}
+use Rattle.machine_text.specs.declared.machine_lines.MachineText.{MachineText}
+use Rattle.acpi_explain.specs.Told.{shown_access}
+use Rattle.acpi_explain.specs.declared.stage.Stage.{Stage}
+use Rattle.watched_space.specs.Filling.{Filled, filled}
+use Rattle.watched_space.specs.MissingPlaces.{no_missing, missing_places}
+use Rattle.watched_space.specs.Watching.{Watch, watched}
+use Rattle.watched_space.specs.declared.last_access.Accessed.{Accessed}
+use Rattle.acpiroute_words.specs.ErrorLines.{error_line}
+use Rattle.acpiroute_words.specs.Written.{Written}
+use Rattle.acpiroute_words.specs.declared.completion.Completion.TheVariants.{Done}
+use Rattle.acpiroute_lib.specs.Ended.{IsEnd}
+use Rattle.acpiroute_lib.specs.Explaining.{refused_text, done_text}
+use Rattle.acpiroute_lib.specs.MissingLines.{missing_lines}
+use Rattle.acpiroute_words.specs.declared.request.Asking.{Asking}
+use Rattle.acpiroute_lib.specs.declared.run_end.RunEnd.{RunEnd}
+use Rattle.acpiroute_lib.specs.declared.run_end.RunEnd.TheVariants as end
+
+abbrev pub told : List ℕ → Written
+told text = record { text = text; completion = Done }
+
+-- ---- what ended a run
+
+-- A run over the bytes of a machine text, and its last access. It is the run that the request asks for: the space that keeps the last
+-- access does what the bytes do.
+pub record IsWatched (q : Asking) (tables : Outcome Tables) (osi : List (List ℕ)) (space : Bytes) (ended : RunEnd) (last : Option Accessed) : Type 0 where
+  pub left : Watch Bytes
+  pub is_end : IsEnd (watched byte_accesses) q ended tables osi (record { inner = space; last = None }) left
+  pub is_last : left.last ≡ last
+
+-- The refusal of the run, in its lines. Which table or object is told, its name and the help are not said here: they are found by a second
+-- run, and in a table.
+pub record IsRefusalTold (e : Refusal) (access : Option Accessed) (w : Written) : Type 0 where
+  pub name : List ℕ
+  pub stage : Option Stage
+  pub help : List ℕ
+  pub is : w ≡ told (refused_text e name stage access help)
+
+-- the lines of how a run ended; want of memory is told in none
+abbrev pub IsExplained : RunEnd → Option Accessed → Written → Type 0
+IsExplained (end.Refused phase e) last w = (e ≢ OutOfMemory) × IsRefusalTold e (shown_access e last) w
+IsExplained (end.Done report) last w = w ≡ told (done_text report)
+
+pub record IsWhy (q : Asking) (said : MachineText) (w : Written) : Type 0 where
+  pub ended : RunEnd
+  pub last : Option Accessed
+  pub is_run : IsWatched q (tables_of said.space.memory said.rsdp) said.osi said.space ended last
+  pub is_explained : IsExplained ended last w
+
+-- ---- which registers are missing
+
+-- a run with 0 in place of each missing byte, from a register space that knows these to be missing, and the places of those that are then
+pub record IsFilledFrom (q : Asking) (tables : Outcome Tables) (osi : List (List ℕ)) (before : Filled Bytes) (ended : RunEnd) (places : List Place) : Type 0 where
+  pub left : Filled Bytes
+  pub is_end : IsEnd (filled byte_accesses) q ended tables osi before left
+  pub are_places : missing_places left.missing ≡ places
+
+-- such a run over the bytes of a machine text
+abbrev pub IsFilled : Asking → Outcome Tables → List (List ℕ) → Bytes → RunEnd → List Place → Type 0
+IsFilled q tables osi space ended places = IsFilledFrom q tables osi (record { inner = space; missing = no_missing }) ended places
+
+-- the lines of all missing bytes, and how the run ended
+abbrev pub IsListed : RunEnd → List Place → Written → Type 0
+IsListed (end.Refused phase e) places w = (e ≢ OutOfMemory) × (w ≡ told (missing_lines places ++ (codes "# with 0 there: " ++ error_line e)))
+IsListed (end.Done report) places w = w ≡ told (missing_lines places ++ codes "# with 0 there: not refused\n")
+
+pub record IsRegisters (q : Asking) (said : MachineText) (w : Written) : Type 0 where
+  pub ended : RunEnd
+  pub places : List Place
+  pub is_run : IsFilled q (tables_of said.space.memory said.rsdp) said.osi said.space ended places
+  pub is_listed : IsListed ended places w
+
+-- ---- the answers
+
+-- what is answered over what a machine text says
+pub record IsOver (text : List ℕ) (IsIt : MachineText → Type 0) : Type 0 where
+  pub said : MachineText
+  pub is_said : machine_text text ≡ Ok said
+  pub is : IsIt said
+
+-- what `why` answers over a machine text: only the text itself is refused
+abbrev pub IsWhyAnswer : Asking → List ℕ → Outcome Written → Type 0
+IsWhyAnswer q text (Ok w) = IsOver text (λ said. IsWhy q said w)
+IsWhyAnswer q text (Err e) = machine_text text ≡ Err e
+
+abbrev pub IsRegistersAnswer : Asking → List ℕ → Outcome Written → Type 0
+IsRegistersAnswer q text (Ok w) = IsOver text (λ said. IsRegisters q said w)
+IsRegistersAnswer q text (Err e) = machine_text text ≡ Err e

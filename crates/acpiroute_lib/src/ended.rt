@@ -1,0 +1,117 @@
+//! How the run of a machine ends whose tables are loaded.
+ghost use Rattle.std.specs.Prelude.{map};
+ghost use Rattle.aml_meaning.specs.Given.{given_of};
+ghost use Rattle.acpiroute_lib.specs.Ended.{IsMachineEnd, IsRouted, IsEvaluated, IsEvaluatedAt, IsUnnamed};
+
+use crate::run_end::RunEnd;
+use crate::eval_command::data;
+use acpi_configure::Options;
+use acpi_explain::{End, Phase, eval_end, route_end};
+use acpi_machine::Machine;
+use acpiroute_words::{Argument, Asking, Question};
+use aml_meaning::Datum;
+use aml_path::Path;
+use ar_space::{Refusal, Space};
+use route_report::Mode;
+use std::alloc::Global;
+
+/// Routes a machine, once it is initialized.
+fn route_machine<S: Space>(
+    alloc: Global,
+    mode: Mode,
+    options: &Options<'_>,
+    machine: &mut Machine<S>,
+) -> RunEnd
+    ensures { IsRouted S.accesses mode options.now result machine.old machine.new }
+{
+    match route_end(alloc, mode, options, machine) {
+        End::Initializing(refusal) => RunEnd::Refused(Some(Phase::Initializing), refusal),
+        End::Running(refusal) => RunEnd::Refused(Some(Phase::Running), refusal),
+        End::Done(report) => RunEnd::Done(report),
+    }
+}
+
+/// Evaluates the object at a path, once the machine is initialized.
+fn evaluate_path<S: Space>(
+    alloc: Global,
+    mode: Mode,
+    path: &Path,
+    arguments: Vec<Datum>,
+    machine: &mut Machine<S>,
+) -> RunEnd
+    ensures { IsEvaluatedAt S.accesses mode path.now (map given_of arguments.items) result machine.old machine.new }
+{
+    match eval_end(alloc, mode, path, arguments, machine) {
+        End::Initializing(refusal) => RunEnd::Refused(Some(Phase::Initializing), refusal),
+        End::Running(refusal) => RunEnd::Refused(Some(Phase::Running), refusal),
+        End::Done(_) => RunEnd::Done(None),
+    }
+}
+
+/// The text of a path is refused, once the machine is initialized.
+fn refuse_path<S: Space>(
+    alloc: Global,
+    mode: Mode,
+    refusal: Refusal,
+    machine: &mut Machine<S>,
+) -> RunEnd
+    ensures { IsUnnamed S.accesses mode refusal result machine.old machine.new }
+{
+    match machine.initialize(alloc, mode) {
+        Ok(()) => RunEnd::Refused(None, refusal),
+        Err(first) => RunEnd::Refused(Some(Phase::Initializing), first),
+    }
+}
+
+/// Evaluates the object whose path a text is, once the machine is initialized.
+fn evaluate_machine<S: Space>(
+    alloc: Global,
+    mode: Mode,
+    path: &str,
+    arguments: &[Argument],
+    machine: &mut Machine<S>,
+) -> RunEnd
+    ensures { IsEvaluated S.accesses mode path.now arguments.now result machine.old machine.new }
+{
+    match Path::from_text(alloc, path.as_bytes()) {
+        Ok(path) => match data(alloc, arguments) {
+            Ok(arguments) => evaluate_path(alloc, mode, &path, arguments, machine),
+            Err(_) => RunEnd::Refused(None, Refusal::OutOfMemory),
+        },
+        Err(Refusal::OutOfMemory) => RunEnd::Refused(None, Refusal::OutOfMemory),
+        Err(refusal) => refuse_path(alloc, mode, refusal, machine),
+    }
+}
+
+/// Initializes a machine, and asks it.
+pub(crate) fn machine_end<S: Space>(
+    alloc: Global,
+    asking: &Asking,
+    machine: &mut Machine<S>,
+) -> RunEnd
+    ensures { IsMachineEnd S.accesses asking.now result machine.old machine.new }
+{
+    match &asking.question {
+        Question::Route {
+            dry,
+            avoid,
+            spare,
+            spread,
+        } => {
+            let options = Options {
+                dry: *dry,
+                avoid: avoid.as_slice(),
+                spare: *spare,
+                spread: *spread,
+            };
+            route_machine(alloc, asking.mode, &options, machine)
+        }
+        Question::Eval { path, arguments } => evaluate_machine(
+            alloc,
+            asking.mode,
+            path.as_str(),
+            arguments.as_slice(),
+            machine,
+        ),
+    }
+}

@@ -1,0 +1,152 @@
+//! Runs over the bytes of a machine text, with what their register space shows at the end.
+ghost use Rattle.std.specs.Prelude.{◌≡◌, IfOk, IfErr, Ok};
+ghost use Rattle.ar_space.specs.Bytes.{byte_accesses};
+ghost use Rattle.ar_space.specs.declared.refusal.Refusal.TheVariants.{OutOfMemory};
+ghost use Rattle.ar_tables.specs.FindTables.{tables_of};
+ghost use Rattle.watched_space.specs.Filling.{filled};
+ghost use Rattle.watched_space.specs.MissingPlaces.{missing_places};
+ghost use Rattle.watched_space.specs.Watching.{watched};
+ghost use Rattle.acpiroute_lib.specs.Ended.{IsMachineEnd};
+ghost use Rattle.acpiroute_lib.specs.WhyCommand.{IsWatched, IsFilled, IsFilledFrom};
+
+use crate::run_end::RunEnd;
+use acpiroute_words::Asking;
+use crate::ended::machine_end;
+use crate::machine::octets;
+use acpi_explain::Phase;
+use acpi_machine::{Machine, load_tables_as};
+use aml_objects::Octets;
+use ar_space::{Place, Refusal, Sparse};
+use ar_tables::{Tables, find_tables};
+use machine_text::MachineText;
+use std::alloc::{AllocError, Global};
+use watched_space::{Accessed, LastAccess, MissingBytes, ZeroFilled};
+
+/// How a run ended, and its last access.
+pub(crate) type Watched = (RunEnd, Option<Accessed>);
+
+/// How a run ended with 0 in place of each missing byte, and the places of these.
+pub(crate) type Filled = (RunEnd, Vec<Place>);
+
+fn watched_machine(
+    alloc: Global,
+    asking: &Asking,
+    machine: Machine<LastAccess<Sparse>>,
+) -> Watched
+    ensures { (after : _) × IsMachineEnd (watched byte_accesses) asking.now result.0 machine after
+        × (after.world.space.last ≡ result.1) }
+{
+    let mut machine = machine;
+    let end = machine_end(alloc, asking, &mut machine);
+    let last = machine.space().last();
+    // (by a call: what a scope drops at its end is dropped part by part, and long to prove)
+    drop(machine);
+    (end, last)
+}
+
+fn watched_tables(
+    alloc: Global,
+    asking: &Asking,
+    tables: Tables,
+    osi: Vec<Octets>,
+    space: Sparse,
+) -> Watched
+    ensures { IsWatched asking.now (Ok tables) osi.items space result.0 result.1 }
+{
+    let evaluation = asking.evaluation;
+    match load_tables_as(
+        alloc,
+        evaluation.profile,
+        tables,
+        LastAccess::new(space),
+        evaluation.steps,
+        osi,
+    ) {
+        Ok(machine) => watched_machine(alloc, asking, machine),
+        Err((refusal, space)) => (
+            RunEnd::Refused(Some(Phase::Loading), refusal),
+            space.last(),
+        ),
+    }
+}
+
+/// A run over the bytes of a machine text, with its last access.
+pub(crate) fn watched_run(
+    alloc: Global,
+    asking: &Asking,
+    said: MachineText,
+) -> Result<Watched, AllocError>
+    ensures { IfOk result (λ w. IsWatched asking.now (tables_of said.space.memory said.rsdp) said.osi said.space
+        w.0 w.1) }
+{
+    let osi = octets(alloc, said.osi.into_vec())?;
+    match find_tables(alloc, said.space.memory(), said.rsdp) {
+        Ok(tables) => Ok(watched_tables(alloc, asking, tables, osi, said.space)),
+        Err(refusal) => Ok((RunEnd::Refused(None, refusal), None)),
+    }
+}
+
+fn filled_machine(
+    alloc: Global,
+    asking: &Asking,
+    machine: Machine<ZeroFilled<Sparse>>,
+) -> Result<Filled, Refusal>
+    ensures memory { IfErr result (λ refusal. refusal ≡ OutOfMemory) }
+    ensures run { IfOk result (λ f. (after : _) × IsMachineEnd (filled byte_accesses) asking.now f.0 machine after
+        × (missing_places after.world.space.missing ≡ f.1.items)) }
+{
+    let mut machine = machine;
+    let end = machine_end(alloc, asking, &mut machine);
+    let places = machine.space().missing().places(alloc);
+    // (by a call: what a scope drops at its end is dropped part by part, and long to prove)
+    drop(machine);
+    Ok((end, places?))
+}
+
+fn filled_tables(
+    alloc: Global,
+    asking: &Asking,
+    tables: Tables,
+    osi: Vec<Octets>,
+    space: ZeroFilled<Sparse>,
+) -> Result<Filled, Refusal>
+    ensures memory { IfErr result (λ refusal. refusal ≡ OutOfMemory) }
+    ensures run { IfOk result (λ f. IsFilledFrom asking.now (Ok tables) osi.items space f.0 f.1.items) }
+{
+    let evaluation = asking.evaluation;
+    match load_tables_as(
+        alloc,
+        evaluation.profile,
+        tables,
+        space,
+        evaluation.steps,
+        osi,
+    ) {
+        Ok(machine) => filled_machine(alloc, asking, machine),
+        Err((refusal, space)) => {
+            let places = space.missing().places(alloc)?;
+            Ok((RunEnd::Refused(Some(Phase::Loading), refusal), places))
+        }
+    }
+}
+
+/// A run over the bytes of a machine text with 0 in place of each missing one, with the places of these.
+pub(crate) fn filled_run(
+    alloc: Global,
+    asking: &Asking,
+    said: MachineText,
+) -> Result<Filled, Refusal>
+    ensures memory { IfErr result (λ refusal. refusal ≡ OutOfMemory) }
+    ensures run { IfOk result (λ f. IsFilled asking.now (tables_of said.space.memory said.rsdp) said.osi said.space
+        f.0 f.1.items) }
+{
+    let osi = octets(alloc, said.osi.into_vec())?;
+    let missing = MissingBytes::new(alloc)?;
+    match find_tables(alloc, said.space.memory(), said.rsdp) {
+        Ok(tables) => {
+            let space = ZeroFilled::new(said.space, missing);
+            filled_tables(alloc, asking, tables, osi, space)
+        }
+        Err(refusal) => Ok((RunEnd::Refused(None, refusal), Vec::new(alloc))),
+    }
+}

@@ -1,0 +1,128 @@
+//! `why`: makes the run of `route` or `eval`, and tells what ended it.
+ghost use Rattle.std.specs.Prelude.{◌≡◌, ◌++◌, IfOk, IfErr, OnOk};
+ghost use Rattle.ar_space.specs.Outcome.{NotMemory};
+ghost use Rattle.ar_space.specs.declared.refusal.Refusal.TheVariants.{OutOfMemory};
+ghost use Rattle.acpi_explain.specs.Told.{shown_access};
+ghost use Rattle.acpiroute_words.specs.ErrorLines.{error_line};
+ghost use Rattle.acpiroute_lib.specs.WhyCommand.{told, IsRefusalTold, IsExplained, IsListed, IsWhy, IsRegisters};
+ghost use Rattle.acpiroute_lib.specs.WhyCommand.{IsWhyAnswer, IsRegistersAnswer};
+
+use crate::run_end::RunEnd;
+use crate::explaining::refused_text;
+use crate::link_texts::done_text;
+use crate::place_words::missing_lines;
+use crate::refused_stage::stage_when_refused;
+use crate::shown::{filled_run, watched_run};
+use acpi_explain::{Stage, help_for, shown_access};
+use acpiroute_words::{Answer, Asking, Completion, write_error_line};
+use ar_space::{Place, Refusal};
+use machine_text::{MachineText, read_machine};
+use std::alloc::{AllocError, Global};
+use watched_space::Accessed;
+
+fn told(text: Vec<u8>) -> Answer
+    ensures { result ≡ told text.items }
+{
+    Answer {
+        text,
+        completion: Completion::Done,
+    }
+}
+
+/// The refusal of a run, in its lines.
+fn refusal_answer(
+    alloc: Global,
+    refusal: &Refusal,
+    stage: &Option<Stage>,
+    last: Option<Accessed>,
+) -> Result<Answer, AllocError>
+    ensures { IfOk result (IsRefusalTold refusal.now (shown_access refusal.now last)) }
+{
+    let help = help_for(refusal.number());
+    let access = shown_access(refusal, last);
+    Ok(told(refused_text(alloc, refusal, &help, stage, access)?))
+}
+
+/// The lines of how a run over a machine text ended. Want of memory is told in none.
+fn explained(
+    alloc: Global,
+    asking: &Asking,
+    end: RunEnd,
+    last: Option<Accessed>,
+    text: &[u8],
+) -> Result<Answer, Refusal>
+    ensures memory { IfErr result (λ refusal. refusal ≡ OutOfMemory) }
+    ensures lines { IfOk result (IsExplained end last) }
+{
+    match end {
+        RunEnd::Refused(_, Refusal::OutOfMemory) => Err(Refusal::OutOfMemory),
+        RunEnd::Refused(phase, refusal) => {
+            let stage = stage_when_refused(alloc, asking, phase, text)?;
+            Ok(refusal_answer(alloc, &refusal, &stage, last)?)
+        }
+        RunEnd::Done(report) => Ok(told(done_text(alloc, &report)?)),
+    }
+}
+
+/// What ended the run over what a machine text says.
+fn why(alloc: Global, asking: &Asking, said: MachineText, text: &[u8]) -> Result<Answer, Refusal>
+    ensures memory { IfErr result (λ refusal. refusal ≡ OutOfMemory) }
+    ensures lines { IfOk result (IsWhy asking.now said) }
+{
+    let (end, last) = watched_run(alloc, asking, said)?;
+    explained(alloc, asking, end, last, text)
+}
+
+/// The lines of missing bytes, and behind them how the run ended.
+fn listed(alloc: Global, end: &RunEnd, places: &[Place]) -> Result<Answer, Refusal>
+    ensures memory { IfErr result (λ refusal. refusal ≡ OutOfMemory) }
+    ensures lines { IfOk result (IsListed end.now places.now) }
+{
+    let mut text = missing_lines(alloc, places)?;
+    text.extend_from_slice(b"# with 0 there: ")?;
+    match end {
+        RunEnd::Refused(_, Refusal::OutOfMemory) => return Err(Refusal::OutOfMemory),
+        RunEnd::Refused(_, refusal) => put_refusal(&mut text, refusal)?,
+        RunEnd::Done(_) => text.extend_from_slice(b"not refused\n")?,
+    }
+    Ok(told(text))
+}
+
+/// The line of a refusal, put behind a text.
+fn put_refusal(text: &mut Vec<u8>, refusal: &Refusal) -> Result<(), AllocError>
+    ensures { OnOk result (text.new.items ≡ text.old.items ++ error_line refusal.now) }
+{
+    match write_error_line(text, refusal) {
+        Ok(()) => Ok(()),
+        Err(_) => Err(AllocError),
+    }
+}
+
+/// The lines of all bytes that what a machine text says lacks for the run.
+fn registers(alloc: Global, asking: &Asking, said: MachineText) -> Result<Answer, Refusal>
+    ensures memory { IfErr result (λ refusal. refusal ≡ OutOfMemory) }
+    ensures lines { IfOk result (IsRegisters asking.now said) }
+{
+    let (end, places) = filled_run(alloc, asking, said)?;
+    listed(alloc, &end, places.as_slice())
+}
+
+/// What `why` answers over a machine text: what ended the run. Only the machine text itself is refused.
+pub(crate) fn why_answer(alloc: Global, asking: &Asking, text: &[u8]) -> Result<Answer, Refusal>
+    ensures { NotMemory result → IsWhyAnswer asking.now text.now result }
+{
+    let said = read_machine(alloc, text)?;
+    why(alloc, asking, said, text)
+}
+
+/// What `why --registers` answers over a machine text: which registers are missing for the run.
+pub(crate) fn registers_answer(
+    alloc: Global,
+    asking: &Asking,
+    text: &[u8],
+) -> Result<Answer, Refusal>
+    ensures { NotMemory result → IsRegistersAnswer asking.now text.now result }
+{
+    let said = read_machine(alloc, text)?;
+    registers(alloc, asking, said)
+}
