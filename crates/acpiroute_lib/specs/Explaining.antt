@@ -56,10 +56,11 @@ abbrev pub access_line : Option Accessed → List ℕ
 access_line None = []
 access_line (Some a) = codes "access " ++ (direction_word a.direction ++ (place_words a.place ++ (codes " " ++ (decimal (byte_count a.width) ++ codes "\n"))))
 
--- the refusal as its error line has it, and its name; what was done; the access; and what to do
-abbrev pub refused_text : Refusal → List ℕ → Option Stage → Option Accessed → List ℕ → List ℕ
-refused_text e name stage access help =
-    refusal_words e ++ (codes " " ++ (name ++ (codes "\n" ++ (stage_line stage ++ (access_line access ++ (codes "help " ++ (help ++ codes "\n")))))))
+-- the refusal as its error line has it, and its name; what was done; the lines of the terms that were being evaluated; the access; the line
+-- of the steps; and what to do
+abbrev pub refused_text : Refusal → List ℕ → Option Stage → List ℕ → Option Accessed → List ℕ → List ℕ → List ℕ
+refused_text e name stage places access steps help =
+    refusal_words e ++ (codes " " ++ (name ++ (codes "\n" ++ (stage_line stage ++ (places ++ (access_line access ++ (steps ++ (codes "help " ++ (help ++ codes "\n")))))))))
 
 -- ---- a run that is not refused
 

@@ -37,13 +37,16 @@ pub record IsWatched (q : Asking) (tables : Outcome Tables) (osi : List (List �
   pub is_end : IsEnd (watched byte_accesses) q ended tables osi (record { inner = space; last = None }) left
   pub is_last : left.last ≡ last
 
--- The refusal of the run, in its lines. Which table or object is told, its name and the help are not said here: they are found by a second
--- run, and in a table.
+-- The refusal of the run, in its lines. Which table or object is told, which terms were being evaluated and how many steps they took, the
+-- name of the refusal and the help are not said here: the first is found by a second run, the second comes from the evaluator's own frames,
+-- and the others stand in a table.
 pub record IsRefusalTold (e : Refusal) (access : Option Accessed) (w : Written) : Type 0 where
   pub name : List ℕ
   pub stage : Option Stage
+  pub places : List ℕ
+  pub steps : List ℕ
   pub help : List ℕ
-  pub is : w ≡ told (refused_text e name stage access help)
+  pub is : w ≡ told (refused_text e name stage places access steps help)
 
 -- the lines of how a run ended; want of memory is told in none
 abbrev pub IsExplained : RunEnd → Option Accessed → Written → Type 0

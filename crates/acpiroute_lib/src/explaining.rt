@@ -5,6 +5,7 @@ ghost use Rattle.acpiroute_lib.specs.Explaining.{table_words, stage_words, stage
 ghost use Rattle.acpiroute_lib.specs.Explaining.{refused_text};
 
 use crate::place_words::put_place;
+use crate::trace_lines::TraceText;
 use acpi_explain::{Help, Stage};
 use acpiroute_words::{put_number, put_path, refusal_words};
 use aml_path::Path;
@@ -13,7 +14,7 @@ use std::alloc::{AllocError, Global};
 use watched_space::{Accessed, Direction};
 
 /// `DSDT`, or an SSDT by its number.
-fn put_table(text: &mut Vec<u8>, number: usize) -> Result<(), AllocError>
+pub(crate) fn put_table(text: &mut Vec<u8>, number: usize) -> Result<(), AllocError>
     ensures { OnOk result (text.new.items ≡ text.old.items ++ table_words number) }
 {
     if number == 0 {
@@ -24,12 +25,7 @@ fn put_table(text: &mut Vec<u8>, number: usize) -> Result<(), AllocError>
 }
 
 /// Words, and a path behind them.
-fn put_named(
-    alloc: Global,
-    text: &mut Vec<u8>,
-    words: &[u8],
-    path: &Path,
-) -> Result<(), AllocError>
+fn put_named(alloc: Global, text: &mut Vec<u8>, words: &[u8], path: &Path) -> Result<(), AllocError>
     ensures { OnOk result (text.new.items ≡ text.old.items ++ (words.now ++ text_of path.now)) }
 {
     text.extend_from_slice(words)?;
@@ -104,17 +100,20 @@ pub(crate) fn refused_text(
     refusal: &Refusal,
     help: &Help,
     stage: &Option<Stage>,
+    traced: &TraceText,
     access: Option<Accessed>,
 ) -> Result<Vec<u8>, AllocError>
-    ensures { IfOk result (λ text. text.items ≡ refused_text refusal.now help.now.name.now stage.now access
-        help.now.help.now) }
+    ensures { IfOk result (λ text. text.items ≡ refused_text refusal.now help.now.name.now stage.now
+        traced.now.places.items access traced.now.steps.items help.now.help.now) }
 {
     let mut text = refusal_words(alloc, refusal)?;
     text.extend_from_slice(b" ")?;
     text.extend_from_slice(help.name.as_bytes())?;
     text.extend_from_slice(b"\n")?;
     put_stage_line(alloc, &mut text, stage)?;
+    text.extend_from_slice(&traced.places)?;
     put_access(&mut text, access)?;
+    text.extend_from_slice(&traced.steps)?;
     text.extend_from_slice(b"help ")?;
     text.extend_from_slice(help.help.as_bytes())?;
     text.extend_from_slice(b"\n")?;

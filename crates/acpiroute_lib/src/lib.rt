@@ -18,6 +18,7 @@ mod refused_stage;
 mod route_command;
 mod run_end;
 mod shown;
+mod trace_lines;
 mod value_text;
 mod why_command;
 

@@ -9,12 +9,13 @@ ghost use Rattle.watched_space.specs.Watching.{watched};
 ghost use Rattle.acpiroute_lib.specs.Ended.{IsMachineEnd};
 ghost use Rattle.acpiroute_lib.specs.WhyCommand.{IsWatched, IsFilled, IsFilledFrom};
 
-use crate::run_end::RunEnd;
-use acpiroute_words::Asking;
 use crate::ended::machine_end;
 use crate::machine::octets;
+use crate::run_end::RunEnd;
 use acpi_explain::Phase;
-use acpi_machine::{Machine, load_tables_as};
+use acpi_machine::{Machine, load_tables_as, load_tables_traced};
+use acpiroute_words::Asking;
+use aml_meaning::Trace;
 use aml_objects::Octets;
 use ar_space::{Place, Refusal, Sparse};
 use ar_tables::{Tables, find_tables};
@@ -22,26 +23,23 @@ use machine_text::MachineText;
 use std::alloc::{AllocError, Global};
 use watched_space::{Accessed, LastAccess, MissingBytes, ZeroFilled};
 
-/// How a run ended, and its last access.
-pub(crate) type Watched = (RunEnd, Option<Accessed>);
+/// How a run ended, its last access, and where it was refused.
+pub(crate) type Watched = (RunEnd, Option<Accessed>, Trace);
 
 /// How a run ended with 0 in place of each missing byte, and the places of these.
 pub(crate) type Filled = (RunEnd, Vec<Place>);
 
-fn watched_machine(
-    alloc: Global,
-    asking: &Asking,
-    machine: Machine<LastAccess<Sparse>>,
-) -> Watched
+fn watched_machine(alloc: Global, asking: &Asking, machine: Machine<LastAccess<Sparse>>) -> Watched
     ensures { (after : _) × IsMachineEnd (watched byte_accesses) asking.now result.0 machine after
         × (after.world.space.last ≡ result.1) }
 {
     let mut machine = machine;
     let end = machine_end(alloc, asking, &mut machine);
-    let last = machine.space().last();
+    let (space, trace) = machine.into_parts();
+    let last = space.last();
     // (by a call: what a scope drops at its end is dropped part by part, and long to prove)
-    drop(machine);
-    (end, last)
+    drop(space);
+    (end, last, trace)
 }
 
 fn watched_tables(
@@ -54,7 +52,7 @@ fn watched_tables(
     ensures { IsWatched asking.now (Ok tables) osi.items space result.0 result.1 }
 {
     let evaluation = asking.evaluation;
-    match load_tables_as(
+    match load_tables_traced(
         alloc,
         evaluation.profile,
         tables,
@@ -63,9 +61,10 @@ fn watched_tables(
         osi,
     ) {
         Ok(machine) => watched_machine(alloc, asking, machine),
-        Err((refusal, space)) => (
+        Err((refusal, space, trace)) => (
             RunEnd::Refused(Some(Phase::Loading), refusal),
             space.last(),
+            trace,
         ),
     }
 }
@@ -82,7 +81,7 @@ pub(crate) fn watched_run(
     let osi = octets(alloc, said.osi.into_vec())?;
     match find_tables(alloc, said.space.memory(), said.rsdp) {
         Ok(tables) => Ok(watched_tables(alloc, asking, tables, osi, said.space)),
-        Err(refusal) => Ok((RunEnd::Refused(None, refusal), None)),
+        Err(refusal) => Ok((RunEnd::Refused(None, refusal), None, Trace::new(alloc))),
     }
 }
 

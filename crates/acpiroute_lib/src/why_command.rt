@@ -7,14 +7,16 @@ ghost use Rattle.acpiroute_words.specs.ErrorLines.{error_line};
 ghost use Rattle.acpiroute_lib.specs.WhyCommand.{told, IsRefusalTold, IsExplained, IsListed, IsWhy, IsRegisters};
 ghost use Rattle.acpiroute_lib.specs.WhyCommand.{IsWhyAnswer, IsRegistersAnswer};
 
-use crate::run_end::RunEnd;
 use crate::explaining::refused_text;
 use crate::link_texts::done_text;
 use crate::place_words::missing_lines;
 use crate::refused_stage::stage_when_refused;
+use crate::run_end::RunEnd;
 use crate::shown::{filled_run, watched_run};
+use crate::trace_lines::{TraceText, trace_text};
 use acpi_explain::{Stage, help_for, shown_access};
 use acpiroute_words::{Answer, Asking, Completion, write_error_line};
+use aml_meaning::Trace;
 use ar_space::{Place, Refusal};
 use machine_text::{MachineText, read_machine};
 use std::alloc::{AllocError, Global};
@@ -35,12 +37,13 @@ fn refusal_answer(
     refusal: &Refusal,
     stage: &Option<Stage>,
     last: Option<Accessed>,
+    traced: &TraceText,
 ) -> Result<Answer, AllocError>
     ensures { IfOk result (IsRefusalTold refusal.now (shown_access refusal.now last)) }
 {
     let help = help_for(refusal.number());
     let access = shown_access(refusal, last);
-    Ok(told(refused_text(alloc, refusal, &help, stage, access)?))
+    Ok(told(refused_text(alloc, refusal, &help, stage, traced, access)?))
 }
 
 /// The lines of how a run over a machine text ended. Want of memory is told in none.
@@ -49,6 +52,7 @@ fn explained(
     asking: &Asking,
     end: RunEnd,
     last: Option<Accessed>,
+    trace: &Trace,
     text: &[u8],
 ) -> Result<Answer, Refusal>
     ensures memory { IfErr result (λ refusal. refusal ≡ OutOfMemory) }
@@ -58,7 +62,8 @@ fn explained(
         RunEnd::Refused(_, Refusal::OutOfMemory) => Err(Refusal::OutOfMemory),
         RunEnd::Refused(phase, refusal) => {
             let stage = stage_when_refused(alloc, asking, phase, text)?;
-            Ok(refusal_answer(alloc, &refusal, &stage, last)?)
+            let traced = trace_text(alloc, trace, &stage, asking.evaluation.steps)?;
+            Ok(refusal_answer(alloc, &refusal, &stage, last, &traced)?)
         }
         RunEnd::Done(report) => Ok(told(done_text(alloc, &report)?)),
     }
@@ -69,8 +74,11 @@ fn why(alloc: Global, asking: &Asking, said: MachineText, text: &[u8]) -> Result
     ensures memory { IfErr result (λ refusal. refusal ≡ OutOfMemory) }
     ensures lines { IfOk result (IsWhy asking.now said) }
 {
-    let (end, last) = watched_run(alloc, asking, said)?;
-    explained(alloc, asking, end, last, text)
+    let (end, last, trace) = watched_run(alloc, asking, said)?;
+    let answer = explained(alloc, asking, end, last, &trace, text);
+    // (by a call: what a scope drops at its end is dropped part by part, and long to prove)
+    drop(trace);
+    answer
 }
 
 /// The lines of missing bytes, and behind them how the run ended.
