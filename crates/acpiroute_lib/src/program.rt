@@ -114,9 +114,11 @@ fn decline<W: Sink, E: Sink>(writer: &mut W, errors: &mut E) -> u8
 /// is 1 to 255 numbers below 2^32 in decimal digits, separated by commas; for any other text, where nothing else is
 /// wrong with the words, the errors get the line `bad --avoid`.
 /// - `why [options of route]`: makes the run of `route` over a machine text, and writes what ended it, a line each:
-/// `refused R` with its detail and the name of the refusal; `while` and what was done then; `access`, the last access
-/// of a register, where that tells something; `help` and what to do. Where the run isn't refused: `not refused`, and a
-/// line for each link that refused its setting or its reading, or that reads back something else than it was given.
+/// `refused R` with its detail and the name of the refusal; `while` and what was done then; `in`, a control method and
+/// the offset, the opcode and the name of a term that was being evaluated, the outermost first; `name`, the name that
+/// was looked for; `access`, the last access of a register, where that tells something; `steps`, how many were taken;
+/// `help` and what to do. Where the run isn't refused: `not refused`, and a line for each link that refused its setting
+/// or its reading, or that reads back something else than it was given.
 /// `why eval PATH [ARGUMENT..]` with the options of `eval` does the same for its run. Only the machine text itself is
 /// refused.
 /// - `why --registers [options of route]`: makes the run with 0 in place of each byte that the machine text lacks, and

@@ -55,9 +55,10 @@ pub(crate) const WHY: &str = "\
 The machine text is read from the standard input: acpiroute why < machine.txt
 
 It makes the run that route makes with these options, and writes what ended it, a line each: 'refused', the number and the name of the \
-refusal; 'while' and what was done then, with the path of the object or the table; 'access', the last access of a register where that \
-is what failed, or where a loop used up the steps: 'read' or 'write', the place as a machine text has it, and how many bytes; and \
-'help', what to do. A run that isn't refused is told by 'not refused', and by a line 'link PATH ..' for each link device that refused \
+refusal; 'while' and what was done then, with the path of the object or the table; 'in' and a term that was being evaluated, the \
+outermost first: its control method or table, its offset, opcode and name; 'name' and the name that was looked for, with its scope; \
+'access', the last access of a register where that is what failed, or where a loop used up the steps: 'read' or 'write', the place as a \
+machine text has it, and how many bytes; 'steps', how many were taken; and 'help', what to do. A run that isn't refused is told by 'not refused', and by a line 'link PATH ..' for each link device that refused \
 its setting, whose _CRS was refused then, or that reads back something else than it was given.
 
 With 'eval' and a path behind it, it makes the run that eval makes: acpiroute why eval '\\_SB_.PCI0._PRT' < machine.txt
