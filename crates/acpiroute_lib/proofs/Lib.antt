@@ -8,3 +8,4 @@ pub mod One
 pub mod Packages
 pub mod Putting
 pub mod Routes
+pub mod Telling

@@ -18,7 +18,8 @@ use Rattle.watched_space.specs.declared.last_access.Accessed.{Accessed}
 use Rattle.acpiroute_words.specs.ErrorLines.{error_line}
 use Rattle.acpiroute_words.specs.Written.{Written}
 use Rattle.acpiroute_words.specs.declared.completion.Completion.TheVariants.{Done}
-use Rattle.acpiroute_lib.specs.Ended.{IsEnd}
+use Rattle.acpi_machine.specs.MachineStates.{MachineState}
+use Rattle.acpiroute_lib.specs.Ended.{IsMachineEnd, IsEnd}
 use Rattle.acpiroute_lib.specs.Explaining.{refused_text, done_text}
 use Rattle.acpiroute_lib.specs.MissingLines.{missing_lines}
 use Rattle.acpiroute_words.specs.declared.request.Asking.{Asking}
@@ -29,6 +30,12 @@ abbrev pub told : List ℕ → Written
 told text = record { text = text; completion = Done }
 
 -- ---- what ended a run
+
+-- a machine whose tables are loaded, and the last access once it was asked
+pub record IsWatchedMachine (q : Asking) (m : MachineState (Watch Bytes)) (ended : RunEnd) (last : Option Accessed) : Type 0 where
+  pub after : MachineState (Watch Bytes)
+  pub is_end : IsMachineEnd (watched byte_accesses) q ended m after
+  pub is_last : after.world.space.last ≡ last
 
 -- A run over the bytes of a machine text, and its last access. It is the run that the request asks for: the space that keeps the last
 -- access does what the bytes do.
@@ -60,6 +67,12 @@ pub record IsWhy (q : Asking) (said : MachineText) (w : Written) : Type 0 where
   pub is_explained : IsExplained ended last w
 
 -- ---- which registers are missing
+
+-- a machine whose tables are loaded, and the places that are missing once it was asked
+pub record IsFilledMachine (q : Asking) (m : MachineState (Filled Bytes)) (ended : RunEnd) (places : List Place) : Type 0 where
+  pub after : MachineState (Filled Bytes)
+  pub is_end : IsMachineEnd (filled byte_accesses) q ended m after
+  pub are_places : missing_places after.world.space.missing ≡ places
 
 -- a run with 0 in place of each missing byte, from a register space that knows these to be missing, and the places of those that are then
 pub record IsFilledFrom (q : Asking) (tables : Outcome Tables) (osi : List (List ℕ)) (before : Filled Bytes) (ended : RunEnd) (places : List Place) : Type 0 where

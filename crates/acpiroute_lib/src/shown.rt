@@ -1,13 +1,9 @@
 //! Runs over the bytes of a machine text, with what their register space shows at the end.
 ghost use Rattle.std.specs.Prelude.{◌≡◌, IfOk, IfErr, Ok};
-ghost use Rattle.ar_space.specs.Bytes.{byte_accesses};
 ghost use Rattle.ar_space.specs.declared.refusal.Refusal.TheVariants.{OutOfMemory};
 ghost use Rattle.ar_tables.specs.FindTables.{tables_of};
-ghost use Rattle.watched_space.specs.Filling.{filled};
-ghost use Rattle.watched_space.specs.MissingPlaces.{missing_places};
-ghost use Rattle.watched_space.specs.Watching.{watched};
-ghost use Rattle.acpiroute_lib.specs.Ended.{IsMachineEnd};
-ghost use Rattle.acpiroute_lib.specs.WhyCommand.{IsWatched, IsFilled, IsFilledFrom};
+ghost use Rattle.acpiroute_lib.specs.WhyCommand.{IsWatchedMachine, IsWatched};
+ghost use Rattle.acpiroute_lib.specs.WhyCommand.{IsFilledMachine, IsFilledFrom, IsFilled};
 
 use crate::ended::machine_end;
 use crate::machine::octets;
@@ -30,8 +26,7 @@ pub(crate) type Watched = (RunEnd, Option<Accessed>, Trace);
 pub(crate) type Filled = (RunEnd, Vec<Place>);
 
 fn watched_machine(alloc: Global, asking: &Asking, machine: Machine<LastAccess<Sparse>>) -> Watched
-    ensures { (after : _) × IsMachineEnd (watched byte_accesses) asking.now result.0 machine after
-        × (after.world.space.last ≡ result.1) }
+    ensures { IsWatchedMachine asking.now machine result.0 result.1 }
 {
     let mut machine = machine;
     let end = machine_end(alloc, asking, &mut machine);
@@ -91,8 +86,7 @@ fn filled_machine(
     machine: Machine<ZeroFilled<Sparse>>,
 ) -> Result<Filled, Refusal>
     ensures memory { IfErr result (λ refusal. refusal ≡ OutOfMemory) }
-    ensures run { IfOk result (λ f. (after : _) × IsMachineEnd (filled byte_accesses) asking.now f.0 machine after
-        × (missing_places after.world.space.missing ≡ f.1.items)) }
+    ensures run { IfOk result (λ f. IsFilledMachine asking.now machine f.0 f.1.items) }
 {
     let mut machine = machine;
     let end = machine_end(alloc, asking, &mut machine);

@@ -70,6 +70,7 @@ fn explained(
 }
 
 /// What ended the run over what a machine text says.
+#[tactic(auto, using(crate::proofs::Telling::telling))]
 fn why(alloc: Global, asking: &Asking, said: MachineText, text: &[u8]) -> Result<Answer, Refusal>
     ensures memory { IfErr result (λ refusal. refusal ≡ OutOfMemory) }
     ensures lines { IfOk result (IsWhy asking.now said) }
@@ -107,6 +108,7 @@ fn put_refusal(text: &mut Vec<u8>, refusal: &Refusal) -> Result<(), AllocError>
 }
 
 /// The lines of all bytes that what a machine text says lacks for the run.
+#[tactic(auto, using(crate::proofs::Telling::telling))]
 fn registers(alloc: Global, asking: &Asking, said: MachineText) -> Result<Answer, Refusal>
     ensures memory { IfErr result (λ refusal. refusal ≡ OutOfMemory) }
     ensures lines { IfOk result (IsRegisters asking.now said) }
@@ -116,6 +118,7 @@ fn registers(alloc: Global, asking: &Asking, said: MachineText) -> Result<Answer
 }
 
 /// What `why` answers over a machine text: what ended the run. Only the machine text itself is refused.
+#[tactic(auto, using(crate::proofs::Telling::telling))]
 pub(crate) fn why_answer(alloc: Global, asking: &Asking, text: &[u8]) -> Result<Answer, Refusal>
     ensures { NotMemory result → IsWhyAnswer asking.now text.now result }
 {
@@ -124,6 +127,7 @@ pub(crate) fn why_answer(alloc: Global, asking: &Asking, text: &[u8]) -> Result<
 }
 
 /// What `why --registers` answers over a machine text: which registers are missing for the run.
+#[tactic(auto, using(crate::proofs::Telling::telling))]
 pub(crate) fn registers_answer(
     alloc: Global,
     asking: &Asking,

@@ -1,0 +1,46 @@
+-- The answers of `why`, from the run and its lines.
+use Rattle.std.proofs.Common.{◌≡◌, ◌≢◌, ◌∙◌, ap, sym, refl}
+use Rattle.std.specs.Prelude.{ℕ, List, Option, Ok, Err, IfOk, IfErr, IsErr, IsErrAnd}
+use Rattle.ar_space.specs.Outcome.{Outcome, Answers, NotMemory}
+use Rattle.ar_space.specs.declared.refusal.Refusal.{Refusal}
+use Rattle.ar_space.specs.declared.refusal.Refusal.TheVariants.{OutOfMemory}
+use Rattle.ar_space.specs.declared.space.Place.{Place}
+use Rattle.ar_tables.specs.FindTables.{tables_of}
+use Rattle.machine_text.specs.MachineText.{machine_text}
+use Rattle.machine_text.specs.declared.machine_lines.MachineText.{MachineText}
+use Rattle.watched_space.specs.declared.last_access.Accessed.{Accessed}
+use Rattle.acpiroute_words.specs.Written.{Written}
+use Rattle.acpiroute_words.specs.declared.request.Asking.{Asking}
+use Rattle.acpiroute_lib.specs.WhyCommand.{IsWatched, IsExplained, IsWhy, IsFilled, IsListed, IsRegisters, IsWhyAnswer, IsRegistersAnswer}
+use Rattle.acpiroute_lib.specs.declared.run_end.RunEnd.{RunEnd}
+
+module _ (q : Asking) (said : MachineText) where
+  pub why_told : (ended : RunEnd) (last : Option Accessed) (r : Outcome Written) → IsWatched q (tables_of said.space.memory said.rsdp) said.osi said.space ended last → IfOk r (IsExplained ended last) → IfOk r (IsWhy q said)
+  why_told ended last (Ok w) run lines = record { ended = ended; last = last; is_run = run; is_explained = lines }
+  why_told ended last (Err e) run lines = tt
+
+  pub registers_told : (ended : RunEnd) (places : List Place) (r : Outcome Written) → IsFilled q (tables_of said.space.memory said.rsdp) said.osi said.space ended places → IfOk r (IsListed ended places) → IfOk r (IsRegisters q said)
+  registers_told ended places (Ok w) run lines = record { ended = ended; places = places; is_run = run; is_listed = lines }
+  registers_told ended places (Err e) run lines = tt
+
+module _ (q : Asking) (text : List ℕ) where
+  pub why_answered : {said : MachineText} (r : Outcome Written) → Answers (Ok said) (machine_text text) → IfErr r (λ e. e ≡ OutOfMemory) → IfOk r (IsWhy q said) → NotMemory r → IsWhyAnswer q text r
+  why_answered {said = said} (Ok w) is memory lines ne = record { said = said; is_said = is.is tt; is = lines }
+  why_answered (Err e) is memory lines ne = absurd (ne memory)
+
+  pub registers_answered : {said : MachineText} (r : Outcome Written) → Answers (Ok said) (machine_text text) → IfErr r (λ e. e ≡ OutOfMemory) → IfOk r (IsRegisters q said) → NotMemory r → IsRegistersAnswer q text r
+  registers_answered {said = said} (Ok w) is memory lines ne = record { said = said; is_said = is.is tt; is = lines }
+  registers_answered (Err e) is memory lines ne = absurd (ne memory)
+
+  text_refused : (e x : Refusal) → Answers {A = MachineText} (Err e) (machine_text text) → x ≡ e → x ≢ OutOfMemory → machine_text text ≡ Err x
+  text_refused e x h same ne = h.is (λ p. ne (same ∙ p)) ∙ ap Err (sym same)
+
+  pub why_refused : {e : Refusal} (r : Outcome Written) → Answers {A = MachineText} (Err e) (machine_text text) → IsErr r × IsErrAnd r (λ x. x ≡ e) → NotMemory r → IsWhyAnswer q text r
+  why_refused (Ok w) h i ne = absurd (cc i.0)
+  why_refused {e = e} (Err x) h i ne = text_refused e x h i.1 ne
+
+  pub registers_refused : {e : Refusal} (r : Outcome Written) → Answers {A = MachineText} (Err e) (machine_text text) → IsErr r × IsErrAnd r (λ x. x ≡ e) → NotMemory r → IsRegistersAnswer q text r
+  registers_refused (Ok w) h i ne = absurd (cc i.0)
+  registers_refused {e = e} (Err x) h i ne = text_refused e x h i.1 ne
+
+pub ruleset telling = (why_told, registers_told, why_answered, registers_answered, why_refused, registers_refused)

@@ -1,0 +1,14 @@
+use Rattle.std.specs.Prelude.{map}
+use Rattle.aml_meaning.specs.Given.{given_of}
+use Rattle.acpi_machine.specs.Calls.{evaluated_object}
+use Rattle.acpiroute_lib.proofs.Endings.{stopped, refused, answered}
+use Rattle.acpiroute_lib.proofs.ended.evaluate_path.Goals as goal
+
+pub returns-in-Initializing : goal.returns-in-Initializing
+returns-in-Initializing g c = stopped g.S.Space.accesses c.args.mode _ c.in-Initializing.ensures
+
+pub returns-in-Running : goal.returns-in-Running
+returns-in-Running g c = refused g.S.Space.accesses c.args.mode (evaluated_object g.S.Space.accesses c.args.path.now (map given_of c.args.arguments.items)) c.in-Running.ensures
+
+pub returns-in-Done : goal.returns-in-Done
+returns-in-Done g c = answered g.S.Space.accesses c.args.mode (evaluated_object g.S.Space.accesses c.args.path.now (map given_of c.args.arguments.items)) c.in-Done.ensures

@@ -1,0 +1,28 @@
+use Rattle.std.proofs.Common.{◌≡◌, ◌≢◌, subst, sym}
+use Rattle.std.specs.Prelude.{Ok, Err, None}
+use Rattle.ar_space.specs.Bytes.{byte_accesses}
+use Rattle.ar_space.specs.declared.refusal.Refusal.TheVariants.{OutOfMemory}
+use Rattle.watched_space.specs.Watching.{watched}
+use Rattle.acpiroute_lib.specs.Ended.{loaded_over}
+use Rattle.acpiroute_lib.proofs.Endings.{machine_ended, loading_ended}
+use Rattle.acpiroute_lib.proofs.shown.watched_tables.Goals as goal
+
+pub returns-in-Ok : goal.returns-in-Ok
+returns-in-Ok c =
+    let h = c.watched_machine.ensures in
+    record {
+      left = h.after.world.space;
+      is_end = machine_ended (watched byte_accesses) c.args.asking.now c.watched_machine.result.0 c.args.tables c.args.osi.items (record { inner = c.args.space; last = None }) c.in-Ok.machine h.after
+          (subst (λ s. loaded_over (watched byte_accesses) c.args.asking.now c.args.tables c.args.osi.items s ≡ (Ok tt, c.in-Ok.machine.world)) c.new.ensures c.in-Ok.ensures.world) c.in-Ok.ensures.machine h.is_end;
+      is_last = h.is_last;
+    }
+
+pub returns : goal.returns
+returns c =
+    record {
+      left = c.in-Err.field-0.1;
+      is_end = loading_ended (watched byte_accesses) c.args.asking.now _ c.in-Err.field-0.0 c.args.tables c.args.osi.items (record { inner = c.args.space; last = None }) c.in-Err.field-0.1
+          (subst (λ s. c.in-Err.field-0.0 ≢ OutOfMemory → (loaded_over (watched byte_accesses) c.args.asking.now c.args.tables c.args.osi.items s).0 ≡ Err c.in-Err.field-0.0) c.new.ensures c.in-Err.ensures.refusal)
+          (subst (λ s. c.in-Err.field-0.0 ≢ OutOfMemory → (loaded_over (watched byte_accesses) c.args.asking.now c.args.tables c.args.osi.items s).1.space ≡ c.in-Err.field-0.1) c.new.ensures c.in-Err.ensures.space);
+      is_last = sym c.last.ensures;
+    }
