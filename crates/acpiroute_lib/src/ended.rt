@@ -3,8 +3,8 @@ ghost use Rattle.std.specs.Prelude.{map};
 ghost use Rattle.aml_meaning.specs.Given.{given_of};
 ghost use Rattle.acpiroute_lib.specs.Ended.{IsMachineEnd, IsRouted, IsEvaluated, IsEvaluatedAt, IsUnnamed};
 
-use crate::run_end::RunEnd;
 use crate::eval_command::data;
+use crate::run_end::RunEnd;
 use acpi_configure::Options;
 use acpi_explain::{End, Phase, eval_end, route_end};
 use acpi_machine::Machine;

@@ -24,12 +24,7 @@ fn put_table(text: &mut Vec<u8>, number: usize) -> Result<(), AllocError>
 }
 
 /// Words, and a path behind them.
-fn put_named(
-    alloc: Global,
-    text: &mut Vec<u8>,
-    words: &[u8],
-    path: &Path,
-) -> Result<(), AllocError>
+fn put_named(alloc: Global, text: &mut Vec<u8>, words: &[u8], path: &Path) -> Result<(), AllocError>
     ensures { OnOk result (text.new.items ≡ text.old.items ++ (words.now ++ text_of path.now)) }
 {
     text.extend_from_slice(words)?;

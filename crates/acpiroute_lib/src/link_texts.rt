@@ -37,7 +37,13 @@ fn put_set(alloc: Global, text: &mut Vec<u8>, set: &SetLine) -> Result<(), Alloc
         SetOutcome::Done => Ok(()),
         SetOutcome::NoSetting => Ok(()),
         SetOutcome::Refused(number) => {
-            put_link(alloc, text, &set.path, b" refused its setting ", u64::from(number))?;
+            put_link(
+                alloc,
+                text,
+                &set.path,
+                b" refused its setting ",
+                u64::from(number),
+            )?;
             text.extend_from_slice(b"\n")
         }
     }
@@ -167,7 +173,12 @@ fn put_links(alloc: Global, text: &mut Vec<u8>, report: &Option<Report>) -> Resu
         None => Ok(()),
         Some(report) => {
             put_sets(alloc, text, report.sets.as_slice())?;
-            put_afters(alloc, text, report.gives.as_slice(), report.afters.as_slice())
+            put_afters(
+                alloc,
+                text,
+                report.gives.as_slice(),
+                report.afters.as_slice(),
+            )
         }
     }
 }

@@ -1,9 +1,9 @@
 //! What was done when a run was refused: it is found by a second run.
 
-use acpiroute_words::{Asking, Question};
 use crate::machine::{machine_of_text, machine_of_text_in, octets};
 use acpi_explain::{Phase, Stage, refused_call, refused_object, refused_table};
 use acpi_machine::Machine;
+use acpiroute_words::{Asking, Question};
 use aml_path::Path;
 use ar_space::{Refusal, Sparse};
 use ar_tables::{Tables, find_tables};
@@ -42,11 +42,7 @@ fn table_in(
     }
 }
 
-fn loading_stage(
-    alloc: Global,
-    asking: &Asking,
-    text: &[u8],
-) -> Result<Option<Stage>, AllocError> {
+fn loading_stage(alloc: Global, asking: &Asking, text: &[u8]) -> Result<Option<Stage>, AllocError> {
     let Some(said) = or_memory(read_machine(alloc, text))? else {
         return Ok(None);
     };
@@ -80,19 +76,10 @@ fn ready_machine(
     text: &[u8],
 ) -> Result<Option<Machine<Sparse>>, AllocError> {
     let text = Vec::from_slice(alloc, text)?;
-    or_memory(machine_of_text_in(
-        alloc,
-        asking.mode,
-        asking.evaluation,
-        text,
-    ))
+    or_memory(machine_of_text_in(alloc, asking.mode, asking.evaluation, text))
 }
 
-fn routing_stage(
-    alloc: Global,
-    asking: &Asking,
-    text: &[u8],
-) -> Result<Option<Stage>, AllocError> {
+fn routing_stage(alloc: Global, asking: &Asking, text: &[u8]) -> Result<Option<Stage>, AllocError> {
     let Some(mut machine) = ready_machine(alloc, asking, text)? else {
         return Ok(None);
     };

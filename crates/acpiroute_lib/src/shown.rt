@@ -5,12 +5,12 @@ ghost use Rattle.ar_tables.specs.FindTables.{tables_of};
 ghost use Rattle.acpiroute_lib.specs.WhyCommand.{IsWatchedMachine, IsWatched};
 ghost use Rattle.acpiroute_lib.specs.WhyCommand.{IsFilledMachine, IsFilledFrom, IsFilled};
 
-use crate::run_end::RunEnd;
-use acpiroute_words::Asking;
 use crate::ended::machine_end;
 use crate::machine::octets;
+use crate::run_end::RunEnd;
 use acpi_explain::Phase;
 use acpi_machine::{Machine, load_tables_as};
+use acpiroute_words::Asking;
 use aml_objects::Octets;
 use ar_space::{Place, Refusal, Sparse};
 use ar_tables::{Tables, find_tables};
@@ -24,11 +24,7 @@ pub(crate) type Watched = (RunEnd, Option<Accessed>);
 /// How a run ended with 0 in place of each missing byte, and the places of these.
 pub(crate) type Filled = (RunEnd, Vec<Place>);
 
-fn watched_machine(
-    alloc: Global,
-    asking: &Asking,
-    machine: Machine<LastAccess<Sparse>>,
-) -> Watched
+fn watched_machine(alloc: Global, asking: &Asking, machine: Machine<LastAccess<Sparse>>) -> Watched
     ensures { IsWatchedMachine asking.now machine result.0 result.1 }
 {
     let mut machine = machine;
@@ -58,10 +54,7 @@ fn watched_tables(
         osi,
     ) {
         Ok(machine) => watched_machine(alloc, asking, machine),
-        Err((refusal, space)) => (
-            RunEnd::Refused(Some(Phase::Loading), refusal),
-            space.last(),
-        ),
+        Err((refusal, space)) => (RunEnd::Refused(Some(Phase::Loading), refusal), space.last()),
     }
 }
 

@@ -7,11 +7,11 @@ ghost use Rattle.acpiroute_words.specs.ErrorLines.{error_line};
 ghost use Rattle.acpiroute_lib.specs.WhyCommand.{told, IsRefusalTold, IsExplained, IsListed, IsWhy, IsRegisters};
 ghost use Rattle.acpiroute_lib.specs.WhyCommand.{IsWhyAnswer, IsRegistersAnswer};
 
-use crate::run_end::RunEnd;
 use crate::explaining::refused_text;
 use crate::link_texts::done_text;
 use crate::place_words::missing_lines;
 use crate::refused_stage::stage_when_refused;
+use crate::run_end::RunEnd;
 use crate::shown::{filled_run, watched_run};
 use acpi_explain::{Stage, help_for, shown_access};
 use acpiroute_words::{Answer, Asking, Completion, write_error_line};
