@@ -104,14 +104,16 @@ fn why_with(registers: bool, asked: Asked) -> Asked
     ensures { result ≡ why_with registers asked }
 {
     match asked {
-        Asked::For(Request::Route {
-            mode,
-            evaluation,
-            dry,
-            avoid,
-            spare,
-            spread,
-        }) => {
+        Asked::For(
+            Request::Route {
+                mode,
+                evaluation,
+                dry,
+                avoid,
+                spare,
+                spread,
+            },
+        ) => {
             let question = Question::Route {
                 dry,
                 avoid,
@@ -136,12 +138,14 @@ fn why_evaluated(asked: Asked) -> Asked
     ensures { result ≡ why_evaluated asked }
 {
     match asked {
-        Asked::For(Request::Eval {
-            mode,
-            evaluation,
-            path,
-            arguments,
-        }) => Asked::For(Request::Why(Asking {
+        Asked::For(
+            Request::Eval {
+                mode,
+                evaluation,
+                path,
+                arguments,
+            },
+        ) => Asked::For(Request::Why(Asking {
             mode,
             evaluation,
             question: Question::Eval { path, arguments },
@@ -194,10 +198,7 @@ fn why_question(
 
 /// What the options of `why` and its words say.
 #[tactic(auto, unfolding(crate::specs::CommandLine::why_of), using(crate::proofs::Getters::first_text))]
-pub(crate) fn why_of(
-    alloc: Global,
-    matches: &ArgMatches<'_>,
-) -> Result<Option<Asked>, AllocError>
+pub(crate) fn why_of(alloc: Global, matches: &ArgMatches<'_>) -> Result<Option<Asked>, AllocError>
     ensures { IfOk result (λ r. r ≡ why_of (rows_of (found_of matches.now))) }
 {
     match matches.get_str("question") {
