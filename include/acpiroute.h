@@ -1,7 +1,7 @@
 /*
  * acpiroute: a proved ACPI interrupt router, over memory.
  *
- * Four calls do what the commands of the program `acpiroute` do, with input, output and error line in memory. They are proved to have
+ * Five calls do what the commands of the program `acpiroute` do, with input, output and error line in memory. They are proved to have
  * the contract of that program, whose README says what the commands do, and what their options are. Four further calls are over a
  * record, for a machine whose registers only the caller can access: `acpiroute_configure` does what `route` does, and
  * `acpiroute_evaluate` what `eval` does, with the tables from a machine text, and the same two over the tables as they stand in memory.
@@ -124,6 +124,16 @@ uint32_t acpiroute_names(const uint8_t *options, size_t options_length, const ui
 uint32_t acpiroute_eval(const uint8_t *options, size_t options_length, const uint8_t *machine, size_t machine_length,
                         uint8_t *text, size_t text_capacity, uint8_t *line, size_t line_capacity,
                         struct acpiroute_reply *reply);
+
+/*
+ * Tells why a machine text is refused: it makes the run of `acpiroute_route`, or, where the first of the options is "eval", as in
+ * "eval \\_SB_.LNKA._PRS", that of `acpiroute_eval`, and the text says what ended it: the refusal, what was done then, the access of
+ * a register that failed, and what to do. With "--registers" the text has the lines that the machine text lacks. The status is 0
+ * where the text tells it, and 1 where the machine text itself is refused.
+ */
+uint32_t acpiroute_why(const uint8_t *options, size_t options_length, const uint8_t *machine, size_t machine_length,
+                       uint8_t *text, size_t text_capacity, uint8_t *line, size_t line_capacity,
+                       struct acpiroute_reply *reply);
 
 /* Which address space an access is in. */
 enum {

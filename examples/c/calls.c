@@ -23,6 +23,7 @@ extern __typeof__(acpiroute_route) acpiroute_route __attribute__((weak));
 extern __typeof__(acpiroute_check) acpiroute_check __attribute__((weak));
 extern __typeof__(acpiroute_names) acpiroute_names __attribute__((weak));
 extern __typeof__(acpiroute_eval) acpiroute_eval __attribute__((weak));
+extern __typeof__(acpiroute_why) acpiroute_why __attribute__((weak));
 
 /* Memory: how many blocks are out, how many requests there were, and which is refused, counted from 0. */
 
@@ -309,6 +310,8 @@ static void judge_commands(void) {
         {"names over no tables", acpiroute_names, "", bare, 1, "", "refused 13\n"},
         {"eval _HID", acpiroute_eval, "\\_SB_.LNKA._HID", machine, 0, "integer 252497985\n", ""},
         {"eval of no object", acpiroute_eval, "\\NONE", machine, 1, "", "refused 61\n"},
+        {"why eval", acpiroute_why, "eval \\_SB_.LNKA._HID", machine, 0, "not refused\n", ""},
+        {"why over another text", acpiroute_why, "", report, 1, "", "refused 140 line 1\n"},
     };
     for (size_t i = 0; i < sizeof rows / sizeof *rows; i++) {
         struct question it = over(rows[i].name, rows[i].command, rows[i].options, rows[i].input);

@@ -99,7 +99,7 @@ macro_rules! commands {
     };
 }
 
-commands!(acpiroute_route, acpiroute_check, acpiroute_names, acpiroute_eval);
+commands!(acpiroute_route, acpiroute_check, acpiroute_names, acpiroute_eval, acpiroute_why);
 
 /// The calls over a record of accesses: settings, what the call itself takes, the record, the two buffers, the reply, the access that is
 /// wanted.

@@ -305,7 +305,8 @@ const ROWS: [Help; 58] = [
     },
 ];
 
-/// What is said of the refusal with a number; of a number that is none, nothing.
+/// What is said of the refusal with a number; of a number that is none, nothing. That it is the row with this number is
+/// not proved.
 pub fn help_for(number: u8) -> Help {
     for row in &ROWS {
         if row.number == number {

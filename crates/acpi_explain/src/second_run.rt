@@ -47,7 +47,7 @@ fn refused_number<S: Space>(
 }
 
 /// Loads tables one after the other into a new world, as `load_tables_as` does, and gives the number of the one that is
-/// refused: 0 for the DSDT, and SSDTs from 1 on; none where no table is.
+/// refused: 0 for the DSDT, and SSDTs from 1 on; none where no table is. That it is this table is not proved.
 pub fn refused_table<S: Space + Drop>(
     alloc: Global,
     profile: Profile,
@@ -94,7 +94,8 @@ fn refused_at<S: Space>(
     Ok(None)
 }
 
-/// Makes the calls of `Machine::initialize` one after the other, and gives the path of the first that is refused.
+/// Makes the calls of `Machine::initialize` one after the other, and gives the path of the first that is refused. That
+/// it is this call is not proved.
 pub fn refused_call<S: Space>(
     alloc: Global,
     mode: Mode,
@@ -203,7 +204,7 @@ fn refused_in_links<S: Space>(
 }
 
 /// Reads the routing tables and asks the links of an initialized machine, in the order of `acpi_links::gather`, and
-/// tells what is refused: `Gathering` where no single object is.
+/// tells what is refused: `Gathering` where no single object is. That it is this object is not proved.
 pub fn refused_object<S: Space>(
     alloc: Global,
     machine: &mut Machine<S>,

@@ -83,6 +83,23 @@ pub extern "C" fn acpiroute_eval(
     call(alloc, "eval", options, machine, text, line, reply)
 }
 
+/// `why` over a machine text: what ended the run of `route`, or of `eval` where that is the first of the options.
+#[unsafe(no_mangle)]
+pub extern "C" fn acpiroute_why(
+    alloc: Global,
+    options: &[u8],
+    machine: &[u8],
+    text: &mut [u8],
+    line: &mut [u8],
+    reply: &mut CallReply,
+) -> u32
+    ensures { IsCall (codes "why") options.now machine.now result
+        (record { text = text.old; line = line.old; reply = reply.old })
+        (record { text = text.new; line = line.new; reply = reply.new }) }
+{
+    call(alloc, "why", options, machine, text, line, reply)
+}
+
 /// `route` over the tables of a machine text, whose registers answer from a record of accesses.
 #[unsafe(no_mangle)]
 pub extern "C" fn acpiroute_configure(
