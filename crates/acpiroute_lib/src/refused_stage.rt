@@ -5,7 +5,7 @@ use acpi_explain::{Phase, Stage, refused_call, refused_object, refused_table};
 use acpi_machine::Machine;
 use acpiroute_words::{Asking, Question};
 use aml_path::Path;
-use ar_space::{Refusal, Sparse};
+use ar_space::{Refusal, RoutingFault, Sparse};
 use ar_tables::{Tables, find_tables};
 use machine_text::{MachineText, read_machine};
 use std::alloc::{AllocError, Global};
@@ -97,11 +97,21 @@ fn evaluated_stage(alloc: Global, path: &str) -> Result<Option<Stage>, AllocErro
     }
 }
 
-/// What was done when a run over a machine text was refused that had come so far.
+/// Whether a refusal of routing is one of what was found, and not of one object. A second run would not stop there.
+fn is_of_gathering(refusal: &Refusal) -> bool {
+    match refusal {
+        Refusal::Routing(RoutingFault::NoOffer(_)) => false,
+        Refusal::Routing(_) => true,
+        _ => false,
+    }
+}
+
+/// What was done when a run over a machine text was refused that had come so far, by this refusal.
 pub(crate) fn stage_when_refused(
     alloc: Global,
     asking: &Asking,
     phase: Option<Phase>,
+    refusal: &Refusal,
     text: &[u8],
 ) -> Result<Option<Stage>, AllocError> {
     match phase {
@@ -109,6 +119,7 @@ pub(crate) fn stage_when_refused(
         Some(Phase::Loading) => loading_stage(alloc, asking, text),
         Some(Phase::Initializing) => initializing_stage(alloc, asking, text),
         Some(Phase::Running) => match &asking.question {
+            Question::Route { .. } if is_of_gathering(refusal) => Ok(Some(Stage::Gathering)),
             Question::Route { .. } => routing_stage(alloc, asking, text),
             Question::Eval { path, .. } => evaluated_stage(alloc, path.as_str()),
         },

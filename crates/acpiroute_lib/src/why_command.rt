@@ -61,7 +61,7 @@ fn explained(
     match end {
         RunEnd::Refused(_, Refusal::OutOfMemory) => Err(Refusal::OutOfMemory),
         RunEnd::Refused(phase, refusal) => {
-            let stage = stage_when_refused(alloc, asking, phase, text)?;
+            let stage = stage_when_refused(alloc, asking, phase, &refusal, text)?;
             let traced = trace_text(alloc, trace, &stage, asking.evaluation.steps)?;
             Ok(refusal_answer(alloc, &refusal, &stage, last, &traced)?)
         }
