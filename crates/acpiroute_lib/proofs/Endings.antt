@@ -54,11 +54,10 @@ module _ {S : Type 0} (accesses : Accesses S) (mode : Mode) where
   -- ---- the text of a path
 
   same_run : {m : MachineState S} (k l : Change (MachineState S) (Unit {0})) → ((s : MachineState S) → k s ≡ l s) → started accesses mode k m ≡ started accesses mode l m
-  unfolding ◌>>=◌
+  unfolding ◌>>=◌ go_on
   same_run {m = m} k l same = same_on (initialized accesses mode m).0
     where
       same_on : (r : Outcome (Unit {0})) → go_on r (initialized accesses mode m).1 (λ _. k) ≡ go_on r (initialized accesses mode m).1 (λ _. l)
-      unfolding go_on
       same_on (Ok u) = same (initialized accesses mode m).1
       same_on (Err e) = refl
 

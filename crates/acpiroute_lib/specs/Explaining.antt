@@ -64,11 +64,15 @@ refused_text e name stage places access steps help =
 
 -- ---- a run that is not refused
 
+-- `link`, its path, words and a number
+abbrev pub link_words : List Seg → List ℕ → ℕ → List ℕ
+link_words path words n = codes "link " ++ (text_of path ++ (words ++ decimal n))
+
 -- a link whose setting was refused
 abbrev pub set_text : List Seg → SetOutcome → List ℕ
 set_text path outcome.Done = []
 set_text path outcome.NoSetting = []
-set_text path (outcome.Refused r) = codes "link " ++ (text_of path ++ (codes " refused its setting " ++ (decimal r ++ codes "\n")))
+set_text path (outcome.Refused r) = link_words path (codes " refused its setting ") r ++ codes "\n"
 
 abbrev pub set_texts : List SetLine → List ℕ
 set_texts [] = []
@@ -82,8 +86,8 @@ is_given n other = false
 -- a link that reads back something else, or whose reading was refused
 abbrev pub after_text : ℕ → List Seg → AfterState → List ℕ
 after_text n path (Now now) =
-    if is_given n now then [] else codes "link " ++ (text_of path ++ (codes " was given " ++ (decimal n ++ (codes " and reads back" ++ (spaced (now_words now) ++ codes "\n")))))
-after_text n path (Refused r) = codes "link " ++ (text_of path ++ (codes " was given " ++ (decimal n ++ (codes " and refused to be read " ++ (decimal r ++ codes "\n")))))
+    if is_given n now then [] else link_words path (codes " was given ") n ++ (codes " and reads back" ++ (spaced (now_words now) ++ codes "\n"))
+after_text n path (Refused r) = link_words path (codes " was given ") n ++ (codes " and refused to be read " ++ (decimal r ++ codes "\n"))
 
 -- what each link was given, and what it reads back, one beside the other
 abbrev pub after_texts : List (List Seg × ℕ) → List ReportedAfter → List ℕ

@@ -1,18 +1,17 @@
 //! The lines of `why` where a run isn't refused: of links that are not set as they were to be.
-ghost use Rattle.std.specs.Prelude.{◌≡◌, ◌++◌, IfOk, OnOk, codes, decimal, map, option_map, Some};
-ghost use Rattle.aml_path.specs.Text.{text_of};
+ghost use Rattle.std.specs.Prelude.{◌≡◌, ◌++◌, IfOk, OnOk, decimal, map, option_map, Some};
 ghost use Rattle.route_report.specs.Lines.{spaced};
 ghost use Rattle.route_report.specs.Printing.{number_words, now_words};
 ghost use Rattle.route_report.specs.Reports.{Now};
-ghost use Rattle.acpiroute_lib.specs.Explaining.{set_text, set_texts, is_given, after_text, after_texts, link_texts};
-ghost use Rattle.acpiroute_lib.specs.Explaining.{done_text};
+ghost use Rattle.acpiroute_lib.specs.Explaining.{link_words, set_text, set_texts, is_given, after_text, after_texts};
+ghost use Rattle.acpiroute_lib.specs.Explaining.{link_texts, done_text};
 
 use acpiroute_words::{put_number, put_path};
 use aml_path::Path;
 use route_report::{After, AfterLine, Report, SetLine, SetOutcome};
 use std::alloc::{AllocError, Global};
 
-/// `link`, its path, words, a number and a line feed.
+/// `link`, its path, words and a number.
 fn put_link(
     alloc: Global,
     text: &mut Vec<u8>,
@@ -20,8 +19,7 @@ fn put_link(
     words: &[u8],
     number: u64,
 ) -> Result<(), AllocError>
-    ensures { OnOk result (text.new.items ≡ text.old.items ++ (codes "link " ++ (text_of path.now ++ (words.now ++
-        decimal number)))) }
+    ensures { OnOk result (text.new.items ≡ text.old.items ++ link_words path.now words.now number) }
 {
     text.extend_from_slice(b"link ")?;
     put_path(alloc, text, path)?;
