@@ -11,7 +11,6 @@ use Rattle.aml_meaning.specs.Given.{Given}
 use Rattle.acpi_machine.specs.MachineStates.{MachineState}
 use Rattle.acpi_machine.specs.Calls.{evaluated_object}
 use Rattle.acpi_machine.specs.Stops.{AllOrNone, Made, Stop, StopsEach, StopsThen}
-use Rattle.acpi_machine.proofs.Stopping.{is}
 
 memory_or_not : (e : Refusal) → (e ≡ refusal.OutOfMemory) ⊎ (e ≢ refusal.OutOfMemory)
 memory_or_not refusal.OutOfMemory = inl refl
