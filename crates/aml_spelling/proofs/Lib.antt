@@ -24,3 +24,16 @@ pub mod LeavesOperands
 pub mod LeavesParts
 pub mod LeavesRows
 pub mod LeavesWhole
+pub mod Halts
+pub mod FaultParts
+pub mod FaultLists
+pub mod FaultSorts
+pub mod FaultNames
+pub mod FaultOnce
+pub mod FaultApart
+pub mod FaultLengths
+pub mod FaultShapes
+pub mod Ends
+pub mod FaultSegments
+pub mod FaultNameStrings
+pub mod FaultWhole

@@ -1,14 +1,17 @@
 //! What holds of every list of bytes: each law is the contract of a function that does nothing.
-ghost use Rattle.std.specs.Prelude.{◌≡◌, ◌↔◌, ◌≤◌, ◌+◌, ◌++◌, ℕ, List, [], Bool, false, length, Ok};
+ghost use Rattle.std.specs.Prelude.{◌≡◌, ◌↔◌, ◌≤◌, ◌+◌, ◌++◌, ℕ, List, [], ◌∷◌, Bool, true, false, length, Ok, Err};
 ghost use Rattle.ar_space.specs.declared.refusal.Refusal.{Refusal};
 ghost use Rattle.ar_space.specs.declared.refusal.Refusal.TheVariants as refusals;
 ghost use Rattle.ar_space.specs.declared.refusal.TermFault.TheVariants.{BadOpcode, Truncated};
 ghost use Rattle.aml_path.specs.declared.segment.Seg.{Seg};
 ghost use Rattle.aml_grammar.specs.declared.arities.Arity.{Arity};
-ghost use Rattle.aml_grammar.specs.State.{State};
+ghost use Rattle.aml_path.specs.Paths.{Name};
+ghost use Rattle.aml_grammar.specs.Names.{starts_name, name_string};
+ghost use Rattle.aml_grammar.specs.State.{State, integer, bit_count, package_size, text};
 ghost use Rattle.aml_grammar.specs.Tree.{Tree};
-ghost use Rattle.aml_grammar.specs.Grammar.{Reads, Fails, table_reading};
-ghost use Rattle.aml_scan.specs.Spelling.{IsSpelled};
+ghost use Rattle.aml_grammar.specs.Grammar.{Reads, Fails, table_reading, opcode};
+ghost use Rattle.aml_scan.specs.Spelling.{IsInteger, IsLength, IsNameString, IsSpelled};
+ghost use Rattle.aml_spelling.specs.Faults.{Spot, Starts, IsName, IsNumber, IsCount, IsText, IsSomeCode, AtPart, AtLength};
 ghost use Rattle.aml_spelling.specs.Reach.{Stops, reach, Placed};
 ghost use Rattle.aml_spelling.specs.Stands.{MayStand};
 
@@ -43,4 +46,29 @@ pub fn faults_depend_on_no_later_byte()
         Fails (front ++ back) scope body known (refusals.Term BadOpcode offset) → offset + 2 ≤ length front →
         length other ≡ length back →
         Fails (front ++ other) scope body known (refusals.Term BadOpcode offset) }
+{}
+
+/// A number, a length, a text, an opcode or a name is refused with a number and an offset exactly if it has this fault.
+/// The fault is said of the bytes alone: they end where the part needs more of them, no name goes on as they do, or a
+/// package length doesn't fit what is around it. A part that stands whole has none.
+pub fn parts_are_refused_exactly_if_faulty()
+    ensures number { (width : ℕ) (s : State) (spot : Spot) (r : Refusal) → s.at ≡ spot.at → s.rest ≡ spot.rest →
+        ((integer width s).0 ≡ Err r) ↔ AtPart (IsNumber width) spot r }
+    ensures count { (s : State) (spot : Spot) (r : Refusal) → s.at ≡ spot.at → s.rest ≡ spot.rest →
+        ((bit_count s).0 ≡ Err r) ↔ AtPart IsCount spot r }
+    ensures package_length { (s : State) (spot : Spot) (r : Refusal) → s.at ≡ spot.at → s.rest ≡ spot.rest →
+        ((package_size s).0 ≡ Err r) ↔ AtLength spot r }
+    ensures string { (s : State) (spot : Spot) (r : Refusal) → s.at ≡ spot.at → s.rest ≡ spot.rest →
+        ((text s).0 ≡ Err r) ↔ AtPart IsText spot r }
+    ensures code { (s : State) (spot : Spot) (r : Refusal) → s.at ≡ spot.at → s.rest ≡ spot.rest →
+        ((opcode s).0 ≡ Err r) ↔ AtPart IsSomeCode spot r }
+    ensures name { (s : State) (spot : Spot) (r : Refusal) → s.at ≡ spot.at → s.rest ≡ spot.rest →
+        ((name_string s).0 ≡ Err r) ↔ AtPart IsName spot r }
+    ensures first_byte { (b : ℕ) → (starts_name b ≡ true) ↔ Starts IsName (b ∷ []) }
+    ensures whole_number { (width n : ℕ) (front back : List ℕ) (spot : Spot) (r : Refusal) → spot.rest ≡ front ++ back →
+        IsInteger width n front → AtPart (IsNumber width) spot r → ⊥ }
+    ensures whole_count { (n : ℕ) (front back : List ℕ) (spot : Spot) (r : Refusal) → spot.rest ≡ front ++ back →
+        IsLength n front → AtPart IsCount spot r → ⊥ }
+    ensures whole_name { (n : Name) (front back : List ℕ) (spot : Spot) (r : Refusal) → spot.rest ≡ front ++ back →
+        IsNameString n front → AtPart IsName spot r → ⊥ }
 {}
