@@ -36,7 +36,7 @@ none_of : (ss : List Seg) → length ss ≡ 0 → ss ≡ []
 none_of [] e = refl
 none_of (s ∷ ss) e = absurd (omega (arith, e))
 
-first_is : (b c : ℕ) (k l : List ℕ) → b ∷ k ≡ c ∷ l → (b ≡ c) × (k ≡ l)
+pub first_is : (b c : ℕ) (k l : List ℕ) → b ∷ k ≡ c ∷ l → (b ≡ c) × (k ≡ l)
 first_is b c k l e = (cc e, cc e)
 
 one_letter : (ss : List Seg) (b : ℕ) (l : List ℕ) → length ss ≡ 1 → b ∷ l ≡ characters ss → is_lead_name_char b ≡ true
@@ -96,14 +96,14 @@ path_many n l some h = (h.0, (47 ∷ n ∷ [], ap (λ (k : List ℕ). 47 ∷ n �
 path_one : (l : List ℕ) → Segments 1 l → IsPath l
 path_one l h = (h.0, ([], h.2, h.1))
 
-next_end : (spot : Spot) (s s1 : State) (b : ℕ) (bs : List ℕ) → StandsAt s spot → s.rest ≡ b ∷ bs → s1.at ≡ s.at + 1 → s1.rest ≡ bs → end_of (moved spot s1) ≡ end_of spot
+pub next_end : (spot : Spot) (s s1 : State) (b : ℕ) (bs : List ℕ) → StandsAt s spot → s.rest ≡ b ∷ bs → s1.at ≡ s.at + 1 → s1.rest ≡ bs → end_of (moved spot s1) ≡ end_of spot
 next_end spot s s1 b bs here is at1 is1 =
     let n : length spot.rest ≡ suc (length bs) = ap (λ (l : List ℕ). length l) (sym here.1 ∙ is) in
     let m : length s1.rest ≡ length bs = ap (λ (l : List ℕ). length l) is1 in
     omega (arith, n, m, at1, here.0)
 
 -- a fault behind a byte that was seen
-behind_byte : (P Q : Sort) (b : ℕ) → ((l : List ℕ) → P l → Q (b ∷ l)) → ((l : List ℕ) → Q (b ∷ l) → P l) → (spot : Spot) (s s1 : State) (bs : List ℕ) → StandsAt s spot → s.rest ≡ b ∷ bs → s1.at ≡ s.at + 1 → s1.rest ≡ bs
+pub behind_byte : (P Q : Sort) (b : ℕ) → ((l : List ℕ) → P l → Q (b ∷ l)) → ((l : List ℕ) → Q (b ∷ l) → P l) → (spot : Spot) (s s1 : State) (bs : List ℕ) → StandsAt s spot → s.rest ≡ b ∷ bs → s1.at ≡ s.at + 1 → s1.rest ≡ bs
     → (r : Refusal) → AtPart P (moved spot s1) r → AtPart Q spot r
 behind_byte P Q b to back spot s s1 bs here is at1 is1 r h =
     at_behind Q (b ∷ []) spot (moved spot s1) (sym here.1 ∙ is ∙ ap (λ (l : List ℕ). b ∷ l) (sym is1)) (next_end spot s s1 b bs here is at1 is1) r (same_sorts P (λ (l : List ℕ). Q (b ∷ l)) to back (moved spot s1) r h)
@@ -188,7 +188,7 @@ same_parents (suc n) (suc m) x y xs ys f g e = let k = same_parents n m x y xs y
 
 -- ---- whole names
 
-name_none : Short IsName []
+pub name_none : Short IsName []
 name_none = (92, 0 ∷ [], (record { prefix = Root; segments = [] }, (0 ∷ [], refl, (0 ∷ [], refl, inl (refl, refl)), refl)))
 
 and_false : (x : Bool) → (x && false) ≡ false

@@ -148,7 +148,7 @@ no_code = (0, [], (0, (refl, λ e. absurd (omega (arith, e)))))
 half_code : (b : ℕ) (bs : List ℕ) → b ≡ 0x5B → bs ≡ [] → Short IsSomeCode (b ∷ bs)
 half_code b bs e f = rw f (0, [], (0x5B00, (e, refl)))
 
-first_missing : (s : State) (spot : Spot) → StandsAt s spot → (r : Refusal) → (r ≡ refusals.Term Truncated s.at) × (s.rest ≡ []) → AtPart IsSomeCode spot r
+pub first_missing : (s : State) (spot : Spot) → StandsAt s spot → (r : Refusal) → (r ≡ refusals.Term Truncated s.at) × (s.rest ≡ []) → AtPart IsSomeCode spot r
 first_missing s spot h r m = at_short IsSomeCode spot r s.at m.0 (at_end s spot h m.1) (rw (← h.1, m.1) no_code)
 
 second_missing : (b : ℕ) (s s1 : State) (spot : Spot) → StandsAt s spot → s.rest ≡ b ∷ s1.rest → s1.at ≡ s.at + 1 → b ≡ 0x5B → (r : Refusal) → (r ≡ refusals.Term Truncated s1.at) × (s1.rest ≡ []) → AtPart IsSomeCode spot r

@@ -36,4 +36,17 @@ pub mod FaultShapes
 pub mod Ends
 pub mod FaultSegments
 pub mod FaultNameStrings
+pub mod EndsTerms
+pub mod EndsWhole
+pub mod FaultOperands
+pub mod FaultElements
+pub mod FaultTakes
+pub mod FaultSupers
+pub mod FaultKinds
+pub mod FaultRows
+pub mod FaultTerms
+pub mod FaultAlone
+pub mod FaultCalls
+pub mod FaultTakesTerms
 pub mod FaultWhole
+pub mod FaultDeclared
