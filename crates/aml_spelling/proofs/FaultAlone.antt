@@ -48,7 +48,7 @@ alone_as same h = record { is = λ t s2 e. h.is t s2 (sym same ∙ e) }
 
 -- ---- which trees lack an Else
 
-lacks_shape : (t : Tree) → lacks_else t ≡ true → (c : Part) × (l : Part) × (t ≡ term (codes.Opcode opcodes.If) (part c (part l (part null no_parts))))
+pub lacks_shape : (t : Tree) → lacks_else t ≡ true → (c : Part) × (l : Part) × (t ≡ term (codes.Opcode opcodes.If) (part c (part l (part null no_parts))))
 lacks_shape (term (codes.Opcode opcodes.If) (part c (part l (part null no_parts)))) e = (c, l, refl)
 lacks_shape _ e = absurd (cc e)
 

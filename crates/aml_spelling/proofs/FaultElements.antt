@@ -60,10 +60,10 @@ last_byte k s spot here = halts_map k (refuses_byte s spot here)
 
 -- ---- elements that begin with a code
 
-abbrev Segmented : List ℕ → Type 0
+abbrev pub Segmented : List ℕ → Type 0
 Segmented l = (seg : Seg) × (back : List ℕ) × (l ≡ seg.bytes ++ back) × IsCount back
 
-no_code : (b : ℕ) (l : List ℕ) → Segmented (b ∷ l) → (b ≡ 0) ⊎ ((b ≡ 1) ⊎ ((b ≡ 2) ⊎ (b ≡ 3))) → ⊥
+pub no_code : (b : ℕ) (l : List ℕ) → Segmented (b ∷ l) → (b ≡ 0) ⊎ ((b ≡ 1) ⊎ ((b ≡ 2) ⊎ (b ≡ 3))) → ⊥
 no_code b l h e =
     let k = seg_begins h.0 in
     let same : b ≡ k.0 = (first_is b k.0 l (k.1 ++ h.1) (h.2 ∙ ap (λ (m : List ℕ). m ++ h.1) k.2)).0 in
@@ -78,14 +78,14 @@ two_codes : (b n m : ℕ) → b ≡ n → b ≡ m → (n < m) ⊎ (m < n) → �
 two_codes b n m e f (inl h) = omega (arith, e, f, h)
 two_codes b n m e f (inr h) = omega (arith, e, f, h)
 
-reserved_is : (b : ℕ) (l : List ℕ) → b ≡ 0 → IsElement (b ∷ l) → IsCount l
+pub reserved_is : (b : ℕ) (l : List ℕ) → b ≡ 0 → IsElement (b ∷ l) → IsCount l
 reserved_is b l e (inl h) = h.1
 reserved_is b l e (inr (inl h)) = absurd (two_codes b 0 1 e h.0 (inl (omega arith)))
 reserved_is b l e (inr (inr (inl h))) = absurd (two_codes b 0 2 e h.0 (inl (omega arith)))
 reserved_is b l e (inr (inr (inr (inl h)))) = absurd (two_codes b 0 3 e h.0 (inl (omega arith)))
 reserved_is b l e (inr (inr (inr (inr h)))) = absurd (no_code b l h (inl e))
 
-access_is : (b : ℕ) (l : List ℕ) → b ≡ 1 → IsElement (b ∷ l) → IsNumber 2 l
+pub access_is : (b : ℕ) (l : List ℕ) → b ≡ 1 → IsElement (b ∷ l) → IsNumber 2 l
 access_is b l e (inl h) = absurd (two_codes b 1 0 e h.0 (inr (omega arith)))
 access_is b l e (inr (inl h)) = h.1
 access_is b l e (inr (inr (inl h))) = absurd (two_codes b 1 2 e h.0 (inl (omega arith)))
@@ -99,7 +99,7 @@ connection_is b l e (inr (inr (inl h))) = h.1
 connection_is b l e (inr (inr (inr (inl h)))) = absurd (two_codes b 2 3 e h.0 (inl (omega arith)))
 connection_is b l e (inr (inr (inr (inr h)))) = absurd (no_code b l h (inr (inr (inl e))))
 
-extended_is : (b : ℕ) (l : List ℕ) → b ≡ 3 → IsElement (b ∷ l) → IsNumber 3 l
+pub extended_is : (b : ℕ) (l : List ℕ) → b ≡ 3 → IsElement (b ∷ l) → IsNumber 3 l
 extended_is b l e (inl h) = absurd (two_codes b 3 0 e h.0 (inr (omega arith)))
 extended_is b l e (inr (inl h)) = absurd (two_codes b 3 1 e h.0 (inr (omega arith)))
 extended_is b l e (inr (inr (inl h))) = absurd (two_codes b 3 2 e h.0 (inr (omega arith)))
@@ -142,7 +142,7 @@ refuses_declaring : {B : Type 0} (context : Context) (path : List Seg) (k : ℕ 
 refuses_declaring context path k s spot here = halts_then (halts_declare context path 0 false s (λ r. AtPart IsCount spot r)) (λ added s1 e.
     halts_map k (part_count s1 spot (declared_there context.body path s s1 spot here (same_state e))))
 
-named_parts : (l : List ℕ) → Segmented l → Then Segment IsCount l
+pub named_parts : (l : List ℕ) → Segmented l → Then Segment IsCount l
 named_parts l h = (h.0.bytes, h.1, h.2, (h.0, refl), h.3)
 
 parts_named : (l : List ℕ) → Then Segment IsCount l → Segmented l

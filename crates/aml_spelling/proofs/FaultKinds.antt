@@ -42,7 +42,7 @@ abbrev pub TermAlone : Inner → Type 0
 TermAlone inner_term = (position : Position) (scope : List Seg) (context : Context) (s s1 : State) (t : Tree) → inner_term position scope context s ≡ (Ok t, s1) → lacks_else t ≡ true → Begins 0xA1 0xA1 s1.rest → ⊥
 
 -- a field element is no If
-field_no_if : (around : Around) (t : Tree) (front : List ℕ) → Spells around field_element t front → lacks_else t ≡ true → ⊥
+pub field_no_if : (around : Around) (t : Tree) (front : List ℕ) → Spells around field_element t front → lacks_else t ≡ true → ⊥
 unfolding Spells
 field_no_if around (term (codes.Opcode o) ps) front h e = no_field around h.0.1 h.2
 field_no_if around _ front h e = cc e
@@ -107,7 +107,7 @@ module _ (levels : ℕ) (inner_term : Inner) (below : Below levels inner_term) (
       (λ names. halts_if (b == 0x11) (λ buffer. halts_more (halts_term levels inner_term below.halts scope context item in_item_at positions.DataObject s1) (buffer_there s s1 b bs cs is at1 is1 ar1 first buffer))
       (λ other. halts_stop (refusals.Name BadName) (element_here (here_at s) (refusals.Name BadName) (connected s s1 bs is at1 is1 (refusals.Name BadName) (connected_wrong b cs (moved (here_at s) s1) first names other))))))
 
-  halts_field : (s : State) → Halts (field inner_term scope context) s (λ r. (way : Way) × FaultyAt way (a_term field_element) (here_at s) r)
+  pub halts_field : (s : State) → Halts (field inner_term scope context) s (λ r. (way : Way) × FaultyAt way (a_term field_element) (here_at s) r)
   unfolding field connect_field
   halts_field s = halts_peek (λ none. element_here (here_at s) (refusals.Term Truncated s.at) (at_short IsElement (here_at s) (refusals.Term Truncated s.at) s.at refl (at_end s (here_at s) (refl, refl) none) (rw none element_none))) (λ b bs is.
       halts_if (b == 0) (λ e. halts_more (halts_reserved b bs s (here_at s) (refl, refl) is e) (element_here (here_at s)))

@@ -35,20 +35,20 @@ item_same context item is at = ap (λ (o : Option ℕ). item_of o at) is
 
 -- ---- first bytes
 
-as_name : (b : ℕ) (bs rest : List ℕ) → rest ≡ b ∷ bs → starts_name b ≡ true → AsName rest
+pub as_name : (b : ℕ) (bs rest : List ℕ) → rest ≡ b ∷ bs → starts_name b ≡ true → AsName rest
 as_name b bs rest is names = rw is (inr (begins_name b names))
 
-as_zero : (b : ℕ) (bs rest : List ℕ) → rest ≡ b ∷ bs → (b == 0) ≡ true → AsName rest
+pub as_zero : (b : ℕ) (bs rest : List ℕ) → rest ≡ b ∷ bs → (b == 0) ≡ true → AsName rest
 as_zero b bs rest is zero = rw is (inl (eqb-true b 0 zero))
 
-as_none : (rest : List ℕ) → rest ≡ [] → AsName rest
+pub as_none : (rest : List ℕ) → rest ≡ [] → AsName rest
 as_none rest is = rw is tt
 
 as_neither : (b : ℕ) (bs : List ℕ) → (b == 0) ≡ false → starts_name b ≡ false → AsName (b ∷ bs) → ⊥
 as_neither b bs some names (inl h) = eqb-false b 0 some h
 as_neither b bs some names (inr h) = begins_not b names h
 
-no_name : (b : ℕ) (bs rest : List ℕ) → rest ≡ b ∷ bs → (b == 0) ≡ false → starts_name b ≡ false → AsName rest → ⊥
+pub no_name : (b : ℕ) (bs rest : List ℕ) → rest ≡ b ∷ bs → (b == 0) ≡ false → starts_name b ≡ false → AsName rest → ⊥
 no_name b bs rest is some names h = as_neither b bs some names (subst (λ (l : List ℕ). AsName l) is h)
 
 target_first : (b : ℕ) (bs : List ℕ) → (b == 0) ≡ false → AsName (b ∷ bs) → AsTarget (b ∷ bs)
@@ -68,14 +68,14 @@ slot_range b bs is = (grind arith, grind arith)
 slot_begins : (b : ℕ) (bs rest : List ℕ) → rest ≡ b ∷ bs → is_slot b ≡ true → Begins 0x60 0x6E rest
 slot_begins b bs rest is slot = rw is (slot_range b bs slot)
 
-range_slot : (b : ℕ) (bs : List ℕ) → Begins 0x60 0x6E (b ∷ bs) → is_slot b ≡ true
+pub range_slot : (b : ℕ) (bs : List ℕ) → Begins 0x60 0x6E (b ∷ bs) → is_slot b ≡ true
 unfolding is_slot
 range_slot b bs h = rw (le-leb 0x60 b h.0, le-leb b 0x6E h.1) refl
 
 no_slot : (b : ℕ) (bs rest : List ℕ) → rest ≡ b ∷ bs → is_slot b ≡ false → Begins 0x60 0x6E rest → ⊥
 no_slot b bs rest is other h = cc (other, range_slot b bs (subst (λ (l : List ℕ). Begins 0x60 0x6E l) is h))
 
-none_of_three : (x y z : Bool) → (x || y || z) ≡ false → (x ≡ false) × ((y ≡ false) × (z ≡ false))
+pub none_of_three : (x y z : Bool) → (x || y || z) ≡ false → (x ≡ false) × ((y ≡ false) × (z ≡ false))
 none_of_three true y z e = absurd (cc e)
 none_of_three false true z e = absurd (cc e)
 none_of_three false false z e = (refl, (refl, e))
@@ -85,7 +85,7 @@ one_of_three true y z e f g = absurd (cc f)
 one_of_three false true z e f g = absurd (cc g)
 one_of_three false false z e f g = e
 
-zero_wrong : (b : ℕ) (bs rest : List ℕ) → rest ≡ b ∷ bs → (b == 0) ≡ true → Wrong IsName rest
+pub zero_wrong : (b : ℕ) (bs rest : List ℕ) → rest ≡ b ∷ bs → (b == 0) ≡ true → Wrong IsName rest
 unfolding starts_name
 zero_wrong b bs rest is zero = ([], b, bs, is, name_none, λ starts. begins_not 0 refl (subst (λ (c : ℕ). Starts IsName (c ∷ [])) (eqb-true b 0 zero) starts))
 
@@ -115,7 +115,7 @@ unfolding FaultyAt
 simple_part start earlier spot slot r (inl h) = simple_name_part start earlier spot r h.0 h.1
 simple_part start earlier spot slot r (inr h) = (in_term h.1, (super_name, (refl, h.0, slot h.0), h.2))
 
-slot_or : (b : ℕ) (bs rest : List ℕ) → rest ≡ b ∷ bs → (b == 0 || starts_name b || is_slot b) ≡ true → (AsName rest → ⊥) → Begins 0x60 0x6E rest
+pub slot_or : (b : ℕ) (bs rest : List ℕ) → rest ≡ b ∷ bs → (b == 0 || starts_name b || is_slot b) ≡ true → (AsName rest → ⊥) → Begins 0x60 0x6E rest
 slot_or b bs rest is one never = by_zero (b == 0) refl
   where
     by_name : (y : Bool) → (b == 0) ≡ false → starts_name b ≡ y → Begins 0x60 0x6E rest

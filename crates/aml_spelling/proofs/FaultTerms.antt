@@ -78,7 +78,7 @@ if_packs : packs (row_of (number_of opcodes.If)) ≡ true
 unfolding row_of packs
 if_packs = refl
 
-if_packed : (row : Row) → row_of (number_of row.0) ≡ Some row → row.0 ≡ opcodes.If → row.2 ≡ true
+pub if_packed : (row : Row) → row_of (number_of row.0) ≡ Some row → row.0 ≡ opcodes.If → row.2 ≡ true
 unfolding packs
 if_packed row found is = sym (ap packs found) ∙ ap (λ (o : Opcode). packs (row_of (number_of o))) is ∙ if_packs
 
@@ -94,7 +94,7 @@ packed_content : (b : Bool) (content spelling : List ℕ) → b ≡ true → IsC
 packed_content true content spelling e h = h
 packed_content false content spelling e h = absurd (cc e)
 
-same_spot : (levels : ℕ) (scope : List Seg) (around : Around) (a b : ℕ) (k m : List ℕ) (x y : List Arity) (i j : ℕ) → a ≡ b → k ≡ m → x ≡ y → i ≡ j → ◌≡◌ {A = Spot} (record { at = a; rest = k; known = x; levels = levels; scope = scope; around = around; item = i }) (record { at = b; rest = m; known = y; levels = levels; scope = scope; around = around; item = j })
+pub same_spot : (levels : ℕ) (scope : List Seg) (around : Around) (a b : ℕ) (k m : List ℕ) (x y : List Arity) (i j : ℕ) → a ≡ b → k ≡ m → x ≡ y → i ≡ j → ◌≡◌ {A = Spot} (record { at = a; rest = k; known = x; levels = levels; scope = scope; around = around; item = i }) (record { at = b; rest = m; known = y; levels = levels; scope = scope; around = around; item = j })
 same_spot levels scope around a b k m x y i j e f g h = rw (e, f, g, h) refl
 
 module _ (levels l : ℕ) (inner_term : Inner) (below : Below l inner_term) (scope : List Seg) (context : Context) (item : ℕ) (in_item_at : context.item ≡ Some item) (position : Position)

@@ -52,7 +52,7 @@ at_no_term spot positions.DataObject h = (h, refl)
 at_no_term spot positions.PackageElement h = (h, refl)
 at_no_term spot positions.SuperName h = (h, refl)
 
-abbrev Outside : Spot → Position → Type 0
+abbrev pub Outside : Spot → Position → Type 0
 Outside spot position = (row : Row) × (code : List ℕ) × (back : List ℕ) × RowAt spot row code back × (only_outside spot.around row.1 (place_of position) ≡ true)
 
 at_outside : (spot : Spot) (position : Position) → Outside spot position → AtTerm spot (place_of position) (refusals.Term NotInBody spot.at)
@@ -62,7 +62,7 @@ at_outside spot positions.DataObject h = (h.0, h.1, h.2, h.3, h.4, refl)
 at_outside spot positions.PackageElement h = (h.0, h.1, h.2, h.3, h.4, refl)
 at_outside spot positions.SuperName h = (h.0, h.1, h.2, h.3, h.4, refl)
 
-abbrev Deep : Spot → Position → Type 0
+abbrev pub Deep : Spot → Position → Type 0
 Deep spot position =
     (BeginsName spot.rest × (may_be_name (place_of position) ≡ true) × (spot.levels ≡ 0))
     ⊎ ((row : Row) × (code : List ℕ) × (back : List ℕ) × RowAt spot row code back × (may_stand spot.around row.1 (place_of position) ≡ true) × (spot.levels < cost row.1 (place_of position)))
@@ -96,7 +96,7 @@ and_none : (b : Bool) → (b && false) ≡ true → ⊥
 and_none true e = cc e
 and_none false e = cc e
 
-outside : (class : Class) (position : Position) (context : Context) → stands class position context ≡ true → (context.body && is_module_level class) ≡ true → only_outside (around_of context) class (place_of position) ≡ true
+pub outside : (class : Class) (position : Position) (context : Context) → stands class position context ≡ true → (context.body && is_module_level class) ≡ true → only_outside (around_of context) class (place_of position) ≡ true
 outside classes.ModuleLevel positions.ListItem context e f = and_first context.body f
 outside classes.ModuleLevel positions.TermArg context e f = absurd (cc e)
 outside classes.ModuleLevel positions.DataObject context e f = absurd (cc e)
@@ -277,6 +277,10 @@ below_halts : (levels : ℕ) → BelowHalts levels (below by_arities levels)
 unfolding below
 below_halts zero = refl
 below_halts (suc levels) = (levels, refl, at_level levels (below_halts levels))
+
+-- what is known of terms with so many levels below them
+pub below_at : (levels : ℕ) → Below levels (term_in by_arities (below by_arities levels))
+below_at levels = at_level levels (below_halts levels)
 
 -- ---- whole lists
 

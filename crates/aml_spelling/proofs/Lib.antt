@@ -50,3 +50,12 @@ pub mod FaultCalls
 pub mod FaultTakesTerms
 pub mod FaultWhole
 pub mod FaultDeclared
+pub mod Refused
+pub mod RefusedOperands
+pub mod RefusedElements
+pub mod RefusedLists
+pub mod RefusedKinds
+pub mod RefusedRows
+pub mod RefusedTerms
+pub mod RefusedFirst
+pub mod RefusedWhole

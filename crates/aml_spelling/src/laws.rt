@@ -92,14 +92,20 @@ pub fn names_are_refused_exactly_if_faulty()
         ((declared_name spot.scope context start count earlier s).0 ≡ Err r) ↔ AtDeclared start spot r }
 {}
 
-/// A list or a table that is refused with a number and an offset has this fault: before it there are only terms that are
-/// spelled and may stand, and at it there is what the number says. So each list is spelled and may stand, or has a fault.
-pub fn refused_lists_are_faulty()
+/// A list or a table is refused with a number and an offset exactly if it has this fault: before it there are only terms
+/// that are spelled and may stand, and at it there is what the number says. Each list is spelled and may stand, or it has a
+/// fault, and never both, and never two faults.
+pub fn refused_exactly_if_faulty()
     ensures list { (bs : List ℕ) (scope : List Seg) (body : Bool) (known : List Arity) (r : Refusal) →
-        Fails bs scope body known r → Faulty bs scope body known r }
+        Fails bs scope body known r ↔ Faulty bs scope body known r }
     ensures table { (bs : List ℕ) (known : List Arity) (r : Refusal) →
-        table_reading bs known ≡ Err r → Faulty bs [] false known r }
+        (table_reading bs known ≡ Err r) ↔ Faulty bs [] false known r }
     ensures either { (bs : List ℕ) (scope : List Seg) (body : Bool) (known : List Arity) →
         ((ts : List Tree) × IsSpelled body ts bs × (after : List Arity) × MayStand scope body ts known after)
         ⊎ ((r : Refusal) × Faulty bs scope body known r) }
+    ensures one { (bs : List ℕ) (scope : List Seg) (body : Bool) (known : List Arity) (r q : Refusal) →
+        Faulty bs scope body known r → Faulty bs scope body known q → r ≡ q }
+    ensures not_both { (bs : List ℕ) (scope : List Seg) (body : Bool) (known after : List Arity) (ts : List Tree)
+        (r : Refusal) →
+        IsSpelled body ts bs → MayStand scope body ts known after → Faulty bs scope body known r → ⊥ }
 {}
