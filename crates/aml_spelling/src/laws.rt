@@ -1,5 +1,6 @@
 //! What holds of every list of bytes: each law is the contract of a function that does nothing.
-ghost use Rattle.std.specs.Prelude.{◌≡◌, ◌↔◌, ◌≤◌, ◌+◌, ◌++◌, ℕ, List, [], ◌∷◌, Bool, true, false, length, Ok, Err, ◌⊎◌};
+ghost use Rattle.std.specs.Prelude.{◌≡◌, ◌↔◌, ◌⊎◌, ◌≤◌, ◌+◌, ◌++◌, ◌∷◌, ℕ, List, [], Bool, true, false};
+ghost use Rattle.std.specs.Prelude.{length, Ok, Err};
 ghost use Rattle.ar_space.specs.declared.refusal.Refusal.{Refusal};
 ghost use Rattle.ar_space.specs.declared.refusal.Refusal.TheVariants as refusals;
 ghost use Rattle.ar_space.specs.declared.refusal.TermFault.TheVariants.{BadOpcode, Truncated};
@@ -14,7 +15,8 @@ ghost use Rattle.aml_grammar.specs.State.{State, integer, bit_count, package_siz
 ghost use Rattle.aml_grammar.specs.Tree.{Tree};
 ghost use Rattle.aml_grammar.specs.Grammar.{Reads, Fails, table_reading, opcode};
 ghost use Rattle.aml_scan.specs.Spelling.{IsInteger, IsLength, IsNameString, IsSpelled};
-ghost use Rattle.aml_spelling.specs.Faults.{Spot, Starts, IsName, IsNumber, IsCount, IsText, IsSomeCode, AtPart, AtLength, AtResolved, AtDeclared, Faulty};
+ghost use Rattle.aml_spelling.specs.Faults.{Spot, Starts, IsName, IsNumber, IsCount, IsText, IsSomeCode};
+ghost use Rattle.aml_spelling.specs.Faults.{AtPart, AtLength, AtResolved, AtDeclared, Faulty};
 ghost use Rattle.aml_spelling.specs.Reach.{Stops, reach, Placed};
 ghost use Rattle.aml_spelling.specs.Stands.{MayStand};
 
@@ -76,9 +78,9 @@ pub fn parts_are_refused_exactly_if_faulty()
         IsNameString n front → AtPart IsName spot r → ⊥ }
 {}
 
-/// A name that is resolved or declared is refused with a number and an offset exactly if it has this fault: it is no name,
-/// it leads above the root, or, where it is declared, it has no segment or may not be declared in a body. Of a name that
-/// has several of these faults only the first one counts, in the order of the numbers 20, 21 and 34.
+/// A name that is resolved or declared is refused with a number and an offset exactly if it has this fault: it is no
+/// name, it leads above the root, or, where it is declared, it has no segment or may not be declared in a body. Of a
+/// name that has several of these faults only the first one counts, in the order of the numbers 20, 21 and 34.
 pub fn names_are_refused_exactly_if_faulty()
     ensures place { (s : State) (spot : Spot) (earlier : Earlier) (r : Refusal) → s.at ≡ spot.at → s.rest ≡ spot.rest →
         ((scope_name spot.scope earlier s).0 ≡ Err r) ↔ AtResolved spot r }
@@ -87,14 +89,15 @@ pub fn names_are_refused_exactly_if_faulty()
     ensures external { (s : State) (spot : Spot) (earlier : Earlier) (r : Refusal) →
         s.at ≡ spot.at → s.rest ≡ spot.rest →
         ((external_name spot.scope earlier s).0 ≡ Err r) ↔ AtResolved spot r }
-    ensures declared { (s : State) (spot : Spot) (context : Context) (start count : ℕ) (earlier : Earlier) (r : Refusal) →
+    ensures declared { (s : State) (spot : Spot) (context : Context) (start count : ℕ) (earlier : Earlier)
+        (r : Refusal) →
         s.at ≡ spot.at → s.rest ≡ spot.rest → context.body ≡ spot.around.body →
         ((declared_name spot.scope context start count earlier s).0 ≡ Err r) ↔ AtDeclared start spot r }
 {}
 
-/// A list or a table is refused with a number and an offset exactly if it has this fault: before it there are only terms
-/// that are spelled and may stand, and at it there is what the number says. Each list is spelled and may stand, or it has a
-/// fault, and never both, and never two faults.
+/// A list or a table is refused with a number and an offset exactly if it has this fault: before it there are only
+/// terms that are spelled and may stand, and at it there is what the number says. Each list is spelled and may stand,
+/// or it has a fault, and never both, and never two faults.
 pub fn refused_exactly_if_faulty()
     ensures list { (bs : List ℕ) (scope : List Seg) (body : Bool) (known : List Arity) (r : Refusal) →
         Fails bs scope body known r ↔ Faulty bs scope body known r }
