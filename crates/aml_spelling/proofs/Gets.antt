@@ -112,7 +112,7 @@ gets_size_after {s = s} start spent total content rest counted is ar =
     let fits : nat_lt (length s.rest) (total - spent) ≡ false = enough content rest s.rest (total - spent) is (sym size) in
     record { after = s; is = rw (counts, fits) (ap (λ n. (Ok n, s)) size); left = is; knows = ar }
 
-gets_package_size : {s : State} {known : List Arity} (content lead rest : List ℕ) → IsLength (length (lead ++ content)) lead → s.rest ≡ lead ++ (content ++ rest) → s.arities ≡ known → Gets package_size s (length content) (content ++ rest) known
+pub gets_package_size : {s : State} {known : List Arity} (content lead rest : List ℕ) → IsLength (length (lead ++ content)) lead → s.rest ≡ lead ++ (content ++ rest) → s.arities ≡ known → Gets package_size s (length content) (content ++ rest) known
 unfolding package_size
 gets_package_size content [] rest h is ar = absurd h
 gets_package_size {s = s} content (lead ∷ more) rest h is ar = gets_look (λ s. s.at) _ (gets_then _ (gets_byte is ar) (λ s1 is1 ar1. gets_then _ (gets_integer (lead / 64) h.1 more (h.0, h.2) is1 ar1) (λ s2 is2 ar2.

@@ -20,7 +20,7 @@ use Rattle.aml_spelling.proofs.Gets.{Gets, gets_then, gets_give, gets_map, gets_
 
 -- ---- segments
 
-and_both : (x y : Bool) → (x && y) ≡ true → (x ≡ true) × (y ≡ true)
+pub and_both : (x y : Bool) → (x && y) ≡ true → (x ≡ true) × (y ≡ true)
 and_both true true e = (refl, refl)
 and_both true false e = absurd (cc e)
 and_both false y e = absurd (cc e)
@@ -52,30 +52,30 @@ gets_segments_of {rest = rest} (seg ∷ ss) is ar = gets_then _ (gets_segment se
 
 -- ---- first bytes
 
-or_either : (x y : Bool) → (x || y) ≡ true → (x ≡ true) ⊎ (y ≡ true)
+pub or_either : (x y : Bool) → (x || y) ≡ true → (x ≡ true) ⊎ (y ≡ true)
 or_either true y e = inl refl
 or_either false y e = inr e
 
-abbrev InRange : ℕ → Type 0
+abbrev pub InRange : ℕ → Type 0
 InRange b = ((65 ≤ b) × (b ≤ 90)) ⊎ (b ≡ 95)
 
-lead_range : (b : ℕ) → is_lead_name_char b ≡ true → InRange b
+pub lead_range : (b : ℕ) → is_lead_name_char b ≡ true → InRange b
 lead_range b is = elim (or_either (nat_le 65 b && nat_le b 90) (b == 95) is) [
   | inl t ↦ (let k = and_both (nat_le 65 b) (nat_le b 90) t in inl (leb-true 65 b k.0, leb-true b 90 k.1))
   | inr t ↦ inr (eqb-true b 95 t)
 ]
 
-outside_range : (b n : ℕ) → InRange b → (n < 65) ⊎ ((90 < n) × (n < 95)) → (b == n) ≡ false
+pub outside_range : (b n : ℕ) → InRange b → (n < 65) ⊎ ((90 < n) × (n < 95)) → (b == n) ≡ false
 outside_range b n (inl h) (inl k) = ne_eqb b n (λ e. omega (arith, e, h.0, k))
 outside_range b n (inl h) (inr k) = ne_eqb b n (λ e. omega (arith, e, h.1, k.0))
 outside_range b n (inr h) (inl k) = ne_eqb b n (λ e. omega (arith, e, h, k))
 outside_range b n (inr h) (inr k) = ne_eqb b n (λ e. omega (arith, e, h, k.1))
 
 -- a byte that begins a path of this many segments
-record First (count b : ℕ) : Type 0 where
-  caret : (b == 94) ≡ false
-  root : (b == 92) ≡ false
-  some : (count ≡ 0) ⊎ (((b == 0) ≡ false) × (starts_name b ≡ true))
+pub record First (count b : ℕ) : Type 0 where
+  pub caret : (b == 94) ≡ false
+  pub root : (b == 92) ≡ false
+  pub some : (count ≡ 0) ⊎ (((b == 0) ≡ false) × (starts_name b ≡ true))
 
 first_letter : (count b : ℕ) → is_lead_name_char b ≡ true → First count b
 unfolding starts_name
@@ -98,7 +98,7 @@ first_multi count = record { caret = refl; root = refl; some = inr (refl, refl) 
 first_null : (count : ℕ) → count ≡ 0 → First count 0
 first_null count none = record { caret = refl; root = refl; some = inl none }
 
-letter_of : (bs : List ℕ) → is_segment bs ≡ true → (b : ℕ) × (left : List ℕ) × (bs ≡ b ∷ left) × (is_lead_name_char b ≡ true)
+pub letter_of : (bs : List ℕ) → is_segment bs ≡ true → (b : ℕ) × (left : List ℕ) × (bs ≡ b ∷ left) × (is_lead_name_char b ≡ true)
 letter_of (a ∷ b ∷ c ∷ d ∷ []) valid =
     let last = and_both (is_lead_name_char a && is_name_char b && is_name_char c) (is_name_char d) valid in
     let third = and_both (is_lead_name_char a && is_name_char b) (is_name_char c) last.0 in
@@ -118,7 +118,7 @@ seg_begins seg =
     (k.0, k.1, k.2, outside_range k.0 0 range (inl (omega arith)), outside_range k.0 1 range (inl (omega arith)), outside_range k.0 2 range (inl (omega arith)), outside_range k.0 3 range (inl (omega arith)))
 
 -- the bytes of a path begin so
-path_first : (ss : List Seg) (lead : List ℕ) → Leads (length ss) lead → (b : ℕ) × (left : List ℕ) × (lead ++ characters ss ≡ b ∷ left) × First (length ss) b
+pub path_first : (ss : List Seg) (lead : List ℕ) → Leads (length ss) lead → (b : ℕ) × (left : List ℕ) × (lead ++ characters ss ≡ b ∷ left) × First (length ss) b
 path_first [] [] h = absurd (omega (arith, h))
 path_first (seg ∷ ss) [] h = let k = letter_of seg.bytes seg.valid in (k.0, k.1 ++ characters ss, ap (λ l. l ++ characters ss) k.2, first_letter (length (seg ∷ ss)) k.0 k.3)
 path_first ss (b ∷ []) (inl h) = (b, characters ss, refl, rw h.1 (first_null (length ss) h.0))

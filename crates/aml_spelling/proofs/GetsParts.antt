@@ -16,24 +16,25 @@ use Rattle.aml_grammar.specs.Shape.{trees_of}
 use Rattle.aml_grammar.specs.Grammar.{Inner, is_slot, items, term_operand, list_operand, super_name_at, super_name as super_name_step, target, simple_name, connection}
 use Rattle.aml_scan.specs.Spelling.{Around, Place, data_object, super_name, Begins, IsNameString, Spells, SpellsAll}
 use Rattle.aml_scan.proofs.SpelledRows.{around_of, place_of}
+use Rattle.aml_spelling.specs.Faults.{lacks_else}
 use Rattle.aml_spelling.specs.Stands.{Stands, StandAll}
 use Rattle.aml_spelling.proofs.Gets.{Gets, gets_then, gets_give, gets_map, gets_value, gets_as, gets_yes, gets_no, gets_look, gets_peek}
 use Rattle.aml_spelling.proofs.GetsNames.{name_first}
 use Rattle.aml_spelling.proofs.GetsOperands.{gets_name_operand}
 use Rattle.aml_spelling.proofs.GetsFirst.{term_first, items_no_else, place_first}
 
--- an item of a list is followed by no Else
-abbrev pub NoElse : Position → List ℕ → Type 0
-NoElse positions.ListItem rest = is_next 0xA1 rest ≡ false
-NoElse positions.TermArg rest = Unit {0}
-NoElse positions.DataObject rest = Unit {0}
-NoElse positions.PackageElement rest = Unit {0}
-NoElse positions.SuperName rest = Unit {0}
+-- an item of a list that is an If without an Else is followed by none
+abbrev pub NoElse : Position → Tree → List ℕ → Type 0
+NoElse positions.ListItem t rest = lacks_else t ≡ true → is_next 0xA1 rest ≡ false
+NoElse positions.TermArg t rest = Unit {0}
+NoElse positions.DataObject t rest = Unit {0}
+NoElse positions.PackageElement t rest = Unit {0}
+NoElse positions.SuperName t rest = Unit {0}
 
 -- terms with so many levels left are read from their spelling
 abbrev pub TermGets : ℕ → Inner → Type 0
 TermGets levels inner_term = (position : Position) (scope : List Seg) (context : Context) (t : Tree) (spelling rest : List ℕ) (known after : List Arity) (s : State)
-    → Spells (around_of context) (place_of position) t spelling → Stands levels scope (around_of context) (place_of position) t known after → NoElse position rest → s.rest ≡ spelling ++ rest → s.arities ≡ known
+    → Spells (around_of context) (place_of position) t spelling → Stands levels scope (around_of context) (place_of position) t known after → NoElse position t rest → s.rest ≡ spelling ++ rest → s.arities ≡ known
     → Gets (inner_term position scope context) s t rest after
 
 -- ---- tests of a first byte
@@ -43,7 +44,7 @@ either_two true true z e = refl
 either_two false true z e = refl
 either_two x false z e = absurd (cc e)
 
-either_three : (x y z : Bool) → z ≡ true → (x || y || z) ≡ true
+pub either_three : (x y z : Bool) → z ≡ true → (x || y || z) ≡ true
 either_three true y true e = refl
 either_three false true true e = refl
 either_three false false true e = refl
@@ -68,12 +69,12 @@ pub list_again : (ts : Trees) → trees_of (list_of ts) ≡ ts
 list_again no_trees = refl
 list_again (tree t ts) = ap (λ us. tree t us) (list_again ts)
 
-no_else_after : (around : Around) (position : Position) (ts : Trees) (spelling : List ℕ) → SpellsAll around (place_of position) ts spelling → NoElse position spelling
-no_else_after around positions.ListItem ts spelling h = items_no_else around ts spelling h
-no_else_after around positions.TermArg ts spelling h = tt
-no_else_after around positions.DataObject ts spelling h = tt
-no_else_after around positions.PackageElement ts spelling h = tt
-no_else_after around positions.SuperName ts spelling h = tt
+no_else_after : (around : Around) (position : Position) (t : Tree) (ts : Trees) (spelling : List ℕ) → SpellsAll around (place_of position) ts spelling → NoElse position t spelling
+no_else_after around positions.ListItem t ts spelling h = λ _. items_no_else around ts spelling h
+no_else_after around positions.TermArg t ts spelling h = tt
+no_else_after around positions.DataObject t ts spelling h = tt
+no_else_after around positions.PackageElement t ts spelling h = tt
+no_else_after around positions.SuperName t ts spelling h = tt
 
 -- what is read from its spelling, by at least a byte, is read until nothing is left
 abbrev pub ItemGets : ℕ → List Seg → Around → Place → Step Tree → Type 0
@@ -104,7 +105,7 @@ module _ (levels : ℕ) (inner_term : Inner) (h : TermGets levels inner_term) wh
       → StandAll levels scope (around_of context) (place_of position) ts known after → s.rest ≡ spelling → s.arities ≡ known → Gets (items inner_term position scope context) s (list_of ts) [] after
   unfolding items
   gets_items position scope context ts spelling known after s spelled stands is ar = gets_as refl (gets_until levels scope (around_of context) (place_of position) (inner_term position scope context)
-      (λ t front rest k l s1 i j more is1 ar1. h position scope context t front rest k l s1 i j (no_else_after (around_of context) position more.0 rest more.1) is1 ar1)
+      (λ t front rest k l s1 i j more is1 ar1. h position scope context t front rest k l s1 i j (no_else_after (around_of context) position t more.0 rest more.1) is1 ar1)
       (term_first (around_of context) position)
       (length s.rest) ts spelling known after s (rw is (omega arith)) spelled stands is ar)
 
@@ -116,7 +117,7 @@ module _ (levels : ℕ) (inner_term : Inner) (h : TermGets levels inner_term) wh
   -- ---- terms and places
 
   module _ {s : State} {rest : List ℕ} {known : List Arity} (spelling : List ℕ) (is : s.rest ≡ spelling ++ rest) (ar : s.arities ≡ known) where
-    pub gets_term : (position : Position) (scope : List Seg) (context : Context) (t : Tree) (after : List Arity) → Spells (around_of context) (place_of position) t spelling → Stands levels scope (around_of context) (place_of position) t known after → NoElse position rest
+    pub gets_term : (position : Position) (scope : List Seg) (context : Context) (t : Tree) (after : List Arity) → Spells (around_of context) (place_of position) t spelling → Stands levels scope (around_of context) (place_of position) t known after → NoElse position t rest
         → Gets (term_operand inner_term position scope context) s (inner t) rest after
     unfolding term_operand
     gets_term position scope context t after spelled stands alone = gets_map inner (h position scope context t spelling rest known after s spelled stands alone is ar)

@@ -15,10 +15,11 @@ use Rattle.aml_grammar.specs.declared.context.Context.{Context}
 use Rattle.aml_grammar.specs.Opcodes.{number_of}
 use Rattle.aml_grammar.specs.Table.{row_of}
 use Rattle.aml_grammar.specs.State.{State, Step, is_next}
-use Rattle.aml_grammar.specs.Tree.{term, Parts, no_parts, part}
+use Rattle.aml_grammar.specs.Tree.{Tree, term, Parts, no_parts, part}
 use Rattle.aml_grammar.specs.Grammar.{Inner, is_nothing, is_if, nothing_earlier, item_of, stands, costs_no_level, opcode, admitted_row, row_at, deeper, leveled, coded_term, term_in, below, by_arities}
 use Rattle.aml_scan.specs.Spelling.{Around, may_stand, may_have_else, operand_kinds, IsOpcode, IsContent, Spells, SpellsOperands}
 use Rattle.aml_scan.proofs.SpelledRows.{around_of, place_of, same_else, kinds_end, costs_none, costs_nothing, row_is_bare}
+use Rattle.aml_spelling.specs.Faults.{lacks_else}
 use Rattle.aml_spelling.specs.Stands.{cost, Stands, StandOperands}
 use Rattle.aml_spelling.proofs.Gets.{Gets, gets_then, gets_give, gets_map, gets_value, gets_known, gets_as, gets_yes, gets_no, gets_byte}
 use Rattle.aml_spelling.proofs.GetsParts.{NoElse, TermGets}
@@ -34,7 +35,7 @@ gets_opcode n (b ∷ []) h plain is ar = gets_value (sym h) (gets_then _ (gets_b
 gets_opcode n (b ∷ e ∷ []) h plain is ar = gets_value (sym h.1) (gets_then _ (gets_byte is ar) (λ s1 is1 ar1. gets_yes _ (eq-eqb b 0x5B h.0) (gets_map (λ x. 0x5B00 + x) (gets_byte is1 ar1))))
 gets_opcode n (b ∷ e ∷ f ∷ bs) h plain is ar = absurd h
 
-gets_row_at : {s : State} {rest : List ℕ} {known : List Arity} (position : Position) (context : Context) (start n : ℕ) (row : Row) (code : List ℕ) → IsOpcode n code → row_of n ≡ Some row → may_stand (around_of context) row.1 (place_of position) ≡ true
+pub gets_row_at : {s : State} {rest : List ℕ} {known : List Arity} (position : Position) (context : Context) (start n : ℕ) (row : Row) (code : List ℕ) → IsOpcode n code → row_of n ≡ Some row → may_stand (around_of context) row.1 (place_of position) ≡ true
     → s.rest ≡ code ++ rest → s.arities ≡ known → Gets (row_at position context start) s row rest known
 unfolding row_at
 gets_row_at position context start n row code h found may is ar =
@@ -47,20 +48,20 @@ class_of : Option Row → Class
 class_of None = classes.Statement
 class_of (Some row) = row.1
 
-if_class : (row : Row) → row_of 0xA0 ≡ Some row → row.1 ≡ classes.Statement
+pub if_class : (row : Row) → row_of 0xA0 ≡ Some row → row.1 ≡ classes.Statement
 unfolding row_of class_of
 if_class row found = sym (ap class_of found)
 
-statement_is_item : (around : Around) (position : Position) (rest : List ℕ) → may_stand around classes.Statement (place_of position) ≡ true → NoElse position rest → is_next 0xA1 rest ≡ false
-statement_is_item around positions.ListItem rest may alone = alone
-statement_is_item around positions.TermArg rest may alone = absurd (cc may)
-statement_is_item around positions.DataObject rest may alone = absurd (cc may)
-statement_is_item around positions.PackageElement rest may alone = absurd (cc may)
-statement_is_item around positions.SuperName rest may alone = absurd (cc may)
+statement_is_item : (around : Around) (position : Position) (t : Tree) (rest : List ℕ) → may_stand around classes.Statement (place_of position) ≡ true → NoElse position t rest → lacks_else t ≡ true → is_next 0xA1 rest ≡ false
+statement_is_item around positions.ListItem t rest may alone = alone
+statement_is_item around positions.TermArg t rest may alone = absurd (cc may)
+statement_is_item around positions.DataObject t rest may alone = absurd (cc may)
+statement_is_item around positions.PackageElement t rest may alone = absurd (cc may)
+statement_is_item around positions.SuperName t rest may alone = absurd (cc may)
 
-no_else_after_if : (around : Around) (o : Opcode) (row : Row) (position : Position) (rest : List ℕ) → row_of (number_of o) ≡ Some row → may_stand around row.1 (place_of position) ≡ true → NoElse position rest → may_have_else o ≡ true → is_next 0xA1 rest ≡ false
-no_else_after_if around opcodes.If row position rest found may alone e = statement_is_item around position rest (rw (if_class row found) at may) alone
-no_else_after_if around _ row position rest found may alone e = absurd (cc e)
+no_else_after_if : (around : Around) (o : Opcode) (row : Row) (position : Position) (t : Tree) (rest : List ℕ) → row_of (number_of o) ≡ Some row → may_stand around row.1 (place_of position) ≡ true → NoElse position t rest → may_have_else o ≡ true → lacks_else t ≡ true → is_next 0xA1 rest ≡ false
+no_else_after_if around opcodes.If row position t rest found may alone e = statement_is_item around position t rest (rw (if_class row found) at may) alone
+no_else_after_if around _ row position t rest found may alone e = absurd (cc e)
 
 -- ---- levels
 
@@ -72,7 +73,7 @@ pub gets_deeper : {A : Type 0} {s : State} {a : A} {rest : List ℕ} {known : Li
 unfolding deeper below
 gets_deeper {s = s} levels l item go is h = gets_as (ap (λ (n : ℕ). deeper (below by_arities n) item go s) is) h
 
-bare_parts : (c p n i : Bool) → (if c then not p && (n && not i) else true) ≡ true → c ≡ true → (p ≡ false) × (n ≡ true) × (i ≡ false)
+pub bare_parts : (c p n i : Bool) → (if c then not p && (n && not i) else true) ≡ true → c ≡ true → (p ≡ false) × (n ≡ true) × (i ≡ false)
 bare_parts false p n i e is = absurd (cc is)
 bare_parts true true n i e is = absurd (cc e)
 bare_parts true false false i e is = absurd (cc e)
@@ -95,7 +96,7 @@ bare_stands levels scope around (part p ps) known after e h = h
 module _ (levels : ℕ) (lower : Lower levels) (position : Position) (scope : List Seg) (context : Context) (start : ℕ) where
   gets_leveled : (o : Opcode) (row : Row) → row_of (number_of o) ≡ Some row → (ps : Parts) (content operands later rest : List ℕ) (known after : List Arity) (s : State) → (c : Bool) → costs_no_level row.1 position ≡ c → IsContent row.2 content operands
       → SpellsOperands (around_of context) (may_have_else o) (operand_kinds row.3) ps content later → (l : ℕ) → levels ≡ cost row.1 (place_of position) + l → StandOperands l scope (around_of context) (may_have_else o) (operand_kinds row.3) ps nothing_earlier known after
-      → (may_have_else o ≡ true → is_next 0xA1 rest ≡ false) → s.rest ≡ (operands ++ later) ++ rest → s.arities ≡ known → Gets (leveled (below by_arities levels) position scope context start row) s (term (codes.Opcode o) ps) rest after
+      → (may_have_else o ≡ true → lacks_else (term (codes.Opcode o) ps) ≡ true → is_next 0xA1 rest ≡ false) → s.rest ≡ (operands ++ later) ++ rest → s.arities ≡ known → Gets (leveled (below by_arities levels) position scope context start row) s (term (codes.Opcode o) ps) rest after
   gets_leveled o row found ps content operands later rest known after s true free within spelled l left stands alone is ar =
       let none = bare_parts (costs_none row.1) row.2 (is_nothing row.3.0) (is_if row.0) (row_is_bare (number_of o) row found) (costs_nothing row.1 position free) in
       let no_else : may_have_else o ≡ false = same_else o ∙ ap is_if (sym (own_row o row found)) ∙ none.2 in
@@ -110,7 +111,7 @@ module _ (levels : ℕ) (lower : Lower levels) (position : Position) (scope : Li
       (gets_row_term l (term_in by_arities (below by_arities l)) (lower l less) scope context o row found ps content operands later rest known after s within spelled stands alone is ar start))
 
   pub gets_coded : (o : Opcode) (ps : Parts) (spelling rest : List ℕ) (known after : List Arity) (s : State) → Spells (around_of context) (place_of position) (term (codes.Opcode o) ps) spelling → Stands levels scope (around_of context) (place_of position) (term (codes.Opcode o) ps) known after
-      → NoElse position rest → s.rest ≡ spelling ++ rest → s.arities ≡ known → Gets (coded_term (below by_arities levels) position scope context start) s (term (codes.Opcode o) ps) rest after
+      → NoElse position (term (codes.Opcode o) ps) rest → s.rest ≡ spelling ++ rest → s.arities ≡ known → Gets (coded_term (below by_arities levels) position scope context start) s (term (codes.Opcode o) ps) rest after
   unfolding coded_term Spells Stands
   gets_coded o ps spelling rest known after s spelled stands alone is ar =
       let row = spelled.0 in
@@ -121,4 +122,4 @@ module _ (levels : ℕ) (lower : Lower levels) (position : Position) (scope : Li
       let whole : s.rest ≡ spelled.3 ++ ((spelled.4 ++ spelled.5) ++ rest) = is ∙ ap (λ l. l ++ rest) spelled.6 ∙ append_assoc spelled.3 (spelled.4 ++ spelled.5) rest in
       gets_then _ (gets_row_at position context start (number_of o) spelled.0 spelled.3 spelled.7 spelled.1 spelled.2 whole ar) (λ s1 is1 ar1.
       gets_leveled o spelled.0 spelled.1 ps spelled.8 spelled.4 spelled.5 rest known after s1 (costs_no_level spelled.0.1 position) refl spelled.9 spelled.10 stands.2 left within
-      (no_else_after_if (around_of context) o spelled.0 position rest spelled.1 spelled.2 alone) is1 ar1)
+      (no_else_after_if (around_of context) o spelled.0 position (term (codes.Opcode o) ps) rest spelled.1 spelled.2 alone) is1 ar1)

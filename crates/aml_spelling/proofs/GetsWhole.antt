@@ -135,7 +135,7 @@ no_lower l e = absurd (omega (arith, e))
 one_lower : (levels : ℕ) → TermGets levels (term_in by_arities (below by_arities levels)) → Lower (suc levels)
 one_lower levels h l e = let same : levels ≡ l = omega (arith, e) in subst (λ (m : ℕ). TermGets m (term_in by_arities (below by_arities m))) same h
 
-gets_at_levels : (levels : ℕ) → TermGets levels (term_in by_arities (below by_arities levels))
+pub gets_at_levels : (levels : ℕ) → TermGets levels (term_in by_arities (below by_arities levels))
 gets_at_levels zero position scope context t spelling rest known after s spelled stands alone is ar = gets_term_in zero no_lower position scope context t spelling rest known after s spelled stands alone is ar
 gets_at_levels (suc levels) position scope context t spelling rest known after s spelled stands alone is ar = gets_term_in (suc levels) (one_lower levels (gets_at_levels levels)) position scope context t spelling rest known after s spelled stands alone is ar
 

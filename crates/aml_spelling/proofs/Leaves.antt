@@ -133,7 +133,7 @@ leaves_package_size s = leaves_look (λ s. s.at) _ (leaves_after (leaves_byte s)
 leaves_narrow : (n : ℕ) (s : State) → Leaves (narrow n) s Same
 leaves_narrow n s = record { is = λ outer s2 e. sym (ap (λ (t : State). t.arities) (same_state e)) }
 
-leaves_enter : (s : State) → Leaves enter s Same
+pub leaves_enter : (s : State) → Leaves enter s Same
 unfolding enter
 leaves_enter s = leaves_after (leaves_package_size s) leaves_narrow
 

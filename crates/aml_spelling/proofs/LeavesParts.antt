@@ -98,7 +98,7 @@ module _ (levels : ℕ) (inner_term : Inner) (h : TermLeaves levels inner_term) 
   leaves_connection scope context s = leaves_peek (λ b. leaves_if (starts_name b) (λ _. leaves_more (leaves_name_operand s) (λ p known after i. rw i.1 i.2))
       (λ _. leaves_if (b == 0x11) (λ _. leaves_more (leaves_term positions.DataObject scope context s) (λ p known after i. rw i.1 i.2)) (λ _. leaves_stop (refusals.Name BadName))))
 
-  leaves_field : (scope : List Seg) (context : Context) (s : State) → Leaves (field inner_term scope context) s (ElementStands levels scope (around_of context))
+  pub leaves_field : (scope : List Seg) (context : Context) (s : State) → Leaves (field inner_term scope context) s (ElementStands levels scope (around_of context))
   unfolding field connect_field
   leaves_field scope context s = leaves_peek (λ b. leaves_if (b == 0) (λ _. leaves_reserved_field levels scope (around_of context) s) (λ _. leaves_if (b == 1) (λ _. leaves_access_field levels scope (around_of context) s)
       (λ _. leaves_if (b == 2) (λ _. leaves_after (leaves_byte s) (λ code s1. leaves_map _ (leaves_connection scope context s1) (λ p known after i. i)))

@@ -21,7 +21,7 @@ use Rattle.aml_spelling.proofs.Leaves.{Effect, Leaves, leaves_then, leaves_after
 use Rattle.aml_spelling.proofs.LeavesParts.{TermLeaves, leaves_list, leaves_operand}
 
 -- as many operands as kinds, and they may stand
-abbrev OperandsStand : ℕ → List Seg → Around → List OperandKind → Earlier → Effect (List Part)
+abbrev pub OperandsStand : ℕ → List Seg → Around → List OperandKind → Earlier → Effect (List Part)
 OperandsStand levels scope around ks earlier ps known after = (length ps ≡ length ks) × StandOperands levels scope around false ks (parts_of ps) earlier known after
 
 -- an Else may stand, or there is none
@@ -48,7 +48,7 @@ module _ (levels : ℕ) (inner_term : Inner) (h : TermLeaves levels inner_term) 
       (λ some. leaves_then (leaves_operand levels inner_term h scope context start k earlier s) (λ x s1 p. leaves_then (leaves_operands context start ks x.1 s1) (λ ps s2 q.
       leaves_give (x.0 ∷ ps) (rw (kinds_go_on k ks some) (ap suc q.0, (x.1, s1.arities, p, q.1))))))
 
-  leaves_row_operands : (context : Context) (start : ℕ) (row : Row) (s : State) → Leaves (row_operands inner_term scope context start row) s (OperandsStand levels scope (around_of context) (operand_kinds row.3) nothing_earlier)
+  pub leaves_row_operands : (context : Context) (start : ℕ) (row : Row) (s : State) → Leaves (row_operands inner_term scope context start row) s (OperandsStand levels scope (around_of context) (operand_kinds row.3) nothing_earlier)
   leaves_row_operands context start row s = leaves_packed row.2 _ (leaves_operands context start (kinds_of row.3) nothing_earlier) s
 
   leaves_else_operand : (context : Context) (s : State) → Leaves (else_operand inner_term scope context) s (ElseStands levels scope (around_of context))

@@ -41,7 +41,7 @@ leaves_with {m = m} {k = k} {s = s} {R = R} h i = record {
 
 -- ---- opcodes
 
-leaves_opcode : (s : State) → Leaves opcode s Same
+pub leaves_opcode : (s : State) → Leaves opcode s Same
 unfolding opcode
 leaves_opcode s = leaves_after (leaves_byte s) (λ b s1. leaves_if (b == 0x5B) (λ _. leaves_map _ (leaves_byte s1) (λ e known after i. i)) (λ _. leaves_give b refl))
 
@@ -61,7 +61,7 @@ leaves_row_at position context start s = leaves_after (leaves_opcode s) (λ n s1
 -- ---- levels
 
 -- so many levels are left, and what is below may stand
-abbrev BelowLeaves : ℕ → Option Inner → Type 0
+abbrev pub BelowLeaves : ℕ → Option Inner → Type 0
 BelowLeaves levels None = Unit {0}
 BelowLeaves levels (Some inner_term) = (l : ℕ) × (levels ≡ suc l) × TermLeaves l inner_term
 
@@ -110,7 +110,7 @@ marked_known : (c : Bool) (start n : ℕ) (s : State) → (if c then s else reco
 marked_known true start n s = refl
 marked_known false start n s = refl
 
-leaves_argument_number : (start : ℕ) (scope : List Seg) (n : Name) (path : List Seg) (s : State) → Leaves (argument_number by_arities start scope n path) s (λ count known after. (count ≡ arity_of known scope n path) × (after ≡ known))
+pub leaves_argument_number : (start : ℕ) (scope : List Seg) (n : Name) (path : List Seg) (s : State) → Leaves (argument_number by_arities start scope n path) s (λ count known after. (count ≡ arity_of known scope n path) × (after ≡ known))
 unfolding argument_number by_arities
 leaves_argument_number start scope n path s = record { is = λ count s2 e. (sym (same_value e), sym (ap (λ (t : State). t.arities) (same_state e)) ∙ marked_known (arity_of s.arities scope n path == 0) start (arity_of s.arities scope n path) s) }
 
@@ -140,11 +140,11 @@ leaves_named levels below h position scope context start s = leaves_as refl (lea
 
 -- ---- terms
 
-leaves_term_in : (levels : ℕ) (below : Option Inner) → BelowLeaves levels below → TermLeaves levels (term_in by_arities below)
+pub leaves_term_in : (levels : ℕ) (below : Option Inner) → BelowLeaves levels below → TermLeaves levels (term_in by_arities below)
 unfolding term_in
 leaves_term_in levels below h position scope context s = leaves_as refl (leaves_look (λ s. s.at) _ (leaves_peek (λ b. leaves_if (starts_name b) (λ _. leaves_named levels below h position scope (at_item context s.at) s.at s) (λ _. leaves_coded levels below h position scope (at_item context s.at) s.at s))))
 
-leaves_below : (levels : ℕ) → BelowLeaves levels (below by_arities levels)
+pub leaves_below : (levels : ℕ) → BelowLeaves levels (below by_arities levels)
 unfolding below
 leaves_below zero = tt
 leaves_below (suc levels) = (levels, refl, leaves_term_in levels (below by_arities levels) (leaves_below levels))

@@ -1,14 +1,22 @@
 //! What holds of every list of bytes: each law is the contract of a function that does nothing.
-ghost use Rattle.std.specs.Prelude.{◌≡◌, ◌↔◌, ◌≤◌, ◌+◌, ◌++◌, ℕ, List, [], Bool, false, length, Ok};
+ghost use Rattle.std.specs.Prelude.{◌≡◌, ◌↔◌, ◌⊎◌, ◌≤◌, ◌+◌, ◌++◌, ◌∷◌, ℕ, List, [], Bool, true, false};
+ghost use Rattle.std.specs.Prelude.{length, Ok, Err};
 ghost use Rattle.ar_space.specs.declared.refusal.Refusal.{Refusal};
 ghost use Rattle.ar_space.specs.declared.refusal.Refusal.TheVariants as refusals;
 ghost use Rattle.ar_space.specs.declared.refusal.TermFault.TheVariants.{BadOpcode, Truncated};
 ghost use Rattle.aml_path.specs.declared.segment.Seg.{Seg};
 ghost use Rattle.aml_grammar.specs.declared.arities.Arity.{Arity};
-ghost use Rattle.aml_grammar.specs.State.{State};
+ghost use Rattle.aml_grammar.specs.declared.context.Context.{Context};
+ghost use Rattle.aml_grammar.specs.declared.context.Earlier.{Earlier};
+ghost use Rattle.aml_grammar.specs.Operands.{scope_name, alias_source, external_name, declared_name};
+ghost use Rattle.aml_path.specs.Paths.{Name};
+ghost use Rattle.aml_grammar.specs.Names.{starts_name, name_string};
+ghost use Rattle.aml_grammar.specs.State.{State, integer, bit_count, package_size, text};
 ghost use Rattle.aml_grammar.specs.Tree.{Tree};
-ghost use Rattle.aml_grammar.specs.Grammar.{Reads, Fails, table_reading};
-ghost use Rattle.aml_scan.specs.Spelling.{IsSpelled};
+ghost use Rattle.aml_grammar.specs.Grammar.{Reads, Fails, table_reading, opcode};
+ghost use Rattle.aml_scan.specs.Spelling.{IsInteger, IsLength, IsNameString, IsSpelled};
+ghost use Rattle.aml_spelling.specs.Faults.{Spot, Starts, IsName, IsNumber, IsCount, IsText, IsSomeCode};
+ghost use Rattle.aml_spelling.specs.Faults.{AtPart, AtLength, AtResolved, AtDeclared, Faulty};
 ghost use Rattle.aml_spelling.specs.Reach.{Stops, reach, Placed};
 ghost use Rattle.aml_spelling.specs.Stands.{MayStand};
 
@@ -43,4 +51,64 @@ pub fn faults_depend_on_no_later_byte()
         Fails (front ++ back) scope body known (refusals.Term BadOpcode offset) → offset + 2 ≤ length front →
         length other ≡ length back →
         Fails (front ++ other) scope body known (refusals.Term BadOpcode offset) }
+{}
+
+/// A number, a length, a text, an opcode or a name is refused with a number and an offset exactly if it has this fault.
+/// The fault is said of the bytes alone: they end where the part needs more of them, no name goes on as they do, or a
+/// package length doesn't fit what is around it. A part that stands whole has none.
+pub fn parts_are_refused_exactly_if_faulty()
+    ensures number { (width : ℕ) (s : State) (spot : Spot) (r : Refusal) → s.at ≡ spot.at → s.rest ≡ spot.rest →
+        ((integer width s).0 ≡ Err r) ↔ AtPart (IsNumber width) spot r }
+    ensures count { (s : State) (spot : Spot) (r : Refusal) → s.at ≡ spot.at → s.rest ≡ spot.rest →
+        ((bit_count s).0 ≡ Err r) ↔ AtPart IsCount spot r }
+    ensures package_length { (s : State) (spot : Spot) (r : Refusal) → s.at ≡ spot.at → s.rest ≡ spot.rest →
+        ((package_size s).0 ≡ Err r) ↔ AtLength spot r }
+    ensures string { (s : State) (spot : Spot) (r : Refusal) → s.at ≡ spot.at → s.rest ≡ spot.rest →
+        ((text s).0 ≡ Err r) ↔ AtPart IsText spot r }
+    ensures code { (s : State) (spot : Spot) (r : Refusal) → s.at ≡ spot.at → s.rest ≡ spot.rest →
+        ((opcode s).0 ≡ Err r) ↔ AtPart IsSomeCode spot r }
+    ensures name { (s : State) (spot : Spot) (r : Refusal) → s.at ≡ spot.at → s.rest ≡ spot.rest →
+        ((name_string s).0 ≡ Err r) ↔ AtPart IsName spot r }
+    ensures first_byte { (b : ℕ) → (starts_name b ≡ true) ↔ Starts IsName (b ∷ []) }
+    ensures whole_number { (width n : ℕ) (front back : List ℕ) (spot : Spot) (r : Refusal) → spot.rest ≡ front ++ back →
+        IsInteger width n front → AtPart (IsNumber width) spot r → ⊥ }
+    ensures whole_count { (n : ℕ) (front back : List ℕ) (spot : Spot) (r : Refusal) → spot.rest ≡ front ++ back →
+        IsLength n front → AtPart IsCount spot r → ⊥ }
+    ensures whole_name { (n : Name) (front back : List ℕ) (spot : Spot) (r : Refusal) → spot.rest ≡ front ++ back →
+        IsNameString n front → AtPart IsName spot r → ⊥ }
+{}
+
+/// A name that is resolved or declared is refused with a number and an offset exactly if it has this fault: it is no
+/// name, it leads above the root, or, where it is declared, it has no segment or may not be declared in a body. Of a
+/// name that has several of these faults only the first one counts, in the order of the numbers 20, 21 and 34.
+pub fn names_are_refused_exactly_if_faulty()
+    ensures place { (s : State) (spot : Spot) (earlier : Earlier) (r : Refusal) → s.at ≡ spot.at → s.rest ≡ spot.rest →
+        ((scope_name spot.scope earlier s).0 ≡ Err r) ↔ AtResolved spot r }
+    ensures source { (s : State) (spot : Spot) (earlier : Earlier) (r : Refusal) → s.at ≡ spot.at → s.rest ≡ spot.rest →
+        ((alias_source spot.scope earlier s).0 ≡ Err r) ↔ AtResolved spot r }
+    ensures external { (s : State) (spot : Spot) (earlier : Earlier) (r : Refusal) →
+        s.at ≡ spot.at → s.rest ≡ spot.rest →
+        ((external_name spot.scope earlier s).0 ≡ Err r) ↔ AtResolved spot r }
+    ensures declared { (s : State) (spot : Spot) (context : Context) (start count : ℕ) (earlier : Earlier)
+        (r : Refusal) →
+        s.at ≡ spot.at → s.rest ≡ spot.rest → context.body ≡ spot.around.body →
+        ((declared_name spot.scope context start count earlier s).0 ≡ Err r) ↔ AtDeclared start spot r }
+{}
+
+/// A list or a table is refused with a number and an offset exactly if it has this fault: before it there are only
+/// terms that are spelled and may stand, and at it there is what the number says. Each list is spelled and may stand,
+/// or it has a fault, and never both, and never two faults.
+pub fn refused_exactly_if_faulty()
+    ensures list { (bs : List ℕ) (scope : List Seg) (body : Bool) (known : List Arity) (r : Refusal) →
+        Fails bs scope body known r ↔ Faulty bs scope body known r }
+    ensures table { (bs : List ℕ) (known : List Arity) (r : Refusal) →
+        (table_reading bs known ≡ Err r) ↔ Faulty bs [] false known r }
+    ensures either { (bs : List ℕ) (scope : List Seg) (body : Bool) (known : List Arity) →
+        ((ts : List Tree) × IsSpelled body ts bs × (after : List Arity) × MayStand scope body ts known after)
+        ⊎ ((r : Refusal) × Faulty bs scope body known r) }
+    ensures one { (bs : List ℕ) (scope : List Seg) (body : Bool) (known : List Arity) (r q : Refusal) →
+        Faulty bs scope body known r → Faulty bs scope body known q → r ≡ q }
+    ensures not_both { (bs : List ℕ) (scope : List Seg) (body : Bool) (known after : List Arity) (ts : List Tree)
+        (r : Refusal) →
+        IsSpelled body ts bs → MayStand scope body ts known after → Faulty bs scope body known r → ⊥ }
 {}
