@@ -1,5 +1,5 @@
 -- The digits of an opcode in the line that tells of it.
-use Rattle.std.proofs.Common.{◌≡◌, ℕ, ◌-◌, ◌^◌, List, [], ◌∷◌, ◌++◌, length, replicate, ap, ap₂, arith, subst, sym, refl, take, length-append, append_assoc, ◌∙◌, ◌+◌, Option, Some, true, false}
+use Rattle.std.proofs.Common.{◌≡◌, ℕ, ◌-◌, ◌^◌, List, [], ◌∷◌, ◌++◌, length, replicate, ap, ap₂, arith, subst, sym, take, length-append, append_assoc, ◌∙◌, ◌+◌, Option, Some, true, false}
 use Rattle.std.specs.Prelude.{IfSome, OnOk, option_map, Result, codes, decimal}
 use Rattle.std.specs.Fmt.{◌++?◌, char_count, format_spec, padded_integral, radix_digits, shown_prefix}
 use Rattle.std.specs.Io.KnownBytes.{Appends}
