@@ -104,13 +104,29 @@ fn table_of(stage: &Option<Stage>) -> Option<usize> {
     }
 }
 
-/// The lines of a trace, where this was done and so many steps might be taken.
+/// Whether what was found was put together.
+fn is_gathering(stage: &Option<Stage>) -> bool {
+    matches!(stage, Some(Stage::Gathering))
+}
+
+/// The lines of a trace, where this was done and so many steps might be taken. Where what was found is put together no
+/// evaluation is refused, so the trace may be that of an earlier one, whose refusal was told elsewhere. A trace that was
+/// cut, since memory ran out, is told as that.
 pub(crate) fn trace_text(
     alloc: Global,
     trace: &Trace,
     stage: &Option<Stage>,
     steps: u64,
 ) -> Result<TraceText, AllocError> {
+    if trace.is_cut() {
+        return Err(AllocError);
+    }
+    if is_gathering(stage) {
+        return Ok(TraceText {
+            places: Vec::new(alloc),
+            steps: Vec::new(alloc),
+        });
+    }
     Ok(TraceText {
         places: place_lines(alloc, trace, table_of(stage))?,
         steps: steps_line(alloc, trace, steps)?,

@@ -55,7 +55,7 @@ pub fn faults_depend_on_no_later_byte()
 
 /// A number, a length, a text, an opcode or a name is refused with a number and an offset exactly if it has this fault.
 /// The fault is said of the bytes alone: they end where the part needs more of them, no name goes on as they do, or a
-/// package length doesn't fit what is around it. A part that stands whole has none.
+/// package length doesn't fit what is around it. A number, a count of bits or a name that stands whole has none.
 pub fn parts_are_refused_exactly_if_faulty()
     ensures number { (width : ℕ) (s : State) (spot : Spot) (r : Refusal) → s.at ≡ spot.at → s.rest ≡ spot.rest →
         ((integer width s).0 ≡ Err r) ↔ AtPart (IsNumber width) spot r }
@@ -78,8 +78,8 @@ pub fn parts_are_refused_exactly_if_faulty()
         IsNameString n front → AtPart IsName spot r → ⊥ }
 {}
 
-/// A name that is resolved or declared is refused with a number and an offset exactly if it has this fault: it is no
-/// name, it leads above the root, or, where it is declared, it has no segment or may not be declared in a body. Of a
+/// The name of a scope, the source of an alias, the name of an External, or a name that a term declares is refused with
+/// a number and an offset exactly if it has this fault: it is no name, it leads above the root, or, where it is declared, it has no segment or may not be declared in a body. Of a
 /// name that has several of these faults only the first one counts, in the order of the numbers 20, 21 and 34.
 pub fn names_are_refused_exactly_if_faulty()
     ensures place { (s : State) (spot : Spot) (earlier : Earlier) (r : Refusal) → s.at ≡ spot.at → s.rest ≡ spot.rest →
