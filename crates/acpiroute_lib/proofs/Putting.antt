@@ -1,5 +1,5 @@
 -- Texts that are put one behind another.
-use Rattle.std.proofs.Common.{◌≡◌, ◌∙◌, ap, sym, refl, ℕ, ◌+◌, ◌<◌, ◌≤◌, List, [], ◌∷◌, ◌++◌, length, drop, drop-cons, add-one, get_or, append_assoc, append-nil, suc, Option, Some, None, map}
+use Rattle.std.proofs.Common.{arith, zero, min, ◌≡◌, ◌∙◌, ap, sym, refl, ℕ, ◌+◌, ◌<◌, ◌≤◌, List, [], ◌∷◌, ◌++◌, length, drop, drop-cons, add-one, get_or, append_assoc, append-nil, suc, Option, Some, map}
 use Rattle.std.specs.Prelude.{decimal}
 use Rattle.std.proofs.lemmas.List.{drop_all}
 use Rattle.ar_space.specs.declared.space.Place.{Place}
@@ -14,10 +14,26 @@ use Rattle.acpiroute_lib.specs.MissingLines.{byte_text, line_end, lines_behind}
 step : (text one rest next whole : List ℕ) → whole ≡ text ++ (one ++ rest) → next ≡ text ++ one → whole ≡ next ++ rest
 step text one rest next whole so put = so ∙ (sym (append_assoc text one rest) ∙ ap (λ t. t ++ rest) (sym put))
 
+-- two texts behind one
+pub two_put : (t0 t1 t2 a b : List ℕ) → t1 ≡ t0 ++ a → t2 ≡ t1 ++ b → t2 ≡ t0 ++ (a ++ b)
+two_put t0 t1 t2 a b first next = next ∙ (ap (λ t. t ++ b) first ∙ append_assoc t0 a b)
+
+-- three, and so on
+pub three_put : (t0 t1 t2 t3 a b c : List ℕ) → t1 ≡ t0 ++ a → t2 ≡ t1 ++ b → t3 ≡ t2 ++ c → t3 ≡ t0 ++ (a ++ (b ++ c))
+three_put t0 t1 t2 t3 a b c first second third = two_put t0 t1 t3 a (b ++ c) first (two_put t1 t2 t3 b c second third)
+
+pub four_put : (t0 t1 t2 t3 t4 a b c d : List ℕ) → t1 ≡ t0 ++ a → t2 ≡ t1 ++ b → t3 ≡ t2 ++ c → t4 ≡ t3 ++ d → t4 ≡ t0 ++ (a ++ (b ++ (c ++ d)))
+four_put t0 t1 t2 t3 t4 a b c d first second third fourth = two_put t0 t1 t4 a (b ++ (c ++ d)) first (three_put t1 t2 t3 t4 b c d second third fourth)
+
+pub five_put : (t0 t1 t2 t3 t4 t5 a b c d e : List ℕ) → t1 ≡ t0 ++ a → t2 ≡ t1 ++ b → t3 ≡ t2 ++ c → t4 ≡ t3 ++ d → t5 ≡ t4 ++ e → t5 ≡ t0 ++ (a ++ (b ++ (c ++ (d ++ e))))
+five_put t0 t1 t2 t3 t4 t5 a b c d e first second third fourth fifth = two_put t0 t1 t5 a (b ++ (c ++ (d ++ e))) first (four_put t1 t2 t3 t4 t5 b c d e second third fourth fifth)
+
 module _ {X : Type 0} (all : List X → List ℕ) (one : X → List ℕ) (first : (x : X) (xs : List X) → all (x ∷ xs) ≡ one x ++ all xs) where
-  pub put_more : (xs : List X) (i : ℕ) (d : X) (text next whole : List ℕ) → i < length xs → whole ≡ text ++ all (drop i xs) → next ≡ text ++ one (get_or xs i d) → whole ≡ next ++ all (drop (i + 1) xs)
-  put_more xs i d text next whole within so put =
-      rw (add-one i) (step text (one (get_or xs i d)) (all (drop (suc i) xs)) next whole (so ∙ ap (λ t. text ++ t) (ap all (drop-cons xs i d within) ∙ first (get_or xs i d) (drop (suc i) xs))) put)
+  pub put_more : (xs : List X) (i : ℕ) (x : X) (text next whole : List ℕ) → i < length xs → x ≡ get_or xs i x → whole ≡ text ++ all (drop i xs) → next ≡ text ++ one x
+      → whole ≡ next ++ all (drop (i + 1) xs)
+  put_more xs i x text next whole within is so put =
+      rw (add-one i) (step text (one x) (all (drop (suc i) xs)) next whole
+      (so ∙ ap (λ t. text ++ t) (ap all (drop-cons xs i x within) ∙ (ap (λ y. all (y ∷ drop (suc i) xs)) (sym is) ∙ first x (drop (suc i) xs)))) put)
 
   pub all_put : (xs : List X) (i : ℕ) (text whole : List ℕ) → all [] ≡ [] → length xs ≤ i → whole ≡ text ++ all (drop i xs) → text ≡ whole
   all_put xs i text whole none past so = sym (so ∙ (ap (λ t. text ++ t) (ap all (drop_all i xs past) ∙ none) ∙ append-nil text))
@@ -45,18 +61,22 @@ no_after : (gs : List (List Seg × ℕ)) → after_texts gs [] ≡ []
 no_after [] = refl
 no_after (g ∷ gs) = refl
 
-pub gives_put : (gs : List (List Seg × ℕ)) (bs : List ReportedAfter) (i : ℕ) (text whole : List ℕ) → length gs ≤ i → whole ≡ text ++ after_texts (drop i gs) (drop i bs) → text ≡ whole
-gives_put gs bs i text whole past so = sym (so ∙ (ap (λ xs. text ++ after_texts xs (drop i bs)) (drop_all i gs past) ∙ append-nil text))
+none_left : (gs : List (List Seg × ℕ)) (bs : List ReportedAfter) (i : ℕ) → min (length gs) (length bs) ≤ i → after_texts (drop i gs) (drop i bs) ≡ []
+none_left [] bs i past = ap (λ xs. after_texts xs (drop i bs)) (drop_all i [] (omega arith))
+none_left (g ∷ gs) [] i past = ap (λ ys. after_texts (drop i (g ∷ gs)) ys) (drop_all i [] (omega arith)) ∙ no_after (drop i (g ∷ gs))
+none_left (g ∷ gs) (b ∷ bs) zero past = absurd (omega (arith, past))
+none_left (g ∷ gs) (b ∷ bs) (suc i) past = none_left gs bs i (omega (arith, past))
 
-pub afters_put : (gs : List (List Seg × ℕ)) (bs : List ReportedAfter) (i : ℕ) (text whole : List ℕ) → length bs ≤ i → whole ≡ text ++ after_texts (drop i gs) (drop i bs) → text ≡ whole
-afters_put gs bs i text whole past so = sym (so ∙ (ap (λ t. text ++ t) (ap (λ ys. after_texts (drop i gs) ys) (drop_all i bs past) ∙ no_after (drop i gs)) ∙ append-nil text))
+pub afters_put : (gs : List (List Seg × ℕ)) (bs : List ReportedAfter) (i : ℕ) (text whole : List ℕ) → min (length gs) (length bs) ≤ i → whole ≡ text ++ after_texts (drop i gs) (drop i bs) → text ≡ whole
+afters_put gs bs i text whole past so = sym (so ∙ (ap (λ t. text ++ t) (none_left gs bs i past) ∙ append-nil text))
 
 -- ---- missing bytes
 
-pub byte_more : (ps : List Place) (i : ℕ) (d : Place) (before : Option Place) (text next whole : List ℕ) → i < length ps → whole ≡ text ++ lines_behind before (drop i ps) → next ≡ text ++ byte_text before (get_or ps i d)
-    → whole ≡ next ++ lines_behind (Some (get_or ps i d)) (drop (i + 1) ps)
-byte_more ps i d before text next whole within so put =
-    rw (add-one i) (step text (byte_text before (get_or ps i d)) (lines_behind (Some (get_or ps i d)) (drop (suc i) ps)) next whole (so ∙ ap (λ xs. text ++ lines_behind before xs) (drop-cons ps i d within)) put)
+pub byte_more : (ps : List Place) (i : ℕ) (p : Place) (before : Option Place) (text next whole : List ℕ) → i < length ps → p ≡ get_or ps i p → whole ≡ text ++ lines_behind before (drop i ps)
+    → next ≡ text ++ byte_text before p → whole ≡ next ++ lines_behind (Some p) (drop (i + 1) ps)
+byte_more ps i p before text next whole within is so put =
+    rw (add-one i) (step text (byte_text before p) (lines_behind (Some p) (drop (suc i) ps)) next whole
+    (so ∙ (ap (λ xs. text ++ lines_behind before xs) (drop-cons ps i p within) ∙ ap (λ q. text ++ lines_behind before (q ∷ drop (suc i) ps)) (sym is))) put)
 
 pub bytes_put : (ps : List Place) (i : ℕ) (before : Option Place) (text last whole : List ℕ) → length ps ≤ i → whole ≡ text ++ lines_behind before (drop i ps) → last ≡ text ++ line_end before → last ≡ whole
 bytes_put ps i before text last whole past so put = put ∙ sym (so ∙ ap (λ xs. text ++ lines_behind before xs) (drop_all i ps past))

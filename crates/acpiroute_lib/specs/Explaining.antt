@@ -1,5 +1,5 @@
 -- The lines of `why`.
-use Rattle.std.specs.Prelude.{◌≡◌, ℕ, zero, suc, ◌+◌, ◌==◌, Bool, true, false, List, [], ◌∷◌, ◌++◌, Option, Some, None, codes, decimal, if◌then◌else◌}
+use Rattle.std.specs.Prelude.{ℕ, zero, suc, ◌==◌, Bool, false, List, [], ◌∷◌, ◌++◌, Option, Some, None, codes, decimal, if◌then◌else◌}
 use Rattle.ar_space.specs.Accesses.{byte_count}
 use Rattle.ar_space.specs.declared.refusal.Refusal.{Refusal}
 use Rattle.ar_space.specs.declared.space.Place.{Place}
@@ -40,12 +40,16 @@ abbrev pub stage_line : Option Stage → List ℕ
 stage_line None = []
 stage_line (Some stage) = codes "while " ++ (stage_words stage ++ codes "\n")
 
+-- a number behind a blank
+abbrev pub number_behind : ℕ → List ℕ
+number_behind n = codes " " ++ hexadecimal n
+
 -- a place, as a line of a machine text begins
 abbrev pub place_words : Place → List ℕ
 place_words (Memory address) = codes "mem " ++ hexadecimal address
 place_words (Io port) = codes "io " ++ hexadecimal port
 place_words (Pci seg bus dev func reg) =
-    codes "pci " ++ (hexadecimal seg ++ (codes " " ++ (hexadecimal bus ++ (codes " " ++ (hexadecimal dev ++ (codes " " ++ (hexadecimal func ++ (codes " " ++ hexadecimal reg))))))))
+    codes "pci " ++ (hexadecimal seg ++ (number_behind bus ++ (number_behind dev ++ (number_behind func ++ number_behind reg))))
 
 abbrev pub direction_word : Direction → List ℕ
 direction_word Read = codes "read "
@@ -56,11 +60,17 @@ abbrev pub access_line : Option Accessed → List ℕ
 access_line None = []
 access_line (Some a) = codes "access " ++ (direction_word a.direction ++ (place_words a.place ++ (codes " " ++ (decimal (byte_count a.width) ++ codes "\n"))))
 
--- the refusal as its error line has it, and its name; what was done; the lines of the terms that were being evaluated; the access; the line
--- of the steps; and what to do
+-- the refusal as its error line has it, and its name
+abbrev pub refusal_line : Refusal → List ℕ → List ℕ
+refusal_line e name = refusal_words e ++ (codes " " ++ (name ++ codes "\n"))
+
+abbrev pub help_line : List ℕ → List ℕ
+help_line help = codes "help " ++ (help ++ codes "\n")
+
+-- the refusal; what was done; the lines of the terms that were being evaluated; the access; the line of the steps; and what to do
 abbrev pub refused_text : Refusal → List ℕ → Option Stage → List ℕ → Option Accessed → List ℕ → List ℕ → List ℕ
 refused_text e name stage places access steps help =
-    refusal_words e ++ (codes " " ++ (name ++ (codes "\n" ++ (stage_line stage ++ (places ++ (access_line access ++ (steps ++ (codes "help " ++ (help ++ codes "\n")))))))))
+    refusal_line e name ++ (stage_line stage ++ (places ++ (access_line access ++ (steps ++ help_line help))))
 
 -- ---- a run that is not refused
 
@@ -68,11 +78,15 @@ refused_text e name stage places access steps help =
 abbrev pub link_words : List Seg → List ℕ → ℕ → List ℕ
 link_words path words n = codes "link " ++ (text_of path ++ (words ++ decimal n))
 
+-- a link that refused its setting by a number
+abbrev pub refused_setting : List Seg → ℕ → List ℕ
+refused_setting path r = link_words path (codes " refused its setting ") r ++ codes "\n"
+
 -- a link whose setting was refused
 abbrev pub set_text : List Seg → SetOutcome → List ℕ
 set_text path outcome.Done = []
 set_text path outcome.NoSetting = []
-set_text path (outcome.Refused r) = link_words path (codes " refused its setting ") r ++ codes "\n"
+set_text path (outcome.Refused r) = refused_setting path r
 
 abbrev pub set_texts : List SetLine → List ℕ
 set_texts [] = []
@@ -83,11 +97,18 @@ abbrev pub is_given : ℕ → Option (List ℕ) → Bool
 is_given n (Some (m ∷ [])) = m == n
 is_given n other = false
 
+-- what a link was given, and what it reads back
+abbrev pub other_text : ℕ → List Seg → Option (List ℕ) → List ℕ
+other_text n path now = link_words path (codes " was given ") n ++ (codes " and reads back" ++ (spaced (now_words now) ++ codes "\n"))
+
+-- what a link was given, and the number by which its reading was refused
+abbrev pub unread_text : ℕ → List Seg → ℕ → List ℕ
+unread_text n path r = link_words path (codes " was given ") n ++ (codes " and refused to be read " ++ (decimal r ++ codes "\n"))
+
 -- a link that reads back something else, or whose reading was refused
 abbrev pub after_text : ℕ → List Seg → AfterState → List ℕ
-after_text n path (Now now) =
-    if is_given n now then [] else link_words path (codes " was given ") n ++ (codes " and reads back" ++ (spaced (now_words now) ++ codes "\n"))
-after_text n path (Refused r) = link_words path (codes " was given ") n ++ (codes " and refused to be read " ++ (decimal r ++ codes "\n"))
+after_text n path (Now now) = if is_given n now then [] else other_text n path now
+after_text n path (Refused r) = unread_text n path r
 
 -- what each link was given, and what it reads back, one beside the other
 abbrev pub after_texts : List (List Seg × ℕ) → List ReportedAfter → List ℕ

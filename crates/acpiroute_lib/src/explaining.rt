@@ -2,7 +2,7 @@
 ghost use Rattle.std.specs.Prelude.{◌≡◌, ◌++◌, IfOk, OnOk};
 ghost use Rattle.aml_path.specs.Text.{text_of};
 ghost use Rattle.acpiroute_lib.specs.Explaining.{table_words, stage_words, stage_line, direction_word, access_line};
-ghost use Rattle.acpiroute_lib.specs.Explaining.{refused_text};
+ghost use Rattle.acpiroute_lib.specs.Explaining.{refusal_line, help_line, refused_text};
 
 use crate::place_words::put_place;
 use crate::trace_lines::TraceText;
@@ -94,6 +94,25 @@ fn put_access(text: &mut Vec<u8>, access: Option<Accessed>) -> Result<(), AllocE
     }
 }
 
+/// The refusal as its error line has it, and its name.
+fn refusal_line(alloc: Global, refusal: &Refusal, name: &str) -> Result<Vec<u8>, AllocError>
+    ensures { IfOk result (λ text. text.items ≡ refusal_line refusal.now name.now) }
+{
+    let mut text = refusal_words(alloc, refusal)?;
+    text.extend_from_slice(b" ")?;
+    text.extend_from_slice(name.as_bytes())?;
+    text.extend_from_slice(b"\n")?;
+    Ok(text)
+}
+
+fn put_help(text: &mut Vec<u8>, help: &str) -> Result<(), AllocError>
+    ensures { OnOk result (text.new.items ≡ text.old.items ++ help_line help.now) }
+{
+    text.extend_from_slice(b"help ")?;
+    text.extend_from_slice(help.as_bytes())?;
+    text.extend_from_slice(b"\n")
+}
+
 /// The lines of a refusal, in their order.
 pub(crate) fn refused_text(
     alloc: Global,
@@ -106,16 +125,11 @@ pub(crate) fn refused_text(
     ensures { IfOk result (λ text. text.items ≡ refused_text refusal.now help.now.name.now stage.now
         traced.now.places.items access traced.now.steps.items help.now.help.now) }
 {
-    let mut text = refusal_words(alloc, refusal)?;
-    text.extend_from_slice(b" ")?;
-    text.extend_from_slice(help.name.as_bytes())?;
-    text.extend_from_slice(b"\n")?;
+    let mut text = refusal_line(alloc, refusal, help.name)?;
     put_stage_line(alloc, &mut text, stage)?;
     text.extend_from_slice(&traced.places)?;
     put_access(&mut text, access)?;
     text.extend_from_slice(&traced.steps)?;
-    text.extend_from_slice(b"help ")?;
-    text.extend_from_slice(help.help.as_bytes())?;
-    text.extend_from_slice(b"\n")?;
+    put_help(&mut text, help.help)?;
     Ok(text)
 }

@@ -1,9 +1,10 @@
 //! The lines of `why` where a run isn't refused: of links that are not set as they were to be.
-ghost use Rattle.std.specs.Prelude.{◌≡◌, ◌++◌, IfOk, OnOk, decimal, map, option_map, Some};
+ghost use Rattle.std.specs.Prelude.{◌≡◌, ◌++◌, IfOk, OnOk, codes, decimal, map, option_map, Some};
 ghost use Rattle.route_report.specs.Lines.{spaced};
 ghost use Rattle.route_report.specs.Printing.{number_words, now_words};
 ghost use Rattle.route_report.specs.Reports.{Now};
-ghost use Rattle.acpiroute_lib.specs.Explaining.{link_words, set_text, set_texts, is_given, after_text, after_texts};
+ghost use Rattle.acpiroute_lib.specs.Explaining.{link_words, refused_setting, set_text, set_texts, is_given};
+ghost use Rattle.acpiroute_lib.specs.Explaining.{other_text, unread_text, after_text, after_texts};
 ghost use Rattle.acpiroute_lib.specs.Explaining.{link_texts, done_text};
 
 use acpiroute_words::{put_number, put_path};
@@ -17,14 +18,34 @@ fn put_link(
     text: &mut Vec<u8>,
     path: &Path,
     words: &[u8],
-    number: u64,
+    number: u32,
 ) -> Result<(), AllocError>
     ensures { OnOk result (text.new.items ≡ text.old.items ++ link_words path.now words.now number) }
 {
     text.extend_from_slice(b"link ")?;
     put_path(alloc, text, path)?;
     text.extend_from_slice(words)?;
-    put_number(text, number)
+    put_number(text, u64::from(number))
+}
+
+/// A link that refused its setting by this number.
+fn put_refused_setting(
+    alloc: Global,
+    text: &mut Vec<u8>,
+    path: &Path,
+    number: u8,
+) -> Result<(), AllocError>
+    ensures { OnOk result (text.new.items ≡ text.old.items ++ refused_setting path.now number) }
+{
+    put_link(
+        alloc,
+        text,
+        path,
+        b" refused its setting ",
+        u32::from(number),
+    )?;
+    text.extend_from_slice(b"\n")?;
+    Ok(())
 }
 
 /// A link whose setting was refused.
@@ -34,16 +55,7 @@ fn put_set(alloc: Global, text: &mut Vec<u8>, set: &SetLine) -> Result<(), Alloc
     match set.outcome {
         SetOutcome::Done => Ok(()),
         SetOutcome::NoSetting => Ok(()),
-        SetOutcome::Refused(number) => {
-            put_link(
-                alloc,
-                text,
-                &set.path,
-                b" refused its setting ",
-                u64::from(number),
-            )?;
-            text.extend_from_slice(b"\n")
-        }
+        SetOutcome::Refused(number) => put_refused_setting(alloc, text, &set.path, number),
     }
 }
 
@@ -75,13 +87,20 @@ fn is_only(given: u32, numbers: &[u32]) -> bool
     }
 }
 
+/// A number behind a blank.
+fn put_next(text: &mut Vec<u8>, number: u32) -> Result<(), AllocError>
+    ensures { OnOk result (text.new.items ≡ text.old.items ++ (codes " " ++ decimal number)) }
+{
+    text.extend_from_slice(b" ")?;
+    put_number(text, u64::from(number))
+}
+
 /// Numbers, each behind a blank.
 fn put_numbers(text: &mut Vec<u8>, numbers: &[u32]) -> Result<(), AllocError>
     ensures { OnOk result (text.new.items ≡ text.old.items ++ spaced (map decimal numbers.now)) }
 {
     for number in numbers {
-        text.extend_from_slice(b" ")?;
-        put_number(text, u64::from(*number))?;
+        put_next(text, *number)?;
     }
     Ok(())
 }
@@ -108,6 +127,24 @@ fn put_now(text: &mut Vec<u8>, now: &Option<Vec<u32>>) -> Result<(), AllocError>
     }
 }
 
+/// A link that reads back something else than it was given.
+fn put_other(
+    alloc: Global,
+    text: &mut Vec<u8>,
+    given: u32,
+    path: &Path,
+    now: &Option<Vec<u32>>,
+) -> Result<(), AllocError>
+    ensures { OnOk result (text.new.items ≡ text.old.items ++ other_text given path.now (option_map (λ v. v.items)
+        now.now)) }
+{
+    put_link(alloc, text, path, b" was given ", given)?;
+    text.extend_from_slice(b" and reads back")?;
+    put_now(text, now)?;
+    text.extend_from_slice(b"\n")?;
+    Ok(())
+}
+
 /// A link that reads back this.
 fn put_read_back(
     alloc: Global,
@@ -122,10 +159,24 @@ fn put_read_back(
     if is_given(given, now) {
         return Ok(());
     }
-    put_link(alloc, text, path, b" was given ", u64::from(given))?;
-    text.extend_from_slice(b" and reads back")?;
-    put_now(text, now)?;
-    text.extend_from_slice(b"\n")
+    put_other(alloc, text, given, path, now)
+}
+
+/// A link whose reading was refused by this number.
+fn put_unread(
+    alloc: Global,
+    text: &mut Vec<u8>,
+    given: u32,
+    path: &Path,
+    number: u8,
+) -> Result<(), AllocError>
+    ensures { OnOk result (text.new.items ≡ text.old.items ++ unread_text given path.now number) }
+{
+    put_link(alloc, text, path, b" was given ", given)?;
+    text.extend_from_slice(b" and refused to be read ")?;
+    put_number(text, u64::from(number))?;
+    text.extend_from_slice(b"\n")?;
+    Ok(())
 }
 
 /// A link that reads back something else than it was given, or whose reading was refused.
@@ -139,12 +190,7 @@ fn put_after(
 {
     match &after.state {
         After::Now(now) => put_read_back(alloc, text, given, &after.path, now),
-        After::Refused(number) => {
-            put_link(alloc, text, &after.path, b" was given ", u64::from(given))?;
-            text.extend_from_slice(b" and refused to be read ")?;
-            put_number(text, u64::from(*number))?;
-            text.extend_from_slice(b"\n")
-        }
+        After::Refused(number) => put_unread(alloc, text, given, &after.path, *number),
     }
 }
 

@@ -1,12 +1,20 @@
 //! Places as a machine text has them, and the lines of bytes that it lacks.
 ghost use Rattle.std.specs.Prelude.{◌≡◌, ◌++◌, IfOk, OnOk, None};
 ghost use Rattle.ar_space.specs.declared.space.Place.TheVariants.{Pci};
-ghost use Rattle.acpiroute_lib.specs.Explaining.{place_words};
+ghost use Rattle.acpiroute_lib.specs.Explaining.{number_behind, place_words};
 ghost use Rattle.acpiroute_lib.specs.MissingLines.{is_next, is_behind, byte_text, line_end, missing_lines};
 
 use acpiroute_words::put_hexadecimal;
 use ar_space::Place;
 use std::alloc::{AllocError, Global};
+
+/// A number behind a blank.
+fn put_behind(text: &mut Vec<u8>, number: u64) -> Result<(), AllocError>
+    ensures { OnOk result (text.new.items ≡ text.old.items ++ number_behind number) }
+{
+    text.extend_from_slice(b" ")?;
+    put_hexadecimal(text, number)
+}
 
 /// A register behind its function.
 fn put_register(
@@ -21,14 +29,10 @@ fn put_register(
 {
     text.extend_from_slice(b"pci ")?;
     put_hexadecimal(text, u64::from(seg))?;
-    text.extend_from_slice(b" ")?;
-    put_hexadecimal(text, u64::from(bus))?;
-    text.extend_from_slice(b" ")?;
-    put_hexadecimal(text, u64::from(dev))?;
-    text.extend_from_slice(b" ")?;
-    put_hexadecimal(text, u64::from(func))?;
-    text.extend_from_slice(b" ")?;
-    put_hexadecimal(text, u64::from(reg))
+    put_behind(text, u64::from(bus))?;
+    put_behind(text, u64::from(dev))?;
+    put_behind(text, u64::from(func))?;
+    put_behind(text, u64::from(reg))
 }
 
 /// A place, as a line of a machine text begins.
