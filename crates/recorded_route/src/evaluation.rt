@@ -59,7 +59,10 @@ fn machine_answer(
 {
     let mut machine = machine;
     let answer = object_of(alloc, &mut machine, settings, question);
-    (answer, wanted_of(machine.space()))
+    let wanted = wanted_of(machine.space());
+    // (by a call: what a scope drops at its end is dropped part by part, and long to prove)
+    drop(machine);
+    (answer, wanted)
 }
 
 /// Loads what is described over a record, and evaluates an object.
