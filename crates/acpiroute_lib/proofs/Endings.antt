@@ -76,7 +76,7 @@ module _ {S : Type 0} (accesses : Accesses S) (mode : Mode) where
       → IsAskedBy accesses mode (λ s. dropped (evaluated_object accesses p given s)) end m after → IsAskedBy accesses mode (λ s. dropped (evaluates accesses path arguments s)) end m after
   named m after path arguments p given end is same h =
       asked_too m after (λ s. dropped (evaluates accesses path arguments s)) (λ s. dropped (evaluated_object accesses p given s)) end
-          (same_run m (λ s. dropped (evaluates accesses path arguments s)) (λ s. dropped (evaluated_object accesses p given s)) (λ s. evaluates_named path arguments p given s is same)) h
+      (same_run m (λ s. dropped (evaluates accesses path arguments s)) (λ s. dropped (evaluated_object accesses p given s)) (λ s. evaluates_named path arguments p given s is same)) h
 
   evaluates_no_name : (path : List ℕ) (arguments : List Argument) (x : Refusal) (s : MachineState S) → path_of_text path ≡ Err x → dropped (evaluates accesses path arguments s) ≡ (Err x, s)
   unfolding evaluates settle ◌>>=◌ go_on

@@ -12,12 +12,12 @@ use Rattle.acpiroute_lib.proofs.shown.filled_tables.Goals as goal
 pub returns-in-Ok-clause-run : goal.returns-in-Ok-clause-run
 returns-in-Ok-clause-run c =
     where_ok c.filled_machine.result (λ f. IsFilledMachine c.args.asking.now c.in-Ok.machine f.0 f.1.items) (λ f. IsFilledFrom c.args.asking.now (Ok c.args.tables) c.args.osi.items c.args.space f.0 f.1.items)
-        (λ f h. record {
-          left = h.after.world.space;
-          is_end = machine_ended (filled byte_accesses) c.args.asking.now f.0 c.args.tables c.args.osi.items c.args.space c.in-Ok.machine h.after c.in-Ok.ensures.world c.in-Ok.ensures.machine h.is_end;
-          are_places = h.are_places;
-        })
-        c.filled_machine.ensures.run
+    (λ f h. record {
+      left = h.after.world.space;
+      is_end = machine_ended (filled byte_accesses) c.args.asking.now f.0 c.args.tables c.args.osi.items c.args.space c.in-Ok.machine h.after c.in-Ok.ensures.world c.in-Ok.ensures.machine h.is_end;
+      are_places = h.are_places;
+    })
+    c.filled_machine.ensures.run
 
 pub returns-in_ok-places-in-Err-clause-run : goal.returns-in_ok-places-in-Err-clause-run
 returns-in_ok-places-in-Err-clause-run c =

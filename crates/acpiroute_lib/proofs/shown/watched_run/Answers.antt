@@ -10,7 +10,7 @@ use Rattle.acpiroute_lib.proofs.shown.watched_run.Goals as goal
 pub returns-in-Ok : goal.returns-in-Ok
 returns-in-Ok c =
     subst (λ t. IsWatched c.args.asking.now t c.args.said.osi c.args.said.space c.watched_tables.result.0 c.watched_tables.result.1) (sym (ap (λ m. tables_of m c.args.said.rsdp) (sym c.memory.ensures) ∙ c.in-Ok.ensures.is tt))
-        (subst (λ osi. IsWatched c.args.asking.now (Ok c.in-Ok.tables) osi c.args.said.space c.watched_tables.result.0 c.watched_tables.result.1) (c.in_ok-osi.ensures ∙ c.into_vec.ensures) c.watched_tables.ensures)
+    (subst (λ osi. IsWatched c.args.asking.now (Ok c.in-Ok.tables) osi c.args.said.space c.watched_tables.result.0 c.watched_tables.result.1) (c.in_ok-osi.ensures ∙ c.into_vec.ensures) c.watched_tables.ensures)
 
 pub returns-in-Err : goal.returns-in-Err
 returns-in-Err c =
