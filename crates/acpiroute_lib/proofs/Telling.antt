@@ -14,6 +14,11 @@ use Rattle.acpiroute_words.specs.declared.request.Asking.{Asking}
 use Rattle.acpiroute_lib.specs.WhyCommand.{IsWatched, IsExplained, IsWhy, IsFilled, IsListed, IsRegisters, IsWhyAnswer, IsRegistersAnswer}
 use Rattle.acpiroute_lib.specs.declared.run_end.RunEnd.{RunEnd}
 
+-- what holds where something is answered
+pub where_ok : {A : Type 0} (r : Outcome A) (P Q : A → Type 0) → ((x : A) → P x → Q x) → IfOk r P → IfOk r Q
+where_ok (Ok x) P Q f h = f x h
+where_ok (Err e) P Q f h = tt
+
 module _ (q : Asking) (said : MachineText) where
   pub why_told : (ended : RunEnd) (last : Option Accessed) (r : Outcome Written) → IsWatched q (tables_of said.space.memory said.rsdp) said.osi said.space ended last → IfOk r (IsExplained ended last) → IfOk r (IsWhy q said)
   why_told ended last (Ok w) run lines = record { ended = ended; last = last; is_run = run; is_explained = lines }

@@ -1,5 +1,5 @@
 //! `why`: makes the run of `route` or `eval`, and tells what ended it.
-ghost use Rattle.std.specs.Prelude.{◌≡◌, ◌++◌, IfOk, IfErr, OnOk};
+ghost use Rattle.std.specs.Prelude.{◌≡◌, ◌++◌, IfOk, IfErr, OnOk, codes};
 ghost use Rattle.ar_space.specs.Outcome.{NotMemory};
 ghost use Rattle.ar_space.specs.declared.refusal.Refusal.TheVariants.{OutOfMemory};
 ghost use Rattle.acpi_explain.specs.Told.{shown_access};
@@ -82,21 +82,6 @@ fn why(alloc: Global, asking: &Asking, said: MachineText, text: &[u8]) -> Result
     answer
 }
 
-/// The lines of missing bytes, and behind them how the run ended.
-fn listed(alloc: Global, end: &RunEnd, places: &[Place]) -> Result<Answer, Refusal>
-    ensures memory { IfErr result (λ refusal. refusal ≡ OutOfMemory) }
-    ensures lines { IfOk result (IsListed end.now places.now) }
-{
-    let mut text = missing_lines(alloc, places)?;
-    text.extend_from_slice(b"# with 0 there: ")?;
-    match end {
-        RunEnd::Refused(_, Refusal::OutOfMemory) => return Err(Refusal::OutOfMemory),
-        RunEnd::Refused(_, refusal) => put_refusal(&mut text, refusal)?,
-        RunEnd::Done(_) => text.extend_from_slice(b"not refused\n")?,
-    }
-    Ok(told(text))
-}
-
 /// The line of a refusal, put behind a text.
 fn put_refusal(text: &mut Vec<u8>, refusal: &Refusal) -> Result<(), AllocError>
     ensures { OnOk result (text.new.items ≡ text.old.items ++ error_line refusal.now) }
@@ -107,6 +92,41 @@ fn put_refusal(text: &mut Vec<u8>, refusal: &Refusal) -> Result<(), AllocError>
     }
 }
 
+/// Lines, and behind them that the run is refused with 0 there.
+fn refused_behind(text: Vec<u8>, refusal: &Refusal) -> Result<Answer, AllocError>
+    ensures { IfOk result (λ w. w ≡ told (text.items ++ (codes "# with 0 there: " ++ error_line refusal.now))) }
+{
+    let mut text = text;
+    text.extend_from_slice(b"# with 0 there: ")?;
+    put_refusal(&mut text, refusal)?;
+    Ok(told(text))
+}
+
+/// Lines, and behind them that the run isn't refused with 0 there.
+fn done_behind(text: Vec<u8>) -> Result<Answer, AllocError>
+    ensures { IfOk result (λ w. w ≡ told (text.items ++ codes "# with 0 there: not refused\n")) }
+{
+    let mut text = text;
+    text.extend_from_slice(b"# with 0 there: not refused\n")?;
+    Ok(told(text))
+}
+
+/// The lines of missing bytes, and behind them how the run ended. Want of memory is told in none.
+fn listed(alloc: Global, end: RunEnd, places: &[Place]) -> Result<Answer, Refusal>
+    ensures memory { IfErr result (λ refusal. refusal ≡ OutOfMemory) }
+    ensures lines { IfOk result (IsListed end places.now) }
+{
+    let text = missing_lines(alloc, places)?;
+    match end {
+        RunEnd::Refused(_, Refusal::OutOfMemory) => Err(Refusal::OutOfMemory),
+        RunEnd::Refused(_, refusal) => Ok(refused_behind(text, &refusal)?),
+        RunEnd::Done(report) => {
+            drop(report);
+            Ok(done_behind(text)?)
+        }
+    }
+}
+
 /// The lines of all bytes that what a machine text says lacks for the run.
 #[tactic(auto, using(crate::proofs::Telling::telling))]
 fn registers(alloc: Global, asking: &Asking, said: MachineText) -> Result<Answer, Refusal>
@@ -114,7 +134,7 @@ fn registers(alloc: Global, asking: &Asking, said: MachineText) -> Result<Answer
     ensures lines { IfOk result (IsRegisters asking.now said) }
 {
     let (end, places) = filled_run(alloc, asking, said)?;
-    listed(alloc, &end, places.as_slice())
+    listed(alloc, end, places.as_slice())
 }
 
 /// What `why` answers over a machine text: what ended the run. Only the machine text itself is refused.

@@ -1,7 +1,8 @@
 use Rattle.std.proofs.Common.{◌≡◌, ◌≢◌, subst, sym}
-use Rattle.std.specs.Prelude.{Ok, Err, None}
+use Rattle.std.specs.Prelude.{Ok, Err, Some, None}
 use Rattle.ar_space.specs.Bytes.{byte_accesses}
 use Rattle.ar_space.specs.declared.refusal.Refusal.TheVariants.{OutOfMemory}
+use Rattle.acpi_explain.specs.declared.told.Phase.TheVariants.{Loading}
 use Rattle.watched_space.specs.Watching.{watched}
 use Rattle.acpiroute_lib.specs.Ended.{loaded_over}
 use Rattle.acpiroute_lib.proofs.Endings.{machine_ended, loading_ended}
@@ -17,12 +18,12 @@ returns-in-Ok c =
       is_last = h.is_last;
     }
 
-pub returns : goal.returns
-returns c =
+pub returns-in-Err : goal.returns-in-Err
+returns-in-Err c =
     record {
-      left = c.in-Err.field-0.1;
-      is_end = loading_ended (watched byte_accesses) c.args.asking.now _ c.in-Err.field-0.0 c.args.tables c.args.osi.items (record { inner = c.args.space; last = None }) c.in-Err.field-0.1
-          (subst (λ s. c.in-Err.field-0.0 ≢ OutOfMemory → (loaded_over (watched byte_accesses) c.args.asking.now c.args.tables c.args.osi.items s).0 ≡ Err c.in-Err.field-0.0) c.new.ensures c.in-Err.ensures.refusal)
-          (subst (λ s. c.in-Err.field-0.0 ≢ OutOfMemory → (loaded_over (watched byte_accesses) c.args.asking.now c.args.tables c.args.osi.items s).1.space ≡ c.in-Err.field-0.1) c.new.ensures c.in-Err.ensures.space);
+      left = c.in-Err.space;
+      is_end = loading_ended (watched byte_accesses) c.args.asking.now (Some Loading) c.in-Err.refusal c.args.tables c.args.osi.items (record { inner = c.args.space; last = None }) c.in-Err.space
+          (subst (λ s. c.in-Err.refusal ≢ OutOfMemory → (loaded_over (watched byte_accesses) c.args.asking.now c.args.tables c.args.osi.items s).0 ≡ Err c.in-Err.refusal) c.new.ensures c.in-Err.ensures.refusal)
+          (subst (λ s. c.in-Err.refusal ≢ OutOfMemory → (loaded_over (watched byte_accesses) c.args.asking.now c.args.tables c.args.osi.items s).1.space ≡ c.in-Err.space) c.new.ensures c.in-Err.ensures.space);
       is_last = sym c.last.ensures;
     }
