@@ -1,5 +1,5 @@
 -- What the commands answer is no fault of a reader or a writer.
-use Rattle.std.specs.Prelude.{ℕ, Bool, true, false, List, [], ◌∷◌, ◌++◌, Option, Ok, Err}
+use Rattle.std.specs.Prelude.{◌≡◌, ℕ, Bool, true, false, List, [], ◌∷◌, ◌++◌, Option, Ok, Err}
 use Rattle.std.proofs.Common.{sym, subst}
 use Rattle.ar_space.specs.Bytes.{Bytes, byte_accesses}
 use Rattle.ar_space.specs.Change.{Change, give, settle, go_on, ◌>>=◌}
