@@ -75,7 +75,7 @@ kind_of (object.OperationRegion r) = Region
 kind_of (object.FieldUnit u) = FieldUnit
 kind_of (object.BufferField b) = BufferField
 kind_of (object.Mutex n) = Mutex
-kind_of object.Event = Event
+kind_of (object.Event n) = Event
 kind_of (object.Alias p) = Alias p
 
 -- the kind of what stands at a path

@@ -54,7 +54,7 @@ pub(crate) fn kind_of(object: &NamedObject) -> Kind<'_>
         NamedObject::FieldUnit(_) => Kind::FieldUnit,
         NamedObject::BufferField(_) => Kind::BufferField,
         NamedObject::Mutex(_) => Kind::Mutex,
-        NamedObject::Event => Kind::Event,
+        NamedObject::Event(_) => Kind::Event,
         NamedObject::Alias(path) => Kind::Alias(path),
     }
 }

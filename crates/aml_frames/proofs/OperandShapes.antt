@@ -134,6 +134,8 @@ fits (term.Wide (wide.Convert k)) row = is_plain row and is_argument row.3.0 and
 fits (term.Wide wide.ToString) row = is_plain row and is_argument row.3.0 and is_argument row.3.1 and is_target row.3.2 and is_nothing row.3.3
 fits (term.Wide wide.Mid) row = is_plain row and is_argument row.3.0 and is_argument row.3.1 and is_argument row.3.2 and is_target row.3.3 and is_nothing row.3.4
 fits (term.Wide wide.Match) row = is_plain row and is_argument row.3.0 and is_byte row.3.1 and is_argument row.3.2 and is_byte row.3.3 and is_argument row.3.4 and is_argument row.3.5
+fits (term.Wide (wide.Event k)) row = is_plain row and is_super row.3.0 and is_nothing row.3.1
+fits (term.Wide wide.Wait) row = is_plain row and is_super row.3.0 and is_argument row.3.1 and is_nothing row.3.2
 fits _ row = true
 
 -- ---- every row has the operands of its kind

@@ -6,10 +6,11 @@ use Rattle.ar_space.specs.Outcome.{Outcome}
 use Rattle.ar_space.specs.Change.{settle, go_on, ◌>>=◌}
 use Rattle.aml_grammar.specs.declared.kinds.Row.{Row}
 use Rattle.aml_grammar.specs.declared.opcode.TermCode.TheVariants as codes
-use Rattle.aml_marked.specs.Marked.{a_target}
+use Rattle.aml_marked.specs.Marked.{a_super_name, a_target}
 use Rattle.aml_scan.specs.RowsAt.{row_at}
 use Rattle.aml_scan.specs.declared.row_places.RowPlace.{RowPlace}
 use Rattle.aml_meaning.specs.declared.term_kind.Conversion.{Conversion}
+use Rattle.aml_meaning.specs.declared.term_kind.EventChange.{EventChange}
 use Rattle.aml_meaning.specs.declared.term_kind.TermKind.TheVariants as kinds
 use Rattle.aml_meaning.specs.declared.term_kind.WideKind.{WideKind}
 use Rattle.aml_meaning.specs.declared.term_kind.WideKind.TheVariants as wides
@@ -17,15 +18,16 @@ use Rattle.aml_meaning.specs.State.{State}
 use Rattle.aml_meaning.specs.Meaning.{meaning}
 use Rattle.aml_meaning.specs.Tasks.{value_at}
 use Rattle.aml_meaning.specs.TargetTerms.{targeted}
-use Rattle.aml_meaning.specs.WideTerms.{formed_at, convert_rule, to_string_rule, middle_rule}
+use Rattle.aml_meaning.specs.WideTerms.{formed_at, convert_rule, to_string_rule, middle_rule, event_rule, wait_rule}
 use Rattle.aml_frames.specs.declared.frames.Frame.TheVariants as frames
 use Rattle.aml_frames.specs.declared.frames.Next.{Next}
 use Rattle.aml_frames.specs.declared.frames.Next.TheVariants as next
 use Rattle.aml_frames.specs.declared.uses.Dyadic.TheVariants as dyadic
 use Rattle.aml_frames.specs.declared.uses.Monadic.TheVariants as monadic
 use Rattle.aml_frames.specs.Places.{Site, at_place, terms}
-use Rattle.aml_frames.specs.Operands.{behind_one, behind_two, row_kind, argument_target_at, arguments_target_at, three_arguments_target_at, wide_tree}
-use Rattle.aml_frames.specs.Uses.{stored_at}
+use Rattle.aml_frames.specs.Operands.{behind_one, behind_two, row_kind, argument_target_at, arguments_target_at, three_arguments_target_at, super_at, super_argument_at, wide_tree}
+use Rattle.aml_frames.specs.declared.uses.TargetUse.TheVariants as uses
+use Rattle.aml_frames.specs.Uses.{super, stored_at, target_run}
 use Rattle.aml_frames.specs.Follow.{coded_run, wide_run, asked_run, behind_coded, behind_wide_at, Leads, EndsAt}
 use Rattle.aml_frames.proofs.RuleShapes.{wide_is, behind_wide_is}
 use Rattle.aml_frames.proofs.Stepping.{leads_value_at}
@@ -56,5 +58,18 @@ module _ {S : Type 0} {ac : Accesses S} where
       rw (target_part_is (meaning ac) c.scope c.depth codes.Name (three_arguments_target_at b c.place) 3 (a_target b (behind_one b (behind_two b c.place))).0 refl)
       (record { is = λ _. two_run ac c.scope c.depth (wide_tree b wides.Mid c.place) _ s ∙ (leads_value_at {c = c} {s = s} levels (frames.First dyadic.Mid levels) (wide_tree b wides.Mid c.place) 0 _ refl refl).is tt })
 
+  -- ---- events
+
+  pub leads_event : {r : Outcome Next} {d : Site} {s s1 : State S × ℕ} (c : Site) (levels : ℕ) (k : EventChange) → Leads ac (meaning ac) r d s1 (target_run ac (meaning ac) (super levels) (uses.Event k) c) s → Leads ac (meaning ac) r d s1 (wide_run ac (meaning ac) (wides.Event k) c levels) s
+  unfolding event_rule
+  leads_event c levels k h = rw (target_part_is (meaning ac) c.scope c.depth codes.Name (super_at (terms c levels) c.place) 0 (a_super_name (terms c levels) c.place).0 refl) h
+
+  pub leads_wait : {r : Outcome Next} {d : Site} {s s1 : State S × ℕ} (c : Site) (levels : ℕ) → Leads ac (meaning ac) r d s1 (target_run ac (meaning ac) (super levels) (uses.Wait levels) c) s → Leads ac (meaning ac) r d s1 (wide_run ac (meaning ac) wides.Wait c levels) s
+  unfolding wait_rule value_at settle ◌>>=◌ go_on
+  leads_wait c levels h = rw (target_part_is (meaning ac) c.scope c.depth codes.Name (super_argument_at (terms c levels) c.place) 0 (a_super_name (terms c levels) c.place).0 refl) h
+
 -- what closes the beginning of a term of the wide profile
 pub ruleset beginning_wide = (leads_wide, ends_wide)
+
+-- and of one that does something with an event
+pub ruleset beginning_events = (leads_event, leads_wait)

@@ -70,7 +70,7 @@ use Rattle.aml_frames.specs.Indexed.{writes_done, unit_given, unit_behind, unit_
 use Rattle.aml_frames.specs.Declarations.{declared_at}
 use Rattle.aml_frames.specs.RegionTerms.{part_declared, part_ends}
 use Rattle.aml_frames.specs.Matching.{match_left, match_ends, element_read}
-use Rattle.aml_frames.specs.Uses.{asking, optional, behind_target, use_ends, target_ends, monadic_ends, dyadic_ends, access_run, inquired, counted_back, used, target_run, monadic_done, middle_done, dyadic_by, dyadic_done}
+use Rattle.aml_frames.specs.Uses.{asking, optional, behind_target, use_ends, target_ends, monadic_ends, dyadic_ends, access_run, inquired, counted_back, used, target_run, monadic_done, middle_done, wait_done, dyadic_by, dyadic_done}
 use Rattle.aml_frames.specs.Operands.{operator_tree, statement_tree, wide_tree, behind_operator, behind_statement, behind_wide}
 
 abbrev pub place_of : Site → Position → Place
@@ -164,6 +164,7 @@ ends (frames.Scope p node) c = record c { scope = p }
 ends (frames.Declaration d) c = part_ends d c
 ends (frames.Match levels part) c = match_ends part levels c
 ends (frames.Matched x) c = c
+ends (frames.Wait e) c = c
 
 -- and when all that a step leaves is done
 abbrev pub next_ends : Next → Site → Site
@@ -343,6 +344,9 @@ module _ {S : Type 0} (accesses : Accesses S) (ev : Task → Run S Flow) where
   resumed (frames.Matched x) c f = do
     v ← settle (value_in f)
     element_read accesses ev c.depth x v
+  resumed (frames.Wait e) c f = do
+    v ← settle (value_in f)
+    wait_done accesses ev e v
 
   -- the body of a control method that takes no arguments, and then a frame
   abbrev pub entered_then : ℕ → List Seg → List ℕ → Frame → Site → Run S Flow

@@ -192,12 +192,16 @@ module _ (b : Below) where
   wide_parts wides.ToString p = arguments_target_at p
   wide_parts wides.Mid p = three_arguments_target_at p
   wide_parts wides.Match p = match_at p
+  wide_parts (wides.Event k) p = super_at p
+  wide_parts wides.Wait p = super_argument_at p
 
   abbrev pub behind_wide : WideKind → Place → Place
   behind_wide (wides.Convert k) p = (a_target b (behind_one b p)).1
   behind_wide wides.ToString p = (a_target b (behind_two b p)).1
   behind_wide wides.Mid p = (a_target b (behind_one b (behind_two b p))).1
   behind_wide wides.Match p = behind_match p
+  behind_wide (wides.Event k) p = (a_super_name b p).1
+  behind_wide wides.Wait p = behind_one b (a_super_name b p).1
 
   -- the term of an operator or a statement whose operands stand there: rules don't ask for its opcode
   abbrev pub operator_tree : OperatorKind → Place → Tree

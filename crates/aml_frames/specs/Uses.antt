@@ -24,6 +24,7 @@ use Rattle.aml_meaning.specs.Readings.{integer_kept}
 use Rattle.aml_meaning.specs.Tasks.{Task, operand_value}
 use Rattle.aml_meaning.specs.StoreTargets.{dereferenced, target_read, reference_of, if_initialized, target_referent}
 use Rattle.aml_meaning.specs.Stores.{copied_to}
+use Rattle.aml_meaning.specs.Events.{event_named, event_changed, waited}
 use Rattle.aml_meaning.specs.Mutexes.{acquired_at, given_back_at}
 use Rattle.aml_meaning.specs.Operations.{divided_in, turned, size_in, type_of_referent, type_number}
 use Rattle.aml_meaning.specs.OperatorTerms.{result_of_one, result_of_two, result_of_test, counted_by}
@@ -85,6 +86,8 @@ use_ends uses.Release c = c
 use_ends uses.RefOf c = c
 use_ends (uses.CondRefOf levels) c = behind_target (optional levels) c
 use_ends (uses.Notify levels) c = behind_term c levels
+use_ends (uses.Event k) c = c
+use_ends (uses.Wait levels) c = behind_term c levels
 
 abbrev pub target_ends : Target → TargetUse → Site → Site
 target_ends t u c = use_ends u (behind_target t c)
@@ -215,6 +218,12 @@ module _ {S : Type 0} (accesses : Accesses S) (ev : Task → Run S Flow) where
     v ← lift (integer_kept 18446744073709551615)
     give (flow.Value v)
 
+  -- Wait, with the value of its timeout
+  abbrev pub wait_done : Option ℕ → Value → Run S Flow
+  wait_done e v = do
+    r ← lift (waited e v)
+    give (flow.Value r)
+
   abbrev pub used : TargetUse → Site → StoreTarget → Run S Flow
   used (uses.Store v) c p = stored_at v c p
   used (uses.CopyObject v) c p = do
@@ -246,6 +255,14 @@ module _ {S : Type 0} (accesses : Accesses S) (ev : Task → Run S Flow) where
   used (uses.Notify levels) c p = do
     v ← operand_value ev c.scope c.depth (next_term c levels)
     give flow.Next
+  used (uses.Event k) c p = do
+    e ← lift (event_named p)
+    done ← lift (event_changed k e)
+    give flow.Next
+  used (uses.Wait levels) c p = do
+    e ← lift (event_named p)
+    v ← operand_value ev c.scope c.depth (next_term c levels)
+    wait_done e v
 
   -- the target that stands next, and what is done with it
   abbrev pub target_run : Target → TargetUse → Site → Run S Flow

@@ -65,6 +65,8 @@ use_weight uses.Release = 4
 use_weight uses.RefOf = 4
 use_weight (uses.CondRefOf levels) = most + 20
 use_weight (uses.Notify levels) = 4
+use_weight (uses.Event k) = 4
+use_weight (uses.Wait levels) = 4
 
 abbrev pub target_weight : TargetUse → ℕ
 target_weight u = use_weight u + 8

@@ -69,7 +69,7 @@ pub fn begin_declaration<S: Space>(
             Ok(done(act, levels, place, flow))
         }
         DeclarationKind::Event => {
-            let flow = declare(alloc, run, act, levels, place, NamedObject::Event)?;
+            let flow = declare(alloc, run, act, levels, place, NamedObject::Event(0))?;
             Ok(done(act, levels, place, flow))
         }
     }

@@ -179,6 +179,8 @@ pub enum Frame {
     Match(u8, Boxed<MatchPart>),
     /// A Match, while the field is read that its next element is the name of.
     Matched(Boxed<Searching>),
+    /// A Wait, while its timeout is evaluated: the number of the declaration that its operand names, if it names one.
+    Wait(Option<u64>),
 }
 
 /// What a step leaves to do.

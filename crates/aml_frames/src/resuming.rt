@@ -25,7 +25,7 @@ use crate::target_uses::resume_counted;
 use crate::targets::{resume_dereferenced, resume_index_target};
 use crate::tracing::{told_loop, told_turn};
 use crate::values::integer_of;
-use crate::wide::resume_third;
+use crate::wide::{resume_third, resume_wait};
 use aml_convert::is_true;
 use aml_meaning::{Flow, Running};
 use ar_space::{EvaluationFault, Refusal, Space};
@@ -275,5 +275,6 @@ pub fn resume<S: Space>(
         Frame::Counted(count, counted) => resume_counted(alloc, run, act, count, counted, flow),
         Frame::Match(levels, part) => resume_match(alloc, run, act, levels, part, flow),
         Frame::Matched(searching) => resume_matched(alloc, run, act, searching, flow),
+        Frame::Wait(event) => resume_wait(run, act, event, flow),
     }
 }

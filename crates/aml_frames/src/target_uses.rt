@@ -73,6 +73,15 @@ pub(crate) fn use_target<S: Space>(
             begin_found(run, act, levels, found)
         }
         TargetUse::Notify(levels) => Ok(Next::Term(levels, Frame::Pause)),
+        TargetUse::Event(change) => {
+            let event = run.world.event_named(&target)?;
+            run.world.change_event(change, event)?;
+            Ok(Next::Flow(Flow::Next))
+        }
+        TargetUse::Wait(levels) => {
+            let event = run.world.event_named(&target)?;
+            Ok(Next::Term(levels, Frame::Wait(event)))
+        }
     }
 }
 

@@ -2,7 +2,7 @@
 ghost use Rattle.std.specs.Prelude.{◌≡◌};
 ghost use Rattle.aml_frames.specs.Uses.{super, optional};
 
-use aml_meaning::{Conversion, Count, OneOperand, RegionField, Test, TwoOperands};
+use aml_meaning::{Conversion, Count, EventChange, OneOperand, RegionField, Test, TwoOperands};
 use aml_objects::{Field, Octets, Value};
 use ar_space::Width;
 
@@ -111,6 +111,10 @@ pub enum TargetUse {
     CondRefOf(u8),
     /// Notify, whose value stands next, with so many levels.
     Notify(u8),
+    /// Signal and Reset.
+    Event(EventChange),
+    /// Wait, whose timeout stands next, with so many levels.
+    Wait(u8),
 }
 
 /// What the bits of a field are read as.

@@ -1,5 +1,6 @@
 //! Terms of the wide profile (ACPI 6.5, 19.6 and 20.2.5.4). The operands stand next.
 ghost use Rattle.std.specs.Prelude.{◌≡◌, ◌≤◌, ◌<◌, ◌+◌, ◌*◌, IfOk};
+ghost use Rattle.ar_space.specs.Outcome.{NotMemory};
 ghost use Rattle.aml_meaning.specs.Meaning.{meaning};
 ghost use Rattle.aml_frames.specs.declared.frames.Frame.TheVariants as frames;
 ghost use Rattle.aml_frames.specs.Follow.{asked_run, wide_run, behind_wide_at, resumed, ends, Leads, EndsAt};
@@ -38,7 +39,7 @@ pub(crate) fn begin_wide<S: Space>(
 }
 
 /// A term of the wide profile, in a world of that profile: its first operand is evaluated.
-#[tactic(auto, using(crate::proofs::Using::using_targets, crate::proofs::Knowing::going_on))]
+#[tactic(auto, using(crate::proofs::Using::using_targets, crate::proofs::Knowing::going_on, crate::proofs::WideSteps::beginning_events))]
 fn begin_asked<S: Space>(
     alloc: Global,
     run: &mut Running<S>,
@@ -59,6 +60,14 @@ fn begin_asked<S: Space>(
         WideKind::ToString => begin_dyadic(alloc, run, act, Dyadic::ToString, levels),
         WideKind::Mid => begin_dyadic(alloc, run, act, Dyadic::Mid, levels),
         WideKind::Match => begin_match(alloc, run, act, levels),
+        WideKind::Event(change) => {
+            let event = Target::super_name(levels);
+            begin_target(alloc, run, act, event, TargetUse::Event(change))
+        }
+        WideKind::Wait => {
+            let event = Target::super_name(levels);
+            begin_target(alloc, run, act, event, TargetUse::Wait(levels))
+        }
     }
 }
 
@@ -88,4 +97,24 @@ pub(crate) fn resume_third<S: Space>(
         Target::optional(levels),
         TargetUse::Store(result),
     )
+}
+
+/// A Wait whose timeout was evaluated, for the event that its operand names.
+#[tactic(auto, using(crate::proofs::Stepping::stepping))]
+pub(crate) fn resume_wait<S: Space>(
+    run: &mut Running<S>,
+    act: &mut Activation,
+    event: Option<u64>,
+    flow: Flow,
+) -> Result<Next, Refusal>
+    ensures spent { run.new.1 ≤ run.old.1 }
+    ensures falls { IfOk result (λ n. next_weight n < 6) }
+    ensures memory { NotMemory result }
+    ensures means { Leads S.accesses (meaning S.accesses) result act.new run.new
+        (resumed S.accesses (meaning S.accesses) (frames.Wait event) act.old flow) run.old }
+    ensures ends { EndsAt result act.new act.old }
+{
+    let timeout = flow.value()?;
+    let value = run.world.wait(event, timeout)?;
+    Ok(Next::Flow(Flow::Value(value)))
 }

@@ -100,7 +100,7 @@ module _ {S : Type 0} where
   unfolding frame_number
   frame_number_counts k = direct_counts _ _ (λ w. refl) (λ w. refl)
 
-  declared_number_counts : (q : List Seg) → Counts {S = S} (declared_number q) (declared_number q)
+  pub declared_number_counts : (q : List Seg) → Counts {S = S} (declared_number q) (declared_number q)
   unfolding declared_number
   declared_number_counts q = direct_counts _ _ (λ w. refl) (λ w. refl)
 
@@ -161,7 +161,7 @@ module _ {S : Type 0} where
     element_named_counts n (object.OperationRegion r) = follows (reference.Name n)
     element_named_counts n (object.BufferField b) = give_counts _
     element_named_counts n (object.Mutex c) = follows (reference.Name n)
-    element_named_counts n object.Event = follows (reference.Name n)
+    element_named_counts n (object.Event c) = follows (reference.Name n)
     element_named_counts n (object.Alias q) = follows (reference.Name n)
 
     name_followed_counts : (n : Name) (scope : List Seg) → Counts {S = S} (name_followed follow n scope) (name_followed uncounted n scope)

@@ -34,6 +34,7 @@ use Rattle.aml_laws.proofs.CountedOperations.{integer_in_counts}
 use Rattle.aml_laws.proofs.CountedStoreTargets.{held_at_counts, declaration_counts, copy_into_name_counts, store_over_value_counts, store_in_slot_counts, store_to_counts}
 use Rattle.aml_laws.proofs.CountedCalls.{value_at_counts, two_values_counts, completed_counts}
 use Rattle.aml_laws.proofs.CountedMatches.{match_rule_counts}
+use Rattle.aml_laws.proofs.CountedEvents.{event_rule_counts, wait_rule_counts}
 
 module _ {S : Type 0} where
   decoded_in_counts : (v : Value) → Counts {S = S} (decoded_in v) (decoded_in v)
@@ -173,6 +174,8 @@ module _ {S : Type 0} (accesses : Accesses S) (ev : Task → Run (S × ℕ) Flow
   wide_rule_counts wides.ToString scope depth t = to_string_rule_counts scope depth t
   wide_rule_counts wides.Mid scope depth t = middle_rule_counts scope depth t
   wide_rule_counts wides.Match scope depth t = match_rule_counts accesses ev uncounted parts scope depth t
+  wide_rule_counts (wides.Event k) scope depth t = event_rule_counts accesses ev uncounted parts aimed k scope depth t
+  wide_rule_counts wides.Wait scope depth t = wait_rule_counts accesses ev uncounted parts aimed scope depth t
 
   -- the profile is asked first
   pub in_wide_counts : (op : Opcode) (k : WideKind) (scope : List Seg) (depth : ℕ) (t : Tree) → RunCounts {S = S} (in_wide op (wide_rule (beside_counter accesses) ev k scope depth t)) (in_wide op (wide_rule accesses uncounted k scope depth t))

@@ -112,7 +112,7 @@ module _ {S : Type 0} {accesses : Accesses S} where
   unfolding frame_number
   frame_number_explains k = direct_explains _ (λ w. number_in_frame_clean (slice_get w.frames k)) (λ w. refl)
 
-  declared_number_explains : (q : List Seg) → WorldExplains accesses (declared_number q)
+  pub declared_number_explains : (q : List Seg) → WorldExplains accesses (declared_number q)
   unfolding declared_number
   declared_number_explains q = direct_explains _ (λ w. number_in_entry_clean (get w.names.map q)) (λ w. refl)
 
@@ -173,7 +173,7 @@ module _ {S : Type 0} {accesses : Accesses S} where
     element_named_explains n (object.OperationRegion r) = follows (reference.Name n)
     element_named_explains n (object.BufferField b) = give_explains _
     element_named_explains n (object.Mutex c) = follows (reference.Name n)
-    element_named_explains n object.Event = follows (reference.Name n)
+    element_named_explains n (object.Event c) = follows (reference.Name n)
     element_named_explains n (object.Alias q) = follows (reference.Name n)
 
     name_followed_explains : (n : Name) (scope : List Seg) → WorldExplains accesses (name_followed follow n scope)

@@ -45,6 +45,7 @@ use Rattle.aml_laws.proofs.FaultsOfOperations.{integer_in_explains}
 use Rattle.aml_laws.proofs.FaultsOfStoreTargets.{held_at_explains, declaration_explains, copy_into_name_explains, store_over_value_explains, store_in_slot_explains, store_to_explains}
 use Rattle.aml_laws.proofs.FaultsOfCalls.{value_at_explains, two_values_explains, completed_explains}
 use Rattle.aml_laws.proofs.FaultsOfMatches.{match_rule_explains}
+use Rattle.aml_laws.proofs.FaultsOfEvents.{event_rule_explains, wait_rule_explains}
 
 decoded_decimal_clean : (n : ℕ) → Clean (decoded_decimal n)
 decoded_decimal_clean n = if_clean (is_coded_decimal n) _ _ tt tt
@@ -221,6 +222,8 @@ module _ {S : Type 0} (accesses : Accesses S) (ev : Task → Run S Flow) (parts 
   wide_rule_explains wides.ToString scope depth t = to_string_rule_explains scope depth t
   wide_rule_explains wides.Mid scope depth t = middle_rule_explains scope depth t
   wide_rule_explains wides.Match scope depth t = match_rule_explains accesses ev parts scope depth t
+  wide_rule_explains (wides.Event k) scope depth t = event_rule_explains accesses ev parts aimed k scope depth t
+  wide_rule_explains wides.Wait scope depth t = wait_rule_explains accesses ev parts aimed scope depth t
 
   -- the profile is asked first
   pub in_wide_explains : (op : Opcode) (k : WideKind) (scope : List Seg) (depth : ℕ) (t : Tree) → RunExplains accesses (in_wide op (wide_rule accesses ev k scope depth t))

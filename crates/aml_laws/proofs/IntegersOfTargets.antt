@@ -144,7 +144,7 @@ module _ (S : Type 0) (width : IntegerWidth) where
   unfolding slot_held
   slot_held_maintains k slot = record { maintains = λ w i. settled_maintained _ w i (λ v e. slot_found_fits width slot (slice_get w.frames k) v (λ f at. each_at (FrameFits width) w.frames k f i.frames at) e) }
 
-  own_slot_maintains : (slot : Slot) → Maintains (WorldWithin S width) (WithinWidth width) (own_slot slot)
+  pub own_slot_maintains : (slot : Slot) → Maintains (WorldWithin S width) (WithinWidth width) (own_slot slot)
   unfolding own_slot
   own_slot_maintains slot = then_maintains _ _ latest_frame_maintains (λ k u. slot_held_maintains k slot)
 

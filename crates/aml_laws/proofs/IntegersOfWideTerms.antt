@@ -58,6 +58,7 @@ use Rattle.aml_laws.proofs.IntegersOfWorlds.{WorldWithin, content_in_fits, conte
 use Rattle.aml_laws.proofs.IntegersOfTargets.{HoldingFits, StoredFits, holding_of_fits, held_at_maintains, declaration_maintains, copy_into_name_maintains, store_over_value_maintains, store_in_slot_maintains, store_to_maintains}
 use Rattle.aml_laws.proofs.IntegersOfFields.{RunWithin, lift_maintains}
 use Rattle.aml_laws.proofs.IntegersOfOperands.{FlowFits, value_at_maintains, two_values_maintains, completed_maintains}
+use Rattle.aml_laws.proofs.IntegersOfEvents.{event_rule_maintains, wait_rule_maintains}
 use Rattle.aml_laws.proofs.IntegersOfMatches.{match_rule_maintains}
 
 -- ---- binary coded decimal
@@ -289,6 +290,8 @@ module _ (S : Type 0) (width : IntegerWidth) (accesses : Accesses S) (ev : Task 
   wide_rule_maintains wides.ToString scope depth t h = then_maintains _ _ (two_values_maintains S width accesses ev parts scope depth t h) (λ x f. then_maintains _ _ (lift_maintains S width _ (string_in_maintains S width x.0 x.1 f.0)) (λ r g. formed_at_maintains scope depth t 2 r h g))
   wide_rule_maintains wides.Mid scope depth t h = then_maintains _ _ (two_values_maintains S width accesses ev parts scope depth t h) (λ x f. then_maintains _ _ (value_at_maintains S width accesses ev parts scope depth t 2 h) (λ n j. then_maintains _ _ (lift_maintains S width _ (middle_in_maintains S width x.0 x.1 n f.0)) (λ r g. stores scope depth t 3 r h g)))
   wide_rule_maintains wides.Match scope depth t h = match_rule_maintains S width accesses ev parts scope depth t h
+  wide_rule_maintains (wides.Event k) scope depth t h = event_rule_maintains S width accesses ev parts aimed k scope depth t h
+  wide_rule_maintains wides.Wait scope depth t h = wait_rule_maintains S width accesses ev parts aimed scope depth t h
 
   -- the profile is asked first
   pub in_wide_maintains : (op : Opcode) (k : WideKind) (scope : List Seg) (depth : ℕ) (t : Tree) → PlainTree t → Maintains (RunWithin S width) (FlowFits width) (in_wide op (wide_rule accesses ev k scope depth t))

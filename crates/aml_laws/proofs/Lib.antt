@@ -25,6 +25,7 @@ pub mod CountNeverFalls
 pub mod CountedCalls
 pub mod CountedChanges
 pub mod CountedEvaluations
+pub mod CountedEvents
 pub mod CountedFields
 pub mod CountedOperations
 pub mod CountedRules
@@ -38,9 +39,12 @@ pub mod DeclaredNamesStand
 pub mod EndOfCalls
 pub mod EvaluationsPreserve
 pub mod EvaluationsTogether
+pub mod EventsPreserve
+pub mod EventsTogether
 pub mod FaultsOfCalls
 pub mod FaultsOfChanges
 pub mod FaultsOfEvaluations
+pub mod FaultsOfEvents
 pub mod FaultsOfFields
 pub mod FaultsOfLoops
 pub mod FaultsOfOperations
@@ -58,6 +62,7 @@ pub mod HandedBack
 pub mod IntegersInStrings
 pub mod IntegersOfAnswers
 pub mod IntegersOfContents
+pub mod IntegersOfEvents
 pub mod IntegersOfFields
 pub mod IntegersOfObjects
 pub mod IntegersOfOperands

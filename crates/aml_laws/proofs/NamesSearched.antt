@@ -32,7 +32,7 @@ stands_for_itself m f (object.OperationRegion r) e = refl
 stands_for_itself m f (object.FieldUnit u) e = refl
 stands_for_itself m f (object.BufferField b) e = refl
 stands_for_itself m f (object.Mutex n) e = refl
-stands_for_itself m f object.Event e = refl
+stands_for_itself m f (object.Event n) e = refl
 
 is_no_alias : (f : Found) (o : NamedObject) → aliased o ≡ None → no_alias f o ≡ Ok f
 is_no_alias f (object.Alias t) e = absurd (cc e)
@@ -47,7 +47,7 @@ is_no_alias f (object.OperationRegion r) e = refl
 is_no_alias f (object.FieldUnit u) e = refl
 is_no_alias f (object.BufferField b) e = refl
 is_no_alias f (object.Mutex n) e = refl
-is_no_alias f object.Event e = refl
+is_no_alias f (object.Event n) e = refl
 
 -- an alias is one
 is_alias : (o : NamedObject) (t : List Seg) → aliased o ≡ Some t → o ≡ object.Alias t
@@ -63,7 +63,7 @@ is_alias (object.OperationRegion r) t e = absurd (cc e)
 is_alias (object.FieldUnit u) t e = absurd (cc e)
 is_alias (object.BufferField b) t e = absurd (cc e)
 is_alias (object.Mutex n) t e = absurd (cc e)
-is_alias object.Event t e = absurd (cc e)
+is_alias (object.Event n) t e = absurd (cc e)
 
 at_target : (m : Map) (at : List Seg) (o : Option Entry) → get m at ≡ o → target_of (at_path m at) ≡ target_of (option_map (λ e. (at, e)) o)
 at_target m at o e = ap (λ x. target_of (option_map (λ e. (at, e)) x)) e

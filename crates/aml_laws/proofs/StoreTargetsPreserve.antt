@@ -120,7 +120,7 @@ module _ {S : Type 0} {accesses : Accesses S} {relation : WorldRelation accesses
   unfolding frame_number
   frame_number_preserves k = unchanged_preserves _ (λ w. refl)
 
-  declared_number_preserves : (q : List Seg) → Preserves relation (declared_number q)
+  pub declared_number_preserves : (q : List Seg) → Preserves relation (declared_number q)
   unfolding declared_number
   declared_number_preserves q = unchanged_preserves _ (λ w. refl)
 
@@ -181,7 +181,7 @@ module _ {S : Type 0} {accesses : Accesses S} {relation : WorldRelation accesses
     element_named_preserves n (object.OperationRegion r) = follows (reference.Name n)
     element_named_preserves n (object.BufferField b) = give_preserves _
     element_named_preserves n (object.Mutex c) = follows (reference.Name n)
-    element_named_preserves n object.Event = follows (reference.Name n)
+    element_named_preserves n (object.Event c) = follows (reference.Name n)
     element_named_preserves n (object.Alias q) = follows (reference.Name n)
 
     name_followed_preserves : (n : Name) (scope : List Seg) → Preserves relation (name_followed follow n scope)

@@ -102,7 +102,7 @@ module _ {S T : Type 0} {accesses : Accesses S} {accesses2 : Accesses T} {side :
   unfolding frame_number
   frame_number_together k = plain (λ w. refl) (λ w. refl) (λ w t. refl)
 
-  declared_number_together : (q : List Seg) → Together side worlds (declared_number q) (declared_number q)
+  pub declared_number_together : (q : List Seg) → Together side worlds (declared_number q) (declared_number q)
   unfolding declared_number
   declared_number_together q = plain (λ w. refl) (λ w. refl) (λ w t. refl)
 
@@ -163,7 +163,7 @@ module _ {S T : Type 0} {accesses : Accesses S} {accesses2 : Accesses T} {side :
     element_named_together n (object.OperationRegion r) = follows (reference.Name n)
     element_named_together n (object.BufferField b) = give_together _
     element_named_together n (object.Mutex c) = follows (reference.Name n)
-    element_named_together n object.Event = follows (reference.Name n)
+    element_named_together n (object.Event c) = follows (reference.Name n)
     element_named_together n (object.Alias q) = follows (reference.Name n)
 
     name_followed_together : (n : Name) (scope : List Seg) → Together side worlds (name_followed follow n scope) (name_followed follow2 n scope)

@@ -34,6 +34,7 @@ use Rattle.aml_laws.proofs.ChangesPreserve.{integer_in_preserves, made_of_keeps_
 use Rattle.aml_laws.proofs.StoreTargetsPreserve.{held_at_preserves, declaration_preserves, copy_into_name_preserves, store_over_value_preserves, store_in_slot_preserves, store_to_preserves}
 use Rattle.aml_laws.proofs.OperandsAndCallsPreserve.{value_at_preserves, two_values_preserves, completed_preserves}
 use Rattle.aml_laws.proofs.MatchesPreserve.{match_rule_preserves}
+use Rattle.aml_laws.proofs.EventsPreserve.{event_rule_preserves, wait_rule_preserves}
 
 module _ {S : Type 0} {accesses : Accesses S} {relation : WorldRelation accesses} where
   decoded_in_preserves : (v : Value) → Preserves relation (decoded_in v)
@@ -173,6 +174,8 @@ module _ {S : Type 0} {accesses : Accesses S} {relation : WorldRelation accesses
   wide_rule_preserves wides.ToString scope depth t = to_string_rule_preserves scope depth t
   wide_rule_preserves wides.Mid scope depth t = middle_rule_preserves scope depth t
   wide_rule_preserves wides.Match scope depth t = match_rule_preserves ev parts scope depth t
+  wide_rule_preserves (wides.Event k) scope depth t = event_rule_preserves ev parts aimed k scope depth t
+  wide_rule_preserves wides.Wait scope depth t = wait_rule_preserves ev parts aimed scope depth t
 
   -- the profile is asked first
   pub in_wide_preserves : (op : Opcode) (k : WideKind) (scope : List Seg) (depth : ℕ) (t : Tree) → RunPreserves relation (in_wide op (wide_rule accesses ev k scope depth t))

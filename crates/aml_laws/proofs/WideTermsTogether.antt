@@ -42,6 +42,7 @@ use Rattle.aml_laws.proofs.ChangesTogether.{integer_in_together}
 use Rattle.aml_laws.proofs.StoreTargetsTogether.{held_at_together, declaration_together, copy_into_name_together, store_over_value_together, store_in_slot_together, store_to_together}
 use Rattle.aml_laws.proofs.OperandsTogether.{value_at_together, two_values_together, completed_together}
 use Rattle.aml_laws.proofs.MatchesTogether.{match_rule_together}
+use Rattle.aml_laws.proofs.EventsTogether.{event_rule_together, wait_rule_together}
 
 -- a profile that is asked for is the same on both sides, or the likeness ends
 asked_comes : {S T : Type 0} {accesses : Accesses S} {accesses2 : Accesses T} (side : Sides accesses accesses2) (op : Opcode) (w : State S) (t : T) (p : Profile) → w.profile ≡ p → (side.raise profiles.Core ≡ profiles.Core) ⊎ ((e : Refusal) → LeftOut e → side.Ends e) → side.beside.InStep w.space t
@@ -192,6 +193,8 @@ module _ {S T : Type 0} {accesses : Accesses S} {accesses2 : Accesses T} {side :
   wide_rule_together wides.ToString scope depth t = to_string_rule_together scope depth t
   wide_rule_together wides.Mid scope depth t = middle_rule_together scope depth t
   wide_rule_together wides.Match scope depth t = match_rule_together parts scope depth t
+  wide_rule_together (wides.Event k) scope depth t = event_rule_together parts aimed k scope depth t
+  wide_rule_together wides.Wait scope depth t = wait_rule_together parts aimed scope depth t
 
   -- the profile is asked first
   pub in_wide_together : (op : Opcode) (k : WideKind) (scope : List Seg) (depth : ℕ) (t : Tree) → Together side runs (in_wide op (wide_rule accesses ev k scope depth t)) (in_wide op (wide_rule accesses2 ev2 k scope depth t))

@@ -59,9 +59,10 @@ use Rattle.aml_meaning.proofs.AgreeFields.{agree_field_value, agree_field_intege
 use Rattle.aml_meaning.specs.declared.term_kind.WideKind.{WideKind}
 use Rattle.aml_meaning.specs.declared.term_kind.WideKind.TheVariants as wides
 use Rattle.aml_meaning.specs.declared.term_kind.Conversion.{Conversion}
+use Rattle.aml_meaning.specs.declared.term_kind.EventChange.{EventChange}
 use Rattle.aml_meaning.specs.declared.searches.Search.{Search}
 use Rattle.aml_meaning.specs.MatchTerms.{held_meets, if_held, element_meets, found_or, none_matches, searched_last, match_rule}
-use Rattle.aml_meaning.specs.WideTerms.{formed_at, convert_rule, to_string_rule, middle_rule, wide_rule}
+use Rattle.aml_meaning.specs.WideTerms.{formed_at, convert_rule, to_string_rule, middle_rule, event_rule, wait_rule, wide_rule}
 use Rattle.aml_meaning.specs.Evaluation.{kind_rule, code_rule, rule}
 
 module _ {S : Type 0} {n : ℕ} (accesses : Accesses S) (ev ew : Task → Run S Flow) (parts : (t : Task) → Agree n (ev t) (ew t)) where
@@ -589,11 +590,21 @@ module _ {S : Type 0} {n : ℕ} (accesses : Accesses S) (ev ew : Task → Run S 
       agree_bind _ _ _ _ (agree_value_at scope depth t 0) (λ p. agree_bind _ _ _ _ (agree_settle _) (λ k. agree_bind _ _ _ _ (agree_value_at scope depth t 2) (λ a. agree_bind _ _ _ _ (agree_settle _) (λ l. agree_bind _ _ _ _ (agree_value_at scope depth t 4) (λ b.
       agree_bind _ _ _ _ (agree_value_at scope depth t 5) (λ i. agree_bind _ _ _ _ (agree_lift _) (λ x. agree_searched depth x.search x.left)))))))
 
+  agree_event : (k : EventChange) (scope : List Seg) (depth : ℕ) (t : Tree) → Agree n (event_rule accesses ev k scope depth t) (event_rule accesses ew k scope depth t)
+  unfolding event_rule
+  agree_event k scope depth t = agree_bind _ _ _ _ (agree_target scope depth t 0) (λ p. agree_bind _ _ _ _ (agree_lift _) (λ e. agree_bind _ _ _ _ (agree_lift _) (λ done. agree_give _)))
+
+  agree_wait : (scope : List Seg) (depth : ℕ) (t : Tree) → Agree n (wait_rule accesses ev scope depth t) (wait_rule accesses ew scope depth t)
+  unfolding wait_rule
+  agree_wait scope depth t = agree_bind _ _ _ _ (agree_target scope depth t 0) (λ p. agree_bind _ _ _ _ (agree_lift _) (λ e. agree_bind _ _ _ _ (agree_value_at scope depth t 1) (λ v. agree_bind _ _ _ _ (agree_lift _) (λ r. agree_give _))))
+
   agree_wide : (k : WideKind) (scope : List Seg) (depth : ℕ) (t : Tree) → Agree n (wide_rule accesses ev k scope depth t) (wide_rule accesses ew k scope depth t)
   agree_wide (wides.Convert k) scope depth t = agree_convert k scope depth t
   agree_wide wides.ToString scope depth t = agree_to_string scope depth t
   agree_wide wides.Mid scope depth t = agree_middle scope depth t
   agree_wide wides.Match scope depth t = agree_match scope depth t
+  agree_wide (wides.Event k) scope depth t = agree_event k scope depth t
+  agree_wide wides.Wait scope depth t = agree_wait scope depth t
 
   -- ---- which rule
 

@@ -83,7 +83,7 @@ count_decided m object.PowerResource = refl
 count_decided m object.ThermalZone = refl
 count_decided m (object.OperationRegion r) = refl
 count_decided m (object.Mutex c) = refl
-count_decided m object.Event = refl
+count_decided m (object.Event c) = refl
 
 module _ (m n : Map) (same : (q : List Seg) → option_map deciding (get m q) ≡ option_map deciding (get n q)) where
   target_same : (a b : Option Entry) → option_map deciding a ≡ option_map deciding b → count_of_entry a ≡ count_of_entry b
@@ -132,7 +132,7 @@ released_decided e = by e.object
     by object.PowerResource = refl
     by object.ThermalZone = refl
     by (object.OperationRegion r) = refl
-    by object.Event = refl
+    by (object.Event c) = refl
 
 released_entry : (o : Option Entry) → option_map deciding (option_map entry_released o) ≡ option_map deciding o
 released_entry None = refl
@@ -156,7 +156,7 @@ plain_decided object.Processor h = refl
 plain_decided object.PowerResource h = refl
 plain_decided object.ThermalZone h = refl
 plain_decided (object.OperationRegion r) h = refl
-plain_decided object.Event h = refl
+plain_decided (object.Event c) h = refl
 
 module _ (p : List Seg) (o : NamedObject) (plain : is_plain o ≡ true) (told : List Arity) where
   put_decided : (m : Map) (e : Entry) → get m p ≡ Some e → is_plain e.object ≡ true → (q : List Seg) (b : Bool) → eq_by_cmp path_cmp q p ≡ b

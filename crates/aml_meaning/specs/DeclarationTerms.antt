@@ -79,4 +79,4 @@ module _ {S : Type 0} (ev : Task → Run S Flow) where
   declaration_rule kinds.External scope depth t = give flow.Next
   declaration_rule kinds.Method scope depth t = method_rule scope depth t
   declaration_rule kinds.Mutex scope depth t = declaring scope depth t 0 (object.Mutex 0)
-  declaration_rule kinds.Event scope depth t = declaring scope depth t 0 object.Event
+  declaration_rule kinds.Event scope depth t = declaring scope depth t 0 (object.Event 0)

@@ -53,7 +53,7 @@ invocation_of_object p n object.PowerResource = Ok (invocation.Value (value.Refe
 invocation_of_object p n object.ThermalZone = Ok (invocation.Value (value.Reference (reference.Name n)))
 invocation_of_object p n (object.OperationRegion r) = Ok (invocation.Value (value.Reference (reference.Name n)))
 invocation_of_object p n (object.Mutex c) = Ok (invocation.Value (value.Reference (reference.Name n)))
-invocation_of_object p n object.Event = Ok (invocation.Value (value.Reference (reference.Name n)))
+invocation_of_object p n (object.Event c) = Ok (invocation.Value (value.Reference (reference.Name n)))
 invocation_of_object p n (object.Alias q) = Ok (invocation.Value (value.Reference (reference.Name n)))
 
 abbrev pub invocation_of : Outcome (List Seg × Entry) → Outcome Invocation

@@ -4,6 +4,7 @@ pub mod DeclarationTerms
 pub mod Declaring
 pub mod Drafted
 pub mod Evaluation
+pub mod Events
 pub mod Exporting
 pub mod FieldCalls
 pub mod FieldTerms

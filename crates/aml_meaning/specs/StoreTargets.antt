@@ -297,7 +297,7 @@ referent_of (object.OperationRegion r) = referent.Object types.OperationRegion
 referent_of (object.FieldUnit u) = referent.Object types.FieldUnit
 referent_of (object.BufferField b) = referent.Object types.BufferField
 referent_of (object.Mutex n) = referent.Object types.Mutex
-referent_of object.Event = referent.Object types.Event
+referent_of (object.Event n) = referent.Object types.Event
 referent_of (object.Alias p) = referent.Object types.Uninitialized
 
 -- a byte of a string or a buffer is a buffer field

@@ -40,6 +40,7 @@ use Rattle.aml_meaning.specs.declared.term_kind.Count.TheVariants as counts
 use Rattle.aml_meaning.specs.declared.term_kind.WideKind.{WideKind}
 use Rattle.aml_meaning.specs.declared.term_kind.WideKind.TheVariants as wide
 use Rattle.aml_meaning.specs.declared.term_kind.Conversion.TheVariants as conversions
+use Rattle.aml_meaning.specs.declared.term_kind.EventChange.TheVariants as changes
 
 -- data
 abbrev pub data_kind : Opcode → Option DataKind
@@ -186,6 +187,9 @@ wide_kind opcodes.ToBcd = Some (wide.Convert conversions.ToDecimal)
 wide_kind opcodes.ToString = Some wide.ToString
 wide_kind opcodes.Mid = Some wide.Mid
 wide_kind opcodes.Match = Some wide.Match
+wide_kind opcodes.Signal = Some (wide.Event changes.Signal)
+wide_kind opcodes.Reset = Some (wide.Event changes.Reset)
+wide_kind opcodes.Wait = Some wide.Wait
 wide_kind _ = None
 
 -- the kind of a term: one of those above, or it is not evaluated

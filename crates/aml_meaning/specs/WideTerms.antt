@@ -11,6 +11,7 @@ use Rattle.aml_meaning.specs.declared.flow.Flow.TheVariants as flow
 use Rattle.aml_meaning.specs.declared.term_kind.WideKind.{WideKind}
 use Rattle.aml_meaning.specs.declared.term_kind.WideKind.TheVariants as kinds
 use Rattle.aml_meaning.specs.declared.term_kind.Conversion.{Conversion}
+use Rattle.aml_meaning.specs.declared.term_kind.EventChange.{EventChange}
 use Rattle.aml_meaning.specs.Run.{Run, lift}
 use Rattle.aml_meaning.specs.Profiles.{asked_for}
 use Rattle.aml_meaning.specs.Tasks.{Task, value_at, two_values}
@@ -19,6 +20,7 @@ use Rattle.aml_meaning.specs.FieldCalls.{completed}
 use Rattle.aml_meaning.specs.WideOperations.{converted, string_in, middle_in}
 use Rattle.aml_meaning.specs.FormedStores.{formed_to}
 use Rattle.aml_meaning.specs.MatchTerms.{match_rule}
+use Rattle.aml_meaning.specs.Events.{event_named, event_changed, waited}
 
 abbrev pub in_wide : {S : Type 0} → Opcode → Run S Flow → Run S Flow
 in_wide op m = lift (asked_for op) >> m
@@ -52,8 +54,27 @@ module _ {S : Type 0} (accesses : Accesses S) (ev : Task → Run S Flow) where
     r ← lift (middle_in x.0 x.1 n)
     targeted accesses ev scope depth t 3 r
 
+  -- Signal and Reset
+  unfoldable pub event_rule : EventChange → List Seg → ℕ → Tree → Run S Flow
+  event_rule k scope depth t = do
+    p ← target_at ev scope depth t 0
+    e ← lift (event_named p)
+    done ← lift (event_changed k e)
+    give flow.Next
+
+  -- Wait: its event is found before its timeout is evaluated
+  unfoldable pub wait_rule : List Seg → ℕ → Tree → Run S Flow
+  wait_rule scope depth t = do
+    p ← target_at ev scope depth t 0
+    e ← lift (event_named p)
+    v ← value_at ev scope depth t 1
+    r ← lift (waited e v)
+    give (flow.Value r)
+
   abbrev pub wide_rule : WideKind → List Seg → ℕ → Tree → Run S Flow
   wide_rule (kinds.Convert k) scope depth t = convert_rule k scope depth t
   wide_rule kinds.ToString scope depth t = to_string_rule scope depth t
   wide_rule kinds.Mid scope depth t = middle_rule scope depth t
   wide_rule kinds.Match scope depth t = match_rule accesses ev scope depth t
+  wide_rule (kinds.Event k) scope depth t = event_rule k scope depth t
+  wide_rule kinds.Wait scope depth t = wait_rule scope depth t

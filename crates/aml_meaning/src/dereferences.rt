@@ -38,7 +38,7 @@ impl<S> WorldState<S> {
     }
 
     #[tactic(auto, using(ar_space::specs::Change::changing, crate::proofs::Declared::declared), unfolding(crate::specs::StoreTargets::name_tested))]
-    fn test_name(&self, number: u64) -> Result<(), Refusal>
+    pub(crate) fn test_name(&self, number: u64) -> Result<(), Refusal>
         ensures answer { Does result self.now (name_tested number) self.now }
         ensures memory { NotMemory result }
     {
@@ -193,7 +193,7 @@ impl<S> WorldState<S> {
 
     /// The number of the declaration at a path.
     #[tactic(auto, unfolding(crate::specs::StoreTargets::declared_number))]
-    fn declared_number(&self, path: &Located) -> Result<u64, Refusal>
+    pub(crate) fn declared_number(&self, path: &Located) -> Result<u64, Refusal>
         ensures answer { Does result self.now (declared_number path.now) self.now }
         ensures memory { NotMemory result }
     {

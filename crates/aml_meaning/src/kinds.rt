@@ -8,8 +8,8 @@ ghost use Rattle.aml_meaning.specs.Terms.{target_kind_of, target_kind};
 
 use crate::store_target::TargetKind;
 use crate::term_kind::{
-    BufferFieldSize, Conversion, Count, DataKind, DeclarationKind, OneOperand, OperatorKind,
-    RegionKind, StatementKind, TermKind, Test, TwoOperands, WideKind,
+    BufferFieldSize, Conversion, Count, DataKind, DeclarationKind, EventChange, OneOperand,
+    OperatorKind, RegionKind, StatementKind, TermKind, Test, TwoOperands, WideKind,
 };
 use aml_convert::{BinaryOperator, Comparison, LogicalOperator, UnaryOperator};
 use aml_grammar::{Opcode, TermCode};
@@ -221,6 +221,9 @@ fn wide_kind(opcode: Opcode) -> Option<WideKind>
         Opcode::ToString => Some(WideKind::ToString),
         Opcode::Mid => Some(WideKind::Mid),
         Opcode::Match => Some(WideKind::Match),
+        Opcode::Signal => Some(WideKind::Event(EventChange::Signal)),
+        Opcode::Reset => Some(WideKind::Event(EventChange::Reset)),
+        Opcode::Wait => Some(WideKind::Wait),
         _ => None,
     }
 }

@@ -7,6 +7,7 @@ mod buffer_fields;
 mod datum;
 mod declarations;
 mod dereferences;
+mod events;
 mod field_layout;
 mod flow;
 mod formed_stores;
@@ -64,8 +65,8 @@ pub use running::Running;
 pub use searches::{MatchTest, Search, Searching};
 pub use store_target::{Held, Holding, StoreTarget, Stored, TargetKind};
 pub use term_kind::{
-    BufferFieldSize, Conversion, Count, DataKind, DeclarationKind, OneOperand, OperatorKind,
-    RegionKind, StatementKind, TermKind, Test, TwoOperands, WideKind,
+    BufferFieldSize, Conversion, Count, DataKind, DeclarationKind, EventChange, OneOperand,
+    OperatorKind, RegionKind, StatementKind, TermKind, Test, TwoOperands, WideKind,
 };
 pub use trace::{Trace, TraceName, TracePlace};
 pub use world::World;

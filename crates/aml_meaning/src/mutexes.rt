@@ -204,7 +204,7 @@ fn count_of(object: &NamedObject) -> Result<u64, Refusal>
     }
 }
 
-fn once_more(count: u64) -> Result<u64, Refusal>
+pub(crate) fn once_more(count: u64) -> Result<u64, Refusal>
     ensures answer { Answers result (once_more count) }
     ensures memory { NotMemory result }
 {

@@ -3,11 +3,10 @@
 /// What a world evaluates, and what a machine takes of its resources.
 #[derive(Clone, Copy, Debug, PartialEq, Eq)]
 pub enum Profile {
-    /// The default. Match, ToDecimalString, ToHexString, ToString, Mid, FromBCD, ToBCD, and lists of fields with a
-    /// Connection are refused as `Unsupported`, exclusive offers as `Exclusive`, and a `_HID` that is a control method
-    /// as `NotALink`.
+    /// The default. Match, ToDecimalString, ToHexString, ToString, Mid, FromBCD, ToBCD, Signal, Wait, Reset, and lists
+    /// of fields with a Connection are refused as `Unsupported`, exclusive offers as `Exclusive`, and a `_HID` that is
+    /// a control method as `NotALink`.
     Core,
-    /// These are evaluated, taken and called. Signal, Wait, Reset, Timer, Load, LoadTable, BankField and DataRegion stay
-    /// `Unsupported`.
+    /// These are evaluated, taken and called. Timer, Load, LoadTable, BankField and DataRegion stay `Unsupported`.
     Wide,
 }

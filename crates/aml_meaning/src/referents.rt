@@ -90,7 +90,7 @@ fn referent_of(object: &NamedObject) -> Referent
         NamedObject::FieldUnit(_) => Referent::Object(ObjectType::FieldUnit),
         NamedObject::BufferField(_) => Referent::Object(ObjectType::BufferField),
         NamedObject::Mutex(_) => Referent::Object(ObjectType::Mutex),
-        NamedObject::Event => Referent::Object(ObjectType::Event),
+        NamedObject::Event(_) => Referent::Object(ObjectType::Event),
         NamedObject::Alias(_) => Referent::Object(ObjectType::Uninitialized),
     }
 }

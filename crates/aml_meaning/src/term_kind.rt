@@ -152,6 +152,10 @@ pub enum WideKind {
     /// Three operands and a target.
     Mid,
     Match,
+    /// Signal and Reset: an event.
+    Event(EventChange),
+    /// Wait: an event and a timeout.
+    Wait,
 }
 
 /// ToDecimalString, ToHexString, FromBCD and ToBCD.
@@ -163,4 +167,13 @@ pub enum Conversion {
     FromDecimal,
     /// ToBCD.
     ToDecimal,
+}
+
+/// What a term does to the signals of an event that no Wait has taken.
+#[derive(Clone, Copy, Debug, PartialEq, Eq)]
+pub enum EventChange {
+    /// Signal: they are one more.
+    Signal,
+    /// Reset: none is left.
+    Reset,
 }

@@ -51,7 +51,7 @@ no_alias f (object.OperationRegion r) = Ok f
 no_alias f (object.FieldUnit u) = Ok f
 no_alias f (object.BufferField b) = Ok f
 no_alias f (object.Mutex n) = Ok f
-no_alias f object.Event = Ok f
+no_alias f (object.Event n) = Ok f
 
 abbrev pub target_of : Option Found → Outcome Found
 target_of None = Err (refusal.Namespace NotFound)
@@ -70,7 +70,7 @@ by_object m f (object.OperationRegion r) = Ok f
 by_object m f (object.FieldUnit u) = Ok f
 by_object m f (object.BufferField b) = Ok f
 by_object m f (object.Mutex n) = Ok f
-by_object m f object.Event = Ok f
+by_object m f (object.Event n) = Ok f
 
 -- an alias leads to its target, in one step; anything else stands for itself
 unfoldable pub through : Map → Found → Outcome Found

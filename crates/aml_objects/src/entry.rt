@@ -33,7 +33,8 @@ pub enum NamedObject {
     BufferField(BufferField),
     /// A mutex, and how often it is acquired.
     Mutex(u64),
-    Event,
+    /// An event, and how many of its signals no Wait has taken.
+    Event(u64),
     /// Another name for what stands at this path.
     Alias(Path),
 }

@@ -99,7 +99,6 @@ fn object_word(object: &NamedObject) -> &'static str {
         NamedObject::OperationRegion(_) => "region",
         NamedObject::FieldUnit(_) => "field",
         NamedObject::BufferField(_) => "buffer field",
-        NamedObject::Event => "event",
         _ => "other",
     }
 }
@@ -110,6 +109,7 @@ pub fn say_object(asked: &mut Exchange, object: &NamedObject) {
         NamedObject::Method(method) => say_method(asked, method),
         NamedObject::Data(held) => say_value(asked, *held),
         NamedObject::Mutex(count) => say_of(asked, "mutex", *count),
+        NamedObject::Event(count) => say_of(asked, "event", *count),
         NamedObject::Alias(path) => say_path(asked, "alias", path),
         _ => asked.say(object_word(object)),
     }

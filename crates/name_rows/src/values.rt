@@ -51,13 +51,13 @@ pub fn element(asked: &mut Exchange) -> Element {
 pub fn object(asked: &mut Exchange) -> NamedObject {
     match asked.word() {
         "Device" => NamedObject::Device,
-        "Event" => NamedObject::Event,
+        "Event" => NamedObject::Event(0),
         "Mutex" => NamedObject::Mutex(number(asked)),
         "Data" => NamedObject::Data(value(asked)),
         "Alias" => NamedObject::Alias(path(asked)),
         _ => {
             asked.misunderstand();
-            NamedObject::Event
+            NamedObject::Event(0)
         }
     }
 }
@@ -132,7 +132,7 @@ fn kind_of(object: &NamedObject) -> &'static str {
         NamedObject::FieldUnit(_) => "FieldUnit",
         NamedObject::BufferField(_) => "BufferField",
         NamedObject::Mutex(_) => "Mutex",
-        NamedObject::Event => "Event",
+        NamedObject::Event(_) => "Event",
         NamedObject::Alias(_) => "Alias",
     }
 }
