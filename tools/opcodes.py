@@ -46,10 +46,10 @@ VALUES = {
     "integer_operator": "result_of_two", "two_operands": "result_of_two", "one_operand": "result_of_one", "test_kind": "result_of_test",
 }
 # The same of the wide profile, by the kind of the term: the definition, or the function that chooses it.
-WIDE_VALUES = {"ToString": "string_in", "Mid": "middle_in"}
+WIDE_VALUES = {"ToString": "string_in", "Mid": "middle_in", "Event": "event_changed", "Wait": "waited"}
 WIDE_CHOOSERS = {"Convert": "converted"}
 # The files of crates/aml_meaning/src that have the code of these values.
-OPERATIONS = ("operations", "wide_operations")
+OPERATIONS = ("operations", "wide_operations", "events")
 # What waits for the value of a part of a term, or for its target: an arm of each goes on with it.
 WAITING = ("Monadic", "Dyadic", "TargetUse", "DeclarationPart")
 # What is evaluated without an opcode of its own: its definitions and its functions, each behind its file. Those without a crate are of

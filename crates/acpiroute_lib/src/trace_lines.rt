@@ -33,10 +33,13 @@ fn put_list(
 }
 
 /// An opcode and its name. A term that begins with a name has none.
-fn put_code(text: &mut Vec<u8>, code: u16) -> Result<(), AllocError> {
+fn put_code(text: &mut Vec<u8>, code: Option<u16>) -> Result<(), AllocError> {
+    let Some(code) = code else {
+        return text.extend_from_slice(b"- NameString");
+    };
     let written = match row_of(code) {
-        Some(row) if code != 0 => write!(text, "{code:02X} {:?}", row.0),
-        _ => write!(text, "- NameString"),
+        Some(row) => write!(text, "{code:02X} {:?}", row.0),
+        None => write!(text, "{code:02X}"),
     };
     match written {
         Ok(()) => Ok(()),

@@ -85,20 +85,20 @@ fn method_of<'a>(act: &'a Activation, outer: &'a Option<MethodPath>) -> &'a Path
     }
 }
 
-/// The opcode of the term that begins at an offset: one byte, or both of one that has two. 0 where a name begins.
-fn code_at(bytes: &[u8], at: usize) -> u16 {
+/// The opcode of the term that begins at an offset: one byte, or both of one that has two. None where a name begins.
+fn code_at(bytes: &[u8], at: usize) -> Option<u16> {
     match between(bytes, at, bytes.len()) {
-        [EXTENDED, second, ..] => 0x5B00 + u16::from(*second),
+        [EXTENDED, second, ..] => Some(0x5B00 + u16::from(*second)),
         [first, ..] => code_of(*first),
-        [] => 0,
+        [] => None,
     }
 }
 
-/// The opcode that a byte is; 0 of one that begins a name.
-fn code_of(first: u8) -> u16 {
+/// The opcode that a byte is; none of one that begins a name.
+fn code_of(first: u8) -> Option<u16> {
     match first {
-        b'A'..=b'Z' | b'_' | b'\\' | b'^' | b'.' | b'/' => 0,
-        _ => u16::from(first),
+        b'A'..=b'Z' | b'_' | b'\\' | b'^' | b'.' | b'/' => None,
+        _ => Some(u16::from(first)),
     }
 }
 

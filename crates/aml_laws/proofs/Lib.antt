@@ -105,6 +105,7 @@ pub mod RegisterAccesses
 pub mod RuleByParts
 pub mod RulesPreserve
 pub mod RulesTogether
+pub mod SignalsTaken
 pub mod SpaceFaultsExplained
 pub mod SpaceFaultsNoted
 pub mod SpaceReached

@@ -6,6 +6,7 @@ pub mod Copied
 pub mod Counted
 pub mod CountedEvaluations
 pub mod Declares
+pub mod Events
 pub mod FieldLists
 pub mod Handed
 pub mod HandedBack

@@ -6,6 +6,7 @@ mod buffer_fields;
 mod calls;
 mod copies;
 mod declarations;
+mod events;
 mod field_lists;
 mod frames;
 mod handed;
@@ -32,6 +33,7 @@ pub use buffer_fields::{
 pub use calls::calls_leave_nothing;
 pub use copies::a_copy_is_the_same_apart_from_its_source;
 pub use declarations::refused_names_change_nothing;
+pub use events::a_wait_takes_a_signal;
 pub use field_lists::fields_of_a_list_are_in_order;
 pub use frames::{frame_numbers_are_given_once, frames_are_balanced};
 pub use handed::what_is_handed_in_is_handed_out_as_it_was;

@@ -19,6 +19,7 @@ pub mod NearestFunctions
 pub mod NodeObjects
 pub mod Runs
 pub mod SameCounts
+pub mod Signals
 pub mod SlotIntegers
 pub mod TargetKinds
 pub mod UnitIntegers

@@ -20,8 +20,8 @@ pub struct TracePlace {
     /// The offset of the term: from the first byte of the body, or at module level from the first byte behind the
     /// header of the table. Of nested lists it is the term of the innermost one.
     pub at: usize,
-    /// The opcode of the term: one byte, or both with `5B` as the high one. 0 where the term begins with a name.
-    pub code: u16,
+    /// The opcode of the term: one byte, or both with `5B` as the high one. None where the term begins with a name.
+    pub code: Option<u16>,
 }
 
 /// A name that was looked for, declared or called when evaluation was refused.
@@ -61,7 +61,8 @@ impl Trace {
         &self.places
     }
 
-    /// The name that was looked for, declared or called, where the refusal is one of a name.
+    /// A name whose search, declaration or call was refused, if there was one. It is missing where memory for it ran
+    /// out.
     pub fn name(&self) -> Option<&TraceName> {
         match &self.name {
             None => None,
@@ -69,7 +70,7 @@ impl Trace {
         }
     }
 
-    /// How many steps were left.
+    /// How many steps were left when evaluation was refused. Where it wasn't, that says nothing.
     pub fn steps_left(&self) -> u64 {
         self.steps_left
     }
