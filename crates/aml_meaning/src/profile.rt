@@ -5,9 +5,9 @@
 pub enum Profile {
     /// The default. Match, ToDecimalString, ToHexString, ToString, Mid, FromBCD, ToBCD, and lists of fields with a
     /// Connection are refused as `Unsupported`, exclusive offers as `Exclusive`, and a `_HID` that is a control method
-    /// as `NotALink`.
+    /// as `NotALink`, and PCI_Config behind a PCI-to-PCI bridge as `DeepPci`.
     Core,
-    /// These are evaluated, taken and called. Signal, Wait, Reset, Timer, Load, LoadTable, BankField and DataRegion stay
+    /// These are evaluated, taken, called and reached. Signal, Wait, Reset, Timer, Load, LoadTable, BankField and DataRegion stay
     /// `Unsupported`.
     Wide,
 }
