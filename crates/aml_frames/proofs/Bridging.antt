@@ -34,6 +34,10 @@ more_bridges : (calls : ℕ) (l : List (List Seg)) (q : List Seg) (qs : List (Li
 unfolding bridges_weight
 more_bridges calls l q qs e = rw e (many_on (length qs) (part_weight calls + 20))
 
+pub no_bridges : (l : List (List Seg)) → length l ≡ 0 → l ≡ []
+no_bridges [] h = refl
+no_bridges (q ∷ qs) h = absurd (cc h)
+
 pub falls_bridge : (r : Outcome Next) (calls : ℕ) (l : List (List Seg)) (q : List Seg) (qs : List (List Seg)) → l ≡ q ∷ qs → IfOk r (λ n. next_weight n < bridges_weight calls (length qs) + 2 * part_weight calls + 34) → IfOk r (λ n. next_weight n < bridges_weight calls (length l) + part_weight calls + 14)
 falls_bridge (Ok n) calls l q qs e h = let i = more_bridges calls l q qs e in omega (arith, h, i)
 falls_bridge (Err x) calls l q qs e h = tt

@@ -34,7 +34,7 @@ module _ (m : Map) (p : List Seg) where
   over_next n l is = let e : suc n ≡ n + 1 = omega arith in is ∙ ap (bridges_over m p) e
 
   passed : (b c : Bool) (q : List Seg) (l : List (List Seg)) → b ≡ false → c ≡ false → (if b then [] else (if c then l ++ q ∷ [] else l)) ≡ l
-  passed b c q l no nor = ap (λ (t : Bool). if t then [] else (if c then l ++ q ∷ [] else l)) no ∙ ap (λ (t : Bool). if t then l ++ q ∷ [] else l) nor
+  passed b c q l e h = ap (λ (t : Bool). if t then [] else (if c then l ++ q ∷ [] else l)) e ∙ ap (λ (t : Bool). if t then l ++ q ∷ [] else l) h
 
   -- no bridge stands beyond a depth
   beyond : (i k : ℕ) → i ≤ k → ((j : ℕ) → i ≤ j → (has m (take j p) base_bus ≡ false) × (is_bridge m (take j p) ≡ false)) → bridges_over m p k ≡ bridges_over m p i
