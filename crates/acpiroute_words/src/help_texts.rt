@@ -45,8 +45,9 @@ avoided or spared, the machine is refused by number 123. The report's line 'sci 
 none', that there is none.
 
 The core profile, the default, refuses some terms of AML by number 73, Match among them, which many boards need; a link device that offers \
-interrupts for itself alone by number 101; and one whose _HID is a control method by number 113. With --profile wide these terms are \
-evaluated, such offers are taken as shared ones, and the method is called.
+interrupts for itself alone by number 101; one whose _HID is a control method by number 113; and PCI configuration registers behind a \
+bridge by number 78. With --profile wide these terms are evaluated, such offers are taken as shared ones, the method is called, and the \
+registers are reached.
 
 Exit status: 0 for a report, 1 for a refusal, 2 for a faulty command line, 3 where setting a link was refused, which the report tells. \
 'acpiroute --help' lists the refusals.";

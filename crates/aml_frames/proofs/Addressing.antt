@@ -26,8 +26,9 @@ use Rattle.aml_meaning.specs.Run.{Run, lift}
 use Rattle.aml_meaning.specs.Tasks.{in_turn}
 use Rattle.aml_meaning.specs.Meaning.{meaning}
 use Rattle.aml_meaning.specs.PciFunctions.{adr, segment_group, base_bus, pci_function}
+use Rattle.aml_meaning.specs.Bridges.{bridges_above}
 use Rattle.aml_meaning.specs.Regions.{space_numbered, region_declared, integer_only, integer_alone, pci_space}
-use Rattle.aml_meaning.specs.Fields.{field_unit_bits, field_unit_written, region_bits, region_written, located, space_at, pci_address, inherited, field_part, bits_in}
+use Rattle.aml_meaning.specs.Fields.{field_unit_bits, field_unit_written, region_bits, region_written, located, space_at, pci_address, inherited, bus_behind_all, field_part, bits_in}
 use Rattle.aml_meaning.specs.FieldCalls.{asked, answer_within, answer_over, method_integer}
 use Rattle.aml_meaning.specs.Invocations.{leaving, invoked, method_value, value_of_call}
 use Rattle.aml_meaning.proofs.Runs.{running, does_lift}
@@ -46,7 +47,7 @@ use Rattle.aml_frames.specs.declared.uses.Doing.{Doing}
 use Rattle.aml_frames.specs.declared.uses.Doing.TheVariants as doing
 use Rattle.aml_frames.specs.declared.uses.Reading.TheVariants as reading
 use Rattle.aml_frames.specs.Places.{Site}
-use Rattle.aml_frames.specs.Addresses.{done_in, space_known, function_known, bus_known, segment_known, device_known, pci_run, part_known, waited_run, waited_met, part_met, Asks}
+use Rattle.aml_frames.specs.Addresses.{done_in, space_known, function_known, bus_known, bridges_left, segment_known, bridges_known, device_known, pci_run, part_known, waited_run, waited_met, part_met, Asks}
 use Rattle.aml_frames.specs.Uses.{access_done, asking, read_as}
 use Rattle.aml_frames.specs.Weights.{part_weight, region_weight, field_weight, next_weight}
 use Rattle.aml_frames.specs.Follow.{resumed, entered_then, Leads}
@@ -89,14 +90,16 @@ module _ {S : Type 0} (ac : Accesses S) where
       ∙ bind_same (space_at ac (asking ac (meaning ac) calls) (space_numbered x.1.space) x.0) _ _ i (λ space j. given_one (record { space = space; offset = x.1.offset; length = x.1.length }) (done_in ac d f) j))
 
   pci_is : (a : RegionAccess) (scope : List Seg) (s : State S × ℕ) → pci_run ac (meaning ac) a scope s ≡ (lift (pci_function scope) >>= (λ p. device_known ac (meaning ac) a p)) s
-  unfolding pci_address device_known segment_known bus_known function_known
+  unfolding pci_address device_known bridges_known segment_known bridges_left bus_known function_known
   pci_is a scope s =
       let call = asking ac (meaning ac) a.calls in
       let k = space_known ac a in
       bind_bind (lift (pci_function scope)) _ k s
-      ∙ bind_same (lift (pci_function scope)) _ _ s (λ p i. bind_bind (inherited ac call segment_group p) _ k i
+      ∙ bind_same (lift (pci_function scope)) _ _ s (λ p h. bind_bind (lift (bridges_above p)) _ k h
+      ∙ bind_same (lift (bridges_above p)) _ _ h (λ bridges i. bind_bind (inherited ac call segment_group p) _ k i
       ∙ bind_same (inherited ac call segment_group p) _ _ i (λ seg j. bind_bind (inherited ac call base_bus p) _ k j
-      ∙ bind_same (inherited ac call base_bus p) _ _ j (λ bus l. bind_bind (call (p ++ adr ∷ [])) (λ address. settle (pci_space seg bus address)) k l)))
+      ∙ bind_same (inherited ac call base_bus p) _ _ j (λ bus l. bind_bind (bus_behind_all ac call seg bus bridges) _ k l
+      ∙ bind_same (bus_behind_all ac call seg bus bridges) _ _ l (λ behind n. bind_bind (call (p ++ adr ∷ [])) (λ address. settle (pci_space seg behind address)) k n)))))
 
   -- what a control method gives, and what is left to do behind it
   method_is : (depth : ℕ) (p : List Seg) (body : List ℕ) (x : PciAccess) (s : State S × ℕ) → waited_met ac (meaning ac) (waits.Method depth p body) x s ≡ (invoked (meaning ac) depth p body [] >>= part_met ac (meaning ac) x) s

@@ -17,6 +17,7 @@ pub mod Declaring
 pub mod DeclaringFields
 pub mod Forming
 pub mod Addressing
+pub mod Bridging
 pub mod Indexing
 pub mod Knowing
 pub mod Matching

@@ -138,6 +138,9 @@ module _ {S : Type 0} {ac : Accesses S} {ev : Task → Run S Flow} where
   pub goes_access_then : {c : Site} {s : State S × ℕ} (xs ys : List Entry) (a : Access) (x : Frame) → ys ≡ xs ++ entry.Frame x ∷ [] → Goes ac ev (Ok (control.Access a)) c ys s (then_all ac ev (next_run ac ev (next.AccessThen a x) c) (next_ends (next.AccessThen a x) c) xs) s
   goes_access_then {c = c} {s = s} xs ys a x e = record { is = λ _. sym (ap (λ zs. then_all ac ev (access_run ac ev a) c zs s) e ∙ at_frame ac ev (access_run ac ev a) c xs x s) }
 
+  pub goes_flow_then : {c : Site} {s : State S × ℕ} (xs ys : List Entry) (f : Flow) (x : Frame) → ys ≡ xs ++ entry.Frame x ∷ [] → Goes ac ev (Ok (control.Flow f)) c ys s (then_all ac ev (next_run ac ev (next.FlowThen f x) c) (next_ends (next.FlowThen f x) c) xs) s
+  goes_flow_then {c = c} {s = s} xs ys f x e = record { is = λ _. sym (ap (λ zs. then_all ac ev (give f) c zs s) e ∙ at_frame ac ev (give f) c xs x s) }
+
   pub goes_memory : {s : State S × ℕ} (r : Outcome Control) (c : Site) (xs : List Entry) (after : State S × ℕ) (m : Run S Flow) → IsErr r × IsErrAnd r (λ e. e ≡ OutOfMemory) → Goes ac ev r c xs after m s
   goes_memory (Ok x) c xs after m i = absurd (cc i.0)
   goes_memory (Err e) c xs after m i = record { is = λ ne. absurd (ne i.1) }
@@ -220,7 +223,7 @@ module _ {S : Type 0} (ac : Accesses S) (ev : Task → Run S Flow) where
   unfolding then_all unwinding stop settle
   unwound_end e c xs s i = rw i refl
 
-pub ruleset going = (weight_on, goes_flow, goes_items, goes_package, goes_term, goes_turn, goes_scope, goes_body, goes_body_then, goes_target, goes_division, goes_found, goes_read, goes_counted, goes_access_then, goes_memory)
+pub ruleset going = (weight_on, goes_flow, goes_items, goes_package, goes_term, goes_turn, goes_scope, goes_body, goes_body_then, goes_target, goes_division, goes_found, goes_read, goes_counted, goes_access_then, goes_flow_then, goes_memory)
 
 pub ruleset taking = (falling, goes_leads, goes_leads_err, goes_frame, goes_leave, goes_memory)
 

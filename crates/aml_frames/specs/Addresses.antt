@@ -1,5 +1,6 @@
 -- Accesses of fields of regions, and the addresses that they ask for (ACPI 6.5, 5.5.2.4, 6.1.1, 6.5.5 and 6.5.6): a region of PCI_Config
--- lies in the registers of a function, whose segment group, bus and address are asked for in this order.
+-- lies in the registers of a function, whose segment group, bus and address are asked for in this order, and behind the bus the address
+-- of each bridge above it.
 use Rattle.std.specs.Prelude.{◌≡◌, ℕ, List, [], ◌∷◌, ◌++◌, Ok, Err}
 use Rattle.ar_space.specs.Accesses.{Accesses}
 use Rattle.ar_space.specs.Outcome.{Outcome, NotMemory}
@@ -16,8 +17,9 @@ use Rattle.aml_meaning.specs.State.{State, on_space}
 use Rattle.aml_meaning.specs.Run.{Run, lift}
 use Rattle.aml_meaning.specs.Tasks.{Task}
 use Rattle.aml_meaning.specs.PciFunctions.{adr, segment_group, base_bus}
+use Rattle.aml_meaning.specs.Bridges.{bridges_above, secondary_bus}
 use Rattle.aml_meaning.specs.Regions.{integer_only, pci_space}
-use Rattle.aml_meaning.specs.Fields.{inherited, pci_address, space_at, field_part}
+use Rattle.aml_meaning.specs.Fields.{inherited, bus_behind_all, pci_address, space_at, field_part}
 use Rattle.aml_meaning.specs.Invocations.{value_of_call}
 use Rattle.aml_meaning.specs.FieldCalls.{method_integer}
 use Rattle.aml_frames.specs.declared.addresses.AddressPart.{AddressPart}
@@ -58,15 +60,38 @@ module _ {S : Type 0} (accesses : Accesses S) (ev : Task → Run S Flow) where
     address ← asking accesses ev a.calls (device ++ adr ∷ [])
     function_known a seg bus address
 
-  unfoldable pub segment_known : RegionAccess → List Seg → ℕ → Run S Flow
-  segment_known a device seg = do
+  -- the bridges that are left above the device, from the outermost on, with the bus of the first of them
+  unfoldable pub bridges_left : RegionAccess → List Seg → List (List Seg) → ℕ → ℕ → Run S Flow
+  bridges_left a device bridges seg bus = do
+    behind ← bus_behind_all accesses (asking accesses ev a.calls) seg bus bridges
+    bus_known a device seg behind
+
+  -- the address of a bridge is known, with the bus that it is on, and the bridges below it
+  unfoldable pub bridge_known : RegionAccess → List Seg → List (List Seg) → ℕ → ℕ → ℕ → Run S Flow
+  bridge_known a device bridges seg bus address = do
+    behind ← lift (on_space (secondary_bus accesses seg bus address))
+    bridges_left a device bridges seg behind
+
+  -- a bridge with the bus that it is on, and the bridges below it
+  unfoldable pub bridge_asked : RegionAccess → List Seg → List Seg → List (List Seg) → ℕ → ℕ → Run S Flow
+  bridge_asked a device bridge bridges seg bus = do
+    address ← asking accesses ev a.calls (bridge ++ adr ∷ [])
+    bridge_known a device bridges seg bus address
+
+  unfoldable pub segment_known : RegionAccess → List Seg → List (List Seg) → ℕ → Run S Flow
+  segment_known a device bridges seg = do
     bus ← inherited accesses (asking accesses ev a.calls) base_bus device
-    bus_known a device seg bus
+    bridges_left a device bridges seg bus
+
+  unfoldable pub bridges_known : RegionAccess → List Seg → List (List Seg) → Run S Flow
+  bridges_known a device bridges = do
+    seg ← inherited accesses (asking accesses ev a.calls) segment_group device
+    segment_known a device bridges seg
 
   unfoldable pub device_known : RegionAccess → List Seg → Run S Flow
   device_known a device = do
-    seg ← inherited accesses (asking accesses ev a.calls) segment_group device
-    segment_known a device seg
+    bridges ← lift (bridges_above device)
+    bridges_known a device bridges
 
   -- an access of a field of a region of a kind that was declared in a scope, and of one of PCI_Config
   abbrev pub space_run : RegionAccess → RegionSpace → List Seg → Run S Flow
@@ -80,13 +105,14 @@ module _ {S : Type 0} (accesses : Accesses S) (ev : Task → Run S Flow) where
     space_known accesses a space
 
   -- the part of the address that was asked for is known
-  abbrev pub part_by : AddressPart → RegionAccess → List Seg → ℕ → Run S Flow
-  part_by parts.Segment a device n = segment_known a device n
-  part_by (parts.Bus seg) a device n = bus_known a device seg n
-  part_by (parts.Function seg bus) a device n = function_known a seg bus n
+  abbrev pub part_by : AddressPart → RegionAccess → List Seg → List (List Seg) → ℕ → Run S Flow
+  part_by parts.Segment a device bridges n = segment_known a device bridges n
+  part_by (parts.Bus seg) a device bridges n = bridges_left a device bridges seg n
+  part_by (parts.Bridge seg bus) a device bridges n = bridge_known a device bridges seg bus n
+  part_by (parts.Function seg bus) a device bridges n = function_known a seg bus n
 
   abbrev pub part_known : PciAccess → ℕ → Run S Flow
-  part_known x n = part_by x.part x.access x.device n
+  part_known x n = part_by x.part x.access x.device x.bridges.items n
 
   -- what gives a part of an address that isn't known: a control method, where so many are being called, or a field
   abbrev pub waited_run : Waited → Run S ℕ

@@ -182,6 +182,7 @@ next_ends (next.Found levels r) c = ends frames.Found (target_ends (optional lev
 next_ends (next.Read f how) c = c
 next_ends (next.Counted k x) c = ends (frames.Counted k x) c
 next_ends (next.AccessThen a x) c = ends x c
+next_ends (next.FlowThen f x) c = ends x c
 
 -- a step of a rule ends where the rule ends
 abbrev pub EndsAt : Outcome Next → Site → Site → Type 0
@@ -374,6 +375,7 @@ module _ {S : Type 0} (accesses : Accesses S) (ev : Task → Run S Flow) where
   next_run (next.Read f how) c = access_run accesses ev (read_access c f how)
   next_run (next.Counted k x) c = access_run accesses ev (read_access c x.1 reading.Integer) >>= resumed (frames.Counted k x) c
   next_run (next.AccessThen a x) c = access_run accesses ev a >>= resumed x c
+  next_run (next.FlowThen f x) c = give f >>= resumed x c
 
   abbrev pub followed : Outcome Next → Site → Run S Flow
   followed (Ok n) c = next_run n c

@@ -23,20 +23,29 @@ use Rattle.aml_frames.specs.declared.uses.Accessed.TheVariants as object
 use Rattle.aml_frames.specs.declared.uses.TargetUse.{TargetUse}
 use Rattle.aml_frames.specs.declared.uses.TargetUse.TheVariants as uses
 
--- ---- accesses of fields, by how many calls may be made one inside another: an address has three parts, each of which may be a field
+-- ---- accesses of fields, by how many calls may be made one inside another: an address has three parts, and one more for each bridge,
+-- each of which may be a field
 
 -- more than the units of any field, which has fewer than 2^32 bits
 abbrev pub most_units : ℕ
 most_units = 4294967296
 
+-- more than the bridges above any device
+abbrev pub most_bridges : ℕ
+most_bridges = 18446744073709551616
+
 -- a field that is a part of an address, where fewer than so many calls are left
 unfoldable pub part_weight : ℕ → ℕ
 part_weight zero = 0
-part_weight (suc n) = most_units * (4 * (3 * part_weight n + 40) + 20) + 40
+part_weight (suc n) = most_units * (4 * (most_bridges * (part_weight n + 20) + 3 * part_weight n + 40) + 20) + 40
+
+-- so many bridges, with so many calls left
+unfoldable pub bridges_weight : ℕ → ℕ → ℕ
+bridges_weight calls n = n * (part_weight calls + 20)
 
 -- a field of a region, and any field, with so many calls left
 abbrev pub region_weight : ℕ → ℕ
-region_weight calls = 3 * part_weight calls + 40
+region_weight calls = most_bridges * (part_weight calls + 20) + 3 * part_weight calls + 40
 
 abbrev pub field_weight : ℕ → ℕ
 field_weight calls = part_weight (suc calls)
@@ -73,10 +82,11 @@ target_weight u = use_weight u + 8
 
 -- ---- parts of an address: those that are left behind one that is asked for, each of which may be a field
 
-abbrev pub address_weight : AddressPart → ℕ → ℕ
-address_weight parts.Segment calls = 2 * (part_weight calls + 10) + 4
-address_weight (parts.Bus seg) calls = part_weight calls + 14
-address_weight (parts.Function seg bus) calls = 4
+abbrev pub address_weight : AddressPart → ℕ → ℕ → ℕ
+address_weight parts.Segment calls bridges = bridges_weight calls bridges + 2 * (part_weight calls + 10) + 4
+address_weight (parts.Bus seg) calls bridges = bridges_weight calls bridges + part_weight calls + 14
+address_weight (parts.Bridge seg bus) calls bridges = bridges_weight calls bridges + part_weight calls + 14
+address_weight (parts.Function seg bus) calls bridges = 4
 
 abbrev pub waited_weight : Waited → ℕ
 waited_weight (waits.Method depth p body) = 0
@@ -129,7 +139,7 @@ weight (frames.IndexTarget u) = use_weight u + 5
 weight (frames.DerefTarget u) = use_weight u + 5
 weight (frames.Referent i) = most + 1
 weight (frames.Counted k x) = most + 8
-weight (frames.Address x) = address_weight x.part x.access.calls
+weight (frames.Address x) = address_weight x.part x.access.calls (length x.bridges.items)
 weight (frames.UnitChosen l u) = left_weight l + 3 * region_weight (field_accessed l).calls + 1
 weight (frames.UnitRead l u) = left_weight l + 2 * region_weight (field_accessed l).calls + 1
 weight (frames.UnitMerged x n) = writes_weight x + region_weight x.field.calls + 1
@@ -153,6 +163,7 @@ next_weight (next.Found levels r) = target_weight (uses.Store (values.Reference 
 next_weight (next.Read f how) = most
 next_weight (next.Counted k x) = most + weight (frames.Counted k x)
 next_weight (next.AccessThen a x) = access_weight a + weight x
+next_weight (next.FlowThen f x) = 3 + weight x
 
 -- ---- steps: each pays for what a term asks for when it begins
 

@@ -4,6 +4,7 @@ use crate::uses::Doing;
 use aml_meaning::RegionField;
 use aml_objects::{Body, Field};
 use aml_path::Path;
+use std::collections::VecDeque;
 
 /// An access of a field of a region that was looked up.
 #[derive(Drop)]
@@ -24,6 +25,8 @@ pub struct PciAccess {
     pub access: RegionAccess,
     /// The device in whose registers the region lies.
     pub device: Path,
+    /// The bridges above it whose buses are still to be asked for, from the outermost on.
+    pub bridges: VecDeque<Path>,
     /// What is asked for.
     pub part: AddressPart,
 }
@@ -35,6 +38,8 @@ pub enum AddressPart {
     Segment,
     /// The bus: the segment group is known.
     Bus(u64),
+    /// The device and the function of a bridge: the segment group and the bus that the bridge is on are known.
+    Bridge(u64, u64),
     /// The device and the function: the segment group and the bus are known.
     Function(u64, u64),
 }

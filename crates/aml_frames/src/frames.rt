@@ -214,6 +214,8 @@ pub enum Next {
     Counted(Count, Boxed<(StoreTarget, Field)>),
     /// An access of a field, and then a frame.
     AccessThen(Boxed<Access>, Frame),
+    /// Nothing but a frame, which this flow is handed to.
+    FlowThen(Flow, Frame),
 }
 
 /// What stands on the stack.

@@ -11,6 +11,7 @@ mod activation;
 mod addresses;
 mod asking;
 mod boxed;
+mod bridges;
 mod calls;
 mod data;
 mod declarations;

@@ -1,20 +1,22 @@
 //! The address of a function of PCI_Config: its segment group, its bus and its address are asked for, in this order
-//! (ACPI 6.5, 5.5.2.4, 6.1.1, 6.5.5 and 6.5.6). A control method or a field that gives one of them is waited for.
-ghost use Rattle.std.specs.Prelude.{◌≡◌, ◌≤◌, ◌<◌, ◌+◌, ◌*◌, ◌++◌, ◌∷◌, [], IfOk};
+//! (ACPI 6.5, 5.5.2.4, 6.1.1, 6.5.5 and 6.5.6), and the bridges above it between the bus and the address. A control
+//! method or a field that gives one of them is waited for.
+ghost use Rattle.std.specs.Prelude.{◌≡◌, ◌≤◌, ◌<◌, ◌+◌, ◌*◌, ◌++◌, ◌∷◌, [], IfOk, length};
 ghost use Rattle.aml_meaning.specs.Meaning.{meaning};
 ghost use Rattle.aml_meaning.specs.Fields.{inherited};
 ghost use Rattle.aml_meaning.specs.PciFunctions.{adr};
-ghost use Rattle.aml_frames.specs.Addresses.{pci_run, device_known, segment_known, bus_known, function_known};
-ghost use Rattle.aml_frames.specs.Addresses.{waited_met, part_met, Asks};
+ghost use Rattle.aml_frames.specs.Addresses.{pci_run, device_known, bridges_known, segment_known, bus_known};
+ghost use Rattle.aml_frames.specs.Addresses.{function_known, waited_met, part_met, Asks};
 ghost use Rattle.aml_frames.specs.Follow.{Leads, EndsAt};
 ghost use Rattle.aml_frames.specs.Uses.{asking};
-ghost use Rattle.aml_frames.specs.Weights.{part_weight, region_weight, address_weight, asked_weight, waited_weight};
-ghost use Rattle.aml_frames.specs.Weights.{next_weight};
+ghost use Rattle.aml_frames.specs.Weights.{part_weight, bridges_weight, region_weight, address_weight};
+ghost use Rattle.aml_frames.specs.Weights.{asked_weight, waited_weight, next_weight};
 
 use crate::activation::Activation;
 use crate::addresses::{AddressPart, Asked, FunctionAddress, PciAccess, RegionAccess, Waited};
 use crate::asking::ask;
 use crate::boxed::Boxed;
+use crate::bridges::{begin_bridges, pass_bridge};
 use crate::calls::enter_then;
 use crate::field_access::access_space;
 use crate::frames::{Frame, Next};
@@ -25,7 +27,7 @@ use aml_path::{Path, Seg};
 use ar_space::{Refusal, Space};
 use std::alloc::Global;
 
-/// The function that a scope belongs to is found, and its segment group is asked for.
+/// The function that a scope belongs to is found, and the parts of its address are asked for.
 #[tactic(auto, using(crate::proofs::Addressing::regions))]
 pub(crate) fn begin_pci<S: Space>(
     alloc: Global,
@@ -41,16 +43,36 @@ pub(crate) fn begin_pci<S: Space>(
     ensures ends { EndsAt result act.now act.now }
 {
     let device = run.world.pci_function(alloc, scope)?;
+    begin_device(alloc, run, act, access, device)
+}
+
+/// The device is known: the bridges above it are found, and the segment group is asked for.
+#[tactic(auto, using(crate::proofs::Bridging::devices), unfolding(crate::specs::Addresses::device_known))]
+fn begin_device<S: Space>(
+    alloc: Global,
+    run: &mut Running<S>,
+    act: &Activation,
+    access: RegionAccess,
+    device: Path,
+) -> Result<Next, Refusal>
+    ensures spent { run.new.1 ≤ run.old.1 }
+    ensures falls { IfOk result (λ n. next_weight n < region_weight access.calls) }
+    ensures means { Leads S.accesses (meaning S.accesses) result act.now run.new
+        (device_known S.accesses (meaning S.accesses) access device) run.old }
+    ensures ends { EndsAt result act.now act.now }
+{
+    let bridges = run.world.bridges_above(alloc, &device)?;
     let pci = PciAccess {
         access,
         device,
+        bridges,
         part: AddressPart::Segment,
     };
     begin_segment(alloc, run, act, pci)
 }
 
 /// The segment group is asked for.
-#[tactic(auto, using(crate::proofs::Addressing::parts_known), unfolding(crate::specs::Addresses::device_known))]
+#[tactic(auto, using(crate::proofs::Addressing::parts_known), unfolding(crate::specs::Addresses::bridges_known))]
 fn begin_segment<S: Space>(
     alloc: Global,
     run: &mut Running<S>,
@@ -58,9 +80,10 @@ fn begin_segment<S: Space>(
     pci: PciAccess,
 ) -> Result<Next, Refusal>
     ensures spent { run.new.1 ≤ run.old.1 }
-    ensures falls { IfOk result (λ n. next_weight n < region_weight pci.access.calls) }
+    ensures falls { IfOk result (λ n. next_weight n <
+        bridges_weight pci.access.calls (length pci.bridges.items) + 3 * part_weight pci.access.calls + 40) }
     ensures means { Leads S.accesses (meaning S.accesses) result act.now run.new
-        (device_known S.accesses (meaning S.accesses) pci.access pci.device) run.old }
+        (bridges_known S.accesses (meaning S.accesses) pci.access pci.device pci.bridges.items) run.old }
     ensures ends { EndsAt result act.now act.now }
 {
     let asked = ask_inherited(alloc, run, pci.access.calls, segment_group(), &pci.device)?;
@@ -86,14 +109,15 @@ fn begin_bus<S: Space>(
     segment: u64,
 ) -> Result<Next, Refusal>
     ensures spent { run.new.1 ≤ run.old.1 }
-    ensures falls { IfOk result (λ n. next_weight n < 2 * part_weight pci.access.calls + 25) }
+    ensures falls { IfOk result (λ n. next_weight n <
+        bridges_weight pci.access.calls (length pci.bridges.items) + 2 * part_weight pci.access.calls + 25) }
     ensures means { Leads S.accesses (meaning S.accesses) result act.now run.new
-        (segment_known S.accesses (meaning S.accesses) pci.access pci.device segment) run.old }
+        (segment_known S.accesses (meaning S.accesses) pci.access pci.device pci.bridges.items segment) run.old }
     ensures ends { EndsAt result act.now act.now }
 {
     let asked = ask_inherited(alloc, run, pci.access.calls, base_bus(), &pci.device)?;
     match asked {
-        Asked::Known(bus) => begin_function(alloc, run, act, pci, segment, bus),
+        Asked::Known(bus) => begin_bridges(alloc, run, act, pci, segment, bus),
         Asked::Waits(waited) => {
             let pci = PciAccess {
                 part: AddressPart::Bus(segment),
@@ -106,7 +130,7 @@ fn begin_bus<S: Space>(
 
 /// The bus is known: the address is asked for.
 #[tactic(auto, using(crate::proofs::Addressing::parts_known), unfolding(crate::specs::Addresses::bus_known))]
-fn begin_function<S: Space>(
+pub(crate) fn begin_function<S: Space>(
     alloc: Global,
     run: &mut Running<S>,
     act: &Activation,
@@ -161,7 +185,7 @@ fn access_function<S: Space>(
 
 /// The address of a device answers.
 #[tactic(auto, using(crate::proofs::Addressing::answering))]
-fn ask_address<S: Space>(
+pub(crate) fn ask_address<S: Space>(
     alloc: Global,
     run: &mut Running<S>,
     calls: usize,
@@ -178,7 +202,7 @@ fn ask_address<S: Space>(
 
 /// What gives a part of the address is waited for.
 #[tactic(auto, using(crate::proofs::Addressing::waiting))]
-fn wait<S: Space>(
+pub(crate) fn wait<S: Space>(
     alloc: Global,
     run: &mut Running<S>,
     act: &Activation,
@@ -187,7 +211,7 @@ fn wait<S: Space>(
 ) -> Result<Next, Refusal>
     ensures spent { run.new.1 ≤ run.old.1 }
     ensures falls { IfOk result (λ n. next_weight n ≤ waited_weight waited +
-        address_weight pci.part pci.access.calls + 6) }
+        address_weight pci.part pci.access.calls (length pci.bridges.items) + 6) }
     ensures means { Leads S.accesses (meaning S.accesses) result act.now run.new
         (waited_met S.accesses (meaning S.accesses) waited pci) run.old }
     ensures ends { EndsAt result act.now act.now }
@@ -226,7 +250,8 @@ pub(crate) fn resume_address<S: Space>(
     flow: Flow,
 ) -> Result<Next, Refusal>
     ensures spent { run.new.1 ≤ run.old.1 }
-    ensures falls { IfOk result (λ n. next_weight n < address_weight pci.part pci.access.calls + 3) }
+    ensures falls { IfOk result (λ n. next_weight n <
+        address_weight pci.part pci.access.calls (length pci.bridges.items) + 3) }
     ensures means { Leads S.accesses (meaning S.accesses) result act.now run.new
         (part_met S.accesses (meaning S.accesses) pci flow) run.old }
     ensures ends { EndsAt result act.now act.now }
@@ -235,7 +260,15 @@ pub(crate) fn resume_address<S: Space>(
     let pci = pci.into_inner();
     match pci.part {
         AddressPart::Segment => begin_bus(alloc, run, act, pci, number),
-        AddressPart::Bus(segment) => begin_function(alloc, run, act, pci, segment, number),
+        AddressPart::Bus(segment) => begin_bridges(alloc, run, act, pci, segment, number),
+        AddressPart::Bridge(segment, bus) => {
+            let bridge = FunctionAddress {
+                segment,
+                bus,
+                address: number,
+            };
+            pass_bridge(alloc, run, act, pci, bridge)
+        }
         AddressPart::Function(segment, bus) => {
             let function = FunctionAddress {
                 segment,

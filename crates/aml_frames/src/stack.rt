@@ -374,6 +374,7 @@ fn follow<S: Space>(run: &mut Running<S>, stack: &mut Stack, next: Next) -> Resu
         Next::Read(field, reading) => go_to_read(field, reading),
         Next::Counted(count, counted) => stack.wait_for_count(count, counted),
         Next::AccessThen(access, frame) => stack.wait_for_access(access, frame),
+        Next::FlowThen(flow, frame) => stack.wait_for_flow(flow, frame),
         Next::Body(body) => run_in(run, stack, body),
         Next::BodyThen(body, asked) => run_then(run, stack, body, asked),
     }

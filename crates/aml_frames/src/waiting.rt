@@ -152,6 +152,17 @@ impl Stack {
         self.entries.push(Entry::Frame(frame))?;
         Ok(Control::Access(access))
     }
+
+    /// A flow, and the frame that it is handed to.
+    pub(crate) fn wait_for_flow(&mut self, flow: Flow, frame: Frame) -> Result<Control, Refusal>
+        ensures act { OnOk result (self.new.act ≡ self.old.act) }
+        ensures pushed { OnOk result (self.new.entries.items ≡ self.old.entries.items ++ entry.Frame frame ∷ []) }
+        ensures next { IfOk result (λ c. c ≡ control.Flow flow) }
+        ensures memory { IfErr result (λ e. e ≡ OutOfMemory) }
+    {
+        self.entries.push(Entry::Frame(frame))?;
+        Ok(Control::Flow(flow))
+    }
 }
 
 /// A flow is handed to what waits.

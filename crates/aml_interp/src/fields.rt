@@ -8,6 +8,7 @@ ghost use Rattle.aml_meaning.specs.Fields.{bits_in, field_value, field_given};
 ghost use Rattle.aml_meaning.specs.Given.{given_of};
 ghost use Rattle.aml_frames.specs.Uses.{asking};
 
+use crate::bridges::bus_behind_all;
 use crate::index_fields::index_bits;
 use aml_fields::{AddressSpace, Region};
 use aml_frames::ask_integer;
@@ -145,8 +146,8 @@ fn space_at<S: Space>(
     }
 }
 
-/// The registers of the PCI function that a scope belongs to: its segment group, its bus and its address are asked
-/// for, in this order.
+/// The registers of the PCI function that a scope belongs to: its segment group, its bus, the buses behind the bridges
+/// above it and its address are asked for, in this order.
 #[tactic(auto, using(aml_meaning::proofs::Runs::running), unfolding(aml_meaning::specs::Fields::pci_address))]
 fn pci_address<S: Space>(
     alloc: Global,
@@ -158,11 +159,13 @@ fn pci_address<S: Space>(
         (pci_address S.accesses (asking S.accesses (meaning S.accesses) calls) scope.now) run.old }
 {
     let device = run.world.pci_function(alloc, scope)?;
+    let bridges = run.world.bridges_above(alloc, &device)?;
     let segment = inherited(alloc, run, calls, segment_group(), &device)?;
     let bus = inherited(alloc, run, calls, base_bus(), &device)?;
+    let behind = bus_behind_all(alloc, run, calls, segment, bus, bridges)?;
     let object = device.child(alloc, adr())?;
     let address = ask_integer(alloc, run, calls, &object)?;
-    pci_space(segment, bus, address)
+    pci_space(segment, behind, address)
 }
 
 /// What the nearest object of a name answers, from a device on upward; 0 where there is none.

@@ -6,6 +6,7 @@
 #![tactic(auto)]
 
 mod answers;
+mod bridges;
 mod export;
 mod fields;
 mod index_fields;

@@ -31,6 +31,9 @@ use Rattle.aml_meaning.specs.Mutexes.{count_in, count_of_object, once_less, once
 use Rattle.aml_meaning.specs.Operations.{below, made_of, size_of_object, size_of_referent, size_of_value}
 use Rattle.aml_meaning.specs.Osi.{osi_answer}
 use Rattle.aml_meaning.specs.PciFunctions.{or_behind, or_deep}
+use Rattle.aml_meaning.specs.declared.profile.Profile.{Profile}
+use Rattle.aml_meaning.specs.declared.profile.Profile.TheVariants as profiles
+use Rattle.aml_meaning.specs.Bridges.{bridge_header}
 use Rattle.aml_meaning.specs.Readings.{as_many, is_scope, scope_or_not, value_in}
 use Rattle.aml_meaning.specs.Regions.{field_of_object, integer_only, pci_space, region_field, region_of_object}
 use Rattle.aml_meaning.specs.Slots.{slot_at, slot_found}
@@ -270,9 +273,13 @@ pub or_deep_clean : (o : Option (List Seg)) → Clean (or_deep o)
 or_deep_clean None = tt
 or_deep_clean (Some p) = tt
 
-pub or_behind_clean : (o : Option (List Seg)) → Clean (or_behind o)
-or_behind_clean None = tt
-or_behind_clean (Some p) = tt
+pub or_behind_clean : (p : Profile) (o : Option (List Seg)) → Clean (or_behind p o)
+or_behind_clean profiles.Wide o = tt
+or_behind_clean profiles.Core None = tt
+or_behind_clean profiles.Core (Some p) = tt
+
+pub bridge_header_clean : (kind : ℕ) → Clean (bridge_header kind)
+bridge_header_clean kind = if_clean (kind % 128 == 1 || kind % 128 == 2) _ _ tt tt
 
 -- ---- answers
 

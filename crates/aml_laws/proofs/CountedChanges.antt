@@ -19,6 +19,7 @@ use Rattle.aml_fields.specs.declared.field_units.Unit.{Unit as Access}
 use Rattle.aml_fields.specs.Units.{units_of}
 use Rattle.aml_fields.specs.UnitByUnit.{read_units, bits_read, write_units, kept_by, kept}
 use Rattle.aml_fields.specs.Regions.{read_access, read_unit, read_field, write_access, write_unit, write_field}
+use Rattle.aml_meaning.specs.Bridges.{secondary_bus}
 use Rattle.aml_meaning.specs.State.{State, on_objects, on_names, on_space}
 use Rattle.aml_meaning.specs.Run.{Run, lift, charge}
 use Rattle.aml_laws.specs.Counted.{beside_counter, without_counter}
@@ -179,6 +180,11 @@ module _ {S : Type 0} (accesses : Accesses S) where
   write_unit_counts : (r : Region) (f : FieldUnit) (source : List ℕ) (u : Access) → Counted (space_view S) (write_unit (beside_counter accesses) r f source u) (write_unit accesses r f source u)
   unfolding write_unit
   write_unit_counts r f source u = then_counts _ _ _ _ (settle_counts _) (λ p. then_counts _ _ _ _ (kept_counts f u _ _ (read_access_counts p f.access)) (λ old. write_access_counts p f.access _))
+
+  pub secondary_bus_counts : (seg bus address : ℕ) → Counted (space_view S) (secondary_bus (beside_counter accesses) seg bus address) (secondary_bus accesses seg bus address)
+  unfolding secondary_bus
+  secondary_bus_counts seg bus address =
+      then_counts _ _ _ _ (settle_counts _) (λ function. then_counts _ _ _ _ (read_unit_counts _ _ _) (λ kind. then_counts _ _ _ _ (settle_counts _) (λ bridge. read_unit_counts _ _ _)))
 
   pub read_field_counts : (r : Region) (f : FieldUnit) → Counted (space_view S) (read_field (beside_counter accesses) r f) (read_field accesses r f)
   read_field_counts r f = bits_read_counts _ _ (read_unit_counts r f.access) f

@@ -1,5 +1,5 @@
 -- Reading, writing and declaring fields do what they do without the counter, over calls that do.
-use Rattle.std.specs.Prelude.{ℕ, nat_lt, List, Bool, Option, Some, None, refl, true, false}
+use Rattle.std.specs.Prelude.{ℕ, nat_lt, List, [], ◌∷◌, Bool, Option, Some, None, refl, true, false}
 use Rattle.ar_space.specs.Accesses.{Accesses}
 use Rattle.ar_space.specs.declared.space.Width.{Width}
 use Rattle.aml_path.specs.declared.segment.Seg.{Seg}
@@ -25,15 +25,16 @@ use Rattle.aml_meaning.specs.declared.regions.RegionSpace.{RegionSpace}
 use Rattle.aml_meaning.specs.declared.regions.RegionSpace.TheVariants as kinds
 use Rattle.aml_meaning.specs.declared.regions.RegionField.{RegionField}
 use Rattle.aml_meaning.specs.Run.{Run}
-use Rattle.aml_meaning.specs.PciFunctions.{nearest, pci_function}
+use Rattle.aml_meaning.specs.PciFunctions.{nearest, behind_asked, pci_function}
+use Rattle.aml_meaning.specs.Bridges.{bridges_above}
 use Rattle.aml_meaning.specs.Regions.{region_declared, field_declared, integer_of_bits, integer_value, value_of_bits, integer_alone, referent_of_bits, given_of_bits}
-use Rattle.aml_meaning.specs.Fields.{part_in, inherited, pci_address, space_at, located, region_bits, region_written, index_unit, index_unit_written, index_bits, index_written, field_unit_bits, field_unit_written, bits_in, written_in, field_value, field_integer, field_part, field_referent, field_stored, field_given}
+use Rattle.aml_meaning.specs.Fields.{part_in, inherited, bus_behind, bus_behind_all, pci_address, space_at, located, region_bits, region_written, index_unit, index_unit_written, index_bits, index_written, field_unit_bits, field_unit_written, bits_in, written_in, field_value, field_integer, field_part, field_referent, field_stored, field_given}
 use Rattle.aml_meaning.specs.Terms.{is_named}
 use Rattle.aml_meaning.specs.FieldTerms.{connection_found, named_connection, connection_if, new_field, named_field, reserved_field, access_field, element_laid, elements_laid, region_found, field_found}
 use Rattle.ar_space.specs.Change.{stop}
 use Rattle.aml_meaning.specs.State.{on_objects}
 use Rattle.aml_laws.specs.Counted.{beside_counter}
-use Rattle.aml_laws.proofs.CountedChanges.{Counts, RunCounts, give_counts, stop_counts, settle_counts, then_counts, direct_counts, either_branch_counts, on_objects_counts, on_space_counts, lift_counts, bits_read_counts, write_units_counts, kept_counts, read_field_counts, write_field_counts}
+use Rattle.aml_laws.proofs.CountedChanges.{Counts, RunCounts, give_counts, stop_counts, settle_counts, then_counts, direct_counts, either_branch_counts, on_objects_counts, on_space_counts, lift_counts, bits_read_counts, write_units_counts, kept_counts, read_field_counts, secondary_bus_counts, write_field_counts}
 use Rattle.aml_laws.proofs.CountedOperations.{entry_found_counts, new_name_counts}
 use Rattle.aml_laws.proofs.CountedStoreTargets.{declaration_counts, bytes_in_counts}
 
@@ -44,9 +45,17 @@ module _ {S : Type 0} where
   unfolding nearest
   nearest_counts x q = direct_counts _ _ (λ w. refl) (λ w. refl)
 
+  behind_asked_counts : (bridge : Option (List Seg)) → Counts {S = S} (behind_asked bridge) (behind_asked bridge)
+  unfolding behind_asked
+  behind_asked_counts bridge = direct_counts _ _ (λ w. refl) (λ w. refl)
+
+  bridges_above_counts : (q : List Seg) → Counts {S = S} (bridges_above q) (bridges_above q)
+  unfolding bridges_above
+  bridges_above_counts q = direct_counts _ _ (λ w. refl) (λ w. refl)
+
   pci_function_counts : (scope : List Seg) → Counts {S = S} (pci_function scope) (pci_function scope)
   unfolding pci_function
-  pci_function_counts scope = then_counts _ _ _ _ (nearest_counts _ scope) (λ near. then_counts _ _ _ _ (settle_counts _) (λ q. then_counts _ _ _ _ (nearest_counts _ _) (λ bridge. then_counts _ _ _ _ (settle_counts _) (λ direct. give_counts _))))
+  pci_function_counts scope = then_counts _ _ _ _ (nearest_counts _ scope) (λ near. then_counts _ _ _ _ (settle_counts _) (λ q. then_counts _ _ _ _ (nearest_counts _ _) (λ bridge. then_counts _ _ _ _ (behind_asked_counts bridge) (λ reached. give_counts _))))
 
   region_declared_counts : (n : ℕ) → Counts {S = S} (region_declared n) (region_declared n)
   unfolding region_declared
@@ -141,9 +150,18 @@ module _ {S : Type 0} (accesses : Accesses S) (call : List Seg → Run (S × ℕ
   unfolding inherited
   inherited_counts s q = then_counts _ _ _ _ (lift_counts _ _ (nearest_counts _ q)) (λ o. part_in_counts s o)
 
+  bus_behind_counts : (seg bus : ℕ) (q : List Seg) → RunCounts {S = S} (bus_behind (beside_counter accesses) call seg bus q) (bus_behind accesses uncounted seg bus q)
+  unfolding bus_behind
+  bus_behind_counts seg bus q = then_counts _ _ _ _ (each _) (λ address. lift_counts _ _ (on_space_counts _ _ (secondary_bus_counts accesses seg bus address)))
+
+  bus_behind_all_counts : (seg bus : ℕ) (qs : List (List Seg)) → RunCounts {S = S} (bus_behind_all (beside_counter accesses) call seg bus qs) (bus_behind_all accesses uncounted seg bus qs)
+  unfolding bus_behind_all
+  bus_behind_all_counts seg bus [] = give_counts _
+  bus_behind_all_counts seg bus (q ∷ qs) = then_counts _ _ _ _ (bus_behind_counts seg bus q) (λ behind. bus_behind_all_counts seg behind qs)
+
   pci_address_counts : (scope : List Seg) → RunCounts {S = S} (pci_address (beside_counter accesses) call scope) (pci_address accesses uncounted scope)
   unfolding pci_address
-  pci_address_counts scope = then_counts _ _ _ _ (lift_counts _ _ (pci_function_counts scope)) (λ q. then_counts _ _ _ _ (inherited_counts _ q) (λ seg. then_counts _ _ _ _ (inherited_counts _ q) (λ bus. then_counts _ _ _ _ (each _) (λ address. settle_counts _))))
+  pci_address_counts scope = then_counts _ _ _ _ (lift_counts _ _ (pci_function_counts scope)) (λ q. then_counts _ _ _ _ (lift_counts _ _ (bridges_above_counts q)) (λ bridges. then_counts _ _ _ _ (inherited_counts _ q) (λ seg. then_counts _ _ _ _ (inherited_counts _ q) (λ bus. then_counts _ _ _ _ (bus_behind_all_counts seg bus bridges) (λ behind. then_counts _ _ _ _ (each _) (λ address. settle_counts _))))))
 
   space_at_counts : (k : RegionSpace) (scope : List Seg) → RunCounts {S = S} (space_at (beside_counter accesses) call k scope) (space_at accesses uncounted k scope)
   space_at_counts kinds.SystemMemory scope = give_counts _

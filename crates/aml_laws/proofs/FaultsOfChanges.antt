@@ -276,7 +276,7 @@ module _ {S : Type 0} (accesses : Accesses S) where
   unfolding write_access
   write_access_explains p width value = record { explained = λ s. write_explained s (accesses.writes s p width value).1 p width value (accesses.writes s p width value).0 refl; spent = λ s. faulted_spent (accesses.writes s p width value).0 1 }
 
-  read_unit_explains : (r : Region) (width : Width) (u : Access) → SpaceExplains accesses (read_unit accesses r width u)
+  pub read_unit_explains : (r : Region) (width : Width) (u : Access) → SpaceExplains accesses (read_unit accesses r width u)
   unfolding read_unit
   read_unit_explains r width u = then_explains _ _ (settle_explains _ (unit_place_clean r width u.offset)) (λ p. read_access_explains p width)
 

@@ -1,5 +1,5 @@
 -- Where a read or a write of a field refuses by a fault of the register space, its last access answered with it, over calls that do so.
-use Rattle.std.specs.Prelude.{Bool, List, None, Option, Some, nat_lt, refl, ℕ, true, false}
+use Rattle.std.specs.Prelude.{Bool, List, [], ◌∷◌, None, Option, Some, nat_lt, refl, ℕ, true, false}
 use Rattle.ar_space.specs.Accesses.{Accesses}
 use Rattle.ar_space.specs.Change.{stop}
 use Rattle.ar_space.specs.declared.space.Width.{Width}
@@ -23,9 +23,10 @@ use Rattle.aml_fields.specs.Units.{units_of}
 use Rattle.aml_fields.specs.declared.field_units.Unit.{Unit as Access}
 use Rattle.aml_meaning.specs.Terms.{is_named}
 use Rattle.aml_meaning.specs.FieldTerms.{connection_found, named_connection, connection_if, access_field, element_laid, elements_laid, field_found, named_field, new_field, region_found, reserved_field}
-use Rattle.aml_meaning.specs.Fields.{bits_in, field_given, field_integer, field_part, field_referent, field_stored, field_unit_bits, field_unit_written, field_value, index_bits, index_unit, index_unit_written, index_written, inherited, located, part_in, pci_address, region_bits, region_written, space_at, written_in}
+use Rattle.aml_meaning.specs.Fields.{bits_in, bus_behind, bus_behind_all, field_given, field_integer, field_part, field_referent, field_stored, field_unit_bits, field_unit_written, field_value, index_bits, index_unit, index_unit_written, index_written, inherited, located, part_in, pci_address, region_bits, region_written, space_at, written_in}
 use Rattle.aml_meaning.specs.Given as given
-use Rattle.aml_meaning.specs.PciFunctions.{nearest, pci_function}
+use Rattle.aml_meaning.specs.PciFunctions.{nearest, behind_asked, pci_function}
+use Rattle.aml_meaning.specs.Bridges.{bridges_above, secondary_bus}
 use Rattle.aml_meaning.specs.Regions.{field_declared, given_of_bits, integer_alone, integer_of_bits, integer_referent, integer_value, referent_of_bits, region_declared, value_of_bits}
 use Rattle.aml_meaning.specs.Run.{Run}
 use Rattle.aml_meaning.specs.State.{on_objects}
@@ -39,8 +40,8 @@ use Rattle.aml_meaning.specs.declared.regions.RegionSpace.{RegionSpace}
 use Rattle.aml_laws.proofs.CleanObjects.{make_buffer_clean, read_buffer_field_clean, write_buffer_field_clean}
 use Rattle.aml_laws.proofs.CleanOutcomes.{seen_clean}
 use Rattle.aml_laws.proofs.CleanValues.{resolved_clean, to_integer_of_clean}
-use Rattle.aml_laws.proofs.CleanWorlds.{connection_buffer_clean, field_number_clean, field_of_object_clean, further_clean, name_of_clean, number_of_clean, or_behind_clean, or_deep_clean, pci_space_clean, region_number_clean, region_of_object_clean, sized_clean}
-use Rattle.aml_laws.proofs.FaultsOfChanges.{RunExplains, WorldExplains, bits_read_explains, direct_explains, either_branch_explains, give_explains, kept_explains, lift_explains, on_objects_explains, on_space_explains, read_field_explains, settle_explains, stop_explains, then_explains, write_field_explains, write_units_explains}
+use Rattle.aml_laws.proofs.CleanWorlds.{bridge_header_clean, connection_buffer_clean, field_number_clean, field_of_object_clean, further_clean, name_of_clean, number_of_clean, or_behind_clean, or_deep_clean, pci_space_clean, region_number_clean, region_of_object_clean, sized_clean}
+use Rattle.aml_laws.proofs.FaultsOfChanges.{RunExplains, SpaceExplains, WorldExplains, bits_read_explains, direct_explains, either_branch_explains, give_explains, kept_explains, lift_explains, on_objects_explains, on_space_explains, read_field_explains, read_unit_explains, settle_explains, stop_explains, then_explains, write_field_explains, write_units_explains}
 use Rattle.aml_laws.proofs.FaultsOfOperations.{entry_found_explains, new_name_explains}
 use Rattle.aml_laws.proofs.FaultsOfStoreTargets.{bytes_in_explains, declaration_explains}
 
@@ -51,9 +52,22 @@ module _ {S : Type 0} {accesses : Accesses S} where
   unfolding nearest
   nearest_explains x q = direct_explains _ (λ w. tt) (λ w. refl)
 
+  behind_asked_explains : (bridge : Option (List Seg)) → WorldExplains accesses (behind_asked bridge)
+  unfolding behind_asked
+  behind_asked_explains bridge = direct_explains _ (λ w. or_behind_clean w.profile bridge) (λ w. refl)
+
+  bridges_above_explains : (q : List Seg) → WorldExplains accesses (bridges_above q)
+  unfolding bridges_above
+  bridges_above_explains q = direct_explains _ (λ w. tt) (λ w. refl)
+
+  secondary_bus_explains : (seg bus address : ℕ) → SpaceExplains accesses (secondary_bus accesses seg bus address)
+  unfolding secondary_bus
+  secondary_bus_explains seg bus address =
+      then_explains _ _ (settle_explains _ (pci_space_clean seg bus address)) (λ function. then_explains _ _ (read_unit_explains accesses _ _ _) (λ kind. then_explains _ _ (settle_explains _ (bridge_header_clean kind)) (λ bridge. read_unit_explains accesses _ _ _)))
+
   pci_function_explains : (scope : List Seg) → WorldExplains accesses (pci_function scope)
   unfolding pci_function
-  pci_function_explains scope = then_explains _ _ (nearest_explains _ scope) (λ near. then_explains _ _ (settle_explains _ (or_deep_clean _)) (λ q. then_explains _ _ (nearest_explains _ _) (λ bridge. then_explains _ _ (settle_explains _ (or_behind_clean _)) (λ direct. give_explains _))))
+  pci_function_explains scope = then_explains _ _ (nearest_explains _ scope) (λ near. then_explains _ _ (settle_explains _ (or_deep_clean _)) (λ q. then_explains _ _ (nearest_explains _ _) (λ bridge. then_explains _ _ (behind_asked_explains bridge) (λ reached. give_explains _))))
 
   region_declared_explains : (n : ℕ) → WorldExplains accesses (region_declared n)
   unfolding region_declared
@@ -148,9 +162,18 @@ module _ {S : Type 0} (accesses : Accesses S) (call : List Seg → Run S ℕ) (e
   unfolding inherited
   inherited_explains s q = then_explains _ _ (lift_explains _ (nearest_explains _ q)) (λ o. part_in_explains s o)
 
+  bus_behind_explains : (seg bus : ℕ) (q : List Seg) → RunExplains accesses (bus_behind accesses call seg bus q)
+  unfolding bus_behind
+  bus_behind_explains seg bus q = then_explains _ _ (each _) (λ address. lift_explains _ (on_space_explains _ (secondary_bus_explains seg bus address)))
+
+  bus_behind_all_explains : (seg bus : ℕ) (qs : List (List Seg)) → RunExplains accesses (bus_behind_all accesses call seg bus qs)
+  unfolding bus_behind_all
+  bus_behind_all_explains seg bus [] = give_explains _
+  bus_behind_all_explains seg bus (q ∷ qs) = then_explains _ _ (bus_behind_explains seg bus q) (λ behind. bus_behind_all_explains seg behind qs)
+
   pci_address_explains : (scope : List Seg) → RunExplains accesses (pci_address accesses call scope)
   unfolding pci_address
-  pci_address_explains scope = then_explains _ _ (lift_explains _ (pci_function_explains scope)) (λ q. then_explains _ _ (inherited_explains _ q) (λ seg. then_explains _ _ (inherited_explains _ q) (λ bus. then_explains _ _ (each _) (λ address. settle_explains _ (pci_space_clean seg bus address)))))
+  pci_address_explains scope = then_explains _ _ (lift_explains _ (pci_function_explains scope)) (λ q. then_explains _ _ (lift_explains _ (bridges_above_explains q)) (λ bridges. then_explains _ _ (inherited_explains _ q) (λ seg. then_explains _ _ (inherited_explains _ q) (λ bus. then_explains _ _ (bus_behind_all_explains seg bus bridges) (λ behind. then_explains _ _ (each _) (λ address. settle_explains _ (pci_space_clean seg behind address)))))))
 
   space_at_explains : (k : RegionSpace) (scope : List Seg) → RunExplains accesses (space_at accesses call k scope)
   space_at_explains kinds.SystemMemory scope = give_explains _

@@ -1,5 +1,5 @@
 -- Reading, writing and declaring fields preserve every world relation.
-use Rattle.std.specs.Prelude.{ℕ, nat_lt, List, Bool, Option, Some, None, refl, true, false}
+use Rattle.std.specs.Prelude.{ℕ, nat_lt, List, [], ◌∷◌, Bool, Option, Some, None, refl, true, false}
 use Rattle.ar_space.specs.Accesses.{Accesses}
 use Rattle.ar_space.specs.Outcome.{Outcome}
 use Rattle.ar_space.specs.declared.space.Width.{Width}
@@ -30,14 +30,15 @@ use Rattle.aml_meaning.specs.declared.regions.RegionField.{RegionField}
 use Rattle.aml_meaning.specs.State.{State}
 use Rattle.aml_meaning.specs.Run.{Run}
 use Rattle.aml_meaning.specs.Given.{Given}
-use Rattle.aml_meaning.specs.PciFunctions.{nearest, pci_function}
+use Rattle.aml_meaning.specs.PciFunctions.{nearest, behind_asked, pci_function}
+use Rattle.aml_meaning.specs.Bridges.{bridges_above}
 use Rattle.aml_meaning.specs.Regions.{region_declared, field_declared, integer_of_bits, integer_value, value_of_bits, integer_alone, referent_of_bits, given_of_bits}
-use Rattle.aml_meaning.specs.Fields.{part_in, inherited, pci_address, space_at, located, region_bits, region_written, index_unit, index_unit_written, index_bits, index_written, field_unit_bits, field_unit_written, bits_in, written_in, field_value, field_integer, field_part, field_referent, field_stored, field_given}
+use Rattle.aml_meaning.specs.Fields.{part_in, inherited, bus_behind, bus_behind_all, pci_address, space_at, located, region_bits, region_written, index_unit, index_unit_written, index_bits, index_written, field_unit_bits, field_unit_written, bits_in, written_in, field_value, field_integer, field_part, field_referent, field_stored, field_given}
 use Rattle.aml_meaning.specs.Terms.{is_named}
 use Rattle.aml_meaning.specs.FieldTerms.{connection_found, named_connection, connection_if, new_field, named_field, reserved_field, access_field, element_laid, elements_laid, region_found, field_found}
 use Rattle.aml_laws.proofs.Preorders.{either_branch, bits_read_respects, write_units_respects, kept_respects}
 use Rattle.aml_laws.proofs.ObjectKinds.{make_buffer_keeps_kinds, read_buffer_field_keeps_kinds, write_buffer_field_keeps_kinds}
-use Rattle.aml_laws.proofs.RegisterAccesses.{read_field_only_accesses, write_field_only_accesses}
+use Rattle.aml_laws.proofs.RegisterAccesses.{secondary_bus_only_accesses, read_field_only_accesses, write_field_only_accesses}
 use Rattle.aml_laws.proofs.WorldRelations.{WorldRelation, Preserves, RunPreserves, respects_preserves, preserves_respects, unchanged_preserves, give_preserves, stop_preserves, settle_preserves, then_preserves, on_objects_preserves, on_space_preserves, run_give_preserves, run_stop_preserves, run_settle_preserves, lift_preserves, run_then_preserves}
 use Rattle.aml_laws.proofs.ChangesPreserve.{entry_found_preserves, new_name_preserves}
 use Rattle.aml_laws.proofs.StoreTargetsPreserve.{declaration_preserves, bytes_in_preserves}
@@ -49,9 +50,17 @@ module _ {S : Type 0} {accesses : Accesses S} {relation : WorldRelation accesses
   unfolding nearest
   nearest_preserves x q = unchanged_preserves _ (λ w. refl)
 
+  behind_asked_preserves : (bridge : Option (List Seg)) → Preserves relation (behind_asked bridge)
+  unfolding behind_asked
+  behind_asked_preserves bridge = unchanged_preserves _ (λ w. refl)
+
+  bridges_above_preserves : (q : List Seg) → Preserves relation (bridges_above q)
+  unfolding bridges_above
+  bridges_above_preserves q = unchanged_preserves _ (λ w. refl)
+
   pci_function_preserves : (scope : List Seg) → Preserves relation (pci_function scope)
   unfolding pci_function
-  pci_function_preserves scope = then_preserves _ _ (nearest_preserves _ scope) (λ near. then_preserves _ _ (settle_preserves _) (λ q. then_preserves _ _ (nearest_preserves _ _) (λ bridge. then_preserves _ _ (settle_preserves _) (λ direct. give_preserves _))))
+  pci_function_preserves scope = then_preserves _ _ (nearest_preserves _ scope) (λ near. then_preserves _ _ (settle_preserves _) (λ q. then_preserves _ _ (nearest_preserves _ _) (λ bridge. then_preserves _ _ (behind_asked_preserves bridge) (λ reached. give_preserves _))))
 
   region_declared_preserves : (n : ℕ) → Preserves relation (region_declared n)
   unfolding region_declared
@@ -157,9 +166,18 @@ module _ {S : Type 0} {accesses : Accesses S} {relation : WorldRelation accesses
   unfolding inherited
   inherited_preserves s q = run_then_preserves _ _ (lift_preserves _ (nearest_preserves _ q)) (λ o. part_in_preserves s o)
 
+  bus_behind_preserves : (seg bus : ℕ) (q : List Seg) → RunPreserves relation (bus_behind accesses call seg bus q)
+  unfolding bus_behind
+  bus_behind_preserves seg bus q = run_then_preserves _ _ (each _) (λ address. lift_preserves _ (on_space_preserves _ (secondary_bus_only_accesses accesses seg bus address)))
+
+  bus_behind_all_preserves : (seg bus : ℕ) (qs : List (List Seg)) → RunPreserves relation (bus_behind_all accesses call seg bus qs)
+  unfolding bus_behind_all
+  bus_behind_all_preserves seg bus [] = run_give_preserves _
+  bus_behind_all_preserves seg bus (q ∷ qs) = run_then_preserves _ _ (bus_behind_preserves seg bus q) (λ behind. bus_behind_all_preserves seg behind qs)
+
   pci_address_preserves : (scope : List Seg) → RunPreserves relation (pci_address accesses call scope)
   unfolding pci_address
-  pci_address_preserves scope = run_then_preserves _ _ (lift_preserves _ (pci_function_preserves scope)) (λ q. run_then_preserves _ _ (inherited_preserves _ q) (λ seg. run_then_preserves _ _ (inherited_preserves _ q) (λ bus. run_then_preserves _ _ (each _) (λ address. run_settle_preserves _))))
+  pci_address_preserves scope = run_then_preserves _ _ (lift_preserves _ (pci_function_preserves scope)) (λ q. run_then_preserves _ _ (lift_preserves _ (bridges_above_preserves q)) (λ bridges. run_then_preserves _ _ (inherited_preserves _ q) (λ seg. run_then_preserves _ _ (inherited_preserves _ q) (λ bus. run_then_preserves _ _ (bus_behind_all_preserves seg bus bridges) (λ behind. run_then_preserves _ _ (each _) (λ address. run_settle_preserves _))))))
 
   space_at_preserves : (k : RegionSpace) (scope : List Seg) → RunPreserves relation (space_at accesses call k scope)
   space_at_preserves kinds.SystemMemory scope = run_give_preserves _

@@ -1,5 +1,5 @@
 -- Reading, writing and declaring fields go the same way over two register spaces.
-use Rattle.std.specs.Prelude.{ℕ, nat_lt, List, Bool, Option, Some, None, refl, true, false}
+use Rattle.std.specs.Prelude.{ℕ, nat_lt, List, [], ◌∷◌, Bool, Option, Some, None, refl, true, false}
 use Rattle.ar_space.specs.Accesses.{Accesses}
 use Rattle.ar_space.specs.declared.space.Width.{Width}
 use Rattle.aml_path.specs.declared.segment.Seg.{Seg}
@@ -26,12 +26,13 @@ use Rattle.aml_meaning.specs.declared.regions.RegionField.{RegionField}
 use Rattle.aml_meaning.specs.Run.{Run}
 use Rattle.aml_meaning.specs.PciFunctions.{nearest, pci_function}
 use Rattle.aml_meaning.specs.Regions.{region_declared, field_declared, integer_of_bits, integer_value, value_of_bits, integer_alone, referent_of_bits, given_of_bits}
-use Rattle.aml_meaning.specs.Fields.{part_in, inherited, pci_address, space_at, located, region_bits, region_written, index_unit, index_unit_written, index_bits, index_written, field_unit_bits, field_unit_written, bits_in, written_in, field_value, field_integer, field_part, field_referent, field_stored, field_given}
+use Rattle.aml_meaning.specs.Fields.{part_in, inherited, bus_behind, bus_behind_all, pci_address, space_at, located, region_bits, region_written, index_unit, index_unit_written, index_bits, index_written, field_unit_bits, field_unit_written, bits_in, written_in, field_value, field_integer, field_part, field_referent, field_stored, field_given}
 use Rattle.aml_meaning.specs.Terms.{is_named}
 use Rattle.aml_meaning.specs.FieldTerms.{connection_found, named_connection, connection_if, new_field, named_field, reserved_field, access_field, element_laid, elements_laid, region_found, field_found}
 use Rattle.aml_laws.proofs.Together.{Sides, Together, choice_together, give_together, plain, settle_together, stop_together, then_together}
 use Rattle.aml_laws.proofs.WorldsTogether.{lift_together, objects_together, runs, space_together, worlds}
 use Rattle.aml_laws.proofs.UnitsTogether.{bits_read_together, kept_together, read_field_together, write_field_together, write_units_together}
+use Rattle.aml_laws.proofs.BridgesTogether.{behind_asked_together, bridges_above_together, secondary_bus_together}
 use Rattle.aml_laws.proofs.ChangesTogether.{entry_found_together, new_name_together}
 use Rattle.aml_laws.proofs.StoreTargetsTogether.{bytes_in_together, declaration_together}
 
@@ -44,7 +45,7 @@ module _ {S T : Type 0} {accesses : Accesses S} {accesses2 : Accesses T} {side :
 
   pci_function_together : (scope : List Seg) → Together side worlds (pci_function scope) (pci_function scope)
   unfolding pci_function
-  pci_function_together scope = then_together (nearest_together _ scope) (λ near. then_together (settle_together _) (λ q. then_together (nearest_together _ _) (λ bridge. then_together (settle_together _) (λ direct. give_together _))))
+  pci_function_together scope = then_together (nearest_together _ scope) (λ near. then_together (settle_together _) (λ q. then_together (nearest_together _ _) (λ bridge. then_together (behind_asked_together bridge) (λ reached. give_together _))))
 
   region_declared_together : (n : ℕ) → Together side worlds (region_declared n) (region_declared n)
   unfolding region_declared
@@ -139,9 +140,18 @@ module _ {S T : Type 0} {accesses : Accesses S} {accesses2 : Accesses T} {side :
   unfolding inherited
   inherited_together s q = then_together (lift_together (nearest_together _ q)) (λ o. part_in_together s o)
 
+  bus_behind_together : (seg bus : ℕ) (q : List Seg) → Together side runs (bus_behind accesses call seg bus q) (bus_behind accesses2 call2 seg bus q)
+  unfolding bus_behind
+  bus_behind_together seg bus q = then_together (each _) (λ address. lift_together (space_together (secondary_bus_together seg bus address)))
+
+  bus_behind_all_together : (seg bus : ℕ) (qs : List (List Seg)) → Together side runs (bus_behind_all accesses call seg bus qs) (bus_behind_all accesses2 call2 seg bus qs)
+  unfolding bus_behind_all
+  bus_behind_all_together seg bus [] = give_together _
+  bus_behind_all_together seg bus (q ∷ qs) = then_together (bus_behind_together seg bus q) (λ behind. bus_behind_all_together seg behind qs)
+
   pci_address_together : (scope : List Seg) → Together side runs (pci_address accesses call scope) (pci_address accesses2 call2 scope)
   unfolding pci_address
-  pci_address_together scope = then_together (lift_together (pci_function_together scope)) (λ q. then_together (inherited_together _ q) (λ seg. then_together (inherited_together _ q) (λ bus. then_together (each _) (λ address. settle_together _))))
+  pci_address_together scope = then_together (lift_together (pci_function_together scope)) (λ q. then_together (lift_together (bridges_above_together q)) (λ bridges. then_together (inherited_together _ q) (λ seg. then_together (inherited_together _ q) (λ bus. then_together (bus_behind_all_together seg bus bridges) (λ behind. then_together (each _) (λ address. settle_together _))))))
 
   space_at_together : (k : RegionSpace) (scope : List Seg) → Together side runs (space_at accesses call k scope) (space_at accesses2 call2 k scope)
   space_at_together kinds.SystemMemory scope = give_together _

@@ -39,9 +39,10 @@ use Rattle.aml_meaning.specs.declared.regions.RegionField.{RegionField}
 use Rattle.aml_meaning.specs.Given.{Given, Integer, Bytes}
 use Rattle.aml_meaning.specs.State.{State, on_space}
 use Rattle.aml_meaning.specs.Run.{Run, lift, charge}
-use Rattle.aml_meaning.specs.PciFunctions.{nearest, pci_function}
+use Rattle.aml_meaning.specs.PciFunctions.{nearest, behind_asked, pci_function}
+use Rattle.aml_meaning.specs.Bridges.{bridges_above, secondary_bus}
 use Rattle.aml_meaning.specs.Regions.{region_declared, field_declared, integer_of_bits, integer_value, value_of_bits, integer_alone, given_of_bits, integer_referent, referent_of_bits}
-use Rattle.aml_meaning.specs.Fields.{part_in, inherited, pci_address, space_at, located, region_bits, region_written, index_unit, index_unit_written, index_bits, index_written, field_unit_bits, field_unit_written, bits_in, written_in, field_value, field_integer, field_part, field_given, field_referent, field_stored}
+use Rattle.aml_meaning.specs.Fields.{part_in, inherited, bus_behind, bus_behind_all, pci_address, space_at, located, region_bits, region_written, index_unit, index_unit_written, index_bits, index_written, field_unit_bits, field_unit_written, bits_in, written_in, field_value, field_integer, field_part, field_given, field_referent, field_stored}
 use Rattle.aml_laws.specs.Plain.{AreBytes}
 use Rattle.aml_laws.specs.Within.{WithinWidth}
 use Rattle.aml_laws.specs.Handed.{GivenWithin}
@@ -192,10 +193,10 @@ module _ (S : Type 0) (width : IntegerWidth) where
   field_declared_maintains n = then_maintains _ _ (declaration_maintains S width n) (λ e f. settle_maintains _ (λ a e. tt))
 
   pci_function_maintains : (scope : List Seg) → Maintains (WorldWithin S width) Any (pci_function scope)
-  unfolding pci_function nearest
+  unfolding pci_function nearest behind_asked
   pci_function_maintains scope =
       then_maintains {Fit = Any} _ _ (record { maintains = λ w i. settled_maintained _ w i (λ a e. tt) }) (λ near u. then_maintains {Fit = Any} _ _ (settle_maintains _ (λ a e. tt)) (λ q v.
-      then_maintains {Fit = Any} _ _ (record { maintains = λ w i. settled_maintained _ w i (λ a e. tt) }) (λ bridge x. then_maintains {Fit = Any} _ _ (settle_maintains _ (λ a e. tt)) (λ direct y. give_maintains _ tt))))
+      then_maintains {Fit = Any} _ _ (record { maintains = λ w i. settled_maintained _ w i (λ a e. tt) }) (λ bridge x. then_maintains {Fit = Any} _ _ (record { maintains = λ w i. settled_maintained _ w i (λ a e. tt) }) (λ reached y. give_maintains _ tt))))
 
   pub integer_of_bits_maintains : (bytes : List ℕ) → AreBytes bytes → Maintains (WorldWithin S width) (IntegerFits S width) (integer_of_bits bytes)
   unfolding integer_of_bits
@@ -234,11 +235,24 @@ module _ (S : Type 0) (width : IntegerWidth) (accesses : Accesses S) (call : Lis
   unfolding inherited nearest
   inherited_maintains s q = then_maintains {Fit = Any} _ _ (lift_maintains S width _ (record { maintains = λ w i. settled_maintained _ w i (λ a e. tt) })) (λ o u. part_in_maintains s o)
 
+  bus_behind_maintains : (seg bus : ℕ) (q : List Seg) → Maintains (RunWithin S width) Any (bus_behind accesses call seg bus q)
+  unfolding bus_behind
+  bus_behind_maintains seg bus q = then_maintains _ _ (each _) (λ address u. lift_maintains S width _ (any_on_space_maintains S width (secondary_bus accesses seg bus address)))
+
+  bus_behind_all_maintains : (seg bus : ℕ) (qs : List (List Seg)) → Maintains (RunWithin S width) Any (bus_behind_all accesses call seg bus qs)
+  unfolding bus_behind_all
+  bus_behind_all_maintains seg bus [] = give_maintains _ tt
+  bus_behind_all_maintains seg bus (q ∷ qs) = then_maintains _ _ (bus_behind_maintains seg bus q) (λ behind u. bus_behind_all_maintains seg behind qs)
+
+  bridges_above_maintains : (q : List Seg) → Maintains (RunWithin S width) Any (lift (bridges_above q))
+  unfolding bridges_above
+  bridges_above_maintains q = lift_maintains S width _ (record { maintains = λ w i. settled_maintained _ w i (λ a e. tt) })
+
   space_at_maintains : (k : RegionSpace) (scope : List Seg) → Maintains (RunWithin S width) Any (space_at accesses call k scope)
   unfolding pci_address
   space_at_maintains kinds.SystemMemory scope = give_maintains _ tt
   space_at_maintains kinds.SystemIo scope = give_maintains _ tt
-  space_at_maintains kinds.PciConfig scope = then_maintains _ _ (lift_maintains S width _ (pci_function_maintains S width scope)) (λ q u. then_maintains _ _ (inherited_maintains _ q) (λ seg v. then_maintains _ _ (inherited_maintains _ q) (λ bus x. then_maintains _ _ (each _) (λ address y. settle_maintains _ (λ a e. tt)))))
+  space_at_maintains kinds.PciConfig scope = then_maintains _ _ (lift_maintains S width _ (pci_function_maintains S width scope)) (λ q u. then_maintains _ _ (bridges_above_maintains q) (λ bridges b. then_maintains _ _ (inherited_maintains _ q) (λ seg v. then_maintains _ _ (inherited_maintains _ q) (λ bus x. then_maintains _ _ (bus_behind_all_maintains seg bus bridges) (λ behind z. then_maintains _ _ (each _) (λ address y. settle_maintains _ (λ a e. tt)))))))
   space_at_maintains kinds.Other scope = stop_maintains _
 
   located_maintains : (n : ℕ) → Maintains (RunWithin S width) Any (located accesses call n)

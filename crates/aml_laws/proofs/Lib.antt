@@ -7,6 +7,7 @@
 -- a lemma that goes through the cases for another ends with `_by_cases`.
 pub mod AnswersTogether
 pub mod ArgumentsAndAnswersPreserve
+pub mod BridgesTogether
 pub mod BufferFieldWrites
 pub mod ChangesNothing
 pub mod Charges

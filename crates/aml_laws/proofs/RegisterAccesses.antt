@@ -9,6 +9,7 @@ use Rattle.aml_fields.specs.declared.region.Region.{Region}
 use Rattle.aml_fields.specs.declared.field_units.Unit.{Unit as Access}
 use Rattle.aml_fields.specs.Units.{units_of}
 use Rattle.aml_fields.specs.Regions.{read_access, read_unit, read_field, write_access, write_unit, write_field}
+use Rattle.aml_meaning.specs.Bridges.{secondary_bus}
 use Rattle.aml_laws.specs.Reached.{Reached}
 use Rattle.aml_laws.specs.Reached as by
 use Rattle.aml_laws.proofs.Preorders.{Preorder, Respects, settle_respects, then_respects, bits_read_respects, write_units_respects, kept_respects}
@@ -41,6 +42,11 @@ module _ {S : Type 0} (accesses : Accesses S) where
   write_unit_only_accesses : (r : Region) (f : FieldUnit) (source : List ℕ) (u : Access) → OnlyAccesses (write_unit accesses r f source u)
   unfolding write_unit
   write_unit_only_accesses r f source u = then_respects _ _ (settle_respects _) (λ p. then_respects _ _ (kept_respects f u _ (read_access_only_accesses p f.access)) (λ old. write_access_only_accesses p f.access _))
+
+  pub secondary_bus_only_accesses : (seg bus address : ℕ) → OnlyAccesses (secondary_bus accesses seg bus address)
+  unfolding secondary_bus
+  secondary_bus_only_accesses seg bus address =
+      then_respects _ _ (settle_respects _) (λ function. then_respects _ _ (read_unit_only_accesses _ _ _) (λ kind. then_respects _ _ (settle_respects _) (λ bridge. read_unit_only_accesses _ _ _)))
 
   pub read_field_only_accesses : (r : Region) (f : FieldUnit) → OnlyAccesses (read_field accesses r f)
   read_field_only_accesses r f = bits_read_respects _ (read_unit_only_accesses r f.access) f

@@ -64,7 +64,7 @@ module _ {S T : Type 0} {accesses : Accesses S} {accesses2 : Accesses T} {side :
     goes = λ s t i. answered_goes side (accesses.writes s p width value) (accesses2.writes t p width value) (side.beside.writes s t p width value i);
   }
 
-  read_unit_together : (r : Region) (width : Width) (u : Access) → Together side spaces (read_unit accesses r width u) (read_unit accesses2 r width u)
+  pub read_unit_together : (r : Region) (width : Width) (u : Access) → Together side spaces (read_unit accesses r width u) (read_unit accesses2 r width u)
   unfolding read_unit
   read_unit_together r width u = then_together (settle_together _) (λ p. read_access_together p width)
 

@@ -49,7 +49,7 @@ asked_comes : {S T : Type 0} {accesses : Accesses S} {accesses2 : Accesses T} (s
     → Comes side worlds (evaluated_in w.profile op, w) (evaluated_in (side.raise w.profile) op, world_over side.raise w t)
 asked_comes side op w t profiles.Wide is core i = inr (inr (t, ap (λ r. (evaluated_in r op, world_over side.raise w t)) (ap side.raise is ∙ side.wide_stays ∙ sym is), i))
 asked_comes side op w t profiles.Core is (inl stays) i = inr (inr (t, ap (λ r. (evaluated_in r op, world_over side.raise w t)) (ap side.raise is ∙ stays ∙ sym is), i))
-asked_comes side op w t profiles.Core is (inr ends) i = inr (inl (subst (λ p. IsEnded side.Ends (evaluated_in p op)) (sym is) (ends (refusal.Evaluation (Unsupported (number_of op))) (number_of op, refl))))
+asked_comes side op w t profiles.Core is (inr ends) i = inr (inl (subst (λ p. IsEnded side.Ends (evaluated_in p op)) (sym is) (ends (refusal.Evaluation (Unsupported (number_of op))) (inl (number_of op, refl)))))
 
 module _ {S T : Type 0} {accesses : Accesses S} {accesses2 : Accesses T} {side : Sides accesses accesses2} where
   decoded_in_together : (v : Value) → Together side worlds (decoded_in v) (decoded_in v)

@@ -1,8 +1,8 @@
 -- A world in the wide profile, and what the core profile leaves out.
-use Rattle.std.specs.Prelude.{◌≡◌, ℕ, Ok, Err}
+use Rattle.std.specs.Prelude.{◌≡◌, ◌⊎◌, ℕ, Ok, Err}
 use Rattle.ar_space.specs.declared.refusal.Refusal.{Refusal}
 use Rattle.ar_space.specs.declared.refusal.Refusal.TheVariants as refusal
-use Rattle.ar_space.specs.declared.refusal.EvaluationFault.TheVariants.{Unsupported}
+use Rattle.ar_space.specs.declared.refusal.EvaluationFault.TheVariants.{Unsupported, DeepPci}
 use Rattle.ar_space.specs.Outcome.{Outcome}
 use Rattle.aml_meaning.specs.declared.profile.Profile.TheVariants as profile
 use Rattle.aml_meaning.specs.State.{State}
@@ -15,9 +15,9 @@ widened w = record { names = w.names; arities = w.arities; objects = w.objects; 
 abbrev pub outcome_widened : {S A : Type 0} → Outcome A × (State S × ℕ) → Outcome A × (State S × ℕ)
 outcome_widened r = (r.0, (widened r.1.0, r.1.1))
 
--- a refusal of a term that a profile leaves out
+-- a refusal of what the core profile leaves out: a term, or a register of PCI_Config behind a bridge
 abbrev pub LeftOut : Refusal → Type 0
-LeftOut e = (op : ℕ) × (e ≡ refusal.Evaluation (Unsupported op))
+LeftOut e = ((op : ℕ) × (e ≡ refusal.Evaluation (Unsupported op))) ⊎ (e ≡ refusal.Evaluation DeepPci)
 
 -- an outcome is such a refusal
 abbrev pub IsLeftOut : {A : Type 0} → Outcome A → Type 0

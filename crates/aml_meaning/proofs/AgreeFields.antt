@@ -20,7 +20,7 @@ use Rattle.aml_meaning.specs.declared.regions.RegionSpace.TheVariants as kinds
 use Rattle.aml_meaning.specs.declared.regions.RegionField.{RegionField}
 use Rattle.aml_meaning.specs.Run.{Run}
 use Rattle.aml_meaning.proofs.Agree.{Agree, agree_give, agree_stop, agree_settle, agree_lift, agree_bind}
-use Rattle.aml_meaning.specs.Fields.{part_in, inherited, pci_address, space_at, located, region_bits, region_written, index_unit, index_unit_written, index_bits, index_written, field_unit_bits, field_unit_written, bits_in, written_in, field_value, field_integer, field_part, field_referent, field_stored}
+use Rattle.aml_meaning.specs.Fields.{part_in, inherited, bus_behind, bus_behind_all, pci_address, space_at, located, region_bits, region_written, index_unit, index_unit_written, index_bits, index_written, field_unit_bits, field_unit_written, bits_in, written_in, field_value, field_integer, field_part, field_referent, field_stored}
 
 -- ---- unit by unit
 
@@ -61,9 +61,18 @@ module _ {S : Type 0} {n : ℕ} (accesses : Accesses S) (call other : List Seg �
   unfolding inherited
   agree_inherited s p = agree_bind _ _ _ _ (agree_lift _) (λ o. agree_part_in s o)
 
+  agree_bus_behind : (seg bus : ℕ) (p : List Seg) → Agree n (bus_behind accesses call seg bus p) (bus_behind accesses other seg bus p)
+  unfolding bus_behind
+  agree_bus_behind seg bus p = agree_bind _ _ _ _ (alike _) (λ address. agree_lift _)
+
+  agree_buses : (seg bus : ℕ) (ps : List (List Seg)) → Agree n (bus_behind_all accesses call seg bus ps) (bus_behind_all accesses other seg bus ps)
+  unfolding bus_behind_all
+  agree_buses seg bus [] = agree_give _
+  agree_buses seg bus (p ∷ ps) = agree_bind _ _ _ _ (agree_bus_behind seg bus p) (λ behind. agree_buses seg behind ps)
+
   agree_pci : (scope : List Seg) → Agree n (pci_address accesses call scope) (pci_address accesses other scope)
   unfolding pci_address
-  agree_pci scope = agree_bind _ _ _ _ (agree_lift _) (λ p. agree_bind _ _ _ _ (agree_inherited _ p) (λ seg. agree_bind _ _ _ _ (agree_inherited _ p) (λ bus. agree_bind _ _ _ _ (alike _) (λ address. agree_settle _))))
+  agree_pci scope = agree_bind _ _ _ _ (agree_lift _) (λ p. agree_bind _ _ _ _ (agree_lift _) (λ bridges. agree_bind _ _ _ _ (agree_inherited _ p) (λ seg. agree_bind _ _ _ _ (agree_inherited _ p) (λ bus. agree_bind _ _ _ _ (agree_buses seg bus bridges) (λ behind. agree_bind _ _ _ _ (alike _) (λ address. agree_settle _))))))
 
   agree_space : (k : RegionSpace) (scope : List Seg) → Agree n (space_at accesses call k scope) (space_at accesses other k scope)
   agree_space kinds.SystemMemory scope = agree_give _

@@ -17,6 +17,7 @@ pub mod Loops
 pub mod Meanings
 pub mod NearestFunctions
 pub mod NodeObjects
+pub mod PassedBridges
 pub mod Runs
 pub mod SameCounts
 pub mod Signals

@@ -62,7 +62,7 @@ nothing_at m p is = by (get m p) is
 no_function : (m : Map) (q : List Seg) → get m q ≡ None → is_function m q ≡ false
 no_function m q is = ap (λ o. is_device o && has m q adr) is
 
-none_fits : (m : Map) (x : Sought) (q : List Seg) → ((more : List Seg) → at_path m (q ++ more) ≡ None) → at_path m q ≡ None → fits m x q ≡ false
+pub none_fits : (m : Map) (x : Sought) (q : List Seg) → ((more : List Seg) → at_path m (q ++ more) ≡ None) → at_path m q ≡ None → fits m x q ≡ false
 none_fits m sought.Function q below here = no_function m q (nothing_at m q here)
 none_fits m sought.Bridge q below here = ap (λ b. b && not (has m q hid)) (no_function m q (nothing_at m q here))
 none_fits m (sought.Parent s) q below here = ap is_some (nothing_at m (q ++ s ∷ []) (below (s ∷ [])))
@@ -87,7 +87,7 @@ within_path n near p q same le within = let length_is = ap length same in deeper
 pub taken : {A : Type 0} (xs : List A) (i : ℕ) (x : A) → i < length xs → x ≡ get_or xs i x → take (i + 1) xs ≡ take i xs ++ x ∷ []
 taken xs i x lt at = take_more xs i x lt ∙ ap (λ y. take i xs ++ y ∷ []) (sym at)
 
-take_past : {A : Type 0} (xs : List A) (i k : ℕ) (x : A) → i < length xs → x ≡ get_or xs i x → i < k → (rest : List A) × (take k xs ≡ take i xs ++ x ∷ rest)
+pub take_past : {A : Type 0} (xs : List A) (i k : ℕ) (x : A) → i < length xs → x ≡ get_or xs i x → i < k → (rest : List A) × (take k xs ≡ take i xs ++ x ∷ rest)
 take_past [] i k x lt at more = absurd (omega (arith, lt))
 take_past (y ∷ ys) i zero x lt at more = absurd (omega (arith, more))
 take_past (y ∷ ys) zero (suc k) x lt at more = (take k ys, ap (λ z. z ∷ take k ys) (sym at))

@@ -34,6 +34,7 @@ use Rattle.aml_meaning.specs.State.{on_objects, on_space}
 use Rattle.aml_meaning.specs.Run.{Run, lift}
 use Rattle.aml_meaning.specs.Stores.{bytes_in}
 use Rattle.aml_meaning.specs.PciFunctions.{adr, segment_group, base_bus, nearest, pci_function}
+use Rattle.aml_meaning.specs.Bridges.{bridges_above, secondary_bus}
 use Rattle.aml_meaning.specs.Regions.{space_numbered, pci_space, region_declared, field_declared, integer_of_bits, value_of_bits, integer_alone, given_of_bits, referent_of_bits}
 
 -- a number as the bytes of a unit, and the unit that bits make, cut or with zeros behind them
@@ -57,13 +58,27 @@ module _ {S : Type 0} (accesses : Accesses S) (call : List Seg → Run S ℕ) wh
     near ← lift (nearest (sought.Parent s) p)
     part_in s near
 
+  -- the bus behind a bridge on a bus, and behind bridges one behind another, from the outermost on
+  unfoldable pub bus_behind : ℕ → ℕ → List Seg → Run S ℕ
+  bus_behind seg bus p = do
+    address ← call (p ++ adr ∷ [])
+    lift (on_space (secondary_bus accesses seg bus address))
+
+  unfoldable pub bus_behind_all : ℕ → ℕ → List (List Seg) → Run S ℕ
+  bus_behind_all seg bus [] = give bus
+  bus_behind_all seg bus (p ∷ ps) = do
+    behind ← bus_behind seg bus p
+    bus_behind_all seg behind ps
+
   unfoldable pub pci_address : List Seg → Run S AddressSpace
   pci_address scope = do
     p ← lift (pci_function scope)
+    bridges ← lift (bridges_above p)
     seg ← inherited segment_group p
     bus ← inherited base_bus p
+    behind ← bus_behind_all seg bus bridges
     address ← call (p ++ adr ∷ [])
-    settle (pci_space seg bus address)
+    settle (pci_space seg behind address)
 
   abbrev pub space_at : RegionSpace → List Seg → Run S AddressSpace
   space_at kinds.SystemMemory scope = give spaces.Memory

@@ -12,6 +12,8 @@ use Rattle.aml_objects.specs.declared.entry.NamedObject.TheVariants as object
 use Rattle.aml_namespace.specs.Namespace.{Map, above}
 use Rattle.aml_meaning.specs.declared.pci_functions.Sought.{Sought}
 use Rattle.aml_meaning.specs.declared.pci_functions.Sought.TheVariants as sought
+use Rattle.aml_meaning.specs.declared.profile.Profile.{Profile}
+use Rattle.aml_meaning.specs.declared.profile.Profile.TheVariants as profiles
 use Rattle.aml_meaning.specs.State.{State}
 
 -- the names of objects that make the address of a function: address, hardware id, segment group, base bus number
@@ -64,15 +66,20 @@ abbrev pub or_deep : Option (List Seg) → Outcome (List Seg)
 or_deep None = Err (refusal.Evaluation DeepPci)
 or_deep (Some p) = Ok p
 
-abbrev pub or_behind : Option (List Seg) → Outcome (Unit {0})
-or_behind None = Ok tt
-or_behind (Some p) = Err (refusal.Evaluation DeepPci)
+-- what lies behind a bridge is reached in the wide profile alone
+abbrev pub or_behind : Profile → Option (List Seg) → Outcome (Unit {0})
+or_behind profiles.Wide bridge = Ok tt
+or_behind profiles.Core None = Ok tt
+or_behind profiles.Core (Some p) = Err (refusal.Evaluation DeepPci)
 
--- the function that a scope belongs to; it must not be behind a bridge
+unfoldable pub behind_asked : {S : Type 0} → Option (List Seg) → Change (State S) (Unit {0})
+behind_asked bridge w = (or_behind w.profile bridge, w)
+
+-- the function that a scope belongs to; in the core profile it must not be behind a bridge
 unfoldable pub pci_function : {S : Type 0} → List Seg → Change (State S) (List Seg)
 pci_function scope = do
   near ← nearest sought.Function scope
   p ← settle (or_deep near)
   bridge ← nearest sought.Bridge (above p)
-  direct ← settle (or_behind bridge)
+  reached ← behind_asked bridge
   give p

@@ -3,6 +3,7 @@
 
 mod argument_counts;
 mod body_marks;
+mod bridges;
 mod buffer_fields;
 mod datum;
 mod declarations;

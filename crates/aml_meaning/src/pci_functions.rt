@@ -6,9 +6,11 @@ ghost use Rattle.std.specs.FinMap.{get};
 ghost use Rattle.aml_namespace.specs.Namespace.{numbered};
 ghost use Rattle.aml_namespace.specs.Search.{Found};
 ghost use Rattle.aml_meaning.specs.PciFunctions.{adr, hid, segment_group, base_bus, is_device_object, is_device, has};
-ghost use Rattle.aml_meaning.specs.PciFunctions.{is_function, fits, nearest_from, nearest, or_deep, or_behind};
+ghost use Rattle.aml_meaning.specs.PciFunctions.{is_function, is_bridge, fits, nearest_from, nearest, or_deep};
+ghost use Rattle.aml_meaning.specs.PciFunctions.{or_behind, behind_asked};
 ghost use Rattle.aml_meaning.specs.PciFunctions.{pci_function};
 
+use crate::profile::Profile;
 use crate::world_state::WorldState;
 use aml_namespace::Names;
 use aml_objects::{NamedObject, NodeId};
@@ -77,7 +79,7 @@ impl<S> WorldState<S> {
     }
 
     /// The device of the PCI function that a scope belongs to: the nearest one with an address. Where there is none,
-    /// or a bridge stands above it, this is refused as `DeepPci`.
+    /// or in the core profile a bridge stands above it, this is refused as `DeepPci`.
     #[tactic(auto, using(ar_space::specs::Change::changing), unfolding(crate::specs::PciFunctions::pci_function))]
     pub fn pci_function(&self, alloc: Global, scope: &Path) -> Result<Path, Refusal>
         ensures { Does result self.now (pci_function scope.now) self.now }
@@ -86,8 +88,16 @@ impl<S> WorldState<S> {
         let device = or_deep(near)?;
         let above = device.prefix(alloc, device.depth().saturating_sub(1))?;
         let bridge = self.nearest(alloc, Sought::Bridge, &above)?;
-        or_behind(bridge)?;
+        self.ask_behind(bridge)?;
         Ok(device)
+    }
+
+    /// Asks whether a function is reached above which this bridge stands, or none.
+    #[tactic(auto, unfolding(crate::specs::PciFunctions::behind_asked))]
+    fn ask_behind(&self, bridge: Option<Path>) -> Result<(), Refusal>
+        ensures { Does result self.now (behind_asked bridge) self.now }
+    {
+        or_behind(self.profile, bridge)
     }
 }
 
@@ -119,7 +129,7 @@ fn fits(names: &Names, sought: Sought, scope: NodeId) -> bool
 {
     match sought {
         Sought::Function => is_function(names, scope),
-        Sought::Bridge => is_function(names, scope) && !has(names, scope, hid()),
+        Sought::Bridge => is_bridge(names, scope),
         Sought::Parent(segment) => has(names, scope, segment),
     }
 }
@@ -130,8 +140,15 @@ fn is_function(names: &Names, scope: NodeId) -> bool
     is_device(names, scope) && has(names, scope, adr())
 }
 
+/// Whether a scope is a device that nothing but its address identifies.
+pub(crate) fn is_bridge(names: &Names, scope: NodeId) -> bool
+    ensures { (f : Found) → numbered scope.number names.now.map ≡ Some f → result ≡ is_bridge names.now.map f.0 }
+{
+    is_function(names, scope) && !has(names, scope, hid())
+}
+
 /// Whether a name stands in a scope.
-fn has(names: &Names, scope: NodeId, segment: Seg) -> bool
+pub(crate) fn has(names: &Names, scope: NodeId, segment: Seg) -> bool
     ensures { (f : Found) → numbered scope.number names.now.map ≡ Some f → result ≡ has names.now.map f.0 segment }
 {
     names.child_of(scope, segment).is_some()
@@ -171,11 +188,14 @@ fn or_deep(near: Option<Path>) -> Result<Path, Refusal>
     }
 }
 
-fn or_behind(bridge: Option<Path>) -> Result<(), Refusal>
-    ensures { Answers result (or_behind bridge) }
+fn or_behind(profile: Profile, bridge: Option<Path>) -> Result<(), Refusal>
+    ensures { Answers result (or_behind profile bridge) }
 {
-    match bridge {
-        None => Ok(()),
-        Some(_) => Err(Refusal::Evaluation(EvaluationFault::DeepPci)),
+    match profile {
+        Profile::Wide => Ok(()),
+        Profile::Core => match bridge {
+            None => Ok(()),
+            Some(_) => Err(Refusal::Evaluation(EvaluationFault::DeepPci)),
+        },
     }
 }
