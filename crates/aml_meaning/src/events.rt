@@ -12,8 +12,8 @@ use crate::store_target::StoreTarget;
 use crate::term_kind::EventChange;
 use crate::world_state::WorldState;
 use aml_namespace::Located;
-use aml_objects::{NamedObject, Reference, Slot, Value};
-use ar_space::{EvaluationFault, Refusal, ValueFault};
+use aml_objects::{NamedObject, NodeId, Reference, Slot, Value};
+use ar_space::{Refusal, ValueFault};
 
 impl<S> WorldState<S> {
     /// The number of the declaration that a target names: a name, the name that a reference refers to, or the one
@@ -133,16 +133,14 @@ impl<S> WorldState<S> {
     }
 
     /// Puts so many signals to the event under a number. It takes no memory.
+    #[tactic(auto, using(ar_space::specs::Change::changing, crate::proofs::Declared::declared), unfolding(crate::specs::Events::put_signals))]
     fn put_signals(&mut self, number: u64, count: u64) -> Result<(), Refusal>
         ensures change { Does result self.new (put_signals number count) self.old }
         ensures memory { NotMemory result }
     {
-        let id = self.names().id_of(number);
-        let Some(_) = self.names().node(id) else {
-            return Err(Refusal::Evaluation(EvaluationFault::DeadReference));
-        };
+        self.declaration(number)?;
         self.declarations
-            .replace_node(id, NamedObject::Event(count));
+            .replace_node(NodeId::numbered(number), NamedObject::Event(count));
         Ok(())
     }
 
