@@ -1,11 +1,15 @@
 -- Bridges that are passed one behind another, from the outermost on.
-use Rattle.std.specs.Prelude.{◌≡◌, ℕ, List, [], ◌∷◌, Ok}
+use Rattle.std.specs.Prelude.{◌≡◌, ℕ, List, [], ◌∷◌, length, Ok, refl}
 use Rattle.ar_space.specs.Accesses.{Accesses}
 use Rattle.ar_space.specs.Change.{Does, Same, give, ◌>>=◌}
 use Rattle.aml_path.specs.declared.segment.Seg.{Seg}
 use Rattle.aml_meaning.specs.State.{State}
 use Rattle.aml_meaning.specs.Run.{Run}
 use Rattle.aml_meaning.specs.Fields.{bus_behind, bus_behind_all}
+
+pub no_bridges : (l : List (List Seg)) → length l ≡ 0 → l ≡ []
+no_bridges [] h = refl
+no_bridges (q ∷ qs) h = absurd (cc h)
 
 module _ {S : Type 0} (accesses : Accesses S) (call : List Seg → Run S ℕ) (seg : ℕ) where
   pub bridge_next : {start here : State S × ℕ} {m : Run S ℕ} (bus : ℕ) (l : List (List Seg)) (q : List Seg) (qs : List (List Seg)) → l ≡ q ∷ qs
