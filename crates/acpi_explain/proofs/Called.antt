@@ -1,6 +1,6 @@
 -- The calls of initializing, made one after another, up to the first that is refused.
 use Rattle.std.proofs.Common.{◌≡◌, ◌∙◌, ap, refl, sym, subst}
-use Rattle.std.specs.Prelude.{ℕ, List, [], ◌∷◌, Bool, true, false, Option, Some, None, Ok, Err, if◌then◌else◌}
+use Rattle.std.specs.Prelude.{ℕ, List, [], ◌∷◌, Bool, true, false, None, Ok, Err, if◌then◌else◌}
 use Rattle.ar_space.specs.Accesses.{Accesses}
 use Rattle.ar_space.specs.Change.{Change, Does, give, stop, settle, go_on, ◌>>=◌, ◌>>◌}
 use Rattle.ar_space.specs.Outcome.{Outcome}

@@ -1,6 +1,6 @@
 -- Gathering that is made again: what halts it, and what comes of it where nothing does.
-use Rattle.std.proofs.Common.{◌≡◌, ◌≢◌, ◌∙◌, ap, refl, sym, subst, inl, inr}
-use Rattle.std.specs.Prelude.{ℕ, ◌+◌, Result, IfOk, IfErr, Bool, true, false, List, [], ◌++◌, length, nat_lt, Option, Some, Ok, Err, codes, option_to_list, if◌then◌else◌}
+use Rattle.std.proofs.Common.{◌≡◌, ◌∙◌, refl, sym, subst, inl, inr}
+use Rattle.std.specs.Prelude.{ℕ, ◌+◌, Result, IfOk, IfErr, Bool, true, false, List, [], ◌++◌, length, nat_lt, Option, Ok, Err, codes, option_to_list, if◌then◌else◌}
 use Rattle.ar_space.specs.Accesses.{Accesses}
 use Rattle.ar_space.specs.Change.{Change, Does, give, settle, go_on, ◌>>=◌, ◌>>◌}
 use Rattle.ar_space.specs.Outcome.{Outcome}
@@ -8,10 +8,9 @@ use Rattle.ar_space.specs.declared.refusal.Refusal.{Refusal}
 use Rattle.ar_space.specs.declared.refusal.Refusal.TheVariants as refusal
 use Rattle.ar_space.specs.declared.refusal.RoutingFault.TheVariants.{Avoided, MixedPolarity, TooMany}
 use Rattle.acpi_explain.specs.Refused.{AreAnswered, IsAsked, IsFirstRefused}
-use Rattle.acpi_explain.specs.Stages.{IsObject, IsOfLink, IsOfNoObject, IsRefusedAt, IsStage}
+use Rattle.acpi_explain.specs.Stages.{IsOfLink, IsOfNoObject, IsRefusedAt, IsStage}
 use Rattle.acpi_explain.specs.Halting.{IsHalted, IsHaltBy, IsHaltOf, IsNamed, IsUnread, IsInLink, IsInLinks, IsTogether}
 use Rattle.acpi_explain.proofs.Answered.{fold_answered, fold_refused}
-use Rattle.acpi_links.specs.Folds.{folded}
 use Rattle.aml_path.specs.declared.segment.Seg.{Seg}
 use Rattle.acpi_machine.specs.MachineStates.{MachineState, sci_of}
 use Rattle.acpi_prt.specs.declared.pin.Pin.{Pin}

@@ -1,5 +1,5 @@
 -- Refusals that are told, and halts.
-use Rattle.std.proofs.Common.{◌≡◌, ◌≢◌, ◌∙◌, ap, refl, subst, sym}
+use Rattle.std.proofs.Common.{◌≡◌, ◌≢◌, ◌∙◌, ap, subst, sym}
 use Rattle.std.specs.Prelude.{List, Result, Bool, true, false, Ok, Err, IfOk, IfErr, IsErr, IsErrAnd}
 use Rattle.ar_space.specs.Accesses.{Accesses}
 use Rattle.ar_space.specs.Change.{Change, Does}

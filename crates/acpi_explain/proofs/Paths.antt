@@ -4,7 +4,6 @@ use Rattle.std.specs.Prelude.{ℕ, List, [], ◌∷◌, ◌++◌, Bool, Option, 
 use Rattle.std.specs.FinMap.{contains_key, get}
 use Rattle.std.specs.Option.{is_some, option_map}
 use Rattle.ar_space.specs.Outcome.{Outcome, ◌>>=◌}
-use Rattle.ar_space.specs.declared.refusal.Refusal.{Refusal}
 use Rattle.aml_path.specs.declared.segment.Seg.{Seg}
 use Rattle.aml_path.specs.Segments.{seg_of}
 use Rattle.acpi_machine.specs.FixedPaths.{at_root, below_root}

@@ -1,4 +1,4 @@
-use Rattle.std.proofs.Common.{◌∙◌, sym}
+use Rattle.std.proofs.Common.{◌∙◌}
 use Rattle.std.specs.Prelude.{map}
 use Rattle.aml_meaning.specs.Given.{given_of}
 use Rattle.acpi_explain.proofs.Called.{called_none, called_ok, called_err}

@@ -3,7 +3,6 @@ use Rattle.ar_space.specs.Change.{same_ok}
 use Rattle.acpi_links.proofs.Folding.{same_turn, same_added, fold_end}
 use Rattle.acpi_links.specs.Devices.{pins_of_device, pins_of_each}
 use Rattle.acpi_explain.specs.Halting.{IsHalted, IsUnread}
-use Rattle.acpi_explain.specs.declared.halt.Halt.TheVariants.{Memory}
 use Rattle.acpi_explain.proofs.Answered.{first, turned}
 use Rattle.acpi_explain.proofs.Found.{unread_in}
 use Rattle.acpi_explain.proofs.Halted.{handed}

@@ -1,4 +1,3 @@
-use Rattle.std.proofs.Common.{refl}
 use Rattle.acpi_machine.specs.Loading.{table_loaded}
 use Rattle.acpi_explain.proofs.Answered.{all_further_if, at_once, further_if}
 use Rattle.acpi_explain.proofs.Halted.{answered_if, refused_if}
