@@ -1,2 +1,5 @@
 pub mod Ends
+pub mod Halting
+pub mod Refused
+pub mod Stages
 pub mod Told

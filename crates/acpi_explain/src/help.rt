@@ -1,4 +1,5 @@
 //! The name of each refusal, and what to do.
+ghost use Rattle.std.specs.Prelude.{◌≡◌};
 
 /// What is said of a refusal.
 #[derive(Clone, Copy, Debug)]
@@ -91,7 +92,7 @@ const ROWS: [Help; 58] = [
     Help {
         number: 40,
         name: "WrongType",
-        help: "evaluate the object with eval: its value has a type that can't be used here",
+        help: "look at the term of the last line in: a value has a type that it can't use; without such a line evaluate the object with eval",
     },
     Help {
         number: 41,
@@ -126,7 +127,7 @@ const ROWS: [Help; 58] = [
     Help {
         number: 70,
         name: "OutOfSteps",
-        help: "if a loop waits for the register, give the value that ends it; else raise --steps",
+        help: "if a loop waits for a register, give it the value that ends the loop; else raise --steps",
     },
     Help {
         number: 71,
@@ -305,9 +306,10 @@ const ROWS: [Help; 58] = [
     },
 ];
 
-/// What is said of the refusal with a number; of a number that is none, nothing. That it is the row with this number is
-/// not proved.
-pub fn help_for(number: u8) -> Help {
+/// What is said of the refusal with a number; of a number that is none, nothing.
+pub fn help_for(number: u8) -> Help
+    ensures { result.number ≡ number }
+{
     for row in &ROWS {
         if row.number == number {
             return *row;

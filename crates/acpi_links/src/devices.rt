@@ -62,9 +62,9 @@ pub(crate) fn pins_of_each<S: Space>(
     Ok(list)
 }
 
-/// The pins of the routing table of a device, if it has one.
+/// The pins of the routing table of a device, if it has one, each with the device.
 #[tactic(auto, using(ar_space::specs::Change::changing), unfolding(crate::specs::Devices::pins_of_device))]
-fn pins_of_device<S: Space>(
+pub fn pins_of_device<S: Space>(
     alloc: Global,
     machine: &mut Machine<S>,
     device: &Path,

@@ -36,7 +36,7 @@ const MAX_LINKS: usize = 256;
 pub type PresentLink = (Path, Offer, Option<InterruptNumbers>);
 
 /// More than 4,096 pins, the source of the System Control Interrupt counted as one, are refused as `TooMany`.
-pub(crate) fn few_pins(sci: Option<u32>, pins: &[(Path, Pin)]) -> Result<(), Refusal>
+pub fn few_pins(sci: Option<u32>, pins: &[(Path, Pin)]) -> Result<(), Refusal>
     ensures value { Answers result (few_pins sci pins.now) }
     ensures memory { NotMemory result }
     ensures few { IfOk result (λ _. length pins.now + length (option_to_list sci) ≤ 4096) }
@@ -54,7 +54,7 @@ pub(crate) fn few_pins(sci: Option<u32>, pins: &[(Path, Pin)]) -> Result<(), Ref
 }
 
 /// The links that some pins lead to, in path order, each once.
-pub(crate) fn links_named(alloc: Global, pins: &[(Path, Pin)]) -> Result<Vec<Path>, Refusal>
+pub fn links_named(alloc: Global, pins: &[(Path, Pin)]) -> Result<Vec<Path>, Refusal>
     ensures value { Answers (seen (λ list. list.items) result) (Ok (links_named pins.now)) }
     ensures ascending { IfOk result (λ list. IsStrictlySortedBy path_cmp list.items) }
 {
@@ -95,7 +95,7 @@ fn copy(alloc: Global, path: &Path) -> Result<Path, Refusal>
 }
 
 /// More than 256 links are refused as `TooMany`.
-pub(crate) fn few_links(links: &[Path]) -> Result<(), Refusal>
+pub fn few_links(links: &[Path]) -> Result<(), Refusal>
     ensures value { Answers result (few_links links.now) }
     ensures memory { NotMemory result }
     ensures few { IfOk result (λ _. length links.now ≤ 256) }
@@ -196,7 +196,7 @@ fn link_found<S: Space>(
 }
 
 /// A link all of whose possible settings are avoided is refused as `Avoided`, with its path.
-fn some_left(alloc: Global, avoid: &[u32], link: &Path, offer: &Offer) -> Result<(), Refusal>
+pub fn some_left(alloc: Global, avoid: &[u32], link: &Path, offer: &Offer) -> Result<(), Refusal>
     ensures value { Answers result (some_left avoid.now link.now offer.now) }
     ensures left { IfOk result (λ _. are_all_avoided avoid.now offer.now.numbers ≡ false) }
     ensures memory { are_all_avoided avoid.now offer.now.numbers ≡ false → NotMemory result }

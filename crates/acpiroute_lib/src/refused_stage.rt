@@ -79,11 +79,16 @@ fn ready_machine(
     or_memory(machine_of_text_in(alloc, asking.mode, asking.evaluation, text))
 }
 
-fn routing_stage(alloc: Global, asking: &Asking, text: &[u8]) -> Result<Option<Stage>, AllocError> {
+fn routing_stage(
+    alloc: Global,
+    asking: &Asking,
+    avoid: &[u32],
+    text: &[u8],
+) -> Result<Option<Stage>, AllocError> {
     let Some(mut machine) = ready_machine(alloc, asking, text)? else {
         return Ok(None);
     };
-    let stage = refused_object(alloc, &mut machine);
+    let stage = refused_object(alloc, &mut machine, avoid);
     // (by a call: what a scope drops at its end is dropped part by part, and long to prove)
     drop(machine);
     Ok(Some(stage?))
@@ -120,7 +125,9 @@ pub(crate) fn stage_when_refused(
         Some(Phase::Initializing) => initializing_stage(alloc, asking, text),
         Some(Phase::Running) => match &asking.question {
             Question::Route { .. } if is_of_gathering(refusal) => Ok(Some(Stage::Gathering)),
-            Question::Route { .. } => routing_stage(alloc, asking, text),
+            Question::Route { avoid, .. } => {
+                routing_stage(alloc, asking, avoid.as_slice(), text)
+            }
             Question::Eval { path, .. } => evaluated_stage(alloc, path.as_str()),
         },
     }

@@ -1,0 +1,6 @@
+pub mod Answered
+pub mod Called
+pub mod Found
+pub mod Halted
+pub mod Loaded
+pub mod Paths

@@ -1,0 +1,9 @@
+use Rattle.acpi_links.specs.Links.{few_links}
+use Rattle.acpi_explain.proofs.Halted.{test_halted, test_passed}
+use Rattle.acpi_explain.proofs.objects.test_links.Goals as goal
+
+pub returns-clause-is : goal.returns-clause-is
+returns-clause-is c = test_passed c.together.result c.few_links.result (few_links c.args.links.now) c.few_links.ensures.value c.together.ensures.is
+
+pub returns-clause-halted : goal.returns-clause-halted
+returns-clause-halted c = test_halted c.together.result c.few_links.result (few_links c.args.links.now) c.few_links.ensures.value c.together.ensures.halted
