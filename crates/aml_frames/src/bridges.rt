@@ -56,7 +56,8 @@ fn begin_bridge<S: Space>(
     ensures falls { IfOk result (λ n. next_weight n <
         bridges_weight pci.access.calls (length pci.bridges.items) + 2 * part_weight pci.access.calls + 34) }
     ensures means { Leads S.accesses (meaning S.accesses) result act.now run.new
-        (bridge_asked S.accesses (meaning S.accesses) pci.access pci.device bridge.now pci.bridges.items on.0 on.1) run.old }
+        (bridge_asked S.accesses (meaning S.accesses) pci.access pci.device bridge.now pci.bridges.items on.0 on.1)
+        run.old }
     ensures ends { EndsAt result act.now act.now }
 {
     let (segment, bus) = on;

@@ -2,8 +2,8 @@ use Rattle.std.proofs.Common.{arith, length}
 use Rattle.aml_frames.proofs.Bridging.{falls_device}
 use Rattle.aml_frames.proofs.pci.begin_device.Goals as goal
 
-pub returns-in_ok-bridges-clause-falls : goal.returns-in_ok-bridges-clause-falls
-returns-in_ok-bridges-clause-falls g c =
+pub returns-clause-falls : goal.returns-clause-falls
+returns-clause-falls g c =
     let q = c.in_ok-bridges.bridges in
     let ok = q.ok.0 in
     let small = q.small in
