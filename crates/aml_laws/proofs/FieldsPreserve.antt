@@ -1,7 +1,8 @@
 -- Reading, writing and declaring fields preserve every world relation.
-use Rattle.std.specs.Prelude.{ℕ, nat_lt, List, Bool, Option, Some, None, refl, true, false}
+use Rattle.std.specs.Prelude.{◌≡◌, ℕ, nat_lt, List, Bool, Option, Some, None, Ok, Err, refl, true, false}
 use Rattle.ar_space.specs.Accesses.{Accesses}
 use Rattle.ar_space.specs.Outcome.{Outcome}
+use Rattle.ar_space.specs.Change.{Change, go_on, ◌>>=◌}
 use Rattle.ar_space.specs.declared.space.Width.{Width}
 use Rattle.aml_path.specs.declared.segment.Seg.{Seg}
 use Rattle.aml_path.specs.Paths.{Name}
@@ -14,10 +15,13 @@ use Rattle.aml_objects.specs.declared.value.Value.{Value}
 use Rattle.aml_objects.specs.declared.entry.Field.{Field}
 use Rattle.aml_objects.specs.declared.entry.Field.TheVariants as field
 use Rattle.aml_objects.specs.declared.entry.FieldUnit.{FieldUnit}
+use Rattle.aml_objects.specs.declared.entry.OperationRegion.{OperationRegion}
 use Rattle.aml_objects.specs.declared.entry.FieldSource.{FieldSource}
 use Rattle.aml_objects.specs.declared.entry.FieldSource.TheVariants as sources
 use Rattle.aml_convert.specs.Integers.{bits_of}
 use Rattle.aml_fields.specs.declared.field_units.Unit.{Unit as Access}
+use Rattle.aml_fields.specs.declared.region.Region.{Region}
+use Rattle.aml_fields.specs.Regions.{read_field, write_field}
 use Rattle.aml_fields.specs.Units.{units_of}
 use Rattle.aml_fields.specs.UnitByUnit.{bits_read, write_units, kept}
 use Rattle.aml_meaning.specs.declared.field_layout.FieldLayout.{FieldLayout}
@@ -27,8 +31,8 @@ use Rattle.aml_meaning.specs.declared.object_type.Referent.{Referent}
 use Rattle.aml_meaning.specs.declared.regions.RegionSpace.{RegionSpace}
 use Rattle.aml_meaning.specs.declared.regions.RegionSpace.TheVariants as kinds
 use Rattle.aml_meaning.specs.declared.regions.RegionField.{RegionField}
-use Rattle.aml_meaning.specs.State.{State}
-use Rattle.aml_meaning.specs.Run.{Run}
+use Rattle.aml_meaning.specs.State.{State, on_space}
+use Rattle.aml_meaning.specs.Run.{Run, lift}
 use Rattle.aml_meaning.specs.Given.{Given}
 use Rattle.aml_meaning.specs.PciFunctions.{nearest, pci_function}
 use Rattle.aml_meaning.specs.Regions.{region_declared, field_declared, integer_of_bits, integer_value, value_of_bits, integer_alone, referent_of_bits, given_of_bits}
@@ -37,8 +41,9 @@ use Rattle.aml_meaning.specs.Terms.{is_named}
 use Rattle.aml_meaning.specs.FieldTerms.{connection_found, named_connection, connection_if, new_field, named_field, reserved_field, access_field, element_laid, elements_laid, region_found, field_found}
 use Rattle.aml_laws.proofs.Preorders.{either_branch, bits_read_respects, write_units_respects, kept_respects}
 use Rattle.aml_laws.proofs.ObjectKinds.{make_buffer_keeps_kinds, read_buffer_field_keeps_kinds, write_buffer_field_keeps_kinds}
-use Rattle.aml_laws.proofs.RegisterAccesses.{read_field_only_accesses, write_field_only_accesses}
-use Rattle.aml_laws.proofs.WorldRelations.{WorldRelation, Preserves, RunPreserves, respects_preserves, preserves_respects, unchanged_preserves, give_preserves, stop_preserves, settle_preserves, then_preserves, on_objects_preserves, on_space_preserves, run_give_preserves, run_stop_preserves, run_settle_preserves, lift_preserves, run_then_preserves}
+use Rattle.aml_laws.proofs.LocatedRegions.{LocatedIn, located_in}
+use Rattle.aml_laws.proofs.RegisterAccesses.{IsRegion, OnlyWithin, read_field_only_within, write_field_only_within}
+use Rattle.aml_laws.proofs.WorldRelations.{WorldRelation, Preserves, RunPreserves, respects_preserves, preserves_respects, unchanged_preserves, give_preserves, stop_preserves, settle_preserves, then_preserves, on_objects_preserves, run_give_preserves, run_stop_preserves, run_settle_preserves, lift_preserves, run_then_preserves}
 use Rattle.aml_laws.proofs.ChangesPreserve.{entry_found_preserves, new_name_preserves}
 use Rattle.aml_laws.proofs.StoreTargetsPreserve.{declaration_preserves, bytes_in_preserves}
 
@@ -171,13 +176,24 @@ module _ {S : Type 0} {accesses : Accesses S} {relation : WorldRelation accesses
   unfolding located
   located_preserves n = run_then_preserves _ _ (lift_preserves _ (region_declared_preserves n)) (λ d. run_then_preserves _ _ (space_at_preserves _ d.0) (λ space. run_give_preserves _))
 
+  -- a region is accessed as it was declared when it was located
+  accessed_by_cases : {A : Type 0} (u : State S) (x : Outcome Region) (s : State S × ℕ) (m : Region → Change S A) → ((d : OperationRegion) (r : Region) → IsRegion d r → OnlyWithin accesses d (m r)) → ((r : Region) → x ≡ Ok r → LocatedIn u r) → relation.Leads u s.0
+      → relation.Leads u (go_on x s (λ r. lift (on_space (m r)))).1.0
+  unfolding go_on lift on_space
+  accessed_by_cases u (Ok r) s m each_within at h = let d = at r refl in relation.region_accessed u s.0 d.declared _ d.stands ((each_within d.declared r d.is).respects s.0.space) h
+  accessed_by_cases u (Err e) s m each_within at h = h
+
+  located_then_preserves : {A : Type 0} (n : ℕ) (m : Region → Change S A) → ((d : OperationRegion) (r : Region) → IsRegion d r → OnlyWithin accesses d (m r)) → RunPreserves relation (located accesses call n >>= (λ r. lift (on_space (m r))))
+  unfolding ◌>>=◌
+  located_then_preserves n m each_within = record { preserves = λ s. accessed_by_cases s.0 (located accesses call n s).0 (located accesses call n s).1 m each_within (located_in accesses call n s) ((located_preserves n).preserves s) }
+
   region_bits_preserves : (f : RegionField) → RunPreserves relation (region_bits accesses call f)
   unfolding region_bits
-  region_bits_preserves f = run_then_preserves _ _ (located_preserves f.region) (λ r. lift_preserves _ (on_space_preserves _ (read_field_only_accesses accesses r f.unit)))
+  region_bits_preserves f = located_then_preserves f.region (λ r. read_field accesses r f.unit) (λ d r is. read_field_only_within accesses d r is f.unit)
 
   region_written_preserves : (f : RegionField) (bytes : List ℕ) → RunPreserves relation (region_written accesses call f bytes)
   unfolding region_written
-  region_written_preserves f bytes = run_then_preserves _ _ (located_preserves f.region) (λ r. lift_preserves _ (on_space_preserves _ (write_field_only_accesses accesses r f.unit bytes)))
+  region_written_preserves f bytes = located_then_preserves f.region (λ r. write_field accesses r f.unit bytes) (λ d r is. write_field_only_within accesses d r is f.unit bytes)
 
   index_unit_preserves : (index behind : RegionField) (w : Width) (u : Access) → RunPreserves relation (index_unit accesses call index behind w u)
   unfolding index_unit

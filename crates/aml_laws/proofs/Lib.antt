@@ -55,6 +55,8 @@ pub mod FieldsTogether
 pub mod FoundNamesStand
 pub mod FrameNumbers
 pub mod HandedBack
+pub mod IndexRegisters
+pub mod IndexedFields
 pub mod IntegersInStrings
 pub mod IntegersOfAnswers
 pub mod IntegersOfContents
@@ -92,6 +94,7 @@ pub mod Preorders
 pub mod ProfileKept
 pub mod ReadTermsHoldBytes
 pub mod ReadingStepsGiveBytes
+pub mod ReferenceChains
 pub mod ReferencesToNames
 pub mod ReferencesToSlots
 pub mod ReferencesToTargets
@@ -106,14 +109,18 @@ pub mod SpaceReached
 pub mod StoreTargetsPreserve
 pub mod StoreTargetsTogether
 pub mod Together
+pub mod TreesCost
 pub mod UnitsTogether
 pub mod UnreadUnits
 pub mod JoinedResources
 pub mod LimitsRefused
+pub mod LimitsTaken
+pub mod LocatedRegions
 pub mod MatchesPreserve
 pub mod WideTermsPreserve
 pub mod MatchesTogether
 pub mod WideTermsTogether
+pub mod WorldHistories
 pub mod WorldRelations
 pub mod WorldsTogether
 pub mod Widening

@@ -3,13 +3,17 @@ pub mod Answered
 pub mod Becomes
 pub mod Calls
 pub mod Copied
+pub mod CostsOfTrees
 pub mod Counted
 pub mod CountedEvaluations
 pub mod Declares
 pub mod FieldLists
 pub mod Handed
 pub mod HandedBack
+pub mod Histories
+pub mod IndexRegisters
 pub mod Kinds
+pub mod Limits
 pub mod Mutexes
 pub mod NamesFound
 pub mod Noted
@@ -19,6 +23,7 @@ pub mod Outside
 pub mod Parts
 pub mod Plain
 pub mod Reached
+pub mod RegionAccesses
 pub mod ResourceLists
 pub mod SpaceFaults
 pub mod Steps
