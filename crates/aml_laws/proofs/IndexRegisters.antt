@@ -8,7 +8,7 @@ use Rattle.ar_space.specs.declared.space.Width.{Width}
 use Rattle.ar_space.specs.declared.space.Width.TheVariants.{W8, W16, W32, W64}
 use Rattle.ar_space.specs.Accesses.{Accesses, bit_count}
 use Rattle.ar_space.specs.Outcome.{Outcome}
-use Rattle.ar_space.specs.Change.{give, settle, go_on, ◌>>=◌, ◌>>◌}
+use Rattle.ar_space.specs.Change.{give, settle, go_on, ◌>>=◌}
 use Rattle.aml_objects.specs.declared.entry.FieldUnit.{FieldUnit}
 use Rattle.aml_objects.specs.declared.entry.UpdateRule.{UpdateRule}
 use Rattle.aml_objects.specs.declared.entry.UpdateRule.TheVariants.{Preserve, WriteAsOnes, WriteAsZeros}
@@ -22,7 +22,6 @@ use Rattle.aml_fields.proofs.BitLists.{length_from}
 use Rattle.aml_fields.proofs.OneUnit.{single, bits_of_unit, low_bits, merged_is}
 use Rattle.aml_fields.proofs.SpaceBits.{bits_again}
 use Rattle.aml_fields.proofs.UnitWrites.{narrow}
-use Rattle.aml_namespace.specs.Namespace.{above}
 use Rattle.aml_meaning.specs.Fields.{unit_bytes, unit_of}
 use Rattle.aml_laws.specs.IndexRegisters.{Register}
 

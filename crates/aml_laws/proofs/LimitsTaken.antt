@@ -1,26 +1,24 @@
 -- What is within a limit is taken; packages are refused exactly where they nest deeper than their limit.
-use Rattle.std.specs.Prelude.{◌≡◌, ◌≤◌, ◌<◌, ◌+◌, ℕ, zero, suc, nat_lt, false, List, [], ◌∷◌, ◌++◌, length, Ok, Err, refl, true, Some, slice_get}
-use Rattle.std.proofs.Common.{arith, ap, subst, sym, ◌∙◌, append-nil}
+use Rattle.std.specs.Prelude.{◌≡◌, ◌≤◌, ◌<◌, ◌+◌, ℕ, zero, suc, nat_lt, false, List, [], ◌∷◌, ◌++◌, length, Ok, Err, refl}
+use Rattle.std.proofs.Common.{arith, ap}
 use Rattle.std.proofs.lemmas.Bool.Decides.{nat_tests}
 use Rattle.std.proofs.lemmas.List.{length_push}
 use Rattle.ar_space.specs.declared.refusal.Refusal.TheVariants as refusal
 use Rattle.ar_space.specs.declared.refusal.EvaluationFault.TheVariants.{ObjectLimit}
 use Rattle.ar_space.specs.Accesses.{Accesses}
 use Rattle.ar_space.specs.Outcome.{Outcome}
-use Rattle.ar_space.specs.Change.{give, stop, settle, go_on, ◌>>=◌, Change}
+use Rattle.ar_space.specs.Change.{give, stop, settle, go_on, ◌>>=◌}
 use Rattle.aml_path.specs.declared.segment.Seg.{Seg}
-use Rattle.aml_objects.specs.Objects.{Objects, few, make_string, make_buffer, make_package, elements_at, fits}
+use Rattle.aml_objects.specs.Objects.{Objects, few, make_string, make_buffer, make_package, elements_at}
 use Rattle.aml_objects.specs.declared.object.Element.{Element}
 use Rattle.aml_objects.specs.declared.object.Element.TheVariants as element
 use Rattle.aml_objects.specs.declared.object.Object.TheVariants as object
 use Rattle.aml_objects.specs.declared.value.Value.{Value}
 use Rattle.aml_objects.specs.declared.value.Value.TheVariants as value
 use Rattle.aml_meaning.specs.State.{State, on_objects}
-use Rattle.aml_meaning.specs.Run.{lift, charge}
+use Rattle.aml_meaning.specs.Run.{lift}
 use Rattle.aml_meaning.specs.Importing.{imported_by, each_imported, elements_imported, package_imported, taken_back, imported}
 use Rattle.aml_meaning.specs.Exporting.{value_exported, held_exported, element_exported, each_exported, elements_exported, package_exported, exported}
-use Rattle.aml_meaning.specs.Invocations.{shallow}
-use Rattle.aml_meaning.specs.Given.{Given}
 use Rattle.aml_laws.specs.Calls.{body_frame}
 use Rattle.aml_laws.specs.Limits.{nested, IsNested, innermost, round}
 use Rattle.aml_laws.proofs.Charges.{charge_one}

@@ -19,10 +19,9 @@ use Rattle.aml_namespace.specs.Namespace.{numbered}
 use Rattle.aml_meaning.specs.State.{State}
 use Rattle.aml_meaning.specs.Run.{Run, lift}
 use Rattle.aml_meaning.specs.StoreTargets.{or_gone, declaration}
-use Rattle.aml_meaning.specs.Regions.{space_numbered, region_of_object, region_declared, pci_space}
-use Rattle.aml_meaning.specs.Fields.{pci_address, space_at, located, inherited}
+use Rattle.aml_meaning.specs.Regions.{space_numbered, region_of_object, region_declared}
+use Rattle.aml_meaning.specs.Fields.{pci_address, space_at, located}
 use Rattle.aml_meaning.specs.declared.regions.RegionSpace.TheVariants as kinds
-use Rattle.std.specs.FinMap.{get}
 use Rattle.aml_laws.specs.Histories.{numbered_entry, RegionStands}
 use Rattle.aml_laws.proofs.RegisterAccesses.{number_of_space, IsRegion}
 

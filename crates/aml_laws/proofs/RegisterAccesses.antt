@@ -16,7 +16,6 @@ use Rattle.aml_fields.specs.declared.region.Region.{Region}
 use Rattle.aml_fields.specs.declared.field_units.Unit.{Unit as Access}
 use Rattle.aml_fields.specs.Units.{units_of}
 use Rattle.aml_fields.specs.Regions.{place_in, or_limit, unit_place, read_access, read_unit, read_field, write_access, write_unit, write_field}
-use Rattle.ar_space.specs.Outcome.{Outcome}
 use Rattle.aml_laws.specs.Reached.{Reached}
 use Rattle.aml_laws.specs.Reached as by
 use Rattle.aml_laws.specs.RegionAccesses.{space_of, address_of, LiesWithin, ReachedWithin}

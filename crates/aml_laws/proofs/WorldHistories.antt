@@ -1,5 +1,5 @@
 -- What evaluations make of a world has a history, in which each access lies within an operation region.
-use Rattle.std.specs.Prelude.{◌≡◌, ℕ, ◌≤◌, ◌+◌, List, [], ◌∷◌, ◌++◌, Bool, true, false, Option, Some, None, refl, cond}
+use Rattle.std.specs.Prelude.{◌≡◌, ℕ, ◌≤◌, List, [], ◌∷◌, ◌++◌, Bool, true, false, Option, Some, None, refl, cond}
 use Rattle.std.specs.Option.{option_map}
 use Rattle.std.specs.FinMap.{get, insert, get-insert}
 use Rattle.std.specs.Ordering.{eq_by_cmp}
@@ -18,7 +18,6 @@ use Rattle.aml_namespace.specs.Namespace.{Map, Namespace, with_object, without_b
 use Rattle.aml_namespace.proofs.Paths.{path_total}
 use Rattle.aml_namespace.proofs.Changes.{released_at}
 use Rattle.aml_meaning.specs.State.{State}
-use Rattle.std.specs.List.{All}
 use Rattle.aml_laws.specs.Becomes.{Becomes}
 use Rattle.aml_laws.specs.Noted.{WithNotes, noted}
 use Rattle.aml_laws.specs.Histories.{numbered_entry, RegionStands, NothingNew, History, same, changed, declared, read, written, IsDeclared, NotesDeclared}
