@@ -1,8 +1,9 @@
--- Making a reference and reading through one change nothing.
-use Rattle.std.specs.Prelude.{◌≡◌, Ok, Err, refl}
+-- Making a reference, reading through one and finding a PCI function change nothing.
+use Rattle.std.specs.Prelude.{◌≡◌, List, Ok, Err, refl}
 use Rattle.std.proofs.Common.{◌∙◌}
 use Rattle.ar_space.specs.Outcome.{Outcome}
 use Rattle.ar_space.specs.Change.{Change, give, stop, settle, go_on, ◌>>=◌}
+use Rattle.aml_path.specs.declared.segment.Seg.{Seg}
 use Rattle.aml_objects.specs.declared.value.Value.{Value}
 use Rattle.aml_objects.specs.declared.value.Reference.{Reference}
 use Rattle.aml_objects.specs.declared.value.Reference.TheVariants as reference
@@ -12,6 +13,7 @@ use Rattle.aml_objects.specs.Objects.{element_at, byte_at}
 use Rattle.aml_meaning.specs.declared.store_target.StoreTarget.{StoreTarget}
 use Rattle.aml_meaning.specs.declared.store_target.StoreTarget.TheVariants as targets
 use Rattle.aml_meaning.specs.State.{State, on_objects}
+use Rattle.aml_meaning.specs.PciFunctions.{nearest, behind_asked, pci_function}
 use Rattle.aml_meaning.specs.Readings.{entry_found}
 use Rattle.aml_meaning.specs.StoreTargets.{latest_frame, frame_found, slot_held, declaration, declared_once, value_once, slot_once, name_once, element_once, held_once, byte_once, dereferenced, frame_number, slot_reference, declared_number, name_reference, reference_of}
 
@@ -24,6 +26,10 @@ module _ {S : Type 0} where
   then_changes_nothing : {A B : Type 0} (m : Change (State S) A) (k : A → Change (State S) B) → ((w : State S) → (m w).1 ≡ w) → ((a : A) (w : State S) → (k a w).1 ≡ w) → (w : State S) → ((m >>= k) w).1 ≡ w
   unfolding ◌>>=◌
   then_changes_nothing m k h i w = go_on_changes_nothing (m w).0 w (m w).1 k i (h w)
+
+  pub pci_function_changes_nothing : (scope : List Seg) (w : State S) → (pci_function scope w).1 ≡ w
+  unfolding pci_function nearest behind_asked settle give
+  pci_function_changes_nothing scope = then_changes_nothing _ _ (λ w. refl) (λ near. then_changes_nothing _ _ (λ w. refl) (λ q. then_changes_nothing _ _ (λ w. refl) (λ bridge. then_changes_nothing _ _ (λ w. refl) (λ reached w. refl))))
 
   value_once_changes_nothing : (v : Value) (w : State S) → (value_once v w).1 ≡ w
   unfolding value_once settle give

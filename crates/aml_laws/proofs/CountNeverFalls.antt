@@ -4,26 +4,28 @@ use Rattle.std.proofs.Common.{arith}
 use Rattle.ar_space.specs.Accesses.{Accesses}
 use Rattle.aml_path.specs.declared.segment.Seg.{Seg}
 use Rattle.aml_grammar.specs.Tree.{Trees}
+use Rattle.aml_objects.specs.declared.entry.OperationRegion.{OperationRegion}
 use Rattle.aml_objects.specs.declared.value.Value.{Value}
 use Rattle.aml_meaning.specs.State.{State}
 use Rattle.aml_meaning.specs.Tasks.{Task, in_turn}
 use Rattle.aml_meaning.specs.Invocations.{invoked}
 use Rattle.aml_laws.specs.Counted.{beside_counter, terms_begun, one_more_begun, counted_within, counted_meaning}
-use Rattle.aml_laws.specs.Reached.{Reached}
-use Rattle.aml_laws.specs.Reached as by
+use Rattle.aml_laws.specs.RegionAccesses.{ReachedWithin}
+use Rattle.aml_laws.specs.RegionAccesses as by
 use Rattle.aml_laws.proofs.WorldRelations.{WorldRelation, RunPreserves}
 use Rattle.aml_laws.proofs.OperandsAndCallsPreserve.{in_turn_preserves, invoked_preserves_from}
 use Rattle.aml_laws.proofs.RulesPreserve.{rule_preserves}
 
 module _ {S : Type 0} (accesses : Accesses S) where
   -- no access reaches the counter
-  same_counter : (s t : S × ℕ) → Reached (beside_counter accesses) s t → t.1 ≡ s.1
+  same_counter : (region : OperationRegion) (s t : S × ℕ) → ReachedWithin (beside_counter accesses) region s t → t.1 ≡ s.1
   unfolding beside_counter
-  same_counter s t by.none = refl
-  same_counter s t (by.read u place width r) = same_counter s u r
-  same_counter s t (by.written u place width value r) = same_counter s u r
+  same_counter region s t by.none = refl
+  same_counter region s t (by.read u at width lies r) = same_counter region s u r
+  same_counter region s t (by.written u at width value lies r) = same_counter region s u r
 
   no_fewer_begun_relation : WorldRelation (beside_counter accesses)
+  unfolding beside_counter
   no_fewer_begun_relation = record {
     Leads = λ w v. w.space.1 ≤ v.space.1;
     reflexive = λ w. omega arith;
@@ -34,7 +36,8 @@ module _ {S : Type 0} (accesses : Accesses S) where
     slots_written = λ w frames is. omega arith;
     frame_closed = λ w v vs h. h;
     names_removed = λ u w q at h. h;
-    space_accessed = λ w s r. let e = same_counter w.space s r in omega (arith, e);
+    region_accessed = λ u w region s stands r h. let e = same_counter region w.space s r in omega (arith, e, h);
+    bridge_asked = λ u w at width wide asks h. h;
     arities_set = λ w list. omega arith;
     mutexes_released = λ w. omega arith;
   }

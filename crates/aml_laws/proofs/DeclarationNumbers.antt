@@ -42,7 +42,8 @@ numbered_relation accesses = record {
   slots_written = λ w frames is n. n;
   frame_closed = λ w v vs h n. h n;
   names_removed = λ u w q at h n. numbered_without q w.names (h n);
-  space_accessed = λ w s r n. n;
+  region_accessed = λ u w region s stands r h n. h n;
+  bridge_asked = λ u w at width wide asks h n. h n;
   arities_set = λ w list n. n;
   mutexes_released = λ w n. numbered_released w.names n;
 }
@@ -104,7 +105,8 @@ gone_relation accesses n = record {
   slots_written = λ w frames is g. g;
   frame_closed = λ w v vs h g. h g;
   names_removed = λ u w q at h g. gone_after_removal n q w.names (h g);
-  space_accessed = λ w s r g. g;
+  region_accessed = λ u w region s stands r h g. h g;
+  bridge_asked = λ u w at width wide asks h g. h g;
   arities_set = λ w list g. g;
   mutexes_released = λ w g. gone_after_release n w.names g;
 }

@@ -1,7 +1,9 @@
 -- Reading, writing and declaring fields preserve every world relation.
-use Rattle.std.specs.Prelude.{ℕ, nat_lt, List, [], ◌∷◌, Bool, Option, Some, None, refl, true, false}
+use Rattle.std.specs.Prelude.{◌≡◌, ℕ, nat_lt, List, [], ◌∷◌, ◌++◌, Bool, Option, Some, None, Ok, Err, refl, true, false}
+use Rattle.std.proofs.Common.{inl, inr, subst, sym}
 use Rattle.ar_space.specs.Accesses.{Accesses}
 use Rattle.ar_space.specs.Outcome.{Outcome}
+use Rattle.ar_space.specs.Change.{Change, settle, go_on, ◌>>=◌}
 use Rattle.ar_space.specs.declared.space.Width.{Width}
 use Rattle.aml_path.specs.declared.segment.Seg.{Seg}
 use Rattle.aml_path.specs.Paths.{Name}
@@ -14,32 +16,40 @@ use Rattle.aml_objects.specs.declared.value.Value.{Value}
 use Rattle.aml_objects.specs.declared.entry.Field.{Field}
 use Rattle.aml_objects.specs.declared.entry.Field.TheVariants as field
 use Rattle.aml_objects.specs.declared.entry.FieldUnit.{FieldUnit}
+use Rattle.aml_objects.specs.declared.entry.OperationRegion.{OperationRegion}
 use Rattle.aml_objects.specs.declared.entry.FieldSource.{FieldSource}
 use Rattle.aml_objects.specs.declared.entry.FieldSource.TheVariants as sources
 use Rattle.aml_convert.specs.Integers.{bits_of}
 use Rattle.aml_fields.specs.declared.field_units.Unit.{Unit as Access}
+use Rattle.aml_fields.specs.declared.region.AddressSpace.{AddressSpace}
+use Rattle.aml_fields.specs.declared.region.Region.{Region}
+use Rattle.aml_fields.specs.Regions.{read_field, write_field}
 use Rattle.aml_fields.specs.Units.{units_of}
 use Rattle.aml_fields.specs.UnitByUnit.{bits_read, write_units, kept}
 use Rattle.aml_meaning.specs.declared.field_layout.FieldLayout.{FieldLayout}
 use Rattle.aml_meaning.specs.declared.field_layout.FieldGroup.{FieldGroup}
 use Rattle.aml_meaning.specs.declared.pci_functions.Sought.{Sought}
 use Rattle.aml_meaning.specs.declared.object_type.Referent.{Referent}
+use Rattle.aml_meaning.specs.declared.profile.Profile.TheVariants as profiles
 use Rattle.aml_meaning.specs.declared.regions.RegionSpace.{RegionSpace}
 use Rattle.aml_meaning.specs.declared.regions.RegionSpace.TheVariants as kinds
 use Rattle.aml_meaning.specs.declared.regions.RegionField.{RegionField}
-use Rattle.aml_meaning.specs.State.{State}
-use Rattle.aml_meaning.specs.Run.{Run}
+use Rattle.aml_meaning.specs.State.{State, on_space}
+use Rattle.aml_meaning.specs.Run.{Run, lift}
 use Rattle.aml_meaning.specs.Given.{Given}
-use Rattle.aml_meaning.specs.PciFunctions.{nearest, behind_asked, pci_function}
-use Rattle.aml_meaning.specs.Bridges.{bridges_above}
-use Rattle.aml_meaning.specs.Regions.{region_declared, field_declared, integer_of_bits, integer_value, value_of_bits, integer_alone, referent_of_bits, given_of_bits}
+use Rattle.aml_meaning.specs.PciFunctions.{adr, segment_group, base_bus, nearest, pci_function}
+use Rattle.aml_meaning.specs.Bridges.{bridges_to, bridges_above}
+use Rattle.aml_meaning.specs.Regions.{pci_space, region_declared, field_declared, integer_of_bits, integer_value, value_of_bits, integer_alone, referent_of_bits, given_of_bits}
 use Rattle.aml_meaning.specs.Fields.{part_in, inherited, bus_behind, bus_behind_all, pci_address, space_at, located, region_bits, region_written, index_unit, index_unit_written, index_bits, index_written, field_unit_bits, field_unit_written, bits_in, written_in, field_value, field_integer, field_part, field_referent, field_stored, field_given}
 use Rattle.aml_meaning.specs.Terms.{is_named}
 use Rattle.aml_meaning.specs.FieldTerms.{connection_found, named_connection, connection_if, new_field, named_field, reserved_field, access_field, element_laid, elements_laid, region_found, field_found}
 use Rattle.aml_laws.proofs.Preorders.{either_branch, bits_read_respects, write_units_respects, kept_respects}
 use Rattle.aml_laws.proofs.ObjectKinds.{make_buffer_keeps_kinds, read_buffer_field_keeps_kinds, write_buffer_field_keeps_kinds}
-use Rattle.aml_laws.proofs.RegisterAccesses.{secondary_bus_only_accesses, read_field_only_accesses, write_field_only_accesses}
-use Rattle.aml_laws.proofs.WorldRelations.{WorldRelation, Preserves, RunPreserves, respects_preserves, preserves_respects, unchanged_preserves, give_preserves, stop_preserves, settle_preserves, then_preserves, on_objects_preserves, on_space_preserves, run_give_preserves, run_stop_preserves, run_settle_preserves, lift_preserves, run_then_preserves}
+use Rattle.aml_laws.proofs.BridgesAsked.{secondary_bus_leads, MayAsk, function_may_ask}
+use Rattle.aml_laws.proofs.ChangesNothing.{pci_function_changes_nothing}
+use Rattle.aml_laws.proofs.LocatedRegions.{LocatedIn, located_in}
+use Rattle.aml_laws.proofs.RegisterAccesses.{IsRegion, OnlyWithin, read_field_only_within, write_field_only_within}
+use Rattle.aml_laws.proofs.WorldRelations.{WorldRelation, Preserves, RunPreserves, RunPreservesFrom, run_preserves_from, then_preserves_from, respects_preserves, preserves_respects, unchanged_preserves, give_preserves, stop_preserves, settle_preserves, then_preserves, on_objects_preserves, run_give_preserves, run_stop_preserves, run_settle_preserves, lift_preserves, run_then_preserves}
 use Rattle.aml_laws.proofs.ChangesPreserve.{entry_found_preserves, new_name_preserves}
 use Rattle.aml_laws.proofs.StoreTargetsPreserve.{declaration_preserves, bytes_in_preserves}
 
@@ -49,18 +59,6 @@ module _ {S : Type 0} {accesses : Accesses S} {relation : WorldRelation accesses
   nearest_preserves : (x : Sought) (q : List Seg) → Preserves relation (nearest x q)
   unfolding nearest
   nearest_preserves x q = unchanged_preserves _ (λ w. refl)
-
-  behind_asked_preserves : (bridge : Option (List Seg)) → Preserves relation (behind_asked bridge)
-  unfolding behind_asked
-  behind_asked_preserves bridge = unchanged_preserves _ (λ w. refl)
-
-  bridges_above_preserves : (q : List Seg) → Preserves relation (bridges_above q)
-  unfolding bridges_above
-  bridges_above_preserves q = unchanged_preserves _ (λ w. refl)
-
-  pci_function_preserves : (scope : List Seg) → Preserves relation (pci_function scope)
-  unfolding pci_function
-  pci_function_preserves scope = then_preserves _ _ (nearest_preserves _ scope) (λ near. then_preserves _ _ (settle_preserves _) (λ q. then_preserves _ _ (nearest_preserves _ _) (λ bridge. then_preserves _ _ (behind_asked_preserves bridge) (λ reached. give_preserves _))))
 
   region_declared_preserves : (n : ℕ) → Preserves relation (region_declared n)
   unfolding region_declared
@@ -166,18 +164,49 @@ module _ {S : Type 0} {accesses : Accesses S} {relation : WorldRelation accesses
   unfolding inherited
   inherited_preserves s q = run_then_preserves _ _ (lift_preserves _ (nearest_preserves _ q)) (λ o. part_in_preserves s o)
 
-  bus_behind_preserves : (seg bus : ℕ) (q : List Seg) → RunPreserves relation (bus_behind accesses call seg bus q)
-  unfolding bus_behind
-  bus_behind_preserves seg bus q = run_then_preserves _ _ (each _) (λ address. lift_preserves _ (on_space_preserves _ (secondary_bus_only_accesses accesses seg bus address)))
+  -- what comes from where one world has come: bridges are asked where the function that was found lies behind any
+  bus_behind_preserves : (u : State S) → u.profile ≡ profiles.Wide → (seg bus : ℕ) (q : List Seg) → RunPreservesFrom relation u (bus_behind accesses call seg bus q)
+  unfolding bus_behind lift on_space
+  bus_behind_preserves u wide seg bus q = then_preserves_from u _ _ (run_preserves_from u _ (each _)) (λ address. record { preserves_from = λ s i. (secondary_bus_leads relation u wide seg bus address).respects s.0.space s.0 i })
 
-  bus_behind_all_preserves : (seg bus : ℕ) (qs : List (List Seg)) → RunPreserves relation (bus_behind_all accesses call seg bus qs)
+  bus_behind_wide_preserves : (u : State S) → u.profile ≡ profiles.Wide → (seg bus : ℕ) (qs : List (List Seg)) → RunPreservesFrom relation u (bus_behind_all accesses call seg bus qs)
   unfolding bus_behind_all
-  bus_behind_all_preserves seg bus [] = run_give_preserves _
-  bus_behind_all_preserves seg bus (q ∷ qs) = run_then_preserves _ _ (bus_behind_preserves seg bus q) (λ behind. bus_behind_all_preserves seg behind qs)
+  bus_behind_wide_preserves u wide seg bus [] = run_preserves_from u _ (run_give_preserves _)
+  bus_behind_wide_preserves u wide seg bus (q ∷ qs) = then_preserves_from u _ _ (bus_behind_preserves u wide seg bus q) (λ behind. bus_behind_wide_preserves u wide seg behind qs)
+
+  bus_behind_all_preserves : (u : State S) (seg bus : ℕ) (qs : List (List Seg)) → MayAsk u qs → RunPreservesFrom relation u (bus_behind_all accesses call seg bus qs)
+  unfolding bus_behind_all
+  bus_behind_all_preserves u seg bus qs (inl wide) = bus_behind_wide_preserves u wide seg bus qs
+  bus_behind_all_preserves u seg bus qs (inr none) = subst (λ l. RunPreservesFrom relation u (bus_behind_all accesses call seg bus l)) (sym none) (run_preserves_from u _ (run_give_preserves _))
+
+  -- a function is found, and the world stays
+  found_by_cases : (u v : State S) (n : ℕ) (x : Outcome (List Seg)) (k : List Seg → Run S AddressSpace) → v ≡ u → ((q : List Seg) → x ≡ Ok q → relation.Leads u (k q (u, n)).1.0) → relation.Leads u (go_on x (v, n) k).1.0
+  unfolding go_on
+  found_by_cases u v n (Ok q) k e h = subst (λ w. relation.Leads u (k q (w, n)).1.0) (sym e) (h q refl)
+  found_by_cases u v n (Err x) k e h = subst (relation.Leads u) (sym e) (relation.reflexive u)
+
+  -- the address of a function, once the bridges above it are known
+  abbrev address_of : List Seg → List (List Seg) → Run S AddressSpace
+  address_of q bridges = do
+    seg ← inherited accesses call segment_group q
+    bus ← inherited accesses call base_bus q
+    behind ← bus_behind_all accesses call seg bus bridges
+    address ← call (q ++ adr ∷ [])
+    settle (pci_space seg behind address)
+
+  address_of_preserves : (u : State S) (q : List Seg) (bridges : List (List Seg)) → MayAsk u bridges → RunPreservesFrom relation u (address_of q bridges)
+  address_of_preserves u q bridges may =
+      then_preserves_from u _ _ (run_preserves_from u _ (inherited_preserves _ q)) (λ seg.
+      then_preserves_from u _ _ (run_preserves_from u _ (inherited_preserves _ q)) (λ bus.
+      then_preserves_from u _ _ (bus_behind_all_preserves u seg bus bridges may) (λ behind.
+      run_preserves_from u _ (run_then_preserves _ _ (each _) (λ address. run_settle_preserves _)))))
 
   pci_address_preserves : (scope : List Seg) → RunPreserves relation (pci_address accesses call scope)
-  unfolding pci_address
-  pci_address_preserves scope = run_then_preserves _ _ (lift_preserves _ (pci_function_preserves scope)) (λ q. run_then_preserves _ _ (lift_preserves _ (bridges_above_preserves q)) (λ bridges. run_then_preserves _ _ (inherited_preserves _ q) (λ seg. run_then_preserves _ _ (inherited_preserves _ q) (λ bus. run_then_preserves _ _ (bus_behind_all_preserves seg bus bridges) (λ behind. run_then_preserves _ _ (each _) (λ address. run_settle_preserves _))))))
+  unfolding pci_address bridges_above lift ◌>>=◌ go_on
+  pci_address_preserves scope = record {
+    preserves = λ s. found_by_cases s.0 (pci_function scope s.0).1 s.1 (pci_function scope s.0).0 _ (pci_function_changes_nothing scope s.0)
+        (λ q e. (address_of_preserves s.0 q (bridges_to s.0.names.map q) (function_may_ask scope s.0 q e)).preserves_from s (relation.reflexive s.0));
+  }
 
   space_at_preserves : (k : RegionSpace) (scope : List Seg) → RunPreserves relation (space_at accesses call k scope)
   space_at_preserves kinds.SystemMemory scope = run_give_preserves _
@@ -189,13 +218,24 @@ module _ {S : Type 0} {accesses : Accesses S} {relation : WorldRelation accesses
   unfolding located
   located_preserves n = run_then_preserves _ _ (lift_preserves _ (region_declared_preserves n)) (λ d. run_then_preserves _ _ (space_at_preserves _ d.0) (λ space. run_give_preserves _))
 
+  -- a region is accessed as it was declared when it was located
+  accessed_by_cases : {A : Type 0} (u : State S) (x : Outcome Region) (s : State S × ℕ) (m : Region → Change S A) → ((d : OperationRegion) (r : Region) → IsRegion d r → OnlyWithin accesses d (m r)) → ((r : Region) → x ≡ Ok r → LocatedIn u r) → relation.Leads u s.0
+      → relation.Leads u (go_on x s (λ r. lift (on_space (m r)))).1.0
+  unfolding go_on lift on_space
+  accessed_by_cases u (Ok r) s m each_within at h = let d = at r refl in relation.region_accessed u s.0 d.declared _ d.stands ((each_within d.declared r d.is).respects s.0.space) h
+  accessed_by_cases u (Err e) s m each_within at h = h
+
+  located_then_preserves : {A : Type 0} (n : ℕ) (m : Region → Change S A) → ((d : OperationRegion) (r : Region) → IsRegion d r → OnlyWithin accesses d (m r)) → RunPreserves relation (located accesses call n >>= (λ r. lift (on_space (m r))))
+  unfolding ◌>>=◌
+  located_then_preserves n m each_within = record { preserves = λ s. accessed_by_cases s.0 (located accesses call n s).0 (located accesses call n s).1 m each_within (located_in accesses call n s) ((located_preserves n).preserves s) }
+
   region_bits_preserves : (f : RegionField) → RunPreserves relation (region_bits accesses call f)
   unfolding region_bits
-  region_bits_preserves f = run_then_preserves _ _ (located_preserves f.region) (λ r. lift_preserves _ (on_space_preserves _ (read_field_only_accesses accesses r f.unit)))
+  region_bits_preserves f = located_then_preserves f.region (λ r. read_field accesses r f.unit) (λ d r is. read_field_only_within accesses d r is f.unit)
 
   region_written_preserves : (f : RegionField) (bytes : List ℕ) → RunPreserves relation (region_written accesses call f bytes)
   unfolding region_written
-  region_written_preserves f bytes = run_then_preserves _ _ (located_preserves f.region) (λ r. lift_preserves _ (on_space_preserves _ (write_field_only_accesses accesses r f.unit bytes)))
+  region_written_preserves f bytes = located_then_preserves f.region (λ r. write_field accesses r f.unit bytes) (λ d r is. write_field_only_within accesses d r is f.unit bytes)
 
   index_unit_preserves : (index behind : RegionField) (w : Width) (u : Access) → RunPreserves relation (index_unit accesses call index behind w u)
   unfolding index_unit

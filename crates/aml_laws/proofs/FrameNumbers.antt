@@ -60,7 +60,8 @@ frame_numbers_relation accesses = record {
   slots_written = λ w frames is. is;
   frame_closed = λ w v vs h. numbers_of_closed v.frames (numbers_of w.frames) w.started (h ∙ numbers_pushed w.frames _);
   names_removed = λ u w q at h. h;
-  space_accessed = λ w s r. refl;
+  region_accessed = λ u w region s stands r h. h;
+  bridge_asked = λ u w at width wide asks h. h;
   arities_set = λ w list. refl;
   mutexes_released = λ w. refl;
 }

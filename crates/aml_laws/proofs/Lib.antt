@@ -7,6 +7,7 @@
 -- a lemma that goes through the cases for another ends with `_by_cases`.
 pub mod AnswersTogether
 pub mod ArgumentsAndAnswersPreserve
+pub mod BridgesAsked
 pub mod BridgesTogether
 pub mod BufferFieldWrites
 pub mod ChangesNothing
@@ -60,6 +61,8 @@ pub mod FieldsTogether
 pub mod FoundNamesStand
 pub mod FrameNumbers
 pub mod HandedBack
+pub mod IndexRegisters
+pub mod IndexedFields
 pub mod IntegersInStrings
 pub mod IntegersOfAnswers
 pub mod IntegersOfContents
@@ -98,6 +101,7 @@ pub mod Preorders
 pub mod ProfileKept
 pub mod ReadTermsHoldBytes
 pub mod ReadingStepsGiveBytes
+pub mod ReferenceChains
 pub mod ReferencesToNames
 pub mod ReferencesToSlots
 pub mod ReferencesToTargets
@@ -113,14 +117,18 @@ pub mod SpaceReached
 pub mod StoreTargetsPreserve
 pub mod StoreTargetsTogether
 pub mod Together
+pub mod TreesCost
 pub mod UnitsTogether
 pub mod UnreadUnits
 pub mod JoinedResources
 pub mod LimitsRefused
+pub mod LimitsTaken
+pub mod LocatedRegions
 pub mod MatchesPreserve
 pub mod WideTermsPreserve
 pub mod MatchesTogether
 pub mod WideTermsTogether
+pub mod WorldHistories
 pub mod WorldRelations
 pub mod WorldsTogether
 pub mod Widening

@@ -27,7 +27,7 @@ pub object_refused : (x : Object) (h : Objects) → 262144 ≤ length h → make
 unfolding make
 object_refused x h full = let test : nat_le 262144 (length h) ≡ true = grind (arith, nat_tests) in rw test refl
 
-bytes_fit : (bytes : List ℕ) → length bytes ≤ 1048576 → fits bytes ≡ Ok tt
+pub bytes_fit : (bytes : List ℕ) → length bytes ≤ 1048576 → fits bytes ≡ Ok tt
 unfolding fits
 bytes_fit bytes room = let test : nat_lt 1048576 (length bytes) ≡ false = grind (arith, nat_tests) in rw test refl
 
@@ -51,7 +51,7 @@ pub package_refused : (es : List Element) (h : Objects) → 65535 < length es �
 unfolding make_package settle go_on ◌>>=◌
 package_refused es h full = rw (few_refused es full) refl
 
-call_shallow : (depth : ℕ) → depth < 32 → shallow depth ≡ Ok tt
+pub call_shallow : (depth : ℕ) → depth < 32 → shallow depth ≡ Ok tt
 call_shallow depth less = let test : nat_lt depth 32 ≡ true = grind (arith, nat_tests) in rw test refl
 
 call_deep : (depth : ℕ) → 32 ≤ depth → shallow depth ≡ Err (refusal.Evaluation CallDepth)

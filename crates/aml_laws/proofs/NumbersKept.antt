@@ -65,7 +65,7 @@ kept_by false o e h = absurd (cc h)
 alike : (p r x : List Seg) → path_cmp r x ≡ Equal → not (is_below p x) ≡ not (is_below p r)
 alike p r x e = ap (λ y. not (is_below p y)) (sym (only_equal r x e))
 
-still_there : (m : Map) (p q : List Seg) (e : Entry) → get (retain_keys m (λ x. not (is_below p x))) q ≡ Some e → get m q ≡ Some e
+pub still_there : (m : Map) (p q : List Seg) (e : Entry) → get (retain_keys m (λ x. not (is_below p x))) q ≡ Some e → get m q ≡ Some e
 still_there m p q e h = kept_by (not (is_below p q)) (get m q) e (sym (get-retain_keys m (λ x. not (is_below p x)) q (alike p q)) ∙ h)
 
 pub numbered_without : (p : List Seg) (names : Namespace) → Numbered names → Numbered (without_below p names)

@@ -30,7 +30,8 @@ numbers_rise_relation accesses = record {
   slots_written = λ w frames is. record { next = omega arith; started = omega arith };
   frame_closed = λ w v vs h. let a = h.next in let b = h.started in record { next = a; started = omega arith };
   names_removed = λ u w q at h. record { next = h.next; started = h.started };
-  space_accessed = λ w s r. record { next = omega arith; started = omega arith };
+  region_accessed = λ u w region s stands r h. record { next = h.next; started = h.started };
+  bridge_asked = λ u w at width wide asks h. record { next = h.next; started = h.started };
   arities_set = λ w list. record { next = omega arith; started = omega arith };
   mutexes_released = λ w. record { next = omega arith; started = omega arith };
 }

@@ -18,7 +18,8 @@ object_kinds_relation accesses = record {
   slots_written = λ w frames is. kinds_reflexive w.objects;
   frame_closed = λ w v vs h. h;
   names_removed = λ u w q at h. h;
-  space_accessed = λ w s r. kinds_reflexive w.objects;
+  region_accessed = λ u w region s stands r h. h;
+  bridge_asked = λ u w at width wide asks h. h;
   arities_set = λ w list. kinds_reflexive w.objects;
   mutexes_released = λ w. kinds_reflexive w.objects;
 }

@@ -1,5 +1,5 @@
 -- Changes that lead from each state to one that a preorder relates to it.
-use Rattle.std.specs.Prelude.{ℕ, ◌==◌, List, [], ◌∷◌, Bool, true, false, Ok, Err, if◌then◌else◌}
+use Rattle.std.specs.Prelude.{◌≡◌, ℕ, ◌==◌, List, [], ◌∷◌, Bool, true, false, Ok, Err, refl, if◌then◌else◌}
 use Rattle.ar_space.specs.declared.refusal.Refusal.{Refusal}
 use Rattle.ar_space.specs.Accesses.{bit_count}
 use Rattle.ar_space.specs.Outcome.{Outcome}
@@ -44,6 +44,12 @@ module _ {H : Type 0} {R : Preorder H} where
   pub then_respects : {A B : Type 0} (m : Change H A) (k : A → Change H B) → Respects R m → ((a : A) → Respects R (k a)) → Respects R (m >>= k)
   unfolding ◌>>=◌
   then_respects m k f all = record { respects = λ h. go_on_respects h (m h).0 (m h).1 k all (f.respects h) }
+
+  -- what is settled is known where it goes on
+  pub settle_then_respects : {A B : Type 0} (x : Outcome A) (k : A → Change H B) → ((a : A) → x ≡ Ok a → Respects R (k a)) → Respects R (settle x >>= k)
+  unfolding settle ◌>>=◌ go_on
+  settle_then_respects (Ok a) k all = record { respects = λ h. (all a refl).respects h }
+  settle_then_respects (Err e) k all = record { respects = R.reflexive }
 
   -- ---- unit by unit
 

@@ -21,7 +21,8 @@ profile_relation accesses = record {
   slots_written = λ w frames is. refl;
   frame_closed = λ w v vs h. h;
   names_removed = λ u w q at h. h;
-  space_accessed = λ w s r. refl;
+  region_accessed = λ u w region s stands r h. h;
+  bridge_asked = λ u w at width wide asks h. h;
   arities_set = λ w list. refl;
   mutexes_released = λ w. refl;
 }

@@ -1,18 +1,27 @@
--- Fields of regions are read and written by accesses of the register space alone.
-use Rattle.std.specs.Prelude.{ℕ, List}
+-- Fields of an operation region are read and written by accesses that lie within it.
+use Rattle.std.specs.Prelude.{◌≡◌, ℕ, ◌+◌, ◌^◌, nat_lt, List, Bool, true, false, Ok, Err, Some, None, refl, if◌then◌else◌}
+use Rattle.std.proofs.Common.{arith, subst, ◌∙◌}
+use Rattle.std.proofs.lemmas.Bool.{ltb-false}
 use Rattle.ar_space.specs.declared.space.Width.{Width}
 use Rattle.ar_space.specs.declared.space.Place.{Place}
-use Rattle.ar_space.specs.Accesses.{Accesses}
+use Rattle.ar_space.specs.declared.space.Place.TheVariants as place
+use Rattle.ar_space.specs.declared.refusal.Refusal.{Refusal}
+use Rattle.ar_space.specs.Accesses.{Accesses, byte_count}
 use Rattle.ar_space.specs.Change.{Change}
 use Rattle.aml_objects.specs.declared.entry.FieldUnit.{FieldUnit}
+use Rattle.aml_objects.specs.declared.entry.OperationRegion.{OperationRegion}
+use Rattle.aml_fields.specs.declared.region.AddressSpace.{AddressSpace}
+use Rattle.aml_fields.specs.declared.region.AddressSpace.TheVariants as spaces
 use Rattle.aml_fields.specs.declared.region.Region.{Region}
 use Rattle.aml_fields.specs.declared.field_units.Unit.{Unit as Access}
 use Rattle.aml_fields.specs.Units.{units_of}
-use Rattle.aml_fields.specs.Regions.{read_access, read_unit, read_field, write_access, write_unit, write_field}
-use Rattle.aml_meaning.specs.Bridges.{secondary_bus}
+use Rattle.aml_fields.specs.Regions.{place_in, or_limit, unit_place, read_access, read_unit, read_field, write_access, write_unit, write_field}
+use Rattle.aml_meaning.specs.Regions.{pci_space}
 use Rattle.aml_laws.specs.Reached.{Reached}
 use Rattle.aml_laws.specs.Reached as by
-use Rattle.aml_laws.proofs.Preorders.{Preorder, Respects, settle_respects, then_respects, bits_read_respects, write_units_respects, kept_respects}
+use Rattle.aml_laws.specs.RegionAccesses.{space_of, address_of, LiesWithin, ReachedWithin}
+use Rattle.aml_laws.specs.RegionAccesses as within
+use Rattle.aml_laws.proofs.Preorders.{Preorder, Respects, settle_then_respects, then_respects, bits_read_respects, write_units_respects, kept_respects}
 
 module _ {S : Type 0} {accesses : Accesses S} where
   pub reached_transitive : (s t u : S) → Reached accesses s t → Reached accesses t u → Reached accesses s u
@@ -20,36 +29,95 @@ module _ {S : Type 0} {accesses : Accesses S} where
   reached_transitive s t u h (by.read v place width i) = by.read v place width (reached_transitive s t v h i)
   reached_transitive s t u h (by.written v place width value i) = by.written v place width value (reached_transitive s t v h i)
 
-module _ {S : Type 0} (accesses : Accesses S) where
+  -- accesses of a region are accesses
+  pub reached_anyhow : (region : OperationRegion) (s t : S) → ReachedWithin accesses region s t → Reached accesses s t
+  reached_anyhow region s t within.none = by.none
+  reached_anyhow region s t (within.read u at width lies h) = by.read u at width (reached_anyhow region s u h)
+  reached_anyhow region s t (within.written u at width value lies h) = by.written u at width value (reached_anyhow region s u h)
+
+  pub within_transitive : (region : OperationRegion) (s t u : S) → ReachedWithin accesses region s t → ReachedWithin accesses region t u → ReachedWithin accesses region s u
+  within_transitive region s t u h within.none = h
+  within_transitive region s t u h (within.read v at width lies i) = within.read v at width lies (within_transitive region s t v h i)
+  within_transitive region s t u h (within.written v at width value lies i) = within.written v at width value lies (within_transitive region s t v h i)
+
+-- ---- where a unit lies
+
+-- an address space, as AML numbers it
+abbrev pub number_of_space : AddressSpace → ℕ
+number_of_space spaces.Memory = 0
+number_of_space spaces.Io = 1
+number_of_space (spaces.Pci seg bus dev func) = 2
+
+pci_by_cases : (b : Bool) (seg bus dev func : ℕ) (x : Refusal) (space : AddressSpace) → (if b then Ok (spaces.Pci seg bus dev func) else Err x) ≡ Ok space → number_of_space space ≡ 2
+pci_by_cases true seg bus dev func x space e = let same : spaces.Pci seg bus dev func ≡ space = cc e in subst (λ (y : AddressSpace). number_of_space y ≡ 2) same refl
+pci_by_cases false seg bus dev func x space e = absurd (cc e)
+
+pub pci_space_numbered : (seg bus address : ℕ) (space : AddressSpace) → pci_space seg bus address ≡ Ok space → number_of_space space ≡ 2
+pci_space_numbered seg bus address space e = pci_by_cases _ seg bus _ _ _ space e
+
+-- a declared region, located in its address space
+pub record IsRegion (declared : OperationRegion) (region : Region) : Type 0 where
+  pub space : number_of_space region.space ≡ declared.space
+  pub offset : region.offset ≡ declared.offset
+  pub length : region.length ≡ declared.length
+
+record IsPlaced (space : AddressSpace) (n : ℕ) (at : Place) : Type 0 where
+  in_space : space_of at ≡ number_of_space space
+  address : address_of at ≡ n
+
+placed_by_cases : (space : AddressSpace) (n : ℕ) (b : Bool) (x at : Place) → IsPlaced space n x → or_limit (if b then Some x else None) ≡ Ok at → IsPlaced space n at
+placed_by_cases space n true x at h e = let same : x ≡ at = cc e in subst (IsPlaced space n) same h
+placed_by_cases space n false x at h e = absurd (cc e)
+
+placed : (space : AddressSpace) (n : ℕ) (at : Place) → or_limit (place_in space n) ≡ Ok at → IsPlaced space n at
+placed spaces.Memory n at e = placed_by_cases spaces.Memory n (nat_lt n (2 ^ 64)) (place.Memory n) at (record { in_space = refl; address = refl }) e
+placed spaces.Io n at e = placed_by_cases spaces.Io n (nat_lt n (2 ^ 16)) (place.Io n) at (record { in_space = refl; address = refl }) e
+placed (spaces.Pci seg bus dev func) n at e = placed_by_cases (spaces.Pci seg bus dev func) n (nat_lt n 4096) (place.Pci seg bus dev func n) at (record { in_space = refl; address = refl }) e
+
+unit_by_cases : (declared : OperationRegion) (region : Region) (width : Width) (offset : ℕ) (at : Place) (b : Bool) (x : Refusal) → IsRegion declared region → nat_lt region.length (offset + byte_count width) ≡ b → (if b then Err x else or_limit (place_in region.space (region.offset + offset))) ≡ Ok at → LiesWithin declared at width
+unit_by_cases declared region width offset at true x h test e = absurd (cc e)
+unit_by_cases declared region width offset at false x h test e =
+    let p = placed region.space (region.offset + offset) at e in
+    let room = ltb-false region.length (offset + byte_count width) test in
+    let address = p.address in
+    let same_offset = h.offset in
+    let same_length = h.length in
+    record { space = p.in_space ∙ h.space; begins = omega (arith, address, same_offset); ends = omega (arith, address, room, same_offset, same_length) }
+
+unit_lies_within : (declared : OperationRegion) (region : Region) (width : Width) (offset : ℕ) (at : Place) → IsRegion declared region → unit_place region width offset ≡ Ok at → LiesWithin declared at width
+unfolding unit_place
+unit_lies_within declared region width offset at h e = unit_by_cases declared region width offset at (nat_lt region.length (offset + byte_count width)) _ h refl e
+
+-- ---- fields of a region
+
+module _ {S : Type 0} (accesses : Accesses S) (declared : OperationRegion) where
   abbrev pub accesses_preorder : Preorder S
-  accesses_preorder = record { Leads = Reached accesses; reflexive = λ s. by.none; transitive = reached_transitive }
+  accesses_preorder = record { Leads = ReachedWithin accesses declared; reflexive = λ s. within.none; transitive = within_transitive declared }
 
-  abbrev pub OnlyAccesses : {A : Type 0} → Change S A → Type 0
-  OnlyAccesses m = Respects accesses_preorder m
+  abbrev pub OnlyWithin : {A : Type 0} → Change S A → Type 0
+  OnlyWithin m = Respects accesses_preorder m
 
-  read_access_only_accesses : (p : Place) (width : Width) → OnlyAccesses (read_access accesses p width)
+  read_access_only_within : (at : Place) (width : Width) → LiesWithin declared at width → OnlyWithin (read_access accesses at width)
   unfolding read_access
-  read_access_only_accesses p width = record { respects = λ s. by.read s p width by.none }
+  read_access_only_within at width lies = record { respects = λ s. within.read s at width lies within.none }
 
-  write_access_only_accesses : (p : Place) (width : Width) (value : ℕ) → OnlyAccesses (write_access accesses p width value)
+  write_access_only_within : (at : Place) (width : Width) (value : ℕ) → LiesWithin declared at width → OnlyWithin (write_access accesses at width value)
   unfolding write_access
-  write_access_only_accesses p width value = record { respects = λ s. by.written s p width value by.none }
+  write_access_only_within at width value lies = record { respects = λ s. within.written s at width value lies within.none }
 
-  read_unit_only_accesses : (r : Region) (width : Width) (u : Access) → OnlyAccesses (read_unit accesses r width u)
-  unfolding read_unit
-  read_unit_only_accesses r width u = then_respects _ _ (settle_respects _) (λ p. read_access_only_accesses p width)
+  module _ (region : Region) (is : IsRegion declared region) where
+    read_unit_only_within : (width : Width) (u : Access) → OnlyWithin (read_unit accesses region width u)
+    unfolding read_unit
+    read_unit_only_within width u = settle_then_respects _ _ (λ at e. read_access_only_within at width (unit_lies_within declared region width u.offset at is e))
 
-  write_unit_only_accesses : (r : Region) (f : FieldUnit) (source : List ℕ) (u : Access) → OnlyAccesses (write_unit accesses r f source u)
-  unfolding write_unit
-  write_unit_only_accesses r f source u = then_respects _ _ (settle_respects _) (λ p. then_respects _ _ (kept_respects f u _ (read_access_only_accesses p f.access)) (λ old. write_access_only_accesses p f.access _))
+    write_unit_only_within : (f : FieldUnit) (source : List ℕ) (u : Access) → OnlyWithin (write_unit accesses region f source u)
+    unfolding write_unit
+    write_unit_only_within f source u = settle_then_respects _ _ (λ at e.
+        let lies = unit_lies_within declared region f.access u.offset at is e in
+        then_respects _ _ (kept_respects f u _ (read_access_only_within at f.access lies)) (λ old. write_access_only_within at f.access _ lies))
 
-  pub secondary_bus_only_accesses : (seg bus address : ℕ) → OnlyAccesses (secondary_bus accesses seg bus address)
-  unfolding secondary_bus
-  secondary_bus_only_accesses seg bus address =
-      then_respects _ _ (settle_respects _) (λ function. then_respects _ _ (read_unit_only_accesses _ _ _) (λ kind. then_respects _ _ (settle_respects _) (λ bridge. read_unit_only_accesses _ _ _)))
+    pub read_field_only_within : (f : FieldUnit) → OnlyWithin (read_field accesses region f)
+    read_field_only_within f = bits_read_respects _ (read_unit_only_within f.access) f
 
-  pub read_field_only_accesses : (r : Region) (f : FieldUnit) → OnlyAccesses (read_field accesses r f)
-  read_field_only_accesses r f = bits_read_respects _ (read_unit_only_accesses r f.access) f
-
-  pub write_field_only_accesses : (r : Region) (f : FieldUnit) (source : List ℕ) → OnlyAccesses (write_field accesses r f source)
-  write_field_only_accesses r f source = write_units_respects _ (write_unit_only_accesses r f source) (units_of f.bit_offset f.bits f.access)
+    pub write_field_only_within : (f : FieldUnit) (source : List ℕ) → OnlyWithin (write_field accesses region f source)
+    write_field_only_within f source = write_units_respects _ (write_unit_only_within f source) (units_of f.bit_offset f.bits f.access)

@@ -4,6 +4,7 @@ use Rattle.std.proofs.Common.{ap, sym, subst, ◌∙◌, arith}
 use Rattle.std.proofs.lemmas.Bool.Decides.{nat_tests}
 use Rattle.std.specs.Ordering.{eq_by_cmp}
 use Rattle.std.specs.FinMap.{get, insert, get-insert, same_map}
+use Rattle.ar_space.specs.Outcome.{Outcome}
 use Rattle.ar_space.specs.Change.{settle, give, go_on, ◌>>=◌}
 use Rattle.ar_space.specs.declared.refusal.Refusal.TheVariants as refusal
 use Rattle.ar_space.specs.declared.refusal.EvaluationFault.TheVariants.{ObjectLimit}
@@ -87,8 +88,10 @@ module _ {S : Type 0} (w after : State S) (path : List Seg) (n count : ℕ) (sta
       ∙ ap (λ x. (Ok (value.Integer 0), x)) whole
 
   by_limit : (b : Bool) → (count == 2 ^ 64 - 1) ≡ b → event_changed changes.Signal (Some n) w ≡ (Ok tt, after) → after ≡ with_signals w path n (count + 1)
-  by_limit true is e = absurd (cc (sym (refused w path n count standing at is) ∙ e))
-  by_limit false is e = cc (sym (signaled w path n count standing at is) ∙ e)
+  by_limit true is e =
+      let outcomes : Err (refusal.Evaluation ObjectLimit) ≡ Ok (tt {0}) = ap (λ (x : Outcome (Unit {0}) × State S). x.0) (sym (refused w path n count standing at is) ∙ e) in
+      absurd (cc outcomes)
+  by_limit false is e = sym (ap (λ (x : Outcome (Unit {0}) × State S). x.1) (sym (signaled w path n count standing at is) ∙ e))
 
   pub signal_taken_back : (timeout : Value) (time : ℕ) → event_changed changes.Signal (Some n) w ≡ (Ok tt, after) → integer_in timeout after ≡ (Ok time, after) → waited (Some n) timeout after ≡ (Ok (value.Integer 0), w)
   signal_taken_back timeout time e reads = taken_from timeout time after (by_limit (count == 2 ^ 64 - 1) refl e) reads

@@ -4,7 +4,7 @@ use Rattle.aml_meaning.specs.State.{State}
 use Rattle.aml_laws.specs.Becomes.{Becomes}
 use Rattle.std.specs.Prelude.{◌≡◌, Bool, true}
 use Rattle.aml_laws.specs.Reached.{Reached, none, read, written, KeptByAccesses}
-use Rattle.aml_laws.proofs.RegisterAccesses.{reached_transitive}
+use Rattle.aml_laws.proofs.RegisterAccesses.{reached_transitive, reached_anyhow}
 use Rattle.aml_laws.proofs.WorldRelations.{WorldRelation}
 use Rattle.aml_laws.proofs.EvaluationsPreserve.{becomes_preserves}
 
@@ -19,7 +19,8 @@ reached_relation accesses = record {
   slots_written = λ w frames is. none;
   frame_closed = λ w v vs h. h;
   names_removed = λ u w q at h. h;
-  space_accessed = λ w s r. r;
+  region_accessed = λ u w region s stands r h. reached_transitive u.space w.space s h (reached_anyhow region w.space s r);
+  bridge_asked = λ u w at width wide asks h. read w.space at width h;
   arities_set = λ w list. none;
   mutexes_released = λ w. none;
 }

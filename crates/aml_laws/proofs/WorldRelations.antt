@@ -2,6 +2,8 @@
 -- another, and for evaluations.
 use Rattle.std.specs.Prelude.{◌≡◌, ℕ, ◌+◌, ◌-◌, ◌==◌, ◌^◌, List, [], ◌∷◌, ◌++◌, replicate, Bool, true, false, Option, Some, None, Ok, Err, refl, if◌then◌else◌}
 use Rattle.std.proofs.Common.{subst, sym}
+use Rattle.ar_space.specs.declared.space.Width.{Width}
+use Rattle.ar_space.specs.declared.space.Place.{Place}
 use Rattle.ar_space.specs.declared.refusal.Refusal.{Refusal}
 use Rattle.ar_space.specs.declared.refusal.Refusal.TheVariants as refusal
 use Rattle.ar_space.specs.declared.refusal.EvaluationFault.TheVariants.{ObjectLimit}
@@ -16,32 +18,33 @@ use Rattle.aml_objects.specs.Objects.{Objects}
 use Rattle.aml_objects.specs.declared.value.Value.{Value}
 use Rattle.aml_objects.specs.declared.value.Value.TheVariants as value
 use Rattle.aml_objects.specs.declared.entry.NamedObject.{NamedObject}
+use Rattle.aml_objects.specs.declared.entry.NamedObject.TheVariants as object
+use Rattle.aml_objects.specs.declared.entry.OperationRegion.{OperationRegion}
 use Rattle.aml_objects.specs.declared.entry.Entry.{Entry}
 use Rattle.aml_namespace.specs.Namespace.{Namespace, declared, replaced, replaced_in, with_object, without_below, above}
 use Rattle.aml_meaning.specs.declared.flow.Flow.{Flow}
 use Rattle.aml_meaning.specs.declared.frame.Frame.{Frame}
 use Rattle.aml_meaning.specs.declared.invocation.Invocation.{Invocation}
+use Rattle.aml_meaning.specs.declared.profile.Profile.TheVariants as profiles
 use Rattle.aml_meaning.specs.declared.invocation.Invocation.TheVariants as invocation
-use Rattle.aml_meaning.specs.State.{State, on_objects, on_names, on_space}
+use Rattle.aml_meaning.specs.State.{State, on_objects, on_names}
 use Rattle.aml_meaning.specs.Run.{Run, lift, charge}
 use Rattle.aml_meaning.specs.Slots.{opened, closed}
 use Rattle.aml_meaning.specs.Invocations.{leaving}
 use Rattle.aml_meaning.specs.Calling.{released, ending, with_steps, framed, in_frame, counted}
+use Rattle.aml_laws.specs.Histories.{with_declaration, RegionStands}
 use Rattle.aml_laws.specs.Kinds.{KeepsKinds}
 use Rattle.aml_laws.specs.Numbers.{numbers_of}
-use Rattle.aml_laws.specs.Outside.{is_method}
-use Rattle.aml_laws.specs.Reached.{Reached}
+use Rattle.aml_laws.specs.RegionAccesses.{AsksBridge, ReachedWithin}
 use Rattle.aml_laws.proofs.FoundNamesStand.{MethodStandsAt}
 use Rattle.aml_laws.proofs.Preorders.{Preorder, Respects, either_branch}
 use Rattle.aml_laws.proofs.ObjectKinds.{KeepsObjectKinds}
-use Rattle.aml_laws.proofs.RegisterAccesses.{OnlyAccesses}
 
-abbrev pub numbered_entry : ℕ → NamedObject → Entry
-numbered_entry n o = record { number = n; object = o }
-
--- with a new declaration
-abbrev pub with_declaration : List Seg → NamedObject → Namespace → Namespace
-with_declaration q o s = record { map = insert s.map q (numbered_entry s.next o); next = s.next + 1 }
+-- what no other object takes the place of
+abbrev pub is_method_or_region : NamedObject → Bool
+is_method_or_region (object.Method m) = true
+is_method_or_region (object.OperationRegion region) = true
+is_method_or_region _ = false
 
 -- in a frame of its own
 abbrev pub in_new_frame : {S : Type 0} → List Value → State S → State S
@@ -53,17 +56,19 @@ pub record WorldRelation {S : Type 0} (accesses : Accesses S) : Type 1 where
   pub transitive : (u v w : State S) → Leads u v → Leads v w → Leads u w
   -- objects are made and written to
   pub objects_change : (w : State S) (h : Objects) → KeepsKinds w.objects h → Leads w (record w { objects = h })
-  -- a name is declared where none stands; another object, no control method, under a name
+  -- a name is declared where none stands; another object, no control method and no operation region, under a name
   pub name_declared : (w : State S) (q : List Seg) (o : NamedObject) → contains_key w.names.map q ≡ false → Leads w (record w { names = with_declaration q o w.names })
-  pub object_replaced : (w : State S) (q : List Seg) (o : NamedObject) (e : Entry) → get w.names.map q ≡ Some e → is_method o ≡ false → Leads w (record w { names = record w.names { map = insert w.names.map q (with_object o e) } })
+  pub object_replaced : (w : State S) (q : List Seg) (o : NamedObject) (e : Entry) → get w.names.map q ≡ Some e → is_method_or_region o ≡ false → Leads w (record w { names = record w.names { map = insert w.names.map q (with_object o e) } })
   -- slots take values
   pub slots_written : (w : State S) (frames : List Frame) → numbers_of frames ≡ numbers_of w.frames → Leads w (record w { frames = frames })
   -- a frame is opened, and closed after what stands between
   pub frame_closed : (w v : State S) (vs : List Value) → Leads (in_new_frame vs w) v → Leads w (closed v)
   -- at the end of a call the names below a control method that stood when it was found are removed
   pub names_removed : (u w : State S) (q : List Seg) → MethodStandsAt u.names.map q → Leads u w → Leads u (record w { names = without_below q w.names })
-  -- registers are read and written
-  pub space_accessed : (w : State S) (s : S) → Reached accesses w.space s → Leads w (record w { space = s })
+  -- registers of an operation region that stood when it was located are read and written
+  pub region_accessed : (u w : State S) (region : OperationRegion) (s : S) → RegionStands u.names.map region → ReachedWithin accesses region w.space s → Leads u w → Leads u (record w { space = s })
+  -- in the wide profile a bridge is asked for the bus behind it
+  pub bridge_asked : (u w : State S) (at : Place) (width : Width) → u.profile ≡ profiles.Wide → AsksBridge at width → Leads u w → Leads u (record w { space = (accesses.reads w.space at width).1 })
   -- a table tells how many arguments names take, and all mutexes are free after it
   pub arities_set : (w : State S) (list : List Arity) → Leads w (record w { arities = list })
   pub mutexes_released : (w : State S) → Leads w (released w)
@@ -118,7 +123,7 @@ declared_by_cases relation w true false true q o e f g is = relation.reflexive w
 declared_by_cases relation w true false false q o e f g is = relation.name_declared w q o is
 declared_by_cases relation w false c d q o e f g is = relation.reflexive w
 
-replaced_by_cases : {S : Type 0} {accesses : Accesses S} (relation : WorldRelation accesses) (w : State S) (q : List Seg) (o : NamedObject) (e : Option Entry) → get w.names.map q ≡ e → is_method o ≡ false → relation.Leads w (record w { names = (replaced_in q o w.names e).1 })
+replaced_by_cases : {S : Type 0} {accesses : Accesses S} (relation : WorldRelation accesses) (w : State S) (q : List Seg) (o : NamedObject) (e : Option Entry) → get w.names.map q ≡ e → is_method_or_region o ≡ false → relation.Leads w (record w { names = (replaced_in q o w.names e).1 })
 replaced_by_cases relation w q o None at is = relation.reflexive w
 replaced_by_cases relation w q o (Some e) at is = relation.object_replaced w q o e at is
 
@@ -154,18 +159,14 @@ module _ {S : Type 0} {accesses : Accesses S} {relation : WorldRelation accesses
   unfolding on_objects
   on_objects_preserves m h = record { preserves = λ w. relation.objects_change w _ (h.respects w.objects) }
 
-  pub on_space_preserves : {A : Type 0} (m : Change S A) → OnlyAccesses accesses m → Preserves relation (on_space m)
-  unfolding on_space
-  on_space_preserves m h = record { preserves = λ w. relation.space_accessed w _ (h.respects w.space) }
-
   pub declared_preserves : (q : List Seg) (o : NamedObject) → Preserves relation (on_names (declared q o))
   unfolding on_names declared
   declared_preserves q o = record {
     preserves = λ w. declared_by_cases relation w (contains_key w.names.map (above q)) (contains_key w.names.map q) (w.names.next == 2 ^ 64 - 1) q o (refusal.Namespace Exists) (refusal.Evaluation ObjectLimit) (refusal.Namespace NotFound) refl;
   }
 
-  -- another object under a name, which is no control method
-  pub replaced_preserves : (q : List Seg) (o : NamedObject) → is_method o ≡ false → Preserves relation (on_names (replaced q o))
+  -- another object under a name, which is no control method and no operation region
+  pub replaced_preserves : (q : List Seg) (o : NamedObject) → is_method_or_region o ≡ false → Preserves relation (on_names (replaced q o))
   unfolding on_names replaced
   replaced_preserves q o is = record { preserves = λ w. replaced_by_cases relation w q o (get w.names.map q) refl is }
 

@@ -3,6 +3,7 @@ pub mod Answered
 pub mod Becomes
 pub mod Calls
 pub mod Copied
+pub mod CostsOfTrees
 pub mod Counted
 pub mod CountedEvaluations
 pub mod Declares
@@ -10,7 +11,10 @@ pub mod Events
 pub mod FieldLists
 pub mod Handed
 pub mod HandedBack
+pub mod Histories
+pub mod IndexRegisters
 pub mod Kinds
+pub mod Limits
 pub mod Mutexes
 pub mod NamesFound
 pub mod Noted
@@ -20,6 +24,7 @@ pub mod Outside
 pub mod Parts
 pub mod Plain
 pub mod Reached
+pub mod RegionAccesses
 pub mod ResourceLists
 pub mod SpaceFaults
 pub mod Steps

@@ -10,6 +10,7 @@ mod events;
 mod field_lists;
 mod frames;
 mod handed;
+mod index_fields;
 mod integers;
 mod limits;
 mod mutexes;
@@ -20,9 +21,11 @@ mod objects;
 mod profiles;
 mod reading;
 mod references;
+mod regions;
 mod searches;
 mod space;
 mod steps;
+mod trees;
 mod updates;
 mod values;
 
@@ -37,8 +40,12 @@ pub use events::a_wait_takes_a_signal;
 pub use field_lists::fields_of_a_list_are_in_order;
 pub use frames::{frame_numbers_are_given_once, frames_are_balanced};
 pub use handed::what_is_handed_in_is_handed_out_as_it_was;
+pub use index_fields::index_fields_are_accessed_unit_by_unit;
 pub use integers::{integers_stay_below_two_to_the_width, operators_form_integers_of_the_width};
-pub use limits::limits_are_refused;
+pub use limits::{
+    at_most_64_references_are_followed, limits_are_refused, packages_nest_at_most_64_deep,
+    what_is_within_the_limits_is_taken,
+};
 pub use mutexes::no_mutex_stays_acquired;
 pub use names::{declared_names_stand, names_stay, outside_of_control_methods};
 pub use notes::{noting_changes_nothing, space_faults_are_answers_of_the_last_access};
@@ -50,6 +57,7 @@ pub use references::{
     a_reference_refers_to_its_target, a_reference_to_a_name_finds_its_declaration,
     a_reference_to_a_slot_reads_that_slot,
 };
+pub use regions::registers_are_reached_within_regions;
 pub use searches::{a_searched_name_finds_the_nearest, any_other_name_stands_at_one_path};
 pub use space::{
     faults_that_no_access_answers_are_never_refused, space_faults_are_reached_by_accesses,
@@ -58,6 +66,7 @@ pub use space::{
 pub use steps::{
     no_more_terms_than_steps, terms_of_tables_and_answers_are_counted, terms_that_begin_are_counted,
 };
+pub use trees::each_tree_costs_a_step;
 pub use updates::ones_and_zeros_read_nothing;
 pub use values::{
     an_integer_is_read_back_from_its_string, binary_coded_decimal_has_the_decimal_digits,

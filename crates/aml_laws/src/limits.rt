@@ -1,16 +1,27 @@
 //! Limits.
-ghost use Rattle.std.specs.Prelude.{◌≡◌, ◌≤◌, ◌<◌, ◌++◌, ◌∷◌, [], ℕ, List, length, Ok, Err};
+ghost use Rattle.std.specs.Prelude.{◌≡◌, ◌≤◌, ◌<◌, ◌+◌, ◌-◌, ◌++◌, ◌∷◌, [], ℕ, List, length, Ok, Err};
 ghost use Rattle.ar_space.specs.declared.refusal.Refusal.TheVariants.{Evaluation};
-ghost use Rattle.ar_space.specs.declared.refusal.EvaluationFault.TheVariants.{ObjectLimit, CallDepth};
+ghost use Rattle.ar_space.specs.declared.refusal.EvaluationFault.TheVariants.{ObjectLimit, CallDepth, DeadReference};
 ghost use Rattle.ar_space.specs.Accesses.{Accesses};
 ghost use Rattle.aml_path.specs.declared.segment.Seg.{Seg};
 ghost use Rattle.aml_objects.specs.Objects.{Objects, make, make_string, make_buffer, make_package};
 ghost use Rattle.aml_objects.specs.declared.object.Element.{Element};
 ghost use Rattle.aml_objects.specs.declared.object.Object.{Object};
+ghost use Rattle.aml_objects.specs.declared.object.Object.TheVariants as object;
 ghost use Rattle.aml_objects.specs.declared.value.Value.{Value};
+ghost use Rattle.aml_objects.specs.declared.value.Value.TheVariants as value;
+ghost use Rattle.aml_objects.specs.declared.value.Reference.{Reference};
+ghost use Rattle.aml_meaning.specs.declared.store_target.StoreTarget.TheVariants as targets;
+ghost use Rattle.aml_meaning.specs.declared.object_type.Referent.{Referent};
 ghost use Rattle.aml_meaning.specs.State.{State};
 ghost use Rattle.aml_meaning.specs.Invocations.{invoked};
 ghost use Rattle.aml_meaning.specs.Meaning.{meaning};
+ghost use Rattle.aml_meaning.specs.StoreTargets.{target_referent};
+ghost use Rattle.aml_meaning.specs.Stores.{copied_to, stored_through};
+ghost use Rattle.aml_meaning.specs.Importing.{imported};
+ghost use Rattle.aml_meaning.specs.Exporting.{exported};
+ghost use Rattle.aml_laws.specs.Calls.{body_frame};
+ghost use Rattle.aml_laws.specs.Limits.{Chain, ArgumentChain, nested, IsNested};
 
 /// Objects are refused from the 262,145th on, and not before; strings and buffers of more than 1,048,576 bytes,
 /// packages of more than 65,535 elements, and a call inside 32 others are refused, and leave everything as it was.
@@ -30,4 +41,47 @@ pub fn limits_are_refused<S>()
     ensures calls { (accesses : Accesses S) (depth : ℕ) (p : List Seg) (body : List ℕ) (arguments : List Value)
         (s : State S × ℕ) → 32 ≤ depth →
         invoked (meaning accesses) depth p body arguments s ≡ (Err (Evaluation CallDepth), s) }
+{}
+
+/// What is within a limit is taken: a string or a buffer of 1,048,576 bytes and a package of 65,535 elements, or
+/// fewer, where there is room for an object; and a call inside fewer than 32 others begins as the outermost one does.
+/// With `limits_are_refused` each of these is refused exactly above its limit.
+#[tactic(auto, using(crate::proofs::LimitsTaken::string_made, crate::proofs::LimitsTaken::buffer_made, crate::proofs::LimitsTaken::package_made, crate::proofs::LimitsTaken::call_begins))]
+pub fn what_is_within_the_limits_is_taken<S>()
+    ensures strings { (bytes : List ℕ) (objects : Objects) → length bytes ≤ 1048576 → length objects < 262144 →
+        make_string bytes objects ≡ (Ok (value.String (length objects)), objects ++ object.String bytes ∷ []) }
+    ensures buffers { (bytes : List ℕ) (objects : Objects) → length bytes ≤ 1048576 → length objects < 262144 →
+        make_buffer bytes objects ≡ (Ok (value.Buffer (length objects)), objects ++ object.Buffer bytes ∷ []) }
+    ensures packages { (elements : List Element) (objects : Objects) → length elements ≤ 65535 →
+        length objects < 262144 →
+        make_package elements objects ≡ (Ok (value.Package (length objects)), objects ++ object.Package elements ∷ []) }
+    ensures calls { (depth : ℕ) (p : List Seg) (body : List ℕ) (arguments : List Value) (w : State S) → depth < 32 →
+        body_frame depth p body arguments w ≡ body_frame 0 p body arguments w }
+{}
+
+/// A chain of at most 64 references is followed to its end, as SizeOf and ObjectType do; a longer one is refused as a
+/// dead reference. Either changes nothing. So it is with CopyObject through arguments that hold references: it goes
+/// to the last, from which as many more are followed as are left, and changes nothing where there are more than 64.
+#[tactic(auto, using(crate::proofs::ReferenceChains::chain_followed, crate::proofs::ReferenceChains::chain_refused, crate::proofs::ReferenceChains::arguments_followed, crate::proofs::ReferenceChains::arguments_refused))]
+pub fn at_most_64_references_are_followed<S>()
+    ensures followed { (w : State S) (n : ℕ) (r : Reference) → Chain w n r → n ≤ 64 →
+        (x : Referent) × (target_referent (targets.Refers r) w ≡ (Ok x, w)) }
+    ensures refused { (w : State S) (n : ℕ) (r : Reference) → Chain w n r → 64 < n →
+        target_referent (targets.Refers r) w ≡ (Err (Evaluation DeadReference), w) }
+    ensures stored { (w : State S) (v : Value) (n : ℕ) (r end : Reference) → ArgumentChain w n r end → n ≤ 64 →
+        copied_to (targets.Refers r) v w ≡ stored_through (64 + 1 - n) end v w }
+    ensures not_stored { (w : State S) (v : Value) (n : ℕ) (r end : Reference) → ArgumentChain w n r end → 64 < n →
+        copied_to (targets.Refers r) v w ≡ (Err (Evaluation DeadReference), w) }
+{}
+
+/// Packages that nest at most 64 deep are taken where there is room for their objects, and those that nest deeper are
+/// refused: those that are handed in, and, where there are steps for 64 elements, those that are handed out.
+#[tactic(auto, using(crate::proofs::LimitsTaken::package_taken, crate::proofs::LimitsTaken::deep_package_refused, crate::proofs::LimitsTaken::handed_out_refused))]
+pub fn packages_nest_at_most_64_deep<S>()
+    ensures taken { (w : State S) (n : ℕ) → n ≤ 64 → length w.objects + n ≤ 262144 →
+        (v : Value) × ((imported (nested n) w).0 ≡ Ok v) }
+    ensures refused { (w : State S) (n : ℕ) → 64 < n →
+        (imported (nested n) w).0 ≡ Err (Evaluation ObjectLimit) }
+    ensures handed_out { (accesses : Accesses S) (w : State S) (n o steps : ℕ) → IsNested w.objects n o → 64 < n →
+        64 ≤ steps → (exported accesses (value.Package o) (w, steps)).0 ≡ Err (Evaluation ObjectLimit) }
 {}

@@ -1,0 +1,106 @@
+-- Each tree that begins costs a step: a term, RefOf and DerefOf where they name a target, and a name in a package.
+use Rattle.std.specs.Prelude.{◌≡◌, ℕ, zero, suc, List, refl}
+use Rattle.std.proofs.Common.{arith, ◌∙◌}
+use Rattle.ar_space.specs.Accesses.{Accesses}
+use Rattle.ar_space.specs.Change.{go_on, ◌>>=◌}
+use Rattle.aml_path.specs.declared.segment.Seg.{Seg}
+use Rattle.aml_grammar.specs.declared.opcode.TermCode.{TermCode}
+use Rattle.aml_grammar.specs.Tree.{Tree, term, Part, null, name, number, bytes, inner, list, Parts, no_parts, part}
+use Rattle.aml_meaning.specs.declared.flow.Flow.{Flow}
+use Rattle.aml_meaning.specs.declared.store_target.TargetKind.{TargetKind}
+use Rattle.aml_meaning.specs.declared.store_target.TargetKind.TheVariants as kinds
+use Rattle.aml_meaning.specs.declared.store_target.StoreTarget.{StoreTarget}
+use Rattle.aml_meaning.specs.Run.{Run, charge}
+use Rattle.aml_meaning.specs.Tasks.{Task, operand_value, value_at}
+use Rattle.aml_meaning.specs.Terms.{target_kind}
+use Rattle.aml_meaning.specs.TargetTerms.{indexed_target, dereferenced_target, target_by_kind, target_of, first_target, part_target}
+use Rattle.aml_meaning.specs.DataTerms.{named_element}
+use Rattle.aml_meaning.specs.Meaning.{meaning}
+use Rattle.aml_meaning.proofs.Agree.{Agree, agree_give, agree_stop, agree_settle, agree_lift, agree_charge, agree_bind}
+use Rattle.aml_meaning.proofs.Meanings.{meaning_is, meaning_less, meaning_charged}
+use Rattle.aml_laws.specs.CostsOfTrees.{BeginsWithStep}
+use Rattle.aml_laws.proofs.Charges.{charge_none, charge_one}
+
+-- a step, and then what leaves no more than it got
+step_first : {S A : Type 0} (k : Run S A) → ((n : ℕ) → Agree {S = S} n k k) → BeginsWithStep (charge >>= (λ step. k))
+unfolding ◌>>=◌ go_on
+step_first k falls = record {
+  refused = λ w. rw (charge_none w) refl;
+  paid = λ w steps. rw (charge_one w steps) ((falls steps).less (w, steps) (omega arith));
+}
+
+module _ {S : Type 0} (accesses : Accesses S) where
+  abbrev ev : Task → Run S Flow
+  ev = meaning accesses
+
+  term_falls : (n : ℕ) (t : Task) → Agree {S = S} n (ev t) (ev t)
+  term_falls n t = record { same = λ s h. refl; less = λ s h. meaning_less accesses t s }
+
+  value_falls : (n : ℕ) (scope : List Seg) (depth : ℕ) (t : Tree) → Agree {S = S} n (operand_value ev scope depth t) (operand_value ev scope depth t)
+  unfolding operand_value
+  value_falls n scope depth t = agree_bind _ _ _ _ (term_falls n _) (λ f. agree_settle _)
+
+  value_at_falls : (n : ℕ) (scope : List Seg) (depth : ℕ) (t : Tree) (i : ℕ) → Agree {S = S} n (value_at ev scope depth t i) (value_at ev scope depth t i)
+  unfolding value_at
+  value_at_falls n scope depth t i = agree_bind _ _ _ _ (agree_settle _) (λ x. value_falls n scope depth x)
+
+  -- ---- targets
+
+  dereferenced_begins : (scope : List Seg) (depth : ℕ) (t : Tree) → BeginsWithStep (dereferenced_target ev scope depth t)
+  unfolding dereferenced_target
+  dereferenced_begins scope depth t = step_first _ (λ n. agree_bind _ _ _ _ (value_at_falls n scope depth t 0) (λ v. agree_bind _ _ _ _ (agree_settle _) (λ r. agree_bind _ _ _ _ (agree_lift _) (λ there. agree_give _))))
+
+  dereferenced_falls : (n : ℕ) (scope : List Seg) (depth : ℕ) (t : Tree) → Agree {S = S} n (dereferenced_target ev scope depth t) (dereferenced_target ev scope depth t)
+  unfolding dereferenced_target
+  dereferenced_falls n scope depth t = agree_bind _ _ _ _ agree_charge (λ step. agree_bind _ _ _ _ (value_at_falls n scope depth t 0) (λ v. agree_bind _ _ _ _ (agree_settle _) (λ r. agree_bind _ _ _ _ (agree_lift _) (λ there. agree_give _))))
+
+  indexed_falls : (n : ℕ) (scope : List Seg) (depth : ℕ) (t : Tree) → Agree {S = S} n (indexed_target ev scope depth t) (indexed_target ev scope depth t)
+  unfolding indexed_target
+  indexed_falls n scope depth t = agree_bind _ _ _ _ (value_falls n scope depth t) (λ v. agree_bind _ _ _ _ (agree_settle _) (λ r. agree_give _))
+
+  by_kind_falls : (n : ℕ) (scope : List Seg) (depth : ℕ) (t : Tree) (m : Run S StoreTarget) (kind : TargetKind) → Agree n m m → Agree n (target_by_kind ev scope depth t m kind) (target_by_kind ev scope depth t m kind)
+  by_kind_falls n scope depth t m kinds.Nowhere h = agree_give _
+  by_kind_falls n scope depth t m (kinds.Slot slot) h = agree_give _
+  by_kind_falls n scope depth t m kinds.RefOf h = agree_bind _ _ _ _ agree_charge (λ step. h)
+  by_kind_falls n scope depth t m kinds.DerefOf h = dereferenced_falls n scope depth t
+  by_kind_falls n scope depth t m kinds.Index h = indexed_falls n scope depth t
+  by_kind_falls n scope depth t m kinds.Other h = agree_stop _
+
+  mutual
+    unfolding target_of
+
+    target_falls : (n : ℕ) (scope : List Seg) (depth : ℕ) (t : Tree) → Agree {S = S} n (target_of ev scope depth t) (target_of ev scope depth t)
+    target_falls n scope depth (term c ps) = by_kind_falls n scope depth (term c ps) _ (target_kind c) (first_falls n scope depth ps)
+
+    first_falls : (n : ℕ) (scope : List Seg) (depth : ℕ) (ps : Parts) → Agree {S = S} n (first_target ev scope depth ps) (first_target ev scope depth ps)
+    first_falls n scope depth no_parts = agree_stop _
+    first_falls n scope depth (part p ps) = part_falls n scope depth p
+
+    part_falls : (n : ℕ) (scope : List Seg) (depth : ℕ) (p : Part) → Agree {S = S} n (part_target ev scope depth p) (part_target ev scope depth p)
+    part_falls n scope depth null = agree_give _
+    part_falls n scope depth (name x) = agree_lift _
+    part_falls n scope depth (number k) = agree_stop _
+    part_falls n scope depth (bytes bs) = agree_stop _
+    part_falls n scope depth (inner u) = target_falls n scope depth u
+    part_falls n scope depth (list ts) = agree_stop _
+
+  pub reference_begins : (scope : List Seg) (depth : ℕ) (c : TermCode) (ps : Parts) → target_kind c ≡ kinds.RefOf → BeginsWithStep (target_of ev scope depth (term c ps))
+  unfolding target_of
+  reference_begins scope depth c ps is = rw is (step_first _ (λ n. first_falls n scope depth ps))
+
+  pub dereference_begins : (scope : List Seg) (depth : ℕ) (c : TermCode) (ps : Parts) → target_kind c ≡ kinds.DerefOf → BeginsWithStep (target_of ev scope depth (term c ps))
+  unfolding target_of
+  dereference_begins scope depth c ps is = rw is (dereferenced_begins scope depth (term c ps))
+
+  -- ---- names in packages, and terms
+
+  pub named_element_begins : (scope : List Seg) (t : Tree) → BeginsWithStep (named_element ev scope t)
+  unfolding named_element
+  named_element_begins scope t = step_first _ (λ n. agree_bind _ _ _ _ (agree_settle _) (λ x. agree_give _))
+
+  pub term_begins : (t : Task) → BeginsWithStep (meaning accesses t)
+  unfolding ◌>>=◌ go_on
+  term_begins t = record {
+    refused = λ w. meaning_is accesses t (w, zero) ∙ rw (charge_none w) refl;
+    paid = λ w steps. let l = meaning_charged accesses t (w, suc steps) (omega arith) in omega arith;
+  }

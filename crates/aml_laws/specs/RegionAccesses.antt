@@ -1,0 +1,39 @@
+-- Accesses that lie within an operation region (ACPI 6.5, 5.5.2.4), and reads that ask a PCI-to-PCI bridge for the bus behind it.
+use Rattle.std.specs.Prelude.{◌≡◌, ◌≤◌, ◌+◌, ℕ}
+use Rattle.ar_space.specs.declared.space.Width.{Width}
+use Rattle.ar_space.specs.declared.space.Width.TheVariants.{W8}
+use Rattle.ar_space.specs.declared.space.Place.{Place}
+use Rattle.ar_space.specs.declared.space.Place.TheVariants as place
+use Rattle.ar_space.specs.Accesses.{Accesses, byte_count}
+use Rattle.aml_objects.specs.declared.entry.OperationRegion.{OperationRegion}
+
+-- the address space of a place, as AML numbers it, and the address, port or register there
+abbrev pub space_of : Place → ℕ
+space_of (place.Memory address) = 0
+space_of (place.Io port) = 1
+space_of (place.Pci seg bus dev func reg) = 2
+
+abbrev pub address_of : Place → ℕ
+address_of (place.Memory address) = address
+address_of (place.Io port) = port
+address_of (place.Pci seg bus dev func reg) = reg
+
+-- an access is in the region's address space, begins no earlier than the region and ends no later
+pub record LiesWithin (region : OperationRegion) (at : Place) (width : Width) : Type 0 where
+  pub space : space_of at ≡ region.space
+  pub begins : region.offset ≤ address_of at
+  pub ends : address_of at + byte_count width ≤ region.offset + region.length
+
+-- one byte of the configuration header of a PCI function: its header type, or its secondary bus number (PCI-to-PCI Bridge Architecture
+-- 1.2, 3.2)
+pub data AsksBridge : Place → Width → Type 0 where
+  header_type : (seg bus dev func : ℕ) → AsksBridge (place.Pci seg bus dev func 14) W8
+  secondary_bus : (seg bus dev func : ℕ) → AsksBridge (place.Pci seg bus dev func 25) W8
+
+-- the space before, and what any number of reads and writes that lie within a region makes of it, one after another
+pub data ReachedWithin {S : Type 0} (accesses : Accesses S) (region : OperationRegion) (before : S) : S → Type 0 where
+  none : ReachedWithin accesses region before before
+  read : (s : S) (at : Place) (width : Width) → LiesWithin region at width → ReachedWithin accesses region before s
+      → ReachedWithin accesses region before (accesses.reads s at width).1
+  written : (s : S) (at : Place) (width : Width) (value : ℕ) → LiesWithin region at width → ReachedWithin accesses region before s
+      → ReachedWithin accesses region before (accesses.writes s at width value).1

@@ -1,0 +1,20 @@
+//! Operation regions.
+ghost use Rattle.std.specs.Prelude.{◌≡◌};
+ghost use Rattle.ar_space.specs.Accesses.{Accesses};
+ghost use Rattle.aml_meaning.specs.State.{State};
+ghost use Rattle.aml_laws.specs.Becomes.{Becomes};
+ghost use Rattle.aml_laws.specs.Noted.{WithNotes, noted};
+ghost use Rattle.aml_laws.specs.Histories.{History, NotesExplained};
+
+/// In the core profile AML reaches no register outside of the operation regions that it declared. Whatever is
+/// evaluated, each access that it makes lies wholly within an operation region that stood when the region was located,
+/// in that region's address space; each region that stands then stood before, or was declared meanwhile, at a path
+/// where no name stood, under the next number. So where no name is declared, all accesses lie within regions that stood
+/// before. In the wide profile there is one kind of access more: a read of one byte of the configuration header of a
+/// PCI function, its header type or its secondary bus number, by which a bridge is asked for the bus behind it.
+#[tactic(auto, using(crate::proofs::WorldHistories::has_history, crate::proofs::WorldHistories::accesses_explained))]
+pub fn registers_are_reached_within_regions<S>()
+    ensures history { (accesses : Accesses S) (w v : State S) → Becomes accesses w v → History accesses w v }
+    ensures noted { (accesses : Accesses S) (w v : State (WithNotes S)) → Becomes (noted accesses) w v →
+        v.names.next ≡ w.names.next → NotesExplained w.profile w.names.map w.space v.space }
+{}
